@@ -1,0 +1,51 @@
+//! Why a text is no LDF description.
+
+ghost use Rattle.std.specs.Prelude.{◌≡◌};
+ghost use Rattle.lin_ldf.specs.declared.fault.LdfFault.TheVariants.{OutOfMemory};
+
+use std::alloc::{AllocError, AllocFailed};
+use thiserror::Error;
+
+/// The first fault of an LDF text, with the line and column where it stands; or want of memory.
+#[derive(Debug, Drop, Error)]
+pub enum LdfFault {
+    /// A byte that may not stand there.
+    #[error("{line}:{column} fault 1 BadByte")]
+    BadByte { line: u64, column: u64 },
+    /// A comment without its end.
+    #[error("{line}:{column} fault 2 OpenComment")]
+    OpenComment { line: u64, column: u64 },
+    /// A text without its closing quote.
+    #[error("{line}:{column} fault 3 OpenText")]
+    OpenText { line: u64, column: u64 },
+    /// A token that can't stand there, or the end of the text.
+    #[error("{line}:{column} fault 4 Unexpected")]
+    Unexpected { line: u64, column: u64 },
+    /// A number above its limit.
+    #[error("{line}:{column} fault 5 NumberTooLarge")]
+    NumberTooLarge { line: u64, column: u64 },
+    /// A section that stands a second time.
+    #[error("{line}:{column} fault 6 SectionTwice")]
+    SectionTwice { line: u64, column: u64 },
+    /// A name that is declared a second time.
+    #[error("{line}:{column} fault 7 NameTwice")]
+    NameTwice { line: u64, column: u64 },
+    #[error("out of memory")]
+    OutOfMemory,
+}
+
+impl From<AllocError> for LdfFault {
+    ghost from_gives = { λ _ e. e ≡ OutOfMemory };
+
+    fn from(_error: AllocError) -> LdfFault {
+        LdfFault::OutOfMemory
+    }
+}
+
+impl<T: Drop> From<AllocFailed<T>> for LdfFault {
+    ghost from_gives = { λ _ e. e ≡ OutOfMemory };
+
+    fn from(_error: AllocFailed<T>) -> LdfFault {
+        LdfFault::OutOfMemory
+    }
+}
