@@ -1,1 +1,4 @@
+pub mod Bits
+pub mod Frame
+pub mod Inverse
 pub mod Words

@@ -1,0 +1,55 @@
+-- The parts of a cluster by their numbers. A number out of range gives a part that breaks no rule of clusters.
+use Rattle.std.specs.Prelude.{ℕ, List, [], length, slice_index_or, position, Option, None}
+use Rattle.std.specs.Str.{bytes_eq}
+use Rattle.lin_frame.specs.declared.sums.SumKind.TheVariants.{Enhanced}
+use Rattle.lin_frame.specs.declared.value.Value.TheVariants.{Scalar}
+use Rattle.lin_cluster.specs.declared.parts.Entry.TheVariants.{Quiet}
+use Rattle.lin_cluster.specs.declared.parts.Node.{Node}
+use Rattle.lin_cluster.specs.declared.parts.Signal.{Signal}
+use Rattle.lin_cluster.specs.declared.parts.SignalFrame.{SignalFrame}
+use Rattle.lin_cluster.specs.declared.parts.EventFrame.{EventFrame}
+use Rattle.lin_cluster.specs.declared.parts.Line.{Line}
+use Rattle.lin_cluster.specs.declared.parts.Table.{Table}
+use Rattle.lin_cluster.specs.declared.parts.Parts.{Parts}
+
+-- how many nodes there are: their numbers are those below this
+abbrev pub nodes : Parts → ℕ
+nodes c = length c.nodes
+
+abbrev pub node_of : Parts → ℕ → Node
+node_of c n = slice_index_or c.nodes n (record { name = []; nad = None })
+
+-- the diagnostic address of a node
+abbrev pub nad : Parts → ℕ → Option ℕ
+nad c n = (node_of c n).nad
+
+-- out of range: a signal of one bit
+abbrev pub signal_of : Parts → ℕ → Signal
+signal_of c s = slice_index_or c.signals s (record { name = []; publisher = 0; size = 1; initial = Scalar 0 })
+
+-- out of range: a frame of identifier 0, whose protected identifier is 80
+abbrev pub frame_of : Parts → ℕ → SignalFrame
+frame_of c f = slice_index_or c.frames f (record { pid = 0x80; model = Enhanced; publisher = 0; layout = record { len = 1; pid = None; places = [] }; signals = [] })
+
+-- the frames of a sporadic frame
+abbrev pub sporadic_of : Parts → ℕ → List ℕ
+sporadic_of c k = slice_index_or c.sporadic k []
+
+-- out of range: an event-triggered frame of identifier 0
+abbrev pub event_of : Parts → ℕ → EventFrame
+event_of c e = slice_index_or c.events e (record { pid = 0x80; model = Enhanced; table = 0; frames = [] })
+
+-- a table with its name, and its lines
+abbrev pub named_table : Parts → ℕ → Table
+named_table c t = slice_index_or c.tables t (record { name = []; lines = [] })
+
+abbrev pub table_of : Parts → ℕ → List Line
+table_of c t = (named_table c t).lines
+
+-- an entry of a table, with its delay
+abbrev pub line_of : Parts → ℕ → ℕ → Line
+line_of c t e = slice_index_or (table_of c t) e (record { entry = Quiet; delay_us = 1 })
+
+-- the number of the first table with this name
+abbrev pub first_table : Parts → List ℕ → Option ℕ
+first_table c name = position (λ table. bytes_eq table.name name) c.tables

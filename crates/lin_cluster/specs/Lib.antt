@@ -1,0 +1,4 @@
+pub mod Cluster
+pub mod ClusterA
+pub mod Rules
+pub mod Sound

@@ -1,0 +1,83 @@
+//! What a cluster is made of. Nodes, signals, frames of each kind and tables are numbered, each kind from 0.
+
+use lin_frame::{Layout, SumKind, Value};
+use lin_ldf::{Many, Text};
+
+/// A node: the commander (number 0) or a responder. `nad` is its diagnostic address (ISO 17987-2), where it has one.
+#[derive(Drop)]
+pub struct Node {
+    pub name: Text,
+    pub nad: Option<u8>,
+}
+
+/// A signal of `size` bits, which the node `publisher` sends (ISO 17987-3, signals).
+#[derive(Drop)]
+pub struct Signal {
+    pub name: Text,
+    pub publisher: u8,
+    pub size: u8,
+    pub initial: Value,
+}
+
+/// An unconditional frame: its protected identifier, its checksum model, the node that sends it, and its signals in the order of the places
+/// of its layout (ISO 17987-3, unconditional frames).
+#[derive(Drop)]
+pub struct SignalFrame {
+    pub pid: u8,
+    pub model: SumKind,
+    pub publisher: u8,
+    pub layout: Layout,
+    pub signals: Many<u16>,
+}
+
+/// An event-triggered frame: its protected identifier, the checksum model of its answers, the table that resolves a collision, and its frames
+/// (ISO 17987-3, event-triggered frames).
+#[derive(Drop)]
+pub struct EventFrame {
+    pub pid: u8,
+    pub model: SumKind,
+    pub table: u16,
+    pub frames: Many<u16>,
+}
+
+/// What a slot of a schedule table is for (LIN 2.2A, section 9.2.5, schedule tables).
+#[derive(Clone, Copy, Debug, PartialEq, Eq)]
+pub enum Entry {
+    /// An unconditional frame, by its number.
+    Frame(u16),
+    /// A sporadic frame, by its number.
+    Sporadic(u16),
+    /// An event-triggered frame, by its number.
+    Event(u16),
+    /// The master request frame.
+    MasterReq,
+    /// The slave response frame.
+    SlaveResp,
+    /// A configuration entry, which stays silent.
+    Quiet,
+}
+
+/// An entry of a schedule table with its delay in microseconds.
+#[derive(Clone, Copy, Debug, PartialEq, Eq)]
+pub struct Line {
+    pub entry: Entry,
+    pub delay_us: u32,
+}
+
+/// A schedule table.
+#[derive(Drop)]
+pub struct Table {
+    pub name: Text,
+    pub lines: Many<Line>,
+}
+
+/// All that a cluster is made of. A sporadic frame is the list of its frames, the first one first in rank.
+#[derive(Drop)]
+pub struct Parts {
+    pub nodes: Many<Node>,
+    pub signals: Many<Signal>,
+    pub frames: Many<SignalFrame>,
+    pub sporadic: Many<Many<u16>>,
+    pub events: Many<EventFrame>,
+    pub tables: Many<Table>,
+}

@@ -1,0 +1,116 @@
+//! Every read once.
+
+use super::building::{b, line, nodes, tables};
+use crate::{Cluster, Entry, Parts, built_in};
+use lin_frame::{SumKind, Value};
+use std::test::Fail;
+
+#[test]
+fn built_in_cluster(rt: HostRuntime) -> Result<(), Fail> {
+    let cluster = built_in(rt.alloc())?;
+    assert_eq!(rt; cluster.nodes(), 2);
+    assert_eq!(rt; cluster.node_name(0), b"cem".as_slice());
+    assert_eq!(rt; cluster.node_name(1), b"door".as_slice());
+    assert_eq!(rt; cluster.nad(0), None);
+    assert_eq!(rt; cluster.nad(1), Some(1));
+    assert_eq!(rt; cluster.signals(), 0);
+    assert_eq!(rt; cluster.frames(), 0);
+    assert_eq!(rt; cluster.sporadics(), 0);
+    assert_eq!(rt; cluster.events(), 0);
+    assert_eq!(rt; cluster.tables(), 1);
+    assert_eq!(rt; cluster.table_name(0), b"diag".as_slice());
+    assert_eq!(rt; cluster.entries(0), 2);
+    for entry in [0, 1] {
+        assert_eq!(rt; cluster.delay_us(0, entry), 10_000);
+    }
+    assert!(rt; cluster.entry(0, 0) == Entry::MasterReq);
+    assert!(rt; cluster.entry(0, 1) == Entry::SlaveResp);
+    Ok(())
+}
+
+#[test]
+fn nodes_and_signals(rt: HostRuntime) -> Result<(), Fail> {
+    let parts = b(rt.alloc())?;
+    assert!(rt; parts.is_cluster());
+    let cluster = Cluster::new(parts);
+    assert_eq!(rt; cluster.nodes(), 3);
+    assert_eq!(rt; cluster.node_name(2), b"rsm".as_slice());
+    assert_eq!(rt; cluster.nad(2), Some(2));
+    assert_eq!(rt; cluster.signals(), 6);
+    assert_eq!(rt; cluster.signal_name(1), b"mode".as_slice());
+    assert_eq!(rt; cluster.publisher(1), 0);
+    assert_eq!(rt; cluster.publisher(3), 1);
+    assert_eq!(rt; cluster.signal_size(1), 10);
+    assert!(rt; matches!(cluster.initial(1), Value::Scalar(0x155)));
+    Ok(())
+}
+
+#[test]
+fn frames_of_each_kind(rt: HostRuntime) -> Result<(), Fail> {
+    let parts = b(rt.alloc())?;
+    assert!(rt; parts.is_cluster());
+    let cluster = Cluster::new(parts);
+    assert_eq!(rt; cluster.frames(), 5);
+    assert_eq!(rt; cluster.frame_pid(2), 0x42);
+    assert!(rt; cluster.model(2) == SumKind::Enhanced);
+    assert_eq!(rt; cluster.frame_publisher(2), 1);
+    assert_eq!(rt; cluster.frame_signals(0), [0, 1].as_slice());
+    assert_eq!(rt; cluster.layout(2).len, 2);
+    assert_eq!(rt; cluster.layout(2).pid, Some(0x42));
+    assert_eq!(rt; cluster.sporadics(), 1);
+    assert_eq!(rt; cluster.sporadic(0), [0, 1].as_slice());
+    assert_eq!(rt; cluster.events(), 1);
+    assert_eq!(rt; cluster.event_pid(0), 0xC4);
+    assert!(rt; cluster.event_model(0) == SumKind::Enhanced);
+    assert_eq!(rt; cluster.event_table(0), 1);
+    assert_eq!(rt; cluster.event_frames(0), [2, 3].as_slice());
+    Ok(())
+}
+
+#[test]
+fn schedule_tables(rt: HostRuntime) -> Result<(), Fail> {
+    let parts = b(rt.alloc())?;
+    assert!(rt; parts.is_cluster());
+    let cluster = Cluster::new(parts);
+    assert_eq!(rt; cluster.tables(), 3);
+    assert_eq!(rt; cluster.table_name(1), b"Resolve".as_slice());
+    assert_eq!(rt; cluster.entries(0), 3);
+    assert!(rt; cluster.entry(0, 0) == Entry::Sporadic(0));
+    assert!(rt; cluster.entry(0, 1) == Entry::Event(0));
+    assert!(rt; cluster.entry(0, 2) == Entry::Frame(0));
+    Ok(())
+}
+
+#[test]
+fn tables_by_name(rt: HostRuntime) -> Result<(), Fail> {
+    let alloc = rt.alloc();
+    let lines = [line(Entry::Quiet)];
+    let parts = Parts {
+        tables: tables(
+            alloc,
+            &[
+                (b"Main", &lines),
+                (b"Diag", &lines),
+                (b"Other", &lines),
+                (b"Diag", &lines),
+            ],
+        )?,
+        events: super::building::events(alloc, &[])?,
+        frames: super::building::frames(alloc, &[])?,
+        sporadic: super::building::sporadic(alloc, &[])?,
+        ..b(alloc)?
+    };
+    assert!(rt; parts.is_cluster());
+    let cluster = Cluster::new(parts);
+    for (name, table) in [
+        ("Main", Some(0)),
+        ("Diag", Some(1)),
+        ("Other", Some(2)),
+        ("diag", None),
+        ("Dia", None),
+        ("", None),
+    ] {
+        assert_eq!(rt; cluster.table_named(name), table, "{name}");
+    }
+    Ok(())
+}

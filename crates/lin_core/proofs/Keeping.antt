@@ -1,0 +1,493 @@
+-- What a core keeps stays that of its log, one more entry on.
+use Rattle.std.proofs.Common.{◌≡◌, ◌≢◌, ℕ, zero, suc, ◌+◌, ◌*◌, ◌^◌, ◌<◌, ◌≤◌, Bool, true, false, List, [], ◌∷◌, ◌++◌, reverse, map, length, refl, ap, sym, ◌∙◌, subst, arith}
+use Rattle.std.specs.Prelude.{Option, Some, None, slice_get, slice_set, slice_index_or}
+use Rattle.std.proofs.lemmas.List.{length-map}
+use Rattle.std.proofs.lemmas.Option.{slice_get_read}
+use Rattle.lin_frame.specs.Words.{choose}
+use Rattle.lin_cluster.specs.Cluster.{nodes}
+use Rattle.lin_cluster.specs.declared.parts.Parts.{Parts}
+use Rattle.lin_core.specs.Kept.{message_at, sent_in, Keeps, KeepsHost, message_of}
+use Rattle.lin_core.specs.Links.{Message, waiting}
+use Rattle.lin_core.specs.Core.{CoreData, IsRefused, answered}
+use Rattle.lin_core.specs.Replies.{reply}
+use Rattle.lin_core.specs.declared.log.LogEntry.{LogEntry}
+use Rattle.lin_core.specs.declared.port.PortId.{PortId}
+use Rattle.lin_core.specs.declared.step.Step.{Step}
+use Rattle.lin_core.specs.declared.reply.Refusal.{Refusal}
+use Rattle.lin_core.specs.declared.reply.Reply.TheVariants.{Refused}
+use Rattle.lin_core.specs.declared.host.Host.{Host}
+use Rattle.lin_core.proofs.Entries.{messages-stay, messages-more}
+use Rattle.std.proofs.Common.{inl, inr}
+use Rattle.std.specs.Prelude.{◌⊎◌, ◌==◌, ◌||◌, if◌then◌else◌, nat_le}
+use Rattle.std.proofs.lemmas.List.{append-nil, length-append, length-reverse}
+use Rattle.std.proofs.lemmas.Bool.{ne_eqb}
+use Rattle.std.proofs.lemmas.Bool.Decides.{nat_tests}
+use Rattle.std.proofs.Math.ListN.{length-set}
+use Rattle.lin_schedule.specs.Walker.{Position}
+use Rattle.lin_core.specs.declared.slot.OpenSlot.{OpenSlot}
+use Rattle.lin_core.specs.Core.{IsAllowed, past_of}
+use Rattle.lin_core.specs.Hosts.{queued, settled, fresh}
+use Rattle.std.specs.Prelude.{All}
+use Rattle.std.proofs.lemmas.List.Elements.{All-get_or}
+use Rattle.std.proofs.lemmas.Option.{slice_get_within, get_or_from_slice_get}
+use Rattle.lin_core.specs.History.{is_clash_seen, seen_by}
+use Rattle.lin_core.specs.Kept.{puts_in}
+use Rattle.lin_core.specs.declared.slot.Put.{Put}
+use Rattle.std.specs.Prelude.{drop}
+use Rattle.lin_core.specs.History.{done}
+use Rattle.lin_cluster.specs.Sound.{IsSound}
+use Rattle.lin_core.specs.Links.{link_of, accepted_from, sent_from}
+use Rattle.lin_core.specs.Replies.{refusal, refusals}
+use Rattle.lin_core.specs.declared.event.Event.TheVariants.{Accepted}
+use Rattle.lin_core.specs.declared.reply.Reply.TheVariants.{Done}
+use Rattle.lin_core.specs.declared.step.Step.TheVariants.{Send}
+use Rattle.lin_core.proofs.Hosts.{HostState}
+use Rattle.lin_core.proofs.Known.{Known}
+use Rattle.lin_core.proofs.Steps.{AllFalse, none-of, both-false, more_if, send-known}
+use Rattle.lin_core.proofs.Queues.{waiting-are}
+use Rattle.std.specs.Prelude.{nat_lt}
+use Rattle.lin_cluster.specs.Cluster.{line_of}
+use Rattle.lin_cluster.specs.declared.parts.Entry.{Entry}
+use Rattle.lin_cluster.specs.declared.parts.Entry.TheVariants.{Frame, Sporadic, Event as EventEntry, MasterReq, SlaveResp, Quiet}
+use Rattle.lin_schedule.specs.Walker.{HasEntry}
+use Rattle.lin_transport.specs.Transport.{frame}
+use Rattle.lin_core.specs.History.{Slot, open_slot, header_is}
+use Rattle.lin_core.specs.Kept.{begun, slot_in}
+use Rattle.lin_core.specs.Links.{nad_on}
+use Rattle.lin_core.specs.Slots.{header, due_nodes, next_due, with_classic}
+use Rattle.lin_core.specs.Replies.{opening_events, done_events, put_event}
+use Rattle.lin_core.specs.declared.event.Event.{Event}
+use Rattle.lin_core.specs.declared.event.Event.TheVariants.{Slot as SlotEvent, Due, Put as PutEvent}
+use Rattle.lin_core.specs.declared.step.Step.TheVariants.{Open, Answer, Finish}
+use Rattle.lin_core.proofs.Finishes.{slot_of}
+use Rattle.lin_core.proofs.Plain.FinishIs.{shut, still, whole}
+use Rattle.lin_core.specs.Links.{Link}
+use Rattle.lin_core.specs.Links.Fate.{Sent}
+use Rattle.lin_core.specs.Replies.{receiver_of}
+use Rattle.lin_core.proofs.Hosts.{IsLink}
+use Rattle.lin_core.proofs.Plain.{Plain, FinishIs, none-due, master-due-one, AnswerIs, finish-is}
+use Rattle.lin_core.proofs.FinishEvents.{finish-quiet, finish-whole}
+use Rattle.lin_core.proofs.Known.{finish-known}
+use Rattle.lin_schedule.specs.Schedule.Move.{Slot as SlotMove}
+use Rattle.lin_schedule.specs.Walker.{Stands, Walks}
+use Rattle.lin_core.specs.History.{time, seen, is_clash, told_all}
+use Rattle.lin_core.specs.Slots.{moves}
+use Rattle.lin_core.specs.Replies.{finish_events}
+use Rattle.lin_core.specs.declared.event.Event.TheVariants.{Seen as SeenEvent, Message as MessageEvent, Sent as SentEvent}
+use Rattle.lin_core.specs.declared.link.Direction.TheVariants.{Down}
+use Rattle.std.specs.Prelude.{option_map}
+use Rattle.lin_core.proofs.Steps.{open-known, answer-known, told-due}
+
+-- as many messages of a host wait as its queue has places
+pub queue-length : (c : Parts) (capacity : ℕ) (log past : List LogEntry) (h : ℕ) (host : Host) → KeepsHost c capacity log past h host → length host.queue.items ≡ length (waiting c past h)
+queue-length c capacity log past h host k =
+    sym (length-map host.queue.items (message_at log)) ∙ ap length k.queue ∙ length-map (map message_of (waiting c past h)) Some ∙ length-map (waiting c past h) message_of
+
+-- == a step that is refused
+abbrev pub refused_entry : PortId → Step → Refusal → LogEntry
+refused_entry by step r = record { port = by; step = step; reply = Refused r }
+
+pub refused-answered : (core : CoreData) (by : PortId) (step : Step) (r : Refusal) → IsRefused core by step r → refused_entry by step r ≡ answered core by step
+unfolding reply
+refused-answered core by step r h = rw h
+
+pub refused-keeps : (c : Parts) (opening capacity : ℕ) (log past : List LogEntry) (slot : Option OpenSlot) (clock : ℕ) (walker : Position) (hosts : List Host) (by : PortId) (step : Step) (r : Refusal)
+    → Keeps c opening capacity log past slot clock walker hosts → Keeps c opening capacity (log ++ refused_entry by step r ∷ []) (refused_entry by step r ∷ past) slot clock walker hosts
+refused-keeps c opening capacity log past slot clock walker hosts by step r k = record {
+  slot_is = k.slot_is;
+  slot_there = k.slot_there;
+  clock_is = k.clock_is;
+  clock_few = let t = k.clock_few in omega arith;
+  stands = k.stands;
+  walks = k.walks;
+  hosts_count = k.hosts_count;
+  each_host = λ h host at. let x = k.each_host h host at in record {
+    queue = messages-stay log (refused_entry by step r) host.queue.items (map message_of (waiting c past h)) x.queue;
+    count = x.count;
+    capacity_is = x.capacity_is;
+  };
+}
+
+-- == a send
+-- a list after one item is set
+set-at : {X : Type 0} (xs : List X) (i j : ℕ) (x y : X) → slice_get (slice_set xs i x) j ≡ Some y → ((i ≡ j) × (y ≡ x)) ⊎ ((i ≢ j) × (slice_get xs j ≡ Some y))
+set-at [] i j x y h = cc
+set-at (a ∷ xs) zero zero x y h = inl (refl, cc)
+set-at (a ∷ xs) zero (suc j) x y h = inr (λ e. omega arith, h)
+set-at (a ∷ xs) (suc i) zero x y h = inr (λ e. omega arith, h)
+set-at (a ∷ xs) (suc i) (suc j) x y h = elim (set-at xs i j x y h) [ inl p ↦ inl (ap suc p.0, p.1) | inr p ↦ inr (λ e. p.0 (omega arith), p.1) ]
+
+-- no more messages are accepted than steps made
+accepted-by : (n : ℕ) (ms : List Message) (o : Option Message) → length ms ≤ n → length (choose o ms (λ m. ms ++ m ∷ [])) ≤ suc n
+accepted-by n ms None h = omega arith
+accepted-by n ms (Some m) h = simp length-append (omega arith)
+
+pub accepted-few : (past : List LogEntry) (h : ℕ) → length (accepted_from past h) ≤ length past
+accepted-few [] h = omega arith
+accepted-few (e ∷ past) h = accepted-by (length past) (accepted_from past h) (choose (done e) None (sent_from h)) (accepted-few past h)
+
+abbrev pub send_entry : PortId → ℕ → ℕ → List ℕ → ℕ → LogEntry
+send_entry by from to message number = record { port = by; step = Send from to message; reply = Done (Accepted from number ∷ []) }
+
+pub send-answered : (core : CoreData) (by : PortId) (from to : ℕ) (message : List ℕ) (number : ℕ) → IsAllowed core by (Send from to message) → number ≡ suc (length (accepted_from (past_of core) from))
+    → send_entry by from to message number ≡ answered core by (Send from to message)
+unfolding reply
+send-answered core by from to message number h n = rw (h, n)
+
+-- the sender is a node, and there is room in its queue
+pub send-room : (c : Parts) (capacity : ℕ) (past : List LogEntry) (by : PortId) (from to : ℕ) (message : List ℕ) → refusal c capacity past by (Send from to message) ≡ None
+    → (from < nodes c) × (length (waiting c past from) < capacity)
+send-room c capacity past by from to message h =
+    let all : AllFalse (refusals c capacity past by (Send from to message)) = none-of (refusals c capacity past by (Send from to message)) h
+    in let one : (nat_le (nodes c) from || nat_le (nodes c) to) ≡ false = all.0
+    in let two : nat_le capacity (length (waiting c past from)) ≡ false = all.1.1.1.0
+    in let far : nat_le (nodes c) from ≡ false = (both-false (nat_le (nodes c) from) (nat_le (nodes c) to) one).0
+    in (grind (arith, nat_tests, far), grind (arith, nat_tests, two))
+
+accepted-one : (past : List LogEntry) (e : LogEntry) (from x : ℕ) (m : Message) (b : Bool) → (from == x) ≡ b → choose (done e) None (sent_from x) ≡ (if from == x then Some m else None)
+    → length (accepted_from (e ∷ past) x) ≡ length (accepted_from past x) + (if b then 1 else 0)
+accepted-one past e from x m true t s = rw (s, t) (length-append (accepted_from past x) (m ∷ []))
+accepted-one past e from x m false t s = rw (s, t) (omega arith)
+
+rest-more : (b : Bool) (m : Message) (s : HostState) → (more_if b m s).rest ≡ s.rest ++ (if b then m ∷ [] else [])
+rest-more true m s = refl
+rest-more false m s = sym (append-nil s.rest)
+
+send-own : (c : Parts) (capacity : ℕ) (log past : List LogEntry) (from x : ℕ) (host other : Host) (m : Message) (e : LogEntry) → (from == x) ≡ true → other ≡ queued host (length log)
+    → map message_of (waiting c (e ∷ past) x) ≡ map message_of (waiting c past x) ++ (if from == x then m ∷ [] else []) → length (accepted_from (e ∷ past) x) ≡ length (accepted_from past x) + 1 → sent_in e.step ≡ Some m
+    → KeepsHost c capacity log past x host → KeepsHost c capacity (log ++ e ∷ []) (e ∷ past) x other
+send-own c capacity log past from x host other m e t is more count s k =
+    let ms : map message_of (waiting c (e ∷ past) x) ≡ map message_of (waiting c past x) ++ m ∷ [] = rw t at more
+    in let old = k.count
+    in rw is (record {
+      queue = messages-more log e host.queue.items (map message_of (waiting c past x)) m s k.queue ∙ sym (ap (map Some) ms);
+      count = simp length-append (omega arith);
+      capacity_is = k.capacity_is;
+    })
+
+send-other : (c : Parts) (capacity : ℕ) (log past : List LogEntry) (from x : ℕ) (host : Host) (m : Message) (e : LogEntry) → (from == x) ≡ false
+    → map message_of (waiting c (e ∷ past) x) ≡ map message_of (waiting c past x) ++ (if from == x then m ∷ [] else []) → length (accepted_from (e ∷ past) x) ≡ length (accepted_from past x) + 0
+    → KeepsHost c capacity log past x host → KeepsHost c capacity (log ++ e ∷ []) (e ∷ past) x host
+send-other c capacity log past from x host m e t more count k =
+    let ms : map message_of (waiting c (e ∷ past) x) ≡ map message_of (waiting c past x) ++ [] = rw t at more
+    in let old = k.count
+    in record {
+      queue = messages-stay log e host.queue.items (map message_of (waiting c past x)) k.queue ∙ sym (ap (map Some) (ms ∙ append-nil (map message_of (waiting c past x))));
+      count = omega arith;
+      capacity_is = k.capacity_is;
+    }
+
+eqb_true : (a b : ℕ) → a ≡ b → (a == b) ≡ true
+eqb_true a b e = grind (arith, nat_tests, e)
+
+pub send-keeps : (c : Parts) (opening capacity : ℕ) (log past : List LogEntry) (slot : Option OpenSlot) (clock : ℕ) (walker : Position) (hosts hosts' : List Host) (host : Host) (by : PortId) (from to : ℕ) (message : List ℕ) (number : ℕ)
+    → IsSound c → Known c past → refusal c capacity past by (Send from to message) ≡ None → slice_get hosts from ≡ Some host → hosts' ≡ slice_set hosts from (queued host (length log))
+    → Keeps c opening capacity log past slot clock walker hosts → Keeps c opening capacity (log ++ send_entry by from to message number ∷ []) (send_entry by from to message number ∷ past) slot clock walker hosts'
+send-keeps c opening capacity log past slot clock walker hosts hosts' host by from to message number sound known allowed at set k =
+    let e : LogEntry = send_entry by from to message number
+    in let m : Message = record { link = link_of from to; bytes = message }
+    in let known' : Known c (e ∷ past) = send-known c capacity past by from to message (Accepted from number ∷ []) allowed known
+    in let more : (x : ℕ) → map message_of (waiting c (e ∷ past) x) ≡ map message_of (waiting c past x) ++ (if from == x then m ∷ [] else [])
+    = λ x. waiting-are c (e ∷ past) x sound known' ∙ rest-more (from == x) m (known.states x) ∙ ap (λ (ms : List Message). ms ++ (if from == x then m ∷ [] else [])) (sym (waiting-are c past x sound known))
+    in record {
+      slot_is = k.slot_is;
+      slot_there = k.slot_there;
+      clock_is = k.clock_is;
+      clock_few = let t = k.clock_few in omega arith;
+      stands = k.stands;
+      walks = k.walks;
+      hosts_count = rw set (length-set hosts from (queued host (length log)) ∙ k.hosts_count);
+      each_host = λ x other there.
+          elim (set-at hosts from x (queued host (length log)) other (let t : slice_get (slice_set hosts from (queued host (length log))) x ≡ Some other = rw set at there in t)) [
+            | inl same ↦ send-own c capacity log past from x host other m e (eqb_true from x same.0) same.1 (more x) (accepted-one past e from x m true (eqb_true from x same.0) refl) refl
+                (subst (λ (y : ℕ). KeepsHost c capacity log past y host) same.0 (k.each_host from host at))
+            | inr differ ↦ send-other c capacity log past from x other m e (ne_eqb from x differ.0) (more x) (accepted-one past e from x m false (ne_eqb from x differ.0) refl) (k.each_host x other differ.1)
+          ];
+    }
+
+pub host-few : (c : Parts) (capacity : ℕ) (log : List LogEntry) (h : ℕ) (host : Host) → KeepsHost c capacity log (reverse log) h host → host.settled + length host.queue.items ≤ length log
+host-few c capacity log h host k = let n = k.count in let few = accepted-few (reverse log) h in let same = length-reverse log in omega arith
+
+-- the host of an allowed send
+pub host-at : (c : Parts) (capacity : ℕ) (past : List LogEntry) (hosts : List Host) (host : Host) (by : PortId) (from to : ℕ) (message : List ℕ) → refusal c capacity past by (Send from to message) ≡ None
+    → length hosts ≡ nodes c → host ≡ slice_index_or hosts from host → slice_get hosts from ≡ Some host
+host-at c capacity past hosts host by from to message h n e = slice_get_read hosts (nodes c) from host (sym n) (send-room c capacity past by from to message h).0 e
+
+-- == steps by which no host gains or settles a message
+pub same-hosts : (c : Parts) (capacity : ℕ) (log past : List LogEntry) (e : LogEntry) → IsSound c → (k : Known c past) (k' : Known c (e ∷ past)) → ((x : ℕ) → (k'.states x).rest ≡ (k.states x).rest)
+    → ((x : ℕ) → accepted_from (e ∷ past) x ≡ accepted_from past x) → (h : ℕ) (host : Host) → KeepsHost c capacity log past h host → KeepsHost c capacity (log ++ e ∷ []) (e ∷ past) h host
+same-hosts c capacity log past e sound k k' same accepted h host x =
+    let ms : map message_of (waiting c (e ∷ past) h) ≡ map message_of (waiting c past h) = waiting-are c (e ∷ past) h sound k' ∙ same h ∙ sym (waiting-are c past h sound k)
+    in record {
+      queue = messages-stay log e host.queue.items (map message_of (waiting c past h)) x.queue ∙ sym (ap (map Some) ms);
+      count = x.count ∙ sym (ap length (accepted h));
+      capacity_is = x.capacity_is;
+    }
+
+-- == an open
+due-of : (c : Parts) (past : List LogEntry) (b : Bool) → 1 ≤ nodes c → nat_lt 0 (length (waiting c past 0)) ≡ b → (if header_is 0x3C (if b then Some 0x3C else None) then 0 ∷ [] else []) ≡ due_nodes c past MasterReq
+due-of c past true some w = sym (master-due-one c past some w)
+due-of c past false some w = sym (none-due c past MasterReq (rw w refl))
+
+due-is : (c : Parts) (past : List LogEntry) (kind : Entry) → 1 ≤ nodes c → (if header_is 0x3C (header c past kind) then 0 ∷ [] else []) ≡ due_nodes c past kind
+due-is c past (Frame f) some = sym (none-due c past (Frame f) refl)
+due-is c past (Sporadic k) some = sym (none-due c past (Sporadic k) refl)
+due-is c past (EventEntry e) some = sym (none-due c past (EventEntry e) refl)
+due-is c past MasterReq some = due-of c past (nat_lt 0 (length (waiting c past 0))) some refl
+due-is c past SlaveResp some = sym (none-due c past SlaveResp refl)
+due-is c past Quiet some = sym (none-due c past Quiet refl)
+
+abbrev pub events_of_open : OpenSlot → List Event
+events_of_open s = SlotEvent s.table s.entry s.header ∷ map Due s.due.items
+
+-- a slot that opens where the schedule stands
+pub record Opens (c : Parts) (opening : ℕ) (past : List LogEntry) (slot : OpenSlot) : Type 0 where
+  pub at : (slot.table, slot.entry) ≡ next_due c opening past
+  pub there : HasEntry c (slot.table, slot.entry)
+  pub begun_is : slot_in slot ≡ begun slot.table slot.entry (header c past (line_of c slot.table slot.entry).entry)
+
+pub opening-is : (c : Parts) (opening : ℕ) (past : List LogEntry) (slot : OpenSlot) → 1 ≤ nodes c → Opens c opening past slot → events_of_open slot ≡ opening_events c opening past
+opening-is c opening past slot some o =
+    let kind : Entry = (line_of c slot.table slot.entry).entry
+    in let told : events_of_open slot ≡ SlotEvent slot.table slot.entry (header c past kind) ∷ map Due (due_nodes c past kind)
+    = ap (λ (s : Slot). SlotEvent s.table s.entry s.header ∷ map Due s.due) o.begun_is ∙ ap (λ (ns : List ℕ). SlotEvent slot.table slot.entry (header c past kind) ∷ map Due ns) (due-is c past kind some)
+    in subst (λ (at : ℕ × ℕ). events_of_open slot ≡ SlotEvent at.0 at.1 (header c past (line_of c at.0 at.1).entry) ∷ map Due (due_nodes c past (line_of c at.0 at.1).entry)) o.at told
+
+abbrev pub done_entry : PortId → Step → List Event → LogEntry
+done_entry by step es = record { port = by; step = step; reply = Done es }
+
+pub done-answered : (core : CoreData) (by : PortId) (step : Step) (es : List Event) → IsAllowed core by step → es ≡ done_events core.cluster core.opening (past_of core) by step → done_entry by step es ≡ answered core by step
+unfolding reply
+done-answered core by step es h e = rw (h, e)
+
+pub open-keeps : (c : Parts) (opening capacity : ℕ) (log past : List LogEntry) (old : Option OpenSlot) (slot : OpenSlot) (clock : ℕ) (walker : Position) (hosts : List Host) (by : PortId)
+    → IsSound c → 1 ≤ nodes c → Known c past → refusal c capacity past by Open ≡ None → Opens c opening past slot
+    → Keeps c opening capacity log past old clock walker hosts → Keeps c opening capacity (log ++ done_entry by Open (opening_events c opening past) ∷ []) (done_entry by Open (opening_events c opening past) ∷ past) (Some slot) clock walker hosts
+open-keeps c opening capacity log past old slot clock walker hosts by sound some known allowed o k =
+    let at : ℕ × ℕ = next_due c opening past
+    in let e : LogEntry = done_entry by Open (opening_events c opening past)
+    in let known' : Known c (e ∷ past) = open-known c opening capacity past by sound allowed known
+    in record {
+      slot_is = ap Some (
+          o.begun_is
+          ∙ subst (λ (p : ℕ × ℕ). begun slot.table slot.entry (header c past (line_of c slot.table slot.entry).entry) ≡ begun p.0 p.1 (header c past (line_of c p.0 p.1).entry)) o.at refl
+          ∙ ap (λ (ns : List ℕ). slot_of at.0 at.1 (header c past (line_of c at.0 at.1).entry) ns [] [] false) (due-is c past (line_of c at.0 at.1).entry some)
+          ∙ sym (told-due (due_nodes c past (line_of c at.0 at.1).entry) at.0 at.1 (header c past (line_of c at.0 at.1).entry) []));
+      slot_there = o.there;
+      clock_is = k.clock_is;
+      clock_few = let t = k.clock_few in omega arith;
+      stands = k.stands;
+      walks = k.walks;
+      hosts_count = k.hosts_count;
+      each_host = λ h host there. same-hosts c capacity log past e sound known known' (λ x. refl) (λ x. refl) h host (k.each_host h host there);
+    }
+
+-- == an answer
+pub answer-told : (c : Parts) (past : List LogEntry) (states : ℕ → HostState) (node : ℕ) (a : AnswerIs c past states node)
+    → PutEvent node (with_classic (frame (nad_on c a.message.link) a.message.bytes 0)) ∷ [] ≡ choose (open_slot past) [] (put_event c past node)
+answer-told c past states node a = sym (rw (a.is, a.header) (ap (λ (bytes : List ℕ). PutEvent node bytes ∷ []) a.bytes))
+
+pub answer-keeps : (c : Parts) (opening capacity : ℕ) (log past : List LogEntry) (slot : OpenSlot) (clock : ℕ) (walker : Position) (hosts : List Host) (by : PortId) (node : ℕ) (bytes : List ℕ)
+    → IsSound c → (k : Known c past) → refusal c capacity past by (Answer node) ≡ None → (a : AnswerIs c past k.states node)
+    → PutEvent node bytes ∷ [] ≡ choose (open_slot past) [] (put_event c past node)
+    → Keeps c opening capacity log past (Some slot) clock walker hosts
+    → Keeps c opening capacity (log ++ done_entry by (Answer node) (choose (open_slot past) [] (put_event c past node)) ∷ []) (done_entry by (Answer node) (choose (open_slot past) [] (put_event c past node)) ∷ past)
+    (Some (record slot { put = Some (record { node = node; answer = bytes }) })) clock walker hosts
+answer-keeps c opening capacity log past slot clock walker hosts by node bytes sound known allowed a told k =
+    let e : LogEntry = done_entry by (Answer node) (choose (open_slot past) [] (put_event c past node))
+    in let known' : Known c (e ∷ past) = answer-known c capacity past by node sound allowed known
+    in let same : Some (slot_in slot) ≡ Some a.slot = k.slot_is ∙ a.is
+    in let empty : (slot_in slot).puts ≡ [] = let s : slot_in slot ≡ a.slot = cc in ap (λ (x : Slot). x.puts) s ∙ a.empty
+    in let put : Some (slot_of slot.table slot.entry slot.header slot.due.items ((node, bytes) ∷ []) [] false) ≡ option_map (told_all (PutEvent node bytes ∷ [])) (open_slot past)
+    = rw (← k.slot_is) (ap (λ (ps : List (ℕ × List ℕ)). Some (slot_of slot.table slot.entry slot.header slot.due.items (ps ++ (node, bytes) ∷ []) [] false)) (sym empty))
+    in record {
+      slot_is = subst (λ (es : List Event). Some (slot_of slot.table slot.entry slot.header slot.due.items ((node, bytes) ∷ []) [] false) ≡ option_map (told_all es) (open_slot past)) told put;
+      slot_there = k.slot_there;
+      clock_is = k.clock_is;
+      clock_few = let t = k.clock_few in omega arith;
+      stands = k.stands;
+      walks = k.walks;
+      hosts_count = k.hosts_count;
+      each_host = λ h host there. same-hosts c capacity log past e sound known known' (λ x. refl) (λ x. refl) h host (k.each_host h host there);
+    }
+
+-- == a finish
+abbrev pub finished_entry : Parts → List LogEntry → PortId → LogEntry
+finished_entry c past by = done_entry by Finish (finish_events c by past)
+
+-- what is kept behind a finish: the slot is over, its delay is added, and the schedule goes on
+pub record Finishes (c : Parts) (opening : ℕ) (past : List LogEntry) (slot : OpenSlot) (clock clock' : ℕ) (walker walker' : Position) : Type 0 where
+  pub clock_is : clock' ≡ clock + (line_of c slot.table slot.entry).delay_us
+  pub few : (line_of c slot.table slot.entry).delay_us ≤ 1000000000
+  pub stands : Stands c opening walker' (SlotMove false ∷ moves past)
+  pub walks : Walks c walker'
+  pub calm : is_clash (slot_in slot) ≡ false
+
+clock-few : (d n t : ℕ) → d ≤ 1000000000 → t ≤ 10 ^ 9 * n → t + d ≤ 10 ^ 9 * suc n
+clock-few d n t a b = omega arith
+
+pub finish-keeps : (c : Parts) (opening capacity : ℕ) (log past : List LogEntry) (slot : OpenSlot) (clock clock' : ℕ) (walker walker' : Position) (hosts hosts' : List Host) (by : PortId)
+    → Finishes c opening past slot clock clock' walker walker' → length hosts' ≡ length hosts
+    → ((h : ℕ) (host : Host) → slice_get hosts' h ≡ Some host → KeepsHost c capacity (log ++ finished_entry c past by ∷ []) (finished_entry c past by ∷ past) h host)
+    → Keeps c opening capacity log past (Some slot) clock walker hosts
+    → Keeps c opening capacity (log ++ finished_entry c past by ∷ []) (finished_entry c past by ∷ past) None clock' walker' hosts'
+finish-keeps c opening capacity log past slot clock clock' walker walker' hosts hosts' by f count each k = record {
+  slot_is = refl;
+  slot_there = tt;
+  clock_is = rw (← k.slot_is, f.clock_is, k.clock_is) refl;
+  clock_few = rw (← k.slot_is) (clock-few (line_of c slot.table slot.entry).delay_us (length past) (time c past) f.few k.clock_few);
+  stands = rw (← k.slot_is, f.calm) f.stands;
+  walks = f.walks;
+  hosts_count = count ∙ k.hosts_count;
+  each_host = each;
+}
+
+-- a finish by which nothing is settled
+pub record FinishesStill (c : Parts) (past : List LogEntry) (by : PortId) (slot : Slot) (known : Known c past) : Type 0 where
+  pub told : finish_events c by past ≡ SeenEvent (seen slot) ∷ []
+  pub known' : Known c (finished_entry c past by ∷ past)
+  pub same : (x : ℕ) → known'.states x ≡ known.states x
+
+-- a finish by which the first message that waits is settled
+pub record FinishesOne (c : Parts) (past : List LogEntry) (by : PortId) (slot : Slot) (known : Known c past) : Type 0 where
+  pub message : Message
+  pub later : List Message
+  pub first : (known.states 0).rest ≡ message ∷ later
+  pub down : message.link.dir ≡ Down
+  pub told : finish_events c by past ≡ SeenEvent (seen slot) ∷ MessageEvent 0 message.link.node message.bytes ∷ SentEvent 0 (suc (length (known.states 0).done)) ∷ []
+  pub known' : Known c (finished_entry c past by ∷ past)
+  pub rests : (x : ℕ) → (known'.states x).rest ≡ (if 0 == x then later else (known.states x).rest)
+
+-- what a finish makes of the hosts, by the slot that it ends
+still-is : (c : Parts) (past : List LogEntry) (states states' : ℕ → HostState) (o : Option Slot) → FinishIs c past states states' o → (s : Slot) → o ≡ Some s → s.puts ≡ [] → (x : ℕ) → states' x ≡ states x
+still-is c past states states' None (shut e) s is empty = e
+still-is c past states states' (Some _) (still t n e) s is empty = e
+still-is c past states states' (Some _) (whole t m ms header puts hurt first link down e) s is empty = absurd (let same : t ≡ s = cc in let none : t.puts ≡ [] = ap (λ (y : Slot). y.puts) same ∙ empty in cc)
+
+record WholeIs (c : Parts) (states states' : ℕ → HostState) : Type 0 where
+  message : Message
+  later : List Message
+  first : (states 0).rest ≡ message ∷ later
+  link : IsLink c 0 message.link
+  down : message.link.dir ≡ Down
+  each : (x : ℕ) → states' x ≡ (if 0 == x then record { done = (states 0).done ++ (message, Sent) ∷ []; rest = later; count = 0 } else states x)
+
+whole-is : (c : Parts) (past : List LogEntry) (states states' : ℕ → HostState) (o : Option Slot) → FinishIs c past states states' o → (s : Slot) → o ≡ Some s → (p : ℕ × List ℕ) → s.puts ≡ p ∷ [] → WholeIs c states states'
+whole-is c past states states' None (shut e) s is p puts = absurd (cc)
+whole-is c past states states' (Some _) (still t n e) s is p puts = absurd (let same : t ≡ s = cc in let some : t.puts ≡ p ∷ [] = ap (λ (y : Slot). y.puts) same ∙ puts in cc)
+whole-is c past states states' (Some _) (whole t m ms header puts' hurt first link down e) s is p puts = record { message = m; later = ms; first = first; link = link; down = down; each = e }
+
+done-if : (b : Bool) (m : Message) (ms : List Message) (a s : HostState) → (b ≡ true → a ≡ s)
+    → (if b then record { done = a.done ++ (m, Sent) ∷ []; rest = ms; count = 0 } else s).done ≡ s.done ++ (if b then (m, Sent) ∷ [] else [])
+done-if true m ms a s same = ap (λ (h : HostState). h.done ++ (m, Sent) ∷ []) (same refl)
+done-if false m ms a s same = sym (append-nil s.done)
+
+rest-if : (b : Bool) (m : Message) (ms : List Message) (a s : HostState) → (if b then record { done = a.done ++ (m, Sent) ∷ []; rest = ms; count = 0 } else s).rest ≡ (if b then ms else s.rest)
+rest-if true m ms a s = refl
+rest-if false m ms a s = refl
+
+receiver-down : (l : Link) → l.dir ≡ Down → receiver_of l.dir l.node ≡ l.node
+receiver-down l down = rw down
+
+abbrev states_behind : (c : Parts) (past : List LogEntry) (by : PortId) → IsSound c → Known c past → List Event → ℕ → HostState
+states_behind c past by sound known es = (finish-known c past by es sound known (open_slot past) refl known.slot).states
+
+pub finishes-still : (c : Parts) (past : List LogEntry) (by : PortId) (s : Slot) → IsSound c → (known : Known c past) → Plain past known.states → open_slot past ≡ Some s → s.puts ≡ [] → FinishesStill c past by s known
+finishes-still c past by s sound known plain is empty =
+    let same : (es : List Event) (x : ℕ) → states_behind c past by sound known es x ≡ known.states x
+    = λ es. still-is c past known.states (states_behind c past by sound known es) (open_slot past) (finish-is c past by es sound known plain (open_slot past) refl known.slot) s is empty
+    in record {
+      told = finish-quiet c past by s sound known (finish-known c past by [] sound known (open_slot past) refl known.slot) (λ x. ap (λ (h : HostState). h.done) (same [] x)) is;
+      known' = finish-known c past by (finish_events c by past) sound known (open_slot past) refl known.slot;
+      same = same (finish_events c by past);
+    }
+
+pub finishes-one : (c : Parts) (past : List LogEntry) (by : PortId) (s : Slot) (p : ℕ × List ℕ) → IsSound c → (known : Known c past) → Plain past known.states → open_slot past ≡ Some s → s.puts ≡ p ∷ [] → FinishesOne c past by s known
+finishes-one c past by s p sound known plain is puts =
+    let at : (es : List Event) → WholeIs c known.states (states_behind c past by sound known es)
+    = λ es. whole-is c past known.states (states_behind c past by sound known es) (open_slot past) (finish-is c past by es sound known plain (open_slot past) refl known.slot) s is p puts
+    in let w : WholeIs c known.states (states_behind c past by sound known []) = at []
+    in let v : WholeIs c known.states (states_behind c past by sound known (finish_events c by past)) = at (finish_events c by past)
+    in let both : v.message ∷ v.later ≡ w.message ∷ w.later = sym v.first ∙ w.first
+    in let later : v.later ≡ w.later = cc
+    in record {
+      message = w.message;
+      later = w.later;
+      first = w.first;
+      down = w.down;
+      told =
+          finish-whole c past by s 0 w.message sound w.link known (finish-known c past by [] sound known (open_slot past) refl known.slot)
+          (λ x. ap (λ (h : HostState). h.done) (w.each x) ∙ done-if (0 == x) w.message w.later (known.states 0) (known.states x) (λ e. let z : 0 ≡ x = grind (arith, nat_tests, e) in ap known.states z)) is
+          ∙ ap (λ (n : ℕ). SeenEvent (seen s) ∷ MessageEvent 0 n w.message.bytes ∷ SentEvent 0 (suc (length (known.states 0).done)) ∷ []) (receiver-down w.message.link w.down);
+      known' = finish-known c past by (finish_events c by past) sound known (open_slot past) refl known.slot;
+      rests = λ x. ap (λ (h : HostState). h.rest) (v.each x) ∙ rest-if (0 == x) v.message v.later (known.states 0) (known.states x) ∙ ap (λ (ms : List Message). if 0 == x then ms else (known.states x).rest) later;
+    }
+
+-- a slot of this stage is never seen damaged or collided
+calm-by : (h : Option ℕ) (o : Option Put) → is_clash_seen (seen_by h (puts_in o) false) ≡ false
+calm-by None o = refl
+calm-by (Some h) None = refl
+calm-by (Some h) (Some p) = refl
+
+pub calm : (slot : OpenSlot) → is_clash (slot_in slot) ≡ false
+calm slot = calm-by slot.header slot.put
+
+-- the hosts behind a finish that settles nothing
+pub still-hosts : (c : Parts) (capacity : ℕ) (log past : List LogEntry) (by : PortId) (s : Slot) → IsSound c → (known : Known c past) → FinishesStill c past by s known
+    → (h : ℕ) (host : Host) → KeepsHost c capacity log past h host → KeepsHost c capacity (log ++ finished_entry c past by ∷ []) (finished_entry c past by ∷ past) h host
+still-hosts c capacity log past by s sound known f h host k =
+    same-hosts c capacity log past (finished_entry c past by) sound known f.known' (λ x. ap (λ (y : HostState). y.rest) (f.same x)) (λ x. refl) h host k
+
+-- and behind one that settles the first message that waits
+queue-rest : (log : List LogEntry) (is : List ℕ) (m : Message) (ms : List Message) → map (message_at log) is ≡ map Some (m ∷ ms) → (map (message_at log) (drop 1 is) ≡ map Some ms) × (length is ≡ suc (length (drop 1 is)))
+queue-rest log [] m ms e = absurd (cc)
+queue-rest log (i ∷ is) m ms e = let rest : map (message_at log) is ≡ map Some ms = cc in (rest, refl)
+
+pub one-hosts : (c : Parts) (capacity : ℕ) (log past : List LogEntry) (by : PortId) (s : Slot) (hosts : List Host) (host : Host) → IsSound c → (known : Known c past) → (f : FinishesOne c past by s known) → slice_get hosts 0 ≡ Some host
+    → ((h : ℕ) (x : Host) → slice_get hosts h ≡ Some x → KeepsHost c capacity log past h x)
+    → (h : ℕ) (x : Host) → slice_get (slice_set hosts 0 (settled host)) h ≡ Some x → KeepsHost c capacity (log ++ finished_entry c past by ∷ []) (finished_entry c past by ∷ past) h x
+one-hosts c capacity log past by s hosts host sound known f at each h x there =
+    let e : LogEntry = finished_entry c past by
+    in let ms : (y : ℕ) → map message_of (waiting c (e ∷ past) y) ≡ (if 0 == y then f.later else (known.states y).rest) = λ y. waiting-are c (e ∷ past) y sound f.known' ∙ f.rests y
+    in elim (set-at hosts 0 h (settled host) x there) [
+      | inl same ↦
+          let own : KeepsHost c capacity log past 0 host = each 0 host at
+          in let queue : map (message_at log) host.queue.items ≡ map Some (f.message ∷ f.later) = own.queue ∙ ap (map Some) (waiting-are c past 0 sound known ∙ f.first)
+          in let q = queue-rest log host.queue.items f.message f.later queue
+          in let count = own.count
+          in let shorter = q.1
+          in let kept : KeepsHost c capacity (log ++ e ∷ []) (e ∷ past) 0 (settled host) = record {
+            queue = messages-stay log e (drop 1 host.queue.items) f.later q.0 ∙ ap (map Some) (sym (ms 0));
+            count = omega arith;
+            capacity_is = own.capacity_is;
+          }
+          in rw same.1 (subst (λ (y : ℕ). KeepsHost c capacity (log ++ e ∷ []) (e ∷ past) y (settled host)) same.0 kept)
+      | inr differ ↦
+          let old : KeepsHost c capacity log past h x = each h x differ.1
+          in let test : (0 == h) ≡ false = ne_eqb 0 h differ.0
+          in let rest : map message_of (waiting c (e ∷ past) h) ≡ map message_of (waiting c past h) = ms h ∙ rw test (sym (waiting-are c past h sound known))
+          in record {
+            queue = messages-stay log e x.queue.items (map message_of (waiting c past h)) old.queue ∙ ap (map Some) (sym rest);
+            count = old.count;
+            capacity_is = old.capacity_is;
+          }
+    ]
+
+-- == the empty log
+all-at : {X : Type 0} (P : X → Type 0) (xs : List X) (i : ℕ) (x : X) → All P xs → slice_get xs i ≡ Some x → P x
+all-at P xs i x a h = subst P (get_or_from_slice_get xs i x x h) (All-get_or P xs i x (slice_get_within xs i x h) a)
+
+pub start-keeps : (c : Parts) (opening capacity : ℕ) (walker : Position) (hosts : List Host) → Stands c opening walker [] → Walks c walker → length hosts ≡ nodes c → All (λ (host : Host). host ≡ fresh capacity) hosts
+    → Keeps c opening capacity [] [] None 0 walker hosts
+start-keeps c opening capacity walker hosts stands walks count all = record {
+  slot_is = refl;
+  slot_there = tt;
+  clock_is = refl;
+  clock_few = omega arith;
+  stands = stands;
+  walks = walks;
+  hosts_count = count;
+  each_host = λ h host at.
+      let is : host ≡ fresh capacity = all-at (λ (x : Host). x ≡ fresh capacity) hosts h host all at
+      in rw is (record { queue = refl; count = refl; capacity_is = refl });
+}

@@ -1,0 +1,101 @@
+use Rattle.std.proofs.Common.{refl, ◌≡◌, ℕ, List, [], ◌∷◌, ◌++◌, ap, ◌∙◌, subst, arith, length-append}
+use Rattle.std.specs.Prelude.{Option, Some}
+use Rattle.lin_frame.specs.Words.{choose}
+use Rattle.lin_transport.specs.Transport.{frame}
+use Rattle.lin_core.specs.Core.{answered, CoreData}
+use Rattle.lin_core.specs.History.{open_slot}
+use Rattle.lin_core.specs.Kept.{Keeps, message_at}
+use Rattle.lin_core.specs.Links.{nad_on}
+use Rattle.lin_core.specs.Replies.{put_event}
+use Rattle.lin_core.specs.Slots.{with_classic}
+use Rattle.lin_core.specs.Whole.{core_data}
+use Rattle.lin_core.specs.declared.event.Event.{Event}
+use Rattle.lin_core.specs.declared.event.Event.TheVariants.{Put}
+use Rattle.lin_core.specs.declared.log.LogEntry.{LogEntry}
+use Rattle.lin_core.specs.declared.slot.OpenSlot.{OpenSlot}
+use Rattle.lin_core.specs.declared.step.Step.TheVariants.{Answer}
+use Rattle.lin_core.proofs.Entries.{reverse-more, history-more}
+use Rattle.lin_core.proofs.Keeping.{done_entry, done-answered, answer-keeps, answer-told}
+use Rattle.lin_core.proofs.Making.{AnswersNext, answer-next, kept-slot, past_in}
+use Rattle.lin_core.proofs.machine.Core.answer.Goals.{After-push}
+use Rattle.lin_core.proofs.machine.Core.answer.Goals as goal
+
+pub single_frame-answer-requires-clause-there : goal.single_frame-answer-requires-clause-there
+single_frame-answer-requires-clause-there c =
+    let x = answer-next c.self.inside c.args.self.now c.args.by c.args.node c.index.result.now c.next-place.result c.self.view_is c.self.invariant c.requires.allowed c.requires.few c.index.ensures c.next-place.ensures in
+    rw c.make_room.ensures.entries x.next.below
+
+pub single_frame-answer-requires-clause-can : goal.single_frame-answer-requires-clause-can
+single_frame-answer-requires-clause-can c =
+    let x = answer-next c.self.inside c.args.self.now c.args.by c.args.node c.index.result.now c.next-place.result c.self.view_is c.self.invariant c.requires.allowed c.requires.few c.index.ensures c.next-place.ensures in
+    rw c.make_room.ensures.entries x.next.can
+
+pub single_frame-told-requires-clause-there : goal.single_frame-told-requires-clause-there
+single_frame-told-requires-clause-there c =
+    let x = answer-next c.self.inside c.args.self.now c.args.by c.args.node c.index.result.now c.next-place.result c.self.view_is c.self.invariant c.requires.allowed c.requires.few c.index.ensures c.next-place.ensures in
+    rw c.make_room.ensures.entries x.next.below
+
+pub single_frame-told-requires-clause-can : goal.single_frame-told-requires-clause-can
+single_frame-told-requires-clause-can c =
+    let x = answer-next c.self.inside c.args.self.now c.args.by c.args.node c.index.result.now c.next-place.result c.self.view_is c.self.invariant c.requires.allowed c.requires.few c.index.ensures c.next-place.ensures in
+    rw c.make_room.ensures.entries x.next.can
+
+next : (c : After-push) → AnswersNext c.self.inside c.args.by c.args.node c.next-place.result
+next c = answer-next c.self.inside c.args.self.now c.args.by c.args.node c.index.result.now c.next-place.result c.self.view_is c.self.invariant c.requires.allowed c.requires.few c.index.ensures c.next-place.ensures
+
+abbrev events : (c : After-push) → List Event
+events c = choose (open_slot (past_in c.self.inside)) [] (put_event c.self.inside.cluster (past_in c.self.inside) c.args.node)
+
+abbrev entry : (c : After-push) → LogEntry
+entry c = done_entry c.args.by (Answer c.args.node) (events c)
+
+abbrev frame_of : (c : After-push) → List ℕ
+frame_of c = with_classic (frame (nad_on c.self.inside.cluster (next c).answer.message.link) (next c).answer.message.bytes 0)
+
+there : (c : After-push) → message_at c.make_room.new.self.entries c.next-place.result ≡ Some (next c).answer.message
+there c = ap (λ (log : List LogEntry). message_at log c.next-place.result) c.make_room.ensures.entries ∙ (next c).next.is
+
+told : (c : After-push) → Put c.args.node (frame_of c) ∷ [] ≡ events c
+told c = answer-told c.self.inside.cluster (past_in c.self.inside) (next c).step.known.states c.args.node (next c).answer
+
+pushed : (c : After-push) → c.push.new.self.entries ≡ c.self.inside.log.entries ++ entry c ∷ []
+pushed c =
+    let a = c.self.inside in
+    c.push.ensures ∙ ap (λ (log : List LogEntry). log ++ done_entry c.args.by (Answer c.args.node) c.one_event-events.result ∷ []) c.make_room.ensures.entries
+    ∙ ap (λ (es : List Event). a.log.entries ++ done_entry c.args.by (Answer c.args.node) es ∷ [])
+    (c.one_event-events.ensures ∙ ap (λ (bytes : List ℕ). Put c.args.node bytes ∷ []) (c.single_frame-told.ensures (next c).answer.message (there c)) ∙ told c)
+
+is_answered : (c : After-push) → entry c ≡ answered (core_data c.self.inside) c.args.by (Answer c.args.node)
+is_answered c = done-answered (core_data c.self.inside) c.args.by (Answer c.args.node) (events c) (next c).step.allowed refl
+
+kept : (c : After-push) → Keeps c.self.inside.cluster c.self.inside.opening c.self.inside.capacity (c.self.inside.log.entries ++ entry c ∷ []) (entry c ∷ past_in c.self.inside) c.put_in.new.slot c.self.inside.state.time c.self.inside.state.walker c.self.inside.state.hosts.items
+kept c =
+    let a = c.self.inside in
+    let w = c.self.invariant in
+    let x = next c in
+    let k = kept-slot a.state.slot x.answer.slot (w.kept.slot_is ∙ x.answer.is) in
+    let put : c.put_in.new.slot ≡ Some (record k.0 { put = Some (record { node = c.args.node; answer = frame_of c }) })
+    = c.put_in.ensures k.0 k.1 ∙ ap (λ (bytes : List ℕ). Some (record k.0 { put = Some (record { node = c.args.node; answer = bytes }) })) (c.single_frame-answer.ensures x.answer.message (there c)) in
+    rw put
+    (answer-keeps a.cluster a.opening a.capacity a.log.entries (past_in a) k.0 a.state.time a.state.walker a.state.hosts.items c.args.by c.args.node (frame_of c) w.sound x.step.known x.step.allowed x.answer (told c)
+    (subst (λ (o : Option OpenSlot). Keeps a.cluster a.opening a.capacity a.log.entries (past_in a) o a.state.time a.state.walker a.state.hosts.items) k.1 w.kept))
+
+pub invariant_of-self-2 : goal.invariant_of-self-2
+invariant_of-self-2 c =
+    let a = c.self.inside in
+    let w = c.self.invariant in
+    record {
+      few = let few = (next c).step.few in rw (pushed c, length-append) (omega arith);
+      empty = rw c.replace-room.ensures.after c.new.ensures.items;
+      rules = w.rules;
+      sound = w.sound;
+      diagnostic = w.diagnostic;
+      opening = w.opening;
+      kept = rw (pushed c, reverse-more a.log.entries (entry c)) (kept c);
+      history = rw (pushed c, is_answered c) (history-more (core_data a) c.args.by (Answer c.args.node) w.history);
+    }
+
+pub returns-clause-ok : goal.returns-clause-ok
+returns-clause-ok c =
+    subst (λ (d : CoreData). c.push.new.self.entries ≡ d.log ++ answered d c.args.by (Answer c.args.node) ∷ []) c.self.view_is
+    (pushed c ∙ ap (λ (e : LogEntry). c.self.inside.log.entries ++ e ∷ []) (is_answered c))

@@ -1,0 +1,81 @@
+use Rattle.std.proofs.Common.{refl, ◌≡◌, ◌+◌, ℕ, List, [], ◌∷◌, ◌++◌, ap, sym, ◌∙◌, subst, arith, length-append}
+use Rattle.std.specs.Prelude.{Option}
+use Rattle.lin_cluster.specs.Cluster.{line_of}
+use Rattle.lin_core.specs.Core.{answered, CoreData}
+use Rattle.lin_core.specs.History.{seen}
+use Rattle.lin_core.specs.Kept.{Keeps, slot_in}
+use Rattle.lin_core.specs.Replies.{finish_events}
+use Rattle.lin_core.specs.Slots.{moves}
+use Rattle.lin_core.specs.Whole.{core_data}
+use Rattle.lin_core.specs.declared.event.Event.{Event}
+use Rattle.lin_core.specs.declared.event.Event.TheVariants.{Seen}
+use Rattle.lin_core.specs.declared.log.LogEntry.{LogEntry}
+use Rattle.lin_core.specs.declared.slot.OpenSlot.{OpenSlot}
+use Rattle.lin_core.specs.declared.step.Step.TheVariants.{Finish}
+use Rattle.lin_core.proofs.Entries.{reverse-more, history-more}
+use Rattle.lin_core.proofs.Keeping.{done_entry, done-answered, finished_entry, finish-keeps, Finishes, FinishesStill, still-hosts, calm}
+use Rattle.lin_core.proofs.Making.{OpenIs, open-inside, still-inside, past_in}
+use Rattle.lin_core.proofs.machine.Core.finish_unanswered.Goals.{After-push}
+use Rattle.lin_core.proofs.machine.Core.finish_unanswered.Goals as goal
+
+opened : (c : After-push) → OpenIs c.self.inside c.args.by
+opened c = open-inside c.self.inside c.args.self.now c.args.by c.self.view_is c.self.invariant c.requires.allowed c.requires.few
+
+quiet : (c : After-push) → FinishesStill c.self.inside.cluster (past_in c.self.inside) c.args.by (slot_in (opened c).slot) (opened c).step.known
+quiet c = still-inside c.self.inside c.args.self.now c.args.by c.self.view_is c.self.invariant (opened c) c.requires.empty
+
+abbrev entry : (c : After-push) → LogEntry
+entry c = finished_entry c.self.inside.cluster (past_in c.self.inside) c.args.by
+
+is_answered : (c : After-push) → entry c ≡ answered (core_data c.self.inside) c.args.by Finish
+is_answered c = done-answered (core_data c.self.inside) c.args.by Finish (finish_events c.self.inside.cluster c.args.by (past_in c.self.inside)) (opened c).step.allowed refl
+
+finishes : (c : After-push) → Finishes c.self.inside.cluster c.self.inside.opening (past_in c.self.inside) (opened c).slot c.self.inside.state.time (c.self.inside.state.time + c.from.result) c.self.inside.state.walker c.advance.new.self
+finishes c =
+    let a = c.self.inside in
+    let o = opened c in
+    let delay : c.delay_of-delay.result ≡ (line_of a.cluster o.slot.table o.slot.entry).delay_us = c.delay_of-delay.ensures.value o.slot o.at in
+    record {
+      clock_is = ap (λ (n : ℕ). a.state.time + n) (c.from.ensures ∙ delay);
+      few = rw (← delay) c.delay_of-delay.ensures.few;
+      stands = c.advance.ensures.stands a.opening (moves (past_in a)) c.self.invariant.kept.stands;
+      walks = c.advance.ensures.walks;
+      calm = calm o.slot;
+    }
+
+pushed : (c : After-push) → c.push.new.self.entries ≡ c.self.inside.log.entries ++ entry c ∷ []
+pushed c =
+    let a = c.self.inside in
+    let seen_is : c.seen_in-seen.result ≡ seen (slot_in (opened c).slot) = c.seen_in-seen.ensures (opened c).slot (c.take.ensures.value ∙ (opened c).at) in
+    c.push.ensures ∙ ap (λ (log : List LogEntry). log ++ done_entry c.args.by Finish c.one_event-events.result ∷ []) c.make_room.ensures.entries
+    ∙ ap (λ (es : List Event). a.log.entries ++ done_entry c.args.by Finish es ∷ []) (c.one_event-events.ensures ∙ ap (λ (s : _). Seen s ∷ []) seen_is ∙ sym (quiet c).told)
+
+kept : (c : After-push) → Keeps c.self.inside.cluster c.self.inside.opening c.self.inside.capacity (c.self.inside.log.entries ++ entry c ∷ []) (entry c ∷ past_in c.self.inside) c.take.new.self (c.self.inside.state.time + c.from.result) c.advance.new.self c.self.inside.state.hosts.items
+kept c =
+    let a = c.self.inside in
+    let w = c.self.invariant in
+    let o = opened c in
+    rw c.take.ensures.after
+    (finish-keeps a.cluster a.opening a.capacity a.log.entries (past_in a) o.slot a.state.time (a.state.time + c.from.result) a.state.walker c.advance.new.self a.state.hosts.items a.state.hosts.items c.args.by (finishes c) refl
+    (λ h host there. still-hosts a.cluster a.capacity a.log.entries (past_in a) c.args.by (slot_in o.slot) w.sound o.step.known (quiet c) h host (w.kept.each_host h host there))
+    (subst (λ (s : Option OpenSlot). Keeps a.cluster a.opening a.capacity a.log.entries (past_in a) s a.state.time a.state.walker a.state.hosts.items) o.at w.kept))
+
+pub invariant_of-self-2 : goal.invariant_of-self-2
+invariant_of-self-2 c =
+    let a = c.self.inside in
+    let w = c.self.invariant in
+    record {
+      few = let few = (opened c).step.few in rw (pushed c, length-append) (omega arith);
+      empty = rw c.replace-room.ensures.after c.new.ensures.items;
+      rules = w.rules;
+      sound = w.sound;
+      diagnostic = w.diagnostic;
+      opening = w.opening;
+      kept = rw (pushed c, reverse-more a.log.entries (entry c)) (kept c);
+      history = rw (pushed c, is_answered c) (history-more (core_data a) c.args.by Finish w.history);
+    }
+
+pub returns-clause-ok : goal.returns-clause-ok
+returns-clause-ok c =
+    subst (λ (d : CoreData). c.push.new.self.entries ≡ d.log ++ answered d c.args.by Finish ∷ []) c.self.view_is
+    (pushed c ∙ ap (λ (e : LogEntry). c.self.inside.log.entries ++ e ∷ []) (is_answered c))

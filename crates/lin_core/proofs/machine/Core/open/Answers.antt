@@ -1,0 +1,56 @@
+use Rattle.std.proofs.Common.{refl, ◌≡◌, ◌≤◌, [], ◌∷◌, ◌++◌, ap, ◌∙◌, subst, arith, length-append}
+use Rattle.std.specs.Prelude.{not}
+use Rattle.lin_cluster.specs.Cluster.{nodes}
+use Rattle.lin_core.specs.Core.{answered, CoreData}
+use Rattle.lin_core.specs.Replies.{opening_events}
+use Rattle.lin_core.specs.Whole.{core_data}
+use Rattle.lin_core.specs.declared.log.LogEntry.{LogEntry}
+use Rattle.lin_core.specs.declared.step.Step.TheVariants.{Open}
+use Rattle.lin_core.proofs.Entries.{reverse-more, history-more}
+use Rattle.lin_core.proofs.Keeping.{done_entry, done-answered, open-keeps, opening-is, Opens}
+use Rattle.lin_core.proofs.Making.{Allowed, allowed-inside, opens-inside, past_in}
+use Rattle.lin_core.proofs.machine.Core.open.Goals.{After-push}
+use Rattle.lin_core.proofs.machine.Core.open.Goals as goal
+
+allowed : (c : After-push) → Allowed c.self.inside c.args.by Open
+allowed c = allowed-inside c.self.inside c.args.self.now c.args.by Open c.self.view_is c.self.invariant c.requires.allowed c.requires.few
+
+opens : (c : After-push) → Opens c.self.inside.cluster c.self.inside.opening (past_in c.self.inside) c.begin-slot.result
+opens c = opens-inside c.self.inside c.index.result.now c.begin-slot.result _ c.place-table.result _ c.self.invariant c.index.ensures (ap not c.is_empty-waits.ensures) c.place-table.ensures.value c.entry-kind.ensures c.begin-slot.ensures.opened
+
+abbrev entry : (c : After-push) → LogEntry
+entry c = done_entry c.args.by Open (opening_events c.self.inside.cluster c.self.inside.opening (past_in c.self.inside))
+
+some : (c : After-push) → 1 ≤ nodes c.self.inside.cluster
+some c = let n = c.self.invariant.rules.nodes.number.0 in omega arith
+
+pushed : (c : After-push) → c.push.new.self.entries ≡ c.self.inside.log.entries ++ entry c ∷ []
+pushed c =
+    let a = c.self.inside in
+    c.push.ensures ∙ ap (λ (log : _). log ++ done_entry c.args.by Open c.opening_events-events.result ∷ []) c.make_room.ensures.entries
+    ∙ ap (λ (es : _). a.log.entries ++ done_entry c.args.by Open es ∷ []) (c.opening_events-events.ensures ∙ opening-is a.cluster a.opening (past_in a) c.begin-slot.result (some c) (opens c))
+
+is_answered : (c : After-push) → entry c ≡ answered (core_data c.self.inside) c.args.by Open
+is_answered c = done-answered (core_data c.self.inside) c.args.by Open (opening_events c.self.inside.cluster c.self.inside.opening (past_in c.self.inside)) (allowed c).allowed refl
+
+pub invariant_of-self-2 : goal.invariant_of-self-2
+invariant_of-self-2 c =
+    let a = c.self.inside in
+    let w = c.self.invariant in
+    record {
+      few = let few = (allowed c).few in rw (pushed c, length-append) (omega arith);
+      empty = rw c.replace-room.ensures.after c.new.ensures.items;
+      rules = w.rules;
+      sound = w.sound;
+      diagnostic = w.diagnostic;
+      opening = w.opening;
+      kept = rw (pushed c, reverse-more a.log.entries (entry c))
+          (open-keeps a.cluster a.opening a.capacity a.log.entries (past_in a) a.state.slot c.begin-slot.result a.state.time a.state.walker a.state.hosts.items c.args.by
+          w.sound (some c) (allowed c).known (allowed c).allowed (opens c) w.kept);
+      history = rw (pushed c, is_answered c) (history-more (core_data a) c.args.by Open w.history);
+    }
+
+pub returns-clause-ok : goal.returns-clause-ok
+returns-clause-ok c =
+    subst (λ (d : CoreData). c.push.new.self.entries ≡ d.log ++ answered d c.args.by Open ∷ []) c.self.view_is
+    (pushed c ∙ ap (λ (e : LogEntry). c.self.inside.log.entries ++ e ∷ []) (is_answered c))

@@ -1,0 +1,52 @@
+-- The laws that hold of every history of a cluster.
+use Rattle.std.specs.Prelude.{◌≡◌, ℕ, ⊤, Bool, true, false, ◌&&◌, List, [], ◌∷◌, ◌++◌, map, filter}
+use Rattle.lin_transport.specs.Transport.{frames}
+use Rattle.lin_cluster.specs.declared.parts.Parts.{Parts}
+use Rattle.lin_core.specs.Links.{Link, same_link, host_of, Sign, Fate, fate, is_waiting, frames_of, Message, Sending, sendings, fate_of, reading, waiting, accepted}
+use Rattle.lin_core.specs.Links.Fate.{Waiting, Sent, Lost}
+use Rattle.lin_core.specs.declared.log.LogEntry.{LogEntry}
+
+abbrev pub is_sent : Fate → Bool
+is_sent Sent = true
+is_sent fate = false
+
+-- whether a message went over a link and was sent
+abbrev pub sent_over : Parts → Link → Sending → Bool
+sent_over c l s = same_link s.message.link l && is_sent (fate_of c s)
+
+-- the receiver of a link reads the messages whose fate is Sent, in order
+abbrev pub ReadsSent : Parts → List LogEntry → Link → Type 0
+ReadsSent c past l = reading c past l ≡ map (λ (s : Sending). s.message.bytes) (filter (sent_over c l) (sendings c past (host_of l)))
+
+-- the frames are a beginning of others
+abbrev pub IsPrefix : List (List ℕ) → List (List ℕ) → Type 0
+IsPrefix xs ys = (zs : List (List ℕ)) × (ys ≡ xs ++ zs)
+
+-- there are no more blocks than messages; each block is a beginning of the frames of its message;
+-- where another block follows, the message is sent or lost
+abbrev pub InOrder : ℕ → List (List ℕ) → List (List Sign) → Type 0
+InOrder n ms [] = ⊤
+InOrder n [] (b ∷ bs) = ⊥
+InOrder n (m ∷ ms) (b ∷ []) = IsPrefix (frames_of b) (frames n m)
+InOrder n (m ∷ ms) (b ∷ d ∷ bs) = IsPrefix (frames_of b) (frames n m) × (is_waiting (fate (frames n m) b) ≡ false) × InOrder n ms (d ∷ bs)
+
+-- the messages of a host with their fates
+abbrev pub outcomes_of : Parts → List LogEntry → ℕ → List (Message × Fate)
+outcomes_of c past h = map (λ (s : Sending). (s.message, fate_of c s)) (sendings c past h)
+
+-- messages stay in their places, and a fate that isn't Waiting stays as it is
+abbrev pub Stays : List (Message × Fate) → List (Message × Fate) → Type 0
+Stays [] ys = ⊤
+Stays (x ∷ xs) [] = ⊥
+Stays (x ∷ xs) (y ∷ ys) = (y.0 ≡ x.0) × (is_waiting x.1 ≡ false → y.1 ≡ x.1) × Stays xs ys
+
+-- no message is lost
+abbrev pub NoneLost : List (Message × Fate) → Type 0
+NoneLost [] = ⊤
+NoneLost ((m, Waiting) ∷ xs) = NoneLost xs
+NoneLost ((m, Sent) ∷ xs) = NoneLost xs
+NoneLost ((m, Lost cause) ∷ xs) = ⊥
+
+-- where nothing of its host waits, all that was accepted for a link is read
+abbrev pub ReadsAll : Parts → List LogEntry → Link → Type 0
+ReadsAll c past l = waiting c past (host_of l) ≡ [] → reading c past l ≡ accepted past l

@@ -1,0 +1,15 @@
+pub mod Words
+pub mod History
+pub mod Links
+pub mod Slots
+pub mod Replies
+pub mod Runs
+pub mod Law
+pub mod Reports
+pub mod Defined
+pub mod Promises
+pub mod Logs
+pub mod Core
+pub mod Hosts
+pub mod Kept
+pub mod Whole

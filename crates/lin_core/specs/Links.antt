@@ -1,0 +1,216 @@
+-- Messages on their links: what was accepted, what was put, and what became of it (ISO 17987-2, transport layer).
+use Rattle.std.specs.Prelude.{ℕ, suc, ◌==◌, Bool, true, false, ◌&&◌, if◌then◌else◌, List, [], ◌∷◌, ◌++◌, map, find, filter, length, take, slice_index, slice_index_or, Option, Some, None, is_some, option_map}
+use Rattle.std.specs.List.{list_any, list_all, cons_option}
+use Rattle.lin_frame.specs.Words.{choose}
+use Rattle.lin_transport.specs.Words.{with_last}
+use Rattle.lin_core.specs.Words.{same_frames}
+use Rattle.lin_transport.specs.Transport.{frames, begins, Heard, messages_in}
+use Rattle.lin_transport.specs.Transport.Heard.{Frame, Reset}
+use Rattle.lin_cluster.specs.Cluster.{nad}
+use Rattle.lin_cluster.specs.declared.parts.Parts.{Parts}
+use Rattle.lin_core.specs.History.{Slot, open_slot, finished, done, seen, good_under, header_is, is_sleep_mark}
+use Rattle.lin_core.specs.declared.log.LogEntry.{LogEntry}
+use Rattle.lin_core.specs.declared.step.Step.{Step}
+use Rattle.lin_core.specs.declared.step.Step.TheVariants.{Send}
+use Rattle.lin_core.specs.declared.link.Direction.{Direction}
+use Rattle.lin_core.specs.declared.link.Direction.TheVariants.{Down, Up}
+use Rattle.lin_core.specs.declared.link.Cause.{Cause}
+use Rattle.lin_core.specs.declared.link.Cause.TheVariants.{Damaged, Slept}
+use Rattle.lin_core.specs.declared.event.Seen.{Seen}
+use Rattle.lin_core.specs.declared.event.Seen.TheVariants.{Good, Damaged as SeenDamaged}
+
+-- a link: a responder and a direction
+pub record Link : Type 0 where
+  pub node : ℕ
+  pub dir : Direction
+
+abbrev pub same_dir : Direction → Direction → Bool
+same_dir Down Down = true
+same_dir Down Up = false
+same_dir Up Down = false
+same_dir Up Up = true
+
+abbrev pub same_link : Link → Link → Bool
+same_link a b = a.node == b.node && same_dir a.dir b.dir
+
+-- the link from one host to another
+abbrev pub link_of : ℕ → ℕ → Link
+link_of from to = if from == 0 then record { node = to; dir = Down } else record { node = from; dir = Up }
+
+pub record Message : Type 0 where
+  pub link : Link
+  pub bytes : List ℕ
+
+abbrev pub sent_from : ℕ → Step → Option Message
+sent_from h (Send from to message) = if from == h then Some (record { link = link_of from to; bytes = message }) else None
+sent_from h step = None
+
+abbrev pub host_of_dir : Direction → ℕ → ℕ
+host_of_dir Down node = 0
+host_of_dir Up node = node
+
+-- the host whose messages go over a link
+abbrev pub host_of : Link → ℕ
+host_of l = host_of_dir l.dir l.node
+
+-- the messages that were accepted from a host, in order
+abbrev pub accepted_from : List LogEntry → ℕ → List Message
+accepted_from [] h = []
+accepted_from (e ∷ past) h = choose (choose (done e) None (sent_from h)) (accepted_from past h) (λ m. accepted_from past h ++ m ∷ [])
+
+-- those that go over a link, in the same order
+abbrev pub accepted : List LogEntry → Link → List (List ℕ)
+accepted past l = map (λ m. m.bytes) (filter (λ m. same_link m.link l) (accepted_from past (host_of l)))
+
+-- what happens on a link: a frame, as it was seen where its slot is finished, or a mark
+pub data Sign : Type 0 where
+  Put : (frame : List ℕ) → (how : Option Seen) → Sign
+  Mark : (cause : Cause) → Sign
+
+-- the frame that a slot puts on a link: data bytes alone
+abbrev pub put_by : Direction → ℕ → Option ℕ → Slot → Option (List ℕ)
+put_by Down node k s =
+    if header_is 0x3C s.header
+    then option_map (λ (p : ℕ × List ℕ). take 8 p.1) (find (λ (p : ℕ × List ℕ). choose k false (λ n. slice_index p.1 0 == n)) s.puts)
+    else None
+put_by Up node k s =
+    if header_is 0x7D s.header
+    then option_map (λ (p : ℕ × List ℕ). take 8 p.1) (find (λ (p : ℕ × List ℕ). p.0 == node) s.puts)
+    else None
+
+abbrev pub put_on : Parts → Link → Slot → Option (List ℕ)
+put_on c l s = put_by l.dir l.node (nad c l.node) s
+
+-- the mark that an entry leaves on a link
+abbrev pub mark : Link → LogEntry → List LogEntry → Option Sign
+mark l e past = if is_sleep_mark e past then Some (Mark Slept) else None
+
+-- what an entry adds to a link: the frame of the slot that it finishes, and then its mark
+abbrev pub signs_at : Parts → Link → LogEntry → List LogEntry → List Sign
+signs_at c l e past =
+    cons_option (mark l e past)
+    (cons_option (choose (finished e past) None (λ s. option_map (λ f. Put f (Some (seen s))) (put_on c l s))) [])
+
+-- what happened on a link in finished slots, the newest first
+abbrev pub signs : Parts → List LogEntry → Link → List Sign
+signs c [] l = []
+signs c (e ∷ past) l = signs_at c l e past ++ signs c past l
+
+-- and with the frame of the open slot
+abbrev pub all_signs : Parts → List LogEntry → Link → List Sign
+all_signs c past l =
+    cons_option (choose (open_slot past) None (λ s. option_map (λ f. Put f None) (put_on c l s))) (signs c past l)
+
+-- the blocks: the frames that were put, cut before each that begins a message, with the marks that stand behind them
+abbrev pub blocks_of : List Sign → List (List Sign)
+blocks_of [] = []
+blocks_of (Put f how ∷ earlier) = if begins f then blocks_of earlier ++ (Put f how ∷ []) ∷ [] else with_last (λ b. b ++ Put f how ∷ []) (blocks_of earlier)
+blocks_of (Mark cause ∷ earlier) = with_last (λ b. b ++ Mark cause ∷ []) (blocks_of earlier)
+
+abbrev pub blocks : Parts → List LogEntry → Link → List (List Sign)
+blocks c past l = blocks_of (all_signs c past l)
+
+-- the frames of a block
+abbrev pub frames_of : List Sign → List (List ℕ)
+frames_of [] = []
+frames_of (Put f how ∷ b) = f ∷ frames_of b
+frames_of (Mark cause ∷ b) = frames_of b
+
+-- the part of a block before its first mark, and that mark
+abbrev pub before_mark : List Sign → List Sign
+before_mark [] = []
+before_mark (Put f how ∷ b) = Put f how ∷ before_mark b
+before_mark (Mark cause ∷ b) = []
+
+abbrev pub first_mark : List Sign → Option Cause
+first_mark [] = None
+first_mark (Put f how ∷ b) = first_mark b
+first_mark (Mark cause ∷ b) = Some cause
+
+abbrev pub is_damaged : Sign → Bool
+is_damaged (Put f (Some SeenDamaged)) = true
+is_damaged sign = false
+
+abbrev pub is_good : Sign → Bool
+is_good (Put f (Some (Good bytes))) = true
+is_good sign = false
+
+abbrev pub begins_good : List Sign → Bool
+begins_good [] = false
+begins_good (s ∷ b) = is_good s
+
+pub data Fate : Type 0 where
+  Waiting : Fate
+  Sent : Fate
+  Lost : (cause : Cause) → Fate
+
+-- what became of a message with these frames, by its block
+abbrev pub fate : List (List ℕ) → List Sign → Fate
+fate fs b =
+    if list_any is_damaged b then Lost Damaged
+    else if list_all is_good (before_mark b) && same_frames (frames_of (before_mark b)) fs then Sent
+    else choose (first_mark b) Waiting (λ cause. if begins_good b then Lost cause else Waiting)
+
+abbrev pub is_waiting : Fate → Bool
+is_waiting Waiting = true
+is_waiting f = false
+
+-- a message of a host: its number there, and its block on its link, if one was begun
+pub record Sending : Type 0 where
+  pub number : ℕ
+  pub message : Message
+  pub block : List Sign
+
+abbrev pub nad_on : Parts → Link → ℕ
+nad_on c l = choose (nad c l.node) 0 (λ n. n)
+
+-- the messages of a host with their numbers and blocks: a message has the place among the blocks of its link
+-- that it has among the messages of its link. `before` is the messages that were accepted earlier
+abbrev pub sendings_from : (Link → List (List Sign)) → List Message → List Message → List Sending
+sendings_from blocks before [] = []
+sendings_from blocks before (m ∷ ms) =
+    record {
+      number = suc (length before);
+      message = m;
+      block = slice_index_or (blocks m.link) (length (filter (λ k. same_link k.link m.link) before)) [];
+    }
+    ∷ sendings_from blocks (before ++ m ∷ []) ms
+
+abbrev pub sendings : Parts → List LogEntry → ℕ → List Sending
+sendings c past h = sendings_from (blocks c past) [] (accepted_from past h)
+
+abbrev pub fate_of : Parts → Sending → Fate
+fate_of c s = fate (frames (nad_on c s.message.link) s.message.bytes) s.block
+
+abbrev pub waits : Parts → Sending → Bool
+waits c s = is_waiting (fate_of c s)
+
+abbrev pub is_begun : Parts → Sending → Bool
+is_begun c s = waits c s && begins_good s.block
+
+abbrev pub waiting : Parts → List LogEntry → ℕ → List Sending
+waiting c past h = filter (waits c) (sendings c past h)
+
+abbrev pub begun : Parts → List LogEntry → ℕ → Option Sending
+begun c past h = find (is_begun c) (sendings c past h)
+
+-- what the receiver of a link is given: the good frames with its address, and the marks
+abbrev pub heard_good : ℕ → List ℕ → List Heard
+heard_good k bytes = if slice_index bytes 0 == k then Frame (take 8 bytes) ∷ [] else []
+
+abbrev pub header_for : Direction → ℕ
+header_for Down = 0x3C
+header_for Up = 0x7D
+
+abbrev pub heard_at : Parts → Link → LogEntry → List LogEntry → List Heard
+heard_at c l e past =
+    (if is_some (mark l e past) then Reset ∷ [] else [])
+    ++ choose (choose (finished e past) None (good_under (header_for l.dir))) [] (heard_good (nad_on c l))
+
+abbrev pub heard_on : Parts → List LogEntry → Link → List Heard
+heard_on c [] l = []
+heard_on c (e ∷ past) l = heard_at c l e past ++ heard_on c past l
+
+-- the messages that the receiver of a link reads
+abbrev pub reading : Parts → List LogEntry → Link → List (List ℕ)
+reading c past l = messages_in (nad_on c l) (heard_on c past l)

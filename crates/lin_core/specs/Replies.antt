@@ -1,0 +1,127 @@
+-- What each step is answered.
+use Rattle.std.specs.Prelude.{ℕ, suc, ◌==◌, nat_le, nat_lt, Bool, true, false, ◌&&◌, ◌||◌, not, if◌then◌else◌, List, [], ◌∷◌, ◌++◌, map, find, flat_map, zip, length, drop, Option, is_some, option_map, filter}
+use Rattle.lin_frame.specs.Words.{numbers, choose}
+use Rattle.lin_cluster.specs.Cluster.{nodes, nad, line_of}
+use Rattle.lin_cluster.specs.declared.parts.Parts.{Parts}
+use Rattle.lin_core.specs.History.{Slot as OpenSlot, open_slot, seen, is_in, has_decided}
+use Rattle.lin_core.specs.Links.{Link, Sending, Fate, accepted_from, host_of, waiting, sendings, fate_of, waits, reading}
+use Rattle.lin_core.specs.Links.Fate.{Waiting, Sent as IsSent, Lost as IsLost}
+use Rattle.lin_core.specs.Slots.{next_due, header, due_nodes, put}
+use Rattle.lin_core.specs.declared.log.LogEntry.{LogEntry}
+use Rattle.lin_core.specs.declared.port.PortId.{PortId}
+use Rattle.lin_core.specs.declared.port.PortId.TheVariants.{Bus, Host, Node}
+use Rattle.lin_core.specs.declared.link.Direction.{Direction}
+use Rattle.lin_core.specs.declared.link.Direction.TheVariants.{Down, Up}
+use Rattle.lin_core.specs.declared.step.Step.{Step}
+use Rattle.lin_core.specs.declared.step.Step.TheVariants.{Send, Open, Answer, Finish}
+use Rattle.lin_core.specs.declared.event.Event.{Event}
+use Rattle.lin_core.specs.declared.event.Event.TheVariants.{Accepted, Slot, Due, Put, Seen, Message, Sent}
+use Rattle.lin_core.specs.declared.reply.Refusal.{Refusal}
+use Rattle.lin_core.specs.declared.reply.Refusal.TheVariants.{NoSuchNode, NoAddress, BadLength, QueueFull, SlotOpen, NoSlot, NotYours, Decided}
+use Rattle.lin_core.specs.declared.reply.Reply.{Reply}
+use Rattle.lin_core.specs.declared.reply.Reply.TheVariants.{Done, Refused}
+
+-- which port may give which step
+abbrev pub may : PortId → Step → Bool
+may Bus step = true
+may (Host n) (Send from to message) = from == n
+may (Host n) step = false
+may (Node n) (Answer node) = node == n
+may (Node n) step = false
+
+-- the sender is host 0, and the receiver another one that has an address
+abbrev pub has_address : Parts → ℕ → ℕ → Bool
+has_address c from to = from == 0 && not (to == 0) && is_some (nad c to)
+
+abbrev pub is_open : List LogEntry → Bool
+is_open past = is_some (open_slot past)
+
+-- whether the open slot is so, where one is open
+abbrev pub in_slot : List LogEntry → (OpenSlot → Bool) → Bool
+in_slot past test = choose (open_slot past) false test
+
+abbrev pub link_at : ℕ → Direction → Link
+link_at n d = record { node = n; dir = d }
+
+-- the conditions under which a step is refused, in the order of their numbers
+abbrev pub refusals : Parts → ℕ → List LogEntry → PortId → Step → List (Refusal × Bool)
+refusals c capacity past port (Send from to message) =
+    (NoSuchNode, nat_le (nodes c) from || nat_le (nodes c) to)
+    ∷ (NoAddress, not (has_address c from to))
+    ∷ (BadLength, length message == 0 || nat_lt 6 (length message))
+    ∷ (QueueFull, nat_le capacity (length (waiting c past from)))
+    ∷ (NotYours, not (may port (Send from to message)))
+    ∷ []
+refusals c capacity past port Open = (SlotOpen, is_open past) ∷ (NotYours, not (may port Open)) ∷ []
+refusals c capacity past port (Answer node) =
+    (NoSuchNode, nat_le (nodes c) node)
+    ∷ (NoSlot, not (is_open past))
+    ∷ (NotYours, not (may port (Answer node)) || not (in_slot past (λ s. is_in s.due node)))
+    ∷ (Decided, in_slot past (λ s. has_decided s node))
+    ∷ []
+refusals c capacity past port Finish = (NoSlot, not (is_open past)) ∷ (NotYours, not (may port Finish)) ∷ []
+
+-- the first of them that holds
+abbrev pub refusal : Parts → ℕ → List LogEntry → PortId → Step → Option Refusal
+refusal c capacity past port step = option_map (λ (r : Refusal × Bool). r.0) (find (λ (r : Refusal × Bool). r.1) (refusals c capacity past port step))
+
+-- the events of an open
+abbrev pub opening_events : Parts → ℕ → List LogEntry → List Event
+opening_events c opening past =
+    let at : ℕ × ℕ = next_due c opening past
+    in let entry = (line_of c at.0 at.1).entry
+    in Slot at.0 at.1 (header c past entry) ∷ map Due (due_nodes c past entry)
+
+abbrev pub put_event : Parts → List LogEntry → ℕ → OpenSlot → List Event
+put_event c past n s = choose s.header [] (λ h. Put n (put c past (line_of c s.table s.entry).entry h n) ∷ [])
+
+-- the links: each responder that has an address, down and up
+abbrev pub all_links : Parts → List Link
+all_links c = filter (λ l. is_some (nad c l.node)) (map (λ n. link_at n Down) (numbers (nodes c)) ++ map (λ n. link_at n Up) (numbers (nodes c)))
+
+abbrev pub receiver_of : Direction → ℕ → ℕ
+receiver_of Down n = n
+receiver_of Up n = 0
+
+-- the messages by which the readings grew
+abbrev pub new_messages : Parts → LogEntry → List LogEntry → Link → List Event
+new_messages c e past l =
+    map (λ m. Message (host_of l) (receiver_of l.dir l.node) m) (drop (length (reading c past l)) (reading c (e ∷ past) l))
+
+-- what a fate that is no longer Waiting reports; nothing is lost yet
+abbrev pub report : ℕ → ℕ → Fate → List Event
+report h number Waiting = []
+report h number IsSent = Sent h number ∷ []
+report h number (IsLost cause) = []
+
+-- the reports of a host's messages that waited and do so no longer
+abbrev pub reports : Parts → LogEntry → List LogEntry → ℕ → List Event
+reports c e past h =
+    flat_map (λ (s : Sending × Sending). if waits c s.0 then report h s.1.number (fate_of c s.1) else [])
+    (zip (sendings c past h) (sendings c (e ∷ past) h))
+
+abbrev pub all_reports : Parts → LogEntry → List LogEntry → List Event
+all_reports c e past = flat_map (reports c e past) (numbers (nodes c))
+
+-- an entry by which a step is done with no event
+abbrev pub quiet_entry : PortId → Step → LogEntry
+quiet_entry port step = record { port = port; step = step; reply = Done [] }
+
+-- the events of a finish
+abbrev pub finish_events : Parts → PortId → List LogEntry → List Event
+finish_events c port past =
+    let e : LogEntry = quiet_entry port Finish
+    in choose (open_slot past) [] (λ s. Seen (seen s) ∷ [])
+    ++ flat_map (new_messages c e past) (all_links c)
+    ++ all_reports c e past
+
+-- the events of a step that is done
+abbrev pub done_events : Parts → ℕ → List LogEntry → PortId → Step → List Event
+done_events c opening past port (Send from to message) = Accepted from (suc (length (accepted_from past from))) ∷ []
+done_events c opening past port Open = opening_events c opening past
+done_events c opening past port (Answer node) = choose (open_slot past) [] (put_event c past node)
+done_events c opening past port Finish = finish_events c port past
+
+unfoldable pub reply : Parts → ℕ → ℕ → List LogEntry → PortId → Step → Reply
+reply c opening capacity past port step =
+    choose (refusal c capacity past port step) (Done (done_events c opening past port step)) Refused

@@ -1,0 +1,88 @@
+-- What a slot is for: its header, who is due in it, and what an answer puts (ISO 17987-3, frame transfer; ISO 17987-2, diagnostic schedules).
+use Rattle.std.specs.Prelude.{ℕ, ◌==◌, nat_lt, Bool, true, false, ◌&&◌, if◌then◌else◌, List, [], ◌∷◌, ◌++◌, filter, length, Option, Some, None, is_some, option_map}
+use Rattle.std.specs.List.{list_all, cons_option}
+use Rattle.lin_frame.specs.Words.{numbers, choose}
+use Rattle.lin_frame.specs.Frame.{classic}
+use Rattle.lin_transport.specs.Transport.{frame}
+use Rattle.lin_cluster.specs.Cluster.{nodes}
+use Rattle.lin_cluster.specs.declared.parts.Parts.{Parts}
+use Rattle.lin_cluster.specs.declared.parts.Table.{Table}
+use Rattle.lin_cluster.specs.declared.parts.Line.{Line}
+use Rattle.lin_cluster.specs.declared.parts.Entry.{Entry}
+use Rattle.lin_cluster.specs.declared.parts.Entry.TheVariants.{Frame, Sporadic, Event, MasterReq, SlaveResp, Quiet}
+use Rattle.lin_schedule.specs.Schedule.{Move, standing, due}
+use Rattle.lin_schedule.specs.Schedule.Move.{Slot as SlotMove}
+use Rattle.lin_core.specs.History.{finished, is_clash}
+use Rattle.lin_core.specs.Links.{Sending, waiting, begun, frames_of, nad_on}
+use Rattle.lin_core.specs.declared.log.LogEntry.{LogEntry}
+
+-- whether an entry is a diagnostic one, or stays silent
+abbrev pub is_diagnostic_entry : Entry → Bool
+is_diagnostic_entry (Frame f) = false
+is_diagnostic_entry (Sporadic k) = false
+is_diagnostic_entry (Event e) = false
+is_diagnostic_entry MasterReq = true
+is_diagnostic_entry SlaveResp = true
+is_diagnostic_entry Quiet = true
+
+-- whether all entries of a cluster's tables are
+abbrev pub is_diagnostic : Parts → Bool
+is_diagnostic c = list_all (λ (t : Table). list_all (λ (line : Line). is_diagnostic_entry line.entry) t.lines) c.tables
+
+-- how an entry moves the schedule on
+abbrev pub moves_at : LogEntry → List LogEntry → List Move
+moves_at e past = cons_option (option_map (λ s. SlotMove (is_clash s)) (finished e past)) []
+
+abbrev pub moves : List LogEntry → List Move
+moves [] = []
+moves (e ∷ past) = moves_at e past ++ moves past
+
+-- the due table and entry of the next slot
+abbrev pub next_due : Parts → ℕ → List LogEntry → ℕ × ℕ
+next_due c opening past = due c (standing c opening (moves past))
+
+-- the header of a slot for an entry; entries of signals have none yet
+abbrev pub header : Parts → List LogEntry → Entry → Option ℕ
+header c past (Frame f) = None
+header c past (Sporadic k) = None
+header c past (Event e) = None
+header c past MasterReq = if nat_lt 0 (length (waiting c past 0)) then Some 0x3C else None
+header c past SlaveResp = Some 0x7D
+header c past Quiet = None
+
+-- whether a node is due in a slot for an entry; no responder sends yet
+abbrev pub is_due : Parts → List LogEntry → Entry → ℕ → Bool
+is_due c past (Frame f) n = false
+is_due c past (Sporadic k) n = false
+is_due c past (Event e) n = false
+is_due c past MasterReq n = n == 0 && is_some (header c past MasterReq)
+is_due c past SlaveResp n = false
+is_due c past Quiet n = false
+
+abbrev pub due_nodes : Parts → List LogEntry → Entry → List ℕ
+due_nodes c past entry = filter (is_due c past entry) (numbers (nodes c))
+
+-- the frame of a sending with this index
+abbrev pub frame_at : Parts → Sending → ℕ → List ℕ
+frame_at c s k = frame (nad_on c s.message.link) s.message.bytes k
+
+abbrev pub first_frame : Parts → List Sending → List ℕ
+first_frame c [] = []
+first_frame c (s ∷ ss) = frame_at c s 0
+
+-- the data bytes that a host's node puts: the next frame of what is begun, failing that the first frame of what waits
+abbrev pub next_frame : Parts → List LogEntry → ℕ → List ℕ
+next_frame c past h = choose (begun c past h) (first_frame c (waiting c past h)) (λ s. frame_at c s (length (frames_of s.block)))
+
+-- a diagnostic frame with its checksum, which is always classic
+abbrev pub with_classic : List ℕ → List ℕ
+with_classic bytes = bytes ++ classic bytes ∷ []
+
+-- what a node puts in a slot for an entry under its header, data and checksum
+abbrev pub put : Parts → List LogEntry → Entry → ℕ → ℕ → List ℕ
+put c past (Frame f) h n = []
+put c past (Sporadic k) h n = []
+put c past (Event e) h n = []
+put c past MasterReq h n = with_classic (next_frame c past 0)
+put c past SlaveResp h n = with_classic (next_frame c past n)
+put c past Quiet h n = []

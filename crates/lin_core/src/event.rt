@@ -1,0 +1,57 @@
+//! What a step that is done tells.
+
+use crate::payload::Payload;
+use lin_frame::Answer;
+
+/// How the nodes see a slot when it ends (ISO 17987-3, frame slots).
+#[derive(Drop)]
+pub enum Seen {
+    /// The slot had no header.
+    Silent,
+    /// It had a header, and nobody answered.
+    NoAnswer,
+    /// One response, which passes its check: data bytes and checksum.
+    Good(Answer),
+    /// One response, which fails its check.
+    Damaged,
+    /// More than one response.
+    Collided,
+}
+
+/// What a step that is done tells.
+#[derive(Drop)]
+pub enum Event {
+    /// The message of a host was accepted under this number; a host's messages are numbered from 1.
+    Accepted {
+        host: u8,
+        number: u32,
+    },
+    /// A slot was opened for an entry of a schedule table; the header is a protected identifier, or there is none.
+    Slot {
+        table: u16,
+        entry: u16,
+        header: Option<u8>,
+    },
+    /// A node is due to answer in the open slot.
+    Due {
+        node: u8,
+    },
+    /// A node put these data bytes and checksum.
+    Put {
+        node: u8,
+        answer: Answer,
+    },
+    /// How the slot was seen.
+    Seen(Seen),
+    /// The host of `to` received a message from host `from`.
+    Message {
+        from: u8,
+        to: u8,
+        bytes: Payload,
+    },
+    /// A host's message was sent whole.
+    Sent {
+        host: u8,
+        number: u32,
+    },
+}

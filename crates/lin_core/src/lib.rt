@@ -1,0 +1,31 @@
+//! The core of the simulator: steps, the log of what they were answered, and the laws that hold of every log.
+#![tactic(auto)]
+
+mod diagnostic;
+mod event;
+mod hold;
+mod host;
+mod law;
+mod link;
+mod log;
+mod machine;
+mod messages;
+mod payload;
+mod port;
+mod refusals;
+mod reply;
+mod slot;
+mod state;
+mod step;
+
+pub use diagnostic::is_diagnostic;
+pub use event::{Event, Seen};
+pub use hold::Hold;
+pub use law::{carries_frames, delivers_exactly, fates_are_final, loses_nothing, puts_in_order};
+pub use link::{Cause, Direction};
+pub use log::{Log, LogEntry};
+pub use machine::Core;
+pub use payload::{Events, Payload};
+pub use port::PortId;
+pub use reply::{Refusal, Reply};
+pub use step::Step;

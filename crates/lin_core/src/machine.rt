@@ -1,0 +1,412 @@
+//! The core.
+
+ghost use Rattle.std.specs.Prelude.{◌≡◌, ◌<◌, ◌≤◌, ◌-◌, ◌^◌, ◌++◌, ◌∷◌, [], reverse, length, OnOk, IfOk, IfErr, IsOk, vec_capacity};
+
+use crate::event::Event;
+use crate::hold::Hold;
+use crate::host::hosts;
+use crate::log::{Log, LogEntry};
+use crate::messages::{message_at, single_frame};
+use crate::payload::{Events, Payload};
+use crate::port::PortId;
+use crate::refusals::{queued_by, refuse_answer, refuse_finish, refuse_open, refuse_send};
+use crate::reply::{Refusal, Reply};
+use crate::slot::{OpenSlot, Put, delay_of, is_answered, put_in, seen_in};
+use crate::state::State;
+use crate::step::Step;
+use lin_cluster::Cluster;
+use lin_schedule::Walker;
+use std::alloc::{AllocError, Global};
+use std::marker::Model;
+use std::mem;
+
+/// The core: a cluster, and the log of the steps that were made on it. Contracts see the cluster, the table that the schedule opened
+/// with, the capacity of the queues, the log (the oldest entry first) and how much room was made.
+#[derive(Drop)]
+pub struct Core {
+    alloc: Global,
+    cluster: Cluster,
+    opening: u16,
+    capacity: usize,
+    log: Log,
+    room: Vec<Event>,
+    state: State,
+}
+
+impl Model for Core {
+    ghost use Rattle.std.specs.Prelude.{◌≡◌, ◌<◌, ◌≤◌, ◌-◌, ◌^◌, min, [], reverse, length, vec_len, vec_capacity};
+    ghost use Rattle.lin_core.specs.Core.{CoreData};
+
+    ghost Value = { CoreData };
+
+    ghost use Rattle.lin_core.specs.Whole.{core_data, IsWhole};
+
+    ghost view = { core_data };
+
+    ghost invariant = { IsWhole };
+}
+
+/// The one event of a step, in the room that was made for it.
+fn one_event(room: Vec<Event>, event: Event) -> Events
+    requires empty { room.items ≡ [] }
+    requires room { 1 ≤ vec_capacity room }
+    ensures { result ≡ event ∷ [] }
+{
+    let mut events = room;
+    events.push(event).unwrap();
+    Events::new(events)
+}
+
+/// The three events of a finish by which a message is whole.
+fn three_events(room: Vec<Event>, seen: Event, whole: Event, sent: Event) -> Events
+    requires empty { room.items ≡ [] }
+    requires room { 3 ≤ vec_capacity room }
+    ensures { result ≡ seen ∷ whole ∷ sent ∷ [] }
+{
+    let mut events = room;
+    events.push(seen).unwrap();
+    events.push(whole).unwrap();
+    events.push(sent).unwrap();
+    Events::new(events)
+}
+
+impl Core {
+    ghost use Rattle.std.specs.Prelude.{◌≡◌, ◌<◌, ◌≤◌, ◌-◌, ◌^◌, ◌++◌, ◌∷◌, [], reverse, length, OnOk, OnErr, true, false, IfOk, IfErr, IsOk, ◌↔◌};
+    ghost use Rattle.std.specs.Prelude.{⊤, slice_index_or};
+    ghost use Rattle.lin_core.specs.Promises.{CarriesFrames, DeliversExactly, FatesAreFinal, LosesNothing, PutsInOrder};
+    ghost use Rattle.lin_core.specs.Replies.{refusal};
+    ghost use Rattle.lin_cluster.specs.Cluster.{nodes};
+    ghost use Rattle.lin_core.specs.History.{time, undecided};
+    ghost use Rattle.lin_core.specs.Kept.{is_answered};
+    ghost use Rattle.lin_core.specs.Links.{waiting};
+    ghost use Rattle.lin_core.specs.Core.{answered, past_of, IsAlike, IsDiagnostic, IsHistory, IsRefused, IsAllowed, IsLogFull, IsOutOfMemory, IsSmall, IsStepped, step_of};
+
+    /// A core with an empty log, on a cluster with diagnostic entries alone, whose schedule opens with this table. At most
+    /// `capacity` messages of a host (1 to 1,024) wait. An error is want of memory, and the cluster is dropped.
+    pub fn new(
+        alloc: Global,
+        cluster: Cluster,
+        table: u16,
+        capacity: usize,
+    ) -> Result<Core, AllocError>
+        requires diagnostic { IsDiagnostic cluster }
+        requires table { table < length cluster.tables }
+        requires some { 1 ≤ capacity }
+        requires few { capacity ≤ 1024 }
+        ensures { IfOk result (λ core. (core.log ≡ []) × (core.cluster ≡ cluster) × (core.opening ≡ table) × (core.capacity ≡ capacity)) }
+    {
+        cluster.sound();
+        let hosts = hosts(alloc, cluster.nodes(), capacity)?;
+        Ok(Core {
+            alloc,
+            cluster,
+            opening: table,
+            capacity,
+            log: Log::new(alloc),
+            room: Vec::new(alloc),
+            state: State {
+                slot: None,
+                time: 0,
+                walker: Walker::new(table),
+                hosts,
+            },
+        })
+    }
+
+    /// The log, of which the laws hold: the receivers read exactly the messages that were sent whole and are told of these alone; each
+    /// link carries its messages' frames in order; each message has one final fate, which its host is told once; each slot carries the
+    /// frame that the schedule names; and no message is lost.
+    pub fn log(&self) -> &Log
+        ensures entries { result.now.entries ≡ self.now.log }
+        ensures history { IsHistory self.now }
+        ensures exact_delivery { DeliversExactly self.now.cluster (past_of self.now) }
+        ensures blocks_are_prefixes { PutsInOrder self.now.cluster (past_of self.now) }
+        ensures one_final_fate { FatesAreFinal self.now.cluster (past_of self.now) }
+        ensures slots_carry_frames { CarriesFrames self.now.cluster self.now.opening (past_of self.now) }
+        ensures nothing_lost { LosesNothing self.now.cluster (past_of self.now) }
+    {
+        &self.log
+    }
+
+    /// The cluster.
+    pub fn cluster(&self) -> &Cluster
+        ensures { result.now ≡ self.now.cluster }
+    {
+        &self.cluster
+    }
+
+    /// The delays of all finished slots, in microseconds.
+    pub fn time(&self) -> u64
+        ensures { result ≡ time self.now.cluster (past_of self.now) }
+    {
+        self.state.time
+    }
+
+    /// How many messages of a host were accepted and neither sent nor lost.
+    pub fn waiting(&self, host: u8) -> usize
+        requires { host < nodes self.now.cluster }
+        ensures { result ≡ length (waiting self.now.cluster (past_of self.now) host) }
+    {
+        self.state.hosts[host as usize].queue.len()
+    }
+
+    /// How many nodes that are due in the open slot have decided nothing; 0 where no slot is open.
+    pub fn undecided(&self) -> usize
+        ensures { result ≡ undecided (past_of self.now) }
+    {
+        match &self.state.slot {
+            Some(slot) => slot.undecided(),
+            None => 0,
+        }
+    }
+
+    /// Makes room, so that a send or an answer isn't held for want of memory if it is the next step. It changes nothing else; an
+    /// error is want of memory.
+    pub fn make_room(&mut self) -> Result<(), AllocError>
+        ensures alike { IsAlike self.old self.new }
+        ensures log { self.new.log ≡ self.old.log }
+        ensures spare { OnOk result (1 ≤ self.new.spare) }
+    {
+        self.log.make_room()?;
+        self.room.try_reserve(1)?;
+        Ok(())
+    }
+
+    /// Logs a step that is refused.
+    fn refuse(&mut self, by: PortId, step: Step, refusal: Refusal) -> Result<(), Hold>
+        requires refused { IsRefused self.old by step refusal }
+        requires few { length self.old.log < 2 ^ 32 - 1 }
+        ensures ok { OnOk result (self.new.log ≡ self.old.log ++ answered self.old by step ∷ []) }
+        ensures alike { IsAlike self.old self.new }
+        ensures held { IfErr result (λ h. (self.new.log ≡ self.old.log) × (h ≡ Hold.OutOfMemory step)) }
+        ensures spare { 1 ≤ self.old.spare → IsOk result }
+    {
+        if self.log.make_room().is_err() {
+            return Err(Hold::OutOfMemory(step));
+        }
+        self.log.push(LogEntry {
+            port: by,
+            step,
+            reply: Reply::Refused(refusal),
+        });
+        Ok(())
+    }
+
+    /// Logs a send that is accepted: its place in the log joins the sender's queue.
+    fn send(&mut self, by: PortId, from: u8, to: u8, message: Payload) -> Result<(), Hold>
+        requires allowed { IsAllowed self.old by (Step.Send from to message) }
+        requires few { length self.old.log < 2 ^ 32 - 1 }
+        ensures ok { OnOk result (self.new.log ≡ self.old.log ++ answered self.old by (Step.Send from to message) ∷ []) }
+        ensures alike { IsAlike self.old self.new }
+        ensures held { IfErr result (λ h. (self.new.log ≡ self.old.log) × (h ≡ Hold.OutOfMemory (Step.Send from to message))) }
+        ensures spare { 1 ≤ self.old.spare → IsOk result }
+    {
+        if self.log.make_room().is_err() || self.room.try_reserve(1).is_err() {
+            return Err(Hold::OutOfMemory(Step::Send { from, to, message }));
+        }
+        let place = self.log.len() as u32;
+        let host = &mut self.state.hosts[from as usize];
+        let number = host.settled + host.queue.len() as u32 + 1;
+        host.accept(place);
+        let room = mem::replace(&mut self.room, Vec::new(self.alloc));
+        let events = one_event(room, Event::Accepted { host: from, number });
+        self.log.push(LogEntry {
+            port: by,
+            step: Step::Send { from, to, message },
+            reply: Reply::Done(events),
+        });
+        Ok(())
+    }
+
+    /// Logs an open: the slot that the schedule names begins.
+    fn open(&mut self, by: PortId) -> Result<(), Hold>
+        requires allowed { IsAllowed self.old by Step.Open }
+        requires few { length self.old.log < 2 ^ 32 - 1 }
+        ensures ok { OnOk result (self.new.log ≡ self.old.log ++ answered self.old by Step.Open ∷ []) }
+        ensures alike { IsAlike self.old self.new }
+        ensures held { IfErr result (λ h. (self.new.log ≡ self.old.log) × (h ≡ Hold.OutOfMemory Step.Open)) }
+    {
+        if self.log.make_room().is_err() || self.room.try_reserve(2).is_err() {
+            return Err(Hold::OutOfMemory(Step::Open));
+        }
+        let nodes = self.cluster.nodes();
+        let (table, entry) = self.state.walker.place();
+        let kind = self.cluster.entry(table, entry);
+        let waits = !self.state.hosts[0].queue.is_empty();
+        let slot = OpenSlot::begin(table, entry, kind, waits);
+        let room = mem::replace(&mut self.room, Vec::new(self.alloc));
+        let events = slot.opening_events(room);
+        self.state.slot = Some(slot);
+        self.log.push(LogEntry {
+            port: by,
+            step: Step::Open,
+            reply: Reply::Done(events),
+        });
+        Ok(())
+    }
+
+    /// Logs an answer: the commander's node puts the single frame of its host's next message.
+    fn answer(&mut self, by: PortId, node: u8) -> Result<(), Hold>
+        requires allowed { IsAllowed self.old by (Step.Answer node) }
+        requires few { length self.old.log < 2 ^ 32 - 1 }
+        ensures ok { OnOk result (self.new.log ≡ self.old.log ++ answered self.old by (Step.Answer node) ∷ []) }
+        ensures alike { IsAlike self.old self.new }
+        ensures held { IfErr result (λ h. (self.new.log ≡ self.old.log) × (h ≡ Hold.OutOfMemory (Step.Answer node))) }
+        ensures spare { 1 ≤ self.old.spare → IsOk result }
+    {
+        if self.log.make_room().is_err() || self.room.try_reserve(1).is_err() {
+            return Err(Hold::OutOfMemory(Step::Answer { node }));
+        }
+        let place = self.state.hosts[0].next();
+        let answer = single_frame(&self.cluster, &self.log, place as usize);
+        let told = single_frame(&self.cluster, &self.log, place as usize);
+        put_in(&mut self.state.slot, Put { node, answer });
+        let room = mem::replace(&mut self.room, Vec::new(self.alloc));
+        let events = one_event(room, Event::Put { node, answer: told });
+        self.log.push(LogEntry {
+            port: by,
+            step: Step::Answer { node },
+            reply: Reply::Done(events),
+        });
+        Ok(())
+    }
+
+    /// Logs a finish: the slot ends, and the schedule goes on.
+    fn finish(&mut self, by: PortId) -> Result<(), Hold>
+        requires allowed { IsAllowed self.old by Step.Finish }
+        requires few { length self.old.log < 2 ^ 32 - 1 }
+        ensures ok { OnOk result (self.new.log ≡ self.old.log ++ answered self.old by Step.Finish ∷ []) }
+        ensures alike { IsAlike self.old self.new }
+        ensures held { IfErr result (λ h. (self.new.log ≡ self.old.log) × (h ≡ Hold.OutOfMemory Step.Finish)) }
+    {
+        if is_answered(&self.state.slot) {
+            self.finish_answered(by)
+        } else {
+            self.finish_unanswered(by)
+        }
+    }
+
+    /// Logs a finish of a slot in which nothing was put.
+    fn finish_unanswered(&mut self, by: PortId) -> Result<(), Hold>
+        requires allowed { IsAllowed self.old by Step.Finish }
+        requires few { length self.old.log < 2 ^ 32 - 1 }
+        requires empty { is_answered (past_of self.old) ≡ false }
+        ensures ok { OnOk result (self.new.log ≡ self.old.log ++ answered self.old by Step.Finish ∷ []) }
+        ensures alike { IsAlike self.old self.new }
+        ensures held { IfErr result (λ h. (self.new.log ≡ self.old.log) × (h ≡ Hold.OutOfMemory Step.Finish)) }
+    {
+        if self.log.make_room().is_err() || self.room.try_reserve(1).is_err() {
+            return Err(Hold::OutOfMemory(Step::Finish));
+        }
+        let delay = delay_of(&self.cluster, &self.state.slot);
+        let seen = seen_in(self.state.slot.take());
+        self.state.time += u64::from(delay);
+        self.state.walker.advance(&self.cluster, false);
+        let room = mem::replace(&mut self.room, Vec::new(self.alloc));
+        let events = one_event(room, Event::Seen(seen));
+        self.log.push(LogEntry {
+            port: by,
+            step: Step::Finish,
+            reply: Reply::Done(events),
+        });
+        Ok(())
+    }
+
+    /// Logs a finish of a slot with one answer, which brings the next message whole to its receiver.
+    fn finish_answered(&mut self, by: PortId) -> Result<(), Hold>
+        requires allowed { IsAllowed self.old by Step.Finish }
+        requires few { length self.old.log < 2 ^ 32 - 1 }
+        requires one { is_answered (past_of self.old) ≡ true }
+        ensures ok { OnOk result (self.new.log ≡ self.old.log ++ answered self.old by Step.Finish ∷ []) }
+        ensures alike { IsAlike self.old self.new }
+        ensures held { IfErr result (λ h. (self.new.log ≡ self.old.log) × (h ≡ Hold.OutOfMemory Step.Finish)) }
+    {
+        if self.log.make_room().is_err() || self.room.try_reserve(3).is_err() {
+            return Err(Hold::OutOfMemory(Step::Finish));
+        }
+        let place = self.state.hosts[0].next();
+        let (to, message) = message_at(&self.log, place as usize);
+        let Ok(bytes) = Vec::from_slice(self.alloc, message) else {
+            return Err(Hold::OutOfMemory(Step::Finish));
+        };
+        let delay = delay_of(&self.cluster, &self.state.slot);
+        let seen = seen_in(self.state.slot.take());
+        self.state.time += u64::from(delay);
+        self.state.walker.advance(&self.cluster, false);
+        let host = &mut self.state.hosts[0];
+        let number = host.settled + 1;
+        host.settle();
+        let room = mem::replace(&mut self.room, Vec::new(self.alloc));
+        let whole = Event::Message {
+            from: 0,
+            to,
+            bytes: Payload::new(bytes),
+        };
+        let events = three_events(
+            room,
+            Event::Seen(seen),
+            whole,
+            Event::Sent { host: 0, number },
+        );
+        self.log.push(LogEntry {
+            port: by,
+            step: Step::Finish,
+            reply: Reply::Done(events),
+        });
+        Ok(())
+    }
+
+    /// Makes a step by a port (ISO 17987-3, frame transfer; ISO 17987-2, diagnostic schedules): it is done or refused, and logged
+    /// with its reply, which `newest` then lends. A refused step changes nothing but the log. An error hands the step back, and
+    /// nothing is logged or changed: the log is full, with 4,294,967,295 entries, or there was no memory.
+    pub fn step(&mut self, by: PortId, step: Step) -> Result<(), Hold>
+        ensures stepped { IsStepped self.old by step result self.new }
+        ensures full { IsLogFull result ↔ (length self.old.log ≡ 2 ^ 32 - 1) }
+        ensures room { 1 ≤ self.old.spare → IsSmall step → IsOutOfMemory result → ⊥ }
+    {
+        if self.log.len() >= 0xffff_ffff {
+            return Err(Hold::LogFull(step));
+        }
+        if let Some(refusal) = self.refusal_of(by, &step) {
+            return self.refuse(by, step, refusal);
+        }
+        match step {
+            Step::Send { from, to, message } => self.send(by, from, to, message),
+            Step::Open => self.open(by),
+            Step::Answer { node } => self.answer(by, node),
+            Step::Finish => self.finish(by),
+        }
+    }
+
+    /// Why a step is refused, if it is.
+    fn refusal_of(&self, by: PortId, step: &Step) -> Option<Refusal>
+        ensures { result ≡ refusal self.now.cluster self.now.capacity (past_of self.now) by step.now }
+    {
+        let slot = &self.state.slot;
+        match step {
+            Step::Send { from, to, message } => {
+                let queued = queued_by(self.state.hosts.as_slice(), *from);
+                refuse_send(
+                    &self.cluster,
+                    self.capacity,
+                    queued,
+                    by,
+                    *from,
+                    *to,
+                    message,
+                )
+            }
+            Step::Open => refuse_open(slot, by),
+            Step::Answer { node } => refuse_answer(&self.cluster, slot, by, *node),
+            Step::Finish => refuse_finish(slot, by),
+        }
+    }
+
+    /// The newest entry of the log, which isn't empty.
+    pub fn newest(&self) -> &LogEntry
+        requires { 0 < length self.now.log }
+        ensures { result.now ≡ slice_index_or self.now.log (length self.now.log - 1) result.now }
+    {
+        self.log.last()
+    }
+}

@@ -1,0 +1,4 @@
+pub mod Numbers
+pub mod PackedBits
+pub mod PlacedBits
+pub mod PlacedValues

@@ -1,0 +1,4 @@
+pub mod Due
+pub mod Law
+pub mod Schedule
+pub mod Walker

@@ -1,0 +1,14 @@
+//! Segmented messages: what a sender transmits and what a receiver reads (ISO 17987-2, transport layer; LIN 2.2A, 3.2).
+#![tactic(auto)]
+
+mod law;
+mod pci;
+mod receiver;
+mod sender;
+
+pub use law::reads_what_is_sent;
+pub use receiver::Receiver;
+pub use sender::Sender;
+
+#[cfg(test)]
+mod tests;
