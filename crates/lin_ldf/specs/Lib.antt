@@ -1,0 +1,17 @@
+pub mod Bytes
+pub mod Tokens
+pub mod Scanning
+pub mod Advance
+pub mod Symbols
+pub mod Forms
+pub mod Loops
+pub mod UpTo
+pub mod Names
+pub mod Numbers
+pub mod Words
+pub mod Grammar
+pub mod Describes
+pub mod Laws
+pub mod LoopLaws
+pub mod UpToLaws
+pub mod GrammarLaws

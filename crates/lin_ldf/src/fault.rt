@@ -1,8 +1,9 @@
 //! Why a text is no LDF description.
 
 ghost use Rattle.std.specs.Prelude.{◌≡◌};
-ghost use Rattle.lin_ldf.specs.declared.fault.LdfFault.TheVariants.{OutOfMemory};
+ghost use Rattle.lin_ldf.specs.declared.fault.LdfFault.TheVariants.{OutOfMemory, Unexpected, NumberTooLarge, SectionTwice, NameTwice};
 
+use crate::place::Place;
 use std::alloc::{AllocError, AllocFailed};
 use thiserror::Error;
 
@@ -47,5 +48,47 @@ impl<T: Drop> From<AllocFailed<T>> for LdfFault {
 
     fn from(_error: AllocFailed<T>) -> LdfFault {
         LdfFault::OutOfMemory
+    }
+}
+
+impl LdfFault {
+    /// A token, or the end, at this place can't stand there.
+    pub(crate) fn unexpected(at: Place) -> LdfFault
+        ensures { result ≡ Unexpected at.line at.column }
+    {
+        LdfFault::Unexpected {
+            line: at.line,
+            column: at.column,
+        }
+    }
+
+    /// A number at this place is above its limit.
+    pub(crate) fn too_large(at: Place) -> LdfFault
+        ensures { result ≡ NumberTooLarge at.line at.column }
+    {
+        LdfFault::NumberTooLarge {
+            line: at.line,
+            column: at.column,
+        }
+    }
+
+    /// A section at this place stands a second time.
+    pub(crate) fn section_twice(at: Place) -> LdfFault
+        ensures { result ≡ SectionTwice at.line at.column }
+    {
+        LdfFault::SectionTwice {
+            line: at.line,
+            column: at.column,
+        }
+    }
+
+    /// A name at this place is declared a second time.
+    pub(crate) fn name_twice(at: Place) -> LdfFault
+        ensures { result ≡ NameTwice at.line at.column }
+    {
+        LdfFault::NameTwice {
+            line: at.line,
+            column: at.column,
+        }
     }
 }

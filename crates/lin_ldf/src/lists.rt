@@ -1,6 +1,6 @@
 //! Texts and lists as fields of public types: contracts see them as lists.
 
-ghost use Rattle.std.specs.Prelude.{◌≡◌, IfOk};
+ghost use Rattle.std.specs.Prelude.{◌≡◌, ◌∷◌, IfOk};
 
 use std::alloc::{AllocError, Global};
 use std::marker::Model;
@@ -71,5 +71,16 @@ impl<T> Many<T> {
         ensures { result.now ≡ self.now }
     {
         self.items.as_slice()
+    }
+
+    /// These items behind a first one.
+    pub(crate) fn behind(self, first: T) -> Result<Many<T>, AllocError>
+    where
+        T: Drop,
+        ensures { IfOk result (λ m. m ≡ first ∷ self) }
+    {
+        let mut items = self.items;
+        items.insert(0, first)?;
+        Ok(Many::new(items))
     }
 }

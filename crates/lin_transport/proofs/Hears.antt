@@ -1,14 +1,11 @@
 -- What each kind of frame leaves of what a receiver holds.
-use Rattle.std.proofs.Common.{◌≡◌, ℕ, ◌≤◌, ◌<◌, ◌≢◌, true, false, List, [], ◌∷◌, ◌++◌, length, take, drop, refl, ap, sym, ◌∙◌, arith, append_assoc}
+use Rattle.std.proofs.Common.{◌≡◌, ℕ, ◌≤◌, ◌<◌, true, false, List, [], ◌∷◌, ◌++◌, length, take, drop, refl, ap, sym, ◌∙◌, arith, append_assoc}
 use Rattle.std.specs.Prelude.{Option, Some, None, ◌⊎◌, slice_index, option_to_list, filter_map}
 use Rattle.std.specs.List.{cons_option}
-use Rattle.std.proofs.Math.Dec.{eqb}
 use Rattle.std.proofs.lemmas.Bool.Decides.{nat_tests}
-use Rattle.std.proofs.lemmas.Bool.{ne_eqb}
-use Rattle.std.proofs.lemmas.List.{append-nil}
 use Rattle.lin_transport.specs.Transport.{begins, message_in, messages_in, Heard, heard_with}
 use Rattle.lin_transport.specs.Transport.Heard.{Frame}
-use Rattle.lin_transport.specs.Receiver.{Part, Reception, current, Holds, Stands, Hears, IsReadAs, IsBegun, IsContinued}
+use Rattle.lin_transport.specs.Receiver.{Part, Reception, current, Holds, Hears, IsReadAs, IsBegun, IsContinued}
 use Rattle.lin_transport.proofs.Frames.{eqb-self}
 use Rattle.lin_transport.proofs.Pieces.{reads-last, reads-begun, current-begun, current-more, earlier_pieces, earlier-more}
 use Rattle.lin_transport.proofs.Begins.{single-reads, single-fails}

@@ -1,0 +1,17 @@
+pub mod Scan
+pub mod Runs
+pub mod TokenForms
+pub mod Numbers
+pub mod Comments
+pub mod Places
+pub mod CutLaws
+pub mod Pieces
+pub mod Ranges
+pub mod Unique
+pub mod AnyName
+pub mod SeveralSteps
+pub mod GatherSteps
+pub mod Capped
+pub mod Ending
+pub mod Described
+pub mod LexemeLists

@@ -1,0 +1,318 @@
+//! Tokens that are left, and the steps over one of them.
+
+ghost use Rattle.std.specs.Prelude.{◌≡◌, ◌++◌, ◌∷◌, [], length, IfOk};
+ghost use Rattle.std.specs.Str.{bytes_eq};
+ghost use Rattle.std.specs.List.{list_any};
+ghost use Rattle.lin_ldf.specs.Symbols.{is_kind, symbol, symbols};
+ghost use Rattle.lin_ldf.specs.Forms.{Gives, mark, keyword, token};
+ghost use Rattle.lin_ldf.specs.Loops.{is_next, tail};
+ghost use Rattle.lin_ldf.specs.UpTo.{front_kind};
+ghost use Rattle.lin_ldf.specs.Words.{word, opening, declared, int, dec, is_word_next};
+ghost use Rattle.lin_ldf.specs.Grammar.{header_words, is_extra_word, no_extra, extra_word, without_quotes, protocol_text, with_node, front_section, is_end};
+
+use crate::description::{Name, Number};
+use crate::fault::LdfFault;
+use crate::lexeme::Lexeme;
+use crate::lists::Text;
+use crate::names::Names;
+use crate::node_attributes::NodeBlocks;
+use crate::number_values;
+use crate::place::Place;
+use crate::section::{SectionWord, section_word};
+use crate::token::TokenKind;
+use std::alloc::Global;
+use std::marker::Model;
+
+/// The tokens that are left, and the place behind the text.
+#[derive(Drop)]
+pub struct Parser<'a> {
+    tokens: &'a [Lexeme<'a>],
+    end: Place,
+}
+
+impl<'a> Model for Parser<'a> {
+    ghost use Rattle.std.specs.Prelude.{List};
+    ghost use Rattle.lin_ldf.specs.Symbols.{Symbol, symbols};
+
+    ghost Value = { List Symbol };
+
+    ghost view = { λ p. symbols p.tokens.now };
+}
+
+pub fn same_kind(a: TokenKind, b: TokenKind) -> bool
+    ensures { result ≡ is_kind a b }
+{
+    a == b
+}
+
+pub fn is_word(text: &[u8], word: &[u8]) -> bool
+    ensures { result ≡ bytes_eq text.now word.now }
+{
+    text == word
+}
+
+fn without_quotes(text: &[u8]) -> &[u8]
+    ensures { result.now ≡ without_quotes text.now }
+{
+    if text.len() < 2 { &[] } else { &text[1..text.len() - 1] }
+}
+
+fn is_header_word(word: &[u8]) -> bool
+    ensures { result ≡ list_any (bytes_eq word.now) header_words }
+{
+    is_word(word, b"LIN_description_file")
+        || is_word(word, b"LIN_protocol_version")
+        || is_word(word, b"LIN_language_version")
+        || is_word(word, b"LIN_speed")
+        || is_word(word, b"Nodes")
+}
+
+fn is_extra_word(t: &Lexeme) -> bool
+    ensures { result ≡ is_extra_word (symbol t.now) }
+{
+    same_kind(TokenKind::Word, t.kind) && !is_header_word(t.text)
+}
+
+impl<'a> Parser<'a> {
+    pub fn new(tokens: &'a [Lexeme<'a>], end: Place) -> Parser<'a>
+        ensures { result ≡ symbols tokens.now }
+    {
+        Parser { tokens, end }
+    }
+
+    /// The place of the next token, or behind the text.
+    pub fn place(&self) -> Place {
+        match self.tokens {
+            [t, ..] => Place {
+                line: t.line,
+                column: t.column,
+            },
+            [] => self.end,
+        }
+    }
+
+    /// How many tokens are left.
+    pub fn left(&self) -> usize
+        ensures { result ≡ length self.now }
+    {
+        self.tokens.len()
+    }
+
+    pub fn is_at(&self, kind: TokenKind) -> bool
+        ensures { result ≡ is_next kind self.now }
+    {
+        match self.tokens {
+            [t, ..] => same_kind(kind, t.kind),
+            [] => false,
+        }
+    }
+
+    pub fn is_at_word(&self, word: &[u8]) -> bool
+        ensures { result ≡ is_word_next word.now self.now }
+    {
+        match self.tokens {
+            [t, ..] => same_kind(TokenKind::Word, t.kind) && t.text == word,
+            [] => false,
+        }
+    }
+
+    pub fn front_kind(&self) -> Option<TokenKind>
+        ensures { result ≡ front_kind self.now }
+    {
+        match self.tokens {
+            [t, ..] => Some(t.kind),
+            [] => None,
+        }
+    }
+
+    pub fn skip(&mut self)
+        ensures { self.new ≡ tail self.old }
+    {
+        if let [_, rest @ ..] = self.tokens {
+            self.tokens = rest;
+        }
+    }
+
+    pub fn mark(&mut self, kind: TokenKind) -> Result<(), LdfFault>
+        ensures { Gives result self.new ((mark kind).read self.old) }
+    {
+        match self.tokens {
+            [t, rest @ ..] if same_kind(kind, t.kind) => {
+                self.tokens = rest;
+                Ok(())
+            }
+            _ => Err(LdfFault::unexpected(self.place())),
+        }
+    }
+
+    /// An opening brace, and its place.
+    pub fn opening(&mut self) -> Result<Place, LdfFault>
+        ensures { Gives result self.new (opening.read self.old) }
+    {
+        match self.tokens {
+            [t, rest @ ..] if same_kind(TokenKind::OpenBrace, t.kind) => {
+                self.tokens = rest;
+                Ok(Place { line: t.line, column: t.column })
+            }
+            _ => Err(LdfFault::unexpected(self.place())),
+        }
+    }
+
+    pub fn keyword(&mut self, word: &[u8]) -> Result<(), LdfFault>
+        ensures { Gives result self.new ((keyword word.now).read self.old) }
+    {
+        match self.tokens {
+            [t, rest @ ..] if same_kind(TokenKind::Word, t.kind) && t.text == word => {
+                self.tokens = rest;
+                Ok(())
+            }
+            _ => Err(LdfFault::unexpected(self.place())),
+        }
+    }
+
+    pub fn word(&mut self, alloc: Global) -> Result<Name, LdfFault>
+        ensures { Gives result self.new (word.read self.old) }
+    {
+        match self.tokens {
+            [t, rest @ ..] if same_kind(TokenKind::Word, t.kind) => {
+                let name = t.to_name(alloc)?;
+                self.tokens = rest;
+                Ok(name)
+            }
+            _ => Err(LdfFault::unexpected(self.place())),
+        }
+    }
+
+    /// A name that is declared here. It must be new.
+    pub fn declared(&mut self, alloc: Global, seen: &mut Names<'a>) -> Result<Name, LdfFault>
+        ensures read { Gives result self.new ((declared seen.old).read self.old) }
+        ensures seen { IfOk result (λ n. seen.new ≡ seen.old ++ n.text ∷ []) }
+    {
+        match self.tokens {
+            [t, rest @ ..] if same_kind(TokenKind::Word, t.kind) => {
+                if !seen.insert(t.text)? {
+                    return Err(LdfFault::name_twice(t.place()));
+                }
+                let name = t.to_name(alloc)?;
+                self.tokens = rest;
+                Ok(name)
+            }
+            _ => Err(LdfFault::unexpected(self.place())),
+        }
+    }
+
+    pub fn int(&mut self) -> Result<Number, LdfFault>
+        ensures { Gives result self.new (int.read self.old) }
+    {
+        match self.tokens {
+            [t, rest @ ..] if same_kind(TokenKind::Number, t.kind) && number_values::is_whole(t.text) => {
+                match number_values::int_value(t.text) {
+                    Some(value) => {
+                        self.tokens = rest;
+                        Ok(Number { value, line: t.line, column: t.column })
+                    }
+                    None => Err(LdfFault::too_large(t.place())),
+                }
+            }
+            _ => Err(LdfFault::unexpected(self.place())),
+        }
+    }
+
+    pub fn dec(&mut self) -> Result<Number, LdfFault>
+        ensures { Gives result self.new (dec.read self.old) }
+    {
+        match self.tokens {
+            [t, rest @ ..] if same_kind(TokenKind::Number, t.kind) && number_values::has_three_decimals(t.text) => {
+                match number_values::thousandths(t.text) {
+                    Some(value) => {
+                        self.tokens = rest;
+                        Ok(Number { value, line: t.line, column: t.column })
+                    }
+                    None => Err(LdfFault::too_large(t.place())),
+                }
+            }
+            _ => Err(LdfFault::unexpected(self.place())),
+        }
+    }
+
+    /// The text of `LIN_protocol`: without its quotes, or a number as it is spelled.
+    pub fn protocol_text(&mut self, alloc: Global) -> Result<Text, LdfFault>
+        ensures { Gives result self.new (protocol_text.read self.old) }
+    {
+        match self.tokens {
+            [t, rest @ ..] if same_kind(TokenKind::Text, t.kind) => {
+                let text = Text::copied(alloc, without_quotes(t.text))?;
+                self.tokens = rest;
+                Ok(text)
+            }
+            [t, rest @ ..] if same_kind(TokenKind::Number, t.kind) => {
+                let text = Text::copied(alloc, t.text)?;
+                self.tokens = rest;
+                Ok(text)
+            }
+            _ => Err(LdfFault::unexpected(self.place())),
+        }
+    }
+
+    /// The name of a block of attributes. No block of that node may stand before.
+    pub fn node_of_block(&mut self, alloc: Global, blocks: &mut NodeBlocks<'a>) -> Result<Name, LdfFault>
+        ensures read { Gives result self.new ((declared blocks.old.seen).read self.old) }
+        ensures blocks { IfOk result (λ n. blocks.new ≡ with_node blocks.old n.text) }
+    {
+        match self.tokens {
+            [t, rest @ ..] if same_kind(TokenKind::Word, t.kind) => {
+                if blocks.seen.contains(t.text) {
+                    return Err(LdfFault::name_twice(t.place()));
+                }
+                blocks.add(t.text)?;
+                let name = t.to_name(alloc)?;
+                self.tokens = rest;
+                Ok(name)
+            }
+            _ => Err(LdfFault::unexpected(self.place())),
+        }
+    }
+
+    /// Whether no token is left.
+    pub fn is_at_end(&self) -> bool
+        ensures { result ≡ is_end self.now }
+    {
+        match self.tokens {
+            [] => true,
+            [_, ..] => false,
+        }
+    }
+
+    /// What the next token says where a section begins.
+    pub fn section_word(&self) -> SectionWord
+        ensures { result ≡ front_section self.now }
+    {
+        match self.tokens {
+            [t, ..] => section_word(t.text),
+            [] => SectionWord::Unused,
+        }
+    }
+
+    /// Whether the next token can't begin an extra line of the header.
+    pub fn is_past_extras(&self) -> bool
+        ensures { result ≡ no_extra self.now }
+    {
+        match self.tokens {
+            [t, ..] => !is_extra_word(t),
+            [] => true,
+        }
+    }
+
+    /// The word that begins an extra line of the header.
+    pub fn extra_word(&mut self) -> Result<(), LdfFault>
+        ensures { Gives result self.new (extra_word.read self.old) }
+    {
+        match self.tokens {
+            [t, rest @ ..] if is_extra_word(t) => {
+                self.tokens = rest;
+                Ok(())
+            }
+            _ => Err(LdfFault::unexpected(self.place())),
+        }
+    }
+}
