@@ -1,7 +1,7 @@
 -- What reading a file gives is what its tokens spell.
 use Rattle.std.proofs.Common.{◌≡◌, ℕ, zero, suc, Bool, true, List, [], ◌∷◌, Option, Some, None, Result, Ok, Err, IfOk, MatchResult, refl, sym, ap, subst, ◌∙◌}
 use Rattle.lin_ldf.specs.Symbols.{Symbol}
-use Rattle.lin_ldf.specs.Forms.{Form, Gives, Fails}
+use Rattle.lin_ldf.specs.Forms.{Gives}
 use Rattle.lin_ldf.specs.Loops.{Steps}
 use Rattle.lin_ldf.specs.Laws.{made_is}
 use Rattle.lin_ldf.specs.Grammar.{file, is_end, section, no_sections, node_names}

@@ -1,5 +1,5 @@
 -- What an LDF text describes (LIN 2.2A, section 9).
-use Rattle.std.specs.Prelude.{◌≡◌, ℕ, List, [], map, slice_range}
+use Rattle.std.specs.Prelude.{ℕ, List, [], map, slice_range}
 use Rattle.lin_ldf.specs.Symbols.{Symbol}
 use Rattle.lin_ldf.specs.Tokens.{AreTokens}
 use Rattle.lin_ldf.specs.Grammar.{file}

@@ -1,12 +1,12 @@
 -- The grammar of LDF texts (LIN 2.2A, section 9), production by production.
-use Rattle.std.specs.Prelude.{ℕ, List, [], ◌∷◌, ◌++◌, Bool, true, false, ◌&&◌, ◌||◌, not, Option, Some, None, if◌then◌else◌, codes, fold, length, take, drop, ◌-◌, map}
+use Rattle.std.specs.Prelude.{ℕ, List, [], ◌∷◌, ◌++◌, Bool, true, false, ◌&&◌, ◌||◌, not, Option, Some, None, if◌then◌else◌, codes, fold, length, take, drop, ◌-◌}
 use Rattle.std.specs.Str.{bytes_eq}
 use Rattle.std.specs.List.{list_any}
 use Rattle.lin_ldf.specs.Symbols.{Symbol, is_kind}
 use Rattle.lin_ldf.specs.Forms.{Form, token, mark, keyword, as_value, either, choice, nothing, never, ◌&◌, ◌&>◌, ◌<&◌, ◌&=◌}
 use Rattle.lin_ldf.specs.Loops.{gathered, is_next}
 use Rattle.lin_ldf.specs.Names.{has_name}
-use Rattle.lin_ldf.specs.Words.{open_brace, close_brace, colon, semicolon, comma, equals, opening, word, declared, int, dec, is_word_next, unchanged, consed_of, other_words, words, other_ints, with_name, other_declared, block, group, list, once, name_of}
+use Rattle.lin_ldf.specs.Words.{open_brace, close_brace, colon, semicolon, comma, equals, opening, word, declared, int, dec, is_word_next, unchanged, consed_of, words, other_ints, with_name, other_declared, block, group, list, once}
 use Rattle.lin_ldf.specs.declared.token.TokenKind.TheVariants as kinds
 use Rattle.lin_ldf.specs.declared.place.Place.{Place}
 use Rattle.lin_ldf.specs.declared.description.Name.{Name}

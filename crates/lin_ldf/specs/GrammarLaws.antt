@@ -1,7 +1,6 @@
 -- The productions are lawful.
 use Rattle.std.specs.Prelude.{ℕ, List, [], ◌∷◌, Option, Some, None, codes}
-use Rattle.lin_ldf.specs.Symbols.{Symbol, is_kind}
-use Rattle.lin_ldf.specs.Forms.{Form, never}
+use Rattle.lin_ldf.specs.Forms.{Form}
 use Rattle.lin_ldf.specs.Loops.{is_next}
 use Rattle.lin_ldf.specs.Words.{word, declared, int, dec, is_word_next, unchanged, no_comma, consed_of, other_words, words, other_ints, with_name, other_declared, block, group, list, once, comma}
 use Rattle.lin_ldf.specs.Forms.{◌&>◌}

@@ -1,5 +1,5 @@
 -- A form is lawful where it spells just what its reading finds.
-use Rattle.std.proofs.Common.{◌≡◌, ℕ, zero, suc, ◌<◌, ◌≤◌, Bool, true, false, cond, List, [], ◌∷◌, ◌++◌, length, Option, Some, None, refl, arith, ap, sym, subst, ◌∙◌}
+use Rattle.std.proofs.Common.{◌≡◌, ℕ, ◌<◌, ◌≤◌, Bool, true, false, cond, List, [], ◌∷◌, length, Option, Some, None, refl, arith, ap, sym, subst, ◌∙◌}
 use Rattle.std.specs.Prelude.{MatchBool}
 use Rattle.lin_ldf.specs.Symbols.{Symbol, is_kind}
 use Rattle.lin_ldf.specs.Forms.{Form, ◌>>=◌, front_at, token, mark, keyword, is_keyword, ◌&◌, ◌&>◌, ◌<&◌, ◌&=◌, as_value, either, choice, nothing, never}

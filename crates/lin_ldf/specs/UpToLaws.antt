@@ -1,11 +1,11 @@
 -- Tokens up to an end are lawful.
-use Rattle.std.proofs.Common.{◌≡◌, ℕ, zero, suc, ◌+◌, ◌-◌, ◌≤◌, ◌&&◌, Bool, true, false, cond, eqb, List, [], ◌∷◌, ◌++◌, length, Option, Some, None, refl, sym, ap, subst, ◌∙◌, arith}
+use Rattle.std.proofs.Common.{◌≡◌, ℕ, ◌≤◌, ◌&&◌, Bool, true, false, cond, eqb, List, [], ◌∷◌, ◌++◌, length, Option, Some, None, refl, ap, subst, ◌∙◌, arith}
 use Rattle.std.proofs.lemmas.Bool.{eqb-true}
 use Rattle.lin_ldf.specs.declared.token.TokenKind.{TokenKind}
 use Rattle.lin_ldf.specs.Symbols.{Symbol, is_kind}
 use Rattle.lin_ldf.specs.Loops.{is_next}
 use Rattle.lin_ldf.specs.Forms.{◌>>=◌}
-use Rattle.lin_ldf.specs.UpTo.{UpTo, up_to, end_at, depth_after, depth_behind, is_end}
+use Rattle.lin_ldf.specs.UpTo.{up_to, end_at, depth_after, depth_behind, is_end}
 use Rattle.lin_ldf.specs.Laws.{Lawful, made, made_is}
 
 record Ends (end : TokenKind) (n : ℕ) (ts rest : List Symbol) : Type 0 where

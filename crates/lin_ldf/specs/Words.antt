@@ -1,12 +1,11 @@
 -- Words, numbers and lists of them in an LDF text (LIN 2.2A, section 9).
-use Rattle.std.specs.Prelude.{ℕ, List, [], ◌∷◌, ◌++◌, Bool, false, ◌&&◌, not, Option, Some, None, fold}
+use Rattle.std.specs.Prelude.{ℕ, List, [], ◌∷◌, ◌++◌, Bool, false, ◌&&◌, not, Option, Some, None}
 use Rattle.lin_ldf.specs.Symbols.{Symbol, is_kind}
-use Rattle.lin_ldf.specs.Forms.{Form, token, mark, as_value, ◌&◌, ◌&>◌, ◌<&◌, ◌&=◌, is_keyword, never}
+use Rattle.lin_ldf.specs.Forms.{Form, token, mark, ◌&◌, ◌&>◌, ◌<&◌, is_keyword, never}
 use Rattle.lin_ldf.specs.Loops.{several, is_next}
 use Rattle.lin_ldf.specs.UpTo.{up_to}
 use Rattle.lin_ldf.specs.Names.{has_name}
 use Rattle.lin_ldf.specs.Numbers.{is_whole, int_value, has_three_decimals, thousandths, is_in_limit}
-use Rattle.lin_ldf.specs.declared.token.TokenKind.{TokenKind}
 use Rattle.lin_ldf.specs.declared.token.TokenKind.TheVariants as kinds
 use Rattle.lin_ldf.specs.declared.place.Place.{Place}
 use Rattle.lin_ldf.specs.declared.description.Name.{Name}

@@ -34,7 +34,11 @@ impl<'a> Item<'a, ()> for PlacedSignal {
         parser.is_at(TokenKind::CloseBrace)
     }
 
-    fn parse(parser: &mut Parser<'a>, alloc: Global, _state: &mut ()) -> Result<PlacedSignal, LdfFault> {
+    fn parse(
+        parser: &mut Parser<'a>,
+        alloc: Global,
+        _state: &mut (),
+    ) -> Result<PlacedSignal, LdfFault> {
         parser.placed(alloc)
     }
 }
@@ -59,7 +63,11 @@ impl<'a> Item<'a, Names<'a>> for Frame {
         parser.is_at(TokenKind::CloseBrace)
     }
 
-    fn parse(parser: &mut Parser<'a>, alloc: Global, seen: &mut Names<'a>) -> Result<Frame, LdfFault> {
+    fn parse(
+        parser: &mut Parser<'a>,
+        alloc: Global,
+        seen: &mut Names<'a>,
+    ) -> Result<Frame, LdfFault> {
         parser.frame(alloc, seen)
     }
 }
@@ -84,7 +92,11 @@ impl<'a> Item<'a, Names<'a>> for Sporadic {
         parser.is_at(TokenKind::CloseBrace)
     }
 
-    fn parse(parser: &mut Parser<'a>, alloc: Global, seen: &mut Names<'a>) -> Result<Sporadic, LdfFault> {
+    fn parse(
+        parser: &mut Parser<'a>,
+        alloc: Global,
+        seen: &mut Names<'a>,
+    ) -> Result<Sporadic, LdfFault> {
         parser.sporadic_frame(alloc, seen)
     }
 }
@@ -109,7 +121,11 @@ impl<'a> Item<'a, Names<'a>> for EventFrame {
         parser.is_at(TokenKind::CloseBrace)
     }
 
-    fn parse(parser: &mut Parser<'a>, alloc: Global, seen: &mut Names<'a>) -> Result<EventFrame, LdfFault> {
+    fn parse(
+        parser: &mut Parser<'a>,
+        alloc: Global,
+        seen: &mut Names<'a>,
+    ) -> Result<EventFrame, LdfFault> {
         parser.event_frame(alloc, seen)
     }
 }
@@ -177,7 +193,11 @@ impl<'a> Parser<'a> {
         Ok(Sporadic { name, members })
     }
 
-    pub fn sporadic(&mut self, alloc: Global, seen: &mut Names<'a>) -> Result<Many<Sporadic>, LdfFault>
+    pub fn sporadic(
+        &mut self,
+        alloc: Global,
+        seen: &mut Names<'a>,
+    ) -> Result<Many<Sporadic>, LdfFault>
         ensures read { Gives result self.new ((sporadic seen.old).read self.old) }
         ensures state { IfOk result (λ items. seen.new ≡ fold with_sporadic seen.old items) }
     {
@@ -208,7 +228,11 @@ impl<'a> Parser<'a> {
         })
     }
 
-    pub fn event(&mut self, alloc: Global, seen: &mut Names<'a>) -> Result<Many<EventFrame>, LdfFault>
+    pub fn event(
+        &mut self,
+        alloc: Global,
+        seen: &mut Names<'a>,
+    ) -> Result<Many<EventFrame>, LdfFault>
         ensures read { Gives result self.new ((event seen.old).read self.old) }
         ensures state { IfOk result (λ items. seen.new ≡ fold with_event seen.old items) }
     {

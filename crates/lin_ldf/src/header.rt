@@ -100,7 +100,11 @@ impl<'a> Parser<'a> {
         self.mark(TokenKind::Colon)
     }
 
-    fn master(&mut self, alloc: Global, seen: &mut Names<'a>) -> Result<(Name, (Number, Number)), LdfFault>
+    fn master(
+        &mut self,
+        alloc: Global,
+        seen: &mut Names<'a>,
+    ) -> Result<(Name, (Number, Number)), LdfFault>
         requires { seen.old ≡ [] }
         ensures read { Gives result self.new (master.read self.old) }
         ensures names { IfOk result (λ m. seen.new ≡ m.0.text ∷ []) }
@@ -115,7 +119,12 @@ impl<'a> Parser<'a> {
         Ok((name, (time_base, jitter)))
     }
 
-    fn slaves(&mut self, alloc: Global, master: &Name, seen: &mut Names<'a>) -> Result<Many<Name>, LdfFault>
+    fn slaves(
+        &mut self,
+        alloc: Global,
+        master: &Name,
+        seen: &mut Names<'a>,
+    ) -> Result<Many<Name>, LdfFault>
         requires { seen.old ≡ master.now.text ∷ [] }
         ensures read { Gives result self.new ((slaves master.now).read self.old) }
         ensures names { IfOk result (λ s. seen.new ≡ fold with_name (master.now.text ∷ []) s) }

@@ -25,7 +25,10 @@ mod signal_section;
 mod token;
 mod word_lists;
 
-pub use description::{Attributes, Description, EventFrame, Frame, Init, Name, Number, PlacedSignal, Signal, Sporadic, Table, TableEntry};
+pub use description::{
+    Attributes, Description, EventFrame, Frame, Init, Name, Number, PlacedSignal, Signal, Sporadic,
+    Table, TableEntry,
+};
 pub use fault::LdfFault;
 pub use lexer::lex;
 pub use lists::{Many, Text};

@@ -114,7 +114,11 @@ impl<'a> Item<'a, NodeBlocks<'a>> for Attributes {
         parser.is_at(TokenKind::CloseBrace)
     }
 
-    fn parse(parser: &mut Parser<'a>, alloc: Global, blocks: &mut NodeBlocks<'a>) -> Result<Attributes, LdfFault> {
+    fn parse(
+        parser: &mut Parser<'a>,
+        alloc: Global,
+        blocks: &mut NodeBlocks<'a>,
+    ) -> Result<Attributes, LdfFault> {
         parser.attribute_block(alloc, blocks)
     }
 }
@@ -165,7 +169,11 @@ impl<'a> Parser<'a> {
         Ok(settings)
     }
 
-    fn attribute_block(&mut self, alloc: Global, blocks: &mut NodeBlocks<'a>) -> Result<Attributes, LdfFault>
+    fn attribute_block(
+        &mut self,
+        alloc: Global,
+        blocks: &mut NodeBlocks<'a>,
+    ) -> Result<Attributes, LdfFault>
         ensures read { Gives result self.new ((attribute_block blocks.old).read self.old) }
         ensures state { IfOk result (λ a. blocks.new ≡ with_block blocks.old a) }
     {
@@ -182,7 +190,11 @@ impl<'a> Parser<'a> {
         })
     }
 
-    pub fn attributes(&mut self, alloc: Global, blocks: &mut NodeBlocks<'a>) -> Result<Many<Attributes>, LdfFault>
+    pub fn attributes(
+        &mut self,
+        alloc: Global,
+        blocks: &mut NodeBlocks<'a>,
+    ) -> Result<Many<Attributes>, LdfFault>
         ensures read { Gives result self.new ((attributes blocks.old).read self.old) }
         ensures state { IfOk result (λ items. blocks.new ≡ fold with_block blocks.old items) }
     {

@@ -54,7 +54,11 @@ pub fn is_word(text: &[u8], word: &[u8]) -> bool
 fn without_quotes(text: &[u8]) -> &[u8]
     ensures { result.now ≡ without_quotes text.now }
 {
-    if text.len() < 2 { &[] } else { &text[1..text.len() - 1] }
+    if text.len() < 2 {
+        &[]
+    } else {
+        &text[1..text.len() - 1]
+    }
 }
 
 fn is_header_word(word: &[u8]) -> bool
@@ -152,7 +156,10 @@ impl<'a> Parser<'a> {
         match self.tokens {
             [t, rest @ ..] if same_kind(TokenKind::OpenBrace, t.kind) => {
                 self.tokens = rest;
-                Ok(Place { line: t.line, column: t.column })
+                Ok(Place {
+                    line: t.line,
+                    column: t.column,
+                })
             }
             _ => Err(LdfFault::unexpected(self.place())),
         }
@@ -205,11 +212,16 @@ impl<'a> Parser<'a> {
         ensures { Gives result self.new (int.read self.old) }
     {
         match self.tokens {
-            [t, rest @ ..] if same_kind(TokenKind::Number, t.kind) && number_values::is_whole(t.text) => {
+            [t, rest @ ..]
+                if same_kind(TokenKind::Number, t.kind) && number_values::is_whole(t.text) => {
                 match number_values::int_value(t.text) {
                     Some(value) => {
                         self.tokens = rest;
-                        Ok(Number { value, line: t.line, column: t.column })
+                        Ok(Number {
+                            value,
+                            line: t.line,
+                            column: t.column,
+                        })
                     }
                     None => Err(LdfFault::too_large(t.place())),
                 }
@@ -222,11 +234,17 @@ impl<'a> Parser<'a> {
         ensures { Gives result self.new (dec.read self.old) }
     {
         match self.tokens {
-            [t, rest @ ..] if same_kind(TokenKind::Number, t.kind) && number_values::has_three_decimals(t.text) => {
+            [t, rest @ ..]
+                if same_kind(TokenKind::Number, t.kind)
+                    && number_values::has_three_decimals(t.text) => {
                 match number_values::thousandths(t.text) {
                     Some(value) => {
                         self.tokens = rest;
-                        Ok(Number { value, line: t.line, column: t.column })
+                        Ok(Number {
+                            value,
+                            line: t.line,
+                            column: t.column,
+                        })
                     }
                     None => Err(LdfFault::too_large(t.place())),
                 }
@@ -255,7 +273,11 @@ impl<'a> Parser<'a> {
     }
 
     /// The name of a block of attributes. No block of that node may stand before.
-    pub fn node_of_block(&mut self, alloc: Global, blocks: &mut NodeBlocks<'a>) -> Result<Name, LdfFault>
+    pub fn node_of_block(
+        &mut self,
+        alloc: Global,
+        blocks: &mut NodeBlocks<'a>,
+    ) -> Result<Name, LdfFault>
         ensures read { Gives result self.new ((declared blocks.old.seen).read self.old) }
         ensures blocks { IfOk result (λ n. blocks.new ≡ with_node blocks.old n.text) }
     {

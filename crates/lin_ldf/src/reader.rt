@@ -29,7 +29,11 @@ fn lexeme_of<'a>(source: &'a [u8], token: &Token) -> Lexeme<'a>
 }
 
 #[tactic(auto, using(crate::proofs::LexemeLists::lexing))]
-fn lexemes_of<'a>(alloc: Global, source: &'a [u8], tokens: &[Token]) -> Result<Vec<Lexeme<'a>>, LdfFault>
+fn lexemes_of<'a>(
+    alloc: Global,
+    source: &'a [u8],
+    tokens: &[Token],
+) -> Result<Vec<Lexeme<'a>>, LdfFault>
     requires { All (LiesIn source.now) tokens.now }
     ensures lexemes { IfOk result (λ found. symbols found.items ≡ symbols_in source.now tokens.now) }
     ensures fault { IfErr result (λ e. e ≡ OutOfMemory) }

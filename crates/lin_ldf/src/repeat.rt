@@ -35,7 +35,11 @@ pub trait Item<'a, S>: Listed<S> + Drop {
 }
 
 /// Items until no further one stands.
-pub fn several<'a, S, I: Item<'a, S>>(parser: &mut Parser<'a>, alloc: Global, state: &mut S) -> Result<Many<I>, LdfFault>
+pub fn several<'a, S, I: Item<'a, S>>(
+    parser: &mut Parser<'a>,
+    alloc: Global,
+    state: &mut S,
+) -> Result<Many<I>, LdfFault>
     ensures read { Gives result parser.new ((several I.over I.next I.form state.old).read parser.old) }
     ensures state { IfOk result (λ items. state.new ≡ fold I.next state.old items) }
 {
@@ -67,7 +71,11 @@ pub trait Gathered<'a>: Whole + Drop {
 }
 
 /// Parts until no further one stands.
-pub fn gather<'a, S: Gathered<'a>>(parser: &mut Parser<'a>, alloc: Global, so_far: &mut S) -> Result<(), LdfFault>
+pub fn gather<'a, S: Gathered<'a>>(
+    parser: &mut Parser<'a>,
+    alloc: Global,
+    so_far: &mut S,
+) -> Result<(), LdfFault>
     ensures { Gathers result so_far.new parser.new ((gathered S.over S.form so_far.old).read parser.old) }
 {
     while !S::is_over(parser) {

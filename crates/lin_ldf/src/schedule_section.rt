@@ -34,7 +34,11 @@ impl<'a> Item<'a, ()> for TableEntry {
         parser.is_at(TokenKind::CloseBrace)
     }
 
-    fn parse(parser: &mut Parser<'a>, alloc: Global, _state: &mut ()) -> Result<TableEntry, LdfFault> {
+    fn parse(
+        parser: &mut Parser<'a>,
+        alloc: Global,
+        _state: &mut (),
+    ) -> Result<TableEntry, LdfFault> {
         parser.entry(alloc)
     }
 }
@@ -59,7 +63,11 @@ impl<'a> Item<'a, Names<'a>> for Table {
         parser.is_at(TokenKind::CloseBrace)
     }
 
-    fn parse(parser: &mut Parser<'a>, alloc: Global, seen: &mut Names<'a>) -> Result<Table, LdfFault> {
+    fn parse(
+        parser: &mut Parser<'a>,
+        alloc: Global,
+        seen: &mut Names<'a>,
+    ) -> Result<Table, LdfFault> {
         parser.table(alloc, seen)
     }
 }

@@ -33,7 +33,11 @@ impl<'a> Item<'a, Names<'a>> for Signal {
         parser.is_at(TokenKind::CloseBrace)
     }
 
-    fn parse(parser: &mut Parser<'a>, alloc: Global, seen: &mut Names<'a>) -> Result<Signal, LdfFault> {
+    fn parse(
+        parser: &mut Parser<'a>,
+        alloc: Global,
+        seen: &mut Names<'a>,
+    ) -> Result<Signal, LdfFault> {
         parser.signal(alloc, seen)
     }
 }

@@ -60,7 +60,11 @@ impl<'a> Item<'a, Names<'a>> for Name {
         !parser.is_at(TokenKind::Comma)
     }
 
-    fn parse(parser: &mut Parser<'a>, alloc: Global, seen: &mut Names<'a>) -> Result<Name, LdfFault> {
+    fn parse(
+        parser: &mut Parser<'a>,
+        alloc: Global,
+        seen: &mut Names<'a>,
+    ) -> Result<Name, LdfFault> {
         parser.mark(TokenKind::Comma)?;
         parser.declared(alloc, seen)
     }

@@ -123,14 +123,6 @@ pub(super) const fn line(entry: Entry) -> Line {
     }
 }
 
-pub(super) const fn place(offset: u8, size: u8) -> Place {
-    Place {
-        offset,
-        size,
-        array: false,
-    }
-}
-
 pub(super) fn b_nodes(alloc: Global) -> Made<Node> {
     nodes(
         alloc,

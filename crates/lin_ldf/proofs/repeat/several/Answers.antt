@@ -1,4 +1,4 @@
-use Rattle.std.proofs.Common.{◌∙◌, sym, ap, ◌≡◌, ◌++◌, ◌∷◌, [], fold}
+use Rattle.std.proofs.Common.{◌∙◌, sym, ap, ◌∷◌, []}
 use Rattle.std.proofs.lemmas.Result.{err_from_is_err_and}
 use Rattle.std.proofs.lemmas.List.Sums.{fold-append}
 use Rattle.lin_ldf.proofs.SeveralSteps.{several_goes_on, several_fails, several_is_done}
