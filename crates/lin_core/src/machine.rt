@@ -229,7 +229,6 @@ impl Core {
         if self.log.make_room().is_err() || self.room.try_reserve(2).is_err() {
             return Err(Hold::OutOfMemory(Step::Open));
         }
-        let nodes = self.cluster.nodes();
         let (table, entry) = self.state.walker.place();
         let kind = self.cluster.entry(table, entry);
         let waits = !self.state.hosts[0].queue.is_empty();
