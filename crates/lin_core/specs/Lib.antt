@@ -13,3 +13,4 @@ pub mod Core
 pub mod Hosts
 pub mod Kept
 pub mod Whole
+pub mod Fits

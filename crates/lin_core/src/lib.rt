@@ -1,6 +1,7 @@
 //! The core of the simulator: steps, the log of what they were answered, and the laws that hold of every log.
 #![tactic(auto)]
 
+mod copies;
 mod diagnostic;
 mod event;
 mod hold;

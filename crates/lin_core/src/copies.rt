@@ -1,0 +1,41 @@
+//! Copies of steps.
+
+use crate::payload::Payload;
+use crate::step::Step;
+use std::alloc::{AllocError, Global};
+
+impl Payload {
+    ghost use Rattle.std.specs.Prelude.{◌≡◌, IfOk};
+    ghost use Rattle.lin_core.specs.Fits.{AreBytes};
+
+    /// Equal bytes; an error is want of memory.
+    pub(crate) fn copy(&self, alloc: Global) -> Result<Payload, AllocError>
+        ensures same { IfOk result (λ p. p ≡ self.now) }
+        ensures fits { AreBytes self.now }
+    {
+        let bytes = self.as_slice();
+        Ok(Payload::new(Vec::from_slice(alloc, bytes)?))
+    }
+}
+
+impl Step {
+    ghost use Rattle.std.specs.Prelude.{◌≡◌, IfOk};
+    ghost use Rattle.lin_core.specs.Fits.{FitsStep};
+
+    /// An equal step; an error is want of memory.
+    pub fn copy(&self, alloc: Global) -> Result<Step, AllocError>
+        ensures same { IfOk result (λ s. s ≡ self.now) }
+        ensures fits { FitsStep self.now }
+    {
+        match self {
+            Step::Send { from, to, message } => Ok(Step::Send {
+                from: *from,
+                to: *to,
+                message: message.copy(alloc)?,
+            }),
+            Step::Open => Ok(Step::Open),
+            Step::Answer { node } => Ok(Step::Answer { node: *node }),
+            Step::Finish => Ok(Step::Finish),
+        }
+    }
+}
