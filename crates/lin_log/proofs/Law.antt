@@ -1,0 +1,134 @@
+-- What is written is read again.
+use Rattle.std.proofs.Common.{◌≡◌, ℕ, zero, suc, List, [], ◌∷◌, ◌++◌, refl, ap, ◌∙◌, length, ◌+◌, ◌-◌, ◌*◌, ◌/◌, ◌%◌, ◌^◌, ◌<◌, ◌≤◌, ◌==◌, arith, Bool, true, false, Option, Some, None, Ok, slice_index, nat_le, ◌&&◌, codes, if◌then◌else◌}
+use Rattle.std.specs.Char.{is_ascii_digit}
+use Rattle.std.specs.Str.{bytes_eq}
+use Rattle.std.specs.Fmt.{decimal, digits, digits_onto, digit_glyph}
+use Rattle.std.proofs.lemmas.Bool.{and_parts}
+use Rattle.std.proofs.lemmas.Fmt.{decimal_by_steps, length-decimal-le}
+use Rattle.std.proofs.lemmas.Grind.{common_steps}
+use Rattle.hex.specs.Hex.{encode_upper, encode_with, upper_digits, decode_of, IsBytes}
+use Rattle.hex.proofs.HexLemmas.{decode_of-encode_upper}
+use Rattle.lin_log.specs.Words.{hex_word, port_word, step_words}
+use Rattle.lin_core.specs.Fits.{FitsPort, FitsStep}
+use Rattle.lin_log.specs.Script.{number, number_after, hex_bytes, port, form, send_form, node_form, port_step}
+use Rattle.lin_core.specs.declared.port.PortId.{PortId}
+use Rattle.lin_core.specs.declared.port.PortId.TheVariants.{Bus, Host, Node}
+use Rattle.lin_core.specs.declared.step.Step.{Step}
+use Rattle.lin_core.specs.declared.step.Step.TheVariants.{Send, Open, Answer, Finish}
+use Rattle.lin_log.proofs.FieldLemmas.{IsWord, all_plain, plain, plain-append}
+
+guarded : (b : Bool) (x y : Option ℕ) (k l : ℕ) → (x ≡ Some k → y ≡ Some l) → (if b then x else None) ≡ Some k → (if b then y else None) ≡ Some l
+guarded true x y k l f e = f e
+guarded false x y k l f e = cc e
+
+number_after-push : (m : ℕ) (ds : List ℕ) (k c : ℕ) → is_ascii_digit c ≡ true → number_after m ds ≡ Some k
+    → number_after m (ds ++ c ∷ []) ≡ Some (k * 10 + (c - 48))
+number_after-push m [] k c h e = let f : m ≡ k = cc in rw (h, f) refl
+number_after-push m (d ∷ ds) k c h e =
+    guarded (nat_le 48 d && nat_le d 57) (number_after (m * 10 + (d - 48)) ds) (number_after (m * 10 + (d - 48)) (ds ++ c ∷ [])) k (k * 10 + (c - 48))
+    (λ f. number_after-push (m * 10 + (d - 48)) ds k c h f) e
+
+digit-of : (n : ℕ) → is_ascii_digit (48 + n % 10) ≡ true
+digit-of n = grind (arith, common_steps)
+
+one-digit : (k : ℕ) → k < 10 → number_after 0 ((48 + k) ∷ []) ≡ Some k
+one-digit k small =
+    let d : is_ascii_digit (48 + k) ≡ true = grind (arith, common_steps) in
+    rw d (ap Some (omega arith))
+
+pub after-decimal : (n : ℕ) → n < 2 ^ 64 → number_after 0 (decimal n) ≡ Some n
+after-decimal n h =
+    decimal_by_steps (λ k ds. number_after 0 ds ≡ Some k) (λ k small. one-digit k small) (λ k ds big ih. number_after-push 0 ds (k / 10) (48 + k % 10) (digit-of k) ih ∙ ap Some (omega arith)) n h
+
+pub word-decimal : (n : ℕ) → n < 2 ^ 64 → IsWord (decimal n)
+word-decimal n h =
+    decimal_by_steps (λ k ds. IsWord ds) (λ k small. record { some = omega arith; whole = grind (arith, common_steps) })
+    (λ k ds big ih. record { some = grind (arith, common_steps, ih.some); whole = plain-append ds ((48 + k % 10) ∷ []) ih.whole (grind (arith, common_steps)) }) n h
+
+pub number-decimal : (most n : ℕ) → n ≤ most → n < 2 ^ 32 → number most (decimal n) ≡ Some n
+number-decimal most n le small =
+    let some = (word-decimal n (omega arith)).some in
+    let short : length (decimal n) ≤ 10 = length-decimal-le 10 n (omega arith) (omega arith) (omega arith) in
+    let e = after-decimal n (omega arith) in
+    let a : nat_le 1 (length (decimal n)) ≡ true = grind (arith, common_steps) in
+    let b : nat_le (length (decimal n)) 10 ≡ true = grind (arith, common_steps) in
+    let d : nat_le n most ≡ true = grind (arith, common_steps) in
+    rw (a, b, e, d) refl
+
+and-false : (b : Bool) → (b && false) ≡ false
+and-false true = refl
+and-false false = refl
+
+hex-of_text : (w bs : List ℕ) → bytes_eq w (codes "-") ≡ false → (length w == 0) ≡ false → decode_of w ≡ Ok bs → hex_bytes w ≡ Some bs
+hex-of_text w bs n l e = rw (n, l, e) refl
+
+hex-not_dash : (b : ℕ) (bs : List ℕ) → (bytes_eq (encode_upper (b ∷ bs)) (codes "-") ≡ false) × ((length (encode_upper (b ∷ bs)) == 0) ≡ false) × (0 < length (encode_upper (b ∷ bs)))
+unfolding encode_with
+hex-not_dash b bs = (and-false _, grind (arith, common_steps), omega arith)
+
+pub hex-again : (bs : List ℕ) → IsBytes bs → hex_bytes (hex_word bs) ≡ Some bs
+hex-again [] h = refl
+hex-again (b ∷ bs) h =
+    let p = hex-not_dash b bs in
+    hex-of_text (encode_upper (b ∷ bs)) (b ∷ bs) p.0 p.1 (decode_of-encode_upper (b ∷ bs) h)
+
+pub plain-table : (t : List ℕ) (d : ℕ) → all_plain t ≡ true → plain (slice_index t d) ≡ true
+plain-table [] d h = refl
+plain-table (x ∷ t) zero h = (and_parts (plain x) (all_plain t) h).0
+plain-table (x ∷ t) (suc d) h = plain-table t d (and_parts (plain x) (all_plain t) h).1
+
+pub plain-hex : (bs : List ℕ) → all_plain (encode_upper bs) ≡ true
+unfolding encode_with
+plain-hex [] = refl
+plain-hex (b ∷ bs) = rw (plain-table upper_digits (b / 16) refl, plain-table upper_digits (b % 16) refl, plain-hex bs) refl
+
+pub word-hex : (bs : List ℕ) → IsWord (hex_word bs)
+word-hex [] = record { some = omega arith; whole = refl }
+word-hex (b ∷ bs) = record { some = (hex-not_dash b bs).2; whole = plain-hex (b ∷ bs) }
+
+plain-digits : (k n : ℕ) (acc : List ℕ) → all_plain acc ≡ true → all_plain (digits_onto k 10 false n acc) ≡ true
+plain-digits zero n acc h = h
+plain-digits (suc k) n acc h =
+    let g : plain (digit_glyph false (n % 10)) ≡ true = grind (arith, common_steps) in
+    let more : all_plain (digit_glyph false (n % 10) ∷ acc) ≡ true = rw (g, h) refl in
+    elim (n / 10 == 0) as (λ b. all_plain (if b then digit_glyph false (n % 10) ∷ acc else digits_onto k 10 false (n / 10) (digit_glyph false (n % 10) ∷ acc)) ≡ true) [
+      | true ↦ more
+      | false ↦ plain-digits k (n / 10) (digit_glyph false (n % 10) ∷ acc) more
+    ]
+
+pub plain-decimal : (n : ℕ) → all_plain (decimal n) ≡ true
+unfolding digits
+plain-decimal n = plain-digits 64 n [] refl
+
+-- ---- steps
+
+pub port-again : (p : PortId) → FitsPort p → port (port_word p) ≡ Some p
+unfolding port
+port-again Bus h = refl
+port-again (Host n) h = rw (number-decimal 255 n (omega arith) (omega arith)) refl
+port-again (Node n) h = rw (number-decimal 255 n (omega arith) (omega arith)) refl
+
+pub form-send : (from to : ℕ) (message : List ℕ) → FitsStep (Send from to message)
+    → form (codes "send") (decimal from ∷ decimal to ∷ hex_word message ∷ []) ≡ Some (Send from to message)
+unfolding form send_form
+form-send from to message h = rw (number-decimal 255 from (omega arith) (omega arith), number-decimal 255 to (omega arith) (omega arith), hex-again message h.2) refl
+
+pub form-answer : (node : ℕ) → FitsStep (Answer node) → form (codes "answer") (decimal node ∷ []) ≡ Some (Answer node)
+unfolding form node_form
+form-answer node h = rw (number-decimal 255 node (omega arith) (omega arith)) refl
+
+pub form-open : form (codes "open") [] ≡ Some Open
+unfolding form
+form-open = refl
+
+pub form-finish : form (codes "finish") [] ≡ Some Finish
+unfolding form
+form-finish = refl
+
+-- every step's words
+pub step-again : (p : PortId) (s : Step) → FitsPort p → FitsStep s → port_step (port_word p ∷ step_words s) ≡ Some (p, s)
+unfolding port_step
+step-again p (Send from to message) hp h = rw (port-again p hp, form-send from to message h) refl
+step-again p Open hp h = rw (port-again p hp, form-open) refl
+step-again p (Answer node) hp h = rw (port-again p hp, form-answer node h) refl
+step-again p Finish hp h = rw (port-again p hp, form-finish) refl

@@ -1,0 +1,7 @@
+pub mod Sinks
+pub mod Texts
+pub mod FieldLemmas
+pub mod Law
+pub mod Whole
+pub mod Runs
+pub mod Judging

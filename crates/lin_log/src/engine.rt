@@ -1,0 +1,78 @@
+//! A script, made and written.
+
+ghost use Rattle.std.specs.Prelude.{◌≡◌, ◌≤◌, ◌<◌, ◌^◌, ◌-◌, ◌++◌, ◌∷◌, [], length, IfOk, IfSome, OnOk};
+ghost use Rattle.lin_core.specs.Core.{IsAlike, IsDiagnostic, answered};
+ghost use Rattle.lin_log.specs.Replay.{IsReplay, log_of};
+
+use crate::entries::write_log;
+use crate::fault::{ReplayFault, ScriptFault};
+use crate::script::read_script;
+use lin_cluster::Cluster;
+use lin_core::{Core, Hold, PortId, Step};
+use std::alloc::{AllocError, Global};
+use std::io::{Read, Write};
+
+/// Makes one step and lets its entry be.
+fn make_step(core: &mut Core, by: PortId, step: Step) -> Result<(), AllocError>
+    requires { length core.old.log < 2 ^ 32 - 1 }
+    ensures made { OnOk result (core.new.log ≡ core.old.log ++ answered core.old by step ∷ []) }
+    ensures alike { IsAlike core.old core.new }
+{
+    match core.step(by, step) {
+        Ok(_) => Ok(()),
+        Err(Hold::OutOfMemory(_)) => Err(AllocError),
+        Err(Hold::LogFull(_)) => unreachable!(),
+    }
+}
+
+/// Makes the steps in order.
+fn make_steps(core: &mut Core, steps: Vec<(PortId, Step)>) -> Result<(), AllocError>
+    requires empty { core.old.log ≡ [] }
+    requires few { length steps.items ≤ 16777217 }
+    ensures log { OnOk result (core.new.log ≡ log_of core.old.cluster core.old.opening core.old.capacity steps.items) }
+    ensures alike { IsAlike core.old core.new }
+{
+    for (by, step) in steps {
+        make_step(core, by, step)?;
+    }
+    Ok(())
+}
+
+/// Reads a script, makes each of its steps on a new core, and writes the core's log.
+///
+/// The core begins with schedule table `table` of the cluster; each host may have `capacity` messages waiting, 1 to 1,024.
+///
+/// # Errors
+/// The cluster is dropped after each of them.
+/// - `Script` where the script isn't read; nothing was written;
+/// - `OutOfMemory`; nothing was written;
+/// - `WriteFailed`; what was written is the beginning of the text.
+pub fn replay<R: Read, W: Write>(
+    alloc: Global,
+    cluster: Cluster,
+    table: u16,
+    capacity: usize,
+    reader: &mut R,
+    writer: &mut W,
+) -> Result<Core, ReplayFault>
+    requires table { table < length cluster.tables }
+    requires capacity { (1 ≤ capacity) × (capacity ≤ 1024) }
+    requires diagnostic { IsDiagnostic cluster }
+    ensures text { IfSome (R.remaining reader.old) (λ bytes. IsReplay cluster table capacity (λ core. core.log) result bytes (W.contents writer.old) (W.contents writer.new)) }
+    ensures core { IfOk result (λ core. (core.cluster ≡ cluster) × (core.opening ≡ table) × (core.capacity ≡ capacity)) }
+{
+    let steps = match read_script(alloc, reader) {
+        Ok(steps) => steps,
+        Err(fault) => return Err(ReplayFault::Script(fault)),
+    };
+    let Ok(mut core) = Core::new(alloc, cluster, table, capacity) else {
+        return Err(ReplayFault::OutOfMemory);
+    };
+    if make_steps(&mut core, steps).is_err() {
+        return Err(ReplayFault::OutOfMemory);
+    }
+    if write_log(core.log(), writer).is_err() {
+        return Err(ReplayFault::WriteFailed);
+    }
+    Ok(core)
+}

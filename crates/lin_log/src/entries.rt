@@ -1,0 +1,243 @@
+//! Logs as text.
+
+ghost use Rattle.std.specs.Prelude.{◌≡◌, ◌∷◌, codes, flat_map, map};
+ghost use Rattle.lin_log.specs.Shown.{shown};
+ghost use Rattle.lin_log.specs.Sink.{Puts, WritesText};
+ghost use Rattle.lin_log.specs.Words.{entry_text, event_words, header_word, port_word, refusal_number, reply_line, reply_text, seen_words, step_line, text};
+
+use crate::fault::WriteFailed;
+use crate::sink::{Buffer, flush};
+use crate::words::{Word, put_line, put_reply_line};
+use lin_core::{Event, Log, LogEntry, PortId, Refusal, Reply, Seen, Step};
+use std::io::Write;
+
+fn word_of_port(port: PortId) -> Word<'static>
+    ensures { shown result ≡ port_word port }
+{
+    match port {
+        PortId::Bus => Word::Text("bus"),
+        PortId::Host(number) => Word::Host(number),
+        PortId::Node(number) => Word::Node(number),
+    }
+}
+
+fn put_step<W: Write>(
+    writer: &mut W,
+    buffer: &mut Buffer,
+    port: PortId,
+    step: &Step,
+) -> Result<(), WriteFailed>
+    ensures { Puts (W.contents writer.old) buffer.old.items (W.contents writer.new) buffer.new.items result (step_line port step.now) }
+{
+    let by = word_of_port(port);
+    match step {
+        Step::Send { from, to, message } => put_line(
+            writer,
+            buffer,
+            by,
+            &[
+                Word::Text("send"),
+                Word::Number(u32::from(*from)),
+                Word::Number(u32::from(*to)),
+                Word::Hex(message.as_slice()),
+            ],
+        ),
+        Step::Open => put_line(writer, buffer, by, &[Word::Text("open")]),
+        Step::Answer { node } => put_line(
+            writer,
+            buffer,
+            by,
+            &[Word::Text("answer"), Word::Number(u32::from(*node))],
+        ),
+        Step::Finish => put_line(writer, buffer, by, &[Word::Text("finish")]),
+    }
+}
+
+fn word_of_header(header: Option<u8>) -> Word<'static>
+    ensures { shown result ≡ header_word header }
+{
+    match header {
+        Some(pid) => Word::Byte(pid),
+        None => Word::Text("-"),
+    }
+}
+
+fn put_seen<W: Write>(writer: &mut W, buffer: &mut Buffer, seen: &Seen) -> Result<(), WriteFailed>
+    ensures { Puts (W.contents writer.old) buffer.old.items (W.contents writer.new) buffer.new.items result (reply_line (codes "seen" ∷ seen_words seen.now)) }
+{
+    match seen {
+        Seen::Silent => put_reply_line(writer, buffer, &[Word::Text("seen"), Word::Text("silent")]),
+        Seen::NoAnswer => put_reply_line(writer, buffer, &[Word::Text("seen"), Word::Text("none")]),
+        Seen::Good(answer) => put_reply_line(
+            writer,
+            buffer,
+            &[
+                Word::Text("seen"),
+                Word::Text("good"),
+                Word::Hex(answer.as_slice()),
+            ],
+        ),
+        Seen::Damaged => put_reply_line(
+            writer,
+            buffer,
+            &[Word::Text("seen"), Word::Text("damaged")],
+        ),
+        Seen::Collided => put_reply_line(
+            writer,
+            buffer,
+            &[Word::Text("seen"), Word::Text("collided")],
+        ),
+    }
+}
+
+fn put_event<W: Write>(
+    writer: &mut W,
+    buffer: &mut Buffer,
+    event: &Event,
+) -> Result<(), WriteFailed>
+    ensures { Puts (W.contents writer.old) buffer.old.items (W.contents writer.new) buffer.new.items result (reply_line (event_words event.now)) }
+{
+    match event {
+        Event::Accepted { host, number } => put_reply_line(
+            writer,
+            buffer,
+            &[
+                Word::Text("accepted"),
+                Word::Number(u32::from(*host)),
+                Word::Number(*number),
+            ],
+        ),
+        Event::Slot {
+            table,
+            entry,
+            header,
+        } => put_reply_line(
+            writer,
+            buffer,
+            &[
+                Word::Text("slot"),
+                Word::Number(u32::from(*table)),
+                Word::Number(u32::from(*entry)),
+                word_of_header(*header),
+            ],
+        ),
+        Event::Due { node } => put_reply_line(
+            writer,
+            buffer,
+            &[Word::Text("due"), Word::Number(u32::from(*node))],
+        ),
+        Event::Put { node, answer } => put_reply_line(
+            writer,
+            buffer,
+            &[
+                Word::Text("put"),
+                Word::Number(u32::from(*node)),
+                Word::Hex(answer.as_slice()),
+            ],
+        ),
+        Event::Seen(seen) => put_seen(writer, buffer, seen),
+        Event::Message { from, to, bytes } => put_reply_line(
+            writer,
+            buffer,
+            &[
+                Word::Text("message"),
+                Word::Number(u32::from(*from)),
+                Word::Number(u32::from(*to)),
+                Word::Hex(bytes.as_slice()),
+            ],
+        ),
+        Event::Sent { host, number } => put_reply_line(
+            writer,
+            buffer,
+            &[
+                Word::Text("sent"),
+                Word::Number(u32::from(*host)),
+                Word::Number(*number),
+            ],
+        ),
+    }
+}
+
+fn put_events<W: Write>(
+    writer: &mut W,
+    buffer: &mut Buffer,
+    events: &[Event],
+) -> Result<(), WriteFailed>
+    ensures { Puts (W.contents writer.old) buffer.old.items (W.contents writer.new) buffer.new.items result (flat_map (λ e. reply_line (event_words e)) events.now) }
+{
+    for event in events {
+        put_event(writer, buffer, event)?;
+    }
+    Ok(())
+}
+
+fn refusal_number(refusal: Refusal) -> u32
+    ensures { result ≡ refusal_number refusal }
+{
+    match refusal {
+        Refusal::NoSuchNode => 1,
+        Refusal::NoAddress => 6,
+        Refusal::BadLength => 7,
+        Refusal::QueueFull => 9,
+        Refusal::SlotOpen => 12,
+        Refusal::NoSlot => 13,
+        Refusal::NotYours => 14,
+        Refusal::Decided => 15,
+    }
+}
+
+#[tactic(auto, unfolding(crate::specs::Words::reply_text))]
+fn put_reply<W: Write>(
+    writer: &mut W,
+    buffer: &mut Buffer,
+    reply: &Reply,
+) -> Result<(), WriteFailed>
+    ensures { Puts (W.contents writer.old) buffer.old.items (W.contents writer.new) buffer.new.items result (reply_text reply.now) }
+{
+    match reply {
+        Reply::Done(events) => put_events(writer, buffer, events.as_slice()),
+        Reply::Refused(refusal) => put_reply_line(
+            writer,
+            buffer,
+            &[
+                Word::Text("refused"),
+                Word::Number(refusal_number(*refusal)),
+            ],
+        ),
+    }
+}
+
+fn put_entry<W: Write>(
+    writer: &mut W,
+    buffer: &mut Buffer,
+    entry: &LogEntry,
+) -> Result<(), WriteFailed>
+    ensures { Puts (W.contents writer.old) buffer.old.items (W.contents writer.new) buffer.new.items result (entry_text entry.now) }
+{
+    put_step(writer, buffer, entry.port, &entry.step)?;
+    put_reply(writer, buffer, &entry.reply)
+}
+
+fn put_entries<W: Write>(writer: &mut W, buffer: &mut Buffer, log: &Log) -> Result<(), WriteFailed>
+    ensures { Puts (W.contents writer.old) buffer.old.items (W.contents writer.new) buffer.new.items result (text log.now.entries) }
+{
+    for index in 0..log.len() {
+        put_entry(writer, buffer, log.entry(index))?;
+    }
+    Ok(())
+}
+
+/// Writes the text of a log: per entry the line of its port and step, then a line per event or the refusal.
+///
+/// It goes through a buffer of fixed size and takes no memory. The writer isn't flushed.
+///
+/// # Errors
+/// `WriteFailed` at the first error of the writer, an interrupted write too, and at the first write of 0 bytes.
+/// What was written then is the beginning of the text.
+pub fn write_log<W: Write>(log: &Log, writer: &mut W) -> Result<(), WriteFailed>
+    ensures { WritesText (W.contents writer.old) (W.contents writer.new) result (text log.now.entries) }
+{
+    let mut buffer = Buffer::new();
+    put_entries(writer, &mut buffer, log)?;
+    flush(writer, &mut buffer)
+}

@@ -1,0 +1,39 @@
+//! Why a script isn't read, a log isn't written, or a replay ends early.
+
+use thiserror::Error;
+
+/// Why a script gives no steps. Nothing but the reader has changed then.
+#[derive(Debug, Drop, Error)]
+pub enum ScriptFault {
+    /// The first line that is in no form, counted from 1 over all lines.
+    #[error("script {line} bad line")]
+    BadLine { line: u64 },
+    /// The text is longer than 16,777,216 bytes.
+    #[error("script too long")]
+    TooLong,
+    /// The reader answered an error; it was asked no second time.
+    #[error("read failed")]
+    ReadFailed,
+    #[error("out of memory")]
+    OutOfMemory,
+}
+
+/// The writer answered an error or took no byte; it was asked no second time.
+/// What it took before is the beginning of the text.
+#[derive(Clone, Copy, Debug, Drop, Error)]
+#[error("write failed")]
+pub struct WriteFailed;
+
+/// Why a replay gives no core.
+#[derive(Debug, Drop, Error)]
+pub enum ReplayFault {
+    /// The script wasn't read; nothing was written.
+    #[error(transparent)]
+    Script(ScriptFault),
+    /// Nothing was written.
+    #[error("out of memory")]
+    OutOfMemory,
+    /// What was written is the beginning of the text.
+    #[error("write failed")]
+    WriteFailed,
+}

@@ -1,0 +1,144 @@
+//! The fields of a script's line.
+
+ghost use Rattle.std.specs.Prelude.{◌≡◌, ◌<◌, ◌≤◌, ◌∷◌, ◌==◌, [], false, length, slice_index, take, MatchOption};
+ghost use Rattle.std.specs.List.{All};
+ghost use Rattle.lin_log.specs.Read.{Gives};
+ghost use Rattle.lin_log.specs.Script.{field_by, fields, hex_bytes, number, port};
+
+use hex::FromHexError;
+use lin_core::{Payload, PortId};
+use std::alloc::Global;
+
+/// A line is in no form, or there was no memory for its step.
+#[derive(Clone, Copy, Debug, Drop)]
+pub(crate) enum LineFault {
+    Bad,
+    OutOfMemory,
+}
+
+/// The number that 1 to 10 digits spell, if it is at most a limit.
+fn number(word: &[u8], most: u32) -> Option<u32>
+    ensures { result ≡ number most word.now }
+{
+    if word.is_empty() || word.len() > 10 {
+        return None;
+    }
+    let mut n = 0u64;
+    for c in word {
+        if !c.is_ascii_digit() {
+            return None;
+        }
+        n = n * 10 + u64::from(*c - b'0');
+    }
+    if n <= u64::from(most) {
+        Some(n as u32)
+    } else {
+        None
+    }
+}
+
+fn without_spaces(line: &[u8]) -> &[u8]
+    ensures same { fields result.now ≡ fields line.now }
+    ensures next { 0 < length result.now → (slice_index result.now 0 ≡ 32 → ⊥) }
+{
+    let mut rest = line;
+    while !rest.is_empty() && rest[0] == b' ' {
+        rest = &rest[1..];
+    }
+    rest
+}
+
+/// How many bytes stand before the first space.
+fn word_length(line: &[u8]) -> usize
+    ensures within { result ≤ length line.now }
+    ensures clean { All (λ x. (x == 32) ≡ false) (take result line.now) }
+    ensures ends { result < length line.now → slice_index line.now result ≡ 32 }
+{
+    let mut n = 0;
+    while n < line.len() && line[n] != b' ' {
+        n += 1;
+    }
+    n
+}
+
+/// The first field of a line, and what stands behind it.
+pub(crate) fn first_field(line: &[u8]) -> Option<(&[u8], &[u8])>
+    ensures { MatchOption result (fields line.now ≡ []) (λ x. fields line.now ≡ x.0.now ∷ fields x.1.now) }
+{
+    let rest = without_spaces(line);
+    if rest.is_empty() {
+        return None;
+    }
+    let end = word_length(rest);
+    Some(rest.split_at(end))
+}
+
+/// The number of a node, a host or a port.
+fn byte_number(word: &[u8]) -> Result<u8, LineFault>
+    ensures { Gives (λ x. x) result (number 255 word.now) }
+{
+    match number(word, 255) {
+        None => Err(LineFault::Bad),
+        Some(n) => Ok(n as u8),
+    }
+}
+
+/// A field that is the number of a node or a host.
+pub(crate) fn node_field(line: &[u8]) -> Result<(u8, &[u8]), LineFault>
+    ensures { Gives (λ x. (x.0, fields x.1.now)) result (field_by (number 255) (fields line.now)) }
+{
+    match first_field(line) {
+        None => Err(LineFault::Bad),
+        Some((word, rest)) => Ok((byte_number(word)?, rest)),
+    }
+}
+
+fn hex_bytes(alloc: Global, word: &[u8]) -> Result<Payload, LineFault>
+    ensures { Gives (λ x. x) result (hex_bytes word.now) }
+{
+    if word == b"-".as_slice() {
+        return Ok(Payload::new(Vec::new(alloc)));
+    }
+    if word.is_empty() {
+        return Err(LineFault::Bad);
+    }
+    match hex::decode(alloc, word) {
+        Ok(bytes) => Ok(Payload::new(bytes)),
+        Err(FromHexError::OutOfMemory) => Err(LineFault::OutOfMemory),
+        Err(_) => Err(LineFault::Bad),
+    }
+}
+
+/// A field that is bytes in hexadecimal digits, or `-` for none.
+pub(crate) fn hex_field(alloc: Global, line: &[u8]) -> Result<(Payload, &[u8]), LineFault>
+    ensures { Gives (λ x. (x.0, fields x.1.now)) result (field_by hex_bytes (fields line.now)) }
+{
+    match first_field(line) {
+        None => Err(LineFault::Bad),
+        Some((word, rest)) => Ok((hex_bytes(alloc, word)?, rest)),
+    }
+}
+
+#[tactic(auto, unfolding(crate::specs::Script::port))]
+fn port(word: &[u8]) -> Result<PortId, LineFault>
+    ensures { Gives (λ x. x) result (port word.now) }
+{
+    if word == b"bus".as_slice() {
+        return Ok(PortId::Bus);
+    }
+    match word {
+        [b'h', digits @ ..] => Ok(PortId::Host(byte_number(digits)?)),
+        [b'n', digits @ ..] => Ok(PortId::Node(byte_number(digits)?)),
+        _ => Err(LineFault::Bad),
+    }
+}
+
+/// A field that is a port.
+pub(crate) fn port_field(line: &[u8]) -> Result<(PortId, &[u8]), LineFault>
+    ensures { Gives (λ x. (x.0, fields x.1.now)) result (field_by port (fields line.now)) }
+{
+    match first_field(line) {
+        None => Err(LineFault::Bad),
+        Some((word, rest)) => Ok((port(word)?, rest)),
+    }
+}

@@ -1,0 +1,75 @@
+//! The command line.
+
+use crate::fault::Fault;
+use clap::{Arg, Command, value_parser};
+use std::alloc::{AllocError, Global};
+use std::io::{Error, ErrorKind};
+use std::process::ExitCode;
+
+const STATUS_NOTE: &str =
+    "Exit status: 0 done; 1 a fault of the input; 2 a wrong command line; 3 out of memory;\n4 a read or a write failed. A fault is one line on standard error.";
+
+const REPLAY_NOTE: &str =
+    "The cluster is the built-in one: the commander cem, the responder door with the diagnostic\naddress 1, and the schedule table diag with a master request and a slave response, 10 ms each.";
+
+const CHECK_NOTE: &str =
+    "A text of at most 4,194,304 bytes that is in order gives no output. Else its first fault is one line on\nstandard error: ldf LINE:COLUMN fault NUMBER NAME.";
+
+fn file<'a>(alloc: Global) -> Arg<'a> {
+    Arg::new(alloc, "file")
+        .value_name("FILE")
+        .required(true)
+        .help("The LDF file")
+}
+
+fn table<'a>(alloc: Global) -> Arg<'a> {
+    Arg::new(alloc, "table").long("table").value_name("T").help(
+        "The schedule table to begin with, by its name [default: the first one]",
+    )
+}
+
+fn capacity<'a>(alloc: Global) -> Arg<'a> {
+    Arg::new(alloc, "capacity")
+        .long("capacity")
+        .value_name("N")
+        .value_parser(value_parser!(u16).range(1..=1024))
+        .default_value("16")
+        .help("How many messages of a host may wait, 1 to 1024")
+}
+
+fn replay<'a>(alloc: Global) -> Result<Command<'a>, AllocError> {
+    Command::new(alloc, "replay")
+        .about(
+            "Makes the steps of a script from standard input, and writes the log on standard output",
+        )
+        .after_help(REPLAY_NOTE)
+        .arg(table(alloc))?
+        .arg(capacity(alloc))
+}
+
+fn check<'a>(alloc: Global) -> Result<Command<'a>, AllocError> {
+    Command::new(alloc, "check")
+        .about("Checks that a file is an LDF text, by its tokens and its grammar")
+        .after_help(CHECK_NOTE)
+        .arg(file(alloc))
+}
+
+/// What the program takes.
+pub(crate) fn command<'a>(alloc: Global) -> Result<Command<'a>, AllocError> {
+    Command::new(alloc, "linsim")
+        .version("0.1.0")
+        .about("Simulates a LIN cluster with its schedules and its diagnostic transport")
+        .after_help(STATUS_NOTE)
+        .subcommand_required(true)
+        .subcommand(check(alloc)?)?
+        .subcommand(replay(alloc)?)
+}
+
+/// The exit status where the words of the command line couldn't be read: for want of memory, or since one isn't UTF-8.
+pub(crate) fn unread<R: Eprint>(rt: &R, error: &Error) -> Result<ExitCode, Fault> {
+    if error.kind() == ErrorKind::OutOfMemory {
+        return Err(Fault::OutOfMemory);
+    }
+    let _ = eprintln!(rt; "error: an argument isn't valid UTF-8");
+    Ok(ExitCode::from(Fault::COMMAND_LINE))
+}

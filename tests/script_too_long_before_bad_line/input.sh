@@ -1,0 +1,2 @@
+echo bad
+head -c 16777217 /dev/zero | tr "\0" " "
