@@ -1,6 +1,0 @@
-//! Worked runs, each step's entry compared, and the refusals in their order.
-
-mod clusters;
-mod messages;
-mod refused;
-mod rows;
