@@ -97,7 +97,7 @@ pub struct Table {
 }
 
 /// The nodes (LIN 2.2A, section 9.2.2): the times are in microseconds.
-#[derive(Debug, Drop)]
+#[derive(Drop)]
 pub struct Nodes {
     pub master: Name,
     pub time_base: Number,
