@@ -1,5 +1,8 @@
 //! `linsim check`.
 
+ghost use Rattle.std.specs.Prelude.{◌≤◌, length, IfOk, IfSome};
+ghost use Rattle.linsim.specs.Reading.{IsUnread, ReadsAll};
+
 use crate::fault::Fault;
 use clap::ArgMatches;
 use lin_ldf::{LdfFault, parse};
@@ -11,7 +14,9 @@ use std::io::{Error, ErrorKind, Read};
 const LIMIT: usize = 4_194_304;
 
 /// What a failed open or read is to the user.
-fn unread(error: &Error) -> Fault {
+fn unread(error: &Error) -> Fault
+    ensures { IsUnread result }
+{
     if error.kind() == ErrorKind::OutOfMemory {
         Fault::OutOfMemory
     } else {
@@ -21,7 +26,10 @@ fn unread(error: &Error) -> Fault {
 
 /// The bytes that a reader gives up to its end. A fault is that they are more than the limit, want of memory, or an error of the reader,
 /// which is tried once.
-fn read_all<R: Read>(alloc: Global, reader: &mut R) -> Result<Vec<u8>, Fault> {
+fn read_all<R: Read>(alloc: Global, reader: &mut R) -> Result<Vec<u8>, Fault>
+    ensures bytes { IfSome (R.remaining reader.old) (λ bytes. ReadsAll (λ v. v.items) result bytes) }
+    ensures short { IfOk result (λ v. length v.items ≤ 4194304) }
+{
     let mut bytes = Vec::new(alloc);
     let mut buffer = [0u8; 65536];
     for _ in 0..=LIMIT {
@@ -32,10 +40,12 @@ fn read_all<R: Read>(alloc: Global, reader: &mut R) -> Result<Vec<u8>, Fault> {
         if count == 0 {
             return Ok(bytes);
         }
-        if count > LIMIT.saturating_sub(bytes.len()) {
+        if count > LIMIT - bytes.len() {
             return Err(Fault::LdfTooLong);
         }
-        bytes.extend_from_slice(&buffer[..count])?;
+        if bytes.extend_from_slice(&buffer[..count]).is_err() {
+            return Err(Fault::OutOfMemory);
+        }
     }
     Err(Fault::LdfTooLong)
 }
