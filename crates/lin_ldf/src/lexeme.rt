@@ -2,7 +2,7 @@
 
 ghost use Rattle.std.specs.Prelude.{◌≡◌, IfOk};
 ghost use Rattle.lin_ldf.specs.Symbols.{symbol};
-ghost use Rattle.lin_ldf.specs.Words.{name_of};
+ghost use Rattle.lin_ldf.specs.Words.{name_of, place_of};
 
 use crate::description::Name;
 use crate::lists::Text;
@@ -20,7 +20,9 @@ pub struct Lexeme<'a> {
 }
 
 impl<'a> Lexeme<'a> {
-    pub fn place(&self) -> Place {
+    pub fn place(&self) -> Place
+        ensures { result ≡ place_of (symbol self.now) }
+    {
         Place {
             line: self.line,
             column: self.column,

@@ -40,10 +40,26 @@ fn spelled(alloc: Global, source: &[u8]) -> Result<Vec<u8>, Fail> {
     Ok(out)
 }
 
-fn expect_spelled(rt: &impl Abort, alloc: Global, cases: &[(&[u8], &[u8])]) -> Result<(), Fail> {
-    for (source, want) in cases {
-        let found = spelled(alloc, source)?;
-        assert_eq!(rt; found.as_slice(), *want, "tokens of {source:?}");
+/// A case is a text and, behind an arrow, its tokens or its fault.
+fn expect_case(rt: &impl Abort, alloc: Global, case: &str) -> Result<(), Fail> {
+    let (source, want) = case.split_once(" => ").ok_or("no arrow")?;
+    let found = spelled(alloc, source.as_bytes())?;
+    assert_eq!(rt; found.as_slice(), want.as_bytes(), "tokens of {source}");
+    Ok(())
+}
+
+/// A case on each line.
+fn expect_lines(rt: &impl Abort, alloc: Global, cases: &str) -> Result<(), Fail> {
+    for case in cases.lines() {
+        expect_case(rt, alloc, case)?;
+    }
+    Ok(())
+}
+
+/// Cases of several lines, with a line of hyphens between them.
+fn expect_blocks(rt: &impl Abort, alloc: Global, cases: &str) -> Result<(), Fail> {
+    for case in cases.split("\n---\n") {
+        expect_case(rt, alloc, case)?;
     }
     Ok(())
 }
@@ -113,58 +129,86 @@ const BUILT_IN: &str = "1:1 0..20 wLIN_description_file
 7:74 303..304 }}
 ";
 
+/// A token as a line of the list above.
+fn listed(alloc: Global, source: &[u8], token: &Token) -> Result<String, Fail> {
+    let Token {
+        kind,
+        start,
+        end,
+        line,
+        column,
+    } = token;
+    let text = std::str::from_utf8(source.get(*start..*end).unwrap_or(b"")).unwrap_or("");
+    let kind = letter(*kind) as char;
+    Ok(format!(in alloc; "{line}:{column} {start}..{end} {kind}{text}")?)
+}
+
+fn expect_tokens(rt: &impl Abort, alloc: Global, source: &[u8], lines: &str) -> Result<(), Fail> {
+    let tokens = lex(alloc, source)?;
+    assert_eq!(rt; tokens.len(), lines.lines().count());
+    for (token, line) in tokens.iter().zip(lines.lines()) {
+        assert_eq!(rt; listed(alloc, source, token)?.as_str(), line);
+    }
+    Ok(())
+}
+
 #[test]
 fn built_in_cluster(rt: HostRuntime) -> Result<(), Fail> {
-    let tokens = lex(rt.alloc(), DOOR_CLUSTER)?;
-    assert_eq!(rt; tokens.len(), BUILT_IN.lines().count());
-    for (token, line) in tokens.iter().zip(BUILT_IN.lines()) {
-        let Token {
-            kind,
-            start,
-            end,
-            line: at,
-            column,
-        } = token;
-        let text = std::str::from_utf8(DOOR_CLUSTER.get(*start..*end).unwrap_or(b"")).unwrap_or("");
-        let found = format!(in rt.alloc();
-            "{at}:{column} {start}..{end} {}{}",
-            letter(*kind) as char,
-            text
-        )?;
-        assert_eq!(rt; found.as_str(), line);
-    }
+    expect_tokens(&rt, rt.alloc(), DOOR_CLUSTER, BUILT_IN)
+}
+
+fn expect_some(rt: &impl Abort, alloc: Global, source: &[u8]) -> Result<(), Fail> {
+    assert!(rt; !lex(alloc, source)?.is_empty());
     Ok(())
 }
 
 #[test]
 fn other_clusters(rt: HostRuntime) -> Result<(), Fail> {
-    for source in [KEYS_CLUSTER, LIGHT_AND_FAN_CLUSTER, BODY_CLUSTER] {
-        assert!(rt; !lex(rt.alloc(), source)?.is_empty());
+    expect_some(&rt, rt.alloc(), KEYS_CLUSTER)?;
+    expect_some(&rt, rt.alloc(), LIGHT_AND_FAN_CLUSTER)?;
+    expect_some(&rt, rt.alloc(), BODY_CLUSTER)
+}
+
+/// The same tokens, three bytes further on.
+fn expect_moved(rt: &impl Abort, alloc: Global, source: &[u8], marked: &[u8]) -> Result<(), Fail> {
+    let tokens = lex(alloc, source)?;
+    let moved = lex(alloc, marked)?;
+    assert_eq!(rt; moved.len(), tokens.len());
+    for (a, b) in tokens.iter().zip(moved.iter()) {
+        assert_eq!(rt; (a.kind, a.line, a.column), (b.kind, b.line, b.column));
+        assert_eq!(rt;
+            (b.start.checked_sub(3), b.end.checked_sub(3)),
+            (Some(a.start), Some(a.end))
+        );
     }
     Ok(())
 }
+
+/// Marks at places where they are none.
+const MARKS: &str = "\u{FEFF} => 
+\u{FEFF}\0 => 1:1 fault 1 BadByte
+\u{FEFF}\u{FEFF} => 1:1 fault 1 BadByte
+a \u{FEFF} => 1:3 fault 1 BadByte
+";
 
 #[test]
 fn byte_order_mark(rt: HostRuntime) -> Result<(), Fail> {
     let mut marked = b"\xEF\xBB\xBF".to_vec(rt.alloc())?;
     marked.extend_from_slice(DOOR_CLUSTER)?;
-    let tokens = lex(rt.alloc(), DOOR_CLUSTER)?;
-    let behind = lex(rt.alloc(), &marked)?;
-    assert_eq!(rt; behind.len(), tokens.len());
-    for (a, b) in tokens.iter().zip(behind.iter()) {
-        assert_eq!(rt; (a.kind, a.line, a.column), (b.kind, b.line, b.column));
-        assert_eq!(rt; b.start.checked_sub(3), Some(a.start));
-        assert_eq!(rt; b.end.checked_sub(3), Some(a.end));
-    }
-    let cases: [(&[u8], &[u8]); 6] = [
-        (b"\xEF\xBB\xBF", b""),
-        (b"\xEF\xBB\xBF\x00", b"1:1 fault 1 BadByte"),
-        (b"\xEF\xBB\xBF\xEF\xBB\xBF", b"1:1 fault 1 BadByte"),
-        (b"\xEF\xBB", b"1:1 fault 1 BadByte"),
-        (b"a \xEF\xBB\xBF", b"1:3 fault 1 BadByte"),
-        (b"\xBF", b"1:1 fault 1 BadByte"),
-    ];
-    expect_spelled(&rt, rt.alloc(), &cases)
+    expect_moved(&rt, rt.alloc(), DOOR_CLUSTER, &marked)?;
+    expect_lines(&rt, rt.alloc(), MARKS)
+}
+
+fn expect_bad_byte(rt: &impl Abort, alloc: Global, source: &[u8]) -> Result<(), Fail> {
+    let found = spelled(alloc, source)?;
+    assert_eq!(rt; found.as_slice(), b"1:1 fault 1 BadByte".as_slice());
+    Ok(())
+}
+
+#[test]
+fn parts_of_the_mark(rt: HostRuntime) -> Result<(), Fail> {
+    expect_bad_byte(&rt, rt.alloc(), b"\xEF\xBB")?;
+    expect_bad_byte(&rt, rt.alloc(), b"\xBF")
 }
 
 /// Texts and their tokens.
@@ -206,27 +250,42 @@ a\"b\"c => wa t\"b\" wc
 \"a\\\"b => t\"a\\\" wb
 ";
 
+/// Texts of several lines, and texts with bytes that stand in comments and texts alone.
+const FORMS_OF_LINES: &str = " => 
+---
+ \t\r\n => 
+---
+a\rb\tc
+d e => wa wb wc wd we
+---
+// => 
+---
+// a /* b
+c => wc
+---
+//\\
+a => wa
+---
+// a\rb
+c => wc
+---
+///*
+a => wa
+---
+// \0\u{80}\u{FF} \"
+a => wa
+---
+/* \0\u{80}\u{FF} \" // 
+ */a => wa
+---
+\"\0\u{80}\u{FF}
+\"a => t\"\0\u{80}\u{FF}
+\" wa";
+
 #[test]
 fn forms(rt: HostRuntime) -> Result<(), Fail> {
-    for line in FORMS.lines() {
-        let (source, want) = line.split_once(" => ").ok_or("no arrow")?;
-        let found = spelled(rt.alloc(), source.as_bytes())?;
-        assert_eq!(rt; found.as_slice(), want.as_bytes(), "tokens of {source}");
-    }
-    let cases: [(&[u8], &[u8]); 11] = [
-        (b"", b""),
-        (b" \t\r\n", b""),
-        (b"a\rb\tc\nd e", b"wa wb wc wd we"),
-        (b"//", b""),
-        (b"// a /* b\nc", b"wc"),
-        (b"//\\\na", b"wa"),
-        (b"// a\rb\nc", b"wc"),
-        (b"///*\na", b"wa"),
-        (b"// \x00\x80\xFF \"\na", b"wa"),
-        (b"/* \x00\x80\xFF \" // \n */a", b"wa"),
-        (b"\"\x00\x80\xFF\n\"a", b"t\"\x00\x80\xFF\n\" wa"),
-    ];
-    expect_spelled(&rt, rt.alloc(), &cases)
+    expect_lines(&rt, rt.alloc(), FORMS)?;
+    expect_blocks(&rt, rt.alloc(), FORMS_OF_LINES)
 }
 
 /// Texts and their faults.
@@ -242,72 +301,90 @@ LIN_description_file; /* x => 1:23 fault 2 OpenComment
 \"/* => 1:1 fault 3 OpenText
 ";
 
+/// Texts of several lines: CR takes a column, LF alone ends a line, also in texts and comments. The first fault from the
+/// left.
+const FAULTS_OF_LINES: &str = "LIN_description_file\u{80} => 1:21 fault 1 BadByte
+---
+a\r\x0B => 1:3 fault 1 BadByte
+---
+\r
+ \x0C => 2:2 fault 1 BadByte
+---
+\t\x1A => 1:2 fault 1 BadByte
+---
+\"
+
+ x\" \u{80} => 3:5 fault 1 BadByte
+---
+/*
+*/\u{80} => 2:3 fault 1 BadByte
+---
+\"\u{80}\"\u{80} => 1:5 fault 1 BadByte
+---
+//\u{80}
+
+\x7F => 3:1 fault 1 BadByte
+---
+\"/*\u{80} => 1:1 fault 3 OpenText
+---
+\u{80}\" => 1:1 fault 1 BadByte
+---
+} ; 1
+ 0x\u{80} /* \" => 2:4 fault 1 BadByte";
+
 #[test]
 fn faults(rt: HostRuntime) -> Result<(), Fail> {
-    for line in FAULTS.lines() {
-        let (source, want) = line.split_once(" => ").ok_or("no arrow")?;
-        let found = spelled(rt.alloc(), source.as_bytes())?;
-        assert_eq!(rt; found.as_slice(), want.as_bytes(), "fault of {source}");
+    expect_lines(&rt, rt.alloc(), FAULTS)?;
+    expect_blocks(&rt, rt.alloc(), FAULTS_OF_LINES)
+}
+
+/// The kind of a byte that is a token alone; `?` is for a bad byte.
+fn kind_alone(c: u8) -> u8 {
+    match c {
+        0..=31 | 127..=255 => b'?',
+        b'a'..=b'z' | b'A'..=b'Z' | b'_' => b'w',
+        b'0'..=b'9' => b'n',
+        b'{' | b'}' | b':' | b';' | b',' | b'=' => c,
+        _ => b'o',
     }
-    let cases: [(&[u8], &[u8]); 11] = [
-        (b"LIN_description_file\x80", b"1:21 fault 1 BadByte"),
-        // CR takes a column, LF alone ends a line
-        (b"a\r\x0B", b"1:3 fault 1 BadByte"),
-        (b"\r\n \x0C", b"2:2 fault 1 BadByte"),
-        (b"\t\x1A", b"1:2 fault 1 BadByte"),
-        // lines and columns go on in texts and comments
-        (b"\"\n\n x\" \x80", b"3:5 fault 1 BadByte"),
-        (b"/*\n*/\x80", b"2:3 fault 1 BadByte"),
-        (b"\"\x80\x80\"\x80", b"1:5 fault 1 BadByte"),
-        (b"//\x80\n\n\x7F", b"3:1 fault 1 BadByte"),
-        // the first from the left
-        (b"\"/*\x80", b"1:1 fault 3 OpenText"),
-        (b"\x80\"", b"1:1 fault 1 BadByte"),
-        (b"} ; 1\n 0x\x80 /* \"", b"2:4 fault 1 BadByte"),
-    ];
-    expect_spelled(&rt, rt.alloc(), &cases)
+}
+
+fn expect_alone(rt: &impl Abort, alloc: Global, c: u8) -> Result<(), Fail> {
+    let found = spelled(alloc, &[c])?;
+    let token = [kind_alone(c), c];
+    let want: &[u8] = match c {
+        b' ' | b'\t' | b'\r' | b'\n' => b"",
+        b'"' => b"1:1 fault 3 OpenText",
+        _ if kind_alone(c) == b'?' => b"1:1 fault 1 BadByte",
+        _ => &token,
+    };
+    assert_eq!(rt; found.as_slice(), want, "tokens of byte {c}");
+    Ok(())
 }
 
 #[test]
 fn every_byte_alone(rt: HostRuntime) -> Result<(), Fail> {
     for c in 0..=255u8 {
-        let found = spelled(rt.alloc(), &[c])?;
-        let kind = match c {
-            b' ' | b'\t' | b'\r' | b'\n' => {
-                assert!(rt; found.is_empty());
-                continue;
-            }
-            0..=31 | 127..=255 => {
-                assert_eq!(rt; found.as_slice(), b"1:1 fault 1 BadByte".as_slice());
-                continue;
-            }
-            b'"' => {
-                assert_eq!(rt; found.as_slice(), b"1:1 fault 3 OpenText".as_slice());
-                continue;
-            }
-            b'a'..=b'z' | b'A'..=b'Z' | b'_' => b'w',
-            b'0'..=b'9' => b'n',
-            b'{' | b'}' | b':' | b';' | b',' | b'=' => c,
-            _ => b'o',
-        };
-        assert_eq!(rt; found.as_slice(), [kind, c].as_slice());
+        expect_alone(&rt, rt.alloc(), c)?;
     }
+    Ok(())
+}
+
+fn expect_last(rt: &impl Abort, alloc: Global, source: &[u8], column: u64) -> Result<(), Fail> {
+    let tokens = lex(alloc, source)?;
+    let last = tokens.last().ok_or("no token")?;
+    assert_eq!(rt; tokens.len(), source.len());
+    assert_eq!(rt;
+        (last.end, last.line, last.column),
+        (source.len(), 1, column)
+    );
     Ok(())
 }
 
 #[test]
 fn long_texts(rt: HostRuntime) -> Result<(), Fail> {
     let braces = vec![in rt.alloc(); b'{'; 4_194_304]?;
-    let tokens = lex(rt.alloc(), &braces)?;
-    assert_eq!(rt; tokens.len(), 4_194_304);
-    assert_eq!(rt;
-        tokens.last().map(|t| (t.start, t.end, t.line, t.column)),
-        Some((4_194_303, 4_194_304, 1, 4_194_304))
-    );
+    expect_last(&rt, rt.alloc(), &braces, 4_194_304)?;
     let nul = vec![in rt.alloc(); 0u8; 1_000_000]?;
-    assert_eq!(rt;
-        spelled(rt.alloc(), &nul)?.as_slice(),
-        b"1:1 fault 1 BadByte".as_slice()
-    );
-    Ok(())
+    expect_bad_byte(&rt, rt.alloc(), &nul)
 }

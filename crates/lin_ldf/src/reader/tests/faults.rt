@@ -47,30 +47,33 @@ fn changed(alloc: Global, change: &str) -> Result<Vec<u8>, Fail> {
     joined(alloc, &[front.as_bytes(), new.as_bytes(), back.as_bytes()])
 }
 
-#[test]
-fn ldf_text(rt: HostRuntime) -> Result<(), Fail> {
-    expect_outcomes(&rt, rt.alloc(), b"", TEXTS)?;
-    for line in CHANGES.lines() {
+fn expect_changes(rt: &impl Abort, alloc: Global, cases: &str) -> Result<(), Fail> {
+    for line in cases.lines() {
         let (change, want) = line.split_once(" => ").ok_or("no arrow")?;
-        let found = outcome(rt.alloc(), &changed(rt.alloc(), change)?)?;
+        let found = outcome(alloc, &changed(alloc, change)?)?;
         assert_eq!(rt; found.as_slice(), want.as_bytes(), "outcome of {change}");
     }
     Ok(())
 }
 
+#[test]
+fn ldf_text(rt: HostRuntime) -> Result<(), Fail> {
+    expect_outcomes(&rt, rt.alloc(), b"", TEXTS)?;
+    expect_changes(&rt, rt.alloc(), CHANGES)
+}
+
 /// Texts that end behind a separator or a comment.
 #[test]
 fn end_of_the_text(rt: HostRuntime) -> Result<(), Fail> {
-    let cases: [(&[u8], &[u8]); 4] = [
-        (b"\n", b"2:1 fault 4 Unexpected"),
-        (b" \t", b"1:3 fault 4 Unexpected"),
-        (b"// x\n", b"2:1 fault 4 Unexpected"),
-        (b"LIN_description_file;\n", b"2:1 fault 4 Unexpected"),
-    ];
-    for (text, want) in cases {
-        assert_eq!(rt; outcome(rt.alloc(), text)?.as_slice(), want);
-    }
-    Ok(())
+    expect_outcomes(&rt, rt.alloc(), b"\n", " => 2:1 fault 4 Unexpected")?;
+    expect_outcomes(&rt, rt.alloc(), b" \t", " => 1:3 fault 4 Unexpected")?;
+    expect_outcomes(&rt, rt.alloc(), b"// x\n", " => 2:1 fault 4 Unexpected")?;
+    expect_outcomes(
+        &rt,
+        rt.alloc(),
+        b"LIN_description_file;\n",
+        " => 2:1 fault 4 Unexpected",
+    )
 }
 
 /// Sections in any order, each used one once.

@@ -46,28 +46,36 @@ fn wanted(
     Ok(out)
 }
 
+fn expect_gap(
+    rt: &impl Abort,
+    alloc: Global,
+    source: &[u8],
+    tokens: &[Token],
+    gap: usize,
+    letter: u8,
+) -> Result<(), Fail> {
+    let token = tokens.get(gap).ok_or("no token")?;
+    let found = outcome(alloc, &without(alloc, source, token)?)?;
+    let want = wanted(alloc, tokens, gap, letter, end_of(source))?;
+    assert_eq!(rt; found.as_slice(), want.as_slice(), "without token {gap}");
+    Ok(())
+}
+
 /// Each token behind the front lacks in turn.
 fn expect_gaps(
     rt: &impl Abort,
     alloc: Global,
     front: &[u8],
-    production: &str,
-    letters: &str,
+    production: &[u8],
+    letters: &[u8],
 ) -> Result<(), Fail> {
-    let source = joined(alloc, &[front, production.as_bytes()])?;
+    let source = joined(alloc, &[front, production])?;
     let before = lex(alloc, front)?.len();
     let tokens = lex(alloc, &source)?;
-    let tokens = tokens.get(before..).ok_or("no production")?;
-    let end = end_of(&source);
-    assert_eq!(rt; tokens.len(), letters.len(), "letters of {production}");
-    for (i, (gap, letter)) in tokens.iter().zip(letters.as_bytes()).enumerate() {
-        let found = outcome(alloc, &without(alloc, &source, gap)?)?;
-        let want = wanted(alloc, tokens, i, *letter, end)?;
-        assert_eq!(rt;
-            found.as_slice(),
-            want.as_slice(),
-            "without token {i} of {production}"
-        );
+    let tokens = tokens.get(before..).unwrap_or(&[]);
+    assert_eq!(rt; tokens.len(), letters.len());
+    for (gap, letter) in letters.iter().enumerate() {
+        expect_gap(rt, alloc, &source, tokens, gap, *letter)?;
     }
     Ok(())
 }
@@ -75,7 +83,7 @@ fn expect_gaps(
 fn expect_all_gaps(rt: &impl Abort, alloc: Global, front: &[u8], cases: &str) -> Result<(), Fail> {
     for line in cases.lines() {
         let (production, letters) = line.split_once(" => ").ok_or("no arrow")?;
-        expect_gaps(rt, alloc, front, production, letters)?;
+        expect_gaps(rt, alloc, front, production.as_bytes(), letters.as_bytes())?;
     }
     Ok(())
 }
@@ -102,27 +110,33 @@ fn tokens_that_lack(rt: HostRuntime) -> Result<(), Fail> {
     expect_all_gaps(&rt, rt.alloc(), HEADER, SECTIONS)
 }
 
+/// What the outcome ends with where the text is its first `length` bytes; it is accepted up to the last brace
+/// of its lines 5, 6 and 7, and up to their ends.
+fn wanted_end(length: usize, is_open_text: bool) -> &'static [u8] {
+    match length {
+        155 | 156 | 229 | 230 | 304 | 305 => b"accepted",
+        _ if is_open_text => b" fault 3 OpenText",
+        _ => b" fault 4 Unexpected",
+    }
+}
+
+fn expect_end(rt: &impl Abort, alloc: Global, text: &[u8], is_open_text: bool) -> Result<(), Fail> {
+    let found = outcome(alloc, text)?;
+    let length = text.len();
+    assert!(rt;
+        found.ends_with(wanted_end(length, is_open_text)),
+        "of {length} bytes"
+    );
+    Ok(())
+}
+
 #[test]
 fn beginnings_of_a_text(rt: HostRuntime) -> Result<(), Fail> {
-    // how long the text is up to the last brace of its lines 5, 6 and 7
-    let lengths: [usize; 3] = [155, 229, 304];
-    let mut accepted = 0u32;
-    for n in 0..=DOOR_CLUSTER.len() {
-        let text = DOOR_CLUSTER.get(..n).unwrap_or(b"");
-        let found = outcome(rt.alloc(), text)?;
-        let quotes = text.iter().filter(|c| **c == b'"').count();
-        if lengths
-            .iter()
-            .any(|length| *length == n || *length == n.saturating_sub(1))
-        {
-            assert_eq!(rt; found.as_slice(), b"accepted".as_slice(), "of {n} bytes");
-            accepted = accepted.saturating_add(1);
-        } else if quotes % 2 == 1 {
-            assert!(rt; found.ends_with(b" fault 3 OpenText"), "of {n} bytes");
-        } else {
-            assert!(rt; found.ends_with(b" fault 4 Unexpected"), "of {n} bytes");
-        }
+    let mut is_open_text = false;
+    for (i, c) in DOOR_CLUSTER.iter().enumerate() {
+        let text = DOOR_CLUSTER.get(..i).unwrap_or(b"");
+        expect_end(&rt, rt.alloc(), text, is_open_text)?;
+        is_open_text = is_open_text != (*c == b'"');
     }
-    assert_eq!(rt; accepted, 6);
-    Ok(())
+    expect_end(&rt, rt.alloc(), DOOR_CLUSTER, is_open_text)
 }

@@ -8,35 +8,36 @@ use crate::sample_texts::{BODY_CLUSTER, DOOR_CLUSTER, KEYS_CLUSTER, LIGHT_AND_FA
 
 const BYTE_ORDER_MARK: &[u8] = b"\xEF\xBB\xBF";
 
+/// The text is read, behind a byte-order mark too.
+fn expect_read(rt: &impl Abort, alloc: Global, text: &[u8]) -> Result<(), Fail> {
+    expect_outcomes(rt, alloc, text, " => accepted")?;
+    let marked = joined(alloc, &[BYTE_ORDER_MARK, text])?;
+    expect_outcomes(rt, alloc, &marked, " => accepted")
+}
+
 #[test]
 fn sample_clusters(rt: HostRuntime) -> Result<(), Fail> {
-    for text in [
-        DOOR_CLUSTER,
-        KEYS_CLUSTER,
-        LIGHT_AND_FAN_CLUSTER,
-        BODY_CLUSTER,
-        DOOR_MODULE,
-    ] {
-        assert_eq!(rt;
-            outcome(rt.alloc(), text)?.as_slice(),
-            b"accepted".as_slice()
-        );
-        // behind a byte-order mark too
-        let marked = joined(rt.alloc(), &[BYTE_ORDER_MARK, text])?;
-        assert_eq!(rt;
-            outcome(rt.alloc(), &marked)?.as_slice(),
-            b"accepted".as_slice()
-        );
-    }
-    assert_eq!(rt;
-        outcome(rt.alloc(), BYTE_ORDER_MARK)?.as_slice(),
-        b"1:1 fault 4 Unexpected".as_slice()
-    );
-    assert_eq!(rt;
-        outcome(rt.alloc(), b"LIN_description_file\x80")?.as_slice(),
-        b"1:21 fault 1 BadByte".as_slice()
-    );
-    Ok(())
+    expect_read(&rt, rt.alloc(), DOOR_CLUSTER)?;
+    expect_read(&rt, rt.alloc(), KEYS_CLUSTER)?;
+    expect_read(&rt, rt.alloc(), LIGHT_AND_FAN_CLUSTER)?;
+    expect_read(&rt, rt.alloc(), BODY_CLUSTER)?;
+    expect_read(&rt, rt.alloc(), DOOR_MODULE)
+}
+
+#[test]
+fn faults_of_tokens(rt: HostRuntime) -> Result<(), Fail> {
+    expect_outcomes(
+        &rt,
+        rt.alloc(),
+        BYTE_ORDER_MARK,
+        " => 1:1 fault 4 Unexpected",
+    )?;
+    expect_outcomes(
+        &rt,
+        rt.alloc(),
+        b"LIN_description_file\x80",
+        " => 1:21 fault 1 BadByte",
+    )
 }
 
 fn list_name(alloc: Global, out: &mut Vec<u8>, label: &str, name: &Name) -> Result<(), Fail> {
@@ -149,31 +150,35 @@ fn list_sporadic(alloc: Global, out: &mut Vec<u8>, frame: &Sporadic) -> Result<(
 }
 
 /// Each declaration in file order, with the places of its names and numbers.
+fn listing(alloc: Global, d: &Description) -> Result<Vec<u8>, Fail> {
+    let mut out = Vec::new(alloc);
+    list_nodes(alloc, &mut out, d)?;
+    for signal in d.signals() {
+        list_signal(alloc, &mut out, signal)?;
+    }
+    for frame in d.frames() {
+        list_frame(alloc, &mut out, frame)?;
+    }
+    for frame in d.sporadic() {
+        list_sporadic(alloc, &mut out, frame)?;
+    }
+    for event in d.events() {
+        list_event(alloc, &mut out, event)?;
+    }
+    for block in d.attributes() {
+        list_attributes(alloc, &mut out, block)?;
+    }
+    for table in d.tables() {
+        list_table(alloc, &mut out, table)?;
+    }
+    Ok(out)
+}
+
 #[test]
 fn declarations(rt: HostRuntime) -> Result<(), Fail> {
     let source = joined(rt.alloc(), &[HEADER, DECLARATIONS])?;
     let d = parse(rt.alloc(), &source)?;
-    let mut out = Vec::new(rt.alloc());
-    list_nodes(rt.alloc(), &mut out, &d)?;
-    for signal in d.signals() {
-        list_signal(rt.alloc(), &mut out, signal)?;
-    }
-    for frame in d.frames() {
-        list_frame(rt.alloc(), &mut out, frame)?;
-    }
-    for frame in d.sporadic() {
-        list_sporadic(rt.alloc(), &mut out, frame)?;
-    }
-    for event in d.events() {
-        list_event(rt.alloc(), &mut out, event)?;
-    }
-    for block in d.attributes() {
-        list_attributes(rt.alloc(), &mut out, block)?;
-    }
-    for table in d.tables() {
-        list_table(rt.alloc(), &mut out, table)?;
-    }
-    assert_eq!(rt; out.as_slice(), LISTING);
+    assert_eq!(rt; listing(rt.alloc(), &d)?.as_slice(), LISTING);
     Ok(())
 }
 
