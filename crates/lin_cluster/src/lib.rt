@@ -2,6 +2,7 @@
 #![tactic(auto)]
 
 mod cluster;
+mod finding;
 mod parts;
 mod preset;
 mod rules;
@@ -9,5 +10,6 @@ mod rules;
 mod tests;
 
 pub use cluster::Cluster;
+pub use finding::{CheckFault, Finding};
 pub use parts::{Entry, EventFrame, Line, Node, Parts, Signal, SignalFrame, Table};
 pub use preset::built_in;
