@@ -1,5 +1,9 @@
+pub mod Enumerated
+pub mod FindingsRows
 pub mod Identifiers
 pub mod Limits
+pub mod Named
+pub mod NothingFound
+pub mod NothingIn
 pub mod Pairs
 pub mod SoundClusters
-pub mod FindingsRows

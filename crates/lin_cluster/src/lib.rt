@@ -2,6 +2,7 @@
 #![tactic(auto)]
 
 mod cluster;
+mod described;
 mod finding;
 mod parts;
 mod preset;
