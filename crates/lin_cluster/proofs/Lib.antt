@@ -2,4 +2,5 @@ pub mod Identifiers
 pub mod Limits
 pub mod Pairs
 pub mod SoundClusters
+pub mod FindingsLists
 pub mod FindingsRows

@@ -3,6 +3,7 @@
 
 mod cluster;
 mod finding;
+mod findings;
 mod parts;
 mod preset;
 mod rules;
