@@ -1,4 +1,5 @@
 pub mod Enumerated
+pub mod FindingsLists
 pub mod FindingsRows
 pub mod Identifiers
 pub mod Limits

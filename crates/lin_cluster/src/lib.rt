@@ -4,6 +4,7 @@
 mod cluster;
 mod described;
 mod finding;
+mod findings;
 mod parts;
 mod preset;
 mod rules;
