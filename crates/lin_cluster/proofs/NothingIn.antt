@@ -37,6 +37,9 @@ at-each P n (x ∷ xs) all (suc k) d lt =
     let e : n + suc k ≡ (n + 1) + k = omega arith
     in rw e (at-each P (n + 1) xs (All-tail P (n, x) (enumerate_from (n + 1) xs) all) k d (omega arith))
 
+pub of-each : {X : Type 0} (P : ℕ × X → Type 0) (xs : List X) → All P (enumerate_from 0 xs) → (k : ℕ) (d : X) → k < length xs → P (k, get_or xs k d)
+of-each P xs all k d lt = let there : P (0 + k, get_or xs k d) = at-each P 0 xs all k d lt in let e : 0 + k ≡ k = omega arith in rw e at there
+
 pub from-each : {X : Type 0} (P : ℕ × X → Type 0) (n : ℕ) (xs : List X) → ((k : ℕ) (d : X) → k < length xs → P (n + k, get_or xs k d)) → All P (enumerate_from n xs)
 from-each P n [] each = All-nil P
 from-each P n (x ∷ xs) each =
@@ -45,6 +48,9 @@ from-each P n (x ∷ xs) each =
     in All-cons P (n, x) (enumerate_from (n + 1) xs)
     (rw same at here)
     (from-each P (n + 1) xs (λ k d lt. let there : P (n + suc k, get_or xs k d) = each (suc k) d (omega arith) in let e : n + suc k ≡ (n + 1) + k = omega arith in rw e at there))
+
+pub to-each : {X : Type 0} (P : ℕ × X → Type 0) (xs : List X) → ((k : ℕ) (d : X) → k < length xs → P (k, get_or xs k d)) → All P (enumerate_from 0 xs)
+to-each P xs each = from-each P 0 xs (λ k d lt. let e : 0 + k ≡ k = omega arith in rw e (each k d lt))
 
 -- what no item has isn't found
 pub none-has : {X : Type 0} (p : X → Bool) (xs : List X) → list_any p xs ≡ false → All (λ x. p x ≡ false) xs

@@ -35,7 +35,13 @@ pub record FitsNumbers (d : Description) : Type 0 where
 
 pub record FitsParts (d : Description) : Type 0 where
   pub numbers : FitsNumbers d
-  pub nads : (n : ℕ) → 1 ≤ n → FitsNad d n
+  pub nads : (n : ℕ) → 1 ≤ n → n ≤ length d.slaves → FitsNad d n
   pub signals : All FitsSignal d.signals
   pub frames : All FitsFrame d.frames
   pub events : All (λ e. e.id.value < 64) d.events
+
+-- what the grammar's lists of names have: one name at least
+pub record HasMembers (d : Description) : Type 0 where
+  pub responders : 1 ≤ length d.slaves
+  pub sporadic : All (λ s. 1 ≤ length s.members) d.sporadic
+  pub events : All (λ e. 1 ≤ length e.members) d.events

@@ -1,3 +1,4 @@
+pub mod Checks
 pub mod Cluster
 pub mod ClusterA
 pub mod Rules

@@ -1,6 +1,7 @@
 //! LIN clusters: nodes, signals, frames and schedule tables, with what every cluster has (ISO 17987-3; LIN 2.2A, section 9).
 #![tactic(auto)]
 
+mod checks;
 mod cluster;
 mod described;
 mod finding;
@@ -11,6 +12,7 @@ mod rules;
 #[cfg(test)]
 mod tests;
 
+pub use checks::check;
 pub use cluster::Cluster;
 pub use finding::{CheckFault, Finding};
 pub use parts::{Entry, EventFrame, Line, Node, Parts, Signal, SignalFrame, Table};

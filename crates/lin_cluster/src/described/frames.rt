@@ -1,6 +1,6 @@
 //! The frames of each kind that a description says.
 
-ghost use Rattle.std.specs.Prelude.{◌≡◌, ◌==◌, ◌<◌, ◌≤◌, ◌^◌, ℕ, All, IfOk, length, map};
+ghost use Rattle.std.specs.Prelude.{◌≡◌, ◌==◌, ◌<◌, ◌≤◌, ◌^◌, ℕ, All, IfOk, OnOk, length, map};
 ghost use Rattle.std.specs.List.{enumerate_from, list_any};
 ghost use Rattle.lin_frame.specs.Frame.{pid};
 ghost use Rattle.lin_cluster.specs.Described.{frame_number, signal_number, signals_of, own_pid, described_place, described_layout, described_frame, frames_of, members_of, sporadic_frames_of, described_event, events_of};
@@ -174,17 +174,26 @@ fn members_of(alloc: Global, d: &Description, names: &[Name]) -> Result<Many<u16
     Ok(Many::new(members))
 }
 
+fn sporadic_of(alloc: Global, d: &Description, sporadic: &Sporadic) -> Result<Many<u16>, AllocError>
+    requires { length d.now.frames ≤ 60 }
+    ensures made { IfOk result (λ made. made ≡ members_of d.now sporadic.now.members) }
+    ensures some { OnOk result (1 ≤ length sporadic.now.members) }
+{
+    members_of(alloc, d, sporadic.members.as_slice())
+}
+
 pub(super) fn sporadic_frames_of(
     alloc: Global,
     d: &Description,
     sporadic: &[Sporadic],
 ) -> Result<Many<Many<u16>>, AllocError>
     requires { length d.now.frames ≤ 60 }
-    ensures { IfOk result (λ made. made ≡ map (λ s. members_of d.now s.members) sporadic.now) }
+    ensures made { IfOk result (λ made. made ≡ map (λ s. members_of d.now s.members) sporadic.now) }
+    ensures some { OnOk result (All (λ s. 1 ≤ length s.members) sporadic.now) }
 {
     let mut made = Vec::new(alloc);
     for one in sporadic {
-        made.push(members_of(alloc, d, one.members.as_slice())?)?;
+        made.push(sporadic_of(alloc, d, one)?)?;
     }
     Ok(Many::new(made))
 }
@@ -196,7 +205,8 @@ fn event_of(
 ) -> Result<EventFrame, AllocError>
     requires few { FitsNumbers d.now }
     requires fits { event.now.id.value < 64 }
-    ensures { IfOk result (λ made. made ≡ described_event d.now event.now) }
+    ensures made { IfOk result (λ made. made ≡ described_event d.now event.now) }
+    ensures some { OnOk result (1 ≤ length event.now.members) }
 {
     Ok(EventFrame {
         pid: pid_of(event.id.value),
@@ -213,7 +223,8 @@ pub(super) fn events_of(
 ) -> Result<Many<EventFrame>, AllocError>
     requires few { FitsNumbers d.now }
     requires fit { All (λ e. e.id.value < 64) events.now }
-    ensures { IfOk result (λ made. made ≡ map (described_event d.now) events.now) }
+    ensures made { IfOk result (λ made. made ≡ map (described_event d.now) events.now) }
+    ensures some { OnOk result (All (λ e. 1 ≤ length e.members) events.now) }
 {
     let mut made = Vec::new(alloc);
     for event in events {

@@ -53,7 +53,7 @@ fn add_responders(
 ) -> Result<(), AllocError>
     requires few { length d.now.slaves ≤ 15 }
     requires fewer { length slaves.now ≤ 15 }
-    requires fits { (n : ℕ) → 1 ≤ n → FitsNad d.now n }
+    requires fits { (n : ℕ) → 1 ≤ n → n ≤ length slaves.now → FitsNad d.now n }
     ensures { OnOk result (nodes.new.items ≡ nodes.old.items ++ map (responder d.now) (enumerate_from 1 slaves.now)) }
 {
     for (i, name) in slaves.iter().enumerate() {
@@ -69,7 +69,7 @@ pub(super) fn nodes_of(
 ) -> Result<Many<Node>, AllocError>
     requires few { length d.now.slaves ≤ 15 }
     requires all { slaves.now ≡ d.now.slaves }
-    requires fits { (n : ℕ) → 1 ≤ n → FitsNad d.now n }
+    requires fits { (n : ℕ) → 1 ≤ n → n ≤ length slaves.now → FitsNad d.now n }
     ensures { IfOk result (λ nodes. nodes ≡ nodes_of d.now) }
 {
     let mut nodes = Vec::new(alloc);
