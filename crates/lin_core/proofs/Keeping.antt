@@ -6,7 +6,10 @@ use Rattle.std.proofs.lemmas.Option.{slice_get_read}
 use Rattle.lin_frame.specs.Words.{choose}
 use Rattle.lin_cluster.specs.Cluster.{nodes}
 use Rattle.lin_cluster.specs.declared.parts.Parts.{Parts}
-use Rattle.lin_core.specs.Kept.{message_at, sent_in, Keeps, KeepsHost, message_of}
+use Rattle.lin_core.specs.Kept.{message_at, sent_in, Keeps, KeepsHost, KeepsSignals, message_of}
+use Rattle.lin_core.specs.declared.signals.Signals.{Signals}
+use Rattle.lin_core.proofs.SignalKeeping.{Writes, set-at, signals-same, none-carried, write-signals, write-fits}
+use Rattle.lin_frame.specs.declared.value.Value.{Value}
 use Rattle.lin_core.specs.Links.{Message, waiting}
 use Rattle.lin_core.specs.Core.{CoreData, IsRefused, answered}
 use Rattle.lin_core.specs.Replies.{reply}
@@ -25,7 +28,7 @@ use Rattle.std.proofs.lemmas.Bool.Decides.{nat_tests}
 use Rattle.std.proofs.Math.ListN.{length-set}
 use Rattle.lin_schedule.specs.Walker.{Position}
 use Rattle.lin_core.specs.declared.slot.OpenSlot.{OpenSlot}
-use Rattle.lin_core.specs.Core.{IsAllowed, past_of}
+use Rattle.lin_core.specs.Core.{IsAllowed, IsDiagnostic, past_of}
 use Rattle.lin_core.specs.Hosts.{queued, settled, fresh}
 use Rattle.std.specs.Prelude.{All}
 use Rattle.std.proofs.lemmas.List.Elements.{All-get_or}
@@ -42,7 +45,7 @@ use Rattle.lin_core.specs.declared.event.Event.TheVariants.{Accepted}
 use Rattle.lin_core.specs.declared.reply.Reply.TheVariants.{Done}
 use Rattle.lin_core.specs.declared.step.Step.TheVariants.{Send}
 use Rattle.lin_core.proofs.Hosts.{HostState}
-use Rattle.lin_core.proofs.Known.{Known}
+use Rattle.lin_core.proofs.Known.{Known, write-known, switch-known}
 use Rattle.lin_core.proofs.Steps.{AllFalse, none-of, both-false, more_if, send-known}
 use Rattle.lin_core.proofs.Queues.{waiting-are}
 use Rattle.std.specs.Prelude.{nat_lt}
@@ -58,7 +61,7 @@ use Rattle.lin_core.specs.Slots.{header, due_nodes, next_due, with_classic}
 use Rattle.lin_core.specs.Replies.{opening_events, done_events, put_event}
 use Rattle.lin_core.specs.declared.event.Event.{Event}
 use Rattle.lin_core.specs.declared.event.Event.TheVariants.{Slot as SlotEvent, Due, Put as PutEvent}
-use Rattle.lin_core.specs.declared.step.Step.TheVariants.{Open, Answer, Finish}
+use Rattle.lin_core.specs.declared.step.Step.TheVariants.{Write, Open, Answer, Finish, Switch}
 use Rattle.lin_core.proofs.Finishes.{slot_of}
 use Rattle.lin_core.proofs.Plain.FinishIs.{shut, still, whole}
 use Rattle.lin_core.specs.Links.{Link}
@@ -68,7 +71,7 @@ use Rattle.lin_core.proofs.Hosts.{IsLink}
 use Rattle.lin_core.proofs.Plain.{Plain, FinishIs, none-due, master-due-one, AnswerIs, finish-is}
 use Rattle.lin_core.proofs.FinishEvents.{finish-quiet, finish-whole}
 use Rattle.lin_core.proofs.Known.{finish-known}
-use Rattle.lin_schedule.specs.Schedule.Move.{Slot as SlotMove}
+use Rattle.lin_schedule.specs.Schedule.Move.{Slot as SlotMove, Switch as SwitchMove}
 use Rattle.lin_schedule.specs.Walker.{Stands, Walks}
 use Rattle.lin_core.specs.History.{time, seen, is_clash, told_all}
 use Rattle.lin_core.specs.Slots.{moves}
@@ -91,9 +94,9 @@ pub refused-answered : (core : CoreData) (by : PortId) (step : Step) (r : Refusa
 unfolding reply
 refused-answered core by step r h = rw h
 
-pub refused-keeps : (c : Parts) (opening capacity : ℕ) (log past : List LogEntry) (slot : Option OpenSlot) (clock : ℕ) (walker : Position) (hosts : List Host) (by : PortId) (step : Step) (r : Refusal)
-    → Keeps c opening capacity log past slot clock walker hosts → Keeps c opening capacity (log ++ refused_entry by step r ∷ []) (refused_entry by step r ∷ past) slot clock walker hosts
-refused-keeps c opening capacity log past slot clock walker hosts by step r k = record {
+pub refused-keeps : (c : Parts) (opening capacity : ℕ) (log past : List LogEntry) (slot : Option OpenSlot) (clock : ℕ) (walker : Position) (hosts : List Host) (signals : Signals) (by : PortId) (step : Step) (r : Refusal)
+    → Keeps c opening capacity log past slot clock walker hosts signals → Keeps c opening capacity (log ++ refused_entry by step r ∷ []) (refused_entry by step r ∷ past) slot clock walker hosts signals
+refused-keeps c opening capacity log past slot clock walker hosts signals by step r k = record {
   slot_is = k.slot_is;
   slot_there = k.slot_there;
   clock_is = k.clock_is;
@@ -106,17 +109,10 @@ refused-keeps c opening capacity log past slot clock walker hosts by step r k = 
     count = x.count;
     capacity_is = x.capacity_is;
   };
+  signals_are = signals-same c past (refused_entry by step r) signals (λ n. refl) (λ n. refl) (λ f. refl) k.signals_are;
 }
 
 -- == a send
--- a list after one item is set
-set-at : {X : Type 0} (xs : List X) (i j : ℕ) (x y : X) → slice_get (slice_set xs i x) j ≡ Some y → ((i ≡ j) × (y ≡ x)) ⊎ ((i ≢ j) × (slice_get xs j ≡ Some y))
-set-at [] i j x y h = cc
-set-at (a ∷ xs) zero zero x y h = inl (refl, cc)
-set-at (a ∷ xs) zero (suc j) x y h = inr (λ e. omega arith, h)
-set-at (a ∷ xs) (suc i) zero x y h = inr (λ e. omega arith, h)
-set-at (a ∷ xs) (suc i) (suc j) x y h = elim (set-at xs i j x y h) [ inl p ↦ inl (ap suc p.0, p.1) | inr p ↦ inr (λ e. p.0 (omega arith), p.1) ]
-
 -- no more messages are accepted than steps made
 accepted-by : (n : ℕ) (ms : List Message) (o : Option Message) → length ms ≤ n → length (choose o ms (λ m. ms ++ m ∷ [])) ≤ suc n
 accepted-by n ms None h = omega arith
@@ -180,10 +176,10 @@ send-other c capacity log past from x host m e t more count k =
 eqb_true : (a b : ℕ) → a ≡ b → (a == b) ≡ true
 eqb_true a b e = grind (arith, nat_tests, e)
 
-pub send-keeps : (c : Parts) (opening capacity : ℕ) (log past : List LogEntry) (slot : Option OpenSlot) (clock : ℕ) (walker : Position) (hosts hosts' : List Host) (host : Host) (by : PortId) (from to : ℕ) (message : List ℕ) (number : ℕ)
+pub send-keeps : (c : Parts) (opening capacity : ℕ) (log past : List LogEntry) (slot : Option OpenSlot) (clock : ℕ) (walker : Position) (hosts hosts' : List Host) (signals : Signals) (host : Host) (by : PortId) (from to : ℕ) (message : List ℕ) (number : ℕ)
     → IsSound c → Known c past → refusal c capacity past by (Send from to message) ≡ None → slice_get hosts from ≡ Some host → hosts' ≡ slice_set hosts from (queued host (length log))
-    → Keeps c opening capacity log past slot clock walker hosts → Keeps c opening capacity (log ++ send_entry by from to message number ∷ []) (send_entry by from to message number ∷ past) slot clock walker hosts'
-send-keeps c opening capacity log past slot clock walker hosts hosts' host by from to message number sound known allowed at set k =
+    → Keeps c opening capacity log past slot clock walker hosts signals → Keeps c opening capacity (log ++ send_entry by from to message number ∷ []) (send_entry by from to message number ∷ past) slot clock walker hosts' signals
+send-keeps c opening capacity log past slot clock walker hosts hosts' signals host by from to message number sound known allowed at set k =
     let e : LogEntry = send_entry by from to message number
     in let m : Message = record { link = link_of from to; bytes = message }
     in let known' : Known c (e ∷ past) = send-known c capacity past by from to message (Accepted from number ∷ []) allowed known
@@ -203,6 +199,7 @@ send-keeps c opening capacity log past slot clock walker hosts hosts' host by fr
                 (subst (λ (y : ℕ). KeepsHost c capacity log past y host) same.0 (k.each_host from host at))
             | inr differ ↦ send-other c capacity log past from x other m e (ne_eqb from x differ.0) (more x) (accepted-one past e from x m false (ne_eqb from x differ.0) refl) (k.each_host x other differ.1)
           ];
+      signals_are = signals-same c past e signals (λ n. refl) (λ n. refl) (λ f. refl) k.signals_are;
     }
 
 pub host-few : (c : Parts) (capacity : ℕ) (log : List LogEntry) (h : ℕ) (host : Host) → KeepsHost c capacity log (reverse log) h host → host.settled + length host.queue.items ≤ length log
@@ -222,6 +219,56 @@ same-hosts c capacity log past e sound k k' same accepted h host x =
       queue = messages-stay log e host.queue.items (map message_of (waiting c past h)) x.queue ∙ sym (ap (map Some) ms);
       count = x.count ∙ sym (ap length (accepted h));
       capacity_is = x.capacity_is;
+    }
+
+-- an entry of a step that is done with these events
+abbrev pub done_entry : PortId → Step → List Event → LogEntry
+done_entry by step es = record { port = by; step = step; reply = Done es }
+
+-- == a write
+pub write-keeps : (c : Parts) (opening capacity : ℕ) (log past : List LogEntry) (slot : Option OpenSlot) (clock : ℕ) (walker : Position) (hosts : List Host) (signals signals' : Signals) (by : PortId) (node signal : ℕ) (v : Value)
+    → IsSound c → Known c past → refusal c capacity past by (Write node signal v) ≡ None → Writes c signals signals' signal v
+    → Keeps c opening capacity log past slot clock walker hosts signals
+    → Keeps c opening capacity (log ++ done_entry by (Write node signal v) [] ∷ []) (done_entry by (Write node signal v) [] ∷ past) slot clock walker hosts signals'
+write-keeps c opening capacity log past slot clock walker hosts signals signals' by node signal v sound known allowed written k =
+    let e : LogEntry = done_entry by (Write node signal v) []
+    in let known' : Known c (e ∷ past) = write-known c past by node signal v known
+    in record {
+      slot_is = k.slot_is;
+      slot_there = k.slot_there;
+      clock_is = k.clock_is;
+      clock_few = let t = k.clock_few in omega arith;
+      stands = k.stands;
+      walks = k.walks;
+      hosts_count = k.hosts_count;
+      each_host = λ h host there. same-hosts c capacity log past e sound known known' (λ x. refl) (λ x. refl) h host (k.each_host h host there);
+      signals_are = write-signals c past by node signal v signals signals' (write-fits c capacity past by node signal v allowed) written k.signals_are;
+    }
+
+-- == a switch
+pub switch-there : (c : Parts) (capacity : ℕ) (past : List LogEntry) (by : PortId) (table : ℕ) → refusal c capacity past by (Switch table) ≡ None → table < length c.tables
+switch-there c capacity past by table h =
+    let all : AllFalse (refusals c capacity past by (Switch table)) = none-of (refusals c capacity past by (Switch table)) h
+    in let there : nat_le (length c.tables) table ≡ false = all.0
+    in grind (arith, nat_tests, there)
+
+pub switch-keeps : (c : Parts) (opening capacity : ℕ) (log past : List LogEntry) (slot : Option OpenSlot) (clock : ℕ) (walker walker' : Position) (hosts : List Host) (signals : Signals) (by : PortId) (table : ℕ)
+    → IsSound c → Known c past → Stands c opening walker' (SwitchMove table ∷ moves past) → Walks c walker'
+    → Keeps c opening capacity log past slot clock walker hosts signals
+    → Keeps c opening capacity (log ++ done_entry by (Switch table) [] ∷ []) (done_entry by (Switch table) [] ∷ past) slot clock walker' hosts signals
+switch-keeps c opening capacity log past slot clock walker walker' hosts signals by table sound known stands walks k =
+    let e : LogEntry = done_entry by (Switch table) []
+    in let known' : Known c (e ∷ past) = switch-known c past by table known
+    in record {
+      slot_is = k.slot_is;
+      slot_there = k.slot_there;
+      clock_is = k.clock_is;
+      clock_few = let t = k.clock_few in omega arith;
+      stands = stands;
+      walks = walks;
+      hosts_count = k.hosts_count;
+      each_host = λ h host there. same-hosts c capacity log past e sound known known' (λ x. refl) (λ x. refl) h host (k.each_host h host there);
+      signals_are = signals-same c past e signals (λ n. refl) (λ n. refl) (λ f. refl) k.signals_are;
     }
 
 -- == an open
@@ -253,17 +300,14 @@ opening-is c opening past slot some o =
     = ap (λ (s : Slot). SlotEvent s.table s.entry s.header ∷ map Due s.due) o.begun_is ∙ ap (λ (ns : List ℕ). SlotEvent slot.table slot.entry (header c past kind) ∷ map Due ns) (due-is c past kind some)
     in subst (λ (at : ℕ × ℕ). events_of_open slot ≡ SlotEvent at.0 at.1 (header c past (line_of c at.0 at.1).entry) ∷ map Due (due_nodes c past (line_of c at.0 at.1).entry)) o.at told
 
-abbrev pub done_entry : PortId → Step → List Event → LogEntry
-done_entry by step es = record { port = by; step = step; reply = Done es }
-
 pub done-answered : (core : CoreData) (by : PortId) (step : Step) (es : List Event) → IsAllowed core by step → es ≡ done_events core.cluster core.opening (past_of core) by step → done_entry by step es ≡ answered core by step
 unfolding reply
 done-answered core by step es h e = rw (h, e)
 
-pub open-keeps : (c : Parts) (opening capacity : ℕ) (log past : List LogEntry) (old : Option OpenSlot) (slot : OpenSlot) (clock : ℕ) (walker : Position) (hosts : List Host) (by : PortId)
+pub open-keeps : (c : Parts) (opening capacity : ℕ) (log past : List LogEntry) (old : Option OpenSlot) (slot : OpenSlot) (clock : ℕ) (walker : Position) (hosts : List Host) (signals : Signals) (by : PortId)
     → IsSound c → 1 ≤ nodes c → Known c past → refusal c capacity past by Open ≡ None → Opens c opening past slot
-    → Keeps c opening capacity log past old clock walker hosts → Keeps c opening capacity (log ++ done_entry by Open (opening_events c opening past) ∷ []) (done_entry by Open (opening_events c opening past) ∷ past) (Some slot) clock walker hosts
-open-keeps c opening capacity log past old slot clock walker hosts by sound some known allowed o k =
+    → Keeps c opening capacity log past old clock walker hosts signals → Keeps c opening capacity (log ++ done_entry by Open (opening_events c opening past) ∷ []) (done_entry by Open (opening_events c opening past) ∷ past) (Some slot) clock walker hosts signals
+open-keeps c opening capacity log past old slot clock walker hosts signals by sound some known allowed o k =
     let at : ℕ × ℕ = next_due c opening past
     in let e : LogEntry = done_entry by Open (opening_events c opening past)
     in let known' : Known c (e ∷ past) = open-known c opening capacity past by sound allowed known
@@ -280,6 +324,7 @@ open-keeps c opening capacity log past old slot clock walker hosts by sound some
       walks = k.walks;
       hosts_count = k.hosts_count;
       each_host = λ h host there. same-hosts c capacity log past e sound known known' (λ x. refl) (λ x. refl) h host (k.each_host h host there);
+      signals_are = signals-same c past e signals (λ n. refl) (λ n. refl) (λ f. refl) k.signals_are;
     }
 
 -- == an answer
@@ -287,13 +332,13 @@ pub answer-told : (c : Parts) (past : List LogEntry) (states : ℕ → HostState
     → PutEvent node (with_classic (frame (nad_on c a.message.link) a.message.bytes 0)) ∷ [] ≡ choose (open_slot past) [] (put_event c past node)
 answer-told c past states node a = sym (rw (a.is, a.header) (ap (λ (bytes : List ℕ). PutEvent node bytes ∷ []) a.bytes))
 
-pub answer-keeps : (c : Parts) (opening capacity : ℕ) (log past : List LogEntry) (slot : OpenSlot) (clock : ℕ) (walker : Position) (hosts : List Host) (by : PortId) (node : ℕ) (bytes : List ℕ)
+pub answer-keeps : (c : Parts) (opening capacity : ℕ) (log past : List LogEntry) (slot : OpenSlot) (clock : ℕ) (walker : Position) (hosts : List Host) (signals : Signals) (by : PortId) (node : ℕ) (bytes : List ℕ)
     → IsSound c → (k : Known c past) → refusal c capacity past by (Answer node) ≡ None → (a : AnswerIs c past k.states node)
     → PutEvent node bytes ∷ [] ≡ choose (open_slot past) [] (put_event c past node)
-    → Keeps c opening capacity log past (Some slot) clock walker hosts
+    → Keeps c opening capacity log past (Some slot) clock walker hosts signals
     → Keeps c opening capacity (log ++ done_entry by (Answer node) (choose (open_slot past) [] (put_event c past node)) ∷ []) (done_entry by (Answer node) (choose (open_slot past) [] (put_event c past node)) ∷ past)
-    (Some (record slot { put = Some (record { node = node; answer = bytes }) })) clock walker hosts
-answer-keeps c opening capacity log past slot clock walker hosts by node bytes sound known allowed a told k =
+    (Some (record slot { put = Some (record { node = node; answer = bytes }) })) clock walker hosts signals
+answer-keeps c opening capacity log past slot clock walker hosts signals by node bytes sound known allowed a told k =
     let e : LogEntry = done_entry by (Answer node) (choose (open_slot past) [] (put_event c past node))
     in let known' : Known c (e ∷ past) = answer-known c capacity past by node sound allowed known
     in let same : Some (slot_in slot) ≡ Some a.slot = k.slot_is ∙ a.is
@@ -309,6 +354,7 @@ answer-keeps c opening capacity log past slot clock walker hosts by node bytes s
       walks = k.walks;
       hosts_count = k.hosts_count;
       each_host = λ h host there. same-hosts c capacity log past e sound known known' (λ x. refl) (λ x. refl) h host (k.each_host h host there);
+      signals_are = signals-same c past e signals (λ n. refl) (λ n. refl) (λ f. refl) k.signals_are;
     }
 
 -- == a finish
@@ -326,12 +372,13 @@ pub record Finishes (c : Parts) (opening : ℕ) (past : List LogEntry) (slot : O
 clock-few : (d n t : ℕ) → d ≤ 1000000000 → t ≤ 10 ^ 9 * n → t + d ≤ 10 ^ 9 * suc n
 clock-few d n t a b = omega arith
 
-pub finish-keeps : (c : Parts) (opening capacity : ℕ) (log past : List LogEntry) (slot : OpenSlot) (clock clock' : ℕ) (walker walker' : Position) (hosts hosts' : List Host) (by : PortId)
+pub finish-keeps : (c : Parts) (opening capacity : ℕ) (log past : List LogEntry) (slot : OpenSlot) (clock clock' : ℕ) (walker walker' : Position) (hosts hosts' : List Host) (signals : Signals) (by : PortId)
+    → IsDiagnostic c
     → Finishes c opening past slot clock clock' walker walker' → length hosts' ≡ length hosts
     → ((h : ℕ) (host : Host) → slice_get hosts' h ≡ Some host → KeepsHost c capacity (log ++ finished_entry c past by ∷ []) (finished_entry c past by ∷ past) h host)
-    → Keeps c opening capacity log past (Some slot) clock walker hosts
-    → Keeps c opening capacity (log ++ finished_entry c past by ∷ []) (finished_entry c past by ∷ past) None clock' walker' hosts'
-finish-keeps c opening capacity log past slot clock clock' walker walker' hosts hosts' by f count each k = record {
+    → Keeps c opening capacity log past (Some slot) clock walker hosts signals
+    → Keeps c opening capacity (log ++ finished_entry c past by ∷ []) (finished_entry c past by ∷ past) None clock' walker' hosts' signals
+finish-keeps c opening capacity log past slot clock clock' walker walker' hosts hosts' signals by diagnostic f count each k = record {
   slot_is = refl;
   slot_there = tt;
   clock_is = rw (← k.slot_is, f.clock_is, k.clock_is) refl;
@@ -340,6 +387,7 @@ finish-keeps c opening capacity log past slot clock clock' walker walker' hosts 
   walks = f.walks;
   hosts_count = count ∙ k.hosts_count;
   each_host = each;
+  signals_are = none-carried c past (finished_entry c past by) (slot_in slot) signals diagnostic (rw (← k.slot_is) refl) (λ n. refl) (λ f. refl) k.signals_are;
 }
 
 -- a finish by which nothing is settled
@@ -477,9 +525,9 @@ one-hosts c capacity log past by s hosts host sound known f at each h x there =
 all-at : {X : Type 0} (P : X → Type 0) (xs : List X) (i : ℕ) (x : X) → All P xs → slice_get xs i ≡ Some x → P x
 all-at P xs i x a h = subst P (get_or_from_slice_get xs i x x h) (All-get_or P xs i x (slice_get_within xs i x h) a)
 
-pub start-keeps : (c : Parts) (opening capacity : ℕ) (walker : Position) (hosts : List Host) → Stands c opening walker [] → Walks c walker → length hosts ≡ nodes c → All (λ (host : Host). host ≡ fresh capacity) hosts
-    → Keeps c opening capacity [] [] None 0 walker hosts
-start-keeps c opening capacity walker hosts stands walks count all = record {
+pub start-keeps : (c : Parts) (opening capacity : ℕ) (walker : Position) (hosts : List Host) (signals : Signals) → Stands c opening walker [] → Walks c walker → length hosts ≡ nodes c → All (λ (host : Host). host ≡ fresh capacity) hosts → KeepsSignals c [] signals
+    → Keeps c opening capacity [] [] None 0 walker hosts signals
+start-keeps c opening capacity walker hosts signals stands walks count all kept = record {
   slot_is = refl;
   slot_there = tt;
   clock_is = refl;
@@ -490,4 +538,5 @@ start-keeps c opening capacity walker hosts stands walks count all = record {
   each_host = λ h host at.
       let is : host ≡ fresh capacity = all-at (λ (x : Host). x ≡ fresh capacity) hosts h host all at
       in rw is (record { queue = refl; count = refl; capacity_is = refl });
+  signals_are = kept;
 }

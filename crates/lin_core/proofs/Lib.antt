@@ -19,5 +19,6 @@ pub mod OpenSlots
 pub mod Entries
 pub mod Queues
 pub mod FinishEvents
+pub mod SignalKeeping
 pub mod Keeping
 pub mod Making

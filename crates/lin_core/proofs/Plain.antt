@@ -29,7 +29,7 @@ use Rattle.lin_core.specs.declared.port.PortId.{PortId}
 use Rattle.lin_core.specs.declared.reply.Refusal.{Refusal}
 use Rattle.lin_core.specs.declared.reply.Reply.TheVariants.{Done, Refused}
 use Rattle.lin_core.specs.declared.step.Step.{Step}
-use Rattle.lin_core.specs.declared.step.Step.TheVariants.{Send, Open, Answer, Finish}
+use Rattle.lin_core.specs.declared.step.Step.TheVariants.{Send, Write, Open, Answer, Finish, Switch}
 use Rattle.lin_core.proofs.Finishes.{frame_slot, slot_of}
 use Rattle.lin_core.proofs.Hosts.{CanGo, HostState, IsLink, message_of}
 use Rattle.lin_core.proofs.Known.{Known, SlotIs, finish-known, has_rest}
@@ -249,6 +249,8 @@ step-plain c opening capacity past port (Send from to message) sound k None e p 
       alone = λ h d. alone-more h from m (accepted_from past h) (from == h) refl s.commander d (p.alone h d);
       slot = p.slot;
     }
+step-plain c opening capacity past port (Write by signal value) sound k None e p = record { fresh = p.fresh; short = p.short; alone = p.alone; slot = p.slot }
+step-plain c opening capacity past port (Switch table) sound k None e p = record { fresh = p.fresh; short = p.short; alone = p.alone; slot = p.slot }
 step-plain c opening capacity past port Open sound k None e p =
     let at : ℕ × ℕ = next_due c opening past
     in let kind : Entry = (line_of c at.0 at.1).entry

@@ -17,7 +17,7 @@ use Rattle.lin_cluster.specs.Sound.{IsSound}
 use Rattle.lin_core.specs.declared.log.LogEntry.{LogEntry}
 use Rattle.lin_core.specs.declared.port.PortId.{PortId}
 use Rattle.lin_core.specs.declared.step.Step.{Step}
-use Rattle.lin_core.specs.declared.step.Step.TheVariants.{Send, Open, Answer, Finish}
+use Rattle.lin_core.specs.declared.step.Step.TheVariants.{Send, Write, Open, Answer, Finish, Switch}
 use Rattle.lin_core.specs.declared.event.Event.{Event}
 use Rattle.lin_core.specs.declared.event.Event.TheVariants.{Due, Put as PutEvent}
 use Rattle.lin_cluster.specs.declared.parts.Entry.{Entry}
@@ -32,7 +32,7 @@ use Rattle.lin_core.proofs.Moves.{record_of}
 use Rattle.lin_core.proofs.Finishes.{slot_of, frame_slot, same-cond}
 use Rattle.lin_core.specs.Runs.{history}
 use Rattle.lin_core.specs.Replies.{reply}
-use Rattle.lin_core.proofs.Known.{has_rest, OnlyDue, SlotIs, Known, entry_is, refused-known, finish-known}
+use Rattle.lin_core.proofs.Known.{has_rest, OnlyDue, SlotIs, Known, entry_is, refused-known, write-known, switch-known, finish-known}
 use Rattle.lin_core.proofs.Known.SlotIs.{closed, other, master, slave, carries}
 
 -- every condition is false
@@ -351,6 +351,8 @@ step-known c opening capacity past port (Send from to message) sound k None h = 
 step-known c opening capacity past port Open sound k None h = open-known c opening capacity past port sound h k
 step-known c opening capacity past port (Answer node) sound k None h = answer-known c capacity past port node sound h k
 step-known c opening capacity past port Finish sound k None h = finish-known c past port _ sound k (open_slot past) refl k.slot
+step-known c opening capacity past port (Write by signal value) sound k None h = write-known c past port by signal value k
+step-known c opening capacity past port (Switch table) sound k None h = switch-known c past port table k
 
 abbrev pub start-known : (c : Parts) → Known c []
 start-known c = record {

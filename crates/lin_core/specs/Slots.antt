@@ -11,10 +11,12 @@ use Rattle.lin_cluster.specs.declared.parts.Line.{Line}
 use Rattle.lin_cluster.specs.declared.parts.Entry.{Entry}
 use Rattle.lin_cluster.specs.declared.parts.Entry.TheVariants.{Frame, Sporadic, Event, MasterReq, SlaveResp, Quiet}
 use Rattle.lin_schedule.specs.Schedule.{Move, standing, due}
-use Rattle.lin_schedule.specs.Schedule.Move.{Slot as SlotMove}
-use Rattle.lin_core.specs.History.{finished, is_clash}
+use Rattle.lin_schedule.specs.Schedule.Move.{Slot as SlotMove, Switch as SwitchMove}
+use Rattle.lin_core.specs.History.{done, finished, is_clash}
 use Rattle.lin_core.specs.Links.{Sending, waiting, begun, frames_of, nad_on}
 use Rattle.lin_core.specs.declared.log.LogEntry.{LogEntry}
+use Rattle.lin_core.specs.declared.step.Step.{Step}
+use Rattle.lin_core.specs.declared.step.Step.TheVariants.{Switch}
 
 -- whether an entry is a diagnostic one, or stays silent
 abbrev pub is_diagnostic_entry : Entry → Bool
@@ -29,9 +31,14 @@ is_diagnostic_entry Quiet = true
 abbrev pub is_diagnostic : Parts → Bool
 is_diagnostic c = list_all (λ (t : Table). list_all (λ (line : Line). is_diagnostic_entry line.entry) t.lines) c.tables
 
+-- how a step that isn't of a slot moves the schedule on
+abbrev pub switched : Step → Option Move
+switched (Switch table) = Some (SwitchMove table)
+switched step = None
+
 -- how an entry moves the schedule on
 abbrev pub moves_at : LogEntry → List LogEntry → List Move
-moves_at e past = cons_option (option_map (λ s. SlotMove (is_clash s)) (finished e past)) []
+moves_at e past = cons_option (option_map (λ s. SlotMove (is_clash s)) (finished e past)) (cons_option (choose (done e) None switched) [])
 
 abbrev pub moves : List LogEntry → List Move
 moves [] = []

@@ -8,13 +8,15 @@ use Rattle.std.proofs.lemmas.Fmt.{decimal_by_steps, length-decimal-le}
 use Rattle.std.proofs.lemmas.Grind.{common_steps}
 use Rattle.hex.specs.Hex.{encode_upper, encode_with, upper_digits, decode_of, IsBytes}
 use Rattle.hex.proofs.HexLemmas.{decode_of-encode_upper}
-use Rattle.lin_log.specs.Words.{hex_word, port_word, step_words}
-use Rattle.lin_core.specs.Fits.{FitsPort, FitsStep}
-use Rattle.lin_log.specs.Script.{number, number_after, hex_bytes, port, form, send_form, node_form, port_step}
+use Rattle.lin_log.specs.Words.{hex_word, port_word, step_words, value_word}
+use Rattle.lin_core.specs.Fits.{FitsPort, FitsStep, FitsValue}
+use Rattle.lin_log.specs.Script.{number, number_after, hex_bytes, port, form, send_form, write_form, switch_form, node_form, port_step, value}
+use Rattle.lin_frame.specs.declared.value.Value.{Value}
+use Rattle.lin_frame.specs.declared.value.Value.TheVariants.{Scalar, Bytes}
 use Rattle.lin_core.specs.declared.port.PortId.{PortId}
 use Rattle.lin_core.specs.declared.port.PortId.TheVariants.{Bus, Host, Node}
 use Rattle.lin_core.specs.declared.step.Step.{Step}
-use Rattle.lin_core.specs.declared.step.Step.TheVariants.{Send, Open, Answer, Finish}
+use Rattle.lin_core.specs.declared.step.Step.TheVariants.{Send, Write, Open, Answer, Finish, Switch}
 use Rattle.lin_log.proofs.FieldLemmas.{IsWord, all_plain, plain, plain-append}
 
 guarded : (b : Bool) (x y : Option ℕ) (k l : ℕ) → (x ≡ Some k → y ≡ Some l) → (if b then x else None) ≡ Some k → (if b then y else None) ≡ Some l
@@ -117,6 +119,38 @@ pub form-answer : (node : ℕ) → FitsStep (Answer node) → form (codes "answe
 unfolding form node_form
 form-answer node h = rw (number-decimal 255 node (omega arith) (omega arith)) refl
 
+number-head : (n : ℕ) → n < 2 ^ 64 → (0 < length (decimal n)) × (slice_index (decimal n) 0 < 58)
+number-head n h =
+    decimal_by_steps (λ k ds. (0 < length ds) × (slice_index ds 0 < 58)) (λ k small. (omega arith, omega arith))
+    (λ k ds big ih. let a = ih.0 in let b = ih.1 in (grind (arith, common_steps), grind (arith, common_steps))) n h
+
+pub scalar-again : (n : ℕ) → n < 65536 → value (decimal n) ≡ Some (Scalar n)
+unfolding value
+scalar-again n h =
+    let p = number-head n (omega arith) in
+    let t : (slice_index (decimal n) 0 == 120) ≡ false = grind (arith, common_steps, p.1) in
+    rw (t, number-decimal 65535 n (omega arith) (omega arith)) refl
+
+pub array-again : (bs : List ℕ) → length bs ≤ 8 → IsBytes bs → value (120 ∷ hex_word bs) ≡ Some (Bytes bs)
+unfolding value
+array-again bs few h =
+    let t : nat_le (length bs) 8 ≡ true = grind (arith, common_steps) in
+    rw (hex-again bs h, t) refl
+
+pub value-again : (v : Value) → FitsValue v → value (value_word v) ≡ Some v
+value-again (Scalar n) h = scalar-again n (omega arith)
+value-again (Bytes bs) h = array-again bs h.0 h.1
+
+pub form-write : (by signal : ℕ) (v : Value) → FitsStep (Write by signal v)
+    → form (codes "write") (decimal by ∷ decimal signal ∷ value_word v ∷ []) ≡ Some (Write by signal v)
+unfolding form write_form
+form-write by signal v h =
+    rw (number-decimal 255 by (omega arith) (omega arith), number-decimal 65535 signal (omega arith) (omega arith), value-again v h.2) refl
+
+pub form-switch : (table : ℕ) → FitsStep (Switch table) → form (codes "switch") (decimal table ∷ []) ≡ Some (Switch table)
+unfolding form switch_form
+form-switch table h = rw (number-decimal 65535 table (omega arith) (omega arith)) refl
+
 pub form-open : form (codes "open") [] ≡ Some Open
 unfolding form
 form-open = refl
@@ -129,6 +163,8 @@ form-finish = refl
 pub step-again : (p : PortId) (s : Step) → FitsPort p → FitsStep s → port_step (port_word p ∷ step_words s) ≡ Some (p, s)
 unfolding port_step
 step-again p (Send from to message) hp h = rw (port-again p hp, form-send from to message h) refl
+step-again p (Write by signal v) hp h = rw (port-again p hp, form-write by signal v h) refl
 step-again p Open hp h = rw (port-again p hp, form-open) refl
 step-again p (Answer node) hp h = rw (port-again p hp, form-answer node h) refl
 step-again p Finish hp h = rw (port-again p hp, form-finish) refl
+step-again p (Switch table) hp h = rw (port-again p hp, form-switch table h) refl

@@ -7,16 +7,18 @@ use Rattle.std.proofs.lemmas.List.Elements.{All-nil, All-cons}
 use Rattle.std.proofs.lemmas.List.Splits.{slice_split_at}
 use Rattle.std.proofs.lemmas.Bool.{and_parts}
 use Rattle.std.proofs.lemmas.Grind.{common_steps}
-use Rattle.lin_log.specs.Words.{spaced, port_word, step_words, step_line, reply_line, event_words, seen_words, header_word, refusal_number, reply_text, entry_text, text}
+use Rattle.lin_log.specs.Words.{spaced, port_word, step_words, value_word, step_line, reply_line, event_words, seen_words, header_word, refusal_number, reply_text, entry_text, text}
 use Rattle.std.proofs.lemmas.List.Elements.{All-head, All-tail}
 use Rattle.lin_core.specs.Runs.{steps_of}
-use Rattle.lin_core.specs.Fits.{FitsPort, FitsStep}
+use Rattle.lin_core.specs.Fits.{FitsPort, FitsStep, FitsValue}
 use Rattle.lin_log.specs.Script.{fields, line_steps, is_remark, judged, script, steps, no_fields}
 use Rattle.lin_core.specs.declared.log.LogEntry.{LogEntry}
+use Rattle.lin_frame.specs.declared.value.Value.{Value}
+use Rattle.lin_frame.specs.declared.value.Value.TheVariants.{Scalar, Bytes}
 use Rattle.lin_core.specs.declared.port.PortId.{PortId}
 use Rattle.lin_core.specs.declared.port.PortId.TheVariants.{Bus, Host, Node}
 use Rattle.lin_core.specs.declared.step.Step.{Step}
-use Rattle.lin_core.specs.declared.step.Step.TheVariants.{Send, Open, Answer, Finish}
+use Rattle.lin_core.specs.declared.step.Step.TheVariants.{Send, Write, Open, Answer, Finish, Switch}
 use Rattle.std.specs.Result.{result_ok}
 use Rattle.lin_core.specs.declared.event.Event.{Event}
 use Rattle.lin_core.specs.declared.event.Event.TheVariants as event
@@ -123,14 +125,21 @@ word-port (Node n) h = record { some = omega arith; whole = plain-decimal n }
 word-any : (n : ℕ) → n < 2 ^ 64 → IsWord (decimal n)
 word-any n h = word-decimal n h
 
+word-value : (v : Value) → FitsValue v → IsWord (value_word v)
+word-value (Scalar n) h = word-decimal n (omega arith)
+word-value (Bytes bs) h = record { some = omega arith; whole = (word-hex bs).whole }
+
 abbrev literal : (w : List ℕ) → 0 < length w → all_plain w ≡ true → IsWord w
 literal w a b = record { some = a; whole = b }
 
 pub words-step : (s : Step) → FitsStep s → AreWords (step_words s)
 words-step (Send from to message) h = more (literal _ (omega arith) refl) (more (word-any from (omega arith)) (more (word-any to (omega arith)) (more (word-hex message) none)))
+words-step (Write by signal v) h =
+    more (literal _ (omega arith) refl) (more (word-any by (omega arith)) (more (word-any signal (omega arith)) (more (word-value v h.2) none)))
 words-step Open h = more (literal _ (omega arith) refl) none
 words-step (Answer n) h = more (literal _ (omega arith) refl) (more (word-any n (omega arith)) none)
 words-step Finish h = more (literal _ (omega arith) refl) none
+words-step (Switch table) h = more (literal _ (omega arith) refl) (more (word-any table (omega arith)) none)
 
 pub says-step : (p : PortId) (s : Step) (rest : List ℕ) (xs : List (PortId × Step)) → FitsPort p → FitsStep s → Says rest xs
     → Says (step_line p s ++ rest) ((p, s) ∷ xs)

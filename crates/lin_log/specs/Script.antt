@@ -5,10 +5,12 @@ use Rattle.std.specs.Str.{bytes_eq}
 use Rattle.std.specs.Str.Lines.{strip_carriage_return}
 use Rattle.std.specs.Result.{result_ok}
 use Rattle.hex.specs.Hex.{decode_of}
+use Rattle.lin_frame.specs.declared.value.Value.{Value}
+use Rattle.lin_frame.specs.declared.value.Value.TheVariants.{Scalar, Bytes}
 use Rattle.lin_core.specs.declared.port.PortId.{PortId}
 use Rattle.lin_core.specs.declared.port.PortId.TheVariants.{Bus, Host, Node}
 use Rattle.lin_core.specs.declared.step.Step.{Step}
-use Rattle.lin_core.specs.declared.step.Step.TheVariants.{Send, Open, Answer, Finish}
+use Rattle.lin_core.specs.declared.step.Step.TheVariants.{Send, Write, Open, Answer, Finish, Switch}
 
 infixl 10 ◌>>=◌
 abbrev pub ◌>>=◌ : {A B : Type 0} → Option A → (A → Option B) → Option B
@@ -38,6 +40,17 @@ hex_bytes word =
     else if length word == 0 then None
     else result_ok (decode_of word)
 
+-- at most 8 bytes
+abbrev pub array_bytes : List ℕ → Option (List ℕ)
+array_bytes word = hex_bytes word >>= (λ bytes. if nat_le (length bytes) 8 then Some bytes else None)
+
+-- a number for a scalar, or `x` and at most 8 bytes for an array
+unfoldable pub value : List ℕ → Option Value
+value word =
+    if slice_index word 0 == 120
+    then option_map Bytes (array_bytes (drop 1 word))
+    else option_map Scalar (number 65535 word)
+
 -- `bus`, `h` and a number, or `n` and a number
 unfoldable pub port : List ℕ → Option PortId
 port word =
@@ -64,6 +77,18 @@ send_form fs = do
   message ← field_by hex_bytes to.1
   no_more (Send from.0 to.0 message.0) message.1
 
+unfoldable pub write_form : List (List ℕ) → Option Step
+write_form fs = do
+  by ← field_by (number 255) fs
+  signal ← field_by (number 65535) by.1
+  v ← field_by value signal.1
+  no_more (Write by.0 signal.0 v.0) v.1
+
+unfoldable pub switch_form : List (List ℕ) → Option Step
+switch_form fs = do
+  table ← field_by (number 65535) fs
+  no_more (Switch table.0) table.1
+
 unfoldable pub node_form : (ℕ → Step) → List (List ℕ) → Option Step
 node_form step fs = do
   node ← field_by (number 255) fs
@@ -73,9 +98,11 @@ node_form step fs = do
 unfoldable pub form : List ℕ → List (List ℕ) → Option Step
 form word fs =
     if bytes_eq word (codes "send") then send_form fs
+    else if bytes_eq word (codes "write") then write_form fs
     else if bytes_eq word (codes "open") then no_more Open fs
     else if bytes_eq word (codes "answer") then node_form Answer fs
     else if bytes_eq word (codes "finish") then no_more Finish fs
+    else if bytes_eq word (codes "switch") then switch_form fs
     else None
 
 -- a port, then a step

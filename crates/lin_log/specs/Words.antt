@@ -2,10 +2,12 @@
 use Rattle.std.specs.Prelude.{ℕ, List, [], ◌∷◌, ◌++◌, Option, Some, None, codes, flat_map}
 use Rattle.std.specs.Fmt.{decimal}
 use Rattle.hex.specs.Hex.{encode_upper}
+use Rattle.lin_frame.specs.declared.value.Value.{Value}
+use Rattle.lin_frame.specs.declared.value.Value.TheVariants.{Scalar, Bytes}
 use Rattle.lin_core.specs.declared.port.PortId.{PortId}
 use Rattle.lin_core.specs.declared.port.PortId.TheVariants.{Bus, Host, Node}
 use Rattle.lin_core.specs.declared.step.Step.{Step}
-use Rattle.lin_core.specs.declared.step.Step.TheVariants.{Send, Open, Answer, Finish}
+use Rattle.lin_core.specs.declared.step.Step.TheVariants.{Send, Write, Open, Answer, Finish, Switch}
 use Rattle.lin_core.specs.declared.event.Event.{Event}
 use Rattle.lin_core.specs.declared.event.Event.TheVariants as event
 use Rattle.lin_core.specs.declared.event.Seen.{Seen}
@@ -35,12 +37,19 @@ port_word Bus = codes "bus"
 port_word (Host n) = 104 ∷ decimal n
 port_word (Node n) = 110 ∷ decimal n
 
+-- a scalar's number, or `x` and an array's bytes
+abbrev pub value_word : Value → List ℕ
+value_word (Scalar n) = decimal n
+value_word (Bytes bytes) = 120 ∷ hex_word bytes
+
 -- what a step is called, and its parts
 abbrev pub step_words : Step → List (List ℕ)
 step_words (Send from to message) = codes "send" ∷ decimal from ∷ decimal to ∷ hex_word message ∷ []
+step_words (Write by signal value) = codes "write" ∷ decimal by ∷ decimal signal ∷ value_word value ∷ []
 step_words Open = codes "open" ∷ []
 step_words (Answer node) = codes "answer" ∷ decimal node ∷ []
 step_words Finish = codes "finish" ∷ []
+step_words (Switch table) = codes "switch" ∷ decimal table ∷ []
 
 -- a header's protected identifier, and `-` for none
 abbrev pub header_word : Option ℕ → List ℕ
@@ -68,6 +77,10 @@ event_words (event.Sent host number) = codes "sent" ∷ decimal host ∷ decimal
 -- a refusal's number
 abbrev pub refusal_number : Refusal → ℕ
 refusal_number refusal.NoSuchNode = 1
+refusal_number refusal.NoSuchSignal = 2
+refusal_number refusal.NoSuchTable = 3
+refusal_number refusal.NotPublisher = 4
+refusal_number refusal.BadValue = 5
 refusal_number refusal.NoAddress = 6
 refusal_number refusal.BadLength = 7
 refusal_number refusal.QueueFull = 9

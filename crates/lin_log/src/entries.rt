@@ -3,12 +3,13 @@
 ghost use Rattle.std.specs.Prelude.{◌≡◌, ◌∷◌, codes, flat_map, map};
 ghost use Rattle.lin_log.specs.Shown.{shown};
 ghost use Rattle.lin_log.specs.Sink.{Puts, WritesText};
-ghost use Rattle.lin_log.specs.Words.{entry_text, event_words, header_word, port_word, refusal_number, reply_line, reply_text, seen_words, step_line, text};
+ghost use Rattle.lin_log.specs.Words.{entry_text, event_words, header_word, port_word, refusal_number, reply_line, reply_text, seen_words, step_line, text, value_word};
 
 use crate::fault::WriteFailed;
 use crate::sink::{Buffer, flush};
 use crate::words::{Word, put_line, put_reply_line};
 use lin_core::{Event, Log, LogEntry, PortId, Refusal, Reply, Seen, Step};
+use lin_frame::Value;
 use std::io::Write;
 
 fn word_of_port(port: PortId) -> Word<'static>
@@ -18,6 +19,15 @@ fn word_of_port(port: PortId) -> Word<'static>
         PortId::Bus => Word::Text("bus"),
         PortId::Host(number) => Word::Host(number),
         PortId::Node(number) => Word::Node(number),
+    }
+}
+
+fn word_of_value(value: &Value) -> Word<'_>
+    ensures { shown result ≡ value_word value.now }
+{
+    match value {
+        Value::Scalar(number) => Word::Number(u32::from(*number)),
+        Value::Bytes(bytes) => Word::Array(bytes.as_slice()),
     }
 }
 
@@ -42,6 +52,21 @@ fn put_step<W: Write>(
                 Word::Hex(message.as_slice()),
             ],
         ),
+        Step::Write {
+            by: node,
+            signal,
+            value,
+        } => put_line(
+            writer,
+            buffer,
+            by,
+            &[
+                Word::Text("write"),
+                Word::Number(u32::from(*node)),
+                Word::Number(u32::from(*signal)),
+                word_of_value(value),
+            ],
+        ),
         Step::Open => put_line(writer, buffer, by, &[Word::Text("open")]),
         Step::Answer { node } => put_line(
             writer,
@@ -50,6 +75,12 @@ fn put_step<W: Write>(
             &[Word::Text("answer"), Word::Number(u32::from(*node))],
         ),
         Step::Finish => put_line(writer, buffer, by, &[Word::Text("finish")]),
+        Step::Switch { table } => put_line(
+            writer,
+            buffer,
+            by,
+            &[Word::Text("switch"), Word::Number(u32::from(*table))],
+        ),
     }
 }
 
@@ -176,6 +207,10 @@ fn refusal_number(refusal: Refusal) -> u32
 {
     match refusal {
         Refusal::NoSuchNode => 1,
+        Refusal::NoSuchSignal => 2,
+        Refusal::NoSuchTable => 3,
+        Refusal::NotPublisher => 4,
+        Refusal::BadValue => 5,
         Refusal::NoAddress => 6,
         Refusal::BadLength => 7,
         Refusal::QueueFull => 9,

@@ -3,10 +3,12 @@
 ghost use Rattle.std.specs.Prelude.{◌≡◌, ◌<◌, ◌≤◌, ◌∷◌, ◌==◌, [], false, length, slice_index, take, MatchOption};
 ghost use Rattle.std.specs.List.{All};
 ghost use Rattle.lin_log.specs.Read.{Gives};
-ghost use Rattle.lin_log.specs.Script.{field_by, fields, hex_bytes, number, port};
+ghost use Rattle.lin_log.specs.Script.{array_bytes, field_by, fields, hex_bytes, number, port, value};
 
+use arrayvec::ArrayVec;
 use hex::FromHexError;
 use lin_core::{Payload, PortId};
+use lin_frame::{Value, ValueBytes};
 use std::alloc::Global;
 
 /// A line is in no form, or there was no memory for its step.
@@ -116,6 +118,58 @@ pub(crate) fn hex_field(alloc: Global, line: &[u8]) -> Result<(Payload, &[u8]), 
     match first_field(line) {
         None => Err(LineFault::Bad),
         Some((word, rest)) => Ok((hex_bytes(alloc, word)?, rest)),
+    }
+}
+
+/// The number of a signal or a table, or a scalar.
+fn pair_number(word: &[u8]) -> Result<u16, LineFault>
+    ensures { Gives (λ x. x) result (number 65535 word.now) }
+{
+    match number(word, 65535) {
+        None => Err(LineFault::Bad),
+        Some(n) => Ok(n as u16),
+    }
+}
+
+/// A field that is the number of a signal or a table.
+pub(crate) fn index_field(line: &[u8]) -> Result<(u16, &[u8]), LineFault>
+    ensures { Gives (λ x. (x.0, fields x.1.now)) result (field_by (number 65535) (fields line.now)) }
+{
+    match first_field(line) {
+        None => Err(LineFault::Bad),
+        Some((word, rest)) => Ok((pair_number(word)?, rest)),
+    }
+}
+
+/// The bytes of an array.
+fn array_bytes(alloc: Global, word: &[u8]) -> Result<ValueBytes, LineFault>
+    ensures { Gives (λ x. x) result (array_bytes word.now) }
+{
+    let payload = hex_bytes(alloc, word)?;
+    let mut bytes = ArrayVec::new();
+    match bytes.try_extend_from_slice(payload.as_slice()) {
+        Ok(()) => Ok(ValueBytes::new(bytes)),
+        Err(_) => Err(LineFault::Bad),
+    }
+}
+
+#[tactic(auto, unfolding(crate::specs::Script::value))]
+fn value(alloc: Global, word: &[u8]) -> Result<Value, LineFault>
+    ensures { Gives (λ x. x) result (value word.now) }
+{
+    match word {
+        [b'x', digits @ ..] => Ok(Value::Bytes(array_bytes(alloc, digits)?)),
+        _ => Ok(Value::Scalar(pair_number(word)?)),
+    }
+}
+
+/// A field that is a signal's value.
+pub(crate) fn value_field(alloc: Global, line: &[u8]) -> Result<(Value, &[u8]), LineFault>
+    ensures { Gives (λ x. (x.0, fields x.1.now)) result (field_by value (fields line.now)) }
+{
+    match first_field(line) {
+        None => Err(LineFault::Bad),
+        Some((word, rest)) => Ok((value(alloc, word)?, rest)),
     }
 }
 

@@ -4,9 +4,11 @@ ghost use Rattle.std.specs.Prelude.{◌≡◌};
 ghost use Rattle.std.specs.Option.{option_to_list};
 ghost use Rattle.lin_core.specs.declared.step.Step.TheVariants.{Answer};
 ghost use Rattle.lin_log.specs.Read.{Gives};
-ghost use Rattle.lin_log.specs.Script.{fields, form, is_remark, line_steps, no_more, node_form, port_step, send_form};
+ghost use Rattle.lin_log.specs.Script.{fields, form, is_remark, line_steps, no_more, node_form, port_step, send_form, switch_form, write_form};
 
-use crate::fields::{LineFault, first_field, hex_field, node_field, port_field};
+use crate::fields::{
+    LineFault, first_field, hex_field, index_field, node_field, port_field, value_field,
+};
 use lin_core::{PortId, Step};
 use std::alloc::Global;
 
@@ -30,6 +32,24 @@ fn send(alloc: Global, line: &[u8]) -> Result<Step, LineFault>
     no_more(rest, Step::Send { from, to, message })
 }
 
+#[tactic(auto, unfolding(crate::specs::Script::write_form))]
+fn write(alloc: Global, line: &[u8]) -> Result<Step, LineFault>
+    ensures { Gives (λ x. x) result (write_form (fields line.now)) }
+{
+    let (by, rest) = node_field(line)?;
+    let (signal, rest) = index_field(rest)?;
+    let (value, rest) = value_field(alloc, rest)?;
+    no_more(rest, Step::Write { by, signal, value })
+}
+
+#[tactic(auto, unfolding(crate::specs::Script::switch_form))]
+fn switch(line: &[u8]) -> Result<Step, LineFault>
+    ensures { Gives (λ x. x) result (switch_form (fields line.now)) }
+{
+    let (table, rest) = index_field(line)?;
+    no_more(rest, Step::Switch { table })
+}
+
 #[tactic(auto, unfolding(crate::specs::Script::node_form))]
 fn answer(line: &[u8]) -> Result<Step, LineFault>
     ensures { Gives (λ x. x) result (node_form Answer (fields line.now)) }
@@ -45,12 +65,16 @@ fn form(alloc: Global, word: &[u8], rest: &[u8]) -> Result<Step, LineFault>
 {
     if word == b"send".as_slice() {
         send(alloc, rest)
+    } else if word == b"write".as_slice() {
+        write(alloc, rest)
     } else if word == b"open".as_slice() {
         no_more(rest, Step::Open)
     } else if word == b"answer".as_slice() {
         answer(rest)
     } else if word == b"finish".as_slice() {
         no_more(rest, Step::Finish)
+    } else if word == b"switch".as_slice() {
+        switch(rest)
     } else {
         Err(LineFault::Bad)
     }

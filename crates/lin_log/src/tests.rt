@@ -125,6 +125,10 @@ fn forms_of_lines(rt: HostRuntime) -> Result<(), Fail> {
             "n255 answer 0\nh255 send 0 1 0aFf",
             "n255 answer 0\n> refused 13\nh255 send 0 1 0AFF\n> refused 14\n",
         ),
+        (
+            "bus write 0 0 0065535\nh0 write 00 65535 x0aFf\nbus write 9 1 x-\nbus switch 00\nbus switch 65535",
+            "bus write 0 0 65535\n> refused 2\nh0 write 0 65535 x0AFF\n> refused 2\nbus write 9 1 x-\n> refused 1\nbus switch 0\nbus switch 65535\n> refused 3\n",
+        ),
     ] {
         let text = written(alloc, 16, script.as_bytes())?;
         assert_eq!(rt; text.as_slice(), log.as_bytes(), "of {script}");
@@ -138,6 +142,14 @@ fn forms_of_lines(rt: HostRuntime) -> Result<(), Fail> {
         ("bus answer -", 1),
         ("h0 send 0 1 0", 1),
         ("h0 send 0 1 0g", 1),
+        ("bus write 0 0 65536", 1),
+        ("bus write 0 65536 0", 1),
+        ("bus write 0 0 -", 1),
+        ("bus write 0 0 x", 1),
+        ("bus write 0 0 X00", 1),
+        ("bus write 0 0 x010203040506070809", 1),
+        ("bus write 0 0", 1),
+        ("bus switch 65536", 1),
         ("bus hurt 0", 1),
         ("bus\topen", 1),
         ("bus open\r\r\n", 1),

@@ -17,6 +17,7 @@ pub(crate) enum Word<'a> {
     Number(u32),
     Byte(u8),
     Hex(&'a [u8]),
+    Array(&'a [u8]),
     Host(u8),
     Node(u8),
 }
@@ -68,6 +69,10 @@ fn put_word<W: Write>(
         Word::Number(number) => put_number(writer, buffer, number),
         Word::Byte(byte) => put(writer, buffer, &digits(byte)),
         Word::Hex(bytes) => put_hex(writer, buffer, bytes),
+        Word::Array(bytes) => {
+            put_byte(writer, buffer, b'x')?;
+            put_hex(writer, buffer, bytes)
+        }
         Word::Host(number) => {
             put_byte(writer, buffer, b'h')?;
             put_number(writer, buffer, u32::from(number))

@@ -1,6 +1,7 @@
 //! `linsim replay`.
 
 ghost use Rattle.std.specs.Prelude.{◌<◌, length, IfOk};
+ghost use Rattle.linsim.specs.Opening.{Opens, opening_of};
 
 use crate::fault::Fault;
 use clap::ArgMatches;
@@ -11,7 +12,8 @@ use std::io;
 
 /// The number of the schedule table of this name; of the first one, where no name was given.
 fn opening(cluster: &Cluster, name: Option<&str>) -> Result<u16, Fault>
-    ensures { IfOk result (λ table. table < length cluster.now.tables) }
+    ensures table { Opens result (opening_of cluster.now name.entry) }
+    ensures range { IfOk result (λ table. table < length cluster.now.tables) }
 {
     match name {
         Some(name) => cluster.table_named(name).ok_or(Fault::NoSuchTable),

@@ -68,7 +68,7 @@ pushed c =
 is_answered : (c : After-push) → entry c ≡ answered (core_data c.self.inside) c.args.by (Answer c.args.node)
 is_answered c = done-answered (core_data c.self.inside) c.args.by (Answer c.args.node) (events c) (next c).step.allowed refl
 
-kept : (c : After-push) → Keeps c.self.inside.cluster c.self.inside.opening c.self.inside.capacity (c.self.inside.log.entries ++ entry c ∷ []) (entry c ∷ past_in c.self.inside) c.put_in.new.slot c.self.inside.state.time c.self.inside.state.walker c.self.inside.state.hosts.items
+kept : (c : After-push) → Keeps c.self.inside.cluster c.self.inside.opening c.self.inside.capacity (c.self.inside.log.entries ++ entry c ∷ []) (entry c ∷ past_in c.self.inside) c.put_in.new.slot c.self.inside.state.time c.self.inside.state.walker c.self.inside.state.hosts.items c.self.inside.state.signals
 kept c =
     let a = c.self.inside in
     let w = c.self.invariant in
@@ -77,8 +77,8 @@ kept c =
     let put : c.put_in.new.slot ≡ Some (record k.0 { put = Some (record { node = c.args.node; answer = frame_of c }) })
     = c.put_in.ensures k.0 k.1 ∙ ap (λ (bytes : List ℕ). Some (record k.0 { put = Some (record { node = c.args.node; answer = bytes }) })) (c.single_frame-answer.ensures x.answer.message (there c)) in
     rw put
-    (answer-keeps a.cluster a.opening a.capacity a.log.entries (past_in a) k.0 a.state.time a.state.walker a.state.hosts.items c.args.by c.args.node (frame_of c) w.sound x.step.known x.step.allowed x.answer (told c)
-    (subst (λ (o : Option OpenSlot). Keeps a.cluster a.opening a.capacity a.log.entries (past_in a) o a.state.time a.state.walker a.state.hosts.items) k.1 w.kept))
+    (answer-keeps a.cluster a.opening a.capacity a.log.entries (past_in a) k.0 a.state.time a.state.walker a.state.hosts.items a.state.signals c.args.by c.args.node (frame_of c) w.sound x.step.known x.step.allowed x.answer (told c)
+    (subst (λ (o : Option OpenSlot). Keeps a.cluster a.opening a.capacity a.log.entries (past_in a) o a.state.time a.state.walker a.state.hosts.items a.state.signals) k.1 w.kept))
 
 pub invariant_of-self-2 : goal.invariant_of-self-2
 invariant_of-self-2 c =

@@ -94,7 +94,7 @@ pushed c =
     c.push.ensures ∙ ap (λ (log : List LogEntry). log ++ done_entry c.args.by Finish c.three_events-events.result ∷ []) c.make_room.ensures.entries
     ∙ ap (λ (es : List Event). a.log.entries ++ done_entry c.args.by Finish es ∷ []) (c.three_events-events.ensures ∙ told c)
 
-kept : (c : After-push) → Keeps c.self.inside.cluster c.self.inside.opening c.self.inside.capacity (c.self.inside.log.entries ++ entry c ∷ []) (entry c ∷ past_in c.self.inside) c.take.new.self (c.self.inside.state.time + c.from.result) c.advance.new.self (slice_set c.self.inside.state.hosts.items 0 c.settle.new.self)
+kept : (c : After-push) → Keeps c.self.inside.cluster c.self.inside.opening c.self.inside.capacity (c.self.inside.log.entries ++ entry c ∷ []) (entry c ∷ past_in c.self.inside) c.take.new.self (c.self.inside.state.time + c.from.result) c.advance.new.self (slice_set c.self.inside.state.hosts.items 0 c.settle.new.self) c.self.inside.state.signals
 kept c =
     let a = c.self.inside in
     let w = c.self.invariant in
@@ -103,10 +103,10 @@ kept c =
     let x : OneIs a c.args.by o host c.next-place.result = one c in
     let after : c.settle.new.self ≡ settled host = c.settle.ensures ∙ ap settled (same c) in
     rw (c.take.ensures.after, after)
-    (finish-keeps a.cluster a.opening a.capacity a.log.entries (past_in a) o.slot a.state.time (a.state.time + c.from.result) a.state.walker c.advance.new.self a.state.hosts.items (slice_set a.state.hosts.items 0 (settled host)) c.args.by (finishes c)
+    (finish-keeps a.cluster a.opening a.capacity a.log.entries (past_in a) o.slot a.state.time (a.state.time + c.from.result) a.state.walker c.advance.new.self a.state.hosts.items (slice_set a.state.hosts.items 0 (settled host)) a.state.signals c.args.by w.diagnostic (finishes c)
     (length-set a.state.hosts.items 0 (settled host))
     (one-hosts a.cluster a.capacity a.log.entries (past_in a) c.args.by (slot_in o.slot) a.state.hosts.items host w.sound o.step.known x.done x.here w.kept.each_host)
-    (subst (λ (s : Option OpenSlot). Keeps a.cluster a.opening a.capacity a.log.entries (past_in a) s a.state.time a.state.walker a.state.hosts.items) o.at w.kept))
+    (subst (λ (s : Option OpenSlot). Keeps a.cluster a.opening a.capacity a.log.entries (past_in a) s a.state.time a.state.walker a.state.hosts.items a.state.signals) o.at w.kept))
 
 pub invariant_of-self-2 : goal.invariant_of-self-2
 invariant_of-self-2 c =

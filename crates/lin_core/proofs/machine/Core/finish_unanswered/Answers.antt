@@ -50,15 +50,15 @@ pushed c =
     c.push.ensures ∙ ap (λ (log : List LogEntry). log ++ done_entry c.args.by Finish c.one_event-events.result ∷ []) c.make_room.ensures.entries
     ∙ ap (λ (es : List Event). a.log.entries ++ done_entry c.args.by Finish es ∷ []) (c.one_event-events.ensures ∙ ap (λ (s : _). Seen s ∷ []) seen_is ∙ sym (quiet c).told)
 
-kept : (c : After-push) → Keeps c.self.inside.cluster c.self.inside.opening c.self.inside.capacity (c.self.inside.log.entries ++ entry c ∷ []) (entry c ∷ past_in c.self.inside) c.take.new.self (c.self.inside.state.time + c.from.result) c.advance.new.self c.self.inside.state.hosts.items
+kept : (c : After-push) → Keeps c.self.inside.cluster c.self.inside.opening c.self.inside.capacity (c.self.inside.log.entries ++ entry c ∷ []) (entry c ∷ past_in c.self.inside) c.take.new.self (c.self.inside.state.time + c.from.result) c.advance.new.self c.self.inside.state.hosts.items c.self.inside.state.signals
 kept c =
     let a = c.self.inside in
     let w = c.self.invariant in
     let o = opened c in
     rw c.take.ensures.after
-    (finish-keeps a.cluster a.opening a.capacity a.log.entries (past_in a) o.slot a.state.time (a.state.time + c.from.result) a.state.walker c.advance.new.self a.state.hosts.items a.state.hosts.items c.args.by (finishes c) refl
+    (finish-keeps a.cluster a.opening a.capacity a.log.entries (past_in a) o.slot a.state.time (a.state.time + c.from.result) a.state.walker c.advance.new.self a.state.hosts.items a.state.hosts.items a.state.signals c.args.by w.diagnostic (finishes c) refl
     (λ h host there. still-hosts a.cluster a.capacity a.log.entries (past_in a) c.args.by (slot_in o.slot) w.sound o.step.known (quiet c) h host (w.kept.each_host h host there))
-    (subst (λ (s : Option OpenSlot). Keeps a.cluster a.opening a.capacity a.log.entries (past_in a) s a.state.time a.state.walker a.state.hosts.items) o.at w.kept))
+    (subst (λ (s : Option OpenSlot). Keeps a.cluster a.opening a.capacity a.log.entries (past_in a) s a.state.time a.state.walker a.state.hosts.items a.state.signals) o.at w.kept))
 
 pub invariant_of-self-2 : goal.invariant_of-self-2
 invariant_of-self-2 c =

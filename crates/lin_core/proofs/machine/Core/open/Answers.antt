@@ -45,7 +45,7 @@ invariant_of-self-2 c =
       diagnostic = w.diagnostic;
       opening = w.opening;
       kept = rw (pushed c, reverse-more a.log.entries (entry c))
-          (open-keeps a.cluster a.opening a.capacity a.log.entries (past_in a) a.state.slot c.begin-slot.result a.state.time a.state.walker a.state.hosts.items c.args.by
+          (open-keeps a.cluster a.opening a.capacity a.log.entries (past_in a) a.state.slot c.begin-slot.result a.state.time a.state.walker a.state.hosts.items a.state.signals c.args.by
           w.sound (some c) (allowed c).known (allowed c).allowed (opens c) w.kept);
       history = rw (pushed c, is_answered c) (history-more (core_data a) c.args.by Open w.history);
     }
