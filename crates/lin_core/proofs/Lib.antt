@@ -1,4 +1,5 @@
 pub mod Rows
+pub mod SignalRows
 pub mod Fates
 pub mod Tracks
 pub mod Hosts

@@ -8,7 +8,7 @@ use Rattle.lin_core.specs.Runs.{history, steps_of}
 use Rattle.lin_core.specs.declared.log.LogEntry.{LogEntry}
 use Rattle.lin_core.specs.declared.port.PortId.{PortId}
 use Rattle.lin_core.specs.declared.step.Step.{Step}
-use Rattle.lin_core.specs.declared.step.Step.TheVariants.{Send, Open, Answer, Finish}
+use Rattle.lin_core.specs.declared.step.Step.TheVariants.{Send, Write, Open, Answer, Finish, Switch}
 use Rattle.lin_core.specs.declared.hold.Hold.{Hold}
 use Rattle.lin_core.specs.declared.hold.Hold.TheVariants.{LogFull, OutOfMemory}
 
@@ -43,9 +43,11 @@ IsAlike old new = (new.cluster ≡ old.cluster) × (new.opening ≡ old.opening)
 -- the steps that need no more room than `make_room` makes
 abbrev pub IsSmall : Step → Type 0
 IsSmall (Send from to message) = ⊤
+IsSmall (Write by signal value) = ⊤
 IsSmall Open = ⊥
 IsSmall (Answer node) = ⊤
 IsSmall Finish = ⊥
+IsSmall (Switch table) = ⊥
 
 -- the step that is handed back
 abbrev pub step_of : Hold → Step

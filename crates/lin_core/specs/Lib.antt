@@ -1,6 +1,7 @@
 pub mod Words
 pub mod History
 pub mod Links
+pub mod Signals
 pub mod Slots
 pub mod Replies
 pub mod Runs

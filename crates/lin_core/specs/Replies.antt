@@ -1,7 +1,9 @@
 -- What each step is answered.
 use Rattle.std.specs.Prelude.{ℕ, suc, ◌==◌, nat_le, nat_lt, Bool, true, false, ◌&&◌, ◌||◌, not, if◌then◌else◌, List, [], ◌∷◌, ◌++◌, map, find, flat_map, zip, length, drop, Option, is_some, option_map, filter}
 use Rattle.lin_frame.specs.Words.{numbers, choose}
-use Rattle.lin_cluster.specs.Cluster.{nodes, nad, line_of}
+use Rattle.lin_frame.specs.Bits.{fits_place}
+use Rattle.lin_cluster.specs.Cluster.{nodes, nad, line_of, signal_of}
+use Rattle.lin_cluster.specs.Rules.{place_at}
 use Rattle.lin_cluster.specs.declared.parts.Parts.{Parts}
 use Rattle.lin_core.specs.History.{Slot as OpenSlot, open_slot, seen, is_in, has_decided}
 use Rattle.lin_core.specs.Links.{Link, Sending, Fate, accepted_from, host_of, waiting, sendings, fate_of, waits, reading}
@@ -13,11 +15,11 @@ use Rattle.lin_core.specs.declared.port.PortId.TheVariants.{Bus, Host, Node}
 use Rattle.lin_core.specs.declared.link.Direction.{Direction}
 use Rattle.lin_core.specs.declared.link.Direction.TheVariants.{Down, Up}
 use Rattle.lin_core.specs.declared.step.Step.{Step}
-use Rattle.lin_core.specs.declared.step.Step.TheVariants.{Send, Open, Answer, Finish}
+use Rattle.lin_core.specs.declared.step.Step.TheVariants.{Send, Write, Open, Answer, Finish, Switch}
 use Rattle.lin_core.specs.declared.event.Event.{Event}
 use Rattle.lin_core.specs.declared.event.Event.TheVariants.{Accepted, Slot, Due, Put, Seen, Message, Sent}
 use Rattle.lin_core.specs.declared.reply.Refusal.{Refusal}
-use Rattle.lin_core.specs.declared.reply.Refusal.TheVariants.{NoSuchNode, NoAddress, BadLength, QueueFull, SlotOpen, NoSlot, NotYours, Decided}
+use Rattle.lin_core.specs.declared.reply.Refusal.TheVariants.{NoSuchNode, NoSuchSignal, NoSuchTable, NotPublisher, BadValue, NoAddress, BadLength, QueueFull, SlotOpen, NoSlot, NotYours, Decided}
 use Rattle.lin_core.specs.declared.reply.Reply.{Reply}
 use Rattle.lin_core.specs.declared.reply.Reply.TheVariants.{Done, Refused}
 
@@ -25,6 +27,7 @@ use Rattle.lin_core.specs.declared.reply.Reply.TheVariants.{Done, Refused}
 abbrev pub may : PortId → Step → Bool
 may Bus step = true
 may (Host n) (Send from to message) = from == n
+may (Host n) (Write by signal value) = by == n
 may (Host n) step = false
 may (Node n) (Answer node) = node == n
 may (Node n) step = false
@@ -52,6 +55,13 @@ refusals c capacity past port (Send from to message) =
     ∷ (QueueFull, nat_le capacity (length (waiting c past from)))
     ∷ (NotYours, not (may port (Send from to message)))
     ∷ []
+refusals c capacity past port (Write by signal value) =
+    (NoSuchNode, nat_le (nodes c) by)
+    ∷ (NoSuchSignal, nat_le (length c.signals) signal)
+    ∷ (NotPublisher, not (by == (signal_of c signal).publisher))
+    ∷ (BadValue, not (fits_place (place_at 0 (signal_of c signal)) value))
+    ∷ (NotYours, not (may port (Write by signal value)))
+    ∷ []
 refusals c capacity past port Open = (SlotOpen, is_open past) ∷ (NotYours, not (may port Open)) ∷ []
 refusals c capacity past port (Answer node) =
     (NoSuchNode, nat_le (nodes c) node)
@@ -60,6 +70,8 @@ refusals c capacity past port (Answer node) =
     ∷ (Decided, in_slot past (λ s. has_decided s node))
     ∷ []
 refusals c capacity past port Finish = (NoSlot, not (is_open past)) ∷ (NotYours, not (may port Finish)) ∷ []
+refusals c capacity past port (Switch table) =
+    (NoSuchTable, nat_le (length c.tables) table) ∷ (SlotOpen, is_open past) ∷ (NotYours, not (may port (Switch table))) ∷ []
 
 -- the first of them that holds
 abbrev pub refusal : Parts → ℕ → List LogEntry → PortId → Step → Option Refusal
@@ -121,6 +133,7 @@ done_events c opening past port (Send from to message) = Accepted from (suc (len
 done_events c opening past port Open = opening_events c opening past
 done_events c opening past port (Answer node) = choose (open_slot past) [] (put_event c past node)
 done_events c opening past port Finish = finish_events c port past
+done_events c opening past port step = []
 
 unfoldable pub reply : Parts → ℕ → ℕ → List LogEntry → PortId → Step → Reply
 reply c opening capacity past port step =

@@ -8,6 +8,15 @@ use crate::payload::Events;
 pub enum Refusal {
     /// 1: a number in the step is no node's.
     NoSuchNode,
+    /// 2: the signal's number is no signal's.
+    NoSuchSignal,
+    /// 3: the table's number is no table's.
+    NoSuchTable,
+    /// 4: the node doesn't publish the signal.
+    NotPublisher,
+    /// 5: the value isn't of the signal's kind or size: an array for a scalar signal or the other way round, a scalar with more bits, an array of
+    /// another length.
+    BadValue,
     /// 6: the sender isn't host 0, or the receiver is host 0 or has no address.
     NoAddress,
     /// 7: the message has no bytes, or more than 6.
