@@ -13,7 +13,7 @@ use Rattle.lin_cluster.specs.Sound.{IsSound}
 use Rattle.lin_core.specs.declared.log.LogEntry.{LogEntry}
 use Rattle.lin_core.specs.declared.port.PortId.{PortId}
 use Rattle.lin_core.specs.declared.step.Step.{Step}
-use Rattle.lin_core.specs.declared.step.Step.TheVariants.{Send, Open, Answer, Finish}
+use Rattle.lin_core.specs.declared.step.Step.TheVariants.{Send, Write, Open, Answer, Finish, Switch}
 use Rattle.lin_core.specs.declared.event.Event.{Event}
 use Rattle.lin_core.specs.declared.event.Event.TheVariants.{Due, Put as PutEvent}
 use Rattle.lin_core.specs.declared.reply.Reply.TheVariants.{Done, Refused}
@@ -82,8 +82,10 @@ answer-defined c o past node (Some s) is = put-defined c o past node s s.header 
 step-defined : (c : Parts) (opening capacity : ℕ) (past : List LogEntry) (port : PortId) (step : Step) (r : Option Refusal) → AreDefined c opening past (reply_events (choose r (Done (done_events c opening past port step)) Refused))
 step-defined c o capacity past port step (Some r) = tt
 step-defined c o capacity past port (Send from to message) None = (tt, tt)
+step-defined c o capacity past port (Write by signal value) None = tt
 step-defined c o capacity past port Open None = let at : ℕ × ℕ = next_due c o past in ((refl, refl), due-defined c o past (due_nodes c past (line_of c at.0 at.1).entry))
 step-defined c o capacity past port (Answer node) None = answer-defined c o past node (open_slot past) refl
+step-defined c o capacity past port (Switch table) None = tt
 step-defined c o capacity past port Finish None =
     let e : LogEntry = quiet_entry port Finish
     in let A : List Event = choose (open_slot past) [] (λ s. SeenEvent (seen s) ∷ [])
