@@ -25,5 +25,5 @@ pub record IsWhole (a : Inside) : Type 0 where
   pub sound : IsSound a.cluster
   pub diagnostic : IsDiagnostic a.cluster
   pub opening : a.opening < length a.cluster.tables
-  pub kept : Keeps a.cluster a.opening a.capacity a.log.entries (reverse a.log.entries) a.state.slot a.state.time a.state.walker a.state.hosts.items
+  pub kept : Keeps a.cluster a.opening a.capacity a.log.entries (reverse a.log.entries) a.state.slot a.state.time a.state.walker a.state.hosts.items a.state.signals
   pub history : IsHistory (core_data a)

@@ -1,6 +1,7 @@
 //! Copies of steps.
 
 use crate::payload::Payload;
+use crate::signals::copied;
 use crate::step::Step;
 use std::alloc::{AllocError, Global};
 
@@ -33,9 +34,15 @@ impl Step {
                 to: *to,
                 message: message.copy(alloc)?,
             }),
+            Step::Write { by, signal, value } => Ok(Step::Write {
+                by: *by,
+                signal: *signal,
+                value: copied(value),
+            }),
             Step::Open => Ok(Step::Open),
             Step::Answer { node } => Ok(Step::Answer { node: *node }),
             Step::Finish => Ok(Step::Finish),
+            Step::Switch { table } => Ok(Step::Switch { table: *table }),
         }
     }
 }

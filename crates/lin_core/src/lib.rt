@@ -15,6 +15,7 @@ mod payload;
 mod port;
 mod refusals;
 mod reply;
+mod signals;
 mod slot;
 mod state;
 mod step;

@@ -9,12 +9,16 @@ use crate::log::{Log, LogEntry};
 use crate::messages::{message_at, single_frame};
 use crate::payload::{Events, Payload};
 use crate::port::PortId;
-use crate::refusals::{queued_by, refuse_answer, refuse_finish, refuse_open, refuse_send};
+use crate::refusals::{
+    queued_by, refuse_answer, refuse_finish, refuse_open, refuse_send, refuse_switch, refuse_write,
+};
 use crate::reply::{Refusal, Reply};
+use crate::signals::{Signals, copied};
 use crate::slot::{OpenSlot, Put, delay_of, is_answered, put_in, seen_in};
 use crate::state::State;
 use crate::step::Step;
 use lin_cluster::Cluster;
+use lin_frame::Value;
 use lin_schedule::Walker;
 use std::alloc::{AllocError, Global};
 use std::marker::Model;
@@ -77,6 +81,7 @@ impl Core {
     ghost use Rattle.lin_core.specs.Replies.{refusal};
     ghost use Rattle.lin_cluster.specs.Cluster.{nodes};
     ghost use Rattle.lin_core.specs.History.{time, undecided};
+    ghost use Rattle.lin_core.specs.Signals.{value_at};
     ghost use Rattle.lin_core.specs.Kept.{is_answered};
     ghost use Rattle.lin_core.specs.Links.{waiting};
     ghost use Rattle.lin_core.specs.Core.{answered, past_of, IsAlike, IsDiagnostic, IsHistory, IsRefused, IsAllowed, IsLogFull, IsOutOfMemory, IsSmall, IsStepped, step_of};
@@ -97,6 +102,7 @@ impl Core {
     {
         cluster.sound();
         let hosts = hosts(alloc, cluster.nodes(), capacity)?;
+        let signals = Signals::new(alloc, &cluster)?;
         Ok(Core {
             alloc,
             cluster,
@@ -109,6 +115,7 @@ impl Core {
                 time: 0,
                 walker: Walker::new(table),
                 hosts,
+                signals,
             },
         })
     }
@@ -150,6 +157,21 @@ impl Core {
         self.state.hosts[host as usize].queue.len()
     }
 
+    /// The value of a signal that a node sees: its publisher the one that was written last, each other node the one in the last good frame that has
+    /// the signal; the initial value before (ISO 17987-3, signals).
+    pub fn signal(&self, node: u8, signal: u16) -> Value
+        requires node { node < nodes self.now.cluster }
+        requires signal { signal < length self.now.cluster.signals }
+        ensures { result ≡ value_at self.now.cluster (past_of self.now) node signal }
+    {
+        let signals = &self.state.signals;
+        if node == self.cluster.publisher(signal) {
+            copied(&signals.values[signal as usize])
+        } else {
+            copied(&signals.heard[signal as usize])
+        }
+    }
+
     /// How many nodes that are due in the open slot have decided nothing; 0 where no slot is open.
     pub fn undecided(&self) -> usize
         ensures { result ≡ undecided (past_of self.now) }
@@ -160,7 +182,7 @@ impl Core {
         }
     }
 
-    /// Makes room, so that a send or an answer isn't held for want of memory if it is the next step. It changes nothing else; an
+    /// Makes room, so that a send, a write or an answer isn't held for want of memory if it is the next step. It changes nothing else; an
     /// error is want of memory.
     pub fn make_room(&mut self) -> Result<(), AllocError>
         ensures alike { IsAlike self.old self.new }
@@ -214,6 +236,57 @@ impl Core {
             port: by,
             step: Step::Send { from, to, message },
             reply: Reply::Done(events),
+        });
+        Ok(())
+    }
+
+    /// Logs a write: the signal has the value, and its frames are pending.
+    fn write(&mut self, by: PortId, node: u8, signal: u16, value: Value) -> Result<(), Hold>
+        requires allowed { IsAllowed self.old by (Step.Write node signal value) }
+        requires few { length self.old.log < 2 ^ 32 - 1 }
+        ensures ok { OnOk result (self.new.log ≡ self.old.log ++ answered self.old by (Step.Write node signal value) ∷ []) }
+        ensures alike { IsAlike self.old self.new }
+        ensures held { IfErr result (λ h. (self.new.log ≡ self.old.log) × (h ≡ Hold.OutOfMemory (Step.Write node signal value))) }
+        ensures spare { 1 ≤ self.old.spare → IsOk result }
+    {
+        if self.log.make_room().is_err() {
+            return Err(Hold::OutOfMemory(Step::Write {
+                by: node,
+                signal,
+                value,
+            }));
+        }
+        self.state
+            .signals
+            .write(&self.cluster, signal, copied(&value));
+        self.log.push(LogEntry {
+            port: by,
+            step: Step::Write {
+                by: node,
+                signal,
+                value,
+            },
+            reply: Reply::Done(Events::new(Vec::new(self.alloc))),
+        });
+        Ok(())
+    }
+
+    /// Logs a switch: the schedule goes on with a table.
+    fn switch(&mut self, by: PortId, table: u16) -> Result<(), Hold>
+        requires allowed { IsAllowed self.old by (Step.Switch table) }
+        requires few { length self.old.log < 2 ^ 32 - 1 }
+        ensures ok { OnOk result (self.new.log ≡ self.old.log ++ answered self.old by (Step.Switch table) ∷ []) }
+        ensures alike { IsAlike self.old self.new }
+        ensures held { IfErr result (λ h. (self.new.log ≡ self.old.log) × (h ≡ Hold.OutOfMemory (Step.Switch table))) }
+    {
+        if self.log.make_room().is_err() {
+            return Err(Hold::OutOfMemory(Step::Switch { table }));
+        }
+        self.state.walker.switch(table);
+        self.log.push(LogEntry {
+            port: by,
+            step: Step::Switch { table },
+            reply: Reply::Done(Events::new(Vec::new(self.alloc))),
         });
         Ok(())
     }
@@ -371,9 +444,15 @@ impl Core {
         }
         match step {
             Step::Send { from, to, message } => self.send(by, from, to, message),
+            Step::Write {
+                by: node,
+                signal,
+                value,
+            } => self.write(by, node, signal, value),
             Step::Open => self.open(by),
             Step::Answer { node } => self.answer(by, node),
             Step::Finish => self.finish(by),
+            Step::Switch { table } => self.switch(by, table),
         }
     }
 
@@ -395,9 +474,15 @@ impl Core {
                     message,
                 )
             }
+            Step::Write {
+                by: node,
+                signal,
+                value,
+            } => refuse_write(&self.cluster, by, *node, *signal, value),
             Step::Open => refuse_open(slot, by),
             Step::Answer { node } => refuse_answer(&self.cluster, slot, by, *node),
             Step::Finish => refuse_finish(slot, by),
+            Step::Switch { table } => refuse_switch(&self.cluster, slot, by, *table),
         }
     }
 

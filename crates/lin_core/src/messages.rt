@@ -22,7 +22,7 @@ pub(crate) fn message_at(log: &Log, place: usize) -> (u8, &[u8])
 {
     match &log.entry(place).step {
         Step::Send { to, message, .. } => (*to, message.as_slice()),
-        Step::Open | Step::Answer { .. } | Step::Finish => (0, &[]),
+        _ => (0, &[]),
     }
 }
 

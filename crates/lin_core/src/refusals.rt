@@ -1,7 +1,9 @@
 //! When a step is refused: the first reason that holds, in the order of their numbers.
 
 ghost use Rattle.std.specs.Prelude.{◌≡◌, ℕ, ◌≤◌, ◌<◌, List, length, option_map, slice_get, Some};
-ghost use Rattle.lin_cluster.specs.Cluster.{nodes};
+ghost use Rattle.lin_frame.specs.Bits.{fits_place};
+ghost use Rattle.lin_cluster.specs.Cluster.{nodes, signal_of};
+ghost use Rattle.lin_cluster.specs.Rules.{place_at};
 ghost use Rattle.lin_cluster.specs.declared.parts.Parts.{Parts};
 ghost use Rattle.lin_core.specs.History.{open_slot};
 ghost use Rattle.lin_core.specs.Kept.{slot_in};
@@ -17,6 +19,7 @@ use crate::reply::Refusal;
 use crate::slot::OpenSlot;
 use crate::step::Step;
 use lin_cluster::Cluster;
+use lin_frame::{Place, Value};
 
 /// Whether a port may send from a host.
 fn may_send(by: PortId, from: u8) -> bool
@@ -27,6 +30,30 @@ fn may_send(by: PortId, from: u8) -> bool
         PortId::Host(host) => from == host,
         PortId::Node(_) => false,
     }
+}
+
+/// Whether a port may write a node's signals.
+fn may_write(by: PortId, node: u8) -> bool
+    ensures { (signal : ℕ) (value : Value) → result ≡ may by (Step.Write node signal value) }
+{
+    match by {
+        PortId::Bus => true,
+        PortId::Host(host) => node == host,
+        PortId::Node(_) => false,
+    }
+}
+
+/// Whether a value has the kind and the size of a signal.
+fn fits_signal(cluster: &Cluster, signal: u16, value: &Value) -> bool
+    requires { signal < length cluster.now.signals }
+    ensures { result ≡ fits_place (place_at 0 (signal_of cluster.now signal)) value.now }
+{
+    let place = Place {
+        offset: 0,
+        size: cluster.signal_size(signal),
+        array: matches!(cluster.initial(signal), Value::Bytes(_)),
+    };
+    place.fits(value)
 }
 
 /// Whether a port may answer for a node.
@@ -67,6 +94,34 @@ pub(crate) fn refuse_send(
         return Some(Refusal::QueueFull);
     }
     if !may_send(by, from) {
+        return Some(Refusal::NotYours);
+    }
+    None
+}
+
+/// Why a write is refused.
+pub(crate) fn refuse_write(
+    cluster: &Cluster,
+    by: PortId,
+    node: u8,
+    signal: u16,
+    value: &Value,
+) -> Option<Refusal>
+    ensures { (capacity : ℕ) (past : List LogEntry) → result ≡ refusal cluster.now capacity past by (Step.Write node signal value.now) }
+{
+    if node as usize >= cluster.nodes() {
+        return Some(Refusal::NoSuchNode);
+    }
+    if signal as usize >= cluster.signals() {
+        return Some(Refusal::NoSuchSignal);
+    }
+    if node != cluster.publisher(signal) {
+        return Some(Refusal::NotPublisher);
+    }
+    if !fits_signal(cluster, signal, value) {
+        return Some(Refusal::BadValue);
+    }
+    if !may_write(by, node) {
         return Some(Refusal::NotYours);
     }
     None
@@ -115,6 +170,27 @@ pub(crate) fn refuse_finish(slot: &Option<OpenSlot>, by: PortId) -> Option<Refus
 {
     if slot.is_none() {
         return Some(Refusal::NoSlot);
+    }
+    match by {
+        PortId::Bus => None,
+        PortId::Host(_) | PortId::Node(_) => Some(Refusal::NotYours),
+    }
+}
+
+/// Why a switch is refused.
+pub(crate) fn refuse_switch(
+    cluster: &Cluster,
+    slot: &Option<OpenSlot>,
+    by: PortId,
+    table: u16,
+) -> Option<Refusal>
+    ensures { (capacity : ℕ) (past : List LogEntry) → option_map slot_in slot.now ≡ open_slot past → result ≡ refusal cluster.now capacity past by (Step.Switch table) }
+{
+    if table as usize >= cluster.tables() {
+        return Some(Refusal::NoSuchTable);
+    }
+    if slot.is_some() {
+        return Some(Refusal::SlotOpen);
     }
     match by {
         PortId::Bus => None,
