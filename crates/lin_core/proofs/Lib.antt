@@ -20,5 +20,10 @@ pub mod OpenSlots
 pub mod Entries
 pub mod Queues
 pub mod FinishEvents
+pub mod ClusterFrames
+pub mod SignalKeeping
+pub mod Hearing
+pub mod Opening
 pub mod Keeping
 pub mod Making
+pub mod Answering

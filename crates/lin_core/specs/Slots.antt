@@ -19,19 +19,6 @@ use Rattle.lin_core.specs.declared.log.LogEntry.{LogEntry}
 use Rattle.lin_core.specs.declared.step.Step.{Step}
 use Rattle.lin_core.specs.declared.step.Step.TheVariants.{Switch}
 
--- whether an entry is a diagnostic one, or stays silent
-abbrev pub is_diagnostic_entry : Entry → Bool
-is_diagnostic_entry (Frame f) = false
-is_diagnostic_entry (Sporadic k) = false
-is_diagnostic_entry (Event e) = false
-is_diagnostic_entry MasterReq = true
-is_diagnostic_entry SlaveResp = true
-is_diagnostic_entry Quiet = true
-
--- whether all entries of a cluster's tables are
-abbrev pub is_diagnostic : Parts → Bool
-is_diagnostic c = list_all (λ (t : Table). list_all (λ (line : Line). is_diagnostic_entry line.entry) t.lines) c.tables
-
 -- how a step that isn't of a slot moves the schedule on
 abbrev pub switched : Step → Option Move
 switched (Switch table) = Some (SwitchMove table)

@@ -1,7 +1,7 @@
 use Rattle.std.proofs.Common.{◌≡◌, subst}
 use Rattle.lin_core.specs.Core.{CoreData, past_of}
 use Rattle.lin_core.specs.Replies.{refusal}
-use Rattle.lin_core.specs.declared.step.Step.TheVariants.{Send, Open, Answer, Finish}
+use Rattle.lin_core.specs.declared.step.Step.TheVariants.{Send, Write, Open, Answer, Finish, Switch}
 use Rattle.lin_core.proofs.Making.{past_in, queued-inside}
 use Rattle.lin_core.proofs.machine.Core.refusal_of.Goals as goal
 
@@ -32,3 +32,16 @@ returns-in-Finish c =
     rw c.in-Finish.is
     (subst (λ (d : CoreData). c.refuse_finish.result ≡ refusal d.cluster d.capacity (past_of d) c.args.by Finish) c.self.view_is
     (c.refuse_finish.ensures a.cluster a.capacity (past_in a) c.self.invariant.kept.slot_is))
+
+pub returns-in-Write : goal.returns-in-Write
+returns-in-Write c =
+    rw c.in-Write.is
+    (subst (λ (d : CoreData). c.refuse_write.result ≡ refusal d.cluster d.capacity (past_of d) c.args.by (Write c.in-Write.node c.in-Write.signal c.in-Write.value)) c.self.view_is
+    (c.refuse_write.ensures c.self.inside.capacity (past_in c.self.inside)))
+
+pub returns-in-Switch : goal.returns-in-Switch
+returns-in-Switch c =
+    let a = c.self.inside in
+    rw c.in-Switch.is
+    (subst (λ (d : CoreData). c.refuse_switch.result ≡ refusal d.cluster d.capacity (past_of d) c.args.by (Switch c.in-Switch.table)) c.self.view_is
+    (c.refuse_switch.ensures a.capacity (past_in a) c.self.invariant.kept.slot_is))

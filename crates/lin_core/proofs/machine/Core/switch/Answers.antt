@@ -1,0 +1,50 @@
+use Rattle.std.proofs.Common.{◌≡◌, refl, List, [], ◌∷◌, ◌++◌, ap, ◌∙◌, subst, arith, length-append}
+use Rattle.lin_core.specs.Core.{answered, CoreData}
+use Rattle.lin_core.specs.Slots.{moves}
+use Rattle.lin_core.specs.Whole.{core_data}
+use Rattle.lin_core.specs.declared.log.LogEntry.{LogEntry}
+use Rattle.lin_core.specs.declared.event.Event.{Event}
+use Rattle.lin_core.specs.declared.step.Step.{Step}
+use Rattle.lin_core.specs.declared.step.Step.TheVariants.{Switch}
+use Rattle.lin_core.proofs.Entries.{reverse-more, history-more}
+use Rattle.lin_core.proofs.Keeping.{done_entry, done-answered, switch-keeps, switch-there}
+use Rattle.lin_core.proofs.Making.{Allowed, allowed-inside, past_in}
+use Rattle.lin_core.proofs.machine.Core.switch.Goals.{After-push}
+use Rattle.lin_core.proofs.machine.Core.switch.Goals as goal
+
+allowed : (c : After-push) → Allowed c.self.inside c.args.by (Switch c.args.table)
+allowed c = allowed-inside c.self.inside c.args.self.now c.args.by (Switch c.args.table) c.self.view_is c.self.invariant c.requires.allowed c.requires.few
+
+abbrev entry : (c : After-push) → LogEntry
+entry c = done_entry c.args.by (Switch c.args.table) []
+
+pushed : (c : After-push) → c.push.new.self.entries ≡ c.self.inside.log.entries ++ entry c ∷ []
+pushed c =
+    c.push.ensures ∙ ap (λ (log : List LogEntry). log ++ done_entry c.args.by (Switch c.args.table) c.new-2.result ∷ []) c.make_room.ensures.entries
+    ∙ ap (λ (es : List Event). c.self.inside.log.entries ++ done_entry c.args.by (Switch c.args.table) es ∷ []) (c.new-2.ensures ∙ c.new.ensures.items)
+
+is_answered : (c : After-push) → entry c ≡ answered (core_data c.self.inside) c.args.by (Switch c.args.table)
+is_answered c = done-answered (core_data c.self.inside) c.args.by (Switch c.args.table) [] (allowed c).allowed refl
+
+pub invariant_of-self-2 : goal.invariant_of-self-2
+invariant_of-self-2 c =
+    let a = c.self.inside in
+    let w = c.self.invariant in
+    record {
+      few = let few = (allowed c).few in rw (pushed c, length-append) (omega arith);
+      empty = w.empty;
+      rules = w.rules;
+      sound = w.sound;
+      opening = w.opening;
+      kept = rw (pushed c, reverse-more a.log.entries (entry c))
+          (switch-keeps a.cluster a.opening a.capacity a.log.entries (past_in a) a.state.slot a.state.time a.state.walker c.switch.new.self a.state.hosts.items a.state.signals c.args.by c.args.table
+          w.sound (allowed c).known (c.switch.ensures.stands a.cluster a.opening (moves (past_in a)) w.kept.stands)
+          (c.switch.ensures.walks a.cluster w.rules (switch-there a.cluster a.capacity (past_in a) c.args.by c.args.table (allowed c).allowed)) w.kept);
+      history = rw (pushed c, is_answered c) (history-more (core_data a) c.args.by (Switch c.args.table) w.history);
+    }
+
+pub returns-clause-ok : goal.returns-clause-ok
+returns-clause-ok c =
+    let step : Step = Switch c.args.table in
+    subst (λ (d : CoreData). c.push.new.self.entries ≡ d.log ++ answered d c.args.by step ∷ []) c.self.view_is
+    (pushed c ∙ ap (λ (e : LogEntry). c.self.inside.log.entries ++ e ∷ []) (is_answered c))
