@@ -96,10 +96,10 @@ step-calm : (c : Parts) (opening capacity : ℕ) (past : List LogEntry) (port : 
 step-calm c opening capacity past port step sound k (Some r) e p = record { unhurt = p.unhurt; sent = p.sent }
 step-calm c opening capacity past port (Send from to message) sound k None e p = record { unhurt = p.unhurt; sent = λ x. send-sent (from == x) (record { link = link_of from to; bytes = message }) (k.states x) (p.sent x) }
 step-calm c opening capacity past port (Write by signal value) sound k None e p = record { unhurt = p.unhurt; sent = p.sent }
-step-calm c opening capacity past port (Switch table) sound k None e p = record { unhurt = p.unhurt; sent = p.sent }
 step-calm c opening capacity past port Open sound k None e p = record { unhurt = let at : ℕ × ℕ = next_due c opening past in let kind : Entry = (line_of c at.0 at.1).entry in ap (λ (s : Slot). s.hurt) (told-due (due_nodes c past kind) at.0 at.1 (header c past kind) []); sent = p.sent }
 step-calm c opening capacity past port (Answer node) sound k None e p = record { unhurt = answer-unhurt c past node (open_slot past) p.unhurt; sent = p.sent }
 step-calm c opening capacity past port Finish sound k None e p = record { unhurt = refl; sent = finish-calm c past port (done_events c opening past port Finish) sound k (open_slot past) refl k.slot p }
+step-calm c opening capacity past port (Switch table) sound k None e p = record { unhurt = p.unhurt; sent = p.sent }
 
 record KnownCalm (c : Parts) (past : List LogEntry) : Type 0 where
   known : Known c past

@@ -83,9 +83,9 @@ step-defined : (c : Parts) (opening capacity : ℕ) (past : List LogEntry) (port
 step-defined c o capacity past port step (Some r) = tt
 step-defined c o capacity past port (Send from to message) None = (tt, tt)
 step-defined c o capacity past port (Write by signal value) None = tt
-step-defined c o capacity past port (Switch table) None = tt
 step-defined c o capacity past port Open None = let at : ℕ × ℕ = next_due c o past in ((refl, refl), due-defined c o past (due_nodes c past (line_of c at.0 at.1).entry))
 step-defined c o capacity past port (Answer node) None = answer-defined c o past node (open_slot past) refl
+step-defined c o capacity past port (Switch table) None = tt
 step-defined c o capacity past port Finish None =
     let e : LogEntry = quiet_entry port Finish
     in let A : List Event = choose (open_slot past) [] (λ s. SeenEvent (seen s) ∷ [])

@@ -68,10 +68,10 @@ pub step-grows : (c : Parts) (opening capacity : ℕ) (past : List LogEntry) (po
     → Grows (k.states x) ((step-known c opening capacity past port step sound k r e).states x)
 step-grows c opening capacity past port step sound k (Some r) e x = same-grows (k.states x)
 step-grows c opening capacity past port (Send from to message) sound k None e x = more-grows (from == x) (record { link = link_of from to; bytes = message }) (k.states x)
+step-grows c opening capacity past port (Write by signal value) sound k None e x = same-grows (k.states x)
 step-grows c opening capacity past port Open sound k None e x = same-grows (k.states x)
 step-grows c opening capacity past port (Answer node) sound k None e x = same-grows (k.states x)
 step-grows c opening capacity past port Finish sound k None e x = finish-grows c past port (done_events c opening past port Finish) sound k (open_slot past) refl k.slot x
-step-grows c opening capacity past port (Write by signal value) sound k None e x = same-grows (k.states x)
 step-grows c opening capacity past port (Switch table) sound k None e x = same-grows (k.states x)
 
 -- so fates stay

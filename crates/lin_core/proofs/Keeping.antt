@@ -8,7 +8,11 @@ use Rattle.lin_cluster.specs.Cluster.{nodes}
 use Rattle.lin_cluster.specs.declared.parts.Parts.{Parts}
 use Rattle.lin_core.specs.Kept.{message_at, sent_in, Keeps, KeepsHost, KeepsSignals, message_of}
 use Rattle.lin_core.specs.declared.signals.Signals.{Signals}
-use Rattle.lin_core.proofs.SignalKeeping.{Writes, set-at, signals-same, none-carried, write-signals, write-fits}
+use Rattle.lin_core.proofs.SignalKeeping.{Writes, Answers, Ends, set-at, signals-same, open-signals, write-signals, write-fits, answer-signals, finish-signals}
+use Rattle.lin_core.proofs.Opening.{with_put, put-open, answer-free}
+use Rattle.lin_core.specs.Kept.{IsOpen, put_in}
+use Rattle.std.proofs.lemmas.List.{map-append}
+use Rattle.std.specs.Prelude.{is_some}
 use Rattle.lin_frame.specs.declared.value.Value.{Value}
 use Rattle.lin_core.specs.Links.{Message, waiting}
 use Rattle.lin_core.specs.Core.{CoreData, IsRefused, answered}
@@ -28,13 +32,11 @@ use Rattle.std.proofs.lemmas.Bool.Decides.{nat_tests}
 use Rattle.std.proofs.Math.ListN.{length-set}
 use Rattle.lin_schedule.specs.Walker.{Position}
 use Rattle.lin_core.specs.declared.slot.OpenSlot.{OpenSlot}
-use Rattle.lin_core.specs.Core.{IsAllowed, IsDiagnostic, past_of}
+use Rattle.lin_core.specs.Core.{IsAllowed, past_of}
 use Rattle.lin_core.specs.Hosts.{queued, settled, fresh}
 use Rattle.std.specs.Prelude.{All}
 use Rattle.std.proofs.lemmas.List.Elements.{All-get_or}
 use Rattle.std.proofs.lemmas.Option.{slice_get_within, get_or_from_slice_get}
-use Rattle.lin_core.specs.History.{is_clash_seen, seen_by}
-use Rattle.lin_core.specs.Kept.{puts_in}
 use Rattle.lin_core.specs.declared.slot.Put.{Put}
 use Rattle.std.specs.Prelude.{drop}
 use Rattle.lin_core.specs.History.{done}
@@ -55,7 +57,7 @@ use Rattle.lin_cluster.specs.declared.parts.Entry.TheVariants.{Frame, Sporadic, 
 use Rattle.lin_schedule.specs.Walker.{HasEntry}
 use Rattle.lin_transport.specs.Transport.{frame}
 use Rattle.lin_core.specs.History.{Slot, open_slot, header_is}
-use Rattle.lin_core.specs.Kept.{begun, slot_in}
+use Rattle.lin_core.specs.Kept.{slot_in}
 use Rattle.lin_core.specs.Links.{nad_on}
 use Rattle.lin_core.specs.Slots.{header, due_nodes, next_due, with_classic}
 use Rattle.lin_core.specs.Replies.{opening_events, done_events, put_event}
@@ -68,7 +70,7 @@ use Rattle.lin_core.specs.Links.{Link}
 use Rattle.lin_core.specs.Links.Fate.{Sent}
 use Rattle.lin_core.specs.Replies.{receiver_of}
 use Rattle.lin_core.proofs.Hosts.{IsLink}
-use Rattle.lin_core.proofs.Plain.{Plain, FinishIs, none-due, master-due-one, AnswerIs, finish-is}
+use Rattle.lin_core.proofs.Plain.{Plain, FinishIs, is_carrying, AnswerIs, finish-is}
 use Rattle.lin_core.proofs.FinishEvents.{finish-quiet, finish-whole}
 use Rattle.lin_core.proofs.Known.{finish-known}
 use Rattle.lin_schedule.specs.Schedule.Move.{Slot as SlotMove, Switch as SwitchMove}
@@ -109,7 +111,7 @@ refused-keeps c opening capacity log past slot clock walker hosts signals by ste
     count = x.count;
     capacity_is = x.capacity_is;
   };
-  signals_are = signals-same c past (refused_entry by step r) signals (λ n. refl) (λ n. refl) (λ f. refl) k.signals_are;
+  signals_are = signals-same c past (refused_entry by step r) slot signals (λ n. refl) (λ n. refl) (λ f. refl) (λ f. refl) k.signals_are;
 }
 
 -- == a send
@@ -199,7 +201,7 @@ send-keeps c opening capacity log past slot clock walker hosts hosts' signals ho
                 (subst (λ (y : ℕ). KeepsHost c capacity log past y host) same.0 (k.each_host from host at))
             | inr differ ↦ send-other c capacity log past from x other m e (ne_eqb from x differ.0) (more x) (accepted-one past e from x m false (ne_eqb from x differ.0) refl) (k.each_host x other differ.1)
           ];
-      signals_are = signals-same c past e signals (λ n. refl) (λ n. refl) (λ f. refl) k.signals_are;
+      signals_are = signals-same c past e slot signals (λ n. refl) (λ n. refl) (λ f. refl) (λ f. refl) k.signals_are;
     }
 
 pub host-few : (c : Parts) (capacity : ℕ) (log : List LogEntry) (h : ℕ) (host : Host) → KeepsHost c capacity log (reverse log) h host → host.settled + length host.queue.items ≤ length log
@@ -232,7 +234,7 @@ pub write-keeps : (c : Parts) (opening capacity : ℕ) (log past : List LogEntry
     → Keeps c opening capacity (log ++ done_entry by (Write node signal v) [] ∷ []) (done_entry by (Write node signal v) [] ∷ past) slot clock walker hosts signals'
 write-keeps c opening capacity log past slot clock walker hosts signals signals' by node signal v sound known allowed written k =
     let e : LogEntry = done_entry by (Write node signal v) []
-    in let known' : Known c (e ∷ past) = write-known c past by node signal v known
+    in let known' : Known c (e ∷ past) = write-known c past by node signal v [] known
     in record {
       slot_is = k.slot_is;
       slot_there = k.slot_there;
@@ -242,7 +244,7 @@ write-keeps c opening capacity log past slot clock walker hosts signals signals'
       walks = k.walks;
       hosts_count = k.hosts_count;
       each_host = λ h host there. same-hosts c capacity log past e sound known known' (λ x. refl) (λ x. refl) h host (k.each_host h host there);
-      signals_are = write-signals c past by node signal v signals signals' (write-fits c capacity past by node signal v allowed) written k.signals_are;
+      signals_are = write-signals c past by node signal v slot signals signals' (write-fits c capacity past by node signal v allowed) written k.signals_are;
     }
 
 -- == a switch
@@ -258,7 +260,7 @@ pub switch-keeps : (c : Parts) (opening capacity : ℕ) (log past : List LogEntr
     → Keeps c opening capacity (log ++ done_entry by (Switch table) [] ∷ []) (done_entry by (Switch table) [] ∷ past) slot clock walker' hosts signals
 switch-keeps c opening capacity log past slot clock walker walker' hosts signals by table sound known stands walks k =
     let e : LogEntry = done_entry by (Switch table) []
-    in let known' : Known c (e ∷ past) = switch-known c past by table known
+    in let known' : Known c (e ∷ past) = switch-known c past by table [] known
     in record {
       slot_is = k.slot_is;
       slot_there = k.slot_there;
@@ -268,63 +270,68 @@ switch-keeps c opening capacity log past slot clock walker walker' hosts signals
       walks = walks;
       hosts_count = k.hosts_count;
       each_host = λ h host there. same-hosts c capacity log past e sound known known' (λ x. refl) (λ x. refl) h host (k.each_host h host there);
-      signals_are = signals-same c past e signals (λ n. refl) (λ n. refl) (λ f. refl) k.signals_are;
+      signals_are = signals-same c past e slot signals (λ n. refl) (λ n. refl) (λ f. refl) (λ f. refl) k.signals_are;
     }
 
 -- == an open
-due-of : (c : Parts) (past : List LogEntry) (b : Bool) → 1 ≤ nodes c → nat_lt 0 (length (waiting c past 0)) ≡ b → (if header_is 0x3C (if b then Some 0x3C else None) then 0 ∷ [] else []) ≡ due_nodes c past MasterReq
-due-of c past true some w = sym (master-due-one c past some w)
-due-of c past false some w = sym (none-due c past MasterReq (rw w refl))
-
-due-is : (c : Parts) (past : List LogEntry) (kind : Entry) → 1 ≤ nodes c → (if header_is 0x3C (header c past kind) then 0 ∷ [] else []) ≡ due_nodes c past kind
-due-is c past (Frame f) some = sym (none-due c past (Frame f) refl)
-due-is c past (Sporadic k) some = sym (none-due c past (Sporadic k) refl)
-due-is c past (EventEntry e) some = sym (none-due c past (EventEntry e) refl)
-due-is c past MasterReq some = due-of c past (nat_lt 0 (length (waiting c past 0))) some refl
-due-is c past SlaveResp some = sym (none-due c past SlaveResp refl)
-due-is c past Quiet some = sym (none-due c past Quiet refl)
-
 abbrev pub events_of_open : OpenSlot → List Event
 events_of_open s = SlotEvent s.table s.entry s.header ∷ map Due s.due.items
 
 -- a slot that opens where the schedule stands
 pub record Opens (c : Parts) (opening : ℕ) (past : List LogEntry) (slot : OpenSlot) : Type 0 where
   pub at : (slot.table, slot.entry) ≡ next_due c opening past
-  pub there : HasEntry c (slot.table, slot.entry)
-  pub begun_is : slot_in slot ≡ begun slot.table slot.entry (header c past (line_of c slot.table slot.entry).entry)
+  pub is_open : IsOpen c slot
+  pub header_is : slot.header ≡ header c past (line_of c slot.table slot.entry).entry
+  pub due_is : slot.due.items ≡ due_nodes c past (line_of c slot.table slot.entry).entry
+  pub empty : slot.puts.items ≡ []
 
-pub opening-is : (c : Parts) (opening : ℕ) (past : List LogEntry) (slot : OpenSlot) → 1 ≤ nodes c → Opens c opening past slot → events_of_open slot ≡ opening_events c opening past
-opening-is c opening past slot some o =
+pub opening-is : (c : Parts) (opening : ℕ) (past : List LogEntry) (slot : OpenSlot) → Opens c opening past slot → events_of_open slot ≡ opening_events c opening past
+opening-is c opening past slot o =
     let kind : Entry = (line_of c slot.table slot.entry).entry
     in let told : events_of_open slot ≡ SlotEvent slot.table slot.entry (header c past kind) ∷ map Due (due_nodes c past kind)
-    = ap (λ (s : Slot). SlotEvent s.table s.entry s.header ∷ map Due s.due) o.begun_is ∙ ap (λ (ns : List ℕ). SlotEvent slot.table slot.entry (header c past kind) ∷ map Due ns) (due-is c past kind some)
+    = ap (λ (h : Option ℕ). SlotEvent slot.table slot.entry h ∷ map Due slot.due.items) o.header_is ∙ ap (λ (ns : List ℕ). SlotEvent slot.table slot.entry (header c past kind) ∷ map Due ns) o.due_is
     in subst (λ (at : ℕ × ℕ). events_of_open slot ≡ SlotEvent at.0 at.1 (header c past (line_of c at.0 at.1).entry) ∷ map Due (due_nodes c past (line_of c at.0 at.1).entry)) o.at told
+
+opened-slot : (c : Parts) (past : List LogEntry) (slot : OpenSlot) → slot.header ≡ header c past (line_of c slot.table slot.entry).entry → slot.due.items ≡ due_nodes c past (line_of c slot.table slot.entry).entry → slot.puts.items ≡ []
+    → slot_in slot ≡ slot_of slot.table slot.entry (header c past (line_of c slot.table slot.entry).entry) (due_nodes c past (line_of c slot.table slot.entry).entry) [] [] false
+opened-slot c past slot h d e = rw (h, d, e) refl
+
+-- no slot is open where one may be opened
+shut-by : (o : Option OpenSlot) → is_some (option_map slot_in o) ≡ false → o ≡ None
+shut-by None e = refl
+shut-by (Some s) e = cc
+
+pub shut-slot : (c : Parts) (capacity : ℕ) (past : List LogEntry) (by : PortId) (old : Option OpenSlot) → refusal c capacity past by Open ≡ None → option_map slot_in old ≡ open_slot past → old ≡ None
+shut-slot c capacity past by old h is =
+    let all : AllFalse (refusals c capacity past by Open) = none-of (refusals c capacity past by Open) h
+    in let closed : is_some (open_slot past) ≡ false = all.0
+    in shut-by old (ap is_some is ∙ closed)
 
 pub done-answered : (core : CoreData) (by : PortId) (step : Step) (es : List Event) → IsAllowed core by step → es ≡ done_events core.cluster core.opening (past_of core) by step → done_entry by step es ≡ answered core by step
 unfolding reply
 done-answered core by step es h e = rw (h, e)
 
 pub open-keeps : (c : Parts) (opening capacity : ℕ) (log past : List LogEntry) (old : Option OpenSlot) (slot : OpenSlot) (clock : ℕ) (walker : Position) (hosts : List Host) (signals : Signals) (by : PortId)
-    → IsSound c → 1 ≤ nodes c → Known c past → refusal c capacity past by Open ≡ None → Opens c opening past slot
+    → IsSound c → Known c past → refusal c capacity past by Open ≡ None → Opens c opening past slot
     → Keeps c opening capacity log past old clock walker hosts signals → Keeps c opening capacity (log ++ done_entry by Open (opening_events c opening past) ∷ []) (done_entry by Open (opening_events c opening past) ∷ past) (Some slot) clock walker hosts signals
-open-keeps c opening capacity log past old slot clock walker hosts signals by sound some known allowed o k =
+open-keeps c opening capacity log past old slot clock walker hosts signals by sound known allowed o k =
     let at : ℕ × ℕ = next_due c opening past
     in let e : LogEntry = done_entry by Open (opening_events c opening past)
     in let known' : Known c (e ∷ past) = open-known c opening capacity past by sound allowed known
+    in let shut : KeepsSignals c past None signals = subst (λ (x : Option OpenSlot). KeepsSignals c past x signals) (shut-slot c capacity past by old allowed k.slot_is) k.signals_are
     in record {
       slot_is = ap Some (
-          o.begun_is
-          ∙ subst (λ (p : ℕ × ℕ). begun slot.table slot.entry (header c past (line_of c slot.table slot.entry).entry) ≡ begun p.0 p.1 (header c past (line_of c p.0 p.1).entry)) o.at refl
-          ∙ ap (λ (ns : List ℕ). slot_of at.0 at.1 (header c past (line_of c at.0 at.1).entry) ns [] [] false) (due-is c past (line_of c at.0 at.1).entry some)
+          opened-slot c past slot o.header_is o.due_is o.empty
+          ∙ ap (λ (p : ℕ × ℕ). slot_of p.0 p.1 (header c past (line_of c p.0 p.1).entry) (due_nodes c past (line_of c p.0 p.1).entry) [] [] false) o.at
           ∙ sym (told-due (due_nodes c past (line_of c at.0 at.1).entry) at.0 at.1 (header c past (line_of c at.0 at.1).entry) []));
-      slot_there = o.there;
+      slot_there = o.is_open;
       clock_is = k.clock_is;
       clock_few = let t = k.clock_few in omega arith;
       stands = k.stands;
       walks = k.walks;
       hosts_count = k.hosts_count;
       each_host = λ h host there. same-hosts c capacity log past e sound known known' (λ x. refl) (λ x. refl) h host (k.each_host h host there);
-      signals_are = signals-same c past e signals (λ n. refl) (λ n. refl) (λ f. refl) k.signals_are;
+      signals_are = open-signals c past e slot signals o.empty (λ n. refl) (λ n. refl) (λ f. refl) shut;
     }
 
 -- == an answer
@@ -332,29 +339,28 @@ pub answer-told : (c : Parts) (past : List LogEntry) (states : ℕ → HostState
     → PutEvent node (with_classic (frame (nad_on c a.message.link) a.message.bytes 0)) ∷ [] ≡ choose (open_slot past) [] (put_event c past node)
 answer-told c past states node a = sym (rw (a.is, a.header) (ap (λ (bytes : List ℕ). PutEvent node bytes ∷ []) a.bytes))
 
-pub answer-keeps : (c : Parts) (opening capacity : ℕ) (log past : List LogEntry) (slot : OpenSlot) (clock : ℕ) (walker : Position) (hosts : List Host) (signals : Signals) (by : PortId) (node : ℕ) (bytes : List ℕ)
-    → IsSound c → (k : Known c past) → refusal c capacity past by (Answer node) ≡ None → (a : AnswerIs c past k.states node)
-    → PutEvent node bytes ∷ [] ≡ choose (open_slot past) [] (put_event c past node)
+pub answer-keeps : (c : Parts) (opening capacity : ℕ) (log past : List LogEntry) (slot : OpenSlot) (clock : ℕ) (walker : Position) (hosts : List Host) (signals signals' : Signals) (by : PortId) (node : ℕ) (p : Put)
+    → IsSound c → Known c past → refusal c capacity past by (Answer node) ≡ None → p.node ≡ node
+    → PutEvent node p.answer ∷ [] ≡ choose (open_slot past) [] (put_event c past node) → Answers c slot (with_put slot p) p signals signals'
     → Keeps c opening capacity log past (Some slot) clock walker hosts signals
     → Keeps c opening capacity (log ++ done_entry by (Answer node) (choose (open_slot past) [] (put_event c past node)) ∷ []) (done_entry by (Answer node) (choose (open_slot past) [] (put_event c past node)) ∷ past)
-    (Some (record slot { put = Some (record { node = node; answer = bytes }) })) clock walker hosts signals
-answer-keeps c opening capacity log past slot clock walker hosts signals by node bytes sound known allowed a told k =
+    (Some (with_put slot p)) clock walker hosts signals'
+answer-keeps c opening capacity log past slot clock walker hosts signals signals' by node p sound known allowed own told a k =
     let e : LogEntry = done_entry by (Answer node) (choose (open_slot past) [] (put_event c past node))
     in let known' : Known c (e ∷ past) = answer-known c capacity past by node sound allowed known
-    in let same : Some (slot_in slot) ≡ Some a.slot = k.slot_is ∙ a.is
-    in let empty : (slot_in slot).puts ≡ [] = let s : slot_in slot ≡ a.slot = cc in ap (λ (x : Slot). x.puts) s ∙ a.empty
-    in let put : Some (slot_of slot.table slot.entry slot.header slot.due.items ((node, bytes) ∷ []) [] false) ≡ option_map (told_all (PutEvent node bytes ∷ [])) (open_slot past)
-    = rw (← k.slot_is) (ap (λ (ps : List (ℕ × List ℕ)). Some (slot_of slot.table slot.entry slot.header slot.due.items (ps ++ (node, bytes) ∷ []) [] false)) (sym empty))
+    in let is : open_slot past ≡ Some (slot_in slot) = sym k.slot_is
+    in let put : Some (slot_in (with_put slot p)) ≡ option_map (told_all (PutEvent node p.answer ∷ [])) (open_slot past)
+    = rw (is, ← own) (ap (λ (ps : List (ℕ × List ℕ)). Some (slot_of slot.table slot.entry slot.header slot.due.items ps [] false)) (map-append put_in slot.puts.items (p ∷ [])))
     in record {
-      slot_is = subst (λ (es : List Event). Some (slot_of slot.table slot.entry slot.header slot.due.items ((node, bytes) ∷ []) [] false) ≡ option_map (told_all es) (open_slot past)) told put;
-      slot_there = k.slot_there;
+      slot_is = subst (λ (es : List Event). Some (slot_in (with_put slot p)) ≡ option_map (told_all es) (open_slot past)) told put;
+      slot_there = put-open c slot p k.slot_there (answer-free c capacity past by node slot p own allowed is);
       clock_is = k.clock_is;
       clock_few = let t = k.clock_few in omega arith;
       stands = k.stands;
       walks = k.walks;
       hosts_count = k.hosts_count;
       each_host = λ h host there. same-hosts c capacity log past e sound known known' (λ x. refl) (λ x. refl) h host (k.each_host h host there);
-      signals_are = signals-same c past e signals (λ n. refl) (λ n. refl) (λ f. refl) k.signals_are;
+      signals_are = answer-signals c past by node (choose (open_slot past) [] (put_event c past node)) slot (with_put slot p) p signals signals' a k.signals_are;
     }
 
 -- == a finish
@@ -365,29 +371,27 @@ finished_entry c past by = done_entry by Finish (finish_events c by past)
 pub record Finishes (c : Parts) (opening : ℕ) (past : List LogEntry) (slot : OpenSlot) (clock clock' : ℕ) (walker walker' : Position) : Type 0 where
   pub clock_is : clock' ≡ clock + (line_of c slot.table slot.entry).delay_us
   pub few : (line_of c slot.table slot.entry).delay_us ≤ 1000000000
-  pub stands : Stands c opening walker' (SlotMove false ∷ moves past)
+  pub stands : Stands c opening walker' (SlotMove (is_clash (slot_in slot)) ∷ moves past)
   pub walks : Walks c walker'
-  pub calm : is_clash (slot_in slot) ≡ false
 
 clock-few : (d n t : ℕ) → d ≤ 1000000000 → t ≤ 10 ^ 9 * n → t + d ≤ 10 ^ 9 * suc n
 clock-few d n t a b = omega arith
 
-pub finish-keeps : (c : Parts) (opening capacity : ℕ) (log past : List LogEntry) (slot : OpenSlot) (clock clock' : ℕ) (walker walker' : Position) (hosts hosts' : List Host) (signals : Signals) (by : PortId)
-    → IsDiagnostic c
-    → Finishes c opening past slot clock clock' walker walker' → length hosts' ≡ length hosts
+pub finish-keeps : (c : Parts) (opening capacity : ℕ) (log past : List LogEntry) (slot : OpenSlot) (clock clock' : ℕ) (walker walker' : Position) (hosts hosts' : List Host) (signals signals' : Signals) (by : PortId)
+    → Finishes c opening past slot clock clock' walker walker' → Ends c slot signals signals' → length hosts' ≡ length hosts
     → ((h : ℕ) (host : Host) → slice_get hosts' h ≡ Some host → KeepsHost c capacity (log ++ finished_entry c past by ∷ []) (finished_entry c past by ∷ past) h host)
     → Keeps c opening capacity log past (Some slot) clock walker hosts signals
-    → Keeps c opening capacity (log ++ finished_entry c past by ∷ []) (finished_entry c past by ∷ past) None clock' walker' hosts' signals
-finish-keeps c opening capacity log past slot clock clock' walker walker' hosts hosts' signals by diagnostic f count each k = record {
+    → Keeps c opening capacity (log ++ finished_entry c past by ∷ []) (finished_entry c past by ∷ past) None clock' walker' hosts' signals'
+finish-keeps c opening capacity log past slot clock clock' walker walker' hosts hosts' signals signals' by f ends count each k = record {
   slot_is = refl;
   slot_there = tt;
   clock_is = rw (← k.slot_is, f.clock_is, k.clock_is) refl;
   clock_few = rw (← k.slot_is) (clock-few (line_of c slot.table slot.entry).delay_us (length past) (time c past) f.few k.clock_few);
-  stands = rw (← k.slot_is, f.calm) f.stands;
+  stands = rw (← k.slot_is) f.stands;
   walks = f.walks;
   hosts_count = count ∙ k.hosts_count;
   each_host = each;
-  signals_are = none-carried c past (finished_entry c past by) (slot_in slot) signals diagnostic (rw (← k.slot_is) refl) (λ n. refl) (λ f. refl) k.signals_are;
+  signals_are = finish-signals c past by (finish_events c by past) slot signals signals' (sym k.slot_is) ends k.signals_are;
 }
 
 -- a finish by which nothing is settled
@@ -407,10 +411,11 @@ pub record FinishesOne (c : Parts) (past : List LogEntry) (by : PortId) (slot : 
   pub rests : (x : ℕ) → (known'.states x).rest ≡ (if 0 == x then later else (known.states x).rest)
 
 -- what a finish makes of the hosts, by the slot that it ends
-still-is : (c : Parts) (past : List LogEntry) (states states' : ℕ → HostState) (o : Option Slot) → FinishIs c past states states' o → (s : Slot) → o ≡ Some s → s.puts ≡ [] → (x : ℕ) → states' x ≡ states x
+still-is : (c : Parts) (past : List LogEntry) (states states' : ℕ → HostState) (o : Option Slot) → FinishIs c past states states' o → (s : Slot) → o ≡ Some s → is_carrying s ≡ false → (x : ℕ) → states' x ≡ states x
 still-is c past states states' None (shut e) s is empty = e
 still-is c past states states' (Some _) (still t n e) s is empty = e
-still-is c past states states' (Some _) (whole t m ms header puts hurt first link down e) s is empty = absurd (let same : t ≡ s = cc in let none : t.puts ≡ [] = ap (λ (y : Slot). y.puts) same ∙ empty in cc)
+still-is c past states states' (Some _) (whole t m ms header puts hurt first link down e) s is empty =
+    absurd (let same : t ≡ s = cc in let none : is_carrying t ≡ false = ap is_carrying same ∙ empty in let some : is_carrying t ≡ true = rw (header, puts) refl in let bad : true ≡ false = sym some ∙ none in cc)
 
 record WholeIs (c : Parts) (states states' : ℕ → HostState) : Type 0 where
   message : Message
@@ -420,10 +425,10 @@ record WholeIs (c : Parts) (states states' : ℕ → HostState) : Type 0 where
   down : message.link.dir ≡ Down
   each : (x : ℕ) → states' x ≡ (if 0 == x then record { done = (states 0).done ++ (message, Sent) ∷ []; rest = later; count = 0 } else states x)
 
-whole-is : (c : Parts) (past : List LogEntry) (states states' : ℕ → HostState) (o : Option Slot) → FinishIs c past states states' o → (s : Slot) → o ≡ Some s → (p : ℕ × List ℕ) → s.puts ≡ p ∷ [] → WholeIs c states states'
-whole-is c past states states' None (shut e) s is p puts = absurd (cc)
-whole-is c past states states' (Some _) (still t n e) s is p puts = absurd (let same : t ≡ s = cc in let some : t.puts ≡ p ∷ [] = ap (λ (y : Slot). y.puts) same ∙ puts in cc)
-whole-is c past states states' (Some _) (whole t m ms header puts' hurt first link down e) s is p puts = record { message = m; later = ms; first = first; link = link; down = down; each = e }
+whole-is : (c : Parts) (past : List LogEntry) (states states' : ℕ → HostState) (o : Option Slot) → FinishIs c past states states' o → (s : Slot) → o ≡ Some s → is_carrying s ≡ true → WholeIs c states states'
+whole-is c past states states' None (shut e) s is some = absurd (cc)
+whole-is c past states states' (Some _) (still t n e) s is some = absurd (let same : t ≡ s = cc in let own : is_carrying t ≡ true = ap is_carrying same ∙ some in let bad : true ≡ false = sym own ∙ n in cc)
+whole-is c past states states' (Some _) (whole t m ms header puts' hurt first link down e) s is some = record { message = m; later = ms; first = first; link = link; down = down; each = e }
 
 done-if : (b : Bool) (m : Message) (ms : List Message) (a s : HostState) → (b ≡ true → a ≡ s)
     → (if b then record { done = a.done ++ (m, Sent) ∷ []; rest = ms; count = 0 } else s).done ≡ s.done ++ (if b then (m, Sent) ∷ [] else [])
@@ -440,7 +445,7 @@ receiver-down l down = rw down
 abbrev states_behind : (c : Parts) (past : List LogEntry) (by : PortId) → IsSound c → Known c past → List Event → ℕ → HostState
 states_behind c past by sound known es = (finish-known c past by es sound known (open_slot past) refl known.slot).states
 
-pub finishes-still : (c : Parts) (past : List LogEntry) (by : PortId) (s : Slot) → IsSound c → (known : Known c past) → Plain past known.states → open_slot past ≡ Some s → s.puts ≡ [] → FinishesStill c past by s known
+pub finishes-still : (c : Parts) (past : List LogEntry) (by : PortId) (s : Slot) → IsSound c → (known : Known c past) → Plain past known.states → open_slot past ≡ Some s → is_carrying s ≡ false → FinishesStill c past by s known
 finishes-still c past by s sound known plain is empty =
     let same : (es : List Event) (x : ℕ) → states_behind c past by sound known es x ≡ known.states x
     = λ es. still-is c past known.states (states_behind c past by sound known es) (open_slot past) (finish-is c past by es sound known plain (open_slot past) refl known.slot) s is empty
@@ -450,10 +455,10 @@ finishes-still c past by s sound known plain is empty =
       same = same (finish_events c by past);
     }
 
-pub finishes-one : (c : Parts) (past : List LogEntry) (by : PortId) (s : Slot) (p : ℕ × List ℕ) → IsSound c → (known : Known c past) → Plain past known.states → open_slot past ≡ Some s → s.puts ≡ p ∷ [] → FinishesOne c past by s known
-finishes-one c past by s p sound known plain is puts =
+pub finishes-one : (c : Parts) (past : List LogEntry) (by : PortId) (s : Slot) → IsSound c → (known : Known c past) → Plain past known.states → open_slot past ≡ Some s → is_carrying s ≡ true → FinishesOne c past by s known
+finishes-one c past by s sound known plain is some =
     let at : (es : List Event) → WholeIs c known.states (states_behind c past by sound known es)
-    = λ es. whole-is c past known.states (states_behind c past by sound known es) (open_slot past) (finish-is c past by es sound known plain (open_slot past) refl known.slot) s is p puts
+    = λ es. whole-is c past known.states (states_behind c past by sound known es) (open_slot past) (finish-is c past by es sound known plain (open_slot past) refl known.slot) s is some
     in let w : WholeIs c known.states (states_behind c past by sound known []) = at []
     in let v : WholeIs c known.states (states_behind c past by sound known (finish_events c by past)) = at (finish_events c by past)
     in let both : v.message ∷ v.later ≡ w.message ∷ w.later = sym v.first ∙ w.first
@@ -470,15 +475,6 @@ finishes-one c past by s p sound known plain is puts =
       known' = finish-known c past by (finish_events c by past) sound known (open_slot past) refl known.slot;
       rests = λ x. ap (λ (h : HostState). h.rest) (v.each x) ∙ rest-if (0 == x) v.message v.later (known.states 0) (known.states x) ∙ ap (λ (ms : List Message). if 0 == x then ms else (known.states x).rest) later;
     }
-
--- a slot of this stage is never seen damaged or collided
-calm-by : (h : Option ℕ) (o : Option Put) → is_clash_seen (seen_by h (puts_in o) false) ≡ false
-calm-by None o = refl
-calm-by (Some h) None = refl
-calm-by (Some h) (Some p) = refl
-
-pub calm : (slot : OpenSlot) → is_clash (slot_in slot) ≡ false
-calm slot = calm-by slot.header slot.put
 
 -- the hosts behind a finish that settles nothing
 pub still-hosts : (c : Parts) (capacity : ℕ) (log past : List LogEntry) (by : PortId) (s : Slot) → IsSound c → (known : Known c past) → FinishesStill c past by s known
@@ -525,7 +521,7 @@ one-hosts c capacity log past by s hosts host sound known f at each h x there =
 all-at : {X : Type 0} (P : X → Type 0) (xs : List X) (i : ℕ) (x : X) → All P xs → slice_get xs i ≡ Some x → P x
 all-at P xs i x a h = subst P (get_or_from_slice_get xs i x x h) (All-get_or P xs i x (slice_get_within xs i x h) a)
 
-pub start-keeps : (c : Parts) (opening capacity : ℕ) (walker : Position) (hosts : List Host) (signals : Signals) → Stands c opening walker [] → Walks c walker → length hosts ≡ nodes c → All (λ (host : Host). host ≡ fresh capacity) hosts → KeepsSignals c [] signals
+pub start-keeps : (c : Parts) (opening capacity : ℕ) (walker : Position) (hosts : List Host) (signals : Signals) → Stands c opening walker [] → Walks c walker → length hosts ≡ nodes c → All (λ (host : Host). host ≡ fresh capacity) hosts → KeepsSignals c [] None signals
     → Keeps c opening capacity [] [] None 0 walker hosts signals
 start-keeps c opening capacity walker hosts signals stands walks count all kept = record {
   slot_is = refl;

@@ -13,7 +13,6 @@ use Rattle.lin_core.specs.declared.log.LogEntry.{LogEntry}
 use Rattle.lin_core.specs.declared.port.PortId.{PortId}
 use Rattle.lin_core.specs.declared.step.Step.{Step}
 use Rattle.lin_core.specs.declared.step.Step.TheVariants.{Write, Switch}
-use Rattle.lin_frame.specs.declared.value.Value.{Value}
 use Rattle.lin_core.specs.declared.event.Event.{Event}
 use Rattle.lin_cluster.specs.declared.parts.Entry.TheVariants.{MasterReq, SlaveResp}
 use Rattle.lin_core.specs.declared.reply.Reply.TheVariants.{Done, Refused}
@@ -53,11 +52,11 @@ entry_is port step es = record { port = port; step = step; reply = Done es }
 abbrev pub refused-known : (c : Parts) (past : List LogEntry) (port : PortId) (step : Step) (r : Refusal) → Known c past → Known c (record { port = port; step = step; reply = Refused r } ∷ past)
 refused-known c past port step r k = record { states = k.states; hosts = k.hosts; slot = k.slot }
 
-abbrev pub write-known : (c : Parts) (past : List LogEntry) (port : PortId) (by signal : ℕ) (value : Value) → Known c past → Known c (entry_is port (Write by signal value) [] ∷ past)
-write-known c past port by signal value k = record { states = k.states; hosts = k.hosts; slot = k.slot }
+abbrev pub write-known : (c : Parts) (past : List LogEntry) (port : PortId) (by signal : ℕ) (value : _) (es : List Event) → Known c past → Known c (entry_is port (Write by signal value) es ∷ past)
+write-known c past port by signal value es k = record { states = k.states; hosts = k.hosts; slot = k.slot }
 
-abbrev pub switch-known : (c : Parts) (past : List LogEntry) (port : PortId) (table : ℕ) → Known c past → Known c (entry_is port (Switch table) [] ∷ past)
-switch-known c past port table k = record { states = k.states; hosts = k.hosts; slot = k.slot }
+abbrev pub switch-known : (c : Parts) (past : List LogEntry) (port : PortId) (table : ℕ) (es : List Event) → Known c past → Known c (entry_is port (Switch table) es ∷ past)
+switch-known c past port table es k = record { states = k.states; hosts = k.hosts; slot = k.slot }
 
 -- a finish
 pub as-state : (c : Parts) (h : ℕ) (accepted : List Message) (heard : Link → List Heard) (signs : Link → List Sign) (s : HostState) (rest : List Message) (k : ℕ)

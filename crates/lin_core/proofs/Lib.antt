@@ -1,4 +1,5 @@
 pub mod Rows
+pub mod SignalRows
 pub mod Fates
 pub mod Tracks
 pub mod Hosts
@@ -19,6 +20,10 @@ pub mod OpenSlots
 pub mod Entries
 pub mod Queues
 pub mod FinishEvents
+pub mod ClusterFrames
 pub mod SignalKeeping
+pub mod Hearing
+pub mod Opening
 pub mod Keeping
 pub mod Making
+pub mod Answering

@@ -36,9 +36,23 @@ use Rattle.lin_core.proofs.Plain.{Plain, KnownPlain, history-plain, AllShort, An
 use Rattle.lin_core.proofs.Queues.{waiting-are, accepted-count}
 use Rattle.std.proofs.lemmas.List.{length-map}
 use Rattle.std.specs.Prelude.{true, false, is_some}
-use Rattle.lin_core.specs.Kept.{has_some, is_answered, puts_in, put_in}
+use Rattle.lin_core.specs.Kept.{cleared_in, is_carrying}
+use Rattle.lin_core.proofs.Plain.{is_carrying as carries_message}
+use Rattle.lin_core.proofs.OpenSlots.{or-false}
+use Rattle.lin_core.proofs.Opening.{header-due, nodes-due, new-open}
+use Rattle.lin_core.proofs.Keeping.{shut-slot}
+use Rattle.lin_core.specs.Dues.{header_of, is_due_of}
+use Rattle.lin_core.specs.Signals.{pending}
+use Rattle.lin_core.specs.Slots.{due_nodes}
+use Rattle.lin_core.specs.Replies.{in_slot}
+use Rattle.lin_core.specs.History.{header_is}
+use Rattle.lin_frame.specs.Words.{numbers}
+use Rattle.lin_schedule.specs.Due.{due_for}
+use Rattle.lin_schedule.specs.Walker.{HasEntry, Position}
+use Rattle.lin_schedule.specs.declared.due.Due.{Due}
+use Rattle.lin_core.specs.declared.step.Step.TheVariants.{Open}
+use Rattle.std.specs.Prelude.{filter, ◌||◌}
 use Rattle.lin_core.specs.Replies.{refusals}
-use Rattle.lin_core.specs.declared.slot.Put.{Put}
 use Rattle.lin_core.proofs.Keeping.{FinishesStill, finishes-still, FinishesOne, finishes-one}
 use Rattle.lin_core.proofs.Steps.{not-false, none-of}
 use Rattle.lin_core.proofs.Reports.{index-some}
@@ -90,22 +104,38 @@ waits-by (suc n) k e = rw (← e) (grind (arith, nat_tests))
 pub commander-at : (a : Inside) (host : Host) → IsWhole a → host ≡ slice_index_or a.state.hosts.items 0 host → slice_get a.state.hosts.items 0 ≡ Some host
 commander-at a host w e = let n = w.rules.nodes.number.0 in slice_get_read a.state.hosts.items (nodes a.cluster) 0 host (sym w.kept.hosts_count) (omega arith) e
 
-pub opens-inside : (a : Inside) (host : Host) (slot : OpenSlot) (waits : Bool) (place : ℕ × ℕ) (kind : Entry) → IsWhole a → host ≡ slice_index_or a.state.hosts.items 0 host → waits ≡ not (length host.queue.items == 0)
-    → place ≡ a.state.walker.place → kind ≡ (line_of a.cluster place.0 place.1).entry
-    → ((c : Parts) (past : List LogEntry) → nat_lt 0 (length (waiting c past 0)) ≡ waits → slot_in slot ≡ begun place.0 place.1 (header c past kind))
-    → Opens a.cluster a.opening (past_in a) slot
-opens-inside a host slot waits place kind w e b at k is =
+-- where no slot is open, the frames that are kept as pending are those that are
+pub flags-inside : (a : Inside) → IsWhole a → a.state.slot ≡ None → (f : ℕ) → slice_index_or a.state.signals.pending.items f false ≡ pending a.cluster (past_in a) f
+flags-inside a w shut f =
+    sym (or-false (slice_index_or a.state.signals.pending.items f false))
+    ∙ (let t : (slice_index_or a.state.signals.pending.items f false || cleared_in None f) ≡ pending a.cluster (past_in a) f = subst (λ (o : Option OpenSlot). (slice_index_or a.state.signals.pending.items f false || cleared_in o f) ≡ pending a.cluster (past_in a) f) shut (w.kept.signals_are.each_pending f) in t)
+
+pub opens-inside : (a : Inside) (by : PortId) (host : Host) (slot : OpenSlot) (waits : Bool) (place : ℕ × ℕ) (due : Due) → IsWhole a → Allowed a by Open → host ≡ slice_index_or a.state.hosts.items 0 host
+    → waits ≡ not (length host.queue.items == 0) → place ≡ a.state.walker.place → due ≡ due_for a.cluster a.state.signals.pending.items (line_of a.cluster a.state.walker.place.0 a.state.walker.place.1).entry
+    → slot_in slot ≡ begun place.0 place.1 (header_of a.cluster waits due) (filter (is_due_of a.cluster a.state.signals.pending.items waits due) (numbers (nodes a.cluster)))
+    → length slot.due.items ≤ 16 → slot.puts.items ≡ [] → Opens a.cluster a.opening (past_in a) slot
+opens-inside a by host slot waits place due w s e b at d is few empty =
     let past : List LogEntry = past_in a
     in let kept : KeepsHost a.cluster a.capacity a.log.entries past 0 host = w.kept.each_host 0 host (commander-at a host w e)
     in let n = queue-length a.cluster a.capacity a.log.entries past 0 host kept
-    in let slot_is : slot_in slot ≡ begun place.0 place.1 (header a.cluster past kind) = is a.cluster past (waits-by (length host.queue.items) (length (waiting a.cluster past 0)) n ∙ sym b)
-    in let table : slot.table ≡ place.0 = ap (λ (s : Slot). s.table) slot_is
-    in let entry : slot.entry ≡ place.1 = ap (λ (s : Slot). s.entry) slot_is
-    in let pair : (slot.table, slot.entry) ≡ place = rw (table, entry) refl
+    in let waiting_is : nat_lt 0 (length (waiting a.cluster past 0)) ≡ waits = waits-by (length host.queue.items) (length (waiting a.cluster past 0)) n ∙ sym b
+    in let shut : a.state.slot ≡ None = shut-slot a.cluster a.capacity past by a.state.slot s.allowed w.kept.slot_is
+    in let flags = flags-inside a w shut
+    in let kind : Entry = (line_of a.cluster a.state.walker.place.0 a.state.walker.place.1).entry
+    in let table : slot.table ≡ place.0 = ap (λ (x : Slot). x.table) is
+    in let entry : slot.entry ≡ place.1 = ap (λ (x : Slot). x.entry) is
+    in let pair : (slot.table, slot.entry) ≡ a.state.walker.place = (let t : (slot.table, slot.entry) ≡ place = rw (table, entry) refl in t) ∙ at
+    in let line : (line_of a.cluster slot.table slot.entry).entry ≡ kind = ap (λ (p : ℕ × ℕ). (line_of a.cluster p.0 p.1).entry) pair
+    in let head : slot.header ≡ header a.cluster past kind = ap (λ (x : Slot). x.header) is ∙ ap (header_of a.cluster waits) d ∙ header-due a.cluster past a.state.signals.pending.items waits kind flags waiting_is
+    in let dues : slot.due.items ≡ due_nodes a.cluster past kind
+    = ap (λ (x : Slot). x.due) is ∙ ap (λ (x : Due). filter (is_due_of a.cluster a.state.signals.pending.items waits x) (numbers (nodes a.cluster))) d ∙ nodes-due a.cluster past a.state.signals.pending.items waits kind flags waiting_is
+    in let there : HasEntry a.cluster (slot.table, slot.entry) = subst (HasEntry a.cluster) (sym pair) w.kept.walks.place
     in record {
-      at = pair ∙ at ∙ ap (λ (p : _). p.place) w.kept.stands;
-      there = rw (table, entry, at) w.kept.walks.place;
-      begun_is = subst (λ (p : ℕ × ℕ). slot_in slot ≡ begun p.0 p.1 (header a.cluster past (line_of a.cluster p.0 p.1).entry)) (sym pair) (slot_is ∙ ap (λ (x : Entry). begun place.0 place.1 (header a.cluster past x)) k);
+      at = pair ∙ ap (λ (p : Position). p.place) w.kept.stands;
+      is_open = new-open a.cluster past slot kind w.sound there line head dues empty few;
+      header_is = rw line head;
+      due_is = rw line dues;
+      empty = empty;
     }
 
 pub same-host : (a : Inside) (x y : Host) → IsWhole a → x ≡ slice_index_or a.state.hosts.items 0 x → y ≡ slice_index_or a.state.hosts.items 0 y → x ≡ y
@@ -152,25 +182,17 @@ pub record AnswersNext (a : Inside) (by : PortId) (node place : ℕ) : Type 0 wh
   pub answer : AnswerIs a.cluster (past_in a) step.known.states node
   pub next : NextIs a answer.message place
 
-pub answer-next : (a : Inside) (d : CoreData) (by : PortId) (node : ℕ) (host : Host) (place : ℕ) → core_data a ≡ d → IsWhole a → IsAllowed d by (Answer node) → length d.log < 2 ^ 32 - 1
+pub answer-next : (a : Inside) (d : CoreData) (by : PortId) (node : ℕ) (host : Host) (place : ℕ) → core_data a ≡ d → IsWhole a → IsAllowed d by (Answer node) → length d.log < 2 ^ 32 - 1 → in_slot (past_in a) (λ s. header_is 0x3C s.header) ≡ true
     → host ≡ slice_index_or a.state.hosts.items 0 host → ((p : ℕ) → slice_get host.queue.items 0 ≡ Some p → place ≡ p) → AnswersNext a by node place
-answer-next a d by node host place is w allowed few e at =
+answer-next a d by node host place is w allowed few head e at =
     let s : Allowed a by (Answer node) = allowed-inside a d by (Answer node) is w allowed few
-    in let x : AnswerIs a.cluster (past_in a) s.known.states node = answer-is a.cluster a.capacity (past_in a) by node w.sound s.known s.plain s.allowed
+    in let x : AnswerIs a.cluster (past_in a) s.known.states node = answer-is a.cluster a.capacity (past_in a) by node w.sound s.known s.plain s.allowed head
     in record { step = s; answer = x; next = next-inside a host place s.known s.plain x.message x.later x.first x.down w e at }
 
 -- == a finish
-open-some : (o : Option OpenSlot) (p : Option Slot) → option_map slot_in o ≡ p → is_some p ≡ true → (k : OpenSlot) × (o ≡ Some k) × (p ≡ Some (slot_in k))
+pub open-some : (o : Option OpenSlot) (p : Option Slot) → option_map slot_in o ≡ p → is_some p ≡ true → (k : OpenSlot) × (o ≡ Some k) × (p ≡ Some (slot_in k))
 open-some None p e h = absurd (let bad : false ≡ true = rw (← e) at h in cc)
 open-some (Some k) p e h = (k, refl, sym e)
-
-none-put : (ps : List (ℕ × List ℕ)) → has_some ps ≡ false → ps ≡ []
-none-put [] h = refl
-none-put (p ∷ ps) h = cc
-
-one-put : (o : Option Put) → has_some (puts_in o) ≡ true → (p : ℕ × List ℕ) × (puts_in o ≡ p ∷ [])
-one-put None h = absurd (cc)
-one-put (Some x) h = (put_in x, refl)
 
 pub record OpenIs (a : Inside) (by : PortId) : Type 0 where
   pub step : Allowed a by Finish
@@ -186,11 +208,10 @@ open-inside a d by is w allowed few =
     in record { step = s; slot = k.0; at = k.1; is = k.2 }
 
 -- a finish of a slot in which nothing was put
-pub still-inside : (a : Inside) (d : CoreData) (by : PortId) → core_data a ≡ d → IsWhole a → (o : OpenIs a by) → is_answered (past_of d) ≡ false → FinishesStill a.cluster (past_in a) by (slot_in o.slot) o.step.known
+pub still-inside : (a : Inside) (d : CoreData) (by : PortId) → core_data a ≡ d → IsWhole a → (o : OpenIs a by) → is_carrying (past_of d) ≡ false → FinishesStill a.cluster (past_in a) by (slot_in o.slot) o.step.known
 still-inside a d by is w o none =
-    let no : is_answered (past_in a) ≡ false = subst (λ (x : CoreData). is_answered (past_of x) ≡ false) (sym is) none
-    in let empty : has_some (slot_in o.slot).puts ≡ false = rw o.is at no
-    in finishes-still a.cluster (past_in a) by (slot_in o.slot) w.sound o.step.known o.step.plain o.is (none-put (slot_in o.slot).puts empty)
+    let never : is_carrying (past_in a) ≡ false = subst (λ (x : CoreData). is_carrying (past_of x) ≡ false) (sym is) none
+    in finishes-still a.cluster (past_in a) by (slot_in o.slot) w.sound o.step.known o.step.plain o.is (let t : carries_message (slot_in o.slot) ≡ false = rw o.is at never in t)
 
 -- a finish of a slot with one answer
 pub record OneIs (a : Inside) (by : PortId) (o : OpenIs a by) (host : Host) (place : ℕ) : Type 0 where
@@ -200,13 +221,12 @@ pub record OneIs (a : Inside) (by : PortId) (o : OpenIs a by) (host : Host) (pla
   pub number : host.settled ≡ length (o.step.known.states 0).done
   pub small : host.settled + 1 < 2 ^ 32
 
-pub one-inside : (a : Inside) (d : CoreData) (by : PortId) (host : Host) (place : ℕ) → core_data a ≡ d → IsWhole a → (o : OpenIs a by) → is_answered (past_of d) ≡ true
+pub one-inside : (a : Inside) (d : CoreData) (by : PortId) (host : Host) (place : ℕ) → core_data a ≡ d → IsWhole a → (o : OpenIs a by) → is_carrying (past_of d) ≡ true
     → host ≡ slice_index_or a.state.hosts.items 0 host → ((p : ℕ) → slice_get host.queue.items 0 ≡ Some p → place ≡ p) → OneIs a by o host place
 one-inside a d by host place is w o some e at =
     let past : List LogEntry = past_in a
-    in let yes : is_answered past ≡ true = subst (λ (x : CoreData). is_answered (past_of x) ≡ true) (sym is) some
-    in let one = one-put o.slot.put (let t : has_some (slot_in o.slot).puts ≡ true = rw o.is at yes in t)
-    in let done : FinishesOne a.cluster past by (slot_in o.slot) o.step.known = finishes-one a.cluster past by (slot_in o.slot) one.0 w.sound o.step.known o.step.plain o.is one.1
+    in let carries : is_carrying past ≡ true = subst (λ (x : CoreData). is_carrying (past_of x) ≡ true) (sym is) some
+    in let done : FinishesOne a.cluster past by (slot_in o.slot) o.step.known = finishes-one a.cluster past by (slot_in o.slot) w.sound o.step.known o.step.plain o.is (let t : carries_message (slot_in o.slot) ≡ true = rw o.is at carries in t)
     in let here : slice_get a.state.hosts.items 0 ≡ Some host = commander-at a host w e
     in let kept : KeepsHost a.cluster a.capacity a.log.entries past 0 host = w.kept.each_host 0 host here
     in let few : host.settled + length host.queue.items ≤ length a.log.entries = host-few a.cluster a.capacity a.log.entries 0 host kept

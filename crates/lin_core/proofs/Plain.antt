@@ -1,16 +1,16 @@
 -- What holds while messages have one frame each, host 0 alone sends, and nothing is disturbed: what an answer puts and what
 -- a finish makes of the messages that wait.
 use Rattle.std.proofs.Common.{◌≡◌, ◌≢◌, ℕ, zero, suc, ◌-◌, ◌≤◌, Bool, true, false, List, [], ◌∷◌, ◌++◌, length, map, refl, ap, sym, ◌∙◌, subst, arith, inl, inr}
-use Rattle.std.specs.Prelude.{⊤, Option, Some, None, ◌&&◌, ◌||◌, not, ◌==◌, if◌then◌else◌, option_map, filter, nat_lt, nat_le}
+use Rattle.std.specs.Prelude.{⊤, Option, Some, None, ◌&&◌, ◌||◌, not, ◌==◌, if◌then◌else◌, option_map, filter, find, nat_lt, nat_le}
 use Rattle.std.specs.List.{list_any}
-use Rattle.std.proofs.lemmas.Bool.{true≢false}
+use Rattle.std.proofs.lemmas.Bool.{ne_eqb, true≢false}
 use Rattle.std.proofs.lemmas.Bool.Decides.{eqb_tells, nat_tests}
 use Rattle.std.proofs.lemmas.List.Elements.{filter-append}
 use Rattle.lin_transport.proofs.Frames.{and-false}
 use Rattle.lin_frame.specs.Words.{choose, numbers}
 use Rattle.lin_transport.specs.Transport.{frame, frame_count}
-use Rattle.lin_cluster.specs.Cluster.{line_of, nodes}
-use Rattle.lin_cluster.specs.Sound.{IsSound}
+use Rattle.lin_cluster.specs.Cluster.{event_of, frame_of, line_of, nodes, sporadic_of}
+use Rattle.lin_cluster.specs.Sound.{IsSignalPid, IsSound}
 use Rattle.lin_cluster.specs.declared.parts.Entry.{Entry}
 use Rattle.lin_cluster.specs.declared.parts.Entry.TheVariants.{Frame as FrameEntry, Sporadic, Event as EventEntry, MasterReq, SlaveResp, Quiet}
 use Rattle.lin_cluster.specs.declared.parts.Parts.{Parts}
@@ -19,6 +19,8 @@ use Rattle.lin_core.specs.Links.{Message, accepted_from, heard_on, host_of, head
 use Rattle.lin_core.specs.Links.Fate.{Sent}
 use Rattle.lin_core.specs.Replies.{done_events, has_address, in_slot, put_event, refusal, refusals, reply}
 use Rattle.lin_core.specs.Runs.{history}
+use Rattle.lin_core.specs.Kept.{has_some}
+use Rattle.lin_core.specs.Signals.{pending}
 use Rattle.lin_core.specs.Slots.{due_nodes, header, is_due, next_due, put, with_classic}
 use Rattle.lin_core.specs.declared.event.Event.{Event}
 use Rattle.lin_core.specs.declared.event.Event.TheVariants.{Put as PutEvent}
@@ -41,12 +43,12 @@ abbrev pub AllShort : List Message → Type 0
 AllShort [] = ⊤
 AllShort (m ∷ ms) = (length m.bytes ≤ 6) × AllShort ms
 
--- an open slot is not disturbed; under another header than a master request's nobody is due, and nothing is put
+-- an open slot is not disturbed; under the header of a slave response nobody is due, and nothing is put
 pub record IsPlainSlot (s : Slot) : Type 0 where
   pub unhurt : s.hurt ≡ false
   pub none_left : s.left ≡ []
-  pub none_due : header_is 0x3C s.header ≡ false → s.due ≡ []
-  pub none_put : header_is 0x3C s.header ≡ false → s.puts ≡ []
+  pub none_due : header_is 0x7D s.header ≡ true → s.due ≡ []
+  pub none_put : header_is 0x7D s.header ≡ true → s.puts ≡ []
 
 abbrev pub IsPlain : Option Slot → Type 0
 IsPlain None = ⊤
@@ -102,18 +104,28 @@ is-due-by : (c : Parts) (past : List LogEntry) (n : ℕ) (b : Bool) → nat_lt 0
 is-due-by c past n true e z = cc
 is-due-by c past n false e z = rw e (and-false (n == 0))
 
-master-due : (c : Parts) (past : List LogEntry) (b : Bool) → nat_lt 0 (length (waiting c past 0)) ≡ b → header_is 0x3C (if b then Some 0x3C else None) ≡ false → due_nodes c past MasterReq ≡ []
-master-due c past true e h = cc
-master-due c past false e h = filter-none (is_due c past MasterReq) (numbers (nodes c)) (λ n. is-due-by c past n (nat_lt 0 (length (waiting c past 0))) refl e)
+pub master-due-none : (c : Parts) (past : List LogEntry) → nat_lt 0 (length (waiting c past 0)) ≡ false → due_nodes c past MasterReq ≡ []
+master-due-none c past w = filter-none (is_due c past MasterReq) (numbers (nodes c)) (λ n. is-due-by c past n (nat_lt 0 (length (waiting c past 0))) refl w)
 
--- nobody is due in a slot without the header of a master request
-pub none-due : (c : Parts) (past : List LogEntry) (kind : Entry) → header_is 0x3C (header c past kind) ≡ false → due_nodes c past kind ≡ []
-none-due c past (FrameEntry f) h = filter-none (is_due c past (FrameEntry f)) (numbers (nodes c)) (λ n. refl)
-none-due c past (Sporadic k) h = filter-none (is_due c past (Sporadic k)) (numbers (nodes c)) (λ n. refl)
-none-due c past (EventEntry e) h = filter-none (is_due c past (EventEntry e)) (numbers (nodes c)) (λ n. refl)
-none-due c past MasterReq h = master-due c past (nat_lt 0 (length (waiting c past 0))) refl h
-none-due c past SlaveResp h = filter-none (is_due c past SlaveResp) (numbers (nodes c)) (λ n. refl)
-none-due c past Quiet h = filter-none (is_due c past Quiet) (numbers (nodes c)) (λ n. refl)
+-- nobody is due in a slot with the header of a slave response
+signal-due : (c : Parts) (past : List LogEntry) (kind : Entry) (pid : ℕ) → IsSignalPid pid → (pid == 0x7D) ≡ true → due_nodes c past kind ≡ []
+signal-due c past kind pid own h = absurd (let bad : false ≡ true = sym (ne_eqb pid 0x7D own.response) ∙ h in cc)
+
+sporadic-due : (c : Parts) (past : List LogEntry) (kind : Entry) (o : Option ℕ) → IsSound c → header_is 0x7D (option_map (λ f. (frame_of c f).pid) o) ≡ true → due_nodes c past kind ≡ []
+sporadic-due c past kind None sound h = cc
+sporadic-due c past kind (Some f) sound h = signal-due c past kind (frame_of c f).pid (sound.frames f) h
+
+request-due : (c : Parts) (past : List LogEntry) (kind : Entry) (b : Bool) → header_is 0x7D (if b then Some 0x3C else None) ≡ true → due_nodes c past kind ≡ []
+request-due c past kind true h = cc
+request-due c past kind false h = cc
+
+pub response-due : (c : Parts) (past : List LogEntry) (kind : Entry) → IsSound c → header_is 0x7D (header c past kind) ≡ true → due_nodes c past kind ≡ []
+response-due c past (FrameEntry f) sound h = signal-due c past (FrameEntry f) (frame_of c f).pid (sound.frames f) h
+response-due c past (Sporadic k) sound h = sporadic-due c past (Sporadic k) (find (pending c past) (sporadic_of c k)) sound h
+response-due c past (EventEntry e) sound h = signal-due c past (EventEntry e) (event_of c e).pid (sound.events e) h
+response-due c past MasterReq sound h = request-due c past MasterReq (nat_lt 0 (length (waiting c past 0))) h
+response-due c past SlaveResp sound h = filter-none (is_due c past SlaveResp) (numbers (nodes c)) (λ n. refl)
+response-due c past Quiet sound h = cc
 
 -- with that header the commander is due, alone
 zero-alone : (n : ℕ) → filter (λ k. k == 0 && true) (numbers (suc n)) ≡ 0 ∷ []
@@ -136,8 +148,8 @@ master-due-one c past l w =
     in same-filter (is_due c past MasterReq) (λ n. n == 0 && true) (numbers (nodes c)) (commander-due c past (nat_lt 0 (length (waiting c past 0))) refl w)
     ∙ ap (λ (n : ℕ). filter (λ k. k == 0 && true) (numbers n)) e ∙ zero-alone k
 
-opened-plain : (c : Parts) (past : List LogEntry) (table entry : ℕ) (kind : Entry) → IsPlainSlot (slot_of table entry (header c past kind) (due_nodes c past kind) [] [] false)
-opened-plain c past table entry kind = record { unhurt = refl; none_left = refl; none_due = λ h. none-due c past kind h; none_put = λ h. refl }
+opened-plain : (c : Parts) (past : List LogEntry) (table entry : ℕ) (kind : Entry) → IsSound c → IsPlainSlot (slot_of table entry (header c past kind) (due_nodes c past kind) [] [] false)
+opened-plain c past table entry kind sound = record { unhurt = refl; none_left = refl; none_due = λ h. response-due c past kind sound h; none_put = λ h. refl }
 
 -- an answer
 answer-plain : (c : Parts) (past : List LogEntry) (node : ℕ) (s : Slot) (h : Option ℕ) → s.header ≡ h → IsPlainSlot s → is_in s.due node ≡ true
@@ -161,10 +173,14 @@ count-one m l = let h : nat_le (length m) 6 ≡ true = grind (arith, nat_tests) 
 last-is : (m : List ℕ) (k : ℕ) → k ≡ 0 → length m ≤ 6 → is_last m k ≡ true
 last-is m k z l = rw (z, count-one m l)
 
+-- whether a slot carries a frame of a message
+abbrev pub is_carrying : Slot → Bool
+is_carrying s = header_is 0x3C s.header && has_some s.puts
+
 -- what a finish makes of the open slot and of what waits
 pub data FinishIs (c : Parts) (past : List LogEntry) (states states' : ℕ → HostState) : Option Slot → Type 0 where
   shut : ((x : ℕ) → states' x ≡ states x) → FinishIs c past states states' None
-  still : (s : Slot) → s.puts ≡ [] → ((x : ℕ) → states' x ≡ states x) → FinishIs c past states states' (Some s)
+  still : (s : Slot) → is_carrying s ≡ false → ((x : ℕ) → states' x ≡ states x) → FinishIs c past states states' (Some s)
   whole : (s : Slot) (m : Message) (ms : List Message) → s.header ≡ Some 0x3C → s.puts ≡ (0, with_classic (frame (nad_on c m.link) m.bytes 0)) ∷ [] → s.hurt ≡ false
       → (states 0).rest ≡ m ∷ ms → IsLink c 0 m.link → m.link.dir ≡ Down
       → ((x : ℕ) → states' x ≡ (if 0 == x then record { done = (states 0).done ++ (m, Sent) ∷ []; rest = ms; count = 0 } else states x))
@@ -199,7 +215,7 @@ puts-are n h j l m host z f = rw (host, z, f)
 pub finish-is : (c : Parts) (past : List LogEntry) (port : PortId) (es : List Event) (sound : IsSound c) (k : Known c past) → Plain past k.states → (o : Option Slot) (is : open_slot past ≡ o) (shape : SlotIs c k.states o)
     → FinishIs c past k.states ((finish-known c past port es sound k o is shape).states) o
 finish-is c past port es sound k p None is closed = shut (λ x. refl)
-finish-is c past port es sound k p (Some _) is (other s a b) = let plain : IsPlainSlot s = subst IsPlain is p.slot in still s (plain.none_put a) (λ x. refl)
+finish-is c past port es sound k p (Some _) is (other s a b) = still s (rw a) (λ x. refl)
 finish-is c past port es sound k p (Some _) is (master table entry due left hurt line only w) = still _ refl (λ x. refl)
 finish-is c past port es sound k p (Some _) is (slave table entry due left hurt h line only w) = still _ refl (λ x. refl)
 finish-is c past port es sound k p (Some _) is (carries table entry due left hurt h m ms j only host r n) =
@@ -258,7 +274,7 @@ step-plain c opening capacity past port Open sound k None e p =
       fresh = p.fresh;
       short = p.short;
       alone = p.alone;
-      slot = subst IsPlainSlot (sym (told-due (due_nodes c past kind) at.0 at.1 (header c past kind) [])) (opened-plain c past at.0 at.1 kind);
+      slot = subst IsPlainSlot (sym (told-due (due_nodes c past kind) at.0 at.1 (header c past kind) [])) (opened-plain c past at.0 at.1 kind sound);
     }
 step-plain c opening capacity past port (Answer node) sound k None e p =
     record { fresh = p.fresh; short = p.short; alone = p.alone; slot = answered-plain c past node (open_slot past) p.slot (answer-allowed c capacity past port node e).0 }
@@ -283,7 +299,7 @@ history-plain c opening capacity (s ∷ earlier) sound =
       plain = step-plain c opening capacity past s.0 s.1 sound k.known (refusal c capacity past s.0 s.1) refl k.plain;
     }
 
--- what an answer that is done finds, and what it puts
+-- what an answer that is done finds in a master request, and what it puts
 pub record AnswerIs (c : Parts) (past : List LogEntry) (states : ℕ → HostState) (node : ℕ) : Type 0 where
   pub slot : Slot
   pub is : open_slot past ≡ Some slot
@@ -318,27 +334,21 @@ master-answer c past k node table entry due left hurt sound p is line z w =
       bytes = rw line (ap with_classic (next.3 ∙ ap (frame (nad_on c m.link) m.bytes) (p.fresh 0)));
     }
 
-answer-by : (c : Parts) (past : List LogEntry) (node : ℕ) → IsSound c → (k : Known c past) → Plain past k.states → (o : Option Slot) → open_slot past ≡ o → SlotIs c k.states o
+answer-by : (c : Parts) (past : List LogEntry) (node : ℕ) → IsSound c → (k : Known c past) → Plain past k.states → (o : Option Slot) → open_slot past ≡ o → SlotIs c k.states o → in_slot past (λ s. header_is 0x3C s.header) ≡ true
     → in_slot past (λ s. is_in s.due node) ≡ true → in_slot past (λ s. has_decided s node) ≡ false → AnswerIs c past k.states node
-answer-by c past node sound k p None is closed d decided = absurd (let bad : false ≡ true = rw is at d in cc)
-answer-by c past node sound k p (Some _) is (other s a b) d decided =
-    let plain : IsPlainSlot s = subst IsPlain is p.slot
-    in let here : is_in s.due node ≡ true = rw is at d
-    in absurd (let bad : false ≡ true = rw (plain.none_due a) at here in cc)
-answer-by c past node sound k p (Some _) is (master table entry due left hurt line only w) d decided =
+answer-by c past node sound k p None is closed h d decided = absurd (let bad : false ≡ true = rw is at d in cc)
+answer-by c past node sound k p (Some _) is (other s a b) h d decided = absurd (let here : header_is 0x3C s.header ≡ true = rw is at h in let bad : false ≡ true = sym a ∙ here in cc)
+answer-by c past node sound k p (Some _) is (master table entry due left hurt line only w) h d decided =
     master-answer c past k node table entry due left hurt sound p is line (only node (rw is at d)) w
-answer-by c past node sound k p (Some _) is (slave table entry due left hurt h line only w) d decided =
-    let plain : IsPlainSlot (slot_of table entry (Some 0x7D) due [] left hurt) = subst IsPlain is p.slot
-    in let none : due ≡ [] = plain.none_due refl
-    in let here : is_in due node ≡ true = rw is at d
-    in absurd (let bad : false ≡ true = rw none at here in cc)
-answer-by c past node sound k p (Some _) is (carries table entry due left hurt h m ms j only host r n) d decided =
+answer-by c past node sound k p (Some _) is (slave table entry due left hurt x line only w) h d decided = absurd (let bad : false ≡ true = rw is at h in cc)
+answer-by c past node sound k p (Some _) is (carries table entry due left hurt x m ms j only host r n) header d decided =
     let f : List ℕ = frame (nad_on c m.link) m.bytes j
     in let z : node ≡ host_of m.link = only node (rw is at d) ∙ sym host
     in let no : (list_any (λ (q : ℕ × List ℕ). q.0 == node) ((host_of m.link, with_classic f) ∷ []) || is_in left node) ≡ false = rw is at decided
     in absurd (let yes = any-of left (host_of m.link) node (with_classic f) z in let bad : true ≡ false = sym yes ∙ no in cc)
 
-pub answer-is : (c : Parts) (capacity : ℕ) (past : List LogEntry) (port : PortId) (node : ℕ) → IsSound c → (k : Known c past) → Plain past k.states → refusal c capacity past port (Answer node) ≡ None → AnswerIs c past k.states node
-answer-is c capacity past port node sound k p h =
+pub answer-is : (c : Parts) (capacity : ℕ) (past : List LogEntry) (port : PortId) (node : ℕ) → IsSound c → (k : Known c past) → Plain past k.states
+    → refusal c capacity past port (Answer node) ≡ None → in_slot past (λ s. header_is 0x3C s.header) ≡ true → AnswerIs c past k.states node
+answer-is c capacity past port node sound k p h header =
     let a = answer-allowed c capacity past port node h
-    in answer-by c past node sound k p (open_slot past) refl k.slot a.0 a.1
+    in answer-by c past node sound k p (open_slot past) refl k.slot header a.0 a.1

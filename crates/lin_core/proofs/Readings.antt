@@ -191,9 +191,9 @@ step-reading : (c : Parts) (opening capacity : ℕ) (past : List LogEntry) (port
 step-reading c opening capacity past port step l sound a k (Some r) e = append-nil (reading c past l)
 step-reading c opening capacity past port (Send from to message) l sound a k None e = append-nil (reading c past l)
 step-reading c opening capacity past port (Write by signal value) l sound a k None e = append-nil (reading c past l)
-step-reading c opening capacity past port (Switch table) l sound a k None e = append-nil (reading c past l)
 step-reading c opening capacity past port Open l sound a k None e = let at : ℕ × ℕ = next_due c opening past in quiet-reading (reading c past l) _ (no-due l (due_nodes c past (line_of c at.0 at.1).entry))
 step-reading c opening capacity past port (Answer node) l sound a k None e = quiet-reading (reading c past l) _ (no-answer c past l node (open_slot past))
+step-reading c opening capacity past port (Switch table) l sound a k None e = append-nil (reading c past l)
 step-reading c opening capacity past port Finish l sound a k None e =
     let k' : Known c (finish_entry port [] ∷ past) = finish-known c past port [] sound k (open_slot past) refl k.slot
     in let g : Grows (k.states (host_of l)) (k'.states (host_of l)) = finish-grows c past port [] sound k (open_slot past) refl k.slot (host_of l)

@@ -257,9 +257,9 @@ step-told : (c : Parts) (opening capacity : ℕ) (past : List LogEntry) (port : 
 step-told c opening capacity past port step sound k (Some r) e p h = append-nil (reported past h) ∙ p h
 step-told c opening capacity past port (Send from to message) sound k None e p h = append-nil (reported past h) ∙ p h ∙ ap (numbered h 1) (sym (send-done (from == h) (record { link = link_of from to; bytes = message }) (k.states h)))
 step-told c opening capacity past port (Write by signal value) sound k None e p h = append-nil (reported past h) ∙ p h
-step-told c opening capacity past port (Switch table) sound k None e p h = append-nil (reported past h) ∙ p h
 step-told c opening capacity past port Open sound k None e p h = let at : ℕ × ℕ = next_due c opening past in let kind : Entry = (line_of c at.0 at.1).entry in quiet-told past h (opening_events c opening past) _ (none-due h (due_nodes c past kind)) (p h)
 step-told c opening capacity past port (Answer node) sound k None e p h = quiet-told past h (choose (open_slot past) [] (put_event c past node)) _ (none-answer c past h node (open_slot past)) (p h)
+step-told c opening capacity past port (Switch table) sound k None e p h = append-nil (reported past h) ∙ p h
 step-told c opening capacity past port Finish sound k None e p h =
     let k' : Known c (finish_entry port [] ∷ past) = finish-known c past port [] sound k (open_slot past) refl k.slot
     in let g : Grows (k.states h) (k'.states h) = finish-grows c past port [] sound k (open_slot past) refl k.slot h

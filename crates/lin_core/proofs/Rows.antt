@@ -6,7 +6,6 @@ use Rattle.lin_cluster.specs.declared.parts.Parts.{Parts}
 use Rattle.lin_cluster.specs.declared.parts.Entry.TheVariants.{MasterReq, SlaveResp}
 use Rattle.lin_core.specs.History.{time, undecided}
 use Rattle.lin_core.specs.Links.{waiting}
-use Rattle.lin_core.specs.Slots.{is_diagnostic}
 use Rattle.lin_core.specs.Runs.{history}
 use Rattle.lin_core.specs.Replies.{reply}
 use Rattle.lin_core.specs.declared.log.LogEntry.{LogEntry}
@@ -30,9 +29,6 @@ cluster_a =
       events = [];
       tables = record { name = 84 ∷ []; lines = record { entry = MasterReq; delay_us = 10000 } ∷ record { entry = SlaveResp; delay_us = 10000 } ∷ [] } ∷ [];
     }
-
-pub diagnostic : is_diagnostic cluster_a ≡ true
-diagnostic = refl
 
 -- the log of these steps, the newest entry first; the steps stand in order
 abbrev after : ℕ → List (PortId × Step) → List LogEntry

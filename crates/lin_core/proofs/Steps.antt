@@ -3,17 +3,19 @@ use Rattle.std.proofs.Common.{◌≡◌, ◌≢◌, ℕ, zero, suc, Bool, true, 
 use Rattle.std.specs.Prelude.{⊤, Option, Some, None, cond, ◌&&◌, ◌||◌, not, ◌==◌, if◌then◌else◌, is_some, option_map, filter, find, nat_lt}
 use Rattle.std.specs.List.{list_any}
 use Rattle.std.proofs.lemmas.Bool.Decides.{eqb_tells, nat_tests}
+use Rattle.std.proofs.lemmas.Bool.{ne_eqb}
 use Rattle.std.proofs.lemmas.List.{append-nil}
 use Rattle.lin_frame.specs.Words.{choose, numbers}
 use Rattle.lin_transport.specs.Transport.{frame, Heard}
-use Rattle.lin_cluster.specs.Cluster.{nad, nodes, line_of}
+use Rattle.lin_cluster.specs.Cluster.{nad, nodes, line_of, frame_of, sporadic_of, event_of}
 use Rattle.lin_cluster.specs.declared.parts.Parts.{Parts}
 use Rattle.lin_core.specs.History.{Slot, open_slot, told_all, header_is, has_decided}
 use Rattle.lin_core.specs.History.{is_in}
 use Rattle.lin_core.specs.Links.{Link, link_of, Message, host_of, accepted_from, Sign, Fate, nad_on, put_on, signs, heard_on, blocks, blocks_of, waiting, begun}
+use Rattle.lin_core.specs.Signals.{pending}
 use Rattle.lin_core.specs.Slots.{with_classic, next_frame, first_frame, put, header, is_due, due_nodes, next_due}
 use Rattle.lin_core.specs.Replies.{refusal, refusals, in_slot, has_address, put_event, opening_events, done_events}
-use Rattle.lin_cluster.specs.Sound.{IsSound}
+use Rattle.lin_cluster.specs.Sound.{IsSound, IsSignalPid}
 use Rattle.lin_core.specs.declared.log.LogEntry.{LogEntry}
 use Rattle.lin_core.specs.declared.port.PortId.{PortId}
 use Rattle.lin_core.specs.declared.step.Step.{Step}
@@ -303,8 +305,16 @@ pub in-filter : (p : ℕ → Bool) (xs : List ℕ) (n : ℕ) → is_in (filter p
 in-filter p [] n h = cc
 in-filter p (x ∷ xs) n h = in-filter-by p x xs n (p x) (in-filter p xs n) refl h
 
+pub signal-other : (c : Parts) (states : ℕ → HostState) (table entry pid : ℕ) (due : List ℕ) → IsSignalPid pid → SlotIs c states (Some (slot_of table entry (Some pid) due [] [] false))
+signal-other c states table entry pid due own = other (slot_of table entry (Some pid) due [] [] false) (ne_eqb pid 0x3C own.request) (ne_eqb pid 0x7D own.response)
+
 pub none-other : (c : Parts) (states : ℕ → HostState) (table entry : ℕ) (due : List ℕ) → SlotIs c states (Some (slot_of table entry None due [] [] false))
 none-other c states table entry due = other (slot_of table entry None due [] [] false) refl refl
+
+pub sporadic-other : (c : Parts) (states : ℕ → HostState) (table entry : ℕ) (o : Option ℕ) (due : List ℕ) → IsSound c
+    → SlotIs c states (Some (slot_of table entry (option_map (λ f. (frame_of c f).pid) o) due [] [] false))
+sporadic-other c states table entry None due sound = none-other c states table entry due
+sporadic-other c states table entry (Some f) due sound = signal-other c states table entry (frame_of c f).pid due (sound.frames f)
 
 pub master-by : (c : Parts) (past : List LogEntry) (table entry : ℕ) (due : List ℕ) (b : Bool) → (k : Known c past) → IsQuietNow c past → (line_of c table entry).entry ≡ MasterReq → OnlyDue due 0
     → nat_lt 0 (length (waiting c past 0)) ≡ b → SlotIs c k.states (Some (slot_of table entry (if b then Some 0x3C else None) due [] [] false))
@@ -317,9 +327,9 @@ eq-zero n b h = let e : (n == 0) ≡ true = (and-parts (n == 0) b h).0 in grind 
 
 pub opened : (c : Parts) (past : List LogEntry) (table entry : ℕ) (kind : Entry) → IsSound c → (k : Known c past) → IsQuietNow c past → (line_of c table entry).entry ≡ kind
     → SlotIs c k.states (Some (slot_of table entry (header c past kind) (due_nodes c past kind) [] [] false))
-opened c past table entry (FrameEntry f) sound k q line = none-other c k.states table entry _
-opened c past table entry (Sporadic j) sound k q line = none-other c k.states table entry _
-opened c past table entry (EventEntry e) sound k q line = none-other c k.states table entry _
+opened c past table entry (FrameEntry f) sound k q line = signal-other c k.states table entry (frame_of c f).pid _ (sound.frames f)
+opened c past table entry (Sporadic j) sound k q line = sporadic-other c k.states table entry (find (pending c past) (sporadic_of c j)) _ sound
+opened c past table entry (EventEntry e) sound k q line = signal-other c k.states table entry (event_of c e).pid _ (sound.events e)
 opened c past table entry MasterReq sound k q line =
     master-by c past table entry (due_nodes c past MasterReq) (nat_lt 0 (length (waiting c past 0))) k q line
     (λ n i. eq-zero n (is_some (header c past MasterReq)) (in-filter (is_due c past MasterReq) (numbers (nodes c)) n i)) refl
@@ -348,11 +358,11 @@ abbrev pub step-known : (c : Parts) (opening capacity : ℕ) (past : List LogEnt
     → Known c (record { port = port; step = step; reply = choose r (Done (done_events c opening past port step)) Refused } ∷ past)
 step-known c opening capacity past port step sound k (Some r) h = refused-known c past port step r k
 step-known c opening capacity past port (Send from to message) sound k None h = send-known c capacity past port from to message _ h k
+step-known c opening capacity past port (Write by signal value) sound k None h = write-known c past port by signal value _ k
 step-known c opening capacity past port Open sound k None h = open-known c opening capacity past port sound h k
 step-known c opening capacity past port (Answer node) sound k None h = answer-known c capacity past port node sound h k
 step-known c opening capacity past port Finish sound k None h = finish-known c past port _ sound k (open_slot past) refl k.slot
-step-known c opening capacity past port (Write by signal value) sound k None h = write-known c past port by signal value k
-step-known c opening capacity past port (Switch table) sound k None h = switch-known c past port table k
+step-known c opening capacity past port (Switch table) sound k None h = switch-known c past port table _ k
 
 abbrev pub start-known : (c : Parts) → Known c []
 start-known c = record {

@@ -1,7 +1,6 @@
 -- What contracts see of a core.
 use Rattle.std.specs.Prelude.{◌≡◌, ℕ, List, [], ◌∷◌, ◌++◌, reverse, Result, Ok, Err, MatchResult, ⊤, true, Some, None}
 use Rattle.lin_cluster.specs.declared.parts.Parts.{Parts}
-use Rattle.lin_core.specs.Slots.{is_diagnostic}
 use Rattle.lin_core.specs.Replies.{reply, refusal}
 use Rattle.lin_core.specs.declared.reply.Refusal.{Refusal}
 use Rattle.lin_core.specs.Runs.{history, steps_of}
@@ -23,10 +22,6 @@ pub record CoreData : Type 0 where
 -- the entries of a core's log, the newest first
 abbrev pub past_of : CoreData → List LogEntry
 past_of core = reverse core.log
-
--- all tables of a cluster have diagnostic and silent entries alone
-abbrev pub IsDiagnostic : Parts → Type 0
-IsDiagnostic c = is_diagnostic c ≡ true
 
 -- the entry that a step gets: its reply on what stands in the log
 abbrev pub answered : CoreData → PortId → Step → LogEntry

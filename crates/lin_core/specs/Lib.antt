@@ -12,6 +12,7 @@ pub mod Promises
 pub mod Logs
 pub mod Core
 pub mod Hosts
+pub mod Dues
 pub mod Kept
 pub mod Whole
 pub mod Fits

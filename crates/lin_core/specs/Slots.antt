@@ -1,10 +1,10 @@
 -- What a slot is for: its header, who is due in it, and what an answer puts (ISO 17987-3, frame transfer; ISO 17987-2, diagnostic schedules).
-use Rattle.std.specs.Prelude.{ℕ, ◌==◌, nat_lt, Bool, true, false, ◌&&◌, if◌then◌else◌, List, [], ◌∷◌, ◌++◌, filter, length, Option, Some, None, is_some, option_map}
-use Rattle.std.specs.List.{list_all, cons_option}
+use Rattle.std.specs.Prelude.{ℕ, ◌==◌, nat_lt, Bool, true, false, ◌&&◌, if◌then◌else◌, List, [], ◌∷◌, ◌++◌, filter, find, length, Option, Some, None, is_some, option_map}
+use Rattle.std.specs.List.{list_any, list_all, cons_option}
 use Rattle.lin_frame.specs.Words.{numbers, choose}
-use Rattle.lin_frame.specs.Frame.{classic}
+use Rattle.lin_frame.specs.Frame.{classic, answer_of}
 use Rattle.lin_transport.specs.Transport.{frame}
-use Rattle.lin_cluster.specs.Cluster.{nodes}
+use Rattle.lin_cluster.specs.Cluster.{nodes, frame_of, sporadic_of, event_of}
 use Rattle.lin_cluster.specs.declared.parts.Parts.{Parts}
 use Rattle.lin_cluster.specs.declared.parts.Table.{Table}
 use Rattle.lin_cluster.specs.declared.parts.Line.{Line}
@@ -14,22 +14,10 @@ use Rattle.lin_schedule.specs.Schedule.{Move, standing, due}
 use Rattle.lin_schedule.specs.Schedule.Move.{Slot as SlotMove, Switch as SwitchMove}
 use Rattle.lin_core.specs.History.{done, finished, is_clash}
 use Rattle.lin_core.specs.Links.{Sending, waiting, begun, frames_of, nad_on}
+use Rattle.lin_core.specs.Signals.{pending, signal_bytes}
 use Rattle.lin_core.specs.declared.log.LogEntry.{LogEntry}
 use Rattle.lin_core.specs.declared.step.Step.{Step}
 use Rattle.lin_core.specs.declared.step.Step.TheVariants.{Switch}
-
--- whether an entry is a diagnostic one, or stays silent
-abbrev pub is_diagnostic_entry : Entry → Bool
-is_diagnostic_entry (Frame f) = false
-is_diagnostic_entry (Sporadic k) = false
-is_diagnostic_entry (Event e) = false
-is_diagnostic_entry MasterReq = true
-is_diagnostic_entry SlaveResp = true
-is_diagnostic_entry Quiet = true
-
--- whether all entries of a cluster's tables are
-abbrev pub is_diagnostic : Parts → Bool
-is_diagnostic c = list_all (λ (t : Table). list_all (λ (line : Line). is_diagnostic_entry line.entry) t.lines) c.tables
 
 -- how a step that isn't of a slot moves the schedule on
 abbrev pub switched : Step → Option Move
@@ -48,20 +36,22 @@ moves (e ∷ past) = moves_at e past ++ moves past
 abbrev pub next_due : Parts → ℕ → List LogEntry → ℕ × ℕ
 next_due c opening past = due c (standing c opening (moves past))
 
--- the header of a slot for an entry; entries of signals have none yet
+-- the header of a slot for an entry: of a sporadic frame that of its first pending member, of the master request frame its own where a
+-- message waits
 abbrev pub header : Parts → List LogEntry → Entry → Option ℕ
-header c past (Frame f) = None
-header c past (Sporadic k) = None
-header c past (Event e) = None
+header c past (Frame f) = Some (frame_of c f).pid
+header c past (Sporadic k) = option_map (λ f. (frame_of c f).pid) (find (pending c past) (sporadic_of c k))
+header c past (Event e) = Some (event_of c e).pid
 header c past MasterReq = if nat_lt 0 (length (waiting c past 0)) then Some 0x3C else None
 header c past SlaveResp = Some 0x7D
 header c past Quiet = None
 
--- whether a node is due in a slot for an entry; no responder sends yet
+-- whether a node is due in a slot for an entry: under an event-triggered header each publisher whose frame is pending; no
+-- responder sends messages yet
 abbrev pub is_due : Parts → List LogEntry → Entry → ℕ → Bool
-is_due c past (Frame f) n = false
-is_due c past (Sporadic k) n = false
-is_due c past (Event e) n = false
+is_due c past (Frame f) n = n == (frame_of c f).publisher
+is_due c past (Sporadic k) n = n == 0 && is_some (header c past (Sporadic k))
+is_due c past (Event e) n = list_any (λ f. n == (frame_of c f).publisher && pending c past f) (event_of c e).frames
 is_due c past MasterReq n = n == 0 && is_some (header c past MasterReq)
 is_due c past SlaveResp n = false
 is_due c past Quiet n = false
@@ -85,11 +75,18 @@ next_frame c past h = choose (begun c past h) (first_frame c (waiting c past h))
 abbrev pub with_classic : List ℕ → List ℕ
 with_classic bytes = bytes ++ classic bytes ∷ []
 
+-- the member of a sporadic frame with this header, and the member of an event-triggered frame that a node publishes
+abbrev pub member_under : Parts → ℕ → ℕ → ℕ
+member_under c k h = choose (find (λ f. h == (frame_of c f).pid) (sporadic_of c k)) 0 (λ f. f)
+
+abbrev pub member_of : Parts → ℕ → ℕ → ℕ
+member_of c e n = choose (find (λ f. n == (frame_of c f).publisher) (event_of c e).frames) 0 (λ f. f)
+
 -- what a node puts in a slot for an entry under its header, data and checksum
 abbrev pub put : Parts → List LogEntry → Entry → ℕ → ℕ → List ℕ
-put c past (Frame f) h n = []
-put c past (Sporadic k) h n = []
-put c past (Event e) h n = []
+put c past (Frame f) h n = answer_of (frame_of c f).model h (signal_bytes c past f)
+put c past (Sporadic k) h n = answer_of (frame_of c (member_under c k h)).model h (signal_bytes c past (member_under c k h))
+put c past (Event e) h n = answer_of (event_of c e).model h (signal_bytes c past (member_of c e n))
 put c past MasterReq h n = with_classic (next_frame c past 0)
 put c past SlaveResp h n = with_classic (next_frame c past n)
 put c past Quiet h n = []

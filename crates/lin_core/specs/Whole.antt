@@ -1,6 +1,6 @@
 -- What stands inside a core.
 use Rattle.std.specs.Prelude.{◌≡◌, ◌<◌, ◌^◌, min, [], length, reverse, vec_capacity}
-use Rattle.lin_core.specs.Core.{CoreData, IsHistory, IsDiagnostic}
+use Rattle.lin_core.specs.Core.{CoreData, IsHistory}
 use Rattle.lin_core.specs.Kept.{Keeps}
 use Rattle.lin_cluster.specs.Rules.{IsCluster}
 use Rattle.lin_cluster.specs.Sound.{IsSound}
@@ -23,7 +23,6 @@ pub record IsWhole (a : Inside) : Type 0 where
   pub empty : a.room.items ≡ []
   pub rules : IsCluster a.cluster
   pub sound : IsSound a.cluster
-  pub diagnostic : IsDiagnostic a.cluster
   pub opening : a.opening < length a.cluster.tables
   pub kept : Keeps a.cluster a.opening a.capacity a.log.entries (reverse a.log.entries) a.state.slot a.state.time a.state.walker a.state.hosts.items a.state.signals
   pub history : IsHistory (core_data a)

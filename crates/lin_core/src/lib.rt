@@ -1,9 +1,11 @@
 //! The core of the simulator: steps, the log of what they were answered, and the laws that hold of every log.
 #![tactic(auto)]
 
+mod carried;
 mod copies;
-mod diagnostic;
+mod due;
 mod event;
+mod heard;
 mod hold;
 mod host;
 mod law;
@@ -20,7 +22,6 @@ mod slot;
 mod state;
 mod step;
 
-pub use diagnostic::is_diagnostic;
 pub use event::{Event, Seen};
 pub use hold::Hold;
 pub use law::{carries_frames, delivers_exactly, fates_are_final, loses_nothing, puts_in_order};

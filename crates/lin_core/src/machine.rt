@@ -2,7 +2,9 @@
 
 ghost use Rattle.std.specs.Prelude.{◌≡◌, ◌<◌, ◌≤◌, ◌-◌, ◌^◌, ◌++◌, ◌∷◌, [], reverse, length, OnOk, IfOk, IfErr, IsOk, vec_capacity};
 
+use crate::carried::{frame_answered, model_of};
 use crate::event::Event;
+use crate::heard::{copied_answer, frame_answer};
 use crate::hold::Hold;
 use crate::host::hosts;
 use crate::log::{Log, LogEntry};
@@ -14,7 +16,7 @@ use crate::refusals::{
 };
 use crate::reply::{Refusal, Reply};
 use crate::signals::{Signals, copied};
-use crate::slot::{OpenSlot, Put, delay_of, is_answered, put_in, seen_in};
+use crate::slot::{OpenSlot, Put, delay_of, header_of, is_carrying, is_clash, put_in, seen_in};
 use crate::state::State;
 use crate::step::Step;
 use lin_cluster::Cluster;
@@ -75,26 +77,25 @@ fn three_events(room: Vec<Event>, seen: Event, whole: Event, sent: Event) -> Eve
 }
 
 impl Core {
-    ghost use Rattle.std.specs.Prelude.{◌≡◌, ◌<◌, ◌≤◌, ◌-◌, ◌^◌, ◌++◌, ◌∷◌, [], reverse, length, OnOk, OnErr, true, false, IfOk, IfErr, IsOk, ◌↔◌};
+    ghost use Rattle.std.specs.Prelude.{◌≡◌, ◌<◌, ◌≤◌, ◌-◌, ◌^◌, ◌++◌, ◌∷◌, [], reverse, length, OnOk, OnErr, true, false, Some, None, IfOk, IfErr, IsOk, ◌↔◌};
     ghost use Rattle.std.specs.Prelude.{⊤, slice_index_or};
     ghost use Rattle.lin_core.specs.Promises.{CarriesFrames, DeliversExactly, FatesAreFinal, LosesNothing, PutsInOrder};
     ghost use Rattle.lin_core.specs.Replies.{refusal};
     ghost use Rattle.lin_cluster.specs.Cluster.{nodes};
     ghost use Rattle.lin_core.specs.History.{time, undecided};
     ghost use Rattle.lin_core.specs.Signals.{value_at};
-    ghost use Rattle.lin_core.specs.Kept.{is_answered};
+    ghost use Rattle.lin_core.specs.Dues.{frame_answered};
+    ghost use Rattle.lin_core.specs.Kept.{is_carrying};
     ghost use Rattle.lin_core.specs.Links.{waiting};
-    ghost use Rattle.lin_core.specs.Core.{answered, past_of, IsAlike, IsDiagnostic, IsHistory, IsRefused, IsAllowed, IsLogFull, IsOutOfMemory, IsSmall, IsStepped, step_of};
+    ghost use Rattle.lin_core.specs.Core.{answered, past_of, IsAlike, IsHistory, IsRefused, IsAllowed, IsLogFull, IsOutOfMemory, IsSmall, IsStepped, step_of};
 
-    /// A core with an empty log, on a cluster with diagnostic entries alone, whose schedule opens with this table. At most
-    /// `capacity` messages of a host (1 to 1,024) wait. An error is want of memory, and the cluster is dropped.
+    /// A core with an empty log, on a cluster whose schedule opens with this table. At most `capacity` messages of a host (1 to 1,024) wait. An error is want of memory, and the cluster is dropped.
     pub fn new(
         alloc: Global,
         cluster: Cluster,
         table: u16,
         capacity: usize,
     ) -> Result<Core, AllocError>
-        requires diagnostic { IsDiagnostic cluster }
         requires table { table < length cluster.tables }
         requires some { 1 ≤ capacity }
         requires few { capacity ≤ 1024 }
@@ -299,13 +300,14 @@ impl Core {
         ensures alike { IsAlike self.old self.new }
         ensures held { IfErr result (λ h. (self.new.log ≡ self.old.log) × (h ≡ Hold.OutOfMemory Step.Open)) }
     {
-        if self.log.make_room().is_err() || self.room.try_reserve(2).is_err() {
+        if self.log.make_room().is_err() || self.room.try_reserve(17).is_err() {
             return Err(Hold::OutOfMemory(Step::Open));
         }
-        let (table, entry) = self.state.walker.place();
-        let kind = self.cluster.entry(table, entry);
+        let place = self.state.walker.place();
         let waits = !self.state.hosts[0].queue.is_empty();
-        let slot = OpenSlot::begin(table, entry, kind, waits);
+        let pending = self.state.signals.pending.as_slice();
+        let due = self.state.walker.due(&self.cluster, pending);
+        let slot = OpenSlot::begin(&self.cluster, place, due, waits, pending);
         let room = mem::replace(&mut self.room, Vec::new(self.alloc));
         let events = slot.opening_events(room);
         self.state.slot = Some(slot);
@@ -317,9 +319,68 @@ impl Core {
         Ok(())
     }
 
-    /// Logs an answer: the commander's node puts the single frame of its host's next message.
+    /// Logs an answer.
     fn answer(&mut self, by: PortId, node: u8) -> Result<(), Hold>
         requires allowed { IsAllowed self.old by (Step.Answer node) }
+        requires few { length self.old.log < 2 ^ 32 - 1 }
+        ensures ok { OnOk result (self.new.log ≡ self.old.log ++ answered self.old by (Step.Answer node) ∷ []) }
+        ensures alike { IsAlike self.old self.new }
+        ensures held { IfErr result (λ h. (self.new.log ≡ self.old.log) × (h ≡ Hold.OutOfMemory (Step.Answer node))) }
+        ensures spare { 1 ≤ self.old.spare → IsOk result }
+    {
+        match frame_answered(&self.cluster, &self.state.slot, node) {
+            Some(frame) => self.answer_frame(by, node, frame),
+            None => self.answer_request(by, node),
+        }
+    }
+
+    /// Logs an answer with a frame of signals: the node puts it as the values stand, and the frame is pending no longer, unless the slot is
+    /// then seen otherwise than good.
+    fn answer_frame(&mut self, by: PortId, node: u8, frame: u16) -> Result<(), Hold>
+        requires allowed { IsAllowed self.old by (Step.Answer node) }
+        requires few { length self.old.log < 2 ^ 32 - 1 }
+        requires carried { frame_answered self.old.cluster (past_of self.old) node ≡ Some frame }
+        requires frame { frame < length self.old.cluster.frames }
+        ensures ok { OnOk result (self.new.log ≡ self.old.log ++ answered self.old by (Step.Answer node) ∷ []) }
+        ensures alike { IsAlike self.old self.new }
+        ensures held { IfErr result (λ h. (self.new.log ≡ self.old.log) × (h ≡ Hold.OutOfMemory (Step.Answer node))) }
+        ensures spare { 1 ≤ self.old.spare → IsOk result }
+    {
+        if self.log.make_room().is_err() || self.room.try_reserve(1).is_err() {
+            return Err(Hold::OutOfMemory(Step::Answer { node }));
+        }
+        let header = header_of(&self.state.slot);
+        let model = model_of(&self.cluster, &self.state.slot, frame);
+        let answer = frame_answer(
+            &self.cluster,
+            self.state.signals.values.as_slice(),
+            &mut self.state.signals.room,
+            frame,
+            model,
+            header,
+        );
+        let told = copied_answer(&answer);
+        let cleared = self.state.signals.clear(frame);
+        let put = Put {
+            node,
+            answer,
+            cleared,
+        };
+        put_in(&mut self.state.slot, put);
+        let room = mem::replace(&mut self.room, Vec::new(self.alloc));
+        let events = one_event(room, Event::Put { node, answer: told });
+        self.log.push(LogEntry {
+            port: by,
+            step: Step::Answer { node },
+            reply: Reply::Done(events),
+        });
+        Ok(())
+    }
+
+    /// Logs an answer to a master request: the commander's node puts the single frame of its host's next message.
+    fn answer_request(&mut self, by: PortId, node: u8) -> Result<(), Hold>
+        requires allowed { IsAllowed self.old by (Step.Answer node) }
+        requires none { frame_answered self.old.cluster (past_of self.old) node ≡ None }
         requires few { length self.old.log < 2 ^ 32 - 1 }
         ensures ok { OnOk result (self.new.log ≡ self.old.log ++ answered self.old by (Step.Answer node) ∷ []) }
         ensures alike { IsAlike self.old self.new }
@@ -331,8 +392,13 @@ impl Core {
         }
         let place = self.state.hosts[0].next();
         let answer = single_frame(&self.cluster, &self.log, place as usize);
-        let told = single_frame(&self.cluster, &self.log, place as usize);
-        put_in(&mut self.state.slot, Put { node, answer });
+        let told = copied_answer(&answer);
+        let put = Put {
+            node,
+            answer,
+            cleared: None,
+        };
+        put_in(&mut self.state.slot, put);
         let room = mem::replace(&mut self.room, Vec::new(self.alloc));
         let events = one_event(room, Event::Put { node, answer: told });
         self.log.push(LogEntry {
@@ -351,18 +417,18 @@ impl Core {
         ensures alike { IsAlike self.old self.new }
         ensures held { IfErr result (λ h. (self.new.log ≡ self.old.log) × (h ≡ Hold.OutOfMemory Step.Finish)) }
     {
-        if is_answered(&self.state.slot) {
-            self.finish_answered(by)
+        if is_carrying(&self.state.slot) {
+            self.finish_message(by)
         } else {
-            self.finish_unanswered(by)
+            self.finish_plain(by)
         }
     }
 
-    /// Logs a finish of a slot in which nothing was put.
-    fn finish_unanswered(&mut self, by: PortId) -> Result<(), Hold>
+    /// Logs a finish of a slot that carries no frame of a message.
+    fn finish_plain(&mut self, by: PortId) -> Result<(), Hold>
         requires allowed { IsAllowed self.old by Step.Finish }
         requires few { length self.old.log < 2 ^ 32 - 1 }
-        requires empty { is_answered (past_of self.old) ≡ false }
+        requires none { is_carrying (past_of self.old) ≡ false }
         ensures ok { OnOk result (self.new.log ≡ self.old.log ++ answered self.old by Step.Finish ∷ []) }
         ensures alike { IsAlike self.old self.new }
         ensures held { IfErr result (λ h. (self.new.log ≡ self.old.log) × (h ≡ Hold.OutOfMemory Step.Finish)) }
@@ -371,9 +437,11 @@ impl Core {
             return Err(Hold::OutOfMemory(Step::Finish));
         }
         let delay = delay_of(&self.cluster, &self.state.slot);
+        self.state.signals.finish(&self.cluster, &self.state.slot);
         let seen = seen_in(self.state.slot.take());
         self.state.time += u64::from(delay);
-        self.state.walker.advance(&self.cluster, false);
+        let clash = is_clash(&seen);
+        self.state.walker.advance(&self.cluster, clash);
         let room = mem::replace(&mut self.room, Vec::new(self.alloc));
         let events = one_event(room, Event::Seen(seen));
         self.log.push(LogEntry {
@@ -384,11 +452,11 @@ impl Core {
         Ok(())
     }
 
-    /// Logs a finish of a slot with one answer, which brings the next message whole to its receiver.
-    fn finish_answered(&mut self, by: PortId) -> Result<(), Hold>
+    /// Logs a finish of a slot with the single frame of a message, which brings it whole to its receiver.
+    fn finish_message(&mut self, by: PortId) -> Result<(), Hold>
         requires allowed { IsAllowed self.old by Step.Finish }
         requires few { length self.old.log < 2 ^ 32 - 1 }
-        requires one { is_answered (past_of self.old) ≡ true }
+        requires one { is_carrying (past_of self.old) ≡ true }
         ensures ok { OnOk result (self.new.log ≡ self.old.log ++ answered self.old by Step.Finish ∷ []) }
         ensures alike { IsAlike self.old self.new }
         ensures held { IfErr result (λ h. (self.new.log ≡ self.old.log) × (h ≡ Hold.OutOfMemory Step.Finish)) }
@@ -402,9 +470,11 @@ impl Core {
             return Err(Hold::OutOfMemory(Step::Finish));
         };
         let delay = delay_of(&self.cluster, &self.state.slot);
+        self.state.signals.finish(&self.cluster, &self.state.slot);
         let seen = seen_in(self.state.slot.take());
         self.state.time += u64::from(delay);
-        self.state.walker.advance(&self.cluster, false);
+        let clash = is_clash(&seen);
+        self.state.walker.advance(&self.cluster, clash);
         let host = &mut self.state.hosts[0];
         let number = host.settled + 1;
         host.settle();

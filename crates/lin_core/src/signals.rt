@@ -1,10 +1,16 @@
 //! What the core keeps of signals and frames.
 
-ghost use Rattle.std.specs.Prelude.{◌≡◌, ◌<◌, ◌≤◌, ℕ, Bool, true, false, List, length, map, IfOk, replicate, slice_set, slice_index_or, if◌then◌else◌};
+ghost use Rattle.std.specs.Prelude.{◌≡◌, ◌<◌, ◌≤◌, ◌||◌, ◌==◌, ℕ, Bool, true, false, [], List, length, map, All, IfOk, IfSome, Some, None, is_some, vec_capacity, replicate, slice_set, slice_index_or, if◌then◌else◌};
 ghost use Rattle.lin_cluster.specs.Cluster.{frame_of, signal_of};
 ghost use Rattle.lin_core.specs.Fits.{AreBytes, FitsValue};
-ghost use Rattle.lin_core.specs.History.{is_in};
+ghost use Rattle.lin_frame.specs.Words.{choose};
+ghost use Rattle.lin_core.specs.History.{good, is_in};
+ghost use Rattle.lin_core.specs.Kept.{ArePointwise, is_cleared, slot_in, IsThere};
+ghost use Rattle.lin_core.specs.Signals.{value_in};
+ghost use Rattle.lin_core.specs.declared.slot.OpenSlot.{OpenSlot};
 
+use crate::heard::hear_slot;
+use crate::slot::{OpenSlot, Put};
 use arrayvec::ArrayVec;
 use lin_cluster::Cluster;
 use lin_frame::{Value, ValueBytes};
@@ -53,13 +59,28 @@ fn none_pending(alloc: Global, count: usize) -> Result<Vec<bool>, AllocError>
     Ok(flags)
 }
 
+/// Room for the values of each frame's signals. An error is want of memory.
+fn room_for_frames(alloc: Global, cluster: &Cluster) -> Result<Vec<Value>, AllocError>
+    ensures empty { IfOk result (λ room. room.items ≡ []) }
+    ensures room { IfOk result (λ room. (f : ℕ) → f < length cluster.now.frames → length (frame_of cluster.now f).signals ≤ vec_capacity room) }
+{
+    cluster.sound();
+    let mut room = Vec::new(alloc);
+    for frame in 0..cluster.frames() as u16 {
+        room.try_reserve(cluster.frame_signals(frame).len())?;
+    }
+    Ok(room)
+}
+
 /// What is kept of signals and frames: the value of each signal that its publisher sees, the one that the other nodes see, and for each
-/// unconditional frame whether it is pending (ISO 17987-3, signals, sporadic and event-triggered frames).
+/// unconditional frame whether it is pending (ISO 17987-3, signals, sporadic and event-triggered frames). A response ends its frame's being pending
+/// when it is made; the open slot keeps that it did, until it is seen good.
 #[derive(Drop)]
 pub(crate) struct Signals {
     pub(crate) values: Vec<Value>,
     pub(crate) heard: Vec<Value>,
     pub(crate) pending: Vec<bool>,
+    pub(crate) room: Vec<Value>,
 }
 
 impl Signals {
@@ -68,11 +89,14 @@ impl Signals {
         ensures values { IfOk result (λ s. s.values.items ≡ map (λ signal. signal.initial) cluster.now.signals) }
         ensures heard { IfOk result (λ s. s.heard.items ≡ map (λ signal. signal.initial) cluster.now.signals) }
         ensures pending { IfOk result (λ s. s.pending.items ≡ replicate (length cluster.now.frames) false) }
+        ensures empty { IfOk result (λ s. s.room.items ≡ []) }
+        ensures room { IfOk result (λ s. (f : ℕ) → f < length cluster.now.frames → length (frame_of cluster.now f).signals ≤ vec_capacity s.room) }
     {
         Ok(Signals {
             values: initial_values(alloc, cluster)?,
             heard: initial_values(alloc, cluster)?,
             pending: none_pending(alloc, cluster.frames())?,
+            room: room_for_frames(alloc, cluster)?,
         })
     }
 
@@ -82,11 +106,48 @@ impl Signals {
         requires frames { length self.old.pending.items ≡ length cluster.now.frames }
         ensures values { self.new.values.items ≡ slice_set self.old.values.items signal value }
         ensures heard { self.new.heard ≡ self.old.heard }
+        ensures room { self.new.room ≡ self.old.room }
         ensures frames { length self.new.pending.items ≡ length cluster.now.frames }
         ensures pending { (f : ℕ) → f < length cluster.now.frames → slice_index_or self.new.pending.items f false ≡ (if is_in (frame_of cluster.now f).signals signal then true else slice_index_or self.old.pending.items f false) }
     {
         self.values[signal as usize] = value;
         mark(&mut self.pending, cluster, signal);
+    }
+
+    /// A response with a frame is made: the frame is pending no longer. The frame, if it was pending.
+    pub(crate) fn clear(&mut self, frame: u16) -> Option<u16>
+        requires { frame < length self.old.pending.items }
+        ensures values { self.new.values ≡ self.old.values }
+        ensures heard { self.new.heard ≡ self.old.heard }
+        ensures room { self.new.room ≡ self.old.room }
+        ensures pending { self.new.pending.items ≡ slice_set self.old.pending.items frame false }
+        ensures cleared { result ≡ (if slice_index_or self.old.pending.items frame false then Some frame else None) }
+    {
+        let was = self.pending[frame as usize];
+        self.pending[frame as usize] = false;
+        was.then_some(frame)
+    }
+
+    /// The slot ends: its values are heard where it was seen good, and otherwise the frames that it carried are pending again.
+    pub(crate) fn finish(&mut self, cluster: &Cluster, slot: &Option<OpenSlot>)
+        requires slot { IsThere cluster.now slot.now }
+        requires heard { length self.old.heard.items ≡ length cluster.now.signals }
+        requires cleared { (kept : OpenSlot) → slot.now ≡ Some kept → All (λ put. IfSome put.cleared (λ f. f < length self.old.pending.items)) kept.puts.items }
+        ensures values { self.new.values ≡ self.old.values }
+        ensures room { self.new.room ≡ self.old.room }
+        ensures signals { length self.new.heard.items ≡ length self.old.heard.items }
+        ensures frames { length self.new.pending.items ≡ length self.old.pending.items }
+        ensures heard { (kept : OpenSlot) → slot.now ≡ Some kept → (g : ℕ → Value) → ArePointwise g self.old.heard.items → ArePointwise (λ s. choose (value_in cluster.now (slot_in kept) s) (g s) (λ v. v)) self.new.heard.items }
+        ensures pending { (kept : OpenSlot) → slot.now ≡ Some kept → (f : ℕ) → slice_index_or self.new.pending.items f false ≡ (if is_some (good (slot_in kept)) then slice_index_or self.old.pending.items f false else (slice_index_or self.old.pending.items f false || is_cleared kept.puts.items f)) }
+    {
+        let Some(open) = slot else {
+            return;
+        };
+        if open.is_good() {
+            hear_slot(&mut self.heard, cluster, open);
+        } else {
+            restore(&mut self.pending, open.puts.as_slice());
+        }
     }
 }
 
@@ -112,5 +173,27 @@ fn mark(pending: &mut Vec<bool>, cluster: &Cluster, signal: u16)
         if has_signal(cluster, frame, signal) {
             pending[frame as usize] = true;
         }
+    }
+}
+
+/// A frame is pending again, where there is one.
+fn restore_one(pending: &mut Vec<bool>, cleared: Option<u16>)
+    requires { IfSome cleared (λ f. f < length pending.old.items) }
+    ensures frames { length pending.new.items ≡ length pending.old.items }
+    ensures pending { (f : ℕ) → slice_index_or pending.new.items f false ≡ (slice_index_or pending.old.items f false || choose cleared false (λ g. g == f)) }
+{
+    if let Some(frame) = cleared {
+        pending[frame as usize] = true;
+    }
+}
+
+/// The frames whose being pending ended with these responses are pending again.
+fn restore(pending: &mut Vec<bool>, puts: &[Put])
+    requires { All (λ put. IfSome put.cleared (λ f. f < length pending.old.items)) puts.now }
+    ensures frames { length pending.new.items ≡ length pending.old.items }
+    ensures pending { (f : ℕ) → slice_index_or pending.new.items f false ≡ (slice_index_or pending.old.items f false || is_cleared puts.now f) }
+{
+    for put in puts {
+        restore_one(pending, put.cleared);
     }
 }

@@ -1,91 +1,95 @@
 //! The open slot, as the core keeps it.
 
-ghost use Rattle.std.specs.Prelude.{◌≡◌, ◌<◌, ◌++◌, ◌∷◌, [], Bool, ◌==◌, not, true, length, filter};
-ghost use Rattle.std.specs.Prelude.{◌+◌, ◌≤◌, ℕ, List, Some, option_map, nat_lt, map, if◌then◌else◌, vec_capacity};
+ghost use Rattle.std.specs.Prelude.{◌≡◌, ◌<◌, ◌++◌, ◌∷◌, [], Bool, ◌==◌, ◌&&◌, not, true, length, filter};
+ghost use Rattle.std.specs.Prelude.{◌+◌, ◌≤◌, ℕ, List, Some, is_some, option_map, map, vec_capacity};
 ghost use Rattle.std.specs.List.{list_any};
-ghost use Rattle.lin_cluster.specs.declared.parts.Parts.{Parts};
-ghost use Rattle.lin_cluster.specs.Cluster.{line_of};
-ghost use Rattle.lin_core.specs.History.{header_is, open_slot, seen};
-ghost use Rattle.lin_core.specs.Kept.{begun, is_answered, IsThere};
-ghost use Rattle.lin_core.specs.Links.{waiting};
-ghost use Rattle.lin_core.specs.Slots.{header};
+ghost use Rattle.lin_frame.specs.Words.{choose, numbers};
+ghost use Rattle.lin_cluster.specs.Cluster.{line_of, nodes};
+ghost use Rattle.lin_core.specs.Dues.{header_of, is_due_of, HasDue};
+ghost use Rattle.lin_core.specs.History.{good, has_decided, header_is, is_clash_seen, is_in, open_slot, seen};
+ghost use Rattle.lin_core.specs.Kept.{begun, is_carrying, slot_in, IsThere};
 ghost use Rattle.lin_core.specs.declared.log.LogEntry.{LogEntry};
 ghost use Rattle.lin_core.specs.declared.slot.OpenSlot.{OpenSlot};
-ghost use Rattle.lin_core.specs.History.{is_in, has_decided};
-ghost use Rattle.lin_core.specs.Kept.{slot_in};
 
+use crate::due::{due_nodes, header_for};
 use crate::event::{Event, Seen};
 use crate::payload::Events;
 use arrayvec::ArrayVec;
-use lin_cluster::{Cluster, Entry};
+use lin_cluster::Cluster;
 use lin_frame::Answer;
+use lin_schedule::Due;
 
 /// The protected identifiers of the diagnostic frames (ISO 17987-3: 60, master request, and 61, slave response).
 pub(crate) const MASTER_REQUEST: u8 = 0x3C;
 
 pub(crate) const SLAVE_RESPONSE: u8 = 0x7D;
 
-/// A response, and the node that put it.
+/// A response, the node that put it, and the frame that was pending until then, if it carries one.
 #[derive(Drop)]
 pub(crate) struct Put {
     pub(crate) node: u8,
     pub(crate) answer: Answer,
+    pub(crate) cleared: Option<u16>,
 }
 
-/// The open slot: what its header is, who is due, and who put what. A cluster has at most 16 nodes; one
-/// of them answers at most, as long as diagnostic frames alone are sent.
+impl Default for Put {
+    /// A response without bytes, for the places of a slot in which nothing was put.
+    fn default() -> Put {
+        Put {
+            node: 0,
+            answer: Answer::new(ArrayVec::new()),
+            cleared: None,
+        }
+    }
+}
+
+/// The open slot: its entry, its header, who is due, and who put what, in the order of the responses. A cluster has at most 16 nodes, and
+/// each puts at most one response.
 #[derive(Drop)]
 pub(crate) struct OpenSlot {
     pub(crate) table: u16,
     pub(crate) entry: u16,
     pub(crate) header: Option<u8>,
     pub(crate) due: ArrayVec<u8, 16>,
-    pub(crate) put: Option<Put>,
+    pub(crate) puts: ArrayVec<Put, 16>,
 }
 
-/// The header of a slot for an entry, where a message of the commander's host waits or doesn't (ISO 17987-2, diagnostic schedules).
-fn header_for(entry: Entry, waits: bool) -> Option<u8>
-    ensures { (c : Parts) (past : List LogEntry) → nat_lt 0 (length (waiting c past 0)) ≡ waits → result ≡ header c past entry }
+/// Whether a node has put one of these responses.
+fn has_put(puts: &[Put], node: u8) -> bool
+    ensures { result ≡ list_any (λ put. put.node == node) puts.now }
 {
-    match entry {
-        Entry::MasterReq if waits => Some(MASTER_REQUEST),
-        Entry::SlaveResp => Some(SLAVE_RESPONSE),
-        _ => None,
-    }
-}
-
-/// Who is due under a header: the commander, where it is the master request's.
-fn due_under(header: Option<u8>) -> ArrayVec<u8, 16>
-    ensures due { result.items ≡ (if header_is 0x3C header then 0 ∷ [] else []) }
-    ensures few { length result.items ≤ 1 }
-{
-    let mut due = ArrayVec::new();
-    if header == Some(MASTER_REQUEST) {
-        due.push(0);
-    }
-    due
+    puts.iter().any(|put| put.node == node)
 }
 
 impl OpenSlot {
-    /// The slot that opens for an entry of a table, where a message of the commander's host waits or doesn't.
-    pub(crate) fn begin(table: u16, entry: u16, kind: Entry, waits: bool) -> OpenSlot
-        ensures opened { (c : Parts) (past : List LogEntry) → nat_lt 0 (length (waiting c past 0)) ≡ waits → slot_in result ≡ begun table entry (header c past kind) }
-        ensures few { length result.due.items ≤ 1 }
+    /// The slot that opens for an entry of a table, with what is due in it, where a message of the commander's host waits or doesn't, and where
+    /// these frames are pending.
+    pub(crate) fn begin(
+        cluster: &Cluster,
+        place: (u16, u16),
+        due: Due,
+        waits: bool,
+        pending: &[bool],
+    ) -> OpenSlot
+        requires there { HasDue cluster.now due }
+        requires count { length pending.now ≡ length cluster.now.frames }
+        ensures opened { slot_in result ≡ begun place.0 place.1 (header_of cluster.now waits due) (filter (is_due_of cluster.now pending.now waits due) (numbers (nodes cluster.now))) }
+        ensures few { length result.due.items ≤ 16 }
+        ensures empty { result.puts.items ≡ [] }
     {
-        let header = header_for(kind, waits);
         OpenSlot {
-            table,
-            entry,
-            header,
-            due: due_under(header),
-            put: None,
+            table: place.0,
+            entry: place.1,
+            header: header_for(cluster, due, waits),
+            due: due_nodes(cluster, due, waits, pending),
+            puts: ArrayVec::new(),
         }
     }
 
     /// The events of its open, in the room that was made for them.
     pub(crate) fn opening_events(&self, room: Vec<Event>) -> Events
         requires empty { room.items ≡ [] }
-        requires room { 1 + length self.now.due.items ≤ vec_capacity room }
+        requires room { 17 ≤ vec_capacity room }
         ensures { result ≡ Event.Slot self.now.table self.now.entry self.now.header ∷ map Event.Due self.now.due.items }
     {
         let mut events = room;
@@ -113,10 +117,7 @@ impl OpenSlot {
     pub(crate) fn has_decided(&self, node: u8) -> bool
         ensures { result ≡ has_decided (slot_in self.now) node }
     {
-        match &self.put {
-            Some(put) => put.node == node,
-            None => false,
-        }
+        has_put(self.puts.as_slice(), node)
     }
 
     /// How many nodes that are due have decided nothing.
@@ -132,39 +133,77 @@ impl OpenSlot {
         }
         count
     }
+
+    /// Whether the slot is seen good when it ends, since no step disturbs it: it has a header and one response.
+    pub(crate) fn is_good(&self) -> bool
+        ensures { result ≡ is_some (good (slot_in self.now)) }
+    {
+        self.header.is_some() && self.puts.len() == 1
+    }
+
+    /// How the slot is seen when it ends.
+    fn seen(self) -> Seen
+        ensures { result ≡ seen (slot_in self) }
+    {
+        if self.header.is_none() {
+            return Seen::Silent;
+        }
+        let mut puts = self.puts;
+        if puts.len() > 1 {
+            return Seen::Collided;
+        }
+        match puts.pop() {
+            Some(put) => Seen::Good(put.answer),
+            None => Seen::NoAnswer,
+        }
+    }
 }
 
 /// A node puts its response in the slot, where one is open.
 pub(crate) fn put_in(slot: &mut Option<OpenSlot>, put: Put)
-    ensures { (kept : OpenSlot) → slot.old ≡ Some kept → slot.new ≡ Some (record kept { put = Some put }) }
+    requires { (kept : OpenSlot) → slot.old ≡ Some kept → length kept.puts.items < 16 }
+    ensures { (kept : OpenSlot) → slot.old ≡ Some kept → slot.new ≡ Some (record kept { puts = record { items = kept.puts.items ++ put ∷ [] } }) }
 {
     if let Some(open) = slot {
-        open.put = Some(put);
+        open.puts.push(put);
     }
 }
 
-/// Whether a node put something in the slot.
-pub(crate) fn is_answered(slot: &Option<OpenSlot>) -> bool
-    ensures { (past : List LogEntry) → option_map slot_in slot.now ≡ open_slot past → result ≡ is_answered past }
+/// The slot's header; 0 where it has none, or none is open.
+pub(crate) fn header_of(slot: &Option<OpenSlot>) -> u8
+    ensures { (kept : OpenSlot) (header : ℕ) → slot.now ≡ Some kept → kept.header ≡ Some header → result ≡ header }
 {
     match slot {
-        Some(open) => open.put.is_some(),
+        Some(open) => open.header.unwrap_or(0),
+        None => 0,
+    }
+}
+
+/// Whether the slot carries a frame of a message: a response under the header of a master request.
+pub(crate) fn is_carrying(slot: &Option<OpenSlot>) -> bool
+    ensures { (past : List LogEntry) → option_map slot_in slot.now ≡ open_slot past → result ≡ is_carrying past }
+{
+    match slot {
+        Some(open) => open.header == Some(MASTER_REQUEST) && !open.puts.is_empty(),
         None => false,
     }
 }
 
-/// How the slot is seen when it ends; one response is good, since no step disturbs it.
+/// How the slot is seen when it ends; silent where none is open.
 pub(crate) fn seen_in(slot: Option<OpenSlot>) -> Seen
     ensures { (kept : OpenSlot) → slot ≡ Some kept → result ≡ seen (slot_in kept) }
 {
     match slot {
-        Some(open) => match (open.header, open.put) {
-            (None, _) => Seen::Silent,
-            (Some(_), None) => Seen::NoAnswer,
-            (Some(_), Some(put)) => Seen::Good(put.answer),
-        },
+        Some(open) => open.seen(),
         None => Seen::Silent,
     }
+}
+
+/// Whether a slot that is seen so was damaged or collided.
+pub(crate) fn is_clash(seen: &Seen) -> bool
+    ensures { result ≡ is_clash_seen seen.now }
+{
+    matches!(seen, Seen::Damaged | Seen::Collided)
 }
 
 /// The delay of the slot's entry in microseconds; 0 where no slot is open.

@@ -4,3 +4,4 @@ mod clusters;
 mod messages;
 mod refused;
 mod rows;
+mod signals;

@@ -1,9 +1,9 @@
 //! Steps with what they are answered, as rows of plain numbers.
 
-use crate::{
-    Core, Event, Events, LogEntry, Payload, PortId, Refusal, Reply, Seen, Step, is_diagnostic,
-};
-use lin_cluster::built_in;
+use crate::{Core, Event, Events, LogEntry, Payload, PortId, Refusal, Reply, Seen, Step};
+use arrayvec::ArrayVec;
+use lin_cluster::{Cluster, built_in};
+use lin_frame::{Value, ValueBytes};
 use std::alloc::{AllocError, Global};
 use std::process::Abort;
 use std::test::Fail;
@@ -18,6 +18,10 @@ pub(super) const N0: PortId = PortId::Node(0);
 
 pub(super) const N1: PortId = PortId::Node(1);
 
+pub(super) const H2: PortId = PortId::Host(2);
+
+pub(super) const N2: PortId = PortId::Node(2);
+
 #[derive(Clone, Copy)]
 pub(super) enum Told<'a> {
     Accepted(u8, u32),
@@ -27,6 +31,7 @@ pub(super) enum Told<'a> {
     Silent,
     NoAnswer,
     Good(&'a [u8]),
+    Collided,
     Message(u8, u8, &'a [u8]),
     Sent(u8, u32),
 }
@@ -34,9 +39,12 @@ pub(super) enum Told<'a> {
 #[derive(Clone, Copy)]
 pub(super) enum Given<'a> {
     Send(u8, u8, &'a [u8]),
+    Write(u8, u16, u16),
+    WriteBytes(u8, u16, &'a [u8]),
     Open,
     Answer(u8),
     Finish,
+    Switch(u16),
 }
 
 #[derive(Clone, Copy)]
@@ -52,6 +60,7 @@ fn is_seen(seen: &Seen, told: Told) -> bool {
         (Seen::Silent, Told::Silent) => true,
         (Seen::NoAnswer, Told::NoAnswer) => true,
         (Seen::Good(answer), Told::Good(bytes)) => answer.as_slice() == bytes,
+        (Seen::Collided, Told::Collided) => true,
         _ => false,
     }
 }
@@ -101,14 +110,37 @@ fn is_answered(reply: &Reply, answered: Answered) -> bool {
     }
 }
 
+fn is_written(by: u8, signal: u16, value: &Value, given: Given) -> bool {
+    match (value, given) {
+        (Value::Scalar(number), Given::Write(node, of, scalar)) => {
+            by == node && signal == of && *number == scalar
+        }
+        (Value::Bytes(bytes), Given::WriteBytes(node, of, items)) => {
+            by == node && signal == of && bytes.as_slice() == items
+        }
+        _ => false,
+    }
+}
+
+// The first eight of the bytes.
+pub(super) fn value_of(bytes: &[u8]) -> Value {
+    let mut items = ArrayVec::new();
+    for byte in bytes {
+        let _ = items.try_push(*byte);
+    }
+    Value::Bytes(ValueBytes::new(items))
+}
+
 fn is_given(step: &Step, given: Given) -> bool {
     match (step, given) {
         (Step::Send { from, to, message }, Given::Send(sender, receiver, bytes)) => {
             *from == sender && *to == receiver && message.as_slice() == bytes
         }
+        (Step::Write { by, signal, value }, given) => is_written(*by, *signal, value, given),
         (Step::Open, Given::Open) => true,
         (Step::Answer { node }, Given::Answer(number)) => *node == number,
         (Step::Finish, Given::Finish) => true,
+        (Step::Switch { table }, Given::Switch(number)) => *table == number,
         _ => false,
     }
 }
@@ -120,9 +152,20 @@ fn step_of(alloc: Global, given: Given) -> Result<Step, AllocError> {
             to,
             message: Payload::new(Vec::from_slice(alloc, bytes)?),
         },
+        Given::Write(by, signal, number) => Step::Write {
+            by,
+            signal,
+            value: Value::Scalar(number),
+        },
+        Given::WriteBytes(by, signal, bytes) => Step::Write {
+            by,
+            signal,
+            value: value_of(bytes),
+        },
         Given::Open => Step::Open,
         Given::Answer(node) => Step::Answer { node },
         Given::Finish => Step::Finish,
+        Given::Switch(table) => Step::Switch { table },
     })
 }
 
@@ -142,8 +185,16 @@ pub(super) fn built_in_core(
     alloc: Global,
     capacity: usize,
 ) -> Result<Core, AllocError> {
-    let cluster = built_in(alloc)?;
-    assert!(rt; is_diagnostic(&cluster));
+    core_on(rt, alloc, built_in(alloc)?, capacity)
+}
+
+// A core on a cluster, whose schedule opens with its first table.
+pub(super) fn core_on(
+    rt: &impl Abort,
+    alloc: Global,
+    cluster: Cluster,
+    capacity: usize,
+) -> Result<Core, AllocError> {
     assert!(rt; cluster.tables() > 0);
     assert!(rt; capacity >= 1);
     assert!(rt; capacity <= 1024);

@@ -9,10 +9,9 @@ invariant_of-result c = record {
   empty = c.new-3.ensures.items;
   rules = c.sound.ensures.rules;
   sound = c.sound.ensures.sound;
-  diagnostic = c.requires.diagnostic;
   opening = c.requires.table;
   kept = rw c.new-2.ensures (start-keeps c.args.cluster c.args.table c.args.capacity c.new-4.result c.in_ok-hosts.hosts.items c.in_ok-signals.signals
       (c.new-4.ensures.stands c.args.cluster) (c.new-4.ensures.walks c.args.cluster c.sound.ensures.rules c.requires.table) (c.in_ok-hosts.ensures.count ∙ c.nodes.ensures.number) c.in_ok-hosts.ensures.fresh
-      (start-signals c.args.cluster c.in_ok-signals.signals c.sound.ensures.rules c.in_ok-signals.ensures.values c.in_ok-signals.ensures.heard c.in_ok-signals.ensures.pending));
+      (start-signals c.args.cluster c.in_ok-signals.signals c.sound.ensures.rules c.in_ok-signals.ensures.values c.in_ok-signals.ensures.heard c.in_ok-signals.ensures.pending c.in_ok-signals.ensures.empty c.in_ok-signals.ensures.room));
   history = rw c.new-2.ensures refl;
 }

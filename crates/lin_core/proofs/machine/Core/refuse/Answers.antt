@@ -21,7 +21,6 @@ invariant_of-self-2 c =
       empty = c.self.invariant.empty;
       rules = c.self.invariant.rules;
       sound = c.self.invariant.sound;
-      diagnostic = c.self.invariant.diagnostic;
       opening = c.self.invariant.opening;
       kept = rw (pushed c, reverse-more a.log.entries e) (refused-keeps a.cluster a.opening a.capacity a.log.entries (reverse a.log.entries) a.state.slot a.state.time a.state.walker a.state.hosts.items a.state.signals c.args.by c.args.step c.args.refusal c.self.invariant.kept);
       history = rw (pushed c, is_answered c) (history-more (core_data a) c.args.by c.args.step c.self.invariant.history);

@@ -65,7 +65,6 @@ invariant_of-self-2 c =
       empty = rw c.replace-room.ensures.after c.new.ensures.items;
       rules = w.rules;
       sound = w.sound;
-      diagnostic = w.diagnostic;
       opening = w.opening;
       kept = rw (pushed c, reverse-more a.log.entries (entry c))
           (send-keeps a.cluster a.opening a.capacity a.log.entries (past_in a) a.state.slot a.state.time a.state.walker a.state.hosts.items _ a.state.signals host c.args.by c.args.from c.args.to c.args.message (number c)

@@ -35,7 +35,6 @@ invariant_of-self-2 c =
       empty = w.empty;
       rules = w.rules;
       sound = w.sound;
-      diagnostic = w.diagnostic;
       opening = w.opening;
       kept = rw (pushed c, reverse-more a.log.entries (entry c))
           (switch-keeps a.cluster a.opening a.capacity a.log.entries (past_in a) a.state.slot a.state.time a.state.walker c.switch.new.self a.state.hosts.items a.state.signals c.args.by c.args.table

@@ -34,12 +34,11 @@ invariant_of-self-2 c =
       empty = w.empty;
       rules = w.rules;
       sound = w.sound;
-      diagnostic = w.diagnostic;
       opening = w.opening;
       kept = rw (pushed c, reverse-more a.log.entries (entry c))
           (write-keeps a.cluster a.opening a.capacity a.log.entries (past_in a) a.state.slot a.state.time a.state.walker a.state.hosts.items a.state.signals c.write.new.self c.args.by c.args.node c.args.signal c.args.value
           w.sound (allowed c).known (allowed c).allowed
-          (record { values = rw c.copied.ensures.same at c.write.ensures.values; heard = c.write.ensures.heard; count = c.write.ensures.frames; pending = c.write.ensures.pending }) w.kept);
+          (record { values = rw c.copied.ensures.same at c.write.ensures.values; heard = c.write.ensures.heard; room = c.write.ensures.room; count = c.write.ensures.frames; pending = c.write.ensures.pending }) w.kept);
       history = rw (pushed c, is_answered c) (history-more (core_data a) c.args.by (Write c.args.node c.args.signal c.args.value) w.history);
     }
 

@@ -7,22 +7,27 @@ use Rattle.lin_core.specs.Kept.{Keeps, slot_in}
 use Rattle.lin_core.specs.Replies.{finish_events}
 use Rattle.lin_core.specs.Slots.{moves}
 use Rattle.lin_core.specs.Whole.{core_data}
+use Rattle.lin_core.specs.History.{is_clash_seen}
+use Rattle.lin_schedule.specs.Schedule.Move.{Slot as SlotMove}
+use Rattle.lin_schedule.specs.Walker.{Stands}
+use Rattle.std.specs.Prelude.{Bool}
 use Rattle.lin_core.specs.declared.event.Event.{Event}
 use Rattle.lin_core.specs.declared.event.Event.TheVariants.{Seen}
 use Rattle.lin_core.specs.declared.log.LogEntry.{LogEntry}
 use Rattle.lin_core.specs.declared.slot.OpenSlot.{OpenSlot}
 use Rattle.lin_core.specs.declared.step.Step.TheVariants.{Finish}
 use Rattle.lin_core.proofs.Entries.{reverse-more, history-more}
-use Rattle.lin_core.proofs.Keeping.{done_entry, done-answered, finished_entry, finish-keeps, Finishes, FinishesStill, still-hosts, calm}
+use Rattle.lin_core.proofs.Keeping.{done_entry, done-answered, finished_entry, finish-keeps, Finishes, FinishesStill, still-hosts}
+use Rattle.lin_core.proofs.SignalKeeping.{Ends}
 use Rattle.lin_core.proofs.Making.{OpenIs, open-inside, still-inside, past_in}
-use Rattle.lin_core.proofs.machine.Core.finish_unanswered.Goals.{After-push}
-use Rattle.lin_core.proofs.machine.Core.finish_unanswered.Goals as goal
+use Rattle.lin_core.proofs.machine.Core.finish_plain.Goals.{After-push}
+use Rattle.lin_core.proofs.machine.Core.finish_plain.Goals as goal
 
 opened : (c : After-push) → OpenIs c.self.inside c.args.by
 opened c = open-inside c.self.inside c.args.self.now c.args.by c.self.view_is c.self.invariant c.requires.allowed c.requires.few
 
 quiet : (c : After-push) → FinishesStill c.self.inside.cluster (past_in c.self.inside) c.args.by (slot_in (opened c).slot) (opened c).step.known
-quiet c = still-inside c.self.inside c.args.self.now c.args.by c.self.view_is c.self.invariant (opened c) c.requires.empty
+quiet c = still-inside c.self.inside c.args.self.now c.args.by c.self.view_is c.self.invariant (opened c) c.requires.none
 
 abbrev entry : (c : After-push) → LogEntry
 entry c = finished_entry c.self.inside.cluster (past_in c.self.inside) c.args.by
@@ -38,10 +43,20 @@ finishes c =
     record {
       clock_is = ap (λ (n : ℕ). a.state.time + n) (c.from.ensures ∙ delay);
       few = rw (← delay) c.delay_of-delay.ensures.few;
-      stands = c.advance.ensures.stands a.opening (moves (past_in a)) c.self.invariant.kept.stands;
+      stands = subst (λ (b : Bool). Stands a.cluster a.opening c.advance.new.self (SlotMove b ∷ moves (past_in a)))
+          (c.is_clash-clash.ensures ∙ ap is_clash_seen (c.seen_in-seen.ensures o.slot (c.take.ensures.value ∙ o.at))) (c.advance.ensures.stands a.opening (moves (past_in a)) c.self.invariant.kept.stands);
       walks = c.advance.ensures.walks;
-      calm = calm o.slot;
     }
+
+ends : (c : After-push) → Ends c.self.inside.cluster (opened c).slot c.self.inside.state.signals c.finish.new.self
+ends c = let o = opened c in record {
+  values = c.finish.ensures.values;
+  room = c.finish.ensures.room;
+  heard_count = c.finish.ensures.signals;
+  count = c.finish.ensures.frames;
+  heard = c.finish.ensures.heard o.slot o.at;
+  pending = c.finish.ensures.pending o.slot o.at;
+}
 
 pushed : (c : After-push) → c.push.new.self.entries ≡ c.self.inside.log.entries ++ entry c ∷ []
 pushed c =
@@ -50,13 +65,13 @@ pushed c =
     c.push.ensures ∙ ap (λ (log : List LogEntry). log ++ done_entry c.args.by Finish c.one_event-events.result ∷ []) c.make_room.ensures.entries
     ∙ ap (λ (es : List Event). a.log.entries ++ done_entry c.args.by Finish es ∷ []) (c.one_event-events.ensures ∙ ap (λ (s : _). Seen s ∷ []) seen_is ∙ sym (quiet c).told)
 
-kept : (c : After-push) → Keeps c.self.inside.cluster c.self.inside.opening c.self.inside.capacity (c.self.inside.log.entries ++ entry c ∷ []) (entry c ∷ past_in c.self.inside) c.take.new.self (c.self.inside.state.time + c.from.result) c.advance.new.self c.self.inside.state.hosts.items c.self.inside.state.signals
+kept : (c : After-push) → Keeps c.self.inside.cluster c.self.inside.opening c.self.inside.capacity (c.self.inside.log.entries ++ entry c ∷ []) (entry c ∷ past_in c.self.inside) c.take.new.self (c.self.inside.state.time + c.from.result) c.advance.new.self c.self.inside.state.hosts.items c.finish.new.self
 kept c =
     let a = c.self.inside in
     let w = c.self.invariant in
     let o = opened c in
     rw c.take.ensures.after
-    (finish-keeps a.cluster a.opening a.capacity a.log.entries (past_in a) o.slot a.state.time (a.state.time + c.from.result) a.state.walker c.advance.new.self a.state.hosts.items a.state.hosts.items a.state.signals c.args.by w.diagnostic (finishes c) refl
+    (finish-keeps a.cluster a.opening a.capacity a.log.entries (past_in a) o.slot a.state.time (a.state.time + c.from.result) a.state.walker c.advance.new.self a.state.hosts.items a.state.hosts.items a.state.signals c.finish.new.self c.args.by (finishes c) (ends c) refl
     (λ h host there. still-hosts a.cluster a.capacity a.log.entries (past_in a) c.args.by (slot_in o.slot) w.sound o.step.known (quiet c) h host (w.kept.each_host h host there))
     (subst (λ (s : Option OpenSlot). Keeps a.cluster a.opening a.capacity a.log.entries (past_in a) s a.state.time a.state.walker a.state.hosts.items a.state.signals) o.at w.kept))
 
@@ -69,7 +84,6 @@ invariant_of-self-2 c =
       empty = rw c.replace-room.ensures.after c.new.ensures.items;
       rules = w.rules;
       sound = w.sound;
-      diagnostic = w.diagnostic;
       opening = w.opening;
       kept = rw (pushed c, reverse-more a.log.entries (entry c)) (kept c);
       history = rw (pushed c, is_answered c) (history-more (core_data a) c.args.by Finish w.history);

@@ -1,5 +1,5 @@
-use Rattle.std.proofs.Common.{refl, ◌≡◌, ℕ, List, [], ◌∷◌, ◌++◌, ap, ◌∙◌, subst, arith, length-append}
-use Rattle.std.specs.Prelude.{Option, Some}
+use Rattle.std.proofs.Common.{refl, ◌≡◌, ◌<◌, ℕ, List, [], ◌∷◌, ◌++◌, length, ap, sym, ◌∙◌, subst, arith, length-append}
+use Rattle.std.specs.Prelude.{Option, Some, None}
 use Rattle.lin_frame.specs.Words.{choose}
 use Rattle.lin_transport.specs.Transport.{frame}
 use Rattle.lin_core.specs.Core.{answered, CoreData}
@@ -16,32 +16,29 @@ use Rattle.lin_core.specs.declared.slot.OpenSlot.{OpenSlot}
 use Rattle.lin_core.specs.declared.step.Step.TheVariants.{Answer}
 use Rattle.lin_core.proofs.Entries.{reverse-more, history-more}
 use Rattle.lin_core.proofs.Keeping.{done_entry, done-answered, answer-keeps, answer-told}
-use Rattle.lin_core.proofs.Making.{AnswersNext, answer-next, kept-slot, past_in}
-use Rattle.lin_core.proofs.machine.Core.answer.Goals.{After-push}
-use Rattle.lin_core.proofs.machine.Core.answer.Goals as goal
+use Rattle.lin_core.proofs.Making.{AnswersNext, answer-next, allowed-inside, past_in}
+use Rattle.lin_core.proofs.Answering.{AnswerSlot, answer-slot, answered-by, head-inside, none-inside, request-answers}
+use Rattle.lin_core.proofs.Opening.{put-room, with_put}
+use Rattle.lin_core.specs.Dues.{frame_answered}
+use Rattle.lin_core.specs.declared.slot.Put.{Put as KeptPut}
+use Rattle.lin_core.proofs.machine.Core.answer_request.Goals.{After-push}
+use Rattle.lin_core.proofs.machine.Core.answer_request.Goals as goal
 
 pub single_frame-answer-requires-clause-there : goal.single_frame-answer-requires-clause-there
 single_frame-answer-requires-clause-there c =
-    let x = answer-next c.self.inside c.args.self.now c.args.by c.args.node c.index.result.now c.next-place.result c.self.view_is c.self.invariant c.requires.allowed c.requires.few c.index.ensures c.next-place.ensures in
+    let x = answer-next c.self.inside c.args.self.now c.args.by c.args.node c.index.result.now c.next-place.result c.self.view_is c.self.invariant c.requires.allowed c.requires.few
+    (head-inside c.self.inside c.args.self.now c.args.by c.args.node c.self.view_is c.self.invariant c.requires.allowed c.requires.few c.requires.none) c.index.ensures c.next-place.ensures in
     rw c.make_room.ensures.entries x.next.below
 
 pub single_frame-answer-requires-clause-can : goal.single_frame-answer-requires-clause-can
 single_frame-answer-requires-clause-can c =
-    let x = answer-next c.self.inside c.args.self.now c.args.by c.args.node c.index.result.now c.next-place.result c.self.view_is c.self.invariant c.requires.allowed c.requires.few c.index.ensures c.next-place.ensures in
-    rw c.make_room.ensures.entries x.next.can
-
-pub single_frame-told-requires-clause-there : goal.single_frame-told-requires-clause-there
-single_frame-told-requires-clause-there c =
-    let x = answer-next c.self.inside c.args.self.now c.args.by c.args.node c.index.result.now c.next-place.result c.self.view_is c.self.invariant c.requires.allowed c.requires.few c.index.ensures c.next-place.ensures in
-    rw c.make_room.ensures.entries x.next.below
-
-pub single_frame-told-requires-clause-can : goal.single_frame-told-requires-clause-can
-single_frame-told-requires-clause-can c =
-    let x = answer-next c.self.inside c.args.self.now c.args.by c.args.node c.index.result.now c.next-place.result c.self.view_is c.self.invariant c.requires.allowed c.requires.few c.index.ensures c.next-place.ensures in
+    let x = answer-next c.self.inside c.args.self.now c.args.by c.args.node c.index.result.now c.next-place.result c.self.view_is c.self.invariant c.requires.allowed c.requires.few
+    (head-inside c.self.inside c.args.self.now c.args.by c.args.node c.self.view_is c.self.invariant c.requires.allowed c.requires.few c.requires.none) c.index.ensures c.next-place.ensures in
     rw c.make_room.ensures.entries x.next.can
 
 next : (c : After-push) → AnswersNext c.self.inside c.args.by c.args.node c.next-place.result
-next c = answer-next c.self.inside c.args.self.now c.args.by c.args.node c.index.result.now c.next-place.result c.self.view_is c.self.invariant c.requires.allowed c.requires.few c.index.ensures c.next-place.ensures
+next c = answer-next c.self.inside c.args.self.now c.args.by c.args.node c.index.result.now c.next-place.result c.self.view_is c.self.invariant c.requires.allowed c.requires.few
+    (head-inside c.self.inside c.args.self.now c.args.by c.args.node c.self.view_is c.self.invariant c.requires.allowed c.requires.few c.requires.none) c.index.ensures c.next-place.ensures
 
 abbrev events : (c : After-push) → List Event
 events c = choose (open_slot (past_in c.self.inside)) [] (put_event c.self.inside.cluster (past_in c.self.inside) c.args.node)
@@ -58,12 +55,18 @@ there c = ap (λ (log : List LogEntry). message_at log c.next-place.result) c.ma
 told : (c : After-push) → Put c.args.node (frame_of c) ∷ [] ≡ events c
 told c = answer-told c.self.inside.cluster (past_in c.self.inside) (next c).step.known.states c.args.node (next c).answer
 
+at : (c : After-push) → AnswerSlot c.self.inside c.args.node
+at c = answer-slot c.self.inside c.args.by c.args.node c.self.invariant (next c).step
+
+abbrev put_of : (c : After-push) → KeptPut
+put_of c = record { node = c.args.node; answer = frame_of c; cleared = None }
+
 pushed : (c : After-push) → c.push.new.self.entries ≡ c.self.inside.log.entries ++ entry c ∷ []
 pushed c =
     let a = c.self.inside in
     c.push.ensures ∙ ap (λ (log : List LogEntry). log ++ done_entry c.args.by (Answer c.args.node) c.one_event-events.result ∷ []) c.make_room.ensures.entries
     ∙ ap (λ (es : List Event). a.log.entries ++ done_entry c.args.by (Answer c.args.node) es ∷ [])
-    (c.one_event-events.ensures ∙ ap (λ (bytes : List ℕ). Put c.args.node bytes ∷ []) (c.single_frame-told.ensures (next c).answer.message (there c)) ∙ told c)
+    (c.one_event-events.ensures ∙ ap (λ (bytes : List ℕ). Put c.args.node bytes ∷ []) (c.copied_answer-told.ensures ∙ c.single_frame-answer.ensures (next c).answer.message (there c)) ∙ told c)
 
 is_answered : (c : After-push) → entry c ≡ answered (core_data c.self.inside) c.args.by (Answer c.args.node)
 is_answered c = done-answered (core_data c.self.inside) c.args.by (Answer c.args.node) (events c) (next c).step.allowed refl
@@ -73,12 +76,22 @@ kept c =
     let a = c.self.inside in
     let w = c.self.invariant in
     let x = next c in
-    let k = kept-slot a.state.slot x.answer.slot (w.kept.slot_is ∙ x.answer.is) in
-    let put : c.put_in.new.slot ≡ Some (record k.0 { put = Some (record { node = c.args.node; answer = frame_of c }) })
-    = c.put_in.ensures k.0 k.1 ∙ ap (λ (bytes : List ℕ). Some (record k.0 { put = Some (record { node = c.args.node; answer = bytes }) })) (c.single_frame-answer.ensures x.answer.message (there c)) in
+    let s = at c in
+    let put : c.put_in.new.slot ≡ Some (with_put s.slot (put_of c))
+    = c.put_in.ensures s.slot s.at ∙ ap (λ (bytes : List ℕ). Some (with_put s.slot (record { node = c.args.node; answer = bytes; cleared = None }))) (c.single_frame-answer.ensures x.answer.message (there c)) in
+    let keeps : Keeps a.cluster a.opening a.capacity a.log.entries (past_in a) (Some s.slot) a.state.time a.state.walker a.state.hosts.items a.state.signals
+    = subst (λ (o : Option OpenSlot). Keeps a.cluster a.opening a.capacity a.log.entries (past_in a) o a.state.time a.state.walker a.state.hosts.items a.state.signals) s.at w.kept in
+    let none : frame_answered a.cluster (past_in a) c.args.node ≡ None = none-inside a c.args.self.now c.args.node c.self.view_is c.requires.none in
     rw put
-    (answer-keeps a.cluster a.opening a.capacity a.log.entries (past_in a) k.0 a.state.time a.state.walker a.state.hosts.items a.state.signals c.args.by c.args.node (frame_of c) w.sound x.step.known x.step.allowed x.answer (told c)
-    (subst (λ (o : Option OpenSlot). Keeps a.cluster a.opening a.capacity a.log.entries (past_in a) o a.state.time a.state.walker a.state.hosts.items a.state.signals) k.1 w.kept))
+    (answer-keeps a.cluster a.opening a.capacity a.log.entries (past_in a) s.slot a.state.time a.state.walker a.state.hosts.items a.state.signals a.state.signals c.args.by c.args.node (put_of c) w.sound x.step.known x.step.allowed refl (told c)
+    (request-answers a.cluster (past_in a) s.slot (put_of c) s.can.0 a.state.signals s.can.1 (sym (answered-by a.cluster (past_in a) c.args.node s.can.0 s.slot s.is s.can.1) ∙ none) refl keeps.signals_are) keeps)
+
+pub put_in-requires : goal.put_in-requires
+put_in-requires c = λ kept is.
+    let a = c.self.inside in
+    let s = answer-slot a c.args.by c.args.node c.self.invariant (allowed-inside a c.args.self.now c.args.by (Answer c.args.node) c.self.view_is c.self.invariant c.requires.allowed c.requires.few) in
+    let same : s.slot ≡ kept = (let t : Some s.slot ≡ Some kept = sym s.at ∙ is in cc) in
+    subst (λ (k : OpenSlot). length k.puts.items < 16) same (put-room a.cluster s.slot (record { node = c.args.node; answer = []; cleared = None }) s.is_open s.free)
 
 pub invariant_of-self-2 : goal.invariant_of-self-2
 invariant_of-self-2 c =
@@ -89,7 +102,6 @@ invariant_of-self-2 c =
       empty = rw c.replace-room.ensures.after c.new.ensures.items;
       rules = w.rules;
       sound = w.sound;
-      diagnostic = w.diagnostic;
       opening = w.opening;
       kept = rw (pushed c, reverse-more a.log.entries (entry c)) (kept c);
       history = rw (pushed c, is_answered c) (history-more (core_data a) c.args.by (Answer c.args.node) w.history);

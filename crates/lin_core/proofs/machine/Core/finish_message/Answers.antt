@@ -7,6 +7,10 @@ use Rattle.lin_core.specs.Kept.{Keeps, message_at, slot_in}
 use Rattle.lin_core.specs.Replies.{finish_events}
 use Rattle.lin_core.specs.Slots.{moves}
 use Rattle.lin_core.specs.Whole.{core_data}
+use Rattle.lin_core.specs.History.{is_clash_seen}
+use Rattle.lin_schedule.specs.Schedule.Move.{Slot as SlotMove}
+use Rattle.lin_schedule.specs.Walker.{Stands}
+use Rattle.std.specs.Prelude.{Bool}
 use Rattle.lin_core.specs.declared.event.Seen.{Seen as HowSeen}
 use Rattle.lin_core.specs.declared.event.Event.{Event}
 use Rattle.lin_core.specs.declared.event.Event.TheVariants.{Seen, Message, Sent}
@@ -14,12 +18,13 @@ use Rattle.lin_core.specs.declared.log.LogEntry.{LogEntry}
 use Rattle.lin_core.specs.declared.slot.OpenSlot.{OpenSlot}
 use Rattle.lin_core.specs.declared.step.Step.TheVariants.{Finish}
 use Rattle.lin_core.proofs.Entries.{reverse-more, history-more}
-use Rattle.lin_core.proofs.Keeping.{done_entry, done-answered, finished_entry, finish-keeps, Finishes, one-hosts, calm}
+use Rattle.lin_core.proofs.Keeping.{done_entry, done-answered, finished_entry, finish-keeps, Finishes, one-hosts}
 use Rattle.std.proofs.Math.ListN.{length-set}
 use Rattle.lin_core.specs.declared.host.Host.{Host}
+use Rattle.lin_core.proofs.SignalKeeping.{Ends}
 use Rattle.lin_core.proofs.Making.{OpenIs, open-inside, OneIs, one-inside, same-host, past_in}
-use Rattle.lin_core.proofs.machine.Core.finish_answered.Goals.{After-push}
-use Rattle.lin_core.proofs.machine.Core.finish_answered.Goals as goal
+use Rattle.lin_core.proofs.machine.Core.finish_message.Goals.{After-push}
+use Rattle.lin_core.proofs.machine.Core.finish_message.Goals as goal
 
 pub message_at-to-requires : goal.message_at-to-requires
 message_at-to-requires c =
@@ -66,10 +71,20 @@ finishes c =
     record {
       clock_is = ap (λ (n : ℕ). a.state.time + n) (c.from.ensures ∙ delay);
       few = rw (← delay) c.delay_of-delay.ensures.few;
-      stands = c.advance.ensures.stands a.opening (moves (past_in a)) c.self.invariant.kept.stands;
+      stands = subst (λ (b : Bool). Stands a.cluster a.opening c.advance.new.self (SlotMove b ∷ moves (past_in a)))
+          (c.is_clash-clash.ensures ∙ ap is_clash_seen (c.seen_in-seen.ensures o.slot (c.take.ensures.value ∙ o.at))) (c.advance.ensures.stands a.opening (moves (past_in a)) c.self.invariant.kept.stands);
       walks = c.advance.ensures.walks;
-      calm = calm o.slot;
     }
+
+ends : (c : After-push) → Ends c.self.inside.cluster (opened c).slot c.self.inside.state.signals c.finish.new.self
+ends c = let o = opened c in record {
+  values = c.finish.ensures.values;
+  room = c.finish.ensures.room;
+  heard_count = c.finish.ensures.signals;
+  count = c.finish.ensures.frames;
+  heard = c.finish.ensures.heard o.slot o.at;
+  pending = c.finish.ensures.pending o.slot o.at;
+}
 
 number : (c : After-push) → c.index_mut-host.result.now.settled + 1 ≡ suc (length ((opened c).step.known.states 0).done)
 number c = let e = ap (λ (h : Host). h.settled) (same c) in let n = (one c).number in omega arith
@@ -94,7 +109,7 @@ pushed c =
     c.push.ensures ∙ ap (λ (log : List LogEntry). log ++ done_entry c.args.by Finish c.three_events-events.result ∷ []) c.make_room.ensures.entries
     ∙ ap (λ (es : List Event). a.log.entries ++ done_entry c.args.by Finish es ∷ []) (c.three_events-events.ensures ∙ told c)
 
-kept : (c : After-push) → Keeps c.self.inside.cluster c.self.inside.opening c.self.inside.capacity (c.self.inside.log.entries ++ entry c ∷ []) (entry c ∷ past_in c.self.inside) c.take.new.self (c.self.inside.state.time + c.from.result) c.advance.new.self (slice_set c.self.inside.state.hosts.items 0 c.settle.new.self) c.self.inside.state.signals
+kept : (c : After-push) → Keeps c.self.inside.cluster c.self.inside.opening c.self.inside.capacity (c.self.inside.log.entries ++ entry c ∷ []) (entry c ∷ past_in c.self.inside) c.take.new.self (c.self.inside.state.time + c.from.result) c.advance.new.self (slice_set c.self.inside.state.hosts.items 0 c.settle.new.self) c.finish.new.self
 kept c =
     let a = c.self.inside in
     let w = c.self.invariant in
@@ -103,7 +118,7 @@ kept c =
     let x : OneIs a c.args.by o host c.next-place.result = one c in
     let after : c.settle.new.self ≡ settled host = c.settle.ensures ∙ ap settled (same c) in
     rw (c.take.ensures.after, after)
-    (finish-keeps a.cluster a.opening a.capacity a.log.entries (past_in a) o.slot a.state.time (a.state.time + c.from.result) a.state.walker c.advance.new.self a.state.hosts.items (slice_set a.state.hosts.items 0 (settled host)) a.state.signals c.args.by w.diagnostic (finishes c)
+    (finish-keeps a.cluster a.opening a.capacity a.log.entries (past_in a) o.slot a.state.time (a.state.time + c.from.result) a.state.walker c.advance.new.self a.state.hosts.items (slice_set a.state.hosts.items 0 (settled host)) a.state.signals c.finish.new.self c.args.by (finishes c) (ends c)
     (length-set a.state.hosts.items 0 (settled host))
     (one-hosts a.cluster a.capacity a.log.entries (past_in a) c.args.by (slot_in o.slot) a.state.hosts.items host w.sound o.step.known x.done x.here w.kept.each_host)
     (subst (λ (s : Option OpenSlot). Keeps a.cluster a.opening a.capacity a.log.entries (past_in a) s a.state.time a.state.walker a.state.hosts.items a.state.signals) o.at w.kept))
@@ -117,7 +132,6 @@ invariant_of-self-2 c =
       empty = rw c.replace-room.ensures.after c.new.ensures.items;
       rules = w.rules;
       sound = w.sound;
-      diagnostic = w.diagnostic;
       opening = w.opening;
       kept = rw (pushed c, reverse-more a.log.entries (entry c)) (kept c);
       history = rw (pushed c, is_answered c) (history-more (core_data a) c.args.by Finish w.history);

@@ -1,0 +1,83 @@
+//! Which frame a response carries.
+
+ghost use Rattle.std.specs.Prelude.{◌≡◌, ◌==◌, ◌<◌, ℕ, List, All, find, length, option_map, IfSome, Some};
+ghost use Rattle.lin_cluster.specs.Cluster.{frame_of, line_of};
+ghost use Rattle.lin_cluster.specs.Rules.{IsEntry};
+ghost use Rattle.lin_core.specs.Dues.{frame_by, frame_answered, model_by};
+ghost use Rattle.lin_core.specs.History.{open_slot};
+ghost use Rattle.lin_core.specs.Kept.{slot_in, IsThere};
+ghost use Rattle.lin_core.specs.declared.log.LogEntry.{LogEntry};
+ghost use Rattle.lin_core.specs.declared.slot.OpenSlot.{OpenSlot};
+
+use crate::slot::OpenSlot;
+use lin_cluster::{Cluster, Entry};
+use lin_frame::SumKind;
+
+/// The first of these frames with a protected identifier.
+fn frame_under(cluster: &Cluster, frames: &[u16], header: u8) -> Option<u16>
+    requires { All (λ f. f < length cluster.now.frames) frames.now }
+    ensures { result ≡ find (λ f. header == (frame_of cluster.now f).pid) frames.now }
+{
+    frames
+        .iter()
+        .copied()
+        .find(|frame| header == cluster.frame_pid(*frame))
+}
+
+/// The first of these frames that a node publishes.
+fn frame_from(cluster: &Cluster, frames: &[u16], node: u8) -> Option<u16>
+    requires { All (λ f. f < length cluster.now.frames) frames.now }
+    ensures { result ≡ find (λ f. node == (frame_of cluster.now f).publisher) frames.now }
+{
+    frames
+        .iter()
+        .copied()
+        .find(|frame| node == cluster.frame_publisher(*frame))
+}
+
+/// The frame that a node's response carries in a slot for an entry, under its header; none where it carries a frame of a message.
+pub(crate) fn frame_by(cluster: &Cluster, entry: Entry, header: u8, node: u8) -> Option<u16>
+    requires { IsEntry cluster.now entry }
+    ensures frame { result ≡ frame_by cluster.now entry header node }
+    ensures there { IfSome result (λ f. f < length cluster.now.frames) }
+{
+    cluster.sound();
+    match entry {
+        Entry::Frame(frame) => Some(frame),
+        Entry::Sporadic(sporadic) => frame_under(cluster, cluster.sporadic(sporadic), header),
+        Entry::Event(event) => frame_from(cluster, cluster.event_frames(event), node),
+        Entry::MasterReq | Entry::SlaveResp | Entry::Quiet => None,
+    }
+}
+
+/// The frame that a node's response carries in the open slot.
+pub(crate) fn frame_answered(cluster: &Cluster, slot: &Option<OpenSlot>, node: u8) -> Option<u16>
+    requires { IsThere cluster.now slot.now }
+    ensures frame { (past : List LogEntry) → option_map slot_in slot.now ≡ open_slot past → result ≡ frame_answered cluster.now past node }
+    ensures there { IfSome result (λ f. f < length cluster.now.frames) }
+{
+    let Some(open) = slot else {
+        return None;
+    };
+    let Some(header) = open.header else {
+        return None;
+    };
+    cluster.sound();
+    frame_by(cluster, cluster.entry(open.table, open.entry), header, node)
+}
+
+/// The checksum model of a response with a frame in the open slot.
+pub(crate) fn model_of(cluster: &Cluster, slot: &Option<OpenSlot>, frame: u16) -> SumKind
+    requires slot { IsThere cluster.now slot.now }
+    requires frame { frame < length cluster.now.frames }
+    ensures { (kept : OpenSlot) → slot.now ≡ Some kept → result ≡ model_by cluster.now (line_of cluster.now kept.table kept.entry).entry frame }
+{
+    let Some(open) = slot else {
+        return SumKind::Enhanced;
+    };
+    cluster.sound();
+    match cluster.entry(open.table, open.entry) {
+        Entry::Event(event) => cluster.event_model(event),
+        _ => cluster.model(frame),
+    }
+}

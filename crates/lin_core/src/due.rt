@@ -1,0 +1,75 @@
+//! What a slot is for: its header, and who is due in it (ISO 17987-3, frame transfer; ISO 17987-2, diagnostic schedules).
+
+ghost use Rattle.std.specs.Prelude.{◌≡◌, ◌==◌, ◌&&◌, ◌<◌, ◌≤◌, All, filter, length, slice_index_or, false};
+ghost use Rattle.std.specs.List.{list_any};
+ghost use Rattle.lin_frame.specs.Words.{numbers};
+ghost use Rattle.lin_cluster.specs.Cluster.{frame_of, nodes};
+ghost use Rattle.lin_core.specs.Dues.{header_of, is_due_of, HasDue};
+
+use crate::slot::{MASTER_REQUEST, SLAVE_RESPONSE};
+use arrayvec::ArrayVec;
+use lin_cluster::Cluster;
+use lin_schedule::Due;
+
+/// The header of a slot, where a message of the commander's host waits or doesn't.
+pub(crate) fn header_for(cluster: &Cluster, due: Due, waits: bool) -> Option<u8>
+    requires { HasDue cluster.now due }
+    ensures { result ≡ header_of cluster.now waits due }
+{
+    match due {
+        Due::Frame(frame) => Some(cluster.frame_pid(frame)),
+        Due::Sporadic(Some(frame)) => Some(cluster.frame_pid(frame)),
+        Due::Event(event) => Some(cluster.event_pid(event)),
+        Due::MasterReq if waits => Some(MASTER_REQUEST),
+        Due::SlaveResp => Some(SLAVE_RESPONSE),
+        Due::Sporadic(None) | Due::MasterReq | Due::Quiet => None,
+    }
+}
+
+/// Whether a node publishes one of these frames that is pending.
+fn publishes_pending(cluster: &Cluster, frames: &[u16], pending: &[bool], node: u8) -> bool
+    requires there { All (λ f. f < length cluster.now.frames) frames.now }
+    requires count { length pending.now ≡ length cluster.now.frames }
+    ensures { result ≡ list_any (λ f. node == (frame_of cluster.now f).publisher && slice_index_or pending.now f false) frames.now }
+{
+    frames.iter().any(|frame| node == cluster.frame_publisher(*frame) && pending[*frame as usize])
+}
+
+/// Whether a node is due in a slot.
+fn is_due_of(cluster: &Cluster, due: Due, waits: bool, pending: &[bool], node: u8) -> bool
+    requires there { HasDue cluster.now due }
+    requires count { length pending.now ≡ length cluster.now.frames }
+    ensures { result ≡ is_due_of cluster.now pending.now waits due node }
+{
+    cluster.sound();
+    match due {
+        Due::Frame(frame) => node == cluster.frame_publisher(frame),
+        Due::Sporadic(frame) => node == 0 && frame.is_some(),
+        Due::Event(event) => {
+            publishes_pending(cluster, cluster.event_frames(event), pending, node)
+        }
+        Due::MasterReq => node == 0 && waits,
+        Due::SlaveResp | Due::Quiet => false,
+    }
+}
+
+/// The nodes that are due in a slot, by rising number.
+pub(crate) fn due_nodes(
+    cluster: &Cluster,
+    due: Due,
+    waits: bool,
+    pending: &[bool],
+) -> ArrayVec<u8, 16>
+    requires there { HasDue cluster.now due }
+    requires count { length pending.now ≡ length cluster.now.frames }
+    ensures due { result.items ≡ filter (is_due_of cluster.now pending.now waits due) (numbers (nodes cluster.now)) }
+    ensures few { length result.items ≤ 16 }
+{
+    let mut nodes = ArrayVec::new();
+    for node in 0..cluster.nodes() as u8 {
+        if is_due_of(cluster, due, waits, pending, node) {
+            nodes.push(node);
+        }
+    }
+    nodes
+}

@@ -1,0 +1,126 @@
+//! Frames of signals: their bytes, made of values, and the values that the nodes read in them.
+
+ghost use Rattle.std.specs.Prelude.{◌≡◌, ◌<◌, ◌≤◌, ℕ, [], List, length, map, take, true, All, Some, option_map, is_some, slice_get, slice_index, IsTrue, vec_capacity};
+ghost use Rattle.lin_frame.specs.Bits.{fits_place, packed, unpacked};
+ghost use Rattle.lin_frame.specs.Frame.{answer_of};
+ghost use Rattle.lin_frame.specs.Words.{choose};
+ghost use Rattle.lin_cluster.specs.Cluster.{frame_of, signal_of};
+ghost use Rattle.lin_cluster.specs.Rules.{place_at};
+ghost use Rattle.lin_core.specs.History.{good};
+ghost use Rattle.lin_core.specs.Kept.{ArePointwise, slot_in, IsThere};
+ghost use Rattle.lin_core.specs.Signals.{place_in, value_in};
+
+use crate::carried::frame_by;
+use crate::signals::copied;
+use crate::slot::OpenSlot;
+use arrayvec::ArrayVec;
+use lin_cluster::Cluster;
+use lin_frame::{Answer, SumKind, Value, answer, pack, unpack};
+
+/// The values of these signals, in the room that was made for them.
+fn gather(room: &mut Vec<Value>, values: &[Value], signals: &[u16])
+    requires empty { room.old.items ≡ [] }
+    requires room { length signals.now ≤ vec_capacity room.old }
+    requires known { All (λ s. s < length values.now) signals.now }
+    ensures values { (g : ℕ → Value) → ArePointwise g values.now → room.new.items ≡ map g signals.now }
+    ensures room { vec_capacity room.old ≤ vec_capacity room.new }
+{
+    for signal in signals {
+        room.push(copied(&values[*signal as usize])).unwrap();
+    }
+}
+
+/// An equal response.
+pub(crate) fn copied_answer(answer: &Answer) -> Answer
+    ensures { result ≡ answer.now }
+{
+    let mut copy = ArrayVec::new();
+    copy.try_extend_from_slice(answer.as_slice()).unwrap();
+    Answer::new(copy)
+}
+
+/// The response with a frame under a header, as these values stand.
+pub(crate) fn frame_answer(
+    cluster: &Cluster,
+    values: &[Value],
+    room: &mut Vec<Value>,
+    frame: u16,
+    model: SumKind,
+    header: u8,
+) -> Answer
+    requires frame { frame < length cluster.now.frames }
+    requires count { length values.now ≡ length cluster.now.signals }
+    requires fits { (s : ℕ) (v : Value) → slice_get values.now s ≡ Some v → IsTrue (fits_place (place_at 0 (signal_of cluster.now s)) v) }
+    requires empty { room.old.items ≡ [] }
+    requires room { length (frame_of cluster.now frame).signals ≤ vec_capacity room.old }
+    ensures answer { (g : ℕ → Value) → ArePointwise g values.now → result ≡ answer_of model header (packed (frame_of cluster.now frame).layout (map g (frame_of cluster.now frame).signals)) }
+    ensures empty { room.new.items ≡ [] }
+    ensures room { vec_capacity room.old ≤ vec_capacity room.new }
+{
+    cluster.sound();
+    let layout = cluster.layout(frame);
+    gather(room, values, cluster.frame_signals(frame));
+    let bytes = pack(layout, room.as_slice());
+    room.clear();
+    answer(model, header, &bytes[..layout.len as usize])
+}
+
+/// The byte at an index; 0 behind the last.
+fn byte_at(bytes: &[u8], index: usize) -> u8
+    ensures { result ≡ slice_index bytes.now index }
+{
+    if index < bytes.len() {
+        return bytes[index];
+    }
+    0
+}
+
+/// The first eight bytes, with zeros behind fewer.
+fn first_eight(bytes: &[u8]) -> [u8; 8]
+    ensures { (k : ℕ) → slice_index result k ≡ slice_index (take 8 bytes.now) k }
+{
+    let mut first = [0; 8];
+    for index in 0..8 {
+        first[index] = byte_at(bytes, index);
+    }
+    first
+}
+
+/// The other nodes hear a frame with these bytes.
+fn hear(heard: &mut Vec<Value>, cluster: &Cluster, frame: u16, bytes: &[u8])
+    requires frame { frame < length cluster.now.frames }
+    requires count { length heard.old.items ≡ length cluster.now.signals }
+    ensures count { length heard.new.items ≡ length heard.old.items }
+    ensures heard { (g : ℕ → Value) → ArePointwise g heard.old.items → ArePointwise (λ s. choose (option_map (λ p. unpacked p (take 8 bytes.now)) (place_in (frame_of cluster.now frame) s)) (g s) (λ v. v)) heard.new.items }
+{
+    cluster.sound();
+    let data = first_eight(bytes);
+    let layout = cluster.layout(frame);
+    let signals = cluster.frame_signals(frame);
+    let mut left = signals.len();
+    while left > 0 {
+        left -= 1;
+        heard[signals[left] as usize] = unpack(layout, &data, left);
+    }
+}
+
+/// The other nodes hear what a slot carries that was seen good.
+pub(crate) fn hear_slot(heard: &mut Vec<Value>, cluster: &Cluster, slot: &OpenSlot)
+    requires there { IsThere cluster.now (Some slot.now) }
+    requires count { length heard.old.items ≡ length cluster.now.signals }
+    requires good { is_some (good (slot_in slot.now)) ≡ true }
+    ensures count { length heard.new.items ≡ length heard.old.items }
+    ensures heard { (g : ℕ → Value) → ArePointwise g heard.old.items → ArePointwise (λ s. choose (value_in cluster.now (slot_in slot.now) s) (g s) (λ v. v)) heard.new.items }
+{
+    let Some(header) = slot.header else {
+        return;
+    };
+    let Some(put) = slot.puts.as_slice().first() else {
+        return;
+    };
+    cluster.sound();
+    let entry = cluster.entry(slot.table, slot.entry);
+    if let Some(frame) = frame_by(cluster, entry, header, put.node) {
+        hear(heard, cluster, frame, put.answer.as_slice());
+    }
+}
