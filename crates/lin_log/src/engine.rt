@@ -1,7 +1,7 @@
 //! A script, made and written.
 
 ghost use Rattle.std.specs.Prelude.{◌≡◌, ◌≤◌, ◌<◌, ◌^◌, ◌-◌, ◌++◌, ◌∷◌, [], length, IfOk, IfSome, OnOk};
-ghost use Rattle.lin_core.specs.Core.{IsAlike, IsDiagnostic, answered};
+ghost use Rattle.lin_core.specs.Core.{IsAlike, answered};
 ghost use Rattle.lin_log.specs.Replay.{IsReplay, log_of};
 
 use crate::entries::write_log;
@@ -57,7 +57,6 @@ pub fn replay<R: Read, W: Write>(
 ) -> Result<Core, ReplayFault>
     requires table { table < length cluster.tables }
     requires capacity { (1 ≤ capacity) × (capacity ≤ 1024) }
-    requires diagnostic { IsDiagnostic cluster }
     ensures text { IfSome (R.remaining reader.old) (λ bytes. IsReplay cluster table capacity (λ core. core.log) result bytes (W.contents writer.old) (W.contents writer.new)) }
     ensures core { IfOk result (λ core. (core.cluster ≡ cluster) × (core.opening ≡ table) × (core.capacity ≡ capacity)) }
 {
