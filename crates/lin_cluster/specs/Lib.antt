@@ -1,4 +1,11 @@
+pub mod Checks
 pub mod Cluster
 pub mod ClusterA
 pub mod Rules
 pub mod Sound
+pub mod Described
+pub mod FindingsNames
+pub mod FindingsFrames
+pub mod FindingsTables
+pub mod Findings
+pub mod Fitting

@@ -9,7 +9,7 @@ mod events;
 mod frames;
 mod identifiers;
 mod nodes;
-mod signals;
+pub(crate) mod signals;
 mod sporadics;
 mod tables;
 

@@ -166,9 +166,13 @@ sporadic seen = keyword (codes "Sporadic_frames") &> block with_sporadic sporadi
 abbrev pub event_of : Name × (Name × (Number × List Name)) → EventFrame
 event_of p = record { name = p.0; table = p.1.0; id = p.1.1.0; members = p.1.1.1 }
 
+-- .. WORD ',' INT ',' words ';'
+abbrev pub event_parts : Form (Name × (Number × List Name))
+event_parts = word <& comma & int <& comma & as_value consed_of words <& semicolon
+
 -- WORD ':' WORD ',' INT ',' words ';'
 abbrev pub event_frame : List (List ℕ) → Form EventFrame
-event_frame seen = as_value event_of (declared seen <& colon & word <& comma & int <& comma & as_value consed_of words <& semicolon)
+event_frame seen = as_value event_of (declared seen <& colon & event_parts)
 
 abbrev pub with_event : List (List ℕ) → EventFrame → List (List ℕ)
 with_event seen f = seen ++ f.name.text ∷ []

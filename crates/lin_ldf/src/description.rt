@@ -1,8 +1,8 @@
 //! What an LDF text describes.
 
-ghost use Rattle.std.specs.Prelude.{◌≡◌};
+ghost use Rattle.std.specs.Prelude.{◌≡◌, ◌≤◌, length};
 
-use crate::lists::{Many, Text};
+use crate::lists::{Many, OneOrMore, Text};
 use crate::place::Place;
 
 /// A name and the place of its first byte.
@@ -25,7 +25,7 @@ pub struct Number {
 #[derive(Debug, Drop)]
 pub enum Init {
     Scalar(Number),
-    Array(Place, Many<Number>),
+    Array(Place, OneOrMore<Number>),
 }
 
 /// A signal (LIN 2.2A, section 9.2.3): its size is in bits.
@@ -59,7 +59,7 @@ pub struct Frame {
 #[derive(Debug, Drop)]
 pub struct Sporadic {
     pub name: Name,
-    pub members: Many<Name>,
+    pub members: OneOrMore<Name>,
 }
 
 /// An event-triggered frame (LIN 2.2A, section 9.2.4.3), the schedule table that resolves its collisions, and the frames
@@ -69,7 +69,7 @@ pub struct EventFrame {
     pub name: Name,
     pub table: Name,
     pub id: Number,
-    pub members: Many<Name>,
+    pub members: OneOrMore<Name>,
 }
 
 /// The attributes of a node (LIN 2.2A, section 9.2.2.2).
@@ -97,12 +97,12 @@ pub struct Table {
 }
 
 /// The nodes (LIN 2.2A, section 9.2.2): the times are in microseconds.
-#[derive(Debug, Drop)]
+#[derive(Drop)]
 pub struct Nodes {
     pub master: Name,
     pub time_base: Number,
     pub jitter: Number,
-    pub slaves: Many<Name>,
+    pub slaves: OneOrMore<Name>,
 }
 
 /// What an LDF text describes: each declaration in file order, with the places of its names and numbers. The speed is in
@@ -113,7 +113,7 @@ pub struct Description {
     pub master: Name,
     pub time_base: Number,
     pub jitter: Number,
-    pub slaves: Many<Name>,
+    pub slaves: OneOrMore<Name>,
     pub signals: Many<Signal>,
     pub frames: Many<Frame>,
     pub sporadic: Many<Sporadic>,
@@ -151,9 +151,10 @@ impl Description {
         self.jitter
     }
 
-    /// The responders' names.
+    /// The responders' names, one at least.
     pub fn slaves(&self) -> &[Name]
-        ensures { result.now ≡ self.now.slaves }
+        ensures value { result.now ≡ self.now.slaves }
+        ensures some { 1 ≤ length result.now }
     {
         self.slaves.as_slice()
     }

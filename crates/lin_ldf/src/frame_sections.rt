@@ -2,11 +2,11 @@
 
 ghost use Rattle.std.specs.Prelude.{◌≡◌, IfOk, fold};
 ghost use Rattle.lin_ldf.specs.Forms.{Gives};
-ghost use Rattle.lin_ldf.specs.Grammar.{placed, placed_signals, frame, with_frame, frames, sporadic_frame, with_sporadic, sporadic, event_frame, with_event, event};
+ghost use Rattle.lin_ldf.specs.Grammar.{placed, placed_signals, frame, with_frame, frames, sporadic_frame, with_sporadic, sporadic, event_parts, event_frame, with_event, event};
 
-use crate::description::{EventFrame, Frame, PlacedSignal, Sporadic};
+use crate::description::{EventFrame, Frame, Name, Number, PlacedSignal, Sporadic};
 use crate::fault::LdfFault;
-use crate::lists::Many;
+use crate::lists::{Many, OneOrMore};
 use crate::names::Names;
 use crate::parser::Parser;
 use crate::repeat::{Item, Listed, several};
@@ -208,18 +208,26 @@ impl<'a> Parser<'a> {
         Ok(frames)
     }
 
-    fn event_frame(&mut self, alloc: Global, seen: &mut Names<'a>) -> Result<EventFrame, LdfFault>
-        ensures read { Gives result self.new ((event_frame seen.old).read self.old) }
-        ensures state { IfOk result (λ f. seen.new ≡ with_event seen.old f) }
+    /// The table, the identifier and the members of an event-triggered frame.
+    fn event_parts(&mut self, alloc: Global) -> Result<(Name, (Number, OneOrMore<Name>)), LdfFault>
+        ensures { Gives result self.new (event_parts.read self.old) }
     {
-        let name = self.declared(alloc, seen)?;
-        self.mark(TokenKind::Colon)?;
         let table = self.word(alloc)?;
         self.mark(TokenKind::Comma)?;
         let id = self.int()?;
         self.mark(TokenKind::Comma)?;
         let members = self.words(alloc)?;
         self.mark(TokenKind::Semicolon)?;
+        Ok((table, (id, members)))
+    }
+
+    fn event_frame(&mut self, alloc: Global, seen: &mut Names<'a>) -> Result<EventFrame, LdfFault>
+        ensures read { Gives result self.new ((event_frame seen.old).read self.old) }
+        ensures state { IfOk result (λ f. seen.new ≡ with_event seen.old f) }
+    {
+        let name = self.declared(alloc, seen)?;
+        self.mark(TokenKind::Colon)?;
+        let (table, (id, members)) = self.event_parts(alloc)?;
         Ok(EventFrame {
             name,
             table,

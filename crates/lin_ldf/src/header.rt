@@ -7,7 +7,7 @@ ghost use Rattle.lin_ldf.specs.Grammar.{extra, extras, title, version, speed, he
 
 use crate::description::{Name, Nodes, Number};
 use crate::fault::LdfFault;
-use crate::lists::Many;
+use crate::lists::OneOrMore;
 use crate::names::Names;
 use crate::parser::Parser;
 use crate::repeat::{Gathered, Whole, gather, several};
@@ -124,7 +124,7 @@ impl<'a> Parser<'a> {
         alloc: Global,
         master: &Name,
         seen: &mut Names<'a>,
-    ) -> Result<Many<Name>, LdfFault>
+    ) -> Result<OneOrMore<Name>, LdfFault>
         requires { seen.old ≡ master.now.text ∷ [] }
         ensures read { Gives result self.new ((slaves master.now).read self.old) }
         ensures names { IfOk result (λ s. seen.new ≡ fold with_name (master.now.text ∷ []) s) }

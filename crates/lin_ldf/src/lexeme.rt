@@ -11,7 +11,7 @@ use crate::token::TokenKind;
 use std::alloc::{AllocError, Global};
 
 /// A token with its text, a part of the source.
-#[derive(Clone, Copy, Debug)]
+#[derive(Clone, Copy)]
 pub struct Lexeme<'a> {
     pub kind: TokenKind,
     pub text: &'a [u8],

@@ -31,7 +31,7 @@ pub use description::{
 };
 pub use fault::LdfFault;
 pub use lexer::lex;
-pub use lists::{Many, Text};
+pub use lists::{Many, OneOrMore, Text};
 pub use place::Place;
 pub use reader::parse;
 pub use token::{Token, TokenKind};

@@ -1,6 +1,6 @@
 //! Texts and lists as fields of public types: contracts see them as lists.
 
-ghost use Rattle.std.specs.Prelude.{◌≡◌, ◌∷◌, IfOk};
+ghost use Rattle.std.specs.Prelude.{◌≡◌, ◌≤◌, ◌∷◌, length, IfOk};
 
 use std::alloc::{AllocError, Global};
 use std::marker::Model;
@@ -74,13 +74,47 @@ impl<T> Many<T> {
     }
 
     /// These items behind a first one.
-    pub(crate) fn behind(self, first: T) -> Result<Many<T>, AllocError>
+    pub(crate) fn behind(self, first: T) -> Result<OneOrMore<T>, AllocError>
     where
         T: Drop,
         ensures { IfOk result (λ m. m ≡ first ∷ self) }
     {
         let mut items = self.items;
         items.insert(0, first)?;
-        Ok(Many::new(items))
+        Ok(OneOrMore::new(items))
+    }
+}
+
+/// Items in order, one at least. Contracts see them as a list.
+#[derive(Debug, Drop)]
+pub struct OneOrMore<T> {
+    all: Vec<T>,
+}
+
+impl<T> Model for OneOrMore<T> {
+    ghost use Rattle.std.specs.Prelude.{List, ◌≤◌, length};
+
+    ghost Value = { List T };
+
+    ghost view = { λ m. m.all.items };
+
+    ghost invariant = { λ m. 1 ≤ length m.all.items };
+}
+
+impl<T> OneOrMore<T> {
+    /// These items.
+    pub fn new(items: Vec<T>) -> OneOrMore<T>
+        requires { 1 ≤ length items.items }
+        ensures { result ≡ items.items }
+    {
+        OneOrMore { all: items }
+    }
+
+    /// The items, in order.
+    pub fn as_slice(&self) -> &[T]
+        ensures value { result.now ≡ self.now }
+        ensures some { 1 ≤ length result.now }
+    {
+        self.all.as_slice()
     }
 }

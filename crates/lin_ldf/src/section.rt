@@ -15,7 +15,7 @@ use crate::repeat::{Gathered, Whole};
 use std::alloc::Global;
 
 /// What the word of a section says.
-#[derive(Clone, Copy, PartialEq, Eq)]
+#[derive(Clone, Copy)]
 pub enum SectionWord {
     Signals,
     Frames,

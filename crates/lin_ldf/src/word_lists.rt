@@ -7,7 +7,7 @@ ghost use Rattle.lin_ldf.specs.Words.{other_words, words, other_ints, group, lis
 
 use crate::description::{Name, Number};
 use crate::fault::LdfFault;
-use crate::lists::Many;
+use crate::lists::{Many, OneOrMore};
 use crate::names::Names;
 use crate::parser::{Parser, same_kind};
 use crate::repeat::{Item, Listed, several};
@@ -127,7 +127,7 @@ impl<'a> Parser<'a> {
     }
 
     /// One or more words.
-    pub fn words(&mut self, alloc: Global) -> Result<Many<Name>, LdfFault>
+    pub fn words(&mut self, alloc: Global) -> Result<OneOrMore<Name>, LdfFault>
         ensures { Gives result self.new ((as_value consed_of words).read self.old) }
     {
         let first = self.word(alloc)?;

@@ -17,7 +17,7 @@ pub(super) fn is_array(value: &Value) -> bool
     }
 }
 
-pub(super) fn place_at(offset: u8, signal: &Signal) -> Place
+pub(crate) fn place_at(offset: u8, signal: &Signal) -> Place
     ensures { result ≡ place_at offset signal.now }
 {
     Place {

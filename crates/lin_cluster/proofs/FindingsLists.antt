@@ -1,0 +1,34 @@
+-- Lists of findings as loops make them.
+use Rattle.std.proofs.Common.{◌≡◌, ℕ, ◌+◌, ◌<◌, ◌≤◌, List, [], ◌∷◌, ◌++◌, length, take, get_or, slice_get, sym, ap, ◌∙◌, zero-add, append-nil, append_assoc}
+use Rattle.std.specs.List.{flat_map, enumerate_from}
+use Rattle.std.proofs.lemmas.List.{take_more, take_all}
+use Rattle.std.proofs.lemmas.Grind.{flat_map-append}
+use Rattle.std.proofs.lemmas.List.FromFn.{length-enumerate_from, get_or-enumerate_from}
+use Rattle.std.proofs.lemmas.Option.{slice_get_past}
+use Rattle.lin_cluster.specs.FindingsTables.{past}
+use Rattle.lin_cluster.specs.declared.finding.Finding.{Finding}
+use Rattle.lin_ldf.specs.declared.description.Name.{Name}
+
+-- with one more of the items of a list, each with its place
+pub each_more : {A B : Type 0} (f : ℕ × A → List B) (xs : List A) (i : ℕ) (d : A) → i < length xs → flat_map f (take (i + 1) (enumerate_from 0 xs)) ≡ flat_map f (take i (enumerate_from 0 xs)) ++ f (i, get_or xs i d)
+each_more f xs i d h =
+    let within : i < length (enumerate_from 0 xs) = rw (length-enumerate_from 0 xs) h in
+    let more : take (i + 1) (enumerate_from 0 xs) ≡ take i (enumerate_from 0 xs) ++ get_or (enumerate_from 0 xs) i (0, d) ∷ [] = take_more (enumerate_from 0 xs) i (0, d) within in
+    let item : get_or (enumerate_from 0 xs) i (0, d) ≡ (i, get_or xs i d) = get_or-enumerate_from 0 xs i (0, d) h ∙ ap (λ (k : ℕ). (k, get_or xs i d)) (zero-add i) in
+    ap (flat_map f) more ∙ flat_map-append f (take i (enumerate_from 0 xs)) (get_or (enumerate_from 0 xs) i (0, d) ∷ []) ∙ ap (λ ys. flat_map f (take i (enumerate_from 0 xs)) ++ ys) (append-nil (f (get_or (enumerate_from 0 xs) i (0, d))) ∙ ap f item)
+
+pub each_all : {A : Type 0} (xs : List A) (i : ℕ) → length xs ≤ i → take i (enumerate_from 0 xs) ≡ enumerate_from 0 xs
+each_all xs i h = take_all i (enumerate_from 0 xs) (rw (length-enumerate_from 0 xs) h)
+
+-- nothing is past where there are as many as there may be, or fewer
+pub past_none : {A : Type 0} (name : A → Name) (xs : List A) (n : ℕ) (found : List Finding) → length xs ≤ n → found ≡ found ++ past name (slice_get xs n)
+past_none name xs n found h = rw (slice_get_past xs n h) (sym (append-nil found))
+
+-- a step of a loop that adds what it finds at each place
+pub each_step : {A B : Type 0} (f : ℕ × A → List B) (xs : List A) (i : ℕ) (d : A) (before found more : List B) → i < length xs → found ≡ before ++ flat_map f (take i (enumerate_from 0 xs)) → more ≡ found ++ f (i, get_or xs i d) → more ≡ before ++ flat_map f (take (i + 1) (enumerate_from 0 xs))
+each_step f xs i d before found more h so here =
+    here ∙ ap (λ ys. ys ++ f (i, get_or xs i d)) so ∙ append_assoc before (flat_map f (take i (enumerate_from 0 xs))) (f (i, get_or xs i d)) ∙ ap (λ ys. before ++ ys) (sym (each_more f xs i d h))
+
+-- the same where the item is known by another name
+pub each_step_at : {A B : Type 0} (f : ℕ × A → List B) (xs : List A) (i : ℕ) (x : A) (before found more : List B) → i < length xs → get_or xs i x ≡ x → found ≡ before ++ flat_map f (take i (enumerate_from 0 xs)) → more ≡ found ++ f (i, x) → more ≡ before ++ flat_map f (take (i + 1) (enumerate_from 0 xs))
+each_step_at f xs i x before found more h is so here = each_step f xs i x before found more h so (here ∙ ap (λ y. found ++ f (i, y)) (sym is))

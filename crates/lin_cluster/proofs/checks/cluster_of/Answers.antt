@@ -1,0 +1,11 @@
+use Rattle.std.proofs.Common.{sym, subst}
+use Rattle.lin_cluster.specs.Rules.{IsCluster}
+use Rattle.lin_cluster.specs.declared.parts.Parts.{Parts}
+use Rattle.lin_cluster.proofs.DescribedClusters.{described-cluster, numbers-fit}
+use Rattle.lin_cluster.proofs.checks.cluster_of.Goals as goal
+
+pub parts_of-requires : goal.parts_of-requires
+parts_of-requires c = numbers-fit c.args.description.now c.requires
+
+pub new-requires : goal.new-requires
+new-requires c = subst (λ (p : Parts). IsCluster p) (sym c.in_ok-parts_of.ensures.parts) (described-cluster c.args.description.now c.requires c.in_ok-parts_of.ensures.members)

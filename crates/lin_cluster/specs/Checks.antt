@@ -1,0 +1,11 @@
+-- What a refusal of a description says.
+use Rattle.std.specs.Prelude.{◌≢◌, []}
+use Rattle.lin_cluster.specs.Findings.{candidates, AreFindings}
+use Rattle.lin_cluster.specs.declared.finding.CheckFault.{CheckFault}
+use Rattle.lin_cluster.specs.declared.finding.CheckFault.TheVariants.{Findings, OutOfMemory}
+use Rattle.lin_ldf.specs.declared.description.Description.{Description}
+
+-- all that is found, which is something; want of memory says nothing of the description
+abbrev pub IsFaultOf : Description → CheckFault → Type 0
+IsFaultOf d (Findings found) = AreFindings d found × (candidates d ≢ [])
+IsFaultOf d OutOfMemory = Unit {0}

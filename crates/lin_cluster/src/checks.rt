@@ -1,0 +1,59 @@
+//! The check of a description: the cluster that it says, or all that is wrong with it.
+
+ghost use Rattle.std.specs.Prelude.{◌≡◌, IfErr, IfOk};
+ghost use Rattle.lin_cluster.specs.Checks.{IsFaultOf};
+ghost use Rattle.lin_cluster.specs.Described.{parts_of};
+ghost use Rattle.lin_cluster.specs.Findings.{AreFindings, IsFree};
+ghost use Rattle.lin_cluster.specs.declared.finding.CheckFault.TheVariants.{OutOfMemory};
+
+use crate::cluster::Cluster;
+use crate::described::parts_of;
+use crate::finding::{CheckFault, Finding};
+use crate::findings::findings;
+use lin_ldf::{Description, Many};
+use std::alloc::{AllocError, Global};
+
+impl From<AllocError> for CheckFault {
+    ghost from_gives = { λ _ e. e ≡ OutOfMemory };
+
+    fn from(_error: AllocError) -> CheckFault {
+        CheckFault::OutOfMemory
+    }
+}
+
+// The cluster of a description in which nothing is found.
+fn cluster_of(alloc: Global, description: &Description) -> Result<Cluster, AllocError>
+    requires { IsFree description.now }
+    ensures { IfOk result (λ cluster. cluster ≡ parts_of description.now) }
+{
+    Ok(Cluster::new(parts_of(alloc, description)?))
+}
+
+// What is answered where this is all that is found.
+fn answer_to(
+    alloc: Global,
+    description: &Description,
+    found: Vec<Finding>,
+) -> Result<Cluster, CheckFault>
+    requires { AreFindings description.now found.items }
+    ensures ok { IfOk result (λ cluster. IsFree description.now × (cluster ≡ parts_of description.now)) }
+    ensures findings { IfErr result (IsFaultOf description.now) }
+{
+    if found.as_slice().is_empty() {
+        return Ok(cluster_of(alloc, description)?);
+    }
+    Err(CheckFault::Findings(Many::new(found)))
+}
+
+/// The cluster that a description says, where nothing is wrong with it (LIN 2.2A, section 9).
+///
+/// # Errors
+/// All that is wrong, by place and then by number; or want of memory, which says nothing of the description. The description is
+/// used up either way.
+pub fn check(alloc: Global, description: Description) -> Result<Cluster, CheckFault>
+    ensures ok { IfOk result (λ cluster. IsFree description × (cluster ≡ parts_of description)) }
+    ensures findings { IfErr result (IsFaultOf description) }
+{
+    let found = findings(alloc, &description)?;
+    answer_to(alloc, &description, found)
+}

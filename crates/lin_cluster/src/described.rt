@@ -1,0 +1,35 @@
+//! The cluster that an LDF description says: a function for each kind of part. These are called where nothing was found, so that
+//! every number fits; names are looked up one by one, since a cluster's limits are small.
+
+ghost use Rattle.std.specs.Prelude.{◌≡◌, IfOk, OnOk};
+ghost use Rattle.lin_cluster.specs.Described.{parts_of};
+ghost use Rattle.lin_cluster.specs.Fitting.{FitsParts, HasMembers};
+
+use crate::parts::Parts;
+use lin_ldf::Description;
+use std::alloc::{AllocError, Global};
+
+mod frames;
+mod nodes;
+mod numbers;
+mod signals;
+mod tables;
+
+/// The parts of the cluster that a description says; an error is want of memory. With them its caller knows that no list of names
+/// is empty.
+pub(crate) fn parts_of(alloc: Global, d: &Description) -> Result<Parts, AllocError>
+    requires { FitsParts d.now }
+    ensures parts { IfOk result (λ parts. parts ≡ parts_of d.now) }
+    ensures members { OnOk result (HasMembers d.now) }
+{
+    let signals = signals::signals_of(alloc, d, d.signals())?;
+    let frames = frames::frames_of(alloc, d, signals.as_slice(), d.frames())?;
+    Ok(Parts {
+        nodes: nodes::nodes_of(alloc, d, d.slaves())?,
+        signals,
+        frames,
+        sporadic: frames::sporadic_frames_of(alloc, d, d.sporadic())?,
+        events: frames::events_of(alloc, d, d.events())?,
+        tables: tables::tables_of(alloc, d, d.tables())?,
+    })
+}

@@ -1,0 +1,234 @@
+//! The frames of each kind that a description says.
+
+ghost use Rattle.std.specs.Prelude.{◌≡◌, ◌==◌, ◌<◌, ◌≤◌, ◌^◌, ℕ, All, IfOk, OnOk, length, map};
+ghost use Rattle.std.specs.List.{enumerate_from, list_any};
+ghost use Rattle.lin_frame.specs.Frame.{pid};
+ghost use Rattle.lin_cluster.specs.Described.{frame_number, signal_number, signals_of, own_pid, described_place, described_layout, described_frame, frames_of, members_of, sporadic_frames_of, described_event, events_of};
+ghost use Rattle.lin_cluster.specs.Fitting.{FitsFrame, FitsNumbers};
+
+use super::numbers::{frame_number, node_number, signal_number, table_number};
+use crate::parts::{EventFrame, Signal, SignalFrame};
+use crate::rules::signals::place_at;
+use lin_frame::{FrameId, Layout, Place, Places, SumKind, protected};
+use lin_ldf::{Description, Frame, Many, Name, PlacedSignal, Sporadic};
+use std::alloc::{AllocError, Global};
+
+fn pid_of(id: u32) -> u8
+    requires { id < 64 }
+    ensures { result ≡ pid id }
+{
+    match FrameId::new(id as u8) {
+        Some(id) => protected(id),
+        None => 0,
+    }
+}
+
+fn lists(d: &Description, members: &[Name], frame: u16) -> bool
+    requires { length d.now.frames ≤ 60 }
+    ensures { result ≡ list_any (λ m. frame_number d.now m == frame) members.now }
+{
+    members
+        .iter()
+        .any(|member| frame_number(d, member) == frame)
+}
+
+fn is_member(d: &Description, events: &[lin_ldf::EventFrame], frame: u16) -> bool
+    requires few { length d.now.frames ≤ 60 }
+    ensures { result ≡ list_any (λ e. list_any (λ m. frame_number d.now m == frame) e.members) events.now }
+{
+    events
+        .iter()
+        .any(|event| lists(d, event.members.as_slice(), frame))
+}
+
+fn place_of(d: &Description, signals: &[Signal], placed: &PlacedSignal) -> Place
+    requires few { length d.now.signals ≤ 1024 }
+    requires all { signals.now ≡ signals_of d.now }
+    requires fits { placed.now.offset.value < 2 ^ 8 }
+    ensures { result ≡ described_place d.now placed.now }
+{
+    let offset = placed.offset.value as u8;
+    match signals.get(usize::from(signal_number(d, &placed.signal))) {
+        Some(signal) => place_at(offset, signal),
+        None => Place {
+            offset,
+            size: 1,
+            array: false,
+        },
+    }
+}
+
+fn places_of(
+    alloc: Global,
+    d: &Description,
+    signals: &[Signal],
+    placed: &[PlacedSignal],
+) -> Result<Places, AllocError>
+    requires few { length d.now.signals ≤ 1024 }
+    requires all { signals.now ≡ signals_of d.now }
+    requires fit { All (λ p. p.offset.value < 2 ^ 8) placed.now }
+    ensures { IfOk result (λ places. places ≡ map (described_place d.now) placed.now) }
+{
+    let mut places = Vec::new(alloc);
+    for one in placed {
+        places.push(place_of(d, signals, one))?;
+    }
+    Ok(Places::new(places))
+}
+
+fn signals_in(
+    alloc: Global,
+    d: &Description,
+    placed: &[PlacedSignal],
+) -> Result<Many<u16>, AllocError>
+    requires few { length d.now.signals ≤ 1024 }
+    ensures { IfOk result (λ numbers. numbers ≡ map (λ p. signal_number d.now p.signal) placed.now) }
+{
+    let mut numbers = Vec::new(alloc);
+    for one in placed {
+        numbers.push(signal_number(d, &one.signal))?;
+    }
+    Ok(Many::new(numbers))
+}
+
+// What data byte 0 holds.
+fn own_pid(d: &Description, number: u16, frame: &Frame) -> Option<u8>
+    requires few { length d.now.frames ≤ 60 }
+    requires fits { frame.now.id.value < 64 }
+    ensures { result ≡ own_pid d.now (number, frame.now) }
+{
+    if is_member(d, d.events(), number) {
+        Some(pid_of(frame.id.value))
+    } else {
+        None
+    }
+}
+
+fn layout_of(
+    alloc: Global,
+    d: &Description,
+    signals: &[Signal],
+    number: u16,
+    frame: &Frame,
+) -> Result<Layout, AllocError>
+    requires few { FitsNumbers d.now }
+    requires all { signals.now ≡ signals_of d.now }
+    requires fits { FitsFrame frame.now }
+    ensures { IfOk result (λ layout. layout ≡ described_layout d.now (number, frame.now)) }
+{
+    Ok(Layout {
+        len: frame.size.value as u8,
+        pid: own_pid(d, number, frame),
+        places: places_of(alloc, d, signals, frame.placed.as_slice())?,
+    })
+}
+
+fn frame_of(
+    alloc: Global,
+    d: &Description,
+    signals: &[Signal],
+    number: u16,
+    frame: &Frame,
+) -> Result<SignalFrame, AllocError>
+    requires few { FitsNumbers d.now }
+    requires all { signals.now ≡ signals_of d.now }
+    requires fits { FitsFrame frame.now }
+    ensures { IfOk result (λ made. made ≡ described_frame d.now (number, frame.now)) }
+{
+    Ok(SignalFrame {
+        pid: pid_of(frame.id.value),
+        model: SumKind::Enhanced,
+        publisher: node_number(d, &frame.publisher),
+        layout: layout_of(alloc, d, signals, number, frame)?,
+        signals: signals_in(alloc, d, frame.placed.as_slice())?,
+    })
+}
+
+pub(super) fn frames_of(
+    alloc: Global,
+    d: &Description,
+    signals: &[Signal],
+    frames: &[Frame],
+) -> Result<Many<SignalFrame>, AllocError>
+    requires few { FitsNumbers d.now }
+    requires few_frames { length frames.now ≤ 60 }
+    requires all { signals.now ≡ signals_of d.now }
+    requires fit { All FitsFrame frames.now }
+    ensures { IfOk result (λ made. made ≡ map (described_frame d.now) (enumerate_from 0 frames.now)) }
+{
+    let mut made = Vec::new(alloc);
+    for (number, frame) in frames.iter().enumerate() {
+        made.push(frame_of(alloc, d, signals, number as u16, frame)?)?;
+    }
+    Ok(Many::new(made))
+}
+
+fn members_of(alloc: Global, d: &Description, names: &[Name]) -> Result<Many<u16>, AllocError>
+    requires { length d.now.frames ≤ 60 }
+    ensures { IfOk result (λ members. members ≡ members_of d.now names.now) }
+{
+    let mut members = Vec::new(alloc);
+    for name in names {
+        members.push(frame_number(d, name))?;
+    }
+    Ok(Many::new(members))
+}
+
+fn sporadic_of(alloc: Global, d: &Description, sporadic: &Sporadic) -> Result<Many<u16>, AllocError>
+    requires { length d.now.frames ≤ 60 }
+    ensures made { IfOk result (λ made. made ≡ members_of d.now sporadic.now.members) }
+    ensures some { OnOk result (1 ≤ length sporadic.now.members) }
+{
+    members_of(alloc, d, sporadic.members.as_slice())
+}
+
+pub(super) fn sporadic_frames_of(
+    alloc: Global,
+    d: &Description,
+    sporadic: &[Sporadic],
+) -> Result<Many<Many<u16>>, AllocError>
+    requires { length d.now.frames ≤ 60 }
+    ensures made { IfOk result (λ made. made ≡ map (λ s. members_of d.now s.members) sporadic.now) }
+    ensures some { OnOk result (All (λ s. 1 ≤ length s.members) sporadic.now) }
+{
+    let mut made = Vec::new(alloc);
+    for one in sporadic {
+        made.push(sporadic_of(alloc, d, one)?)?;
+    }
+    Ok(Many::new(made))
+}
+
+fn event_of(
+    alloc: Global,
+    d: &Description,
+    event: &lin_ldf::EventFrame,
+) -> Result<EventFrame, AllocError>
+    requires few { FitsNumbers d.now }
+    requires fits { event.now.id.value < 64 }
+    ensures made { IfOk result (λ made. made ≡ described_event d.now event.now) }
+    ensures some { OnOk result (1 ≤ length event.now.members) }
+{
+    Ok(EventFrame {
+        pid: pid_of(event.id.value),
+        model: SumKind::Enhanced,
+        table: table_number(d, &event.table),
+        frames: members_of(alloc, d, event.members.as_slice())?,
+    })
+}
+
+pub(super) fn events_of(
+    alloc: Global,
+    d: &Description,
+    events: &[lin_ldf::EventFrame],
+) -> Result<Many<EventFrame>, AllocError>
+    requires few { FitsNumbers d.now }
+    requires fit { All (λ e. e.id.value < 64) events.now }
+    ensures made { IfOk result (λ made. made ≡ map (described_event d.now) events.now) }
+    ensures some { OnOk result (All (λ e. 1 ≤ length e.members) events.now) }
+{
+    let mut made = Vec::new(alloc);
+    for event in events {
+        made.push(event_of(alloc, d, event)?)?;
+    }
+    Ok(Many::new(made))
+}

@@ -1,0 +1,95 @@
+//! The findings of a description: one function for each condition.
+
+mod addresses;
+mod identifiers;
+mod known;
+mod limits;
+mod members;
+mod overlaps;
+mod places;
+mod sizes;
+mod slots;
+mod tables;
+mod unknown_names;
+mod words;
+
+ghost use Rattle.std.specs.Prelude.{◌≡◌, ◌++◌, OnOk, IfOk, IsSorted, IsPermutation};
+ghost use Rattle.lin_cluster.specs.Findings.{candidates, finding_cmp, AreFindings};
+ghost use Rattle.lin_cluster.specs.FindingsFrames.{unknown_names, wrong_publishers, bad_ids, ids_twice, bad_sizes, signals_outside, signals_overlap, bad_inits, bad_nads, nads_twice};
+ghost use Rattle.lin_cluster.specs.FindingsTables.{slots_too_short, zero_delays, bad_event_frames, bad_sporadics, nested_collisions, empty_tables, limits_passed};
+
+use crate::finding::Finding;
+use known::Known;
+use lin_ldf::Description;
+use std::alloc::{AllocError, Global};
+
+fn of_names_and_numbers(
+    alloc: Global,
+    found: &mut Vec<Finding>,
+    known: &Known,
+) -> Result<(), AllocError>
+    ensures { OnOk result (found.new.items ≡ found.old.items ++ unknown_names known.now ++ wrong_publishers known.now ++ bad_ids known.now ++ ids_twice known.now) }
+{
+    unknown_names::unknown_names(found, known)?;
+    places::wrong_publishers(found, known)?;
+    identifiers::bad_identifiers(alloc, found, known)
+}
+
+fn of_signals(found: &mut Vec<Finding>, known: &Known) -> Result<(), AllocError>
+    ensures { OnOk result (found.new.items ≡ found.old.items ++ bad_sizes known.now ++ signals_outside known.now ++ signals_overlap known.now ++ bad_inits known.now) }
+{
+    sizes::bad_sizes(found, known)?;
+    places::signals_outside(found, known)?;
+    overlaps::signals_overlap(found, known)?;
+    sizes::bad_inits(found, known)
+}
+
+fn of_slots_and_addresses(
+    alloc: Global,
+    found: &mut Vec<Finding>,
+    known: &Known,
+) -> Result<(), AllocError>
+    ensures { OnOk result (found.new.items ≡ found.old.items ++ slots_too_short known.now ++ zero_delays known.now ++ bad_nads known.now ++ nads_twice known.now) }
+{
+    slots::slots_too_short(found, known)?;
+    slots::zero_delays(found, known)?;
+    addresses::bad_addresses(alloc, found, known)
+}
+
+fn of_tables(found: &mut Vec<Finding>, known: &Known) -> Result<(), AllocError>
+    ensures { OnOk result (found.new.items ≡ found.old.items ++ bad_event_frames known.now ++ bad_sporadics known.now ++ nested_collisions known.now ++ empty_tables known.now ++ limits_passed known.now) }
+{
+    members::bad_event_frames(found, known)?;
+    members::bad_sporadics(found, known)?;
+    tables::nested_collisions(found, known)?;
+    tables::empty_tables(found, known)?;
+    limits::limits_passed(found, known)
+}
+
+fn unordered(alloc: Global, known: &Known) -> Result<Vec<Finding>, AllocError>
+    ensures { IfOk result (λ found. found.items ≡ candidates known.now) }
+{
+    let mut found = Vec::new(alloc);
+    of_names_and_numbers(alloc, &mut found, known)?;
+    of_signals(&mut found, known)?;
+    of_slots_and_addresses(alloc, &mut found, known)?;
+    of_tables(&mut found, known)?;
+    Ok(found)
+}
+
+fn sort(found: &mut Vec<Finding>) -> Result<(), AllocError>
+    ensures sorted { OnOk result (IsSorted finding_cmp found.new.items) }
+    ensures same { OnOk result (IsPermutation found.old.items found.new.items) }
+{
+    found.sort()
+}
+
+/// All that is wrong with a description, by place and number; an error is want of memory.
+pub(crate) fn findings(alloc: Global, description: &Description) -> Result<Vec<Finding>, AllocError>
+    ensures { IfOk result (λ found. AreFindings description.now found.items) }
+{
+    let known = Known::new(description);
+    let mut found = unordered(alloc, &known)?;
+    sort(&mut found)?;
+    Ok(found)
+}

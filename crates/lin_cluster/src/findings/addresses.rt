@@ -1,0 +1,82 @@
+//! Diagnostic addresses of responders.
+
+ghost use Rattle.std.specs.Prelude.{◌≡◌, ◌++◌, ◌==◌, OnOk, IfOk};
+ghost use Rattle.std.specs.List.{flat_map, filter_map, list_any, enumerate_from};
+ghost use Rattle.lin_cluster.specs.FindingsFrames.{address, addresses, bad_nad, bad_nads, nad_twice, nads_twice};
+ghost use Rattle.lin_cluster.specs.FindingsNames.{at_number, when};
+
+use super::known::Known;
+use super::words::{at_number, push_when};
+use crate::finding::Finding;
+use lin_ldf::{Attributes, Number};
+use std::alloc::{AllocError, Global};
+
+fn address(known: &Known, block: &Attributes) -> Option<Number>
+    ensures { result ≡ address known.now block.now }
+{
+    if known.is_responder(&block.node) {
+        block.configured_nad
+    } else {
+        None
+    }
+}
+
+fn addresses(alloc: Global, known: &Known, blocks: &[Attributes]) -> Result<Vec<Number>, AllocError>
+    ensures { IfOk result (λ v. v.items ≡ filter_map (address known.now) blocks.now) }
+{
+    blocks
+        .iter()
+        .filter_map(|block| address(known, block))
+        .collect(alloc)
+}
+
+fn bad_nad(found: &mut Vec<Finding>, nad: &Number) -> Result<(), AllocError>
+    ensures { OnOk result (found.new.items ≡ found.old.items ++ bad_nad nad.now) }
+{
+    let is_good = 1 <= nad.value && nad.value <= 125;
+    push_when(found, !is_good, at_number(11, nad))
+}
+
+fn bad_nads(found: &mut Vec<Finding>, nads: &[Number]) -> Result<(), AllocError>
+    ensures { OnOk result (found.new.items ≡ found.old.items ++ flat_map bad_nad nads.now) }
+{
+    for nad in nads {
+        bad_nad(found, nad)?;
+    }
+    Ok(())
+}
+
+fn is_among(nads: &[Number], nad: &Number) -> bool
+    ensures { result ≡ list_any (λ y. y.value == nad.now.value) nads.now }
+{
+    nads.iter().any(|other| other.value == nad.value)
+}
+
+fn twice(found: &mut Vec<Finding>, earlier: &[Number], nad: &Number) -> Result<(), AllocError>
+    ensures { OnOk result (found.new.items ≡ found.old.items ++ when (list_any (λ y. y.value == nad.now.value) earlier.now) (at_number 12 nad.now)) }
+{
+    push_when(found, is_among(earlier, nad), at_number(12, nad))
+}
+
+#[tactic(auto, using(crate::proofs::FindingsLists::each_all))]
+fn nads_twice(found: &mut Vec<Finding>, nads: &[Number]) -> Result<(), AllocError>
+    ensures { OnOk result (found.new.items ≡ found.old.items ++ flat_map (nad_twice nads.now) (enumerate_from 0 nads.now)) }
+{
+    for (i, nad) in nads.iter().enumerate() {
+        twice(found, &nads[..i], nad)?;
+    }
+    Ok(())
+}
+
+/// Addresses that a responder may not have, and addresses that an earlier block of a responder has.
+pub(super) fn bad_addresses(
+    alloc: Global,
+    found: &mut Vec<Finding>,
+    known: &Known,
+) -> Result<(), AllocError>
+    ensures { OnOk result (found.new.items ≡ found.old.items ++ bad_nads known.now ++ nads_twice known.now) }
+{
+    let nads = addresses(alloc, known, known.description().attributes())?;
+    bad_nads(found, nads.as_slice())?;
+    nads_twice(found, nads.as_slice())
+}

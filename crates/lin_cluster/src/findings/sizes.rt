@@ -1,0 +1,133 @@
+//! Sizes of signals and frames, and initial values.
+
+ghost use Rattle.std.specs.Prelude.{◌≡◌, ◌++◌, OnOk, nat_lt, IsTrue};
+ghost use Rattle.std.specs.List.{flat_map, list_any};
+ghost use Rattle.lin_cluster.specs.FindingsFrames.{is_array, is_good_size, bad_signal_size, is_frame_size, bad_frame_size, bad_sizes, is_good_init, init_place, bad_init, bad_inits};
+
+use super::known::Known;
+use super::words::{at_number, at_place, push_when};
+use crate::finding::Finding;
+use lin_ldf::{Frame, Init, Number, Place, Signal};
+use std::alloc::AllocError;
+
+pub(super) fn is_array(init: &Init) -> bool
+    ensures { result ≡ is_array init.now }
+{
+    match init {
+        Init::Scalar(_) => false,
+        Init::Array(_, _) => true,
+    }
+}
+
+fn is_good_size(signal: &Signal) -> bool
+    ensures { result ≡ is_good_size signal.now }
+{
+    let size = signal.size.value;
+    if is_array(&signal.init) {
+        8 <= size && size <= 64 && size % 8 == 0
+    } else {
+        1 <= size && size <= 16
+    }
+}
+
+fn bad_signal_size(found: &mut Vec<Finding>, signal: &Signal) -> Result<(), AllocError>
+    ensures { OnOk result (found.new.items ≡ found.old.items ++ bad_signal_size signal.now) }
+{
+    push_when(found, !is_good_size(signal), at_number(5, &signal.size))
+}
+
+fn bad_signal_sizes(found: &mut Vec<Finding>, signals: &[Signal]) -> Result<(), AllocError>
+    ensures { OnOk result (found.new.items ≡ found.old.items ++ flat_map bad_signal_size signals.now) }
+{
+    for signal in signals {
+        bad_signal_size(found, signal)?;
+    }
+    Ok(())
+}
+
+/// Whether a frame may have this number of bytes.
+pub(super) fn is_frame_size(size: u32) -> bool
+    ensures { result ≡ is_frame_size size }
+{
+    1 <= size && size <= 8
+}
+
+fn bad_frame_size(found: &mut Vec<Finding>, frame: &Frame) -> Result<(), AllocError>
+    ensures { OnOk result (found.new.items ≡ found.old.items ++ bad_frame_size frame.now) }
+{
+    let is_good = is_frame_size(frame.size.value);
+    push_when(found, !is_good, at_number(5, &frame.size))
+}
+
+fn bad_frame_sizes(found: &mut Vec<Finding>, frames: &[Frame]) -> Result<(), AllocError>
+    ensures { OnOk result (found.new.items ≡ found.old.items ++ flat_map bad_frame_size frames.now) }
+{
+    for frame in frames {
+        bad_frame_size(found, frame)?;
+    }
+    Ok(())
+}
+
+/// Signals and frames of sizes that they may not have.
+pub(super) fn bad_sizes(found: &mut Vec<Finding>, known: &Known) -> Result<(), AllocError>
+    ensures { OnOk result (found.new.items ≡ found.old.items ++ bad_sizes known.now) }
+{
+    let description = known.description();
+    bad_signal_sizes(found, description.signals())?;
+    bad_frame_sizes(found, description.frames())
+}
+
+fn has_wide_item(items: &[Number]) -> bool
+    ensures { result ≡ list_any (λ n. nat_lt 255 n.value) items.now }
+{
+    items.iter().any(|item| 255 < item.value)
+}
+
+fn is_good_init(signal: &Signal) -> bool
+    requires { IsTrue (is_good_size signal.now) }
+    ensures { result ≡ is_good_init signal.now.size.value signal.now.init }
+{
+    let size = signal.size.value;
+    match &signal.init {
+        Init::Scalar(number) => u64::from(number.value) < 1u64 << size,
+        Init::Array(_, items) => {
+            let items = items.as_slice();
+            items.len() == (size / 8) as usize && !has_wide_item(items)
+        }
+    }
+}
+
+fn init_place(init: &Init) -> Place
+    ensures { result ≡ init_place init.now }
+{
+    match init {
+        Init::Scalar(number) => Place {
+            line: number.line,
+            column: number.column,
+        },
+        Init::Array(place, _) => *place,
+    }
+}
+
+fn bad_init(found: &mut Vec<Finding>, signal: &Signal) -> Result<(), AllocError>
+    ensures { OnOk result (found.new.items ≡ found.old.items ++ bad_init signal.now) }
+{
+    let is_bad = is_good_size(signal) && !is_good_init(signal);
+    push_when(found, is_bad, at_place(8, init_place(&signal.init)))
+}
+
+fn bad_inits_of(found: &mut Vec<Finding>, signals: &[Signal]) -> Result<(), AllocError>
+    ensures { OnOk result (found.new.items ≡ found.old.items ++ flat_map bad_init signals.now) }
+{
+    for signal in signals {
+        bad_init(found, signal)?;
+    }
+    Ok(())
+}
+
+/// Initial values that don't fit their signals.
+pub(super) fn bad_inits(found: &mut Vec<Finding>, known: &Known) -> Result<(), AllocError>
+    ensures { OnOk result (found.new.items ≡ found.old.items ++ bad_inits known.now) }
+{
+    bad_inits_of(found, known.description().signals())
+}

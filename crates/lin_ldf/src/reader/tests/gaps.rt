@@ -1,0 +1,128 @@
+//! Texts that lack a token or their end.
+
+use super::*;
+use crate::sample_texts::DOOR_CLUSTER;
+
+/// The text without one of its tokens: spaces stand in its place.
+fn without(alloc: Global, text: &[u8], token: &Token) -> Result<Vec<u8>, Fail> {
+    let mut out = Vec::new(alloc);
+    for (i, c) in text.iter().enumerate() {
+        out.push(if token.start <= i && i < token.end {
+            b' '
+        } else {
+            *c
+        })?;
+    }
+    Ok(out)
+}
+
+/// How many tokens behind a gap its fault stands: a digit, a letter from 10 on, or `.` for the end of the text.
+fn distance(letter: u8) -> usize {
+    match letter {
+        b'0'..=b'9' => usize::from(letter.saturating_sub(b'0')),
+        b'a'..=b'z' => usize::from(letter.saturating_sub(b'a')).saturating_add(10),
+        _ => usize::MAX,
+    }
+}
+
+/// The outcome that is wanted where a token lacks; `-` where none is needed there.
+fn wanted(
+    alloc: Global,
+    tokens: &[Token],
+    gap: usize,
+    letter: u8,
+    end: Place,
+) -> Result<Vec<u8>, Fail> {
+    let mut out = Vec::new(alloc);
+    if letter == b'-' {
+        out.extend_from_slice(b"accepted")?;
+        return Ok(out);
+    }
+    let (line, column) = match tokens.get(gap.saturating_add(distance(letter))) {
+        Some(token) => (token.line, token.column),
+        None => (end.line, end.column),
+    };
+    out.extend_from_slice(format!(in alloc; "{line}:{column} fault 4 Unexpected")?.as_bytes())?;
+    Ok(out)
+}
+
+/// Each token behind the front lacks in turn.
+fn expect_gaps(
+    rt: &impl Abort,
+    alloc: Global,
+    front: &[u8],
+    production: &str,
+    letters: &str,
+) -> Result<(), Fail> {
+    let source = joined(alloc, &[front, production.as_bytes()])?;
+    let before = lex(alloc, front)?.len();
+    let tokens = lex(alloc, &source)?;
+    let tokens = tokens.get(before..).ok_or("no production")?;
+    let end = end_of(&source);
+    assert_eq!(rt; tokens.len(), letters.len(), "letters of {production}");
+    for (i, (gap, letter)) in tokens.iter().zip(letters.as_bytes()).enumerate() {
+        let found = outcome(alloc, &without(alloc, &source, gap)?)?;
+        let want = wanted(alloc, tokens, i, *letter, end)?;
+        assert_eq!(rt;
+            found.as_slice(),
+            want.as_slice(),
+            "without token {i} of {production}"
+        );
+    }
+    Ok(())
+}
+
+fn expect_all_gaps(rt: &impl Abort, alloc: Global, front: &[u8], cases: &str) -> Result<(), Fail> {
+    for line in cases.lines() {
+        let (production, letters) = line.split_once(" => ").ok_or("no arrow")?;
+        expect_gaps(rt, alloc, front, production, letters)?;
+    }
+    Ok(())
+}
+
+/// Productions, and a letter for each of their tokens.
+const SECTIONS: &str =
+    "Signals { a: 8, 1, m, s, t; b: 16, {1, 2}, s; } => 111111111111111111311121111
+Frames { f: 1, m, 2 { a, 0; b, 8; } g: 2, s, 1 { } } => 11111111111111111121111111121
+Sporadic_frames { p: f, g; q: f; } => 1111111111111
+Event_triggered_frames { e: T, 1, f, g; d: T, 2, f; } => 111111111111111111111
+Node_attributes { s { LIN_protocol = \"2.1\"; configured_NAD = 1; x = 1, { ; }; y { z; } } t { } } => 11111111111111--3-b611--651121
+Schedule_tables { T { f delay 1 ms; N { s } delay 1.5 ms; } U { } } => 11112111111-6111141121
+x { y; { } } => 11--221
+";
+
+/// The header with an extra line in each of its places, and the nodes.
+const HEADER_AND_NODES: &str =
+    "LIN_description_file; A = 1; LIN_protocol_version = \"2.2\"; B = ; LIN_language_version = \"2.2\"; C = { ; }; LIN_speed = 19.2 kbps; D = x, y; Nodes { Master: m, 5 ms, 0.1 ms; Slaves: s, t; } => 1111-8111111b1111112-.c1111111---.1111111111111111111
+";
+
+#[test]
+fn tokens_that_lack(rt: HostRuntime) -> Result<(), Fail> {
+    expect_all_gaps(&rt, rt.alloc(), b"", HEADER_AND_NODES)?;
+    expect_all_gaps(&rt, rt.alloc(), HEADER, SECTIONS)
+}
+
+#[test]
+fn beginnings_of_a_text(rt: HostRuntime) -> Result<(), Fail> {
+    // how long the text is up to the last brace of its lines 5, 6 and 7
+    let lengths: [usize; 3] = [155, 229, 304];
+    let mut accepted = 0u32;
+    for n in 0..=DOOR_CLUSTER.len() {
+        let text = DOOR_CLUSTER.get(..n).unwrap_or(b"");
+        let found = outcome(rt.alloc(), text)?;
+        let quotes = text.iter().filter(|c| **c == b'"').count();
+        if lengths
+            .iter()
+            .any(|length| *length == n || *length == n.saturating_sub(1))
+        {
+            assert_eq!(rt; found.as_slice(), b"accepted".as_slice(), "of {n} bytes");
+            accepted = accepted.saturating_add(1);
+        } else if quotes % 2 == 1 {
+            assert!(rt; found.ends_with(b" fault 3 OpenText"), "of {n} bytes");
+        } else {
+            assert!(rt; found.ends_with(b" fault 4 Unexpected"), "of {n} bytes");
+        }
+    }
+    assert_eq!(rt; accepted, 6);
+    Ok(())
+}
