@@ -1,12 +1,13 @@
 -- What reading the bytes of an LDF file answers.
 use Rattle.std.specs.Prelude.{◌≡◌, ℕ, ◌<◌, List, length, Result, Ok, Err}
 use Rattle.linsim.specs.declared.fault.Fault.{Fault}
-use Rattle.linsim.specs.declared.fault.Fault.TheVariants.{BadLine, Ldf, LdfTooLong, ScriptTooLong, NoSuchTable, OutOfMemory, ReadFailed, WriteFailed}
+use Rattle.linsim.specs.declared.fault.Fault.TheVariants.{BadLine, Ldf, Findings, LdfTooLong, ScriptTooLong, NoSuchTable, OutOfMemory, ReadFailed, WriteFailed}
 
 -- when the bytes of a reader have this fault
 abbrev pub ReadFaults : Fault → List ℕ → Type 0
 ReadFaults (BadLine n) bytes = ⊥
 ReadFaults (Ldf f) bytes = ⊥
+ReadFaults (Findings f) bytes = ⊥
 ReadFaults LdfTooLong bytes = 4194304 < length bytes
 ReadFaults ScriptTooLong bytes = ⊥
 ReadFaults NoSuchTable bytes = ⊥

@@ -10,16 +10,15 @@ const STATUS_NOTE: &str =
     "Exit status: 0 done; 1 a fault of the input; 2 a wrong command line; 3 out of memory;\n4 a read or a write failed. A fault is one line on standard error.";
 
 const REPLAY_NOTE: &str =
-    "The cluster is the built-in one: the commander cem, the responder door with the diagnostic\naddress 1, and the schedule table diag with a master request and a slave response, 10 ms each.";
+    "Without FILE the cluster is the built-in one: the commander cem, the responder door with the diagnostic\naddress 1, and the schedule table diag with a master request and a slave response, 10 ms each.";
 
 const CHECK_NOTE: &str =
-    "A text of at most 4,194,304 bytes that is in order gives no output. Else its first fault is one line on\nstandard error: ldf LINE:COLUMN fault NUMBER NAME.";
+    "On standard output: node NUMBER NAME NAD (- for none), signal NUMBER NAME, table NUMBER NAME ENTRIES, one a line.\nOn standard error: ldf LINE:COLUMN fault NUMBER NAME for the first fault of the text, or ldf too long above 4,194,304 bytes;\notherwise a line LINE:COLUMN finding NUMBER NAME for each reason why it describes no cluster.";
 
 fn file<'a>(alloc: Global) -> Arg<'a> {
     Arg::new(alloc, "file")
         .value_name("FILE")
-        .required(true)
-        .help("The LDF file")
+        .help("The LDF file of the cluster")
 }
 
 fn table<'a>(alloc: Global) -> Arg<'a> {
@@ -43,15 +42,18 @@ fn replay<'a>(alloc: Global) -> Result<Command<'a>, AllocError> {
             "Makes the steps of a script from standard input, and writes the log on standard output",
         )
         .after_help(REPLAY_NOTE)
+        .arg(file(alloc))?
         .arg(table(alloc))?
         .arg(capacity(alloc))
 }
 
 fn check<'a>(alloc: Global) -> Result<Command<'a>, AllocError> {
     Command::new(alloc, "check")
-        .about("Checks that a file is an LDF text, by its tokens and its grammar")
+        .about(
+            "Checks an LDF file, and lists the nodes, signals and schedule tables of its cluster",
+        )
         .after_help(CHECK_NOTE)
-        .arg(file(alloc))
+        .arg(file(alloc).required(true))
 }
 
 /// What the program takes.

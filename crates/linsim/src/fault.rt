@@ -1,19 +1,23 @@
 //! Why the program ends early.
 
+use crate::finding::Findings;
 use lin_ldf::LdfFault;
 use lin_log::{ReplayFault, ScriptFault};
 use std::alloc::{AllocError, AllocFailed};
 use thiserror::Error;
 
-/// Why the program ends early. What a fault displays is its line on standard error.
+/// Why the program ends early. What a fault displays is its line on standard error, or its lines.
 #[derive(Debug, Drop, Error)]
 pub(crate) enum Fault {
     /// The script's first line that is in no form, counted from 1.
     #[error("script {line} bad line")]
     BadLine { line: u64 },
-    /// The LDF text describes no cluster.
+    /// The LDF text has a fault.
     #[error("ldf {0}")]
     Ldf(LdfFault),
+    /// The LDF text describes no cluster: a line for each reason.
+    #[error("{0}")]
+    Findings(Findings),
     /// The LDF text is longer than 4,194,304 bytes.
     #[error("ldf too long")]
     LdfTooLong,
@@ -41,6 +45,7 @@ impl Fault {
     pub(crate) fn status(&self) -> u8 {
         match self {
             Fault::Ldf(_)
+            | Fault::Findings(_)
             | Fault::LdfTooLong
             | Fault::BadLine { .. }
             | Fault::ScriptTooLong

@@ -3,7 +3,10 @@
 
 mod arguments;
 mod checking;
+mod describing;
 mod fault;
+mod finding;
+mod listing;
 mod replaying;
 
 use crate::fault::Fault;

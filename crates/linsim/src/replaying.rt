@@ -3,11 +3,13 @@
 ghost use Rattle.std.specs.Prelude.{◌<◌, length, IfOk};
 ghost use Rattle.linsim.specs.Opening.{Opens, opening_of};
 
+use crate::describing::described_by;
 use crate::fault::Fault;
 use clap::ArgMatches;
-use lin_cluster::{Cluster, built_in};
+use lin_cluster::Cluster;
 use lin_core::is_diagnostic;
 use lin_log::replay;
+use std::fs::Files;
 use std::io;
 
 /// The number of the schedule table of this name; of the first one, where no name was given.
@@ -22,13 +24,14 @@ fn opening(cluster: &Cluster, name: Option<&str>) -> Result<u16, Fault>
     }
 }
 
-/// Replays the script on standard input over the built-in cluster, and writes the log on standard output.
-pub(crate) fn run<R: AllocGlobal + Input + Print>(
+/// Replays the script on standard input over the cluster of the command line's LDF file, or over the built-in one, and writes the log on
+/// standard output.
+pub(crate) fn run<R: AllocGlobal + Files + Input + Print>(
     rt: &R,
     found: &ArgMatches<'_>,
 ) -> Result<(), Fault> {
     let alloc = rt.alloc();
-    let cluster = built_in(alloc)?;
+    let cluster = described_by(rt, found.get_str("file"))?;
     if !is_diagnostic(&cluster) {
         return Err(Fault::NoSuchTable);
     }
