@@ -3,4 +3,5 @@ pub mod Limits
 pub mod Pairs
 pub mod SoundClusters
 pub mod FindingsLists
+pub mod FindingsOrder
 pub mod FindingsRows
