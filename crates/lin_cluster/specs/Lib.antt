@@ -1,6 +1,5 @@
 pub mod Checks
 pub mod Cluster
-pub mod ClusterA
 pub mod Rules
 pub mod Sound
 pub mod Described

@@ -13,8 +13,9 @@ mod tables;
 mod unknown_names;
 mod words;
 
-ghost use Rattle.std.specs.Prelude.{◌≡◌, ◌++◌, OnOk, IfOk, IsSorted, IsPermutation};
+ghost use Rattle.std.specs.Prelude.{◌≡◌, ◌++◌, OnOk, IfOk, List, IsSorted, IsPermutation};
 ghost use Rattle.lin_cluster.specs.Findings.{candidates, finding_cmp, AreFindings};
+ghost use Rattle.lin_cluster.specs.declared.finding.Finding.{Finding};
 ghost use Rattle.lin_cluster.specs.FindingsFrames.{unknown_names, wrong_publishers, bad_ids, ids_twice, bad_sizes, signals_outside, signals_overlap, bad_inits, bad_nads, nads_twice};
 ghost use Rattle.lin_cluster.specs.FindingsTables.{slots_too_short, zero_delays, bad_event_frames, bad_sporadics, nested_collisions, empty_tables, limits_passed};
 
@@ -84,12 +85,20 @@ fn sort(found: &mut Vec<Finding>) -> Result<(), AllocError>
     found.sort()
 }
 
-/// All that is wrong with a description, by place and number; an error is want of memory.
-pub(crate) fn findings(alloc: Global, description: &Description) -> Result<Vec<Finding>, AllocError>
+fn ordered(alloc: Global, description: &Description) -> Result<Vec<Finding>, AllocError>
     ensures { IfOk result (λ found. AreFindings description.now found.items) }
 {
     let known = Known::new(description);
     let mut found = unordered(alloc, &known)?;
     sort(&mut found)?;
+    Ok(found)
+}
+
+/// All that is wrong with a description, by place and number, and no other list is that; an error is want of memory.
+pub(crate) fn findings(alloc: Global, description: &Description) -> Result<Vec<Finding>, AllocError>
+    ensures all { IfOk result (λ found. AreFindings description.now found.items) }
+    ensures only { IfOk result (λ answer. (found : List Finding) → AreFindings description.now found → answer.items ≡ found) }
+{
+    let found = ordered(alloc, description)?;
     Ok(found)
 }

@@ -7,7 +7,6 @@ mod described;
 mod finding;
 mod findings;
 mod parts;
-mod preset;
 mod rules;
 #[cfg(test)]
 mod tests;
@@ -16,4 +15,3 @@ pub use checks::check;
 pub use cluster::Cluster;
 pub use finding::{CheckFault, Finding};
 pub use parts::{Entry, EventFrame, Line, Node, Parts, Signal, SignalFrame, Table};
-pub use preset::built_in;

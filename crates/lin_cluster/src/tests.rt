@@ -1,5 +1,8 @@
-//! Tests on the built-in cluster and on one with sporadic and event-triggered frames.
+//! Tests on a cluster with sporadic and event-triggered frames, of what is found in descriptions, and on the clusters of LDF texts.
 
 mod broken;
 mod building;
+mod checks;
+mod findings;
 mod reads;
+mod texts;

@@ -1,37 +1,9 @@
 //! Every read once.
 
 use super::building::{b, line, tables};
-use crate::{Cluster, Entry, Parts, built_in};
+use crate::{Cluster, Entry, Parts};
 use lin_frame::{SumKind, Value};
 use std::test::Fail;
-
-#[test]
-fn built_in_cluster(rt: HostRuntime) -> Result<(), Fail> {
-    let cluster = built_in(rt.alloc())?;
-    assert_eq!(rt; cluster.nodes(), 2);
-    assert_eq!(rt; cluster.node_name(0), b"cem".as_slice());
-    assert_eq!(rt; cluster.node_name(1), b"door".as_slice());
-    assert_eq!(rt; cluster.nad(0), None);
-    assert_eq!(rt; cluster.nad(1), Some(1));
-    assert_eq!(rt; cluster.signals(), 0);
-    assert_eq!(rt; cluster.frames(), 0);
-    assert_eq!(rt; cluster.sporadics(), 0);
-    assert_eq!(rt; cluster.events(), 0);
-    Ok(())
-}
-
-#[test]
-fn built_in_table(rt: HostRuntime) -> Result<(), Fail> {
-    let cluster = built_in(rt.alloc())?;
-    assert_eq!(rt; cluster.tables(), 1);
-    assert_eq!(rt; cluster.table_name(0), b"diag".as_slice());
-    assert_eq!(rt; cluster.entries(0), 2);
-    assert_eq!(rt; cluster.delay_us(0, 0), 10_000);
-    assert_eq!(rt; cluster.delay_us(0, 1), 10_000);
-    assert!(rt; cluster.entry(0, 0) == Entry::MasterReq);
-    assert!(rt; cluster.entry(0, 1) == Entry::SlaveResp);
-    Ok(())
-}
 
 #[test]
 fn nodes_and_signals(rt: HostRuntime) -> Result<(), Fail> {

@@ -3,6 +3,7 @@ use Rattle.std.proofs.lemmas.Bool.{eqb-true, eqb-false}
 use Rattle.lin_cluster.specs.Findings.{AreFindings, IsFree}
 use Rattle.lin_cluster.specs.declared.finding.Finding.{Finding}
 use Rattle.lin_cluster.proofs.CheckedDescriptions.{free-from-none, some-found}
+use Rattle.lin_cluster.proofs.FindingsOrder.{one_answer}
 use Rattle.lin_cluster.proofs.checks.answer_to.Goals as goal
 
 pub cluster_of-requires : goal.cluster_of-requires
@@ -21,7 +22,9 @@ pub returns-clause-findings : goal.returns-clause-findings
 returns-clause-findings c =
     let some : (length c.as_slice.result.now == 0) ≡ false = sym c.is_empty.ensures ∙ c.if-is_empty.false
     in let full : length c.args.found.items ≢ 0 = subst (λ (fs : List Finding). length fs ≢ 0) c.as_slice.ensures.value (eqb-false (length c.as_slice.result.now) 0 some)
+    in let are : AreFindings c.args.description.now c.new.result = subst (λ (fs : List Finding). AreFindings c.args.description.now fs) (sym c.new.ensures) c.requires
     in (
-      subst (λ (fs : List Finding). AreFindings c.args.description.now fs) (sym c.new.ensures) c.requires,
+      are,
       some-found c.args.description.now c.args.found.items c.requires full,
+      λ other is. one_answer c.args.description.now other c.new.result is are,
     )
