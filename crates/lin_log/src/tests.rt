@@ -1,4 +1,4 @@
-//! Rows of scripts and logs over the built-in cluster, and readers and writers that fail.
+//! Rows of scripts and logs over a cluster with diagnostic frames, and readers and writers that fail.
 
 mod fakes;
 
@@ -6,8 +6,9 @@ ghost use Rattle.std.specs.Prelude.{◌≤◌};
 
 use crate::{ReplayFault, ScriptFault, read_script, replay, steps_of};
 use fakes::{Broken, Counted, Refusing, Slow};
-use lin_cluster::built_in;
+use lin_cluster::{Cluster, check};
 use lin_core::{Core, PortId, Step};
+use lin_ldf::parse;
 use std::alloc::Global;
 use std::io::{ErrorKind, Read, Write};
 use std::test::Fail;
@@ -29,7 +30,25 @@ const REFUSED: &str =
 const QUEUE_OF_ONE: &str =
     "h0 send 0 1 01\n> accepted 0 1\nh0 send 0 1 01\n> refused 9\nbus open\n> slot 0 0 3C\n> due 0\nbus answer 0\n> put 0 010101FFFFFFFFFFFC\nbus finish\n> seen good 010101FFFFFFFFFFFC\n> message 0 1 01\n> sent 0 1\nh0 send 0 1 01\n> accepted 0 2\n";
 
-/// Replays over the built-in cluster from its first table on.
+/// The text of the cluster of the rows: a commander, and a door with the diagnostic address 1.
+const DOOR_CLUSTER: &[u8] = b"LIN_description_file;
+LIN_protocol_version = \"2.2\";
+LIN_language_version = \"2.2\";
+LIN_speed = 19.2 kbps;
+Nodes { Master: cem, 5 ms, 0.1 ms; Slaves: door; }
+Node_attributes { door { LIN_protocol = \"2.2\"; configured_NAD = 0x01; } }
+Schedule_tables { diag { MasterReq delay 10 ms; SlaveResp delay 10 ms; } }
+";
+
+/// The cluster of the rows, where there is memory.
+fn door_cluster(alloc: Global) -> Option<Cluster> {
+    match parse(alloc, DOOR_CLUSTER) {
+        Ok(description) => check(alloc, description).ok(),
+        Err(_) => None,
+    }
+}
+
+/// Replays over the cluster of the rows from its first table on.
 fn run<R: Read, W: Write>(
     alloc: Global,
     capacity: usize,
@@ -38,9 +57,11 @@ fn run<R: Read, W: Write>(
 ) -> Result<Core, ReplayFault>
     requires { (1 ≤ capacity) × (capacity ≤ 1024) }
 {
-    match built_in(alloc) {
-        Ok(cluster) => replay(alloc, cluster, 0, capacity, reader, writer),
-        Err(_) => Err(ReplayFault::OutOfMemory),
+    match door_cluster(alloc) {
+        Some(cluster) if cluster.tables() > 0 => replay(
+            alloc, cluster, 0, capacity, reader, writer,
+        ),
+        _ => Err(ReplayFault::OutOfMemory),
     }
 }
 

@@ -7,7 +7,6 @@ use crate::describing::described_by;
 use crate::fault::Fault;
 use clap::ArgMatches;
 use lin_cluster::Cluster;
-use lin_core::is_diagnostic;
 use lin_log::replay;
 use std::fs::Files;
 use std::io;
@@ -32,9 +31,6 @@ pub(crate) fn run<R: AllocGlobal + Files + Input + Print>(
 ) -> Result<(), Fault> {
     let alloc = rt.alloc();
     let cluster = described_by(rt, found.get_str("file"))?;
-    if !is_diagnostic(&cluster) {
-        return Err(Fault::NoSuchTable);
-    }
     let table = opening(&cluster, found.get_str("table"))?;
     let capacity = found
         .get_one::<u16>("capacity")

@@ -1,8 +1,6 @@
 //! Messages from their sends to their receivers.
 
-use super::rows::{
-    Answered, BUS, Given, H0, N0, Row, Told, built_in_core, compare_log, give, waiting,
-};
+use super::rows::{Answered, BUS, Given, H0, N0, Row, Told, compare_log, door_core, give, waiting};
 use crate::Refusal;
 use std::test::Fail;
 
@@ -68,7 +66,7 @@ fn three_byte_message(rt: HostRuntime) -> Result<(), Fail> {
             ]),
         ),
     ];
-    let mut core = built_in_core(&rt, alloc, 16)?;
+    let mut core = door_core(&rt, alloc, 16)?;
     core.make_room()?;
     give(&rt, alloc, &mut core, &rows)?;
     compare_log(&rt, &core, &rows);
@@ -97,7 +95,7 @@ fn six_byte_message(rt: HostRuntime) -> Result<(), Fail> {
             Answered::Done(&[Told::Put(0, &FRAME_OF_6)]),
         ),
     ];
-    let mut core = built_in_core(&rt, alloc, 16)?;
+    let mut core = door_core(&rt, alloc, 16)?;
     give(&rt, alloc, &mut core, &rows)
 }
 
@@ -123,7 +121,7 @@ fn left_out_answer_only_delays(rt: HostRuntime) -> Result<(), Fail> {
         ),
         (BUS, Given::Finish, Answered::Done(&[Told::NoAnswer])),
     ];
-    let mut core = built_in_core(&rt, alloc, 16)?;
+    let mut core = door_core(&rt, alloc, 16)?;
     give(&rt, alloc, &mut core, &rows)?;
     assert_eq!(rt; waiting(&rt, &core, 0), 1);
     give(&rt, alloc, &mut core, &slot_of_1())?;
@@ -139,7 +137,7 @@ fn silent_slot(rt: HostRuntime) -> Result<(), Fail> {
         (BUS, Given::Open, Answered::Done(&[Told::Slot(0, 0, None)])),
         (BUS, Given::Finish, Answered::Done(&[Told::Silent])),
     ];
-    let mut core = built_in_core(&rt, alloc, 16)?;
+    let mut core = door_core(&rt, alloc, 16)?;
     give(&rt, alloc, &mut core, &rows)?;
     assert_eq!(rt; core.time(), 10_000);
     Ok(())
@@ -148,7 +146,7 @@ fn silent_slot(rt: HostRuntime) -> Result<(), Fail> {
 #[test]
 fn undecided_nodes(rt: HostRuntime) -> Result<(), Fail> {
     let alloc = rt.alloc();
-    let mut core = built_in_core(&rt, alloc, 16)?;
+    let mut core = door_core(&rt, alloc, 16)?;
     assert_eq!(rt; core.undecided(), 0);
     let accepted: Row = (
         H0,
@@ -177,7 +175,7 @@ fn undecided_nodes(rt: HostRuntime) -> Result<(), Fail> {
 #[test]
 fn queue_of_one(rt: HostRuntime) -> Result<(), Fail> {
     let alloc = rt.alloc();
-    let mut core = built_in_core(&rt, alloc, 1)?;
+    let mut core = door_core(&rt, alloc, 1)?;
     let rows: [Row; 2] = [
         (
             H0,
@@ -204,7 +202,7 @@ fn queue_of_one(rt: HostRuntime) -> Result<(), Fail> {
 #[test]
 fn full_queue_of_1024(rt: HostRuntime) -> Result<(), Fail> {
     let alloc = rt.alloc();
-    let mut core = built_in_core(&rt, alloc, 1024)?;
+    let mut core = door_core(&rt, alloc, 1024)?;
     for number in 1..1025 {
         let row: Row = (
             H0,

@@ -1,7 +1,7 @@
 //! Steps that are refused, and for which reason where several hold.
 
 use super::rows::{
-    Answered, BUS, Given, H0, H1, N0, N1, Row, Told, built_in_core, compare_log, give, waiting,
+    Answered, BUS, Given, H0, H1, N0, N1, Row, Told, compare_log, door_core, give, waiting,
 };
 use crate::{Core, PortId, Refusal};
 use std::alloc::Global;
@@ -63,7 +63,7 @@ fn refused_sends(rt: HostRuntime) -> Result<(), Fail> {
             Answered::Refused(Refusal::NoSuchNode),
         ),
     ];
-    let mut core = built_in_core(&rt, alloc, 16)?;
+    let mut core = door_core(&rt, alloc, 16)?;
     give(&rt, alloc, &mut core, &rows)?;
     compare_log(&rt, &core, &rows);
     assert_eq!(rt; core.log().len(), 4);
@@ -74,7 +74,7 @@ fn refused_sends(rt: HostRuntime) -> Result<(), Fail> {
 #[test]
 fn refused_in_order(rt: HostRuntime) -> Result<(), Fail> {
     let alloc = rt.alloc();
-    let mut core = built_in_core(&rt, alloc, 1)?;
+    let mut core = door_core(&rt, alloc, 1)?;
     let no_slot = [
         (N1, Given::Send(9, 1, &[]), Refusal::NoSuchNode),
         (H1, Given::Send(0, 9, &[]), Refusal::NoSuchNode),
@@ -110,7 +110,7 @@ fn refused_in_order(rt: HostRuntime) -> Result<(), Fail> {
 #[test]
 fn refused_in_slots(rt: HostRuntime) -> Result<(), Fail> {
     let alloc = rt.alloc();
-    let mut core = built_in_core(&rt, alloc, 16)?;
+    let mut core = door_core(&rt, alloc, 16)?;
     let opened: [Row; 2] = [
         (
             H0,

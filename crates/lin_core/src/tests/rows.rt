@@ -2,8 +2,9 @@
 
 use crate::{Core, Event, Events, LogEntry, Payload, PortId, Refusal, Reply, Seen, Step};
 use arrayvec::ArrayVec;
-use lin_cluster::{Cluster, built_in};
+use lin_cluster::{Cluster, check};
 use lin_frame::{Value, ValueBytes};
+use lin_ldf::parse;
 use std::alloc::{AllocError, Global};
 use std::process::Abort;
 use std::test::Fail;
@@ -179,13 +180,20 @@ fn compare(rt: &impl Abort, entry: &LogEntry, row: Row, index: usize) {
     );
 }
 
-// A core on the built-in cluster.
-pub(super) fn built_in_core(
-    rt: &impl Abort,
-    alloc: Global,
-    capacity: usize,
-) -> Result<Core, AllocError> {
-    core_on(rt, alloc, built_in(alloc)?, capacity)
+// A commander, and a door with the diagnostic address 1.
+const DOOR_CLUSTER: &[u8] = b"LIN_description_file;
+LIN_protocol_version = \"2.2\";
+LIN_language_version = \"2.2\";
+LIN_speed = 19.2 kbps;
+Nodes { Master: cem, 5 ms, 0.1 ms; Slaves: door; }
+Node_attributes { door { LIN_protocol = \"2.2\"; configured_NAD = 0x01; } }
+Schedule_tables { diag { MasterReq delay 10 ms; SlaveResp delay 10 ms; } }
+";
+
+// A core on a cluster with diagnostic frames alone.
+pub(super) fn door_core(rt: &impl Abort, alloc: Global, capacity: usize) -> Result<Core, Fail> {
+    let cluster = check(alloc, parse(alloc, DOOR_CLUSTER)?)?;
+    Ok(core_on(rt, alloc, cluster, capacity)?)
 }
 
 // A core on a cluster, whose schedule opens with its first table.
