@@ -1,6 +1,7 @@
 //! Clusters from LDF texts.
 
 ghost use Rattle.std.specs.Prelude.{◌≤◌, length, IfOk, IfSome};
+ghost use Rattle.linsim.specs.Clusters.{IsClusterOf};
 ghost use Rattle.linsim.specs.Reading.{IsUnread, ReadsAll};
 
 use crate::fault::Fault;
@@ -71,7 +72,9 @@ fn read_file<R: AllocGlobal + Files>(rt: &R, path: &str) -> Result<Vec<u8>, Faul
 }
 
 /// The cluster that an LDF text describes.
-fn described(alloc: Global, text: &[u8]) -> Result<Cluster, Fault> {
+fn described(alloc: Global, text: &[u8]) -> Result<Cluster, Fault>
+    ensures { IfOk result (IsClusterOf text.now) }
+{
     let description = match parse(alloc, text) {
         Ok(description) => description,
         Err(LdfFault::OutOfMemory) => return Err(Fault::OutOfMemory),
