@@ -5,4 +5,5 @@ pub mod Sound
 pub mod FindingsNames
 pub mod FindingsFrames
 pub mod FindingsTables
+pub mod FindingsMaps
 pub mod Findings
