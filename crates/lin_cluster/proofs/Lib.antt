@@ -9,6 +9,7 @@ pub mod DescribedSignals
 pub mod DescribedTables
 pub mod Enumerated
 pub mod FindingsLists
+pub mod FindingsMaps
 pub mod FindingsOrder
 pub mod FindingsRows
 pub mod GoodParts

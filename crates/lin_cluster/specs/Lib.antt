@@ -6,5 +6,6 @@ pub mod Described
 pub mod FindingsNames
 pub mod FindingsFrames
 pub mod FindingsTables
+pub mod FindingsMaps
 pub mod Findings
 pub mod Fitting

@@ -5,6 +5,7 @@ mod identifiers;
 mod known;
 mod limits;
 mod members;
+mod numbers;
 mod overlaps;
 mod places;
 mod sizes;
@@ -88,7 +89,7 @@ fn sort(found: &mut Vec<Finding>) -> Result<(), AllocError>
 fn ordered(alloc: Global, description: &Description) -> Result<Vec<Finding>, AllocError>
     ensures { IfOk result (λ found. AreFindings description.now found.items) }
 {
-    let known = Known::new(description);
+    let known = Known::new(alloc, description)?;
     let mut found = unordered(alloc, &known)?;
     sort(&mut found)?;
     Ok(found)

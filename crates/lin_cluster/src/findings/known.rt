@@ -1,53 +1,22 @@
 //! What the names of a description name.
 
-ghost use Rattle.std.specs.Prelude.{◌≡◌, find};
+ghost use Rattle.std.specs.Prelude.{◌≡◌, IfOk};
 ghost use Rattle.std.specs.List.{list_any};
 ghost use Rattle.std.specs.Option.{option_copied};
 ghost use Rattle.lin_cluster.specs.FindingsNames.{same_name, is_node, is_responder, signal_named, frame_named, sporadic_named, event_named, table_named, is_any_frame, is_diagnostic, carries_frame, is_event_entry};
 
+use super::numbers::{
+    ByName, events_by_name, frames_by_name, signals_by_name, slaves_by_name, sporadics_by_name,
+    tables_by_name,
+};
 use lin_ldf::{Description, EventFrame, Frame, Name, Signal, Sporadic, Table, TableEntry};
+use std::alloc::{AllocError, Global};
 use std::marker::Model;
 
 pub(super) fn same_name(a: &Name, b: &Name) -> bool
     ensures { result ≡ same_name a.now b.now }
 {
     a.text.as_slice() == b.text.as_slice()
-}
-
-fn is_listed(names: &[Name], name: &Name) -> bool
-    ensures { result ≡ list_any (λ m. same_name m name.now) names.now }
-{
-    names.iter().any(|other| same_name(other, name))
-}
-
-fn first_signal<'a>(signals: &'a [Signal], name: &Name) -> Option<&'a Signal>
-    ensures { option_copied result ≡ find (λ s. same_name s.name name.now) signals.now }
-{
-    signals.iter().find(|signal| same_name(&signal.name, name))
-}
-
-fn first_frame<'a>(frames: &'a [Frame], name: &Name) -> Option<&'a Frame>
-    ensures { option_copied result ≡ find (λ f. same_name f.name name.now) frames.now }
-{
-    frames.iter().find(|frame| same_name(&frame.name, name))
-}
-
-fn first_sporadic<'a>(frames: &'a [Sporadic], name: &Name) -> Option<&'a Sporadic>
-    ensures { option_copied result ≡ find (λ f. same_name f.name name.now) frames.now }
-{
-    frames.iter().find(|frame| same_name(&frame.name, name))
-}
-
-fn first_event<'a>(events: &'a [EventFrame], name: &Name) -> Option<&'a EventFrame>
-    ensures { option_copied result ≡ find (λ f. same_name f.name name.now) events.now }
-{
-    events.iter().find(|event| same_name(&event.name, name))
-}
-
-fn first_table<'a>(tables: &'a [Table], name: &Name) -> Option<&'a Table>
-    ensures { option_copied result ≡ find (λ t. same_name t.name name.now) tables.now }
-{
-    tables.iter().find(|table| same_name(&table.name, name))
 }
 
 pub(super) fn is_diagnostic(name: &Name) -> bool
@@ -68,21 +37,45 @@ pub(super) fn carries_frame(entry: &TableEntry) -> bool
 #[derive(Drop)]
 pub(super) struct Known<'a> {
     description: &'a Description,
+    slaves: ByName<'a, Name>,
+    signals: ByName<'a, Signal>,
+    frames: ByName<'a, Frame>,
+    sporadics: ByName<'a, Sporadic>,
+    events: ByName<'a, EventFrame>,
+    tables: ByName<'a, Table>,
 }
 
 impl<'a> Model for Known<'a> {
+    ghost use Rattle.lin_cluster.specs.FindingsMaps.{FindsFirst};
     ghost use Rattle.lin_ldf.specs.declared.description.Description.{Description};
 
     ghost Value = { Description };
 
     ghost view = { λ k. k.description.now };
+
+    ghost invariant = { λ k. FindsFirst (λ s. s.text) k.description.now.slaves k.slaves × FindsFirst (λ s. s.name.text) k.description.now.signals k.signals × FindsFirst (λ s. s.name.text) k.description.now.frames k.frames × FindsFirst (λ s. s.name.text) k.description.now.sporadic k.sporadics × FindsFirst (λ s. s.name.text) k.description.now.events k.events × FindsFirst (λ s. s.name.text) k.description.now.tables k.tables };
 }
 
 impl<'a> Known<'a> {
-    pub(super) fn new(description: &'a Description) -> Known<'a>
-        ensures { result ≡ description.now }
+    /// What its names name is looked up once; an error is want of memory.
+    pub(super) fn new(alloc: Global, description: &'a Description) -> Result<Known<'a>, AllocError>
+        ensures { IfOk result (λ k. k ≡ description.now) }
     {
-        Known { description }
+        let slaves = slaves_by_name(alloc, description.slaves())?;
+        let signals = signals_by_name(alloc, description.signals())?;
+        let frames = frames_by_name(alloc, description.frames())?;
+        let sporadics = sporadics_by_name(alloc, description.sporadic())?;
+        let events = events_by_name(alloc, description.events())?;
+        let tables = tables_by_name(alloc, description.tables())?;
+        Ok(Known {
+            description,
+            slaves,
+            signals,
+            frames,
+            sporadics,
+            events,
+            tables,
+        })
     }
 
     pub(super) fn description(&self) -> &'a Description
@@ -91,46 +84,67 @@ impl<'a> Known<'a> {
         self.description
     }
 
+    fn is_slave(&self, name: &Name) -> bool
+        ensures { result ≡ list_any (λ m. same_name m name.now) self.now.slaves }
+    {
+        self.slaves.contains_key(&name.text.as_slice())
+    }
+
     pub(super) fn is_node(&self, name: &Name) -> bool
         ensures { result ≡ is_node self.now name.now }
     {
-        same_name(self.description.master(), name) || is_listed(self.description.slaves(), name)
+        same_name(self.description().master(), name) || self.is_slave(name)
     }
 
     pub(super) fn is_responder(&self, name: &Name) -> bool
         ensures { result ≡ is_responder self.now name.now }
     {
-        !same_name(self.description.master(), name) && is_listed(self.description.slaves(), name)
+        !same_name(self.description().master(), name) && self.is_slave(name)
     }
 
     pub(super) fn signal(&self, name: &Name) -> Option<&'a Signal>
         ensures { option_copied result ≡ signal_named self.now name.now }
     {
-        first_signal(self.description.signals(), name)
+        match self.signals.get(&name.text.as_slice()) {
+            Some(signal) => Some(*signal),
+            None => None,
+        }
     }
 
     pub(super) fn frame(&self, name: &Name) -> Option<&'a Frame>
         ensures { option_copied result ≡ frame_named self.now name.now }
     {
-        first_frame(self.description.frames(), name)
+        match self.frames.get(&name.text.as_slice()) {
+            Some(frame) => Some(*frame),
+            None => None,
+        }
     }
 
     pub(super) fn sporadic(&self, name: &Name) -> Option<&'a Sporadic>
         ensures { option_copied result ≡ sporadic_named self.now name.now }
     {
-        first_sporadic(self.description.sporadic(), name)
+        match self.sporadics.get(&name.text.as_slice()) {
+            Some(frame) => Some(*frame),
+            None => None,
+        }
     }
 
     pub(super) fn event(&self, name: &Name) -> Option<&'a EventFrame>
         ensures { option_copied result ≡ event_named self.now name.now }
     {
-        first_event(self.description.events(), name)
+        match self.events.get(&name.text.as_slice()) {
+            Some(event) => Some(*event),
+            None => None,
+        }
     }
 
     pub(super) fn table(&self, name: &Name) -> Option<&'a Table>
         ensures { option_copied result ≡ table_named self.now name.now }
     {
-        first_table(self.description.tables(), name)
+        match self.tables.get(&name.text.as_slice()) {
+            Some(table) => Some(*table),
+            None => None,
+        }
     }
 
     /// Whether the name is a frame's of any of the three kinds.

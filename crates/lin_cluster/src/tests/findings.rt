@@ -426,7 +426,7 @@ fn expect_limit(
     let (front, one, end) = texts;
     let good = repeated(alloc, front, one, limit, end)?;
     assert_eq!(rt; passed(alloc, &good)?.as_str(), "");
-    let bad = repeated(alloc, front, one, limit + 1, end)?;
+    let bad = repeated(alloc, front, one, limit.saturating_add(1), end)?;
     assert_eq!(rt; passed(alloc, &bad)?.as_str(), want);
     Ok(())
 }

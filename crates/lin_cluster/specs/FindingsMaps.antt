@@ -1,0 +1,18 @@
+-- Maps from names to the first declaration that has the name.
+use Rattle.std.specs.Prelude.{◌≡◌, ℕ, List, find, Option, Some, None}
+use Rattle.std.specs.Str.{bytes_eq}
+use Rattle.indexmap.specs.IndexMap.{IndexMap, get_by}
+use denote.Ref.{Bor}
+
+abbrev pub or_else : {A : Type 0} → Option A → Option A → Option A
+or_else (Some x) o = Some x
+or_else None o = o
+
+-- what a reference points to, where there is one
+abbrev pub lent : {A : Type 0} → Option (Bor A) → Option A
+lent (Some r) = Some r.now
+lent None = None
+
+-- under each text the map has the first item with this text
+abbrev pub FindsFirst : {A S : Type 0} → (A → List ℕ) → List A → IndexMap (Bor (List ℕ)) (Bor A) S → Type 0
+FindsFirst text xs m = (q : List ℕ) → lent (get_by (λ k. bytes_eq q k.now) m) ≡ find (λ x. bytes_eq (text x) q) xs
