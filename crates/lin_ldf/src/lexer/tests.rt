@@ -184,7 +184,7 @@ fn expect_moved(rt: &impl Abort, alloc: Global, source: &[u8], marked: &[u8]) ->
     Ok(())
 }
 
-/// Marks at places where they are none.
+/// A mark at the beginning, and marks where they are none.
 const MARKS: &str = "\u{FEFF} => 
 \u{FEFF}\0 => 1:1 fault 1 BadByte
 \u{FEFF}\u{FEFF} => 1:1 fault 1 BadByte
