@@ -1,11 +1,11 @@
 -- An answer: the slot in which it is made, and what it makes of what is kept of signals.
-use Rattle.std.proofs.Common.{◌≡◌, ◌≢◌, ℕ, ◌+◌, ◌-◌, ◌^◌, ◌<◌, ◌≤◌, Bool, true, false, List, [], ◌∷◌, ◌++◌, map, length, refl, ap, sym, ◌∙◌, subst, arith, inl, inr, get_or-set_same}
-use Rattle.std.specs.Prelude.{Option, Some, None, IfSome, ◌&&◌, ◌||◌, ◌==◌, ◌⊎◌, if◌then◌else◌, is_some, slice_get, slice_index_or, slice_set, vec_capacity, IsTrue}
+use Rattle.std.proofs.Common.{◌≡◌, ℕ, ◌-◌, ◌^◌, ◌<◌, ◌≤◌, Bool, true, false, List, [], ◌∷◌, ◌++◌, map, length, refl, ap, sym, ◌∙◌, subst, arith, inl, inr, get_or-set_same}
+use Rattle.std.specs.Prelude.{Option, Some, None, IfSome, ◌&&◌, ◌||◌, ◌==◌, if◌then◌else◌, is_some, slice_get, slice_index_or, slice_set, vec_capacity, IsTrue}
 use Rattle.std.proofs.lemmas.Bool.Decides.{nat_tests}
 use Rattle.std.proofs.Math.ListN.{length-set}
 use Rattle.std.proofs.lemmas.Option.{slice_get_within}
 use Rattle.lin_frame.specs.Words.{choose}
-use Rattle.lin_frame.specs.Bits.{fits_place, packed}
+use Rattle.lin_frame.specs.Bits.{fits_place}
 use Rattle.lin_frame.specs.Frame.{answer_of}
 use Rattle.lin_frame.specs.declared.value.Value.{Value}
 use Rattle.lin_cluster.specs.Cluster.{frame_of, line_of, signal_of}
@@ -17,11 +17,10 @@ use Rattle.lin_core.specs.Dues.{frame_answered, frame_by, model_by}
 use Rattle.lin_core.specs.History.{Slot, header_is, is_in, has_decided, open_slot}
 use Rattle.lin_core.specs.Kept.{CanAnswer, IsOpen, IsThere, KeepsSignals, put_in, slot_in}
 use Rattle.lin_core.specs.Replies.{in_slot, put_event}
-use Rattle.lin_core.specs.Signals.{carried, signal_bytes, value}
+use Rattle.lin_core.specs.Signals.{carried, signal_bytes}
 use Rattle.lin_core.specs.Slots.{put}
 use Rattle.lin_core.specs.Core.{CoreData, IsAllowed, past_of}
 use Rattle.lin_core.specs.Whole.{IsWhole, core_data}
-use Rattle.lin_core.specs.declared.event.Event.{Event}
 use Rattle.lin_core.specs.declared.event.Event.TheVariants.{Put as PutEvent}
 use Rattle.lin_core.specs.declared.log.LogEntry.{LogEntry}
 use Rattle.lin_core.specs.declared.machine.Core.TheInside.{Inside}

@@ -1,11 +1,11 @@
 -- The values that are read in a frame, place by place, and the frame that a slot carries.
-use Rattle.std.proofs.Common.{◌≡◌, ℕ, zero, suc, ◌+◌, ◌/◌, ◌%◌, ◌<◌, ◌≤◌, Bool, true, false, List, [], ◌∷◌, ◌++◌, map, length, drop, get_or, refl, ap, sym, ◌∙◌, subst, arith, inl, inr}
+use Rattle.std.proofs.Common.{◌≡◌, ℕ, zero, suc, ◌+◌, ◌/◌, ◌%◌, ◌<◌, Bool, true, false, List, [], ◌∷◌, map, length, drop, get_or, refl, ap, sym, ◌∙◌, arith, inl, inr}
 use Rattle.std.proofs.Math.Path.{fun_ext}
-use Rattle.std.specs.Prelude.{Option, Some, None, ◌==◌, ◌||◌, ◌⊎◌, if◌then◌else◌, find, zip, take, option_map, is_some, slice_get, slice_set, slice_index, slice_index_or, replicate}
+use Rattle.std.specs.Prelude.{Option, Some, None, ◌==◌, ◌||◌, if◌then◌else◌, find, zip, take, option_map, is_some, slice_get, slice_set, slice_index}
 use Rattle.std.specs.List.{list_any}
 use Rattle.lin_frame.specs.Words.{choose, numbers}
 use Rattle.lin_frame.specs.Frame.{bit}
-use Rattle.lin_frame.specs.Bits.{byte_of_bits, number_of_bits, padded, unpacked}
+use Rattle.lin_frame.specs.Bits.{byte_of_bits, number_of_bits, unpacked}
 use Rattle.lin_frame.specs.declared.layout.Place.{Place}
 use Rattle.lin_frame.specs.declared.value.Value.{Value}
 use Rattle.lin_frame.specs.declared.value.Value.TheVariants.{Scalar, Bytes}

@@ -1,5 +1,5 @@
 -- What a core keeps stays that of its log, one more entry on.
-use Rattle.std.proofs.Common.{◌≡◌, ◌≢◌, ℕ, zero, suc, ◌+◌, ◌*◌, ◌^◌, ◌<◌, ◌≤◌, Bool, true, false, List, [], ◌∷◌, ◌++◌, reverse, map, length, refl, ap, sym, ◌∙◌, subst, arith}
+use Rattle.std.proofs.Common.{◌≡◌, ℕ, suc, ◌+◌, ◌*◌, ◌^◌, ◌<◌, ◌≤◌, Bool, true, false, List, [], ◌∷◌, ◌++◌, reverse, map, length, refl, ap, sym, ◌∙◌, subst, arith}
 use Rattle.std.specs.Prelude.{Option, Some, None, slice_get, slice_set, slice_index_or}
 use Rattle.std.proofs.lemmas.List.{length-map}
 use Rattle.std.proofs.lemmas.Option.{slice_get_read}
@@ -25,7 +25,7 @@ use Rattle.lin_core.specs.declared.reply.Reply.TheVariants.{Refused}
 use Rattle.lin_core.specs.declared.host.Host.{Host}
 use Rattle.lin_core.proofs.Entries.{messages-stay, messages-more}
 use Rattle.std.proofs.Common.{inl, inr}
-use Rattle.std.specs.Prelude.{◌⊎◌, ◌==◌, ◌||◌, if◌then◌else◌, nat_le}
+use Rattle.std.specs.Prelude.{◌==◌, ◌||◌, if◌then◌else◌, nat_le}
 use Rattle.std.proofs.lemmas.List.{append-nil, length-append, length-reverse}
 use Rattle.std.proofs.lemmas.Bool.{ne_eqb}
 use Rattle.std.proofs.lemmas.Bool.Decides.{nat_tests}
@@ -50,13 +50,10 @@ use Rattle.lin_core.proofs.Hosts.{HostState}
 use Rattle.lin_core.proofs.Known.{Known, write-known, switch-known}
 use Rattle.lin_core.proofs.Steps.{AllFalse, none-of, both-false, more_if, send-known}
 use Rattle.lin_core.proofs.Queues.{waiting-are}
-use Rattle.std.specs.Prelude.{nat_lt}
 use Rattle.lin_cluster.specs.Cluster.{line_of}
 use Rattle.lin_cluster.specs.declared.parts.Entry.{Entry}
-use Rattle.lin_cluster.specs.declared.parts.Entry.TheVariants.{Frame, Sporadic, Event as EventEntry, MasterReq, SlaveResp, Quiet}
-use Rattle.lin_schedule.specs.Walker.{HasEntry}
 use Rattle.lin_transport.specs.Transport.{frame}
-use Rattle.lin_core.specs.History.{Slot, open_slot, header_is}
+use Rattle.lin_core.specs.History.{Slot, open_slot}
 use Rattle.lin_core.specs.Kept.{slot_in}
 use Rattle.lin_core.specs.Links.{nad_on}
 use Rattle.lin_core.specs.Slots.{header, due_nodes, next_due, with_classic}

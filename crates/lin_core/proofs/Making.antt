@@ -3,7 +3,6 @@ use Rattle.lin_core.specs.declared.link.Direction.TheVariants.{Down}
 use Rattle.std.proofs.Common.{◌≡◌, ℕ, zero, suc, ◌+◌, ◌-◌, ◌^◌, ◌<◌, ◌≤◌, List, [], ◌∷◌, reverse, length, refl, ap, sym, ◌∙◌, subst, arith}
 use Rattle.std.specs.Prelude.{Some, None, slice_get, slice_index_or}
 use Rattle.lin_cluster.specs.Cluster.{nodes}
-use Rattle.lin_cluster.specs.declared.parts.Parts.{Parts}
 use Rattle.lin_core.specs.Core.{CoreData, IsAllowed, past_of}
 use Rattle.lin_core.specs.Kept.{KeepsHost}
 use Rattle.lin_core.specs.Links.{waiting}

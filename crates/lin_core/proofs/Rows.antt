@@ -1,6 +1,6 @@
 -- Worked examples on a cluster of a commander and one responder with the address 1, whose table has a master request and a
 -- slave response entry of 10 ms each.
-use Rattle.std.specs.Prelude.{◌≡◌, ℕ, List, [], ◌∷◌, ◌++◌, length, map, replicate, reverse, Some, None, true}
+use Rattle.std.specs.Prelude.{◌≡◌, ℕ, List, [], ◌∷◌, ◌++◌, length, map, replicate, reverse, Some, None}
 use Rattle.std.proofs.Common.{refl}
 use Rattle.lin_cluster.specs.declared.parts.Parts.{Parts}
 use Rattle.lin_cluster.specs.declared.parts.Entry.TheVariants.{MasterReq, SlaveResp}

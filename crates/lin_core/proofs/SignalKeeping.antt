@@ -1,8 +1,6 @@
 -- What is kept of signals stays that of the log, one more entry on.
-use Rattle.std.proofs.Common.{◌≡◌, ◌≢◌, ℕ, zero, suc, ◌+◌, ◌^◌, ◌<◌, ◌≤◌, Bool, true, false, List, [], ◌∷◌, ◌++◌, map, length, refl, ap, sym, ◌∙◌, subst, arith, inl, inr, get_or, get_or-set_other, get_or-set_same}
+use Rattle.std.proofs.Common.{◌≡◌, ◌≢◌, ℕ, zero, suc, ◌+◌, ◌<◌, ◌≤◌, Bool, true, false, List, [], ◌∷◌, ◌++◌, map, length, refl, ap, sym, ◌∙◌, subst, arith, inl, inr, get_or-set_other, get_or-set_same}
 use Rattle.std.specs.Prelude.{Option, Some, None, IfSome, slice_get, slice_set, slice_index_or, IsTrue, ◌⊎◌, ◌==◌, ◌&&◌, ◌||◌, if◌then◌else◌, not, replicate, is_some, nat_le, nat_lt, All, vec_capacity}
-use Rattle.std.specs.List.{list_any}
-use Rattle.std.proofs.lemmas.Bool.{true≢false}
 use Rattle.std.proofs.lemmas.Bool.Decides.{nat_tests, eqb_tells}
 use Rattle.std.proofs.Math.ListN.{length-set}
 use Rattle.std.proofs.lemmas.List.{length-map, length-replicate, length-append}
@@ -26,11 +24,10 @@ use Rattle.lin_core.specs.declared.reply.Reply.TheVariants.{Done}
 use Rattle.lin_core.specs.declared.signals.Signals.{Signals}
 use Rattle.lin_core.specs.declared.slot.OpenSlot.{OpenSlot}
 use Rattle.lin_core.specs.declared.slot.Put.{Put}
-use Rattle.lin_core.specs.declared.step.Step.{Step}
 use Rattle.lin_core.specs.declared.step.Step.TheVariants.{Write, Answer, Finish}
 use Rattle.lin_core.proofs.ClusterFrames.{no_signal, no_frame, index-past, all-append}
 use Rattle.lin_core.proofs.OpenSlots.{or-false}
-use Rattle.lin_core.proofs.Steps.{AllFalse, none-of, and-parts}
+use Rattle.lin_core.proofs.Steps.{AllFalse, none-of}
 
 -- an entry that changes no value, no frame's being pending, and isn't an answer
 pub signals-same : (c : Parts) (past : List LogEntry) (e : LogEntry) (slot : Option OpenSlot) (signals : Signals) → ((s : ℕ) → value c (e ∷ past) s ≡ value c past s) → ((s : ℕ) → heard c (e ∷ past) s ≡ heard c past s)

@@ -1,4 +1,4 @@
-use Rattle.std.proofs.Common.{◌≡◌, ◌<◌, length, subst, sym}
+use Rattle.std.proofs.Common.{subst}
 use Rattle.lin_core.specs.Dues.{HasDue}
 use Rattle.lin_core.proofs.ClusterFrames.{event-there}
 use Rattle.lin_core.proofs.due.is_due_of.Goals as goal

@@ -1,14 +1,14 @@
-use Rattle.std.proofs.Common.{◌≡◌, ◌<◌, ◌≤◌, ◌-◌, ℕ, zero, suc, List, [], ◌∷◌, ◌++◌, length-append, length, map, take, refl, ap, sym, ◌∙◌, arith, subst}
-use Rattle.std.specs.Prelude.{All, IsTrue, replicate, slice_index_or, slice_get, Some}
+use Rattle.std.proofs.Common.{◌≡◌, ◌-◌, ℕ, zero, suc, List, [], ◌∷◌, length-append, length, map, take, refl, ap, sym, ◌∙◌, arith}
+use Rattle.std.specs.Prelude.{replicate, slice_index_or}
 use Rattle.std.proofs.lemmas.Option.{slice_get-get_or, get_or_from_slice_get}
-use Rattle.lin_frame.specs.Bits.{all_fit, byte_of_bits, frame_bit, packed, padded}
+use Rattle.lin_frame.specs.Bits.{byte_of_bits, frame_bit, packed, padded}
 use Rattle.lin_frame.specs.Words.{numbers}
 use Rattle.std.proofs.lemmas.List.{length-map, take_all, take-append-le}
 use Rattle.lin_frame.specs.Frame.{answer_of}
 use Rattle.lin_frame.specs.declared.layout.Layout.{Layout}
 use Rattle.lin_frame.specs.declared.value.Value.{Value}
-use Rattle.lin_cluster.specs.Cluster.{frame_of, signal_of}
-use Rattle.lin_core.proofs.ClusterFrames.{FrameIs, frame-is, all-weaken, no_value}
+use Rattle.lin_cluster.specs.Cluster.{frame_of}
+use Rattle.lin_core.proofs.ClusterFrames.{FrameIs, frame-is, no_value}
 use Rattle.lin_core.proofs.heard.frame_answer.Goals as goal
 
 numbers-length : (n : ℕ) → length (numbers n) ≡ n

@@ -1,11 +1,10 @@
-use Rattle.std.proofs.Common.{◌≡◌, ◌<◌, ◌≤◌, ◌-◌, ℕ, suc, List, length, refl, ap, sym, ◌∙◌, subst, arith}
+use Rattle.std.proofs.Common.{◌≡◌, ◌<◌, ◌-◌, ℕ, suc, List, length, refl, ◌∙◌, subst, arith}
 use Rattle.std.specs.Prelude.{All, slice_index_or}
 use Rattle.std.proofs.Math.ListN.{length-set}
 use Rattle.lin_frame.specs.Words.{choose}
 use Rattle.lin_frame.specs.declared.layout.Layout.{Layout}
 use Rattle.lin_frame.specs.declared.layout.Place.{Place}
 use Rattle.lin_core.specs.Kept.{ArePointwise}
-use Rattle.lin_frame.specs.declared.value.Value.{Value}
 use Rattle.lin_cluster.specs.Cluster.{frame_of}
 use Rattle.lin_core.proofs.ClusterFrames.{FrameIs, frame-is}
 use Rattle.lin_core.proofs.Hearing.{from_place, hear-none, hear-more, hear-all, no_place}

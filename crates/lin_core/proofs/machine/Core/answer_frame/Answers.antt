@@ -1,11 +1,11 @@
-use Rattle.std.proofs.Common.{refl, ◌≡◌, ◌<◌, ◌≤◌, ℕ, List, [], ◌∷◌, ◌++◌, length, ap, sym, ◌∙◌, subst, arith, length-append}
+use Rattle.std.proofs.Common.{refl, ◌≡◌, ◌<◌, ℕ, List, [], ◌∷◌, ◌++◌, length, ap, sym, ◌∙◌, subst, arith, length-append}
 use Rattle.std.specs.Prelude.{Option, Some, None}
 use Rattle.lin_frame.specs.Words.{choose}
 use Rattle.lin_frame.specs.Frame.{answer_of}
 use Rattle.lin_frame.specs.declared.sums.SumKind.{SumKind}
 use Rattle.lin_cluster.specs.Cluster.{line_of}
 use Rattle.lin_core.specs.Core.{answered, CoreData}
-use Rattle.lin_core.specs.Dues.{frame_answered, frame_by, model_by}
+use Rattle.lin_core.specs.Dues.{frame_by, model_by}
 use Rattle.lin_core.specs.History.{open_slot}
 use Rattle.lin_core.specs.Kept.{ArePointwise, Keeps}
 use Rattle.lin_frame.specs.declared.value.Value.{Value}
@@ -22,8 +22,8 @@ use Rattle.lin_core.specs.declared.step.Step.TheVariants.{Answer}
 use Rattle.lin_core.proofs.Entries.{reverse-more, history-more}
 use Rattle.lin_core.proofs.Keeping.{done_entry, done-answered, answer-keeps}
 use Rattle.lin_core.proofs.Making.{Allowed, allowed-inside, past_in}
-use Rattle.lin_core.proofs.Answering.{AnswerSlot, answer-slot, answered-by, some-inside, put-told, values-fit, frame-answers}
-use Rattle.lin_core.proofs.Opening.{put-room, with_put}
+use Rattle.lin_core.proofs.Answering.{AnswerSlot, answer-slot, answered-by, some-inside, put-told, frame-answers}
+use Rattle.lin_core.proofs.Opening.{put-room}
 use Rattle.lin_core.proofs.machine.Core.answer_frame.Goals.{After-push}
 use Rattle.lin_core.proofs.machine.Core.answer_frame.Goals as goal
 
