@@ -60,23 +60,22 @@ answer-slot a by node w s =
 pub answered-by : (c : Parts) (past : List LogEntry) (node h : ℕ) (slot : OpenSlot) → open_slot past ≡ Some (slot_in slot) → slot.header ≡ Some h → frame_answered c past node ≡ frame_by c (line_of c slot.table slot.entry).entry h node
 answered-by c past node h slot is e = rw (is, e) refl
 
--- without a frame of signals it is the commander's, under the header of a master request
-request-by : (c : Parts) (past : List LogEntry) (node : ℕ) (slot : OpenSlot) → open_slot past ≡ Some (slot_in slot) → CanAnswer c (line_of c slot.table slot.entry).entry slot.header node → frame_answered c past node ≡ None
-    → in_slot past (λ s. header_is 0x3C s.header) ≡ true
-request-by c past node slot is can none = elim can.2 [
+-- without a frame of signals it is one of the transport
+transport-by : (c : Parts) (past : List LogEntry) (node : ℕ) (slot : OpenSlot) → open_slot past ≡ Some (slot_in slot) → CanAnswer c (line_of c slot.table slot.entry).entry slot.header node → frame_answered c past node ≡ None
+    → (header_is 0x3C slot.header || header_is 0x7D slot.header) ≡ true
+transport-by c past node slot is can none = elim can.2 [
   | inl found ↦ absurd (let bad : Some found.0 ≡ None = sym found.1 ∙ sym (answered-by c past node can.0 slot is can.1) ∙ none in cc)
-  | inr own ↦ rw (is, can.1, own.1) refl
+  | inr own ↦ elim own [
+    | inl request ↦ rw (can.1, request.1) refl
+    | inr response ↦ rw (can.1, response.1) refl
+  ]
 ]
 
-pub request-head : (a : Inside) (node : ℕ) → AnswerSlot a node → frame_answered a.cluster (past_in a) node ≡ None → in_slot (past_in a) (λ s. header_is 0x3C s.header) ≡ true
-request-head a node s none = request-by a.cluster (past_in a) node s.slot s.is s.can none
+pub transport-head : (a : Inside) (node : ℕ) → (s : AnswerSlot a node) → frame_answered a.cluster (past_in a) node ≡ None → (header_is 0x3C s.slot.header || header_is 0x7D s.slot.header) ≡ true
+transport-head a node s none = transport-by a.cluster (past_in a) node s.slot s.is s.can none
 
 pub none-inside : (a : Inside) (d : CoreData) (node : ℕ) → core_data a ≡ d → frame_answered d.cluster (past_of d) node ≡ None → frame_answered a.cluster (past_in a) node ≡ None
 none-inside a d node is none = subst (λ (x : CoreData). frame_answered x.cluster (past_of x) node ≡ None) (sym is) none
-
-pub head-inside : (a : Inside) (d : CoreData) (by : PortId) (node : ℕ) → core_data a ≡ d → IsWhole a → IsAllowed d by (Answer node) → length d.log < 2 ^ 32 - 1 → frame_answered d.cluster (past_of d) node ≡ None
-    → in_slot (past_in a) (λ s. header_is 0x3C s.header) ≡ true
-head-inside a d by node is w allowed few none = request-head a node (answer-slot a by node w (allowed-inside a d by (Answer node) is w allowed few)) (none-inside a d node is none)
 
 pub some-inside : (a : Inside) (d : CoreData) (node frame : ℕ) → core_data a ≡ d → frame_answered d.cluster (past_of d) node ≡ Some frame → frame_answered a.cluster (past_in a) node ≡ Some frame
 some-inside a d node frame is some = subst (λ (x : CoreData). frame_answered x.cluster (past_of x) node ≡ Some frame) (sym is) some

@@ -1,11 +1,12 @@
--- Where nothing disturbs, no message is lost: all that was accepted is read, or still waits.
+-- Where nothing disturbs a cluster, each settled message was sent.
+use Rattle.lin_core.specs.Law.{outcomes_of, NoneLost}
 use Rattle.std.proofs.Common.{◌≡◌, ℕ, Bool, true, false, List, [], ◌∷◌, ◌++◌, length, map, refl, ap, sym, ◌∙◌}
 use Rattle.std.specs.Prelude.{⊤, Option, Some, None, cond, ◌==◌, if◌then◌else◌, is_some, option_map, filter}
 use Rattle.std.proofs.lemmas.List.{append-nil, length-map}
 use Rattle.lin_frame.specs.Words.{choose}
-use Rattle.lin_cluster.specs.Cluster.{nad, line_of}
 use Rattle.lin_cluster.specs.declared.parts.Parts.{Parts}
-use Rattle.lin_core.specs.History.{Slot, open_slot, told_all}
+use Rattle.lin_cluster.specs.Cluster.{nad, line_of}
+use Rattle.lin_core.specs.History.{Slot, open_slot, told_all, leave, hurt, asked}
 use Rattle.lin_core.specs.Links.{Link, link_of, Message, host_of, accepted_from, Sign, Fate, nad_on, signs, heard_on, blocks, waiting, waits}
 use Rattle.lin_core.specs.Slots.{put, header, due_nodes, next_due}
 use Rattle.lin_core.specs.Replies.{refusal, put_event, done_events}
@@ -13,7 +14,7 @@ use Rattle.lin_cluster.specs.Sound.{IsSound}
 use Rattle.lin_core.specs.declared.log.LogEntry.{LogEntry}
 use Rattle.lin_core.specs.declared.port.PortId.{PortId}
 use Rattle.lin_core.specs.declared.step.Step.{Step}
-use Rattle.lin_core.specs.declared.step.Step.TheVariants.{Send, Write, Open, Answer, Finish, Switch}
+use Rattle.lin_core.specs.declared.step.Step.TheVariants.{Send, Write, Open, Answer, Leave, Hurt, Finish, Timeout, Switch, AskSleep, Wake, Close}
 use Rattle.lin_core.specs.declared.event.Event.{Event}
 use Rattle.lin_core.specs.declared.event.Event.TheVariants.{Put as PutEvent}
 use Rattle.lin_cluster.specs.declared.parts.Entry.{Entry}
@@ -21,14 +22,15 @@ use Rattle.lin_core.specs.declared.reply.Reply.TheVariants.{Done, Refused}
 use Rattle.lin_core.specs.declared.reply.Refusal.{Refusal}
 use Rattle.lin_core.proofs.Hosts.{HostState, IsLink, on_link, part, message_of}
 use Rattle.lin_core.proofs.Moves.{advanced, is_last}
+use Rattle.lin_core.proofs.Finishes.{finish_entry}
 use Rattle.lin_core.specs.Links.{is_waiting}
 use Rattle.lin_core.specs.Links.Fate.{Sent}
 use Rattle.lin_core.specs.Runs.{history}
 use Rattle.lin_core.proofs.Hosts.{on, plain, AllDone}
 use Rattle.lin_core.proofs.Known.{SlotIs, Known}
-use Rattle.lin_core.proofs.Known.SlotIs.{closed, other, master, slave, carries}
+use Rattle.lin_core.proofs.Known.SlotIs.{closed, other, master, slave, sleep, carries}
 use Rattle.lin_core.proofs.Results.{Holds, outcomes, track-reads}
-use Rattle.lin_core.specs.Law.{outcomes_of, NoneLost}
+use Rattle.lin_core.specs.Law.{outcomes_of}
 use Rattle.lin_core.specs.Links.{sendings}
 use Rattle.lin_core.specs.History.{done}
 use Rattle.lin_core.specs.Replies.{reply}
@@ -36,11 +38,11 @@ use Rattle.lin_core.proofs.Known.{finish-known}
 use Rattle.lin_core.proofs.Steps.{step-known, more_if}
 use Rattle.lin_core.proofs.Results.{waiting_one}
 use Rattle.lin_core.proofs.Ends.{Held, held-now}
-use Rattle.lin_core.specs.Law.{ReadsAll}
+use Rattle.lin_core.specs.Law.{is_calm, ReadsAll}
 use Rattle.lin_core.specs.Links.{Sending}
 use Rattle.lin_core.proofs.Tracks.{sent_of}
 use Rattle.lin_core.proofs.Hosts.{outcome}
-use Rattle.lin_core.proofs.Steps.{told-due, start-known}
+use Rattle.lin_core.proofs.Steps.{and-parts, told-due, start-known}
 use Rattle.lin_core.proofs.Ends.{bytes-on}
 
 abbrev AllSent : List (Message × Fate) → Type 0
@@ -79,35 +81,48 @@ answer-unhurt : (c : Parts) (past : List LogEntry) (node : ℕ) (o : Option Slot
 answer-unhurt c past node None h = refl
 answer-unhurt c past node (Some s) h = told-unhurt s.header node (λ x. put c past (line_of c s.table s.entry).entry x node) s ∙ h
 
-finish-calm : (c : Parts) (past : List LogEntry) (port : PortId) (es : List Event) (sound : IsSound c) (k : Known c past) (o : Option Slot) (is : open_slot past ≡ o) (shape : SlotIs c k.states o)
-    → Calm past k.states → (x : ℕ) → AllSent ((finish-known c past port es sound k o is shape).states x).done
-finish-calm c past port es sound k None is closed p x = p.sent x
-finish-calm c past port es sound k (Some _) is (other s a b) p x = p.sent x
-finish-calm c past port es sound k (Some _) is (master table entry due left hurt line only w) p x = p.sent x
-finish-calm c past port es sound k (Some _) is (slave table entry due left hurt h line only w) p x = p.sent x
-finish-calm c past port es sound k (Some _) is (carries table entry due left true h m ms j only host r n) p x =
-    absurd (let u : is_hurt (open_slot past) ≡ false = p.unhurt in let bad : true ≡ false = rw is at u in cc)
-finish-calm c past port es sound k (Some _) is (carries table entry due left false h m ms j only host r n) p x =
-    if-sent-state (h == x) (advanced false (is_last m.bytes j) (k.states h).done m ms j) (k.states x) (advanced-sent (is_last m.bytes j) (k.states h) m ms j (p.sent h)) (p.sent x)
+leave-unhurt : (node : ℕ) (o : Option Slot) → is_hurt o ≡ false → is_hurt (option_map (leave node) o) ≡ false
+leave-unhurt node None h = refl
+leave-unhurt node (Some s) h = h
+
+finish-calm : (c : Parts) (past : List LogEntry) (port : PortId) (es : List Event) (sound : IsSound c) (k : Known c past) (o : Option Slot) (is : open_slot past ≡ o) (shape : SlotIs c (asked past) k.states o)
+    → (is_calm past ≡ true → Calm past k.states) → is_calm (finish_entry port es ∷ past) ≡ true → (x : ℕ) → AllSent ((finish-known c past port es sound k o is shape).states x).done
+finish-calm c past port es sound k None is closed p q x = (p (and-parts _ (is_calm past) q).1).sent x
+finish-calm c past port es sound k (Some _) is (other s a b) p q x = (p (and-parts _ (is_calm past) q).1).sent x
+finish-calm c past port es sound k (Some _) is (master table entry due left hurt line only w) p q x = (p (and-parts _ (is_calm past) q).1).sent x
+finish-calm c past port es sound k (Some _) is (slave table entry due left hurt h line only w) p q x = (p (and-parts _ (is_calm past) q).1).sent x
+finish-calm c past port es sound k (Some _) is (sleep table entry due left true only) p q x = (p (and-parts _ (is_calm past) q).1).sent x
+finish-calm c past port es sound k (Some _) is (sleep table entry due left false only) p q x = absurd (let bad : false ≡ true = rw is at q in cc)
+finish-calm c past port es sound k (Some _) is (carries table entry due left true h m ms j only host r n) p q x =
+    absurd (let u : is_hurt (open_slot past) ≡ false = (p (and-parts _ (is_calm past) q).1).unhurt in let bad : true ≡ false = rw is at u in cc)
+finish-calm c past port es sound k (Some _) is (carries table entry due left false h m ms j only host r n) p q x =
+    let a = p (and-parts _ (is_calm past) q).1
+    in if-sent-state (h == x) (advanced false (is_last m.bytes j) (k.states h).done m ms j) (k.states x) (advanced-sent (is_last m.bytes j) (k.states h) m ms j (a.sent h)) (a.sent x)
 
 step-calm : (c : Parts) (opening capacity : ℕ) (past : List LogEntry) (port : PortId) (step : Step) (sound : IsSound c) (k : Known c past) (r : Option Refusal) (e : refusal c capacity past port step ≡ r)
-    → Calm past k.states
+    → (is_calm past ≡ true → Calm past k.states) → is_calm (record { port = port; step = step; reply = choose r (Done (done_events c opening past port step)) Refused } ∷ past) ≡ true
     → Calm (record { port = port; step = step; reply = choose r (Done (done_events c opening past port step)) Refused } ∷ past) (step-known c opening capacity past port step sound k r e).states
-step-calm c opening capacity past port step sound k (Some r) e p = record { unhurt = p.unhurt; sent = p.sent }
-step-calm c opening capacity past port (Send from to message) sound k None e p = record { unhurt = p.unhurt; sent = λ x. send-sent (from == x) (record { link = link_of from to; bytes = message }) (k.states x) (p.sent x) }
-step-calm c opening capacity past port (Write by signal value) sound k None e p = record { unhurt = p.unhurt; sent = p.sent }
-step-calm c opening capacity past port Open sound k None e p = record { unhurt = let at : ℕ × ℕ = next_due c opening past in let kind : Entry = (line_of c at.0 at.1).entry in ap (λ (s : Slot). s.hurt) (told-due (due_nodes c past kind) at.0 at.1 (header c past kind) []); sent = p.sent }
-step-calm c opening capacity past port (Answer node) sound k None e p = record { unhurt = answer-unhurt c past node (open_slot past) p.unhurt; sent = p.sent }
-step-calm c opening capacity past port Finish sound k None e p = record { unhurt = refl; sent = finish-calm c past port (done_events c opening past port Finish) sound k (open_slot past) refl k.slot p }
-step-calm c opening capacity past port (Switch table) sound k None e p = record { unhurt = p.unhurt; sent = p.sent }
+step-calm c opening capacity past port step sound k (Some r) e p q = record { unhurt = (p q).unhurt; sent = (p q).sent }
+step-calm c opening capacity past port (Send from to message) sound k None e p q = record { unhurt = (p q).unhurt; sent = λ x. send-sent (from == x) (record { link = link_of from to; bytes = message }) (k.states x) ((p q).sent x) }
+step-calm c opening capacity past port (Write by signal value) sound k None e p q = record { unhurt = (p q).unhurt; sent = (p q).sent }
+step-calm c opening capacity past port Open sound k None e p q = record { unhurt = let at : ℕ × ℕ = next_due c opening past in let kind : Entry = (line_of c at.0 at.1).entry in ap (λ (s : Slot). s.hurt) (told-due (due_nodes c past kind) at.0 at.1 (header c past kind) []); sent = (p q).sent }
+step-calm c opening capacity past port (Answer node) sound k None e p q = record { unhurt = answer-unhurt c past node (open_slot past) (p q).unhurt; sent = (p q).sent }
+step-calm c opening capacity past port (Leave node) sound k None e p q = record { unhurt = leave-unhurt node (open_slot past) (p q).unhurt; sent = (p q).sent }
+step-calm c opening capacity past port (Hurt bytes) sound k None e p q = cc
+step-calm c opening capacity past port Finish sound k None e p q = record { unhurt = refl; sent = finish-calm c past port (done_events c opening past port Finish) sound k (open_slot past) refl k.slot p q }
+step-calm c opening capacity past port (Timeout node dir) sound k None e p q = cc
+step-calm c opening capacity past port (Switch table) sound k None e p q = record { unhurt = (p q).unhurt; sent = (p q).sent }
+step-calm c opening capacity past port AskSleep sound k None e p q = record { unhurt = (p q).unhurt; sent = (p q).sent }
+step-calm c opening capacity past port Wake sound k None e p q = record { unhurt = (p q).unhurt; sent = (p q).sent }
+step-calm c opening capacity past port (Close host) sound k None e p q = record { unhurt = (p q).unhurt; sent = (p q).sent }
 
 record KnownCalm (c : Parts) (past : List LogEntry) : Type 0 where
   known : Known c past
-  calm : Calm past known.states
+  calm : is_calm past ≡ true → Calm past known.states
 
 history-calm : (c : Parts) (opening capacity : ℕ) (steps : List (PortId × Step)) → IsSound c → KnownCalm c (history c opening capacity steps)
 unfolding reply
-history-calm c opening capacity [] sound = record { known = start-known c; calm = record { unhurt = refl; sent = λ h. tt } }
+history-calm c opening capacity [] sound = record { known = start-known c; calm = λ q. record { unhurt = refl; sent = λ h. tt } }
 history-calm c opening capacity (s ∷ earlier) sound =
     let past : List LogEntry = history c opening capacity earlier
     in let k : KnownCalm c past = history-calm c opening capacity earlier sound
@@ -144,8 +159,8 @@ sent-all : (l : Link) (ps : List (Message × Fate)) → AllSent ps → sent_of (
 sent-all l [] a = refl
 sent-all l (p ∷ ps) a = sent-if (on l p.0) p (filter (λ (q : Message × Fate). on l q.0) ps) a.0 (sent-all l ps a.1)
 
-calm-reads : (c : Parts) (past : List LogEntry) (l : Link) → IsSound c → is_some (nad c l.node) ≡ true → KnownCalm c past → ReadsAll c past l
-calm-reads c past l sound a k none =
+calm-reads : (c : Parts) (past : List LogEntry) (l : Link) → IsSound c → is_some (nad c l.node) ≡ true → KnownCalm c past → is_calm past ≡ true → ReadsAll c past l
+calm-reads c past l sound a k q none =
     let i : IsLink c (host_of l) l = record { host = refl; address = a }
     in let s : HostState = k.known.states (host_of l)
     in let hh : Held c past (host_of l) s.done = held-now c past (host_of l) sound k.known
@@ -153,11 +168,11 @@ calm-reads c past l sound a k none =
     in let gone : hh.rest ≡ [] = left-none s.done hh.rest (ap (filter (λ (p : Message × Fate). is_waiting p.1)) (sym out) ∙ sym (waits-outcomes c (sendings c past (host_of l))) ∙ ap (map (outcome c)) none)
     in let all : accepted_from past (host_of l) ≡ map message_of s.done = hh.holds.accepted_is ∙ ap (λ (xs : List Message). map message_of s.done ++ xs) gone ∙ append-nil (map message_of s.done)
     in track-reads (nad_on c l) (heard_on c past l) (signs c past l) (on_link l s.done) (part s.rest s.count l) ((k.known.hosts (host_of l)).links l i)
-    ∙ sent-all l s.done (k.calm.sent (host_of l))
+    ∙ sent-all l s.done ((k.calm q).sent (host_of l))
     ∙ sym (bytes-on l s.done)
     ∙ ap (λ (xs : List Message). map (λ (m : Message). m.bytes) (filter (on l) xs)) (sym all)
 
-pub reads-all : (c : Parts) (opening capacity : ℕ) (steps : List (PortId × Step)) → IsSound c → (l : Link) → is_some (nad c l.node) ≡ true → ReadsAll c (history c opening capacity steps) l
+pub reads-all : (c : Parts) (opening capacity : ℕ) (steps : List (PortId × Step)) → IsSound c → (l : Link) → is_some (nad c l.node) ≡ true → is_calm (history c opening capacity steps) ≡ true → ReadsAll c (history c opening capacity steps) l
 reads-all c opening capacity steps sound l a = calm-reads c (history c opening capacity steps) l sound a (history-calm c opening capacity steps sound)
 
 -- no message is lost
@@ -166,14 +181,14 @@ none-lost-by [] [] a = tt
 none-lost-by [] (m ∷ ms) a = none-lost-by [] ms tt
 none-lost-by ((m, f) ∷ ps) ms a = let e : f ≡ Sent = a.0 in rw e (none-lost-by ps ms a.1)
 
-calm-lossless : (c : Parts) (past : List LogEntry) (h : ℕ) → IsSound c → KnownCalm c past → NoneLost (outcomes_of c past h)
-calm-lossless c past h sound k =
+calm-lossless : (c : Parts) (past : List LogEntry) (h : ℕ) → IsSound c → KnownCalm c past → is_calm past ≡ true → NoneLost (outcomes_of c past h)
+calm-lossless c past h sound k q =
     let s : HostState = k.known.states h
     in let hh : Held c past h s.done = held-now c past h sound k.known
-    in rw (outcomes c h (blocks c past) (accepted_from past h) s.done hh.rest hh.block hh.holds) (none-lost-by s.done hh.rest (k.calm.sent h))
+    in rw (outcomes c h (blocks c past) (accepted_from past h) s.done hh.rest hh.block hh.holds) (none-lost-by s.done hh.rest ((k.calm q).sent h))
 
-pub none-lost : (c : Parts) (opening capacity : ℕ) (steps : List (PortId × Step)) → IsSound c → (h : ℕ) → NoneLost (outcomes_of c (history c opening capacity steps) h)
-none-lost c opening capacity steps sound h = calm-lossless c (history c opening capacity steps) h sound (history-calm c opening capacity steps sound)
+pub none-lost : (c : Parts) (opening capacity : ℕ) (steps : List (PortId × Step)) → IsSound c → (h : ℕ) → is_calm (history c opening capacity steps) ≡ true → NoneLost (outcomes_of c (history c opening capacity steps) h)
+none-lost c opening capacity steps sound h q = calm-lossless c (history c opening capacity steps) h sound (history-calm c opening capacity steps sound) q
 
 -- how many messages wait
 pub done-still : (c : Parts) (h : ℕ) (ps : List (Message × Fate)) (qs : List (Message × Fate)) → AllDone c h ps → filter (λ (p : Message × Fate). is_waiting p.1) (ps ++ qs) ≡ filter (λ (p : Message × Fate). is_waiting p.1) qs

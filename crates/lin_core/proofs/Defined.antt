@@ -1,10 +1,11 @@
 -- Slots and puts are as defined; blocks by index; a sound cluster.
+use Rattle.lin_core.proofs.Rows.{cluster_a}
 use Rattle.std.proofs.Common.{◌≡◌, ℕ, zero, suc, ◌≤◌, ◌<◌, Bool, true, false, List, [], ◌∷◌, ◌++◌, length, map, refl, sym, ◌∙◌, arith}
 use Rattle.std.specs.Prelude.{Option, Some, None, if◌then◌else◌}
 use Rattle.lin_frame.specs.Words.{choose, numbers}
 use Rattle.lin_transport.specs.Transport.{frames}
-use Rattle.lin_cluster.specs.Cluster.{nad, nodes, line_of}
 use Rattle.lin_cluster.specs.declared.parts.Parts.{Parts}
+use Rattle.lin_cluster.specs.Cluster.{nad, nodes, line_of}
 use Rattle.lin_core.specs.History.{Slot, open_slot}
 use Rattle.lin_core.specs.Links.{Link, host_of, Sign, Fate, waits}
 use Rattle.lin_core.specs.Slots.{put, due_nodes, next_due}
@@ -13,7 +14,7 @@ use Rattle.lin_cluster.specs.Sound.{IsSound}
 use Rattle.lin_core.specs.declared.log.LogEntry.{LogEntry}
 use Rattle.lin_core.specs.declared.port.PortId.{PortId}
 use Rattle.lin_core.specs.declared.step.Step.{Step}
-use Rattle.lin_core.specs.declared.step.Step.TheVariants.{Send, Write, Open, Answer, Finish, Switch}
+use Rattle.lin_core.specs.declared.step.Step.TheVariants.{Send, Write, Open, Answer, Leave, Hurt, Finish, Timeout, Switch, AskSleep, Wake, Close}
 use Rattle.lin_core.specs.declared.event.Event.{Event}
 use Rattle.lin_core.specs.declared.event.Event.TheVariants.{Due, Put as PutEvent}
 use Rattle.lin_core.specs.declared.reply.Reply.TheVariants.{Done, Refused}
@@ -28,11 +29,10 @@ use Rattle.lin_core.specs.Links.{reading}
 use Rattle.lin_core.specs.Replies.{receiver_of}
 use Rattle.std.specs.List.{flat_map}
 use Rattle.lin_core.specs.Links.{Sending, sendings, fate_of}
-use Rattle.lin_core.specs.Replies.{report, reports, all_reports, new_messages, all_links, quiet_entry}
+use Rattle.lin_core.specs.Replies.{report, reports, all_reports, new_messages, all_links, quiet_entry, sleeps}
 use Rattle.lin_core.specs.History.{seen}
-use Rattle.lin_core.specs.declared.event.Event.TheVariants.{Message as MessageEvent, Seen as SeenEvent}
+use Rattle.lin_core.specs.declared.event.Event.TheVariants.{Message as MessageEvent, Asleep as SleepEvent, Seen as SeenEvent}
 use Rattle.lin_core.specs.History.{reply_events}
-use Rattle.lin_core.proofs.Rows.{cluster_a}
 use Rattle.lin_core.specs.Defined.{AreDefined}
 use Rattle.lin_core.specs.History.{events}
 
@@ -52,10 +52,14 @@ messages-defined : (c : Parts) (o : ℕ) (past : List LogEntry) (e : LogEntry) (
 messages-defined c o past e [] = tt
 messages-defined c o past e (l ∷ ls) = both c o past (new_messages c e past l) (flat_map (new_messages c e past) ls) (message-defined c o past (host_of l) (receiver_of l.dir l.node) (drop (length (reading c past l)) (reading c (e ∷ past) l))) (messages-defined c o past e ls)
 
+sleep-defined : (c : Parts) (o : ℕ) (past : List LogEntry) (b : Bool) → AreDefined c o past (if b then SleepEvent ∷ [] else [])
+sleep-defined c o past true = (tt, tt)
+sleep-defined c o past false = tt
+
 report-defined : (c : Parts) (o : ℕ) (past : List LogEntry) (h n : ℕ) (b : Bool) (f : Fate) → AreDefined c o past (if b then report h n f else [])
 report-defined c o past h n true Waiting = tt
 report-defined c o past h n true Sent = (tt, tt)
-report-defined c o past h n true (Lost cause) = tt
+report-defined c o past h n true (Lost cause) = (tt, tt)
 report-defined c o past h n false f = tt
 
 flat-defined : (c : Parts) (o : ℕ) (past : List LogEntry) (h : ℕ) (zs : List (Sending × Sending)) → AreDefined c o past (flat_map (λ (s : Sending × Sending). if waits c s.0 then report h s.1.number (fate_of c s.1) else []) zs)
@@ -85,12 +89,19 @@ step-defined c o capacity past port (Send from to message) None = (tt, tt)
 step-defined c o capacity past port (Write by signal value) None = tt
 step-defined c o capacity past port Open None = let at : ℕ × ℕ = next_due c o past in ((refl, refl), due-defined c o past (due_nodes c past (line_of c at.0 at.1).entry))
 step-defined c o capacity past port (Answer node) None = answer-defined c o past node (open_slot past) refl
-step-defined c o capacity past port (Switch table) None = tt
+step-defined c o capacity past port (Leave node) None = tt
+step-defined c o capacity past port (Hurt bytes) None = tt
 step-defined c o capacity past port Finish None =
     let e : LogEntry = quiet_entry port Finish
     in let A : List Event = choose (open_slot past) [] (λ s. SeenEvent (seen s) ∷ [])
     in let B : List Event = flat_map (new_messages c e past) (all_links c)
-    in both c o past (A ++ B) (all_reports c e past) (both c o past A B (seen-defined c o past (open_slot past)) (messages-defined c o past e (all_links c))) (all-defined c o past e (numbers (nodes c)))
+    in let C : List Event = if sleeps past then SleepEvent ∷ [] else []
+    in both c o past ((A ++ B) ++ C) (all_reports c e past) (both c o past (A ++ B) C (both c o past A B (seen-defined c o past (open_slot past)) (messages-defined c o past e (all_links c))) (sleep-defined c o past (sleeps past))) (all-defined c o past e (numbers (nodes c)))
+step-defined c o capacity past port (Timeout node dir) None = all-defined c o past (quiet_entry port (Timeout node dir)) (numbers (nodes c))
+step-defined c o capacity past port (Switch table) None = tt
+step-defined c o capacity past port AskSleep None = tt
+step-defined c o capacity past port Wake None = tt
+step-defined c o capacity past port (Close host) None = tt
 
 pub slots-defined : (c : Parts) (opening capacity : ℕ) (s : PortId × Step) (earlier : List (PortId × Step))
     → AreDefined c opening (history c opening capacity earlier) (events (entry_of c opening capacity (history c opening capacity earlier) s))

@@ -5,9 +5,9 @@ use Rattle.std.proofs.lemmas.Bool.Decides.{eqb_tells, nat_tests}
 use Rattle.std.proofs.lemmas.List.{append-nil}
 use Rattle.lin_frame.specs.Words.{numbers}
 use Rattle.lin_transport.specs.Transport.{frame, frames, frame_count, Heard}
-use Rattle.lin_cluster.specs.Cluster.{nad}
 use Rattle.lin_cluster.specs.declared.parts.Parts.{Parts}
-use Rattle.lin_core.specs.History.{Slot, open_slot, header_is}
+use Rattle.lin_cluster.specs.Cluster.{nad}
+use Rattle.lin_core.specs.History.{Slot, open_slot, hurt, header_is, asked}
 use Rattle.lin_core.specs.Links.{Link, same_dir, same_link, Message, host_of, accepted_from, Sign, Fate, nad_on, put_on, signs, heard_on, blocks, blocks_of}
 use Rattle.lin_core.specs.Links.Sign.{Put as PutSign}
 use Rattle.lin_cluster.specs.Sound.{IsSound}
@@ -20,7 +20,7 @@ use Rattle.lin_transport.specs.Transport.{CanSend}
 use Rattle.lin_transport.proofs.Frames.{and-false}
 use Rattle.lin_core.proofs.Hosts.{HostState, HostIs, IsLink, on_link, part, message_of}
 use Rattle.lin_core.proofs.Moves.{record_of, same-is}
-use Rattle.lin_core.proofs.Finishes.{frame_slot, HasNad, frame-is}
+use Rattle.lin_core.proofs.Finishes.{sleep_slot, frame_slot, HasNad, frame-is}
 use Rattle.std.specs.List.{cons_option}
 use Rattle.std.proofs.lemmas.List.Elements.{filter-append}
 use Rattle.std.proofs.lemmas.List.{map-append}
@@ -32,9 +32,9 @@ use Rattle.lin_core.proofs.Fates.{good_sign, goods, goods-wait, goods-prefix, go
 use Rattle.lin_core.proofs.Tracks.{with_last-append}
 use Rattle.lin_core.proofs.Hosts.{on, plain, HasBlocks, tail_of, track-blocks, Track}
 use Rattle.lin_core.proofs.Moves.{count-less, part-busy, busy_if}
-use Rattle.lin_core.proofs.Finishes.{IsFrameOf, other-nad, nad-is}
+use Rattle.lin_core.proofs.Finishes.{IsFrameOf, other-nad, zero-not, nad-is}
 use Rattle.lin_core.proofs.Known.{SlotIs, Known, as-state, has-nad, other-host}
-use Rattle.lin_core.proofs.Known.SlotIs.{closed, other, master, slave, carries}
+use Rattle.lin_core.proofs.Known.SlotIs.{closed, other, master, slave, sleep, carries}
 use Rattle.lin_core.proofs.Steps.{history-known, blocks-closed, blocks-empty}
 use Rattle.lin_core.proofs.Results.{tails_with, IsPart, Waits, Holds, sent-are, track-reads, in-order}
 
@@ -98,6 +98,10 @@ put-frame-by c table entry due left hurt a b Up Down f n k sound p q i = rw (and
 pub put-frame : (c : Parts) (table entry : ℕ) (due left : List ℕ) (hurt : Bool) (m l : Link) (f : List ℕ) → IsSound c → HasNad c m.node → HasNad c l.node → IsFrameOf (nad_on c m) f
     → put_on c l (frame_slot table entry due left hurt m f) ≡ (if same_link m l then Some f else None)
 put-frame c table entry due left hurt m l f sound p q i = put-frame-by c table entry due left hurt m.node l.node m.dir l.dir f p.n q.n sound p.is q.is (rw (nad-is c m p.n p.is) at i)
+
+pub put-sleep : (c : Parts) (table entry : ℕ) (due left : List ℕ) (hurt : Bool) (node : ℕ) (dir : Direction) → IsSound c → HasNad c node → put_on c (record_of node dir) (sleep_slot table entry due left hurt) ≡ None
+put-sleep c table entry due left hurt node Down sound a = rw (a.is, zero-not a.n (sound.some node a.n a.is))
+put-sleep c table entry due left hurt node Up sound a = refl
 
 pub put-other : (c : Parts) (s : Slot) (node : ℕ) (dir : Direction) → header_is 0x3C s.header ≡ false → header_is 0x7D s.header ≡ false → put_on c (record_of node dir) s ≡ None
 put-other c s node Down p q = rw p
@@ -178,11 +182,12 @@ pub sign-none : (q : Bool) (f : List ℕ) (signs : List Sign) → q ≡ false �
 sign-none true f signs e = cc
 sign-none false f signs e = refl
 
-pub held : (c : Parts) (past : List LogEntry) (h : ℕ) → IsSound c → (k : Known c past) → (o : Option Slot) → open_slot past ≡ o → SlotIs c k.states o → Held c past h (k.states h).done
+pub held : (c : Parts) (past : List LogEntry) (h : ℕ) → IsSound c → (k : Known c past) → (o : Option Slot) → open_slot past ≡ o → SlotIs c (asked past) k.states o → Held c past h (k.states h).done
 held c past h sound k None is closed = plainly c past h k (λ l i. blocks-closed c past l is)
 held c past h sound k (Some _) is (other s p q) = plainly c past h k (λ l i. put-no c past l s is (put-other c s l.node l.dir p q))
 held c past h sound k (Some _) is (master table entry due left hurt line only w) = plainly c past h k (λ l i. blocks-empty c past l table entry (Some 0x3C) due left hurt is)
 held c past h sound k (Some _) is (slave table entry due left hurt x line only w) = plainly c past h k (λ l i. blocks-empty c past l table entry (Some 0x7D) due left hurt is)
+held c past h sound k (Some _) is (sleep table entry due left hurt only) = plainly c past h k (λ l i. put-no c past l _ is (put-sleep c table entry due left hurt l.node l.dir sound (has-nad c l.node i.address)))
 held c past h sound k (Some _) is (carries table entry due left hurt x m ms j only host r n) =
     let own : HostIs c x (accepted_from past x) (heard_on c past) (signs c past) (record { done = (k.states x).done; rest = m ∷ ms; count = j }) = as-state c x (accepted_from past x) (heard_on c past) (signs c past) (k.states x) (m ∷ ms) j r n (k.hosts x)
     in let f : List ℕ = frame (nad_on c m.link) m.bytes j

@@ -2,19 +2,19 @@
 use Rattle.std.proofs.Common.{◌≡◌, ◌≢◌, ℕ, ◌≤◌, Bool, true, false, List, [], ◌∷◌, ◌++◌, length, take, refl, ap, ◌∙◌, subst, arith, inl, inr}
 use Rattle.std.specs.Prelude.{Option, Some, None, cond, ◌&&◌, ◌==◌, if◌then◌else◌, is_some, option_map, slice_index}
 use Rattle.std.specs.List.{cons_option}
-use Rattle.std.proofs.lemmas.Bool.Decides.{eqb_tells}
+use Rattle.std.proofs.lemmas.Bool.Decides.{eqb_tells, nat_tests}
 use Rattle.std.proofs.lemmas.Bool.{ne_eqb}
 use Rattle.std.proofs.lemmas.List.{take_at, get_or_append_left}
 use Rattle.lin_frame.specs.Words.{choose}
 use Rattle.lin_frame.specs.Frame.{classic}
 use Rattle.lin_transport.specs.Transport.{frame, Heard}
 use Rattle.lin_transport.specs.Transport.Heard.{Reset}
-use Rattle.lin_cluster.specs.Cluster.{nad}
 use Rattle.lin_cluster.specs.declared.parts.Parts.{Parts}
+use Rattle.lin_cluster.specs.Cluster.{nad}
 use Rattle.lin_core.specs.History.{Slot, open_slot, seen, header_is, good_under, is_sleep_slot}
 use Rattle.lin_core.specs.Links.{Link, same_dir, same_link, host_of, Sign, nad_on, put_on, signs, heard_on, heard_good, header_for}
 use Rattle.lin_core.specs.Links.Sign.{Put, Mark}
-use Rattle.lin_core.specs.Slots.{with_classic}
+use Rattle.lin_core.specs.Slots.{with_classic, sleep_frame}
 use Rattle.lin_cluster.specs.Sound.{IsSound}
 use Rattle.lin_core.specs.declared.log.LogEntry.{LogEntry}
 use Rattle.lin_core.specs.declared.port.PortId.{PortId}
@@ -80,6 +80,25 @@ pub record HasNad (c : Parts) (node : ℕ) : Type 0 where
 pub value-of : (o : Option ℕ) → is_some o ≡ true → (n : ℕ) × (o ≡ Some n)
 value-of None h = cc
 value-of (Some n) h = (n, refl)
+
+-- a slot of the sleep frame
+abbrev pub sleep_slot : ℕ → ℕ → List ℕ → List ℕ → Bool → Slot
+sleep_slot table entry due left hurt = slot_of table entry (Some 0x3C) due ((0, with_classic sleep_frame) ∷ []) left hurt
+
+pub zero-not : (n : ℕ) → 1 ≤ n → (0 == n) ≡ false
+zero-not n h = grind (arith, nat_tests)
+
+pub sleep-hurt : (c : Parts) (table entry : ℕ) (due left : List ℕ) (node : ℕ) (dir : Direction) → IsSound c → HasNad c node → IsQuiet c (sleep_slot table entry due left true) (record_of node dir)
+sleep-hurt c table entry due left node Down sound a = record { signs = rw (a.is, zero-not a.n (sound.some node a.n a.is)); heard = refl }
+sleep-hurt c table entry due left node Up sound a = record { signs = refl; heard = refl }
+
+pub record Sleeps (c : Parts) (s : Slot) (l : Link) : Type 0 where
+  pub signs : slot_signs c s l ≡ Mark Slept ∷ []
+  pub heard : slot_heard c s l ≡ Reset ∷ []
+
+pub sleep-good : (c : Parts) (table entry : ℕ) (due left : List ℕ) (node : ℕ) (dir : Direction) → IsSound c → HasNad c node → Sleeps c (sleep_slot table entry due left false) (record_of node dir)
+sleep-good c table entry due left node Down sound a = record { signs = rw (a.is, zero-not a.n (sound.some node a.n a.is)); heard = rw (a.is, zero-not a.n (sound.some node a.n a.is)) }
+sleep-good c table entry due left node Up sound a = record { signs = refl; heard = refl }
 
 -- a slot of a frame on a link
 abbrev pub frame_slot : ℕ → ℕ → List ℕ → List ℕ → Bool → Link → List ℕ → Slot

@@ -14,7 +14,7 @@ use Rattle.lin_cluster.specs.declared.parts.Parts.{Parts}
 use Rattle.lin_cluster.specs.declared.parts.Entry.{Entry}
 use Rattle.lin_cluster.specs.declared.parts.Entry.TheVariants.{Frame, Sporadic, Event, MasterReq, SlaveResp, Quiet}
 use Rattle.lin_core.specs.Dues.{frame_by}
-use Rattle.lin_core.specs.History.{Slot, good, header_is}
+use Rattle.lin_core.specs.History.{Slot, good, header_is, good_bytes, seen_by}
 use Rattle.lin_core.specs.Kept.{ArePointwise, slot_in, put_in}
 use Rattle.lin_core.specs.Signals.{carried, carried_by, place_in, value_in}
 use Rattle.lin_core.specs.declared.slot.OpenSlot.{OpenSlot}
@@ -94,8 +94,12 @@ carried-one c Quiet o h n bytes e p = refl
 first-of : (ps : List Put) (p q : Put) → ps ≡ p ∷ [] → slice_get ps 0 ≡ Some q → p ≡ q
 first-of ps p q e h = let t : slice_get (p ∷ []) 0 ≡ Some q = rw e at h in cc
 
-good-by : (slot : OpenSlot) (h : ℕ) (p : Put) → slot.header ≡ Some h → slot.puts.items ≡ p ∷ [] → good (slot_in slot) ≡ Some p.answer
-good-by slot h p e is = rw (e, is) refl
+good-at : (h : ℕ) (p : ℕ × List ℕ) (hurt : Bool) → is_some (good_bytes (seen_by (Some h) (p ∷ []) hurt)) ≡ true → good_bytes (seen_by (Some h) (p ∷ []) hurt) ≡ Some p.1
+good-at h p true e = cc
+good-at h p false e = refl
+
+good-by : (slot : OpenSlot) (h : ℕ) (p : Put) → slot.header ≡ Some h → slot.puts.items ≡ p ∷ [] → is_some (good (slot_in slot)) ≡ true → good (slot_in slot) ≡ Some p.answer
+good-by slot h p e is seen = rw (e, is) (good-at h (put_in p) slot.hurt (let t : is_some (good_bytes (seen_by (Some h) (put_in p ∷ []) slot.hurt)) ≡ true = rw (e, is) at seen in t))
 
 pub heard-is : (c : Parts) (slot : OpenSlot) (h : ℕ) (put : Put) (frame s : ℕ) → is_some (good (slot_in slot)) ≡ true → slot.header ≡ Some h → slice_get slot.puts.items 0 ≡ Some put
     → frame_by c (line_of c slot.table slot.entry).entry h put.node ≡ Some frame → value_in c (slot_in slot) s ≡ option_map (λ p. unpacked p (take 8 put.answer)) (place_in (frame_of c frame) s)
@@ -104,7 +108,7 @@ heard-is c slot h put frame s seen e first by =
     in let own : one.0 ≡ put = first-of slot.puts.items one.0 put one.1 first
     in let only : slot.puts.items ≡ put ∷ [] = one.1 ∙ ap (λ (p : Put). p ∷ []) own
     in let carries : carried c (slot_in slot) ≡ Some frame = carried-one c (line_of c slot.table slot.entry).entry (slot_in slot) h put.node put.answer e (ap (map put_in) only) ∙ by
-    in ap (λ (o : Option (List ℕ)). choose o None (λ bytes. choose (carried c (slot_in slot)) None (λ f. option_map (λ p. unpacked p (take 8 bytes)) (place_in (frame_of c f) s)))) (good-by slot h put e only)
+    in ap (λ (o : Option (List ℕ)). choose o None (λ bytes. choose (carried c (slot_in slot)) None (λ f. option_map (λ p. unpacked p (take 8 bytes)) (place_in (frame_of c f) s)))) (good-by slot h put e only seen)
     ∙ ap (λ (o : Option ℕ). choose o None (λ f. option_map (λ p. unpacked p (take 8 put.answer)) (place_in (frame_of c f) s))) carries
 
 pub unheard-is : (c : Parts) (slot : OpenSlot) (h : ℕ) (put : Put) (s : ℕ) → is_some (good (slot_in slot)) ≡ true → slot.header ≡ Some h → slice_get slot.puts.items 0 ≡ Some put
@@ -114,5 +118,5 @@ unheard-is c slot h put s seen e first by =
     in let own : one.0 ≡ put = first-of slot.puts.items one.0 put one.1 first
     in let only : slot.puts.items ≡ put ∷ [] = one.1 ∙ ap (λ (p : Put). p ∷ []) own
     in let carries : carried c (slot_in slot) ≡ None = carried-one c (line_of c slot.table slot.entry).entry (slot_in slot) h put.node put.answer e (ap (map put_in) only) ∙ by
-    in ap (λ (o : Option (List ℕ)). choose o None (λ bytes. choose (carried c (slot_in slot)) None (λ f. option_map (λ p. unpacked p (take 8 bytes)) (place_in (frame_of c f) s)))) (good-by slot h put e only)
+    in ap (λ (o : Option (List ℕ)). choose o None (λ bytes. choose (carried c (slot_in slot)) None (λ f. option_map (λ p. unpacked p (take 8 bytes)) (place_in (frame_of c f) s)))) (good-by slot h put e only seen)
     ∙ ap (λ (o : Option ℕ). choose o None (λ f. option_map (λ p. unpacked p (take 8 put.answer)) (place_in (frame_of c f) s))) carries

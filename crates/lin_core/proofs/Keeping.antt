@@ -62,13 +62,10 @@ use Rattle.lin_core.specs.declared.event.Event.{Event}
 use Rattle.lin_core.specs.declared.event.Event.TheVariants.{Slot as SlotEvent, Due, Put as PutEvent}
 use Rattle.lin_core.specs.declared.step.Step.TheVariants.{Write, Open, Answer, Finish, Switch}
 use Rattle.lin_core.proofs.Finishes.{slot_of}
-use Rattle.lin_core.proofs.Plain.FinishIs.{shut, still, whole}
 use Rattle.lin_core.specs.Links.{Link}
 use Rattle.lin_core.specs.Links.Fate.{Sent}
 use Rattle.lin_core.specs.Replies.{receiver_of}
 use Rattle.lin_core.proofs.Hosts.{IsLink}
-use Rattle.lin_core.proofs.Plain.{Plain, FinishIs, is_carrying, AnswerIs, finish-is}
-use Rattle.lin_core.proofs.FinishEvents.{finish-quiet, finish-whole}
 use Rattle.lin_core.proofs.Known.{finish-known}
 use Rattle.lin_schedule.specs.Schedule.Move.{Slot as SlotMove, Switch as SwitchMove}
 use Rattle.lin_schedule.specs.Walker.{Stands, Walks}
@@ -135,7 +132,7 @@ pub send-room : (c : Parts) (capacity : ℕ) (past : List LogEntry) (by : PortId
 send-room c capacity past by from to message h =
     let all : AllFalse (refusals c capacity past by (Send from to message)) = none-of (refusals c capacity past by (Send from to message)) h
     in let one : (nat_le (nodes c) from || nat_le (nodes c) to) ≡ false = all.0
-    in let two : nat_le capacity (length (waiting c past from)) ≡ false = all.1.1.1.0
+    in let two : nat_le capacity (length (waiting c past from)) ≡ false = all.1.1.1.1.0
     in let far : nat_le (nodes c) from ≡ false = (both-false (nat_le (nodes c) from) (nat_le (nodes c) to) one).0
     in (grind (arith, nat_tests, far), grind (arith, nat_tests, two))
 
@@ -231,7 +228,7 @@ pub write-keeps : (c : Parts) (opening capacity : ℕ) (log past : List LogEntry
     → Keeps c opening capacity (log ++ done_entry by (Write node signal v) [] ∷ []) (done_entry by (Write node signal v) [] ∷ past) slot clock walker hosts signals'
 write-keeps c opening capacity log past slot clock walker hosts signals signals' by node signal v sound known allowed written k =
     let e : LogEntry = done_entry by (Write node signal v) []
-    in let known' : Known c (e ∷ past) = write-known c past by node signal v [] known
+    in let known' : Known c (e ∷ past) = write-known c past by node signal v known
     in record {
       slot_is = k.slot_is;
       slot_there = k.slot_there;
@@ -257,7 +254,7 @@ pub switch-keeps : (c : Parts) (opening capacity : ℕ) (log past : List LogEntr
     → Keeps c opening capacity (log ++ done_entry by (Switch table) [] ∷ []) (done_entry by (Switch table) [] ∷ past) slot clock walker' hosts signals
 switch-keeps c opening capacity log past slot clock walker walker' hosts signals by table sound known stands walks k =
     let e : LogEntry = done_entry by (Switch table) []
-    in let known' : Known c (e ∷ past) = switch-known c past by table [] known
+    in let known' : Known c (e ∷ past) = switch-known c past by table known
     in record {
       slot_is = k.slot_is;
       slot_there = k.slot_there;
@@ -281,6 +278,8 @@ pub record Opens (c : Parts) (opening : ℕ) (past : List LogEntry) (slot : Open
   pub header_is : slot.header ≡ header c past (line_of c slot.table slot.entry).entry
   pub due_is : slot.due.items ≡ due_nodes c past (line_of c slot.table slot.entry).entry
   pub empty : slot.puts.items ≡ []
+  pub none_left : slot.left.items ≡ []
+  pub calm : slot.hurt ≡ false
 
 pub opening-is : (c : Parts) (opening : ℕ) (past : List LogEntry) (slot : OpenSlot) → Opens c opening past slot → events_of_open slot ≡ opening_events c opening past
 opening-is c opening past slot o =
@@ -289,9 +288,9 @@ opening-is c opening past slot o =
     = ap (λ (h : Option ℕ). SlotEvent slot.table slot.entry h ∷ map Due slot.due.items) o.header_is ∙ ap (λ (ns : List ℕ). SlotEvent slot.table slot.entry (header c past kind) ∷ map Due ns) o.due_is
     in subst (λ (at : ℕ × ℕ). events_of_open slot ≡ SlotEvent at.0 at.1 (header c past (line_of c at.0 at.1).entry) ∷ map Due (due_nodes c past (line_of c at.0 at.1).entry)) o.at told
 
-opened-slot : (c : Parts) (past : List LogEntry) (slot : OpenSlot) → slot.header ≡ header c past (line_of c slot.table slot.entry).entry → slot.due.items ≡ due_nodes c past (line_of c slot.table slot.entry).entry → slot.puts.items ≡ []
+opened-slot : (c : Parts) (past : List LogEntry) (slot : OpenSlot) → slot.header ≡ header c past (line_of c slot.table slot.entry).entry → slot.due.items ≡ due_nodes c past (line_of c slot.table slot.entry).entry → slot.puts.items ≡ [] → slot.left.items ≡ [] → slot.hurt ≡ false
     → slot_in slot ≡ slot_of slot.table slot.entry (header c past (line_of c slot.table slot.entry).entry) (due_nodes c past (line_of c slot.table slot.entry).entry) [] [] false
-opened-slot c past slot h d e = rw (h, d, e) refl
+opened-slot c past slot h d e l u = rw (h, d, e, l, u) refl
 
 -- no slot is open where one may be opened
 shut-by : (o : Option OpenSlot) → is_some (option_map slot_in o) ≡ false → o ≡ None
@@ -301,7 +300,7 @@ shut-by (Some s) e = cc
 pub shut-slot : (c : Parts) (capacity : ℕ) (past : List LogEntry) (by : PortId) (old : Option OpenSlot) → refusal c capacity past by Open ≡ None → option_map slot_in old ≡ open_slot past → old ≡ None
 shut-slot c capacity past by old h is =
     let all : AllFalse (refusals c capacity past by Open) = none-of (refusals c capacity past by Open) h
-    in let closed : is_some (open_slot past) ≡ false = all.0
+    in let closed : is_some (open_slot past) ≡ false = all.1.0
     in shut-by old (ap is_some is ∙ closed)
 
 pub done-answered : (core : CoreData) (by : PortId) (step : Step) (es : List Event) → IsAllowed core by step → es ≡ done_events core.cluster core.opening (past_of core) by step → done_entry by step es ≡ answered core by step
@@ -318,7 +317,7 @@ open-keeps c opening capacity log past old slot clock walker hosts signals by so
     in let shut : KeepsSignals c past None signals = subst (λ (x : Option OpenSlot). KeepsSignals c past x signals) (shut-slot c capacity past by old allowed k.slot_is) k.signals_are
     in record {
       slot_is = ap Some (
-          opened-slot c past slot o.header_is o.due_is o.empty
+          opened-slot c past slot o.header_is o.due_is o.empty o.none_left o.calm
           ∙ ap (λ (p : ℕ × ℕ). slot_of p.0 p.1 (header c past (line_of c p.0 p.1).entry) (due_nodes c past (line_of c p.0 p.1).entry) [] [] false) o.at
           ∙ sym (told-due (due_nodes c past (line_of c at.0 at.1).entry) at.0 at.1 (header c past (line_of c at.0 at.1).entry) []));
       slot_there = o.is_open;
@@ -332,10 +331,6 @@ open-keeps c opening capacity log past old slot clock walker hosts signals by so
     }
 
 -- == an answer
-pub answer-told : (c : Parts) (past : List LogEntry) (states : ℕ → HostState) (node : ℕ) (a : AnswerIs c past states node)
-    → PutEvent node (with_classic (frame (nad_on c a.message.link) a.message.bytes 0)) ∷ [] ≡ choose (open_slot past) [] (put_event c past node)
-answer-told c past states node a = sym (rw (a.is, a.header) (ap (λ (bytes : List ℕ). PutEvent node bytes ∷ []) a.bytes))
-
 pub answer-keeps : (c : Parts) (opening capacity : ℕ) (log past : List LogEntry) (slot : OpenSlot) (clock : ℕ) (walker : Position) (hosts : List Host) (signals signals' : Signals) (by : PortId) (node : ℕ) (p : Put)
     → IsSound c → Known c past → refusal c capacity past by (Answer node) ≡ None → p.node ≡ node
     → PutEvent node p.answer ∷ [] ≡ choose (open_slot past) [] (put_event c past node) → Answers c slot (with_put slot p) p signals signals'
@@ -347,7 +342,7 @@ answer-keeps c opening capacity log past slot clock walker hosts signals signals
     in let known' : Known c (e ∷ past) = answer-known c capacity past by node sound allowed known
     in let is : open_slot past ≡ Some (slot_in slot) = sym k.slot_is
     in let put : Some (slot_in (with_put slot p)) ≡ option_map (told_all (PutEvent node p.answer ∷ [])) (open_slot past)
-    = rw (is, ← own) (ap (λ (ps : List (ℕ × List ℕ)). Some (slot_of slot.table slot.entry slot.header slot.due.items ps [] false)) (map-append put_in slot.puts.items (p ∷ [])))
+    = rw (is, ← own) (ap (λ (ps : List (ℕ × List ℕ)). Some (slot_of slot.table slot.entry slot.header slot.due.items ps slot.left.items slot.hurt)) (map-append put_in slot.puts.items (p ∷ [])))
     in record {
       slot_is = subst (λ (es : List Event). Some (slot_in (with_put slot p)) ≡ option_map (told_all es) (open_slot past)) told put;
       slot_there = put-open c slot p k.slot_there (answer-free c capacity past by node slot p own allowed is);
@@ -391,131 +386,8 @@ finish-keeps c opening capacity log past slot clock clock' walker walker' hosts 
   signals_are = finish-signals c past by (finish_events c by past) slot signals signals' (sym k.slot_is) ends k.signals_are;
 }
 
--- a finish by which nothing is settled
-pub record FinishesStill (c : Parts) (past : List LogEntry) (by : PortId) (slot : Slot) (known : Known c past) : Type 0 where
-  pub told : finish_events c by past ≡ SeenEvent (seen slot) ∷ []
-  pub known' : Known c (finished_entry c past by ∷ past)
-  pub same : (x : ℕ) → known'.states x ≡ known.states x
-
--- a finish by which the first message that waits is settled
-pub record FinishesOne (c : Parts) (past : List LogEntry) (by : PortId) (slot : Slot) (known : Known c past) : Type 0 where
-  pub message : Message
-  pub later : List Message
-  pub first : (known.states 0).rest ≡ message ∷ later
-  pub down : message.link.dir ≡ Down
-  pub told : finish_events c by past ≡ SeenEvent (seen slot) ∷ MessageEvent 0 message.link.node message.bytes ∷ SentEvent 0 (suc (length (known.states 0).done)) ∷ []
-  pub known' : Known c (finished_entry c past by ∷ past)
-  pub rests : (x : ℕ) → (known'.states x).rest ≡ (if 0 == x then later else (known.states x).rest)
-
--- what a finish makes of the hosts, by the slot that it ends
-still-is : (c : Parts) (past : List LogEntry) (states states' : ℕ → HostState) (o : Option Slot) → FinishIs c past states states' o → (s : Slot) → o ≡ Some s → is_carrying s ≡ false → (x : ℕ) → states' x ≡ states x
-still-is c past states states' None (shut e) s is empty = e
-still-is c past states states' (Some _) (still t n e) s is empty = e
-still-is c past states states' (Some _) (whole t m ms header puts hurt first link down e) s is empty =
-    absurd (let same : t ≡ s = cc in let none : is_carrying t ≡ false = ap is_carrying same ∙ empty in let some : is_carrying t ≡ true = rw (header, puts) refl in let bad : true ≡ false = sym some ∙ none in cc)
-
-record WholeIs (c : Parts) (states states' : ℕ → HostState) : Type 0 where
-  message : Message
-  later : List Message
-  first : (states 0).rest ≡ message ∷ later
-  link : IsLink c 0 message.link
-  down : message.link.dir ≡ Down
-  each : (x : ℕ) → states' x ≡ (if 0 == x then record { done = (states 0).done ++ (message, Sent) ∷ []; rest = later; count = 0 } else states x)
-
-whole-is : (c : Parts) (past : List LogEntry) (states states' : ℕ → HostState) (o : Option Slot) → FinishIs c past states states' o → (s : Slot) → o ≡ Some s → is_carrying s ≡ true → WholeIs c states states'
-whole-is c past states states' None (shut e) s is some = absurd (cc)
-whole-is c past states states' (Some _) (still t n e) s is some = absurd (let same : t ≡ s = cc in let own : is_carrying t ≡ true = ap is_carrying same ∙ some in let bad : true ≡ false = sym own ∙ n in cc)
-whole-is c past states states' (Some _) (whole t m ms header puts' hurt first link down e) s is some = record { message = m; later = ms; first = first; link = link; down = down; each = e }
-
-done-if : (b : Bool) (m : Message) (ms : List Message) (a s : HostState) → (b ≡ true → a ≡ s)
-    → (if b then record { done = a.done ++ (m, Sent) ∷ []; rest = ms; count = 0 } else s).done ≡ s.done ++ (if b then (m, Sent) ∷ [] else [])
-done-if true m ms a s same = ap (λ (h : HostState). h.done ++ (m, Sent) ∷ []) (same refl)
-done-if false m ms a s same = sym (append-nil s.done)
-
-rest-if : (b : Bool) (m : Message) (ms : List Message) (a s : HostState) → (if b then record { done = a.done ++ (m, Sent) ∷ []; rest = ms; count = 0 } else s).rest ≡ (if b then ms else s.rest)
-rest-if true m ms a s = refl
-rest-if false m ms a s = refl
-
-receiver-down : (l : Link) → l.dir ≡ Down → receiver_of l.dir l.node ≡ l.node
-receiver-down l down = rw down
-
-abbrev states_behind : (c : Parts) (past : List LogEntry) (by : PortId) → IsSound c → Known c past → List Event → ℕ → HostState
-states_behind c past by sound known es = (finish-known c past by es sound known (open_slot past) refl known.slot).states
-
-pub finishes-still : (c : Parts) (past : List LogEntry) (by : PortId) (s : Slot) → IsSound c → (known : Known c past) → Plain past known.states → open_slot past ≡ Some s → is_carrying s ≡ false → FinishesStill c past by s known
-finishes-still c past by s sound known plain is empty =
-    let same : (es : List Event) (x : ℕ) → states_behind c past by sound known es x ≡ known.states x
-    = λ es. still-is c past known.states (states_behind c past by sound known es) (open_slot past) (finish-is c past by es sound known plain (open_slot past) refl known.slot) s is empty
-    in record {
-      told = finish-quiet c past by s sound known (finish-known c past by [] sound known (open_slot past) refl known.slot) (λ x. ap (λ (h : HostState). h.done) (same [] x)) is;
-      known' = finish-known c past by (finish_events c by past) sound known (open_slot past) refl known.slot;
-      same = same (finish_events c by past);
-    }
-
-pub finishes-one : (c : Parts) (past : List LogEntry) (by : PortId) (s : Slot) → IsSound c → (known : Known c past) → Plain past known.states → open_slot past ≡ Some s → is_carrying s ≡ true → FinishesOne c past by s known
-finishes-one c past by s sound known plain is some =
-    let at : (es : List Event) → WholeIs c known.states (states_behind c past by sound known es)
-    = λ es. whole-is c past known.states (states_behind c past by sound known es) (open_slot past) (finish-is c past by es sound known plain (open_slot past) refl known.slot) s is some
-    in let w : WholeIs c known.states (states_behind c past by sound known []) = at []
-    in let v : WholeIs c known.states (states_behind c past by sound known (finish_events c by past)) = at (finish_events c by past)
-    in let both : v.message ∷ v.later ≡ w.message ∷ w.later = sym v.first ∙ w.first
-    in let later : v.later ≡ w.later = cc
-    in record {
-      message = w.message;
-      later = w.later;
-      first = w.first;
-      down = w.down;
-      told =
-          finish-whole c past by s 0 w.message sound w.link known (finish-known c past by [] sound known (open_slot past) refl known.slot)
-          (λ x. ap (λ (h : HostState). h.done) (w.each x) ∙ done-if (0 == x) w.message w.later (known.states 0) (known.states x) (λ e. let z : 0 ≡ x = grind (arith, nat_tests, e) in ap known.states z)) is
-          ∙ ap (λ (n : ℕ). SeenEvent (seen s) ∷ MessageEvent 0 n w.message.bytes ∷ SentEvent 0 (suc (length (known.states 0).done)) ∷ []) (receiver-down w.message.link w.down);
-      known' = finish-known c past by (finish_events c by past) sound known (open_slot past) refl known.slot;
-      rests = λ x. ap (λ (h : HostState). h.rest) (v.each x) ∙ rest-if (0 == x) v.message v.later (known.states 0) (known.states x) ∙ ap (λ (ms : List Message). if 0 == x then ms else (known.states x).rest) later;
-    }
-
--- the hosts behind a finish that settles nothing
-pub still-hosts : (c : Parts) (capacity : ℕ) (log past : List LogEntry) (by : PortId) (s : Slot) → IsSound c → (known : Known c past) → FinishesStill c past by s known
-    → (h : ℕ) (host : Host) → KeepsHost c capacity log past h host → KeepsHost c capacity (log ++ finished_entry c past by ∷ []) (finished_entry c past by ∷ past) h host
-still-hosts c capacity log past by s sound known f h host k =
-    same-hosts c capacity log past (finished_entry c past by) sound known f.known' (λ x. ap (λ (y : HostState). y.rest) (f.same x)) (λ x. refl) h host k
-
--- and behind one that settles the first message that waits
-queue-rest : (log : List LogEntry) (is : List ℕ) (m : Message) (ms : List Message) → map (message_at log) is ≡ map Some (m ∷ ms) → (map (message_at log) (drop 1 is) ≡ map Some ms) × (length is ≡ suc (length (drop 1 is)))
-queue-rest log [] m ms e = absurd (cc)
-queue-rest log (i ∷ is) m ms e = let rest : map (message_at log) is ≡ map Some ms = cc in (rest, refl)
-
-pub one-hosts : (c : Parts) (capacity : ℕ) (log past : List LogEntry) (by : PortId) (s : Slot) (hosts : List Host) (host : Host) → IsSound c → (known : Known c past) → (f : FinishesOne c past by s known) → slice_get hosts 0 ≡ Some host
-    → ((h : ℕ) (x : Host) → slice_get hosts h ≡ Some x → KeepsHost c capacity log past h x)
-    → (h : ℕ) (x : Host) → slice_get (slice_set hosts 0 (settled host)) h ≡ Some x → KeepsHost c capacity (log ++ finished_entry c past by ∷ []) (finished_entry c past by ∷ past) h x
-one-hosts c capacity log past by s hosts host sound known f at each h x there =
-    let e : LogEntry = finished_entry c past by
-    in let ms : (y : ℕ) → map message_of (waiting c (e ∷ past) y) ≡ (if 0 == y then f.later else (known.states y).rest) = λ y. waiting-are c (e ∷ past) y sound f.known' ∙ f.rests y
-    in elim (set-at hosts 0 h (settled host) x there) [
-      | inl same ↦
-          let own : KeepsHost c capacity log past 0 host = each 0 host at
-          in let queue : map (message_at log) host.queue.items ≡ map Some (f.message ∷ f.later) = own.queue ∙ ap (map Some) (waiting-are c past 0 sound known ∙ f.first)
-          in let q = queue-rest log host.queue.items f.message f.later queue
-          in let count = own.count
-          in let shorter = q.1
-          in let kept : KeepsHost c capacity (log ++ e ∷ []) (e ∷ past) 0 (settled host) = record {
-            queue = messages-stay log e (drop 1 host.queue.items) f.later q.0 ∙ ap (map Some) (sym (ms 0));
-            count = omega arith;
-            capacity_is = own.capacity_is;
-          }
-          in rw same.1 (subst (λ (y : ℕ). KeepsHost c capacity (log ++ e ∷ []) (e ∷ past) y (settled host)) same.0 kept)
-      | inr differ ↦
-          let old : KeepsHost c capacity log past h x = each h x differ.1
-          in let test : (0 == h) ≡ false = ne_eqb 0 h differ.0
-          in let rest : map message_of (waiting c (e ∷ past) h) ≡ map message_of (waiting c past h) = ms h ∙ rw test (sym (waiting-are c past h sound known))
-          in record {
-            queue = messages-stay log e x.queue.items (map message_of (waiting c past h)) old.queue ∙ ap (map Some) (sym rest);
-            count = old.count;
-            capacity_is = old.capacity_is;
-          }
-    ]
-
 -- == the empty log
-all-at : {X : Type 0} (P : X → Type 0) (xs : List X) (i : ℕ) (x : X) → All P xs → slice_get xs i ≡ Some x → P x
+pub all-at : {X : Type 0} (P : X → Type 0) (xs : List X) (i : ℕ) (x : X) → All P xs → slice_get xs i ≡ Some x → P x
 all-at P xs i x a h = subst P (get_or_from_slice_get xs i x x h) (All-get_or P xs i x (slice_get_within xs i x h) a)
 
 pub start-keeps : (c : Parts) (opening capacity : ℕ) (walker : Position) (hosts : List Host) (signals : Signals) → Stands c opening walker [] → Walks c walker → length hosts ≡ nodes c → All (λ (host : Host). host ≡ fresh capacity) hosts → KeepsSignals c [] None signals

@@ -3,7 +3,7 @@ use Rattle.std.proofs.Common.{ℕ, List, [], ◌∷◌, subst, sym}
 use Rattle.lin_cluster.specs.Sound.{IsSound}
 use Rattle.lin_cluster.specs.declared.parts.Parts.{Parts}
 use Rattle.lin_core.specs.Core.{CoreData, IsHistory, past_of}
-use Rattle.lin_core.specs.Promises.{AllStay, CarriesFrames, DeliversExactly, FatesAreFinal, LosesNothing, PutsInOrder}
+use Rattle.lin_core.specs.Promises.{AllStay, CarriesFrames, StaysClosed, DeliversExactly, FatesAreFinal, LosesNothing, PutsInOrder}
 use Rattle.lin_core.specs.Runs.{history, steps_of}
 use Rattle.lin_core.specs.declared.log.LogEntry.{LogEntry}
 use Rattle.lin_core.specs.declared.port.PortId.{PortId}
@@ -11,7 +11,7 @@ use Rattle.lin_core.specs.declared.step.Step.{Step}
 use Rattle.lin_core.proofs.Calm.{none-lost, reads-all}
 use Rattle.lin_core.proofs.Defined.{slots-defined}
 use Rattle.lin_core.proofs.Ends.{blocks-order, reads-sent}
-use Rattle.lin_core.proofs.Fixed.{fates-stay}
+use Rattle.lin_core.proofs.Fixed.{fates-stay, no-send}
 use Rattle.lin_core.proofs.Readings.{tells-reading}
 use Rattle.lin_core.proofs.Reports.{reports-fates}
 
@@ -32,8 +32,12 @@ pub history-carries : (c : Parts) (opening capacity : ℕ) (steps : List (PortId
 history-carries c opening capacity [] = tt
 history-carries c opening capacity (s ∷ earlier) = (slots-defined c opening capacity s earlier, history-carries c opening capacity earlier)
 
+pub history-closed : (c : Parts) (opening capacity : ℕ) (steps : List (PortId × Step)) → StaysClosed (history c opening capacity steps)
+history-closed c opening capacity [] = tt
+history-closed c opening capacity (s ∷ earlier) = ((λ h. no-send c opening capacity s earlier h), history-closed c opening capacity earlier)
+
 pub history-loses-nothing : (c : Parts) (opening capacity : ℕ) (steps : List (PortId × Step)) → IsSound c → LosesNothing c (history c opening capacity steps)
-history-loses-nothing c opening capacity steps sound = ((λ h. none-lost c opening capacity steps sound h), (λ l a. reads-all c opening capacity steps sound l a))
+history-loses-nothing c opening capacity steps sound = λ q. ((λ h. none-lost c opening capacity steps sound h q), (λ l a. reads-all c opening capacity steps sound l a q))
 
 -- the same of the log of a core
 of-log : (P : List LogEntry → Type 0) (core : CoreData) → IsHistory core → P (history core.cluster core.opening core.capacity (steps_of (past_of core))) → P (past_of core)
@@ -50,6 +54,9 @@ log-final core sound h = of-log (FatesAreFinal core.cluster) core h (history-fin
 
 pub log-carries : (core : CoreData) → IsHistory core → CarriesFrames core.cluster core.opening (past_of core)
 log-carries core h = of-log (CarriesFrames core.cluster core.opening) core h (history-carries core.cluster core.opening core.capacity (steps_of (past_of core)))
+
+pub log-closed : (core : CoreData) → IsHistory core → StaysClosed (past_of core)
+log-closed core h = of-log StaysClosed core h (history-closed core.cluster core.opening core.capacity (steps_of (past_of core)))
 
 pub log-loses-nothing : (core : CoreData) → IsSound core.cluster → IsHistory core → LosesNothing core.cluster (past_of core)
 log-loses-nothing core sound h = of-log (LosesNothing core.cluster) core h (history-loses-nothing core.cluster core.opening core.capacity (steps_of (past_of core)) sound)

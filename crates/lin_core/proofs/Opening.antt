@@ -1,13 +1,13 @@
 -- A slot that opens: its header and who is due, by what is kept, and what its responses can be.
-use Rattle.std.proofs.Common.{◌≡◌, ℕ, ◌+◌, ◌<◌, ◌≤◌, Bool, true, false, List, [], ◌∷◌, ◌++◌, map, length, refl, ap, sym, ◌∙◌, arith, inl, inr, length-append}
+use Rattle.std.proofs.Common.{◌≡◌, ◌≢◌, ℕ, zero, suc, ◌+◌, ◌<◌, ◌≤◌, Bool, true, false, List, [], ◌∷◌, ◌++◌, map, length, refl, ap, sym, ◌∙◌, subst, arith, inl, inr, length-append}
 use Rattle.std.proofs.Math.Path.{fun_ext}
-use Rattle.std.specs.Prelude.{Option, Some, None, ◌&&◌, ◌||◌, not, ◌==◌, if◌then◌else◌, filter, find, is_some, nat_lt, option_map, slice_index_or}
+use Rattle.std.specs.Prelude.{Option, Some, None, IfSome, All, cond, ◌&&◌, ◌||◌, not, ◌==◌, ◌⊎◌, if◌then◌else◌, filter, find, is_some, nat_lt, option_map, slice_index_or}
 use Rattle.std.specs.List.{list_any}
 use Rattle.std.proofs.lemmas.Bool.{ne_eqb}
 use Rattle.std.proofs.lemmas.Bool.Decides.{eqb_tells, nat_tests}
 use Rattle.std.proofs.lemmas.List.{map-append}
 use Rattle.std.proofs.lemmas.List.Folds.{list_any-append}
-use Rattle.lin_frame.specs.Words.{numbers}
+use Rattle.lin_frame.specs.Words.{choose, numbers}
 use Rattle.lin_cluster.specs.Cluster.{frame_of, sporadic_of, event_of, line_of, nodes}
 use Rattle.lin_cluster.specs.Rules.{IsCluster, IsEntry}
 use Rattle.lin_cluster.specs.Sound.{IsSignalPid, IsSound}
@@ -16,13 +16,16 @@ use Rattle.lin_cluster.specs.declared.parts.Entry.{Entry}
 use Rattle.lin_cluster.specs.declared.parts.Entry.TheVariants.{Frame, Sporadic, Event, MasterReq, SlaveResp, Quiet}
 use Rattle.lin_schedule.specs.Due.{due_for}
 use Rattle.lin_schedule.specs.Walker.{HasEntry}
-use Rattle.lin_core.specs.Dues.{HasDue, header_of, is_due_of}
-use Rattle.lin_core.specs.History.{has_decided, header_is, is_in, open_slot}
+use Rattle.lin_transport.proofs.Frames.{and-false}
+use Rattle.lin_core.proofs.Finishes.{and-true}
+use Rattle.lin_core.specs.KeptLate.{responder_now}
+use Rattle.lin_core.specs.Dues.{HasDue, header_of, is_due_of, frame_by}
+use Rattle.lin_core.specs.History.{Slot, asked, has_decided, header_is, is_in, open_slot}
 use Rattle.lin_core.specs.Kept.{CanAnswer, IsOpen, put_in, slot_in}
 use Rattle.lin_core.specs.Links.{waiting}
-use Rattle.lin_core.specs.Replies.{refusal}
+use Rattle.lin_core.specs.Replies.{in_slot, refusal}
 use Rattle.lin_core.specs.Signals.{pending}
-use Rattle.lin_core.specs.Slots.{due_nodes, header, is_due}
+use Rattle.lin_core.specs.Slots.{due_nodes, header, is_due, selected}
 use Rattle.lin_core.specs.declared.log.LogEntry.{LogEntry}
 use Rattle.lin_core.specs.declared.port.PortId.{PortId}
 use Rattle.lin_core.specs.declared.slot.OpenSlot.{OpenSlot}
@@ -43,7 +46,7 @@ some-if : (b : Bool) → is_some {T = ℕ} (if b then Some 0x3C else None) ≡ b
 some-if true = refl
 some-if false = refl
 
-pub header-due : (c : Parts) (past : List LogEntry) (flags : List Bool) (waits : Bool) (kind : Entry) → ((f : ℕ) → slice_index_or flags f false ≡ pending c past f) → nat_lt 0 (length (waiting c past 0)) ≡ waits
+pub header-due : (c : Parts) (past : List LogEntry) (flags : List Bool) (waits : Bool) (kind : Entry) → ((f : ℕ) → slice_index_or flags f false ≡ pending c past f) → (nat_lt 0 (length (waiting c past 0)) || asked past) ≡ waits
     → header_of c waits (due_for c flags kind) ≡ header c past kind
 header-due c past flags waits (Frame f) e w = refl
 header-due c past flags waits (Sporadic k) e w = ap (λ (p : ℕ → Bool). option_map (λ f. (frame_of c f).pid) (find p (sporadic_of c k))) (same-flags flags (pending c past) e)
@@ -52,21 +55,30 @@ header-due c past flags waits MasterReq e w = rw w refl
 header-due c past flags waits SlaveResp e w = refl
 header-due c past flags waits Quiet e w = refl
 
-due-due : (c : Parts) (past : List LogEntry) (flags : List Bool) (waits : Bool) (kind : Entry) (n : ℕ) → ((f : ℕ) → slice_index_or flags f false ≡ pending c past f) → nat_lt 0 (length (waiting c past 0)) ≡ waits
-    → is_due_of c flags waits (due_for c flags kind) n ≡ is_due c past kind n
-due-due c past flags waits (Frame f) n e w = refl
-due-due c past flags waits (Sporadic k) n e w =
+responder-by : (c : Parts) (past : List LogEntry) (n k : ℕ) (b : Bool) → nat_lt 0 (length (waiting c past k)) ≡ b → choose (if b then Some k else None) false (λ x. n == x) ≡ (n == k && nat_lt 0 (length (waiting c past k)))
+responder-by c past n k true e = rw e (sym (and-true (n == k)))
+responder-by c past n k false e = rw e (sym (and-false (n == k)))
+
+responder-due : (c : Parts) (past : List LogEntry) (n : ℕ) (o : Option ℕ)
+    → choose (choose o None (λ k. if nat_lt 0 (length (waiting c past k)) then Some k else None)) false (λ x. n == x) ≡ choose o false (λ k. n == k && nat_lt 0 (length (waiting c past k)))
+responder-due c past n None = refl
+responder-due c past n (Some k) = responder-by c past n k (nat_lt 0 (length (waiting c past k))) refl
+
+due-due : (c : Parts) (past : List LogEntry) (flags : List Bool) (waits : Bool) (responder : Option ℕ) (kind : Entry) (n : ℕ) → ((f : ℕ) → slice_index_or flags f false ≡ pending c past f) → (nat_lt 0 (length (waiting c past 0)) || asked past) ≡ waits → responder ≡ responder_now c past
+    → is_due_of c flags waits responder (due_for c flags kind) n ≡ is_due c past kind n
+due-due c past flags waits responder (Frame f) n e w r = refl
+due-due c past flags waits responder (Sporadic k) n e w r =
     ap (λ (p : ℕ → Bool). n == 0 && is_some (find p (sporadic_of c k))) (same-flags flags (pending c past) e)
     ∙ ap (λ (b : Bool). n == 0 && b) (sym (some-map (find (pending c past) (sporadic_of c k)) (λ f. (frame_of c f).pid)))
-due-due c past flags waits (Event v) n e w = ap (λ (p : ℕ → Bool). list_any (λ f. n == (frame_of c f).publisher && p f) (event_of c v).frames) (same-flags flags (pending c past) e)
-due-due c past flags waits MasterReq n e w = ap (λ (b : Bool). n == 0 && b) (sym w ∙ sym (some-if (nat_lt 0 (length (waiting c past 0)))))
-due-due c past flags waits SlaveResp n e w = refl
-due-due c past flags waits Quiet n e w = refl
+due-due c past flags waits responder (Event v) n e w r = ap (λ (p : ℕ → Bool). list_any (λ f. n == (frame_of c f).publisher && p f) (event_of c v).frames) (same-flags flags (pending c past) e)
+due-due c past flags waits responder MasterReq n e w r = ap (λ (b : Bool). n == 0 && b) (sym w ∙ sym (some-if (nat_lt 0 (length (waiting c past 0)) || asked past)))
+due-due c past flags waits responder SlaveResp n e w r = rw r (responder-due c past n (selected c past))
+due-due c past flags waits responder Quiet n e w r = refl
 
-pub nodes-due : (c : Parts) (past : List LogEntry) (flags : List Bool) (waits : Bool) (kind : Entry) → ((f : ℕ) → slice_index_or flags f false ≡ pending c past f) → nat_lt 0 (length (waiting c past 0)) ≡ waits
-    → filter (is_due_of c flags waits (due_for c flags kind)) (numbers (nodes c)) ≡ due_nodes c past kind
-nodes-due c past flags waits kind e w =
-    ap (λ (p : ℕ → Bool). filter p (numbers (nodes c))) (fun_ext {f = is_due_of c flags waits (due_for c flags kind)} {g = is_due c past kind} (λ n. due-due c past flags waits kind n e w))
+pub nodes-due : (c : Parts) (past : List LogEntry) (flags : List Bool) (waits : Bool) (responder : Option ℕ) (kind : Entry) → ((f : ℕ) → slice_index_or flags f false ≡ pending c past f) → (nat_lt 0 (length (waiting c past 0)) || asked past) ≡ waits → responder ≡ responder_now c past
+    → filter (is_due_of c flags waits responder (due_for c flags kind)) (numbers (nodes c)) ≡ due_nodes c past kind
+nodes-due c past flags waits responder kind e w r =
+    ap (λ (p : ℕ → Bool). filter p (numbers (nodes c))) (fun_ext {f = is_due_of c flags waits responder (due_for c flags kind)} {g = is_due c past kind} (λ n. due-due c past flags waits responder kind n e w r))
 
 pub has-due : (c : Parts) (flags : List Bool) (kind : Entry) → IsCluster c → IsEntry c kind → HasDue c (due_for c flags kind)
 has-due c flags (Frame f) rules e = e
@@ -124,7 +136,7 @@ sporadic-answers c k n p None e h = absurd (cc)
 sporadic-answers c k n p (Some f) e h = ((frame_of c f).pid, refl, inl (found-again p (λ g. (frame_of c f).pid == (frame_of c g).pid) (sporadic_of c k) f e (own-test (frame_of c f).pid)))
 
 request-answers : (c : Parts) (n : ℕ) (b : Bool) → is_some {T = ℕ} (if b then Some 0x3C else None) ≡ true → CanAnswer c MasterReq (if b then Some 0x3C else None) n
-request-answers c n true h = (0x3C, refl, inr (refl, refl))
+request-answers c n true h = (0x3C, refl, inr (inl (refl, refl)))
 request-answers c n false h = absurd (cc)
 
 pub can-answer : (c : Parts) (past : List LogEntry) (kind : Entry) (n : ℕ) → is_due c past kind n ≡ true → CanAnswer c kind (header c past kind) n
@@ -137,8 +149,9 @@ can-answer c past (Event e) n h = (
   inl (any-found (λ f. n == (frame_of c f).publisher && pending c past f) (λ f. n == (frame_of c f).publisher) (event_of c e).frames (λ f t. (and-parts (n == (frame_of c f).publisher) (pending c past f) t).0) h),
 )
 can-answer c past MasterReq n h =
-    request-answers c n (nat_lt 0 (length (waiting c past 0))) (and-parts (n == 0) (is_some {T = ℕ} (if nat_lt 0 (length (waiting c past 0)) then Some 0x3C else None)) h).1
-can-answer c past SlaveResp n h = absurd (cc)
+    let waits : Bool = nat_lt 0 (length (waiting c past 0)) || asked past
+    in request-answers c n waits (and-parts (n == 0) (is_some {T = ℕ} (if waits then Some 0x3C else None)) h).1
+can-answer c past SlaveResp n h = (0x7D, refl, inr (inr (refl, refl)))
 can-answer c past Quiet n h = absurd (cc)
 
 -- == room for the responses
@@ -194,18 +207,19 @@ or-true : (a b : Bool) → a ≡ true → (a || b) ≡ true
 or-true true b e = refl
 or-true false b e = cc
 
-decided-more : (s : OpenSlot) (p : Put) (n : ℕ) → has_decided (slot_in (with_put s p)) n ≡ ((list_any (λ (q : ℕ × List ℕ). q.0 == n) (map put_in s.puts.items) || ((p.node == n) || false)) || false)
+decided-more : (s : OpenSlot) (p : Put) (n : ℕ) → has_decided (slot_in (with_put s p)) n ≡ ((list_any (λ (q : ℕ × List ℕ). q.0 == n) (map put_in s.puts.items) || ((p.node == n) || false)) || is_in s.left.items n)
 decided-more s p n =
-    ap (λ (ps : List (ℕ × List ℕ)). list_any (λ (q : ℕ × List ℕ). q.0 == n) ps || false) (map-append put_in s.puts.items (p ∷ []))
-    ∙ ap (λ (b : Bool). b || false) (list_any-append (λ (q : ℕ × List ℕ). q.0 == n) (map put_in s.puts.items) ((p.node, p.answer) ∷ []))
+    ap (λ (ps : List (ℕ × List ℕ)). list_any (λ (q : ℕ × List ℕ). q.0 == n) ps || is_in s.left.items n) (map-append put_in s.puts.items (p ∷ []))
+    ∙ ap (λ (b : Bool). b || is_in s.left.items n) (list_any-append (λ (q : ℕ × List ℕ). q.0 == n) (map put_in s.puts.items) ((p.node, p.answer) ∷ []))
 
-stays-decided : (a b : Bool) → not ((a || b) || false) ≡ true → not (a || false) ≡ true
-stays-decided true b e = cc
-stays-decided false b e = refl
+stays-decided : (a b d : Bool) → not ((a || b) || d) ≡ true → not (a || d) ≡ true
+stays-decided true b d e = cc
+stays-decided false true d e = cc
+stays-decided false false d e = e
 
-now-decided : (a : Bool) → not ((a || (true || false)) || false) ≡ false
-now-decided true = refl
-now-decided false = refl
+now-decided : (a d : Bool) → not ((a || (true || false)) || d) ≡ false
+now-decided true d = refl
+now-decided false d = refl
 
 not-flip : (b : Bool) → b ≡ false → not b ≡ true
 not-flip true e = cc
@@ -215,9 +229,9 @@ pub fewer : (s : OpenSlot) (p : Put) → Free s p.node
     → length (filter (λ n. not (has_decided (slot_in (with_put s p)) n)) s.due.items) + 1 ≤ length (filter (λ n. not (has_decided (slot_in s) n)) s.due.items)
 fewer s p free =
     filter-less (λ n. not (has_decided (slot_in s) n)) (λ n. not (has_decided (slot_in (with_put s p)) n)) p.node s.due.items
-    (λ n t. stays-decided (list_any (λ (q : ℕ × List ℕ). q.0 == n) (map put_in s.puts.items)) ((p.node == n) || false) (sym (ap not (decided-more s p n)) ∙ t))
+    (λ n t. stays-decided (list_any (λ (q : ℕ × List ℕ). q.0 == n) (map put_in s.puts.items)) ((p.node == n) || false) (is_in s.left.items n) (sym (ap not (decided-more s p n)) ∙ t))
     (not-flip (has_decided (slot_in s) p.node) free.undecided)
-    (ap not (decided-more s p p.node) ∙ rw (own-test p.node) (now-decided (list_any (λ (q : ℕ × List ℕ). q.0 == p.node) (map put_in s.puts.items)))) free.due
+    (ap not (decided-more s p p.node) ∙ rw (own-test p.node) (now-decided (list_any (λ (q : ℕ × List ℕ). q.0 == p.node) (map put_in s.puts.items)) (is_in s.left.items p.node))) free.due
 
 pub put-room : (c : Parts) (s : OpenSlot) (p : Put) → IsOpen c s → Free s p.node → length s.puts.items < 16
 put-room c s p o free = let f = fewer s p free in let r = o.room in omega arith
@@ -232,10 +246,10 @@ put-open c s p o free = record {
 
 -- a slot that has just opened
 pub new-open : (c : Parts) (past : List LogEntry) (s : OpenSlot) (kind : Entry) → IsSound c → HasEntry c (s.table, s.entry) → (line_of c s.table s.entry).entry ≡ kind → s.header ≡ header c past kind → s.due.items ≡ due_nodes c past kind
-    → s.puts.items ≡ [] → length s.due.items ≤ 16 → IsOpen c s
-new-open c past s kind sound there line h d e few = record {
+    → s.puts.items ≡ [] → s.left.items ≡ [] → length s.due.items ≤ 16 → IsOpen c s
+new-open c past s kind sound there line h d e l few = record {
   there = there;
   request = λ t. line ∙ request-is c past kind sound (ap (header_is 0x3C) (sym h) ∙ t);
   answers = λ n i. rw (line, h) (can-answer c past kind n (in-filter (is_due c past kind) (numbers (nodes c)) n (ap (λ (ns : List ℕ). is_in ns n) (sym d) ∙ i)));
-  room = let none : length s.puts.items ≡ 0 = ap length e in let f = filter-all (λ n. not (has_decided (slot_in s) n)) s.due.items in omega arith;
+  room = let none : length s.puts.items ≡ 0 = ap length e in let no : length s.left.items ≡ 0 = ap length l in let f = filter-all (λ n. not (has_decided (slot_in s) n)) s.due.items in omega arith;
 }

@@ -5,21 +5,25 @@ use Rattle.std.proofs.lemmas.Bool.Decides.{eqb_tells}
 use Rattle.std.proofs.lemmas.Bool.{ne_eqb}
 use Rattle.std.proofs.lemmas.List.{append-nil}
 use Rattle.lin_frame.specs.Words.{choose, numbers}
-use Rattle.lin_cluster.specs.Cluster.{nad, nodes, line_of}
+use Rattle.lin_transport.specs.Transport.{Heard}
+use Rattle.lin_transport.specs.Transport.Heard.{Reset}
 use Rattle.lin_cluster.specs.declared.parts.Parts.{Parts}
+use Rattle.lin_cluster.specs.Cluster.{nad, nodes, line_of}
 use Rattle.lin_core.specs.History.{Slot, open_slot}
 use Rattle.lin_core.specs.Links.{Link, same_dir, same_link, Message, host_of, Fate, nad_on, signs, heard_on, waits}
+use Rattle.lin_core.specs.Links.Sign.{Mark}
 use Rattle.lin_core.specs.Slots.{put, due_nodes, next_due}
 use Rattle.lin_core.specs.Replies.{refusal, put_event, done_events}
 use Rattle.lin_cluster.specs.Sound.{IsSound}
 use Rattle.lin_core.specs.declared.log.LogEntry.{LogEntry}
 use Rattle.lin_core.specs.declared.port.PortId.{PortId}
 use Rattle.lin_core.specs.declared.step.Step.{Step}
-use Rattle.lin_core.specs.declared.step.Step.TheVariants.{Send, Write, Open, Answer, Finish, Switch}
+use Rattle.lin_core.specs.declared.step.Step.TheVariants.{Send, Write, Open, Answer, Leave, Hurt, Finish, Timeout, Switch, AskSleep, Wake, Close}
 use Rattle.lin_core.specs.declared.event.Event.{Event}
 use Rattle.lin_core.specs.declared.event.Event.TheVariants.{Due, Put as PutEvent}
 use Rattle.lin_core.specs.declared.reply.Reply.TheVariants.{Done, Refused}
 use Rattle.lin_core.specs.declared.reply.Refusal.{Refusal}
+use Rattle.lin_core.specs.declared.link.Cause.TheVariants.{TimedOut}
 use Rattle.lin_core.specs.declared.link.Direction.{Direction}
 use Rattle.lin_core.specs.declared.link.Direction.TheVariants.{Down, Up}
 use Rattle.lin_transport.proofs.Frames.{and-false}
@@ -41,17 +45,18 @@ use Rattle.lin_core.specs.Links.{reading}
 use Rattle.lin_core.specs.Replies.{receiver_of}
 use Rattle.std.specs.List.{flat_map}
 use Rattle.lin_core.specs.Links.{Sending, sendings, fate_of}
-use Rattle.lin_core.specs.Replies.{report, reports, all_reports, new_messages, all_links, finish_events, quiet_entry}
+use Rattle.lin_core.specs.Replies.{report, reports, all_reports, new_messages, all_links, finish_events, quiet_entry, sleeps}
 use Rattle.lin_core.specs.History.{seen}
-use Rattle.lin_core.specs.declared.event.Event.TheVariants.{Message as MessageEvent, Seen as SeenEvent}
+use Rattle.lin_core.specs.declared.event.Event.TheVariants.{Message as MessageEvent, Asleep as SleepEvent, Seen as SeenEvent}
 use Rattle.lin_core.proofs.Fixed.{Grows, finish-grows}
 use Rattle.std.specs.Prelude.{filter_map}
 use Rattle.std.proofs.lemmas.List.{drop_at}
 use Rattle.std.proofs.lemmas.List.Elements.{filter_map-append}
 use Rattle.lin_core.specs.Reports.{message_for, TellsReading}
+use Rattle.lin_transport.specs.Transport.{pieces, messages_in}
 use Rattle.lin_core.specs.Replies.{link_at}
 use Rattle.lin_core.specs.History.{reply_events}
-use Rattle.lin_core.proofs.Tracks.{sent_of, if_sent}
+use Rattle.lin_core.proofs.Tracks.{sent_of, if_sent, reads-nothing}
 use Rattle.lin_core.proofs.Hosts.{on-append}
 use Rattle.lin_core.proofs.Reports.{flat-append, index-some}
 
@@ -133,6 +138,10 @@ no-seen : (l : Link) (o : Option Slot) → filter_map (message_for l) (choose o 
 no-seen l None = refl
 no-seen l (Some s) = refl
 
+no-sleep : (l : Link) (b : Bool) → filter_map (message_for l) (if b then SleepEvent ∷ [] else []) ≡ []
+no-sleep l true = refl
+no-sleep l false = refl
+
 no-report : (l : Link) (h n : ℕ) (b : Bool) (f : Fate) → filter_map (message_for l) (if b then report h n f else []) ≡ []
 no-report l h n true Waiting = refl
 no-report l h n true Sent = refl
@@ -152,9 +161,10 @@ finish-messages c port past l sound a =
     let e : LogEntry = quiet_entry port Finish
     in let A : List Event = choose (open_slot past) [] (λ s. SeenEvent (seen s) ∷ [])
     in let B : List Event = flat_map (new_messages c e past) (all_links c)
-    in filter_map-append (message_for l) (A ++ B) (all_reports c e past)
-    ∙ rw (no-all c e past l (numbers (nodes c)), filter_map-append (message_for l) A B, no-seen l (open_slot past), all-messages c e past l sound a)
-    (append-nil (new_for c e past l))
+    in let C : List Event = if sleeps past then SleepEvent ∷ [] else []
+    in filter_map-append (message_for l) ((A ++ B) ++ C) (all_reports c e past)
+    ∙ rw (no-all c e past l (numbers (nodes c)), filter_map-append (message_for l) (A ++ B) C, no-sleep l (sleeps past), filter_map-append (message_for l) A B, no-seen l (open_slot past), all-messages c e past l sound a)
+    (append-nil (new_for c e past l ++ []) ∙ append-nil (new_for c e past l))
 
 -- readings only grow, and by what is told
 grows-reading : (c : Parts) (past past' : List LogEntry) (l : Link) → is_some (nad c l.node) ≡ true → (k : Known c past) (k' : Known c past') (g : Grows (k.states (host_of l)) (k'.states (host_of l)))
@@ -170,6 +180,10 @@ grows-reading c past past' l a k k' g =
     = new ∙ ap (λ (ps : List (Message × Fate)). sent_of (on_link l ps)) g.is ∙ ap sent_of (on-append l s.done g.more) ∙ filter_map-append if_sent (on_link l s.done) (on_link l g.more)
     ∙ ap (λ (xs : List (List ℕ)). xs ++ more) (sym old)
     in e ∙ ap (λ (xs : List (List ℕ)). reading c past l ++ xs) (sym (ap (drop (length (reading c past l))) e ∙ drop_at (reading c past l) more (length (reading c past l)) refl))
+
+timeout-reading : (n : ℕ) (b : Bool) (heard : List Heard) → messages_in n (((if is_some (if b then Some (Mark TimedOut) else None) then Reset ∷ [] else []) ++ []) ++ heard) ≡ messages_in n heard
+timeout-reading n true heard = reads-nothing n (pieces heard) [] refl
+timeout-reading n false heard = refl
 
 no-due : (l : Link) (ns : List ℕ) → filter_map (message_for l) (map Due ns) ≡ []
 no-due l [] = refl
@@ -193,11 +207,18 @@ step-reading c opening capacity past port (Send from to message) l sound a k Non
 step-reading c opening capacity past port (Write by signal value) l sound a k None e = append-nil (reading c past l)
 step-reading c opening capacity past port Open l sound a k None e = let at : ℕ × ℕ = next_due c opening past in quiet-reading (reading c past l) _ (no-due l (due_nodes c past (line_of c at.0 at.1).entry))
 step-reading c opening capacity past port (Answer node) l sound a k None e = quiet-reading (reading c past l) _ (no-answer c past l node (open_slot past))
-step-reading c opening capacity past port (Switch table) l sound a k None e = append-nil (reading c past l)
+step-reading c opening capacity past port (Leave node) l sound a k None e = append-nil (reading c past l)
+step-reading c opening capacity past port (Hurt bytes) l sound a k None e = append-nil (reading c past l)
 step-reading c opening capacity past port Finish l sound a k None e =
     let k' : Known c (finish_entry port [] ∷ past) = finish-known c past port [] sound k (open_slot past) refl k.slot
     in let g : Grows (k.states (host_of l)) (k'.states (host_of l)) = finish-grows c past port [] sound k (open_slot past) refl k.slot (host_of l)
     in ap (λ (xs : List (List ℕ)). reading c past l ++ xs) (finish-messages c port past l sound a) ∙ sym (grows-reading c past (finish_entry port [] ∷ past) l a k k' g)
+step-reading c opening capacity past port (Timeout node dir) l sound a k None e =
+    quiet-reading (reading c past l) _ (no-all c (quiet_entry port (Timeout node dir)) past l (numbers (nodes c))) ∙ sym (timeout-reading (nad_on c l) (same_link l (record_of node dir)) (heard_on c past l))
+step-reading c opening capacity past port (Switch table) l sound a k None e = append-nil (reading c past l)
+step-reading c opening capacity past port AskSleep l sound a k None e = append-nil (reading c past l)
+step-reading c opening capacity past port Wake l sound a k None e = append-nil (reading c past l)
+step-reading c opening capacity past port (Close host) l sound a k None e = append-nil (reading c past l)
 
 pub tells-reading : (c : Parts) (opening capacity : ℕ) (steps : List (PortId × Step)) → IsSound c → (l : Link) → is_some (nad c l.node) ≡ true → TellsReading c (history c opening capacity steps) l
 unfolding reply

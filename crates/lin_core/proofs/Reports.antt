@@ -1,27 +1,28 @@
 -- Each fate is reported once.
+use Rattle.lin_cluster.specs.declared.parts.Node.{Node}
 use Rattle.std.proofs.Common.{◌≡◌, ◌≢◌, ℕ, zero, suc, ◌≤◌, ◌<◌, Bool, true, false, List, [], ◌∷◌, ◌++◌, length, map, refl, ap, sym, ◌∙◌, subst, arith, inl, inr, append_assoc}
 use Rattle.std.specs.Prelude.{Option, Some, None, ◌==◌, if◌then◌else◌, is_some, filter, nat_lt}
 use Rattle.std.proofs.lemmas.Bool.Decides.{eqb_tells, nat_tests}
 use Rattle.std.proofs.lemmas.Bool.{ne_eqb}
 use Rattle.std.proofs.lemmas.List.{append-nil}
 use Rattle.lin_frame.specs.Words.{choose, numbers}
-use Rattle.lin_cluster.specs.Cluster.{nodes, line_of}
 use Rattle.lin_cluster.specs.declared.parts.Parts.{Parts}
-use Rattle.lin_cluster.specs.declared.parts.Node.{Node}
-use Rattle.lin_core.specs.History.{Slot, open_slot}
-use Rattle.lin_core.specs.Links.{Link, link_of, Message, host_of, accepted_from, Sign, Fate, blocks, waits}
+use Rattle.lin_cluster.specs.Cluster.{nodes, line_of}
+use Rattle.lin_core.specs.History.{Slot, open_slot, hurt, asked}
+use Rattle.lin_core.specs.Links.{Link, same_link, link_of, Message, host_of, accepted_from, Sign, Fate, blocks, waits}
 use Rattle.lin_core.specs.Slots.{put, due_nodes, next_due}
-use Rattle.lin_core.specs.Replies.{refusal, put_event, opening_events, done_events}
+use Rattle.lin_core.specs.Replies.{refusal, refusals, put_event, opening_events, done_events}
 use Rattle.lin_cluster.specs.Sound.{IsSound}
 use Rattle.lin_core.specs.declared.log.LogEntry.{LogEntry}
 use Rattle.lin_core.specs.declared.port.PortId.{PortId}
 use Rattle.lin_core.specs.declared.step.Step.{Step}
-use Rattle.lin_core.specs.declared.step.Step.TheVariants.{Send, Write, Open, Answer, Finish, Switch}
+use Rattle.lin_core.specs.declared.step.Step.TheVariants.{Send, Write, Open, Answer, Leave, Hurt, Finish, Timeout, Switch, AskSleep, Wake, Close}
 use Rattle.lin_core.specs.declared.event.Event.{Event}
 use Rattle.lin_core.specs.declared.event.Event.TheVariants.{Due, Put as PutEvent}
 use Rattle.lin_cluster.specs.declared.parts.Entry.{Entry}
 use Rattle.lin_core.specs.declared.reply.Reply.TheVariants.{Done, Refused}
 use Rattle.lin_core.specs.declared.reply.Refusal.{Refusal}
+use Rattle.lin_core.specs.declared.link.Cause.TheVariants.{TimedOut}
 use Rattle.lin_core.specs.declared.link.Direction.{Direction}
 use Rattle.lin_core.specs.declared.link.Direction.TheVariants.{Down, Up}
 use Rattle.lin_core.proofs.Hosts.{HostState, IsLink, AllCanGo, message_of}
@@ -34,12 +35,12 @@ use Rattle.lin_core.specs.Links.Fate.{Waiting, Sent, Lost}
 use Rattle.lin_core.specs.Runs.{history}
 use Rattle.lin_core.proofs.Hosts.{AllDone}
 use Rattle.lin_core.proofs.Known.{SlotIs, Known}
-use Rattle.lin_core.proofs.Known.SlotIs.{closed, other, master, slave, carries}
+use Rattle.lin_core.proofs.Known.SlotIs.{closed, other, master, slave, sleep, carries}
 use Rattle.lin_core.proofs.Results.{outcomes}
 use Rattle.lin_core.specs.Replies.{reply}
 use Rattle.std.proofs.lemmas.List.{append_cancel_left}
 use Rattle.lin_core.proofs.Known.{finish-known}
-use Rattle.lin_core.proofs.Steps.{step-known, more_if}
+use Rattle.lin_core.proofs.Steps.{step-known, none-of, more_if}
 use Rattle.lin_core.proofs.Results.{waiting_one}
 use Rattle.lin_core.proofs.Ends.{Held, held-now}
 use Rattle.std.specs.Prelude.{zip, slice_index_or, drop}
@@ -48,12 +49,12 @@ use Rattle.lin_core.specs.Replies.{receiver_of}
 use Rattle.std.specs.List.{flat_map}
 use Rattle.lin_core.specs.Reports.{is_report, reported, numbered, ReportsFates}
 use Rattle.lin_core.specs.Links.{Sending, sendings, sendings_from, fate_of}
-use Rattle.lin_core.specs.Replies.{report, reports, all_reports, new_messages, all_links, finish_events, quiet_entry}
+use Rattle.lin_core.specs.Replies.{report, reports, all_reports, new_messages, all_links, finish_events, quiet_entry, sleeps}
 use Rattle.lin_core.specs.History.{seen}
-use Rattle.lin_core.specs.declared.event.Event.TheVariants.{Message as MessageEvent, Seen as SeenEvent}
+use Rattle.lin_core.specs.declared.event.Event.TheVariants.{Message as MessageEvent, Asleep as SleepEvent, Seen as SeenEvent}
 use Rattle.lin_core.proofs.Hosts.{outcome, sending_at}
-use Rattle.lin_core.proofs.Steps.{start-known}
-use Rattle.lin_core.proofs.Fixed.{Grows, finish-grows, waiting-messages}
+use Rattle.lin_core.proofs.Steps.{start-known, timeout-known, is_open-false}
+use Rattle.lin_core.proofs.Fixed.{Grows, finish-grows, marked-grows, waiting-messages}
 
 -- the reports that changed fates make
 abbrev changed : ℕ → ℕ → List (Message × Fate) → List (Message × Fate) → List Event
@@ -97,7 +98,7 @@ numbered-waiting : (h k : ℕ) (ms : List Message) → numbered h k (map waiting
 numbered-waiting h k [] = refl
 numbered-waiting h k (m ∷ ms) = numbered-waiting h (suc k) ms
 
--- what the reports of a finish are
+-- what the reports of a finish or a timeout are
 pub reports-are : (c : Parts) (e : LogEntry) (past : List LogEntry) (h : ℕ) → IsSound c → (k : Known c past) (k' : Known c (e ∷ past)) (g : Grows (k.states h) (k'.states h))
     → accepted_from (e ∷ past) h ≡ accepted_from past h → reports c e past h ≡ numbered h (ahead 1 (k.states h).done) g.more
 reports-are c e past h sound k k' g same =
@@ -126,12 +127,12 @@ reports-are c e past h sound k k' g same =
 told-own : (h n : ℕ) (f : Fate) → filter (is_report h) (report h n f) ≡ report h n f
 told-own h n Waiting = refl
 told-own h n Sent = let t : (h == h) ≡ true = grind (arith, nat_tests) in rw t
-told-own h n (Lost cause) = refl
+told-own h n (Lost cause) = let t : (h == h) ≡ true = grind (arith, nat_tests) in rw t
 
 told-other : (h x n : ℕ) (f : Fate) → x ≢ h → filter (is_report h) (report x n f) ≡ []
 told-other h x n Waiting d = refl
 told-other h x n Sent d = rw (ne_eqb x h d)
-told-other h x n (Lost cause) d = refl
+told-other h x n (Lost cause) d = rw (ne_eqb x h d)
 
 if-own : (b : Bool) (h n : ℕ) (f : Fate) → filter (is_report h) (if b then report h n f else []) ≡ (if b then report h n f else [])
 if-own true h n f = told-own h n f
@@ -212,14 +213,18 @@ none-messages : (c : Parts) (h : ℕ) (e : LogEntry) (past : List LogEntry) (ls 
 none-messages c h e past [] = refl
 none-messages c h e past (l ∷ ls) = filter-append (is_report h) (new_messages c e past l) (flat_map (new_messages c e past) ls) ∙ rw (none-message h (host_of l) (receiver_of l.dir l.node) (drop (length (reading c past l)) (reading c (e ∷ past) l))) (none-messages c h e past ls)
 
-three : (h : ℕ) (a b d : List Event) → filter (is_report h) a ≡ [] → filter (is_report h) b ≡ [] → filter (is_report h) ((a ++ b) ++ d) ≡ filter (is_report h) d
-three h a b d p q = rw (filter-append (is_report h) (a ++ b) d, filter-append (is_report h) a b, p, q)
+none-sleep : (h : ℕ) (b : Bool) → filter (is_report h) (if b then SleepEvent ∷ [] else []) ≡ []
+none-sleep h true = refl
+none-sleep h false = refl
+
+four : (h : ℕ) (a b d e : List Event) → filter (is_report h) a ≡ [] → filter (is_report h) b ≡ [] → filter (is_report h) d ≡ [] → filter (is_report h) (((a ++ b) ++ d) ++ e) ≡ filter (is_report h) e
+four h a b d e p q r = rw (filter-append (is_report h) ((a ++ b) ++ d) e, filter-append (is_report h) (a ++ b) d, filter-append (is_report h) a b, p, q, r)
 
 finish-only : (c : Parts) (port : PortId) (past : List LogEntry) (h : ℕ) → filter (is_report h) (finish_events c port past) ≡ filter (is_report h) (all_reports c (quiet_entry port Finish) past)
 finish-only c port past h =
     let e : LogEntry = quiet_entry port Finish
-    in three h (choose (open_slot past) [] (λ s. SeenEvent (seen s) ∷ [])) (flat_map (new_messages c e past) (all_links c)) (all_reports c e past)
-    (none-seen h (open_slot past)) (none-messages c h e past (all_links c))
+    in four h (choose (open_slot past) [] (λ s. SeenEvent (seen s) ∷ [])) (flat_map (new_messages c e past) (all_links c)) (if sleeps past then SleepEvent ∷ [] else []) (all_reports c e past)
+    (none-seen h (open_slot past)) (none-messages c h e past (all_links c)) (none-sleep h (sleeps past))
 
 none-due : (h : ℕ) (ns : List ℕ) → filter (is_report h) (map Due ns) ≡ []
 none-due h [] = refl
@@ -233,12 +238,14 @@ none-answer : (c : Parts) (past : List LogEntry) (h node : ℕ) (o : Option Slot
 none-answer c past h node None = refl
 none-answer c past h node (Some s) = none-put h node s.header (λ x. put c past (line_of c s.table s.entry).entry x node)
 
-finish-same : (c : Parts) (past : List LogEntry) (port : PortId) (es : List Event) (sound : IsSound c) (k : Known c past) (o : Option Slot) (is : open_slot past ≡ o) (shape : SlotIs c k.states o) (x : ℕ)
+finish-same : (c : Parts) (past : List LogEntry) (port : PortId) (es : List Event) (sound : IsSound c) (k : Known c past) (o : Option Slot) (is : open_slot past ≡ o) (shape : SlotIs c (asked past) k.states o) (x : ℕ)
     → (finish-known c past port es sound k o is shape).states x ≡ (finish-known c past port [] sound k o is shape).states x
 finish-same c past port es sound k None is closed x = refl
 finish-same c past port es sound k (Some _) is (other s p q) x = refl
 finish-same c past port es sound k (Some _) is (master table entry due left hurt line only w) x = refl
 finish-same c past port es sound k (Some _) is (slave table entry due left hurt h line only w) x = refl
+finish-same c past port es sound k (Some _) is (sleep table entry due left true only) x = refl
+finish-same c past port es sound k (Some _) is (sleep table entry due left false only) x = refl
 finish-same c past port es sound k (Some _) is (carries table entry due left hurt h m ms j only host r n) x = refl
 
 quiet-told : (past : List LogEntry) (h : ℕ) (es ns : List Event) → filter (is_report h) es ≡ [] → reported past h ≡ ns → reported past h ++ filter (is_report h) es ≡ ns
@@ -259,13 +266,24 @@ step-told c opening capacity past port (Send from to message) sound k None e p h
 step-told c opening capacity past port (Write by signal value) sound k None e p h = append-nil (reported past h) ∙ p h
 step-told c opening capacity past port Open sound k None e p h = let at : ℕ × ℕ = next_due c opening past in let kind : Entry = (line_of c at.0 at.1).entry in quiet-told past h (opening_events c opening past) _ (none-due h (due_nodes c past kind)) (p h)
 step-told c opening capacity past port (Answer node) sound k None e p h = quiet-told past h (choose (open_slot past) [] (put_event c past node)) _ (none-answer c past h node (open_slot past)) (p h)
-step-told c opening capacity past port (Switch table) sound k None e p h = append-nil (reported past h) ∙ p h
+step-told c opening capacity past port (Leave node) sound k None e p h = append-nil (reported past h) ∙ p h
+step-told c opening capacity past port (Hurt bytes) sound k None e p h = append-nil (reported past h) ∙ p h
 step-told c opening capacity past port Finish sound k None e p h =
     let k' : Known c (finish_entry port [] ∷ past) = finish-known c past port [] sound k (open_slot past) refl k.slot
     in let g : Grows (k.states h) (k'.states h) = finish-grows c past port [] sound k (open_slot past) refl k.slot h
     in grown-told h (k.states h) (k'.states h) (reported past h) (filter (is_report h) (finish_events c port past)) g (p h)
     (finish-only c port past h ∙ all-own c (quiet_entry port Finish) past h k ∙ reports-are c (quiet_entry port Finish) past h sound k k' g refl)
     ∙ ap (λ (s : HostState). numbered h 1 s.done) (sym (finish-same c past port (done_events c opening past port Finish) sound k (open_slot past) refl k.slot h))
+step-told c opening capacity past port (Timeout node dir) sound k None e p h =
+    let none = is_open-false (open_slot past) (none-of (refusals c capacity past port (Timeout node dir)) e).1.0
+    in let k' : Known c (quiet_entry port (Timeout node dir) ∷ past) = timeout-known c past port node dir [] none k
+    in let g : Grows (k.states h) (k'.states h) = marked-grows (λ l. same_link l (record_of node dir)) TimedOut (k.states h).done (k.states h).rest (k.states h).count
+    in grown-told h (k.states h) (k'.states h) (reported past h) (filter (is_report h) (all_reports c (quiet_entry port (Timeout node dir)) past)) g (p h)
+    (all-own c (quiet_entry port (Timeout node dir)) past h k ∙ reports-are c (quiet_entry port (Timeout node dir)) past h sound k k' g refl)
+step-told c opening capacity past port (Switch table) sound k None e p h = append-nil (reported past h) ∙ p h
+step-told c opening capacity past port AskSleep sound k None e p h = append-nil (reported past h) ∙ p h
+step-told c opening capacity past port Wake sound k None e p h = append-nil (reported past h) ∙ p h
+step-told c opening capacity past port (Close host) sound k None e p h = append-nil (reported past h) ∙ p h
 
 record Told (c : Parts) (past : List LogEntry) : Type 0 where
   known : Known c past

@@ -256,14 +256,15 @@ false-by true never = absurd (never refl)
 false-by false never = refl
 
 -- a slot that was seen good has one response
-good-of : (h : Option ℕ) (ps : List Put) → is_some (good_bytes (seen_by h (map put_in ps) false)) ≡ true → (p : Put) × (ps ≡ p ∷ [])
-good-of None ps e = cc
-good-of (Some h) [] e = cc
-good-of (Some h) (p ∷ []) e = (p, refl)
-good-of (Some h) (p ∷ q ∷ ps) e = cc
+good-of : (h : Option ℕ) (ps : List Put) (hurt : Bool) → is_some (good_bytes (seen_by h (map put_in ps) hurt)) ≡ true → (p : Put) × (ps ≡ p ∷ [])
+good-of None ps hurt e = cc
+good-of (Some h) [] hurt e = cc
+good-of (Some h) (p ∷ []) true e = cc
+good-of (Some h) (p ∷ []) false e = (p, refl)
+good-of (Some h) (p ∷ q ∷ ps) hurt e = cc
 
 pub good-one : (slot : OpenSlot) → is_some (good (slot_in slot)) ≡ true → (p : Put) × (slot.puts.items ≡ p ∷ [])
-good-one slot e = good-of slot.header slot.puts.items e
+good-one slot e = good-of slot.header slot.puts.items slot.hurt e
 
 only-cleared : (ps : List Put) (p : Put) (f : ℕ) → ps ≡ p ∷ [] → is_cleared ps f ≡ true → choose p.cleared false (λ g. g == f) ≡ true
 only-cleared ps p f e h = sym (or-false (choose p.cleared false (λ g. g == f))) ∙ (let t : is_cleared (p ∷ []) f ≡ true = rw e at h in t)

@@ -7,7 +7,7 @@ use Rattle.lin_core.specs.Runs.{history, steps_of}
 use Rattle.lin_core.specs.declared.log.LogEntry.{LogEntry}
 use Rattle.lin_core.specs.declared.port.PortId.{PortId}
 use Rattle.lin_core.specs.declared.step.Step.{Step}
-use Rattle.lin_core.specs.declared.step.Step.TheVariants.{Send, Write, Open, Answer, Finish, Switch}
+use Rattle.lin_core.specs.declared.step.Step.TheVariants.{Send, Write, Open, Answer, Leave, Hurt, Finish, Timeout, Switch, AskSleep, Wake, Close}
 use Rattle.lin_core.specs.declared.hold.Hold.{Hold}
 use Rattle.lin_core.specs.declared.hold.Hold.TheVariants.{LogFull, OutOfMemory}
 
@@ -41,8 +41,14 @@ IsSmall (Send from to message) = ⊤
 IsSmall (Write by signal value) = ⊤
 IsSmall Open = ⊥
 IsSmall (Answer node) = ⊤
+IsSmall (Leave node) = ⊤
+IsSmall (Hurt bytes) = ⊥
 IsSmall Finish = ⊥
+IsSmall (Timeout node dir) = ⊥
 IsSmall (Switch table) = ⊥
+IsSmall AskSleep = ⊥
+IsSmall Wake = ⊥
+IsSmall (Close host) = ⊤
 
 -- the step that is handed back
 abbrev pub step_of : Hold → Step

@@ -1,5 +1,5 @@
--- What a slot is for, by what is kept: the words of the definitions of slots, over the frames that are kept as pending and whether a message of
--- the commander's host waits.
+-- What a slot is for, by what is kept: the words of the definitions of slots, over the frames that are kept as pending, whether the commander
+-- has something to request, and the responder that is due in a slave response.
 use Rattle.std.specs.Prelude.{ℕ, ◌<◌, ◌==◌, ◌&&◌, Bool, false, if◌then◌else◌, List, length, find, slice_index_or, Option, Some, None, is_some, option_map, IfSome}
 use Rattle.std.specs.List.{list_any}
 use Rattle.lin_frame.specs.Words.{choose}
@@ -37,13 +37,13 @@ header_of c waits MasterReqDue = if waits then Some 0x3C else None
 header_of c waits SlaveRespDue = Some 0x7D
 header_of c waits QuietDue = None
 
-abbrev pub is_due_of : Parts → List Bool → Bool → Due → ℕ → Bool
-is_due_of c flags waits (FrameDue f) n = n == (frame_of c f).publisher
-is_due_of c flags waits (SporadicDue o) n = n == 0 && is_some o
-is_due_of c flags waits (EventDue e) n = list_any (λ f. n == (frame_of c f).publisher && slice_index_or flags f false) (event_of c e).frames
-is_due_of c flags waits MasterReqDue n = n == 0 && waits
-is_due_of c flags waits SlaveRespDue n = false
-is_due_of c flags waits QuietDue n = false
+abbrev pub is_due_of : Parts → List Bool → Bool → Option ℕ → Due → ℕ → Bool
+is_due_of c flags waits responder (FrameDue f) n = n == (frame_of c f).publisher
+is_due_of c flags waits responder (SporadicDue o) n = n == 0 && is_some o
+is_due_of c flags waits responder (EventDue e) n = list_any (λ f. n == (frame_of c f).publisher && slice_index_or flags f false) (event_of c e).frames
+is_due_of c flags waits responder MasterReqDue n = n == 0 && waits
+is_due_of c flags waits responder SlaveRespDue n = choose responder false (λ k. n == k)
+is_due_of c flags waits responder QuietDue n = false
 
 -- the frame that a node's response carries in a slot for an entry, under its header
 abbrev pub frame_by : Parts → Entry → ℕ → ℕ → Option ℕ

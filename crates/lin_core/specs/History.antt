@@ -8,7 +8,7 @@ use Rattle.lin_cluster.specs.Cluster.{line_of}
 use Rattle.lin_cluster.specs.declared.parts.Parts.{Parts}
 use Rattle.lin_core.specs.declared.log.LogEntry.{LogEntry}
 use Rattle.lin_core.specs.declared.step.Step.{Step}
-use Rattle.lin_core.specs.declared.step.Step.TheVariants.{Open, Answer, Finish}
+use Rattle.lin_core.specs.declared.step.Step.TheVariants.{Open, Answer, Leave, Hurt, Finish, AskSleep, Wake, Close}
 use Rattle.lin_core.specs.declared.event.Event.{Event}
 use Rattle.lin_core.specs.declared.event.Event.TheVariants.{Slot as SlotEvent, Due, Put}
 use Rattle.lin_core.specs.declared.reply.Reply.{Reply}
@@ -56,10 +56,20 @@ abbrev pub told_all : List Event → Slot → Slot
 told_all [] s = s
 told_all (e ∷ es) s = told_all es (told e s)
 
+-- a node leaves its response out
+abbrev pub leave : ℕ → Slot → Slot
+leave node s = record s { left = s.left ++ node ∷ [] }
+
+-- the response is disturbed
+abbrev pub hurt : Slot → Slot
+hurt s = record s { hurt = true }
+
 -- the slot that is open after a step that was done, by the one that was open before it
 abbrev pub slot_after : Step → List Event → Option Slot → Option Slot
 slot_after Open es s = Some (told_all es no_slot)
 slot_after (Answer node) es s = option_map (told_all es) s
+slot_after (Leave node) es s = option_map (leave node) s
+slot_after (Hurt bytes) es s = option_map hurt s
 slot_after Finish es s = None
 slot_after step es s = s
 
@@ -100,6 +110,18 @@ abbrev pub is_finish : Step → Bool
 is_finish Finish = true
 is_finish step = false
 
+abbrev pub is_wake : Step → Bool
+is_wake Wake = true
+is_wake step = false
+
+abbrev pub is_ask_sleep : Step → Bool
+is_ask_sleep AskSleep = true
+is_ask_sleep step = false
+
+abbrev pub is_close_of : ℕ → Step → Bool
+is_close_of h (Close host) = host == h
+is_close_of h step = false
+
 -- the slot that the newest entry finishes, if it is a finish that was done
 abbrev pub finished : LogEntry → List LogEntry → Option Slot
 finished e past = choose (done e) None (λ step. if is_finish step then open_slot past else None)
@@ -122,6 +144,21 @@ is_sleep_slot s = choose (good_under 0x3C s) false (λ bytes. slice_index bytes 
 
 abbrev pub is_sleep_mark : LogEntry → List LogEntry → Bool
 is_sleep_mark e past = choose (finished e past) false is_sleep_slot
+
+-- whether the cluster is asleep: a sleep mark stands with no later wake that was done
+abbrev pub asleep : List LogEntry → Bool
+asleep [] = false
+asleep (e ∷ past) = if is_sleep_mark e past then true else if did is_wake e then false else asleep past
+
+-- whether sleep is asked: an ask for it that was done stands after the last sleep mark
+abbrev pub asked : List LogEntry → Bool
+asked [] = false
+asked (e ∷ past) = if is_sleep_mark e past then false else if did is_ask_sleep e then true else asked past
+
+-- whether a host is closed: a close of it that was done stands in the history
+abbrev pub closed : List LogEntry → ℕ → Bool
+closed [] h = false
+closed (e ∷ past) h = if did (is_close_of h) e then true else closed past h
 
 -- the delays of all finished slots, added up, in microseconds
 abbrev pub time : Parts → List LogEntry → ℕ

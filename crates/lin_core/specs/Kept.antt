@@ -6,7 +6,7 @@ use Rattle.lin_frame.specs.Bits.{fits_place}
 use Rattle.lin_frame.specs.declared.value.Value.{Value}
 use Rattle.lin_cluster.specs.Cluster.{nodes, signal_of, frame_of, line_of}
 use Rattle.lin_cluster.specs.declared.parts.Entry.{Entry}
-use Rattle.lin_cluster.specs.declared.parts.Entry.TheVariants.{MasterReq}
+use Rattle.lin_cluster.specs.declared.parts.Entry.TheVariants.{MasterReq, SlaveResp}
 use Rattle.lin_cluster.specs.Rules.{place_at}
 use Rattle.lin_cluster.specs.declared.parts.Parts.{Parts}
 use Rattle.lin_schedule.specs.Walker.{Position, Stands, Walks, HasEntry}
@@ -18,7 +18,6 @@ use Rattle.lin_core.specs.Slots.{moves}
 use Rattle.lin_core.specs.declared.log.LogEntry.{LogEntry}
 use Rattle.lin_core.specs.declared.step.Step.{Step}
 use Rattle.lin_core.specs.declared.step.Step.TheVariants.{Send}
-use Rattle.lin_core.specs.declared.link.Direction.TheVariants.{Down}
 use Rattle.lin_core.specs.declared.slot.OpenSlot.{OpenSlot}
 use Rattle.lin_core.specs.declared.slot.Put.{Put}
 use Rattle.lin_core.specs.declared.host.Host.{Host}
@@ -29,7 +28,7 @@ abbrev pub put_in : Put → ℕ × List ℕ
 put_in p = (p.node, p.answer)
 
 abbrev pub slot_in : OpenSlot → Slot
-slot_in s = record { table = s.table; entry = s.entry; header = s.header; due = s.due.items; puts = map put_in s.puts.items; left = []; hurt = false }
+slot_in s = record { table = s.table; entry = s.entry; header = s.header; due = s.due.items; puts = map put_in s.puts.items; left = s.left.items; hurt = s.hurt }
 
 -- a slot that opens under a header, with these nodes due
 abbrev pub begun : ℕ → ℕ → Option ℕ → List ℕ → Slot
@@ -80,16 +79,16 @@ pub record KeepsSignals (c : Parts) (past : List LogEntry) (slot : Option OpenSl
   pub room_empty : signals.room.items ≡ []
   pub room_enough : (f : ℕ) → f < length c.frames → length (frame_of c f).signals ≤ vec_capacity signals.room
 
--- what a node's response is in a slot for an entry: one with a frame of signals, or the commander's under the header of a master request
+-- what a node's response is in a slot for an entry: one with a frame of signals, or one with a frame of a message
 abbrev pub CanAnswer : Parts → Entry → Option ℕ → ℕ → Type 0
-CanAnswer c entry header n = (h : ℕ) × (header ≡ Some h) × (((f : ℕ) × (frame_by c entry h n ≡ Some f)) ⊎ ((entry ≡ MasterReq) × (h ≡ 0x3C)))
+CanAnswer c entry header n = (h : ℕ) × (header ≡ Some h) × (((f : ℕ) × (frame_by c entry h n ≡ Some f)) ⊎ (((entry ≡ MasterReq) × (h ≡ 0x3C)) ⊎ ((entry ≡ SlaveResp) × (h ≡ 0x7D))))
 
 -- an open slot is one of the cluster's schedule, those that are due can answer, and there is room for the responses that are left
 pub record IsOpen (c : Parts) (s : OpenSlot) : Type 0 where
   pub there : HasEntry c (s.table, s.entry)
   pub request : header_is 0x3C s.header ≡ true → (line_of c s.table s.entry).entry ≡ MasterReq
   pub answers : (n : ℕ) → is_in s.due.items n ≡ true → CanAnswer c (line_of c s.table s.entry).entry s.header n
-  pub room : length s.puts.items + length (filter (λ n. not (has_decided (slot_in s) n)) s.due.items) ≤ 16
+  pub room : length s.puts.items + length s.left.items + length (filter (λ n. not (has_decided (slot_in s) n)) s.due.items) ≤ 16
 
 abbrev pub IsThere : Parts → Option OpenSlot → Type 0
 IsThere c None = ⊤
@@ -112,21 +111,3 @@ pub record Keeps (c : Parts) (opening capacity : ℕ) (log past : List LogEntry)
   pub hosts_count : length hosts ≡ nodes c
   pub each_host : (h : ℕ) (host : Host) → slice_get hosts h ≡ Some host → KeepsHost c capacity log past h host
   pub signals_are : KeepsSignals c past slot signals
-
--- there is a message, down to a node that has an address, and one frame carries it
-pub record CanPut (c : Parts) (o : Option Message) : Type 0 where
-  pub message : Message
-  pub is : o ≡ Some message
-  pub down : message.link.dir ≡ Down
-  pub node : message.link.node < nodes c
-  pub some : 1 ≤ length message.bytes
-  pub few : length message.bytes ≤ 6
-
--- whether something was put in the open slot
-abbrev pub has_some : List (ℕ × List ℕ) → Bool
-has_some [] = false
-has_some (p ∷ ps) = true
-
--- whether the open slot carries a frame of a message: a response under the header of a master request
-abbrev pub is_carrying : List LogEntry → Bool
-is_carrying past = choose (open_slot past) false (λ s. header_is 0x3C s.header && has_some s.puts)

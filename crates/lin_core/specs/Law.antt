@@ -1,10 +1,13 @@
 -- The laws that hold of every history of a cluster.
-use Rattle.std.specs.Prelude.{◌≡◌, ℕ, ⊤, Bool, true, false, ◌&&◌, List, [], ◌∷◌, ◌++◌, map, filter}
+use Rattle.std.specs.Prelude.{◌≡◌, ℕ, ◌==◌, ⊤, Bool, true, false, ◌&&◌, ◌||◌, not, List, [], ◌∷◌, ◌++◌, map, filter}
 use Rattle.lin_transport.specs.Transport.{frames}
 use Rattle.lin_cluster.specs.declared.parts.Parts.{Parts}
+use Rattle.lin_core.specs.History.{did, closed, is_sleep_mark}
 use Rattle.lin_core.specs.Links.{Link, same_link, host_of, Sign, Fate, fate, is_waiting, frames_of, Message, Sending, sendings, fate_of, reading, waiting, accepted}
 use Rattle.lin_core.specs.Links.Fate.{Waiting, Sent, Lost}
 use Rattle.lin_core.specs.declared.log.LogEntry.{LogEntry}
+use Rattle.lin_core.specs.declared.step.Step.{Step}
+use Rattle.lin_core.specs.declared.step.Step.TheVariants.{Send, Hurt, Timeout}
 
 abbrev pub is_sent : Fate → Bool
 is_sent Sent = true
@@ -39,6 +42,26 @@ abbrev pub Stays : List (Message × Fate) → List (Message × Fate) → Type 0
 Stays [] ys = ⊤
 Stays (x ∷ xs) [] = ⊥
 Stays (x ∷ xs) (y ∷ ys) = (y.0 ≡ x.0) × (is_waiting x.1 ≡ false → y.1 ≡ x.1) × Stays xs ys
+
+-- whether a step sends a message of a host
+abbrev pub is_send_of : ℕ → Step → Bool
+is_send_of h (Send from to message) = from == h
+is_send_of h step = false
+
+-- where a send of a host is done, no close of it was done before
+abbrev pub NoSendAfterClose : LogEntry → List LogEntry → ℕ → Type 0
+NoSendAfterClose e past h = did (is_send_of h) e ≡ true → closed past h ≡ false
+
+-- whether a step disturbs a slot or a transfer
+abbrev pub is_disturbing : Step → Bool
+is_disturbing (Hurt bytes) = true
+is_disturbing (Timeout node dir) = true
+is_disturbing step = false
+
+-- a history with no done hurt, no done timeout and no sleep mark
+abbrev pub is_calm : List LogEntry → Bool
+is_calm [] = true
+is_calm (e ∷ past) = not (is_sleep_mark e past || did is_disturbing e) && is_calm past
 
 -- no message is lost
 abbrev pub NoneLost : List (Message × Fate) → Type 0

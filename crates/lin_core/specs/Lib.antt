@@ -14,5 +14,7 @@ pub mod Core
 pub mod Hosts
 pub mod Dues
 pub mod Kept
+pub mod KeptLate
 pub mod Whole
 pub mod Fits
+pub mod Loads

@@ -8,14 +8,14 @@ use Rattle.lin_transport.specs.Transport.{frames, begins, Heard, messages_in}
 use Rattle.lin_transport.specs.Transport.Heard.{Frame, Reset}
 use Rattle.lin_cluster.specs.Cluster.{nad}
 use Rattle.lin_cluster.specs.declared.parts.Parts.{Parts}
-use Rattle.lin_core.specs.History.{Slot, open_slot, finished, done, seen, good_under, header_is, is_sleep_mark}
+use Rattle.lin_core.specs.History.{Slot, open_slot, finished, done, did, seen, good_under, header_is, is_sleep_mark}
 use Rattle.lin_core.specs.declared.log.LogEntry.{LogEntry}
 use Rattle.lin_core.specs.declared.step.Step.{Step}
-use Rattle.lin_core.specs.declared.step.Step.TheVariants.{Send}
+use Rattle.lin_core.specs.declared.step.Step.TheVariants.{Send, Timeout}
 use Rattle.lin_core.specs.declared.link.Direction.{Direction}
 use Rattle.lin_core.specs.declared.link.Direction.TheVariants.{Down, Up}
 use Rattle.lin_core.specs.declared.link.Cause.{Cause}
-use Rattle.lin_core.specs.declared.link.Cause.TheVariants.{Damaged, Slept}
+use Rattle.lin_core.specs.declared.link.Cause.TheVariants.{Damaged, TimedOut, Slept}
 use Rattle.lin_core.specs.declared.event.Seen.{Seen}
 use Rattle.lin_core.specs.declared.event.Seen.TheVariants.{Good, Damaged as SeenDamaged}
 
@@ -81,9 +81,13 @@ put_by Up node k s =
 abbrev pub put_on : Parts → Link → Slot → Option (List ℕ)
 put_on c l s = put_by l.dir l.node (nad c l.node) s
 
+abbrev pub is_timeout_of : Link → Step → Bool
+is_timeout_of l (Timeout node dir) = same_link l (record { node = node; dir = dir })
+is_timeout_of l step = false
+
 -- the mark that an entry leaves on a link
 abbrev pub mark : Link → LogEntry → List LogEntry → Option Sign
-mark l e past = if is_sleep_mark e past then Some (Mark Slept) else None
+mark l e past = if is_sleep_mark e past then Some (Mark Slept) else if did (is_timeout_of l) e then Some (Mark TimedOut) else None
 
 -- what an entry adds to a link: the frame of the slot that it finishes, and then its mark
 abbrev pub signs_at : Parts → Link → LogEntry → List LogEntry → List Sign

@@ -4,7 +4,7 @@ use Rattle.lin_cluster.specs.Cluster.{nad}
 use Rattle.lin_cluster.specs.declared.parts.Parts.{Parts}
 use Rattle.lin_core.specs.Defined.{AreDefined}
 use Rattle.lin_core.specs.History.{events}
-use Rattle.lin_core.specs.Law.{InOrder, NoneLost, ReadsAll, ReadsSent, Stays, outcomes_of}
+use Rattle.lin_core.specs.Law.{InOrder, NoneLost, NoSendAfterClose, ReadsAll, ReadsSent, Stays, is_calm, outcomes_of}
 use Rattle.lin_core.specs.Links.{Link, accepted, blocks, nad_on}
 use Rattle.lin_core.specs.Reports.{ReportsFates, TellsReading}
 use Rattle.lin_core.specs.declared.log.LogEntry.{LogEntry}
@@ -34,7 +34,12 @@ abbrev pub CarriesFrames : Parts → ℕ → List LogEntry → Type 0
 CarriesFrames c opening [] = ⊤
 CarriesFrames c opening (e ∷ past) = AreDefined c opening past (events e) × CarriesFrames c opening past
 
--- lossless runs deliver everything: no step disturbs a slot, so no message is lost, and where nothing of a host waits, all
--- that was accepted from it was read
+-- nothing accepted after close: where a send of a host is done, no close of it was done before
+abbrev pub StaysClosed : List LogEntry → Type 0
+StaysClosed [] = ⊤
+StaysClosed (e ∷ past) = ((h : ℕ) → NoSendAfterClose e past h) × StaysClosed past
+
+-- lossless runs deliver everything: where no hurt and no timeout was done and there is no sleep mark, no message is lost, and where nothing
+-- of a host waits, all that was accepted from it was read
 abbrev pub LosesNothing : Parts → List LogEntry → Type 0
-LosesNothing c past = ((h : ℕ) → NoneLost (outcomes_of c past h)) × ((l : Link) → is_some (nad c l.node) ≡ true → ReadsAll c past l)
+LosesNothing c past = is_calm past ≡ true → ((h : ℕ) → NoneLost (outcomes_of c past h)) × ((l : Link) → is_some (nad c l.node) ≡ true → ReadsAll c past l)

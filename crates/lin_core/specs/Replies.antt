@@ -1,25 +1,27 @@
 -- What each step is answered.
-use Rattle.std.specs.Prelude.{ℕ, suc, ◌==◌, nat_le, nat_lt, Bool, true, false, ◌&&◌, ◌||◌, not, if◌then◌else◌, List, [], ◌∷◌, ◌++◌, map, find, flat_map, zip, length, drop, Option, is_some, option_map, filter}
+use Rattle.std.specs.Prelude.{ℕ, suc, ◌-◌, ◌==◌, nat_le, nat_lt, Bool, true, false, ◌&&◌, ◌||◌, not, if◌then◌else◌, List, [], ◌∷◌, ◌++◌, map, find, flat_map, zip, length, drop, Option, Some, None, is_some, is_none, option_map, filter}
+use Rattle.std.specs.List.{list_any}
 use Rattle.lin_frame.specs.Words.{numbers, choose}
+use Rattle.lin_frame.specs.Frame.{is_answer}
 use Rattle.lin_frame.specs.Bits.{fits_place}
 use Rattle.lin_cluster.specs.Cluster.{nodes, nad, line_of, signal_of}
 use Rattle.lin_cluster.specs.Rules.{place_at}
 use Rattle.lin_cluster.specs.declared.parts.Parts.{Parts}
-use Rattle.lin_core.specs.History.{Slot as OpenSlot, open_slot, seen, is_in, has_decided}
-use Rattle.lin_core.specs.Links.{Link, Sending, Fate, accepted_from, host_of, waiting, sendings, fate_of, waits, reading}
+use Rattle.lin_core.specs.History.{Slot as OpenSlot, open_slot, asleep, closed, seen, is_in, is_sleep_slot, has_decided}
+use Rattle.lin_core.specs.Links.{Link, Sending, Fate, accepted_from, host_of, same_link, waiting, begun, sendings, fate_of, waits, reading}
 use Rattle.lin_core.specs.Links.Fate.{Waiting, Sent as IsSent, Lost as IsLost}
-use Rattle.lin_core.specs.Slots.{next_due, header, due_nodes, put}
+use Rattle.lin_core.specs.Slots.{next_due, header, due_nodes, put, model_of}
 use Rattle.lin_core.specs.declared.log.LogEntry.{LogEntry}
 use Rattle.lin_core.specs.declared.port.PortId.{PortId}
 use Rattle.lin_core.specs.declared.port.PortId.TheVariants.{Bus, Host, Node}
 use Rattle.lin_core.specs.declared.link.Direction.{Direction}
 use Rattle.lin_core.specs.declared.link.Direction.TheVariants.{Down, Up}
 use Rattle.lin_core.specs.declared.step.Step.{Step}
-use Rattle.lin_core.specs.declared.step.Step.TheVariants.{Send, Write, Open, Answer, Finish, Switch}
+use Rattle.lin_core.specs.declared.step.Step.TheVariants.{Send, Write, Open, Answer, Leave, Hurt, Finish, Timeout, Switch, AskSleep, Wake, Close}
 use Rattle.lin_core.specs.declared.event.Event.{Event}
-use Rattle.lin_core.specs.declared.event.Event.TheVariants.{Accepted, Slot, Due, Put, Seen, Message, Sent}
+use Rattle.lin_core.specs.declared.event.Event.TheVariants.{Accepted, Slot, Due, Put, Seen, Message, Sent, Lost, Asleep as SleepEvent}
 use Rattle.lin_core.specs.declared.reply.Refusal.{Refusal}
-use Rattle.lin_core.specs.declared.reply.Refusal.TheVariants.{NoSuchNode, NoSuchSignal, NoSuchTable, NotPublisher, BadValue, NoAddress, BadLength, QueueFull, SlotOpen, NoSlot, NotYours, Decided}
+use Rattle.lin_core.specs.declared.reply.Refusal.TheVariants.{NoSuchNode, NoSuchSignal, NoSuchTable, NotPublisher, BadValue, NoAddress, BadLength, Closed, QueueFull, Asleep, Awake, SlotOpen, NoSlot, NotYours, Decided, NothingOnWire, PassesCheck, NoTransfer}
 use Rattle.lin_core.specs.declared.reply.Reply.{Reply}
 use Rattle.lin_core.specs.declared.reply.Reply.TheVariants.{Done, Refused}
 
@@ -28,13 +30,15 @@ abbrev pub may : PortId → Step → Bool
 may Bus step = true
 may (Host n) (Send from to message) = from == n
 may (Host n) (Write by signal value) = by == n
+may (Host n) (Close host) = host == n
 may (Host n) step = false
 may (Node n) (Answer node) = node == n
+may (Node n) (Leave node) = node == n
 may (Node n) step = false
 
--- the sender is host 0, and the receiver another one that has an address
+-- exactly one of sender and receiver is host 0, and the other one has an address
 abbrev pub has_address : Parts → ℕ → ℕ → Bool
-has_address c from to = from == 0 && not (to == 0) && is_some (nad c to)
+has_address c from to = (from == 0 && not (to == 0) && is_some (nad c to)) || (to == 0 && not (from == 0) && is_some (nad c from))
 
 abbrev pub is_open : List LogEntry → Bool
 is_open past = is_some (open_slot past)
@@ -46,12 +50,22 @@ in_slot past test = choose (open_slot past) false test
 abbrev pub link_at : ℕ → Direction → Link
 link_at n d = record { node = n; dir = d }
 
+-- whether bytes pass the check of an answer in a slot: its length, and its checksum in the model of the slot's entry over the slot's header
+abbrev pub passes_in : Parts → OpenSlot → List ℕ → List ℕ → Bool
+passes_in c s answer bytes = choose s.header false (λ h. is_answer (model_of c (line_of c s.table s.entry).entry h) h (length answer - 1) bytes)
+
+-- the message that is begun on a link
+abbrev pub begun_on : Parts → List LogEntry → ℕ → Direction → Option Sending
+begun_on c past n d =
+    choose (begun c past (host_of (link_at n d))) None (λ s. if same_link s.message.link (link_at n d) then Some s else None)
+
 -- the conditions under which a step is refused, in the order of their numbers
 abbrev pub refusals : Parts → ℕ → List LogEntry → PortId → Step → List (Refusal × Bool)
 refusals c capacity past port (Send from to message) =
     (NoSuchNode, nat_le (nodes c) from || nat_le (nodes c) to)
     ∷ (NoAddress, not (has_address c from to))
-    ∷ (BadLength, length message == 0 || nat_lt 6 (length message))
+    ∷ (BadLength, length message == 0 || nat_lt 4095 (length message))
+    ∷ (Closed, closed past from)
     ∷ (QueueFull, nat_le capacity (length (waiting c past from)))
     ∷ (NotYours, not (may port (Send from to message)))
     ∷ []
@@ -62,16 +76,39 @@ refusals c capacity past port (Write by signal value) =
     ∷ (BadValue, not (fits_place (place_at 0 (signal_of c signal)) value))
     ∷ (NotYours, not (may port (Write by signal value)))
     ∷ []
-refusals c capacity past port Open = (SlotOpen, is_open past) ∷ (NotYours, not (may port Open)) ∷ []
+refusals c capacity past port Open = (Asleep, asleep past) ∷ (SlotOpen, is_open past) ∷ (NotYours, not (may port Open)) ∷ []
 refusals c capacity past port (Answer node) =
     (NoSuchNode, nat_le (nodes c) node)
     ∷ (NoSlot, not (is_open past))
     ∷ (NotYours, not (may port (Answer node)) || not (in_slot past (λ s. is_in s.due node)))
     ∷ (Decided, in_slot past (λ s. has_decided s node))
     ∷ []
+refusals c capacity past port (Leave node) =
+    (NoSuchNode, nat_le (nodes c) node)
+    ∷ (NoSlot, not (is_open past))
+    ∷ (NotYours, not (may port (Leave node)) || not (in_slot past (λ s. is_in s.due node)))
+    ∷ (Decided, in_slot past (λ s. has_decided s node))
+    ∷ []
+refusals c capacity past port (Hurt bytes) =
+    (NoSlot, not (is_open past))
+    ∷ (NotYours, not (may port (Hurt bytes)))
+    ∷ (Decided, in_slot past (λ s. s.hurt))
+    ∷ (NothingOnWire, not (in_slot past (λ s. length s.puts == 1)))
+    ∷ (PassesCheck, in_slot past (λ s. list_any (λ (p : ℕ × List ℕ). passes_in c s p.1 bytes) s.puts))
+    ∷ []
 refusals c capacity past port Finish = (NoSlot, not (is_open past)) ∷ (NotYours, not (may port Finish)) ∷ []
+refusals c capacity past port (Timeout node dir) =
+    (NoSuchNode, nat_le (nodes c) node)
+    ∷ (SlotOpen, is_open past)
+    ∷ (NotYours, not (may port (Timeout node dir)))
+    ∷ (NoTransfer, is_none (begun_on c past node dir))
+    ∷ []
 refusals c capacity past port (Switch table) =
     (NoSuchTable, nat_le (length c.tables) table) ∷ (SlotOpen, is_open past) ∷ (NotYours, not (may port (Switch table))) ∷ []
+refusals c capacity past port AskSleep = (Asleep, asleep past) ∷ (NotYours, not (may port AskSleep)) ∷ []
+refusals c capacity past port Wake = (Awake, not (asleep past)) ∷ (NotYours, not (may port Wake)) ∷ []
+refusals c capacity past port (Close host) =
+    (NoSuchNode, nat_le (nodes c) host) ∷ (Closed, closed past host) ∷ (NotYours, not (may port (Close host))) ∷ []
 
 -- the first of them that holds
 abbrev pub refusal : Parts → ℕ → List LogEntry → PortId → Step → Option Refusal
@@ -100,11 +137,11 @@ abbrev pub new_messages : Parts → LogEntry → List LogEntry → Link → List
 new_messages c e past l =
     map (λ m. Message (host_of l) (receiver_of l.dir l.node) m) (drop (length (reading c past l)) (reading c (e ∷ past) l))
 
--- what a fate that is no longer Waiting reports; nothing is lost yet
+-- what a fate that is no longer Waiting reports
 abbrev pub report : ℕ → ℕ → Fate → List Event
 report h number Waiting = []
 report h number IsSent = Sent h number ∷ []
-report h number (IsLost cause) = []
+report h number (IsLost cause) = Lost h number cause ∷ []
 
 -- the reports of a host's messages that waited and do so no longer
 abbrev pub reports : Parts → LogEntry → List LogEntry → ℕ → List Event
@@ -119,12 +156,17 @@ all_reports c e past = flat_map (reports c e past) (numbers (nodes c))
 abbrev pub quiet_entry : PortId → Step → LogEntry
 quiet_entry port step = record { port = port; step = step; reply = Done [] }
 
+-- whether the finish of the open slot is a sleep mark
+abbrev pub sleeps : List LogEntry → Bool
+sleeps past = choose (open_slot past) false is_sleep_slot
+
 -- the events of a finish
 abbrev pub finish_events : Parts → PortId → List LogEntry → List Event
 finish_events c port past =
     let e : LogEntry = quiet_entry port Finish
     in choose (open_slot past) [] (λ s. Seen (seen s) ∷ [])
     ++ flat_map (new_messages c e past) (all_links c)
+    ++ (if sleeps past then SleepEvent ∷ [] else [])
     ++ all_reports c e past
 
 -- the events of a step that is done
@@ -133,6 +175,7 @@ done_events c opening past port (Send from to message) = Accepted from (suc (len
 done_events c opening past port Open = opening_events c opening past
 done_events c opening past port (Answer node) = choose (open_slot past) [] (put_event c past node)
 done_events c opening past port Finish = finish_events c port past
+done_events c opening past port (Timeout node dir) = all_reports c (quiet_entry port (Timeout node dir)) past
 done_events c opening past port step = []
 
 unfoldable pub reply : Parts → ℕ → ℕ → List LogEntry → PortId → Step → Reply

@@ -7,11 +7,12 @@ use Rattle.lin_core.specs.Replies.{report, receiver_of}
 use Rattle.lin_core.specs.Law.{outcomes_of}
 use Rattle.lin_core.specs.declared.log.LogEntry.{LogEntry}
 use Rattle.lin_core.specs.declared.event.Event.{Event}
-use Rattle.lin_core.specs.declared.event.Event.TheVariants.{Sent, Message}
+use Rattle.lin_core.specs.declared.event.Event.TheVariants.{Sent, Lost, Message}
 
 -- whether an event tells a host what became of a message
 abbrev pub is_report : ℕ → Event → Bool
 is_report h (Sent host number) = host == h
+is_report h (Lost host number cause) = host == h
 is_report h event = false
 
 -- all that a host was told, in order

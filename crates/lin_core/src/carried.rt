@@ -5,6 +5,7 @@ ghost use Rattle.lin_cluster.specs.Cluster.{frame_of, line_of};
 ghost use Rattle.lin_cluster.specs.Rules.{IsEntry};
 ghost use Rattle.lin_core.specs.Dues.{frame_by, frame_answered, model_by};
 ghost use Rattle.lin_core.specs.History.{open_slot};
+ghost use Rattle.lin_core.specs.Slots.{model_of};
 ghost use Rattle.lin_core.specs.Kept.{slot_in, IsThere};
 ghost use Rattle.lin_core.specs.declared.log.LogEntry.{LogEntry};
 ghost use Rattle.lin_core.specs.declared.slot.OpenSlot.{OpenSlot};
@@ -79,5 +80,26 @@ pub(crate) fn model_of(cluster: &Cluster, slot: &Option<OpenSlot>, frame: u16) -
     match cluster.entry(open.table, open.entry) {
         Entry::Event(event) => cluster.event_model(event),
         _ => cluster.model(frame),
+    }
+}
+
+/// The checksum model of the responses in a slot for an entry, under its header.
+pub(crate) fn model_under(cluster: &Cluster, entry: Entry, header: u8) -> SumKind
+    requires { IsEntry cluster.now entry }
+    ensures { result ≡ model_of cluster.now entry header }
+{
+    cluster.sound();
+    match entry {
+        Entry::Frame(frame) => cluster.model(frame),
+        Entry::Sporadic(sporadic) => {
+            let frame = frame_under(cluster, cluster.sporadic(sporadic), header).unwrap_or(0);
+            if (frame as usize) < cluster.frames() {
+                cluster.model(frame)
+            } else {
+                SumKind::Enhanced
+            }
+        }
+        Entry::Event(event) => cluster.event_model(event),
+        Entry::MasterReq | Entry::SlaveResp | Entry::Quiet => SumKind::Classic,
     }
 }

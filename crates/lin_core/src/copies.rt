@@ -41,8 +41,19 @@ impl Step {
             }),
             Step::Open => Ok(Step::Open),
             Step::Answer { node } => Ok(Step::Answer { node: *node }),
+            Step::Leave { node } => Ok(Step::Leave { node: *node }),
+            Step::Hurt { bytes } => Ok(Step::Hurt {
+                bytes: bytes.copy(alloc)?,
+            }),
             Step::Finish => Ok(Step::Finish),
+            Step::Timeout { node, dir } => Ok(Step::Timeout {
+                node: *node,
+                dir: *dir,
+            }),
             Step::Switch { table } => Ok(Step::Switch { table: *table }),
+            Step::AskSleep => Ok(Step::AskSleep),
+            Step::Wake => Ok(Step::Wake),
+            Step::Close { host } => Ok(Step::Close { host: *host }),
         }
     }
 }

@@ -1,6 +1,6 @@
 //! What a slot is for: its header, and who is due in it (ISO 17987-3, frame transfer; ISO 17987-2, diagnostic schedules).
 
-ghost use Rattle.std.specs.Prelude.{◌≡◌, ◌==◌, ◌&&◌, ◌<◌, ◌≤◌, All, filter, length, slice_index_or, false};
+ghost use Rattle.std.specs.Prelude.{◌≡◌, ◌==◌, ◌&&◌, ◌||◌, ◌<◌, ◌≤◌, All, filter, length, slice_index_or, false};
 ghost use Rattle.std.specs.List.{list_any};
 ghost use Rattle.lin_frame.specs.Words.{numbers};
 ghost use Rattle.lin_cluster.specs.Cluster.{frame_of, nodes};
@@ -11,7 +11,14 @@ use arrayvec::ArrayVec;
 use lin_cluster::Cluster;
 use lin_schedule::Due;
 
-/// The header of a slot, where a message of the commander's host waits or doesn't.
+/// Whether the commander has something to request: a message waits, or sleep is asked.
+pub(crate) fn has_request(waits: bool, asked: bool) -> bool
+    ensures { result ≡ (waits || asked) }
+{
+    waits || asked
+}
+
+/// The header of a slot, where the commander has something to request or doesn't.
 pub(crate) fn header_for(cluster: &Cluster, due: Due, waits: bool) -> Option<u8>
     requires { HasDue cluster.now due }
     ensures { result ≡ header_of cluster.now waits due }
@@ -36,10 +43,17 @@ fn publishes_pending(cluster: &Cluster, frames: &[u16], pending: &[bool], node: 
 }
 
 /// Whether a node is due in a slot.
-fn is_due_of(cluster: &Cluster, due: Due, waits: bool, pending: &[bool], node: u8) -> bool
+fn is_due_of(
+    cluster: &Cluster,
+    due: Due,
+    waits: bool,
+    responder: Option<u8>,
+    pending: &[bool],
+    node: u8,
+) -> bool
     requires there { HasDue cluster.now due }
     requires count { length pending.now ≡ length cluster.now.frames }
-    ensures { result ≡ is_due_of cluster.now pending.now waits due node }
+    ensures { result ≡ is_due_of cluster.now pending.now waits responder due node }
 {
     cluster.sound();
     match due {
@@ -49,7 +63,8 @@ fn is_due_of(cluster: &Cluster, due: Due, waits: bool, pending: &[bool], node: u
             publishes_pending(cluster, cluster.event_frames(event), pending, node)
         }
         Due::MasterReq => node == 0 && waits,
-        Due::SlaveResp | Due::Quiet => false,
+        Due::SlaveResp => responder == Some(node),
+        Due::Quiet => false,
     }
 }
 
@@ -58,16 +73,17 @@ pub(crate) fn due_nodes(
     cluster: &Cluster,
     due: Due,
     waits: bool,
+    responder: Option<u8>,
     pending: &[bool],
 ) -> ArrayVec<u8, 16>
     requires there { HasDue cluster.now due }
     requires count { length pending.now ≡ length cluster.now.frames }
-    ensures due { result.items ≡ filter (is_due_of cluster.now pending.now waits due) (numbers (nodes cluster.now)) }
+    ensures due { result.items ≡ filter (is_due_of cluster.now pending.now waits responder due) (numbers (nodes cluster.now)) }
     ensures few { length result.items ≤ 16 }
 {
     let mut nodes = ArrayVec::new();
     for node in 0..cluster.nodes() as u8 {
-        if is_due_of(cluster, due, waits, pending, node) {
+        if is_due_of(cluster, due, waits, responder, pending, node) {
             nodes.push(node);
         }
     }

@@ -1,5 +1,6 @@
 //! What a step that is done tells.
 
+use crate::link::Cause;
 use crate::payload::Payload;
 use lin_frame::Answer;
 
@@ -54,4 +55,12 @@ pub enum Event {
         host: u8,
         number: u32,
     },
+    /// A host's message was cut short.
+    Lost {
+        host: u8,
+        number: u32,
+        cause: Cause,
+    },
+    /// The cluster was put to sleep.
+    Asleep,
 }

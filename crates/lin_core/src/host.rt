@@ -1,17 +1,24 @@
 //! What the core keeps of a host.
 
-ghost use Rattle.std.specs.Prelude.{◌≡◌, ◌<◌, ◌+◌, ◌++◌, ◌∷◌, [], ◌^◌, ◌≤◌, ℕ, IfOk, All, length, slice_get, Some};
-ghost use Rattle.lin_core.specs.Hosts.{fresh, queued, settled};
+ghost use Rattle.std.specs.Prelude.{◌≡◌, ◌<◌, ◌+◌, ◌++◌, ◌∷◌, [], ◌^◌, ◌≤◌, ℕ, IfOk, All, IsTrue, ◌↔◌, length, slice_get, is_some, nat_lt, if◌then◌else◌, None, Some};
+ghost use Rattle.lin_core.specs.Hosts.{fresh, gone_on, queued, sent_of, settled, size_of};
+ghost use Rattle.lin_transport.specs.Sender.{Sending};
+ghost use Rattle.lin_transport.specs.Transport.{frame_count};
+ghost use Rattle.lin_core.specs.declared.host.Host.{Host};
 
 use circular_buffer::HeapCircularBuffer;
+use lin_transport::Sender;
 use std::alloc::{AllocError, Global};
 
 /// The messages of a host: how many of them are settled, and where those that wait stand in the log, the next one first. So
-/// the number of the next one is one more than `settled`.
+/// the number of the next one is one more than `settled`. Where the next one is begun, its sender has the frames that were seen good. A
+/// closed host sends no more messages.
 #[derive(Drop)]
 pub(crate) struct Host {
     pub(crate) settled: u32,
     pub(crate) queue: HeapCircularBuffer<u32>,
+    pub(crate) sender: Option<Sender>,
+    pub(crate) closed: bool,
 }
 
 impl Host {
@@ -23,13 +30,39 @@ impl Host {
         let _ = self.queue.try_push_back(place);
     }
 
-    /// The next message is settled.
+    /// The next message is settled, and no message is begun.
     pub(crate) fn settle(&mut self)
         requires { self.old.settled + 1 < 2 ^ 32 }
         ensures { self.new ≡ settled self.old }
     {
         let _ = self.queue.pop_front();
         self.settled += 1;
+        self.sender = None;
+    }
+
+    /// A frame of the next message, to this address and of this length in bytes, is seen good, and more of them follow.
+    pub(crate) fn go_on(&mut self, address: u8, len: usize)
+        requires some { 1 ≤ len }
+        requires few { len ≤ 4095 }
+        requires more { (s : Sending) → self.old.sender ≡ Some s → s.sent < frame_count s.size }
+        ensures { self.new ≡ gone_on self.old address len }
+    {
+        let mut sender = match self.sender.take() {
+            Some(sender) => sender,
+            None => Sender::begin(address, len),
+        };
+        sender.sent();
+        self.sender = Some(sender);
+    }
+
+    /// Whether the frame of the next message that comes next, of this length in bytes, is its last.
+    pub(crate) fn is_last(&self, len: usize) -> bool
+        ensures { IsTrue result ↔ (sent_of self.now + 1 ≡ frame_count (size_of self.now len)) }
+    {
+        match &self.sender {
+            Some(sender) => sender.is_last(),
+            None => len <= 6,
+        }
     }
 
     /// Where the next message's step stands in the log; 0 where none waits.
@@ -54,7 +87,60 @@ pub(crate) fn hosts(alloc: Global, count: usize, capacity: usize) -> Result<Vec<
         hosts.push(Host {
             settled: 0,
             queue: HeapCircularBuffer::with_capacity(alloc, capacity)?,
+            sender: None,
+            closed: false,
         })?;
     }
     Ok(hosts)
+}
+
+/// How many messages wait in a host's queue; 0 for a number that is no host's.
+pub(crate) fn queued_by(hosts: &[Host], host: u8) -> usize
+    ensures { (kept : Host) → slice_get hosts.now host ≡ Some kept → result ≡ length kept.queue.items }
+{
+    match hosts.get(host as usize) {
+        Some(kept) => kept.queue.len(),
+        None => 0,
+    }
+}
+
+/// Whether a host is closed; false for a number that is no host's.
+pub(crate) fn closed_by(hosts: &[Host], host: u8) -> bool
+    ensures { (kept : Host) → slice_get hosts.now host ≡ Some kept → result ≡ kept.closed }
+{
+    match hosts.get(host as usize) {
+        Some(kept) => kept.closed,
+        None => false,
+    }
+}
+
+/// Whether a host's next message is begun; false for a number that is no host's.
+pub(crate) fn begun_by(hosts: &[Host], host: u8) -> bool
+    ensures { (kept : Host) → slice_get hosts.now host ≡ Some kept → result ≡ is_some kept.sender }
+{
+    match hosts.get(host as usize) {
+        Some(kept) => kept.sender.is_some(),
+        None => false,
+    }
+}
+
+/// Where a host's next message stands in the log; 0 where none waits, and for a number that is no host's.
+pub(crate) fn next_by(hosts: &[Host], host: u8) -> u32
+    ensures { (kept : Host) (place : ℕ) → slice_get hosts.now host ≡ Some kept → slice_get kept.queue.items 0 ≡ Some place → result ≡ place }
+{
+    match hosts.get(host as usize) {
+        Some(kept) => kept.next(),
+        None => 0,
+    }
+}
+
+/// The responder that is due in a slave response, where this one is selected: one of its messages waits.
+pub(crate) fn responder(hosts: &[Host], selected: Option<u8>) -> Option<u8>
+    ensures none { selected ≡ None → result ≡ None }
+    ensures some { (node : ℕ) (kept : Host) → selected ≡ Some node → slice_get hosts.now node ≡ Some kept → result ≡ (if nat_lt 0 (length kept.queue.items) then Some node else None) }
+{
+    match selected {
+        Some(node) if queued_by(hosts, node) > 0 => Some(node),
+        _ => None,
+    }
 }

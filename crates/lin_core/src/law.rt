@@ -3,7 +3,7 @@
 ghost use Rattle.std.specs.Prelude.{ℕ, List};
 ghost use Rattle.lin_cluster.specs.Sound.{IsSound};
 ghost use Rattle.lin_cluster.specs.declared.parts.Parts.{Parts};
-ghost use Rattle.lin_core.specs.Promises.{CarriesFrames, DeliversExactly, FatesAreFinal, LosesNothing, PutsInOrder};
+ghost use Rattle.lin_core.specs.Promises.{CarriesFrames, StaysClosed, DeliversExactly, FatesAreFinal, LosesNothing, PutsInOrder};
 ghost use Rattle.lin_core.specs.Runs.{history};
 ghost use Rattle.lin_core.specs.declared.port.PortId.{PortId};
 ghost use Rattle.lin_core.specs.declared.step.Step.{Step};
@@ -29,7 +29,12 @@ pub fn carries_frames()
     ensures { (c : Parts) (opening capacity : ℕ) (steps : List (PortId × Step)) → CarriesFrames c opening (history c opening capacity steps) }
 {}
 
-/// No message is lost, and where nothing of a host waits, all that was accepted from it was read.
+/// Nothing of a host is accepted after it was closed.
+pub fn stays_closed()
+    ensures { (c : Parts) (opening capacity : ℕ) (steps : List (PortId × Step)) → StaysClosed (history c opening capacity steps) }
+{}
+
+/// Where nothing is disturbed, no message is lost, and where nothing of a host waits, all that was accepted from it was read.
 pub fn loses_nothing()
     ensures { (c : Parts) (opening capacity : ℕ) (steps : List (PortId × Step)) → IsSound c → LosesNothing c (history c opening capacity steps) }
 {}

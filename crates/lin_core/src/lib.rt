@@ -10,9 +10,12 @@ mod hold;
 mod host;
 mod law;
 mod link;
+mod load;
 mod log;
+mod losses;
 mod machine;
 mod messages;
+mod mode;
 mod payload;
 mod port;
 mod refusals;
@@ -24,7 +27,9 @@ mod step;
 
 pub use event::{Event, Seen};
 pub use hold::Hold;
-pub use law::{carries_frames, delivers_exactly, fates_are_final, loses_nothing, puts_in_order};
+pub use law::{
+    carries_frames, delivers_exactly, fates_are_final, loses_nothing, puts_in_order, stays_closed,
+};
 pub use link::{Cause, Direction};
 pub use log::{Log, LogEntry};
 pub use machine::Core;

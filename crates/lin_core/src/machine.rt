@@ -3,24 +3,31 @@
 ghost use Rattle.std.specs.Prelude.{◌≡◌, ◌<◌, ◌≤◌, ◌-◌, ◌^◌, ◌++◌, ◌∷◌, [], reverse, length, OnOk, IfOk, IfErr, IsOk, vec_capacity};
 
 use crate::carried::{frame_answered, model_of};
+use crate::due::has_request;
+
+mod close;
+mod disturbed;
+mod finish;
+mod refused;
+mod sleep;
+mod timeout;
+
 use crate::event::Event;
 use crate::heard::{copied_answer, frame_answer};
 use crate::hold::Hold;
-use crate::host::hosts;
+use crate::host::{hosts, responder};
 use crate::log::{Log, LogEntry};
-use crate::messages::{message_at, single_frame};
+use crate::messages::next_bytes;
+use crate::mode::Mode;
 use crate::payload::{Events, Payload};
 use crate::port::PortId;
-use crate::refusals::{
-    queued_by, refuse_answer, refuse_finish, refuse_open, refuse_send, refuse_switch, refuse_write,
-};
 use crate::reply::{Refusal, Reply};
 use crate::signals::{Signals, copied};
-use crate::slot::{OpenSlot, Put, delay_of, header_of, is_carrying, is_clash, put_in, seen_in};
+use crate::slot::{OpenSlot, Put, header_of, is_sleep_asked, put_in};
 use crate::state::State;
 use crate::step::Step;
 use lin_cluster::Cluster;
-use lin_frame::Value;
+use lin_frame::{SumKind, Value, answer};
 use lin_schedule::Walker;
 use std::alloc::{AllocError, Global};
 use std::marker::Model;
@@ -63,29 +70,40 @@ fn one_event(room: Vec<Event>, event: Event) -> Events
     Events::new(events)
 }
 
-/// The three events of a finish by which a message is whole.
-fn three_events(room: Vec<Event>, seen: Event, whole: Event, sent: Event) -> Events
+/// The two events of a step, in the room that was made for them.
+fn two_events(room: Vec<Event>, first: Event, second: Event) -> Events
     requires empty { room.items ≡ [] }
-    requires room { 3 ≤ vec_capacity room }
-    ensures { result ≡ seen ∷ whole ∷ sent ∷ [] }
+    requires room { 2 ≤ vec_capacity room }
+    ensures { result ≡ first ∷ second ∷ [] }
 {
     let mut events = room;
-    events.push(seen).unwrap();
-    events.push(whole).unwrap();
-    events.push(sent).unwrap();
+    events.push(first).unwrap();
+    events.push(second).unwrap();
+    Events::new(events)
+}
+
+/// The three events of a step, in the room that was made for them.
+fn three_events(room: Vec<Event>, first: Event, second: Event, third: Event) -> Events
+    requires empty { room.items ≡ [] }
+    requires room { 3 ≤ vec_capacity room }
+    ensures { result ≡ first ∷ second ∷ third ∷ [] }
+{
+    let mut events = room;
+    events.push(first).unwrap();
+    events.push(second).unwrap();
+    events.push(third).unwrap();
     Events::new(events)
 }
 
 impl Core {
     ghost use Rattle.std.specs.Prelude.{◌≡◌, ◌<◌, ◌≤◌, ◌-◌, ◌^◌, ◌++◌, ◌∷◌, [], reverse, length, OnOk, OnErr, true, false, Some, None, IfOk, IfErr, IsOk, ◌↔◌};
     ghost use Rattle.std.specs.Prelude.{⊤, slice_index_or};
-    ghost use Rattle.lin_core.specs.Promises.{CarriesFrames, DeliversExactly, FatesAreFinal, LosesNothing, PutsInOrder};
+    ghost use Rattle.lin_core.specs.Promises.{CarriesFrames, DeliversExactly, FatesAreFinal, LosesNothing, PutsInOrder, StaysClosed};
     ghost use Rattle.lin_core.specs.Replies.{refusal};
     ghost use Rattle.lin_cluster.specs.Cluster.{nodes};
-    ghost use Rattle.lin_core.specs.History.{time, undecided};
+    ghost use Rattle.lin_core.specs.History.{asleep, time, undecided};
     ghost use Rattle.lin_core.specs.Signals.{value_at};
     ghost use Rattle.lin_core.specs.Dues.{frame_answered};
-    ghost use Rattle.lin_core.specs.Kept.{is_carrying};
     ghost use Rattle.lin_core.specs.Links.{waiting};
     ghost use Rattle.lin_core.specs.Core.{answered, past_of, IsAlike, IsHistory, IsRefused, IsAllowed, IsLogFull, IsOutOfMemory, IsSmall, IsStepped, step_of};
 
@@ -117,13 +135,14 @@ impl Core {
                 walker: Walker::new(table),
                 hosts,
                 signals,
+                mode: Mode::new(),
             },
         })
     }
 
     /// The log, of which the laws hold: the receivers read exactly the messages that were sent whole and are told of these alone; each
     /// link carries its messages' frames in order; each message has one final fate, which its host is told once; each slot carries the
-    /// frame that the schedule names; and no message is lost.
+    /// frame that the schedule names; nothing of a host is accepted after its close; and where nothing is disturbed no message is lost.
     pub fn log(&self) -> &Log
         ensures entries { result.now.entries ≡ self.now.log }
         ensures history { IsHistory self.now }
@@ -131,6 +150,7 @@ impl Core {
         ensures blocks_are_prefixes { PutsInOrder self.now.cluster (past_of self.now) }
         ensures one_final_fate { FatesAreFinal self.now.cluster (past_of self.now) }
         ensures slots_carry_frames { CarriesFrames self.now.cluster self.now.opening (past_of self.now) }
+        ensures nothing_after_close { StaysClosed (past_of self.now) }
         ensures nothing_lost { LosesNothing self.now.cluster (past_of self.now) }
     {
         &self.log
@@ -148,6 +168,13 @@ impl Core {
         ensures { result ≡ time self.now.cluster (past_of self.now) }
     {
         self.state.time
+    }
+
+    /// Whether the cluster is asleep (ISO 17987-3, go-to-sleep and wake-up).
+    pub fn asleep(&self) -> bool
+        ensures { result ≡ asleep (past_of self.now) }
+    {
+        self.state.mode.asleep
     }
 
     /// How many messages of a host were accepted and neither sent nor lost.
@@ -183,7 +210,7 @@ impl Core {
         }
     }
 
-    /// Makes room, so that a send, a write or an answer isn't held for want of memory if it is the next step. It changes nothing else; an
+    /// Makes room, so that a send, a write, an answer, a leave or a close isn't held for want of memory if it is the next step. It changes nothing else; an
     /// error is want of memory.
     pub fn make_room(&mut self) -> Result<(), AllocError>
         ensures alike { IsAlike self.old self.new }
@@ -300,14 +327,19 @@ impl Core {
         ensures alike { IsAlike self.old self.new }
         ensures held { IfErr result (λ h. (self.new.log ≡ self.old.log) × (h ≡ Hold.OutOfMemory Step.Open)) }
     {
-        if self.log.make_room().is_err() || self.room.try_reserve(17).is_err() {
+        if self.log.make_room().is_err() {
             return Err(Hold::OutOfMemory(Step::Open));
         }
         let place = self.state.walker.place();
         let waits = !self.state.hosts[0].queue.is_empty();
+        let requests = has_request(waits, self.state.mode.asked);
+        let responder = responder(self.state.hosts.as_slice(), self.state.mode.selected);
         let pending = self.state.signals.pending.as_slice();
         let due = self.state.walker.due(&self.cluster, pending);
-        let slot = OpenSlot::begin(&self.cluster, place, due, waits, pending);
+        let slot = OpenSlot::begin(&self.cluster, place, due, requests, responder, pending);
+        if self.room.try_reserve(1 + slot.due.len()).is_err() {
+            return Err(Hold::OutOfMemory(Step::Open));
+        }
         let room = mem::replace(&mut self.room, Vec::new(self.alloc));
         let events = slot.opening_events(room);
         self.state.slot = Some(slot);
@@ -330,7 +362,7 @@ impl Core {
     {
         match frame_answered(&self.cluster, &self.state.slot, node) {
             Some(frame) => self.answer_frame(by, node, frame),
-            None => self.answer_request(by, node),
+            None => self.answer_message(by, node),
         }
     }
 
@@ -377,8 +409,8 @@ impl Core {
         Ok(())
     }
 
-    /// Logs an answer to a master request: the commander's node puts the single frame of its host's next message.
-    fn answer_request(&mut self, by: PortId, node: u8) -> Result<(), Hold>
+    /// Logs an answer in a diagnostic slot: the node puts what comes next of its host's messages, or the commander the sleep frame.
+    fn answer_message(&mut self, by: PortId, node: u8) -> Result<(), Hold>
         requires allowed { IsAllowed self.old by (Step.Answer node) }
         requires none { frame_answered self.old.cluster (past_of self.old) node ≡ None }
         requires few { length self.old.log < 2 ^ 32 - 1 }
@@ -390,8 +422,12 @@ impl Core {
         if self.log.make_room().is_err() || self.room.try_reserve(1).is_err() {
             return Err(Hold::OutOfMemory(Step::Answer { node }));
         }
-        let place = self.state.hosts[0].next();
-        let answer = single_frame(&self.cluster, &self.log, place as usize);
+        let header = header_of(&self.state.slot);
+        let sleeping = is_sleep_asked(header, self.state.mode.asked);
+        let host = &self.state.hosts[node as usize];
+        let place = host.next() as usize;
+        let data = next_bytes(&self.cluster, &self.log, host, place, sleeping);
+        let answer = answer(SumKind::Classic, header, &data);
         let told = copied_answer(&answer);
         let put = Put {
             node,
@@ -404,95 +440,6 @@ impl Core {
         self.log.push(LogEntry {
             port: by,
             step: Step::Answer { node },
-            reply: Reply::Done(events),
-        });
-        Ok(())
-    }
-
-    /// Logs a finish: the slot ends, and the schedule goes on.
-    fn finish(&mut self, by: PortId) -> Result<(), Hold>
-        requires allowed { IsAllowed self.old by Step.Finish }
-        requires few { length self.old.log < 2 ^ 32 - 1 }
-        ensures ok { OnOk result (self.new.log ≡ self.old.log ++ answered self.old by Step.Finish ∷ []) }
-        ensures alike { IsAlike self.old self.new }
-        ensures held { IfErr result (λ h. (self.new.log ≡ self.old.log) × (h ≡ Hold.OutOfMemory Step.Finish)) }
-    {
-        if is_carrying(&self.state.slot) {
-            self.finish_message(by)
-        } else {
-            self.finish_plain(by)
-        }
-    }
-
-    /// Logs a finish of a slot that carries no frame of a message.
-    fn finish_plain(&mut self, by: PortId) -> Result<(), Hold>
-        requires allowed { IsAllowed self.old by Step.Finish }
-        requires few { length self.old.log < 2 ^ 32 - 1 }
-        requires none { is_carrying (past_of self.old) ≡ false }
-        ensures ok { OnOk result (self.new.log ≡ self.old.log ++ answered self.old by Step.Finish ∷ []) }
-        ensures alike { IsAlike self.old self.new }
-        ensures held { IfErr result (λ h. (self.new.log ≡ self.old.log) × (h ≡ Hold.OutOfMemory Step.Finish)) }
-    {
-        if self.log.make_room().is_err() || self.room.try_reserve(1).is_err() {
-            return Err(Hold::OutOfMemory(Step::Finish));
-        }
-        let delay = delay_of(&self.cluster, &self.state.slot);
-        self.state.signals.finish(&self.cluster, &self.state.slot);
-        let seen = seen_in(self.state.slot.take());
-        self.state.time += u64::from(delay);
-        let clash = is_clash(&seen);
-        self.state.walker.advance(&self.cluster, clash);
-        let room = mem::replace(&mut self.room, Vec::new(self.alloc));
-        let events = one_event(room, Event::Seen(seen));
-        self.log.push(LogEntry {
-            port: by,
-            step: Step::Finish,
-            reply: Reply::Done(events),
-        });
-        Ok(())
-    }
-
-    /// Logs a finish of a slot with the single frame of a message, which brings it whole to its receiver.
-    fn finish_message(&mut self, by: PortId) -> Result<(), Hold>
-        requires allowed { IsAllowed self.old by Step.Finish }
-        requires few { length self.old.log < 2 ^ 32 - 1 }
-        requires one { is_carrying (past_of self.old) ≡ true }
-        ensures ok { OnOk result (self.new.log ≡ self.old.log ++ answered self.old by Step.Finish ∷ []) }
-        ensures alike { IsAlike self.old self.new }
-        ensures held { IfErr result (λ h. (self.new.log ≡ self.old.log) × (h ≡ Hold.OutOfMemory Step.Finish)) }
-    {
-        if self.log.make_room().is_err() || self.room.try_reserve(3).is_err() {
-            return Err(Hold::OutOfMemory(Step::Finish));
-        }
-        let place = self.state.hosts[0].next();
-        let (to, message) = message_at(&self.log, place as usize);
-        let Ok(bytes) = Vec::from_slice(self.alloc, message) else {
-            return Err(Hold::OutOfMemory(Step::Finish));
-        };
-        let delay = delay_of(&self.cluster, &self.state.slot);
-        self.state.signals.finish(&self.cluster, &self.state.slot);
-        let seen = seen_in(self.state.slot.take());
-        self.state.time += u64::from(delay);
-        let clash = is_clash(&seen);
-        self.state.walker.advance(&self.cluster, clash);
-        let host = &mut self.state.hosts[0];
-        let number = host.settled + 1;
-        host.settle();
-        let room = mem::replace(&mut self.room, Vec::new(self.alloc));
-        let whole = Event::Message {
-            from: 0,
-            to,
-            bytes: Payload::new(bytes),
-        };
-        let events = three_events(
-            room,
-            Event::Seen(seen),
-            whole,
-            Event::Sent { host: 0, number },
-        );
-        self.log.push(LogEntry {
-            port: by,
-            step: Step::Finish,
             reply: Reply::Done(events),
         });
         Ok(())
@@ -521,38 +468,14 @@ impl Core {
             } => self.write(by, node, signal, value),
             Step::Open => self.open(by),
             Step::Answer { node } => self.answer(by, node),
+            Step::Leave { node } => self.leave(by, node),
+            Step::Hurt { bytes } => self.hurt(by, bytes),
             Step::Finish => self.finish(by),
+            Step::Timeout { node, dir } => self.time_out(by, node, dir),
             Step::Switch { table } => self.switch(by, table),
-        }
-    }
-
-    /// Why a step is refused, if it is.
-    fn refusal_of(&self, by: PortId, step: &Step) -> Option<Refusal>
-        ensures { result ≡ refusal self.now.cluster self.now.capacity (past_of self.now) by step.now }
-    {
-        let slot = &self.state.slot;
-        match step {
-            Step::Send { from, to, message } => {
-                let queued = queued_by(self.state.hosts.as_slice(), *from);
-                refuse_send(
-                    &self.cluster,
-                    self.capacity,
-                    queued,
-                    by,
-                    *from,
-                    *to,
-                    message,
-                )
-            }
-            Step::Write {
-                by: node,
-                signal,
-                value,
-            } => refuse_write(&self.cluster, by, *node, *signal, value),
-            Step::Open => refuse_open(slot, by),
-            Step::Answer { node } => refuse_answer(&self.cluster, slot, by, *node),
-            Step::Finish => refuse_finish(slot, by),
-            Step::Switch { table } => refuse_switch(&self.cluster, slot, by, *table),
+            Step::AskSleep => self.ask_sleep(by),
+            Step::Wake => self.wake(by),
+            Step::Close { host } => self.close(by, host),
         }
     }
 

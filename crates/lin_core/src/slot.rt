@@ -1,13 +1,13 @@
 //! The open slot, as the core keeps it.
 
-ghost use Rattle.std.specs.Prelude.{◌≡◌, ◌<◌, ◌++◌, ◌∷◌, [], Bool, ◌==◌, ◌&&◌, not, true, length, filter};
-ghost use Rattle.std.specs.Prelude.{◌+◌, ◌≤◌, ℕ, List, Some, is_some, option_map, map, vec_capacity};
+ghost use Rattle.std.specs.Prelude.{◌≡◌, ◌<◌, ◌++◌, ◌∷◌, [], Bool, ◌==◌, ◌&&◌, not, true, false, length, filter};
+ghost use Rattle.std.specs.Prelude.{◌+◌, ◌≤◌, ℕ, List, Some, None, is_some, option_map, map, vec_capacity};
 ghost use Rattle.std.specs.List.{list_any};
 ghost use Rattle.lin_frame.specs.Words.{choose, numbers};
 ghost use Rattle.lin_cluster.specs.Cluster.{line_of, nodes};
 ghost use Rattle.lin_core.specs.Dues.{header_of, is_due_of, HasDue};
 ghost use Rattle.lin_core.specs.History.{good, has_decided, header_is, is_clash_seen, is_in, open_slot, seen};
-ghost use Rattle.lin_core.specs.Kept.{begun, is_carrying, slot_in, IsThere};
+ghost use Rattle.lin_core.specs.Kept.{begun, slot_in, IsThere};
 ghost use Rattle.lin_core.specs.declared.log.LogEntry.{LogEntry};
 ghost use Rattle.lin_core.specs.declared.slot.OpenSlot.{OpenSlot};
 
@@ -43,8 +43,8 @@ impl Default for Put {
     }
 }
 
-/// The open slot: its entry, its header, who is due, and who put what, in the order of the responses. A cluster has at most 16 nodes, and
-/// each puts at most one response.
+/// The open slot: its entry, its header, who is due, who put what, in the order of the responses, who left its response out, and whether the
+/// response was disturbed. A cluster has at most 16 nodes, and each decides at most once.
 #[derive(Drop)]
 pub(crate) struct OpenSlot {
     pub(crate) table: u16,
@@ -52,6 +52,8 @@ pub(crate) struct OpenSlot {
     pub(crate) header: Option<u8>,
     pub(crate) due: ArrayVec<u8, 16>,
     pub(crate) puts: ArrayVec<Put, 16>,
+    pub(crate) left: ArrayVec<u8, 16>,
+    pub(crate) hurt: bool,
 }
 
 /// Whether a node has put one of these responses.
@@ -61,35 +63,47 @@ fn has_put(puts: &[Put], node: u8) -> bool
     puts.iter().any(|put| put.node == node)
 }
 
+/// Whether a node is one of those that left their responses out.
+fn has_left(left: &[u8], node: u8) -> bool
+    ensures { result ≡ is_in left.now node }
+{
+    left.iter().any(|other| *other == node)
+}
+
 impl OpenSlot {
-    /// The slot that opens for an entry of a table, with what is due in it, where a message of the commander's host waits or doesn't, and where
-    /// these frames are pending.
+    /// The slot that opens for an entry of a table, with what is due in it, where the commander has something to request or
+    /// doesn't, where this responder is due in a slave response, and where these frames are pending.
     pub(crate) fn begin(
         cluster: &Cluster,
         place: (u16, u16),
         due: Due,
         waits: bool,
+        responder: Option<u8>,
         pending: &[bool],
     ) -> OpenSlot
         requires there { HasDue cluster.now due }
         requires count { length pending.now ≡ length cluster.now.frames }
-        ensures opened { slot_in result ≡ begun place.0 place.1 (header_of cluster.now waits due) (filter (is_due_of cluster.now pending.now waits due) (numbers (nodes cluster.now))) }
+        ensures opened { slot_in result ≡ begun place.0 place.1 (header_of cluster.now waits due) (filter (is_due_of cluster.now pending.now waits responder due) (numbers (nodes cluster.now))) }
         ensures few { length result.due.items ≤ 16 }
         ensures empty { result.puts.items ≡ [] }
+        ensures calm { result.hurt ≡ false }
+        ensures none_left { result.left.items ≡ [] }
     {
         OpenSlot {
             table: place.0,
             entry: place.1,
             header: header_for(cluster, due, waits),
-            due: due_nodes(cluster, due, waits, pending),
+            due: due_nodes(cluster, due, waits, responder, pending),
             puts: ArrayVec::new(),
+            left: ArrayVec::new(),
+            hurt: false,
         }
     }
 
     /// The events of its open, in the room that was made for them.
     pub(crate) fn opening_events(&self, room: Vec<Event>) -> Events
         requires empty { room.items ≡ [] }
-        requires room { 17 ≤ vec_capacity room }
+        requires room { 1 + length self.now.due.items ≤ vec_capacity room }
         ensures { result ≡ Event.Slot self.now.table self.now.entry self.now.header ∷ map Event.Due self.now.due.items }
     {
         let mut events = room;
@@ -117,7 +131,7 @@ impl OpenSlot {
     pub(crate) fn has_decided(&self, node: u8) -> bool
         ensures { result ≡ has_decided (slot_in self.now) node }
     {
-        has_put(self.puts.as_slice(), node)
+        has_put(self.puts.as_slice(), node) || has_left(self.left.as_slice(), node)
     }
 
     /// How many nodes that are due have decided nothing.
@@ -134,11 +148,11 @@ impl OpenSlot {
         count
     }
 
-    /// Whether the slot is seen good when it ends, since no step disturbs it: it has a header and one response.
+    /// Whether the slot is seen good when it ends: it has a header and one response, which wasn't disturbed.
     pub(crate) fn is_good(&self) -> bool
         ensures { result ≡ is_some (good (slot_in self.now)) }
     {
-        self.header.is_some() && self.puts.len() == 1
+        self.header.is_some() && self.puts.len() == 1 && !self.hurt
     }
 
     /// How the slot is seen when it ends.
@@ -153,6 +167,7 @@ impl OpenSlot {
             return Seen::Collided;
         }
         match puts.pop() {
+            Some(_) if self.hurt => Seen::Damaged,
             Some(put) => Seen::Good(put.answer),
             None => Seen::NoAnswer,
         }
@@ -176,16 +191,6 @@ pub(crate) fn header_of(slot: &Option<OpenSlot>) -> u8
     match slot {
         Some(open) => open.header.unwrap_or(0),
         None => 0,
-    }
-}
-
-/// Whether the slot carries a frame of a message: a response under the header of a master request.
-pub(crate) fn is_carrying(slot: &Option<OpenSlot>) -> bool
-    ensures { (past : List LogEntry) → option_map slot_in slot.now ≡ open_slot past → result ≡ is_carrying past }
-{
-    match slot {
-        Some(open) => open.header == Some(MASTER_REQUEST) && !open.puts.is_empty(),
-        None => false,
     }
 }
 
@@ -216,4 +221,33 @@ pub(crate) fn delay_of(cluster: &Cluster, slot: &Option<OpenSlot>) -> u32
         Some(open) => cluster.delay_us(open.table, open.entry),
         None => 0,
     }
+}
+
+/// A node leaves its response out, where a slot is open.
+pub(crate) fn leave_in(slot: &mut Option<OpenSlot>, node: u8)
+    requires { (kept : OpenSlot) → slot.old ≡ Some kept → length kept.left.items < 16 }
+    ensures none { slot.old ≡ None → slot.new ≡ None }
+    ensures some { (kept : OpenSlot) → slot.old ≡ Some kept → slot.new ≡ Some (record kept { left = record { items = kept.left.items ++ node ∷ [] } }) }
+{
+    if let Some(open) = slot {
+        open.left.push(node);
+    }
+}
+
+/// The response is disturbed, where a slot is open.
+pub(crate) fn hurt_in(slot: &mut Option<OpenSlot>)
+    ensures none { slot.old ≡ None → slot.new ≡ None }
+    ensures some { (kept : OpenSlot) → slot.old ≡ Some kept → slot.new ≡ Some (record kept { hurt = true }) }
+{
+    if let Some(open) = slot {
+        open.hurt = true;
+    }
+}
+
+/// Whether the commander puts the sleep frame in a slot with this header, unless a message is begun: sleep is asked for, and the header is the
+/// master request's.
+pub(crate) fn is_sleep_asked(header: u8, asked: bool) -> bool
+    ensures { result ≡ (header == 0x3C && asked) }
+{
+    header == MASTER_REQUEST && asked
 }

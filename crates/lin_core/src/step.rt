@@ -1,5 +1,6 @@
 //! Steps.
 
+use crate::link::Direction;
 use crate::payload::Payload;
 use lin_frame::Value;
 
@@ -14,8 +15,20 @@ pub enum Step {
     Open,
     /// A node that is due in the open slot puts its response.
     Answer { node: u8 },
+    /// A node that is due in the open slot leaves its response out.
+    Leave { node: u8 },
+    /// The one response in the open slot is disturbed: the nodes see these bytes in its place.
+    Hurt { bytes: Payload },
     /// The open slot ends.
     Finish,
+    /// The message that is begun between host 0 and a responder, in a direction, takes too long (ISO 17987-2, timing).
+    Timeout { node: u8, dir: Direction },
     /// The schedule goes on with the first entry of a table (ISO 17987-3, schedule tables).
     Switch { table: u16 },
+    /// The commander is asked to put the cluster to sleep (ISO 17987-2, go-to-sleep).
+    AskSleep,
+    /// The cluster wakes: the schedule's table starts again (ISO 17987-2, wake-up).
+    Wake,
+    /// A host sends no more messages; those that wait still go.
+    Close { host: u8 },
 }

@@ -96,6 +96,16 @@ impl Sender {
         }
     }
 
+    /// Whether the frame that `next` gives is the message's last.
+    pub fn is_last(&self) -> bool
+        ensures { IsTrue result ↔ (self.now.sent + 1 ≡ frame_count self.now.size) }
+    {
+        if self.position == 0 {
+            return self.len <= SINGLE_BYTES;
+        }
+        self.position < self.len && self.len - self.position <= CONSECUTIVE_BYTES
+    }
+
     /// Whether all frames of the message are sent.
     pub fn is_done(&self) -> bool
         ensures done { IsTrue result ↔ (self.now.sent ≡ frame_count self.now.size) }

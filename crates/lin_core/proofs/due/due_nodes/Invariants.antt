@@ -5,6 +5,6 @@ use Rattle.lin_core.proofs.due.due_nodes.Given as goal
 
 abbrev pub invariant-loop-node : goal.invariant-loop-node
 invariant-loop-node l = record {
-  due : l.nodes.items ≡ filter (is_due_of l.cluster l.pending l.waits l.due) (numbers l.node);
+  due : l.nodes.items ≡ filter (is_due_of l.cluster l.pending l.waits l.responder l.due) (numbers l.node);
   few : length l.nodes.items ≤ l.node;
 }

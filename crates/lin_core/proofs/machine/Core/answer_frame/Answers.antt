@@ -21,6 +21,7 @@ use Rattle.lin_core.specs.declared.slot.Put.{Put as KeptPut}
 use Rattle.lin_core.specs.declared.step.Step.TheVariants.{Answer}
 use Rattle.lin_core.proofs.Entries.{reverse-more, history-more}
 use Rattle.lin_core.proofs.Keeping.{done_entry, done-answered, answer-keeps}
+use Rattle.lin_core.proofs.LateKeeping.{answer-late}
 use Rattle.lin_core.proofs.Making.{Allowed, allowed-inside, past_in}
 use Rattle.lin_core.proofs.Answering.{AnswerSlot, answer-slot, answered-by, some-inside, put-told, frame-answers}
 use Rattle.lin_core.proofs.Opening.{put-room}
@@ -104,6 +105,7 @@ invariant_of-self-2 c =
       sound = w.sound;
       opening = w.opening;
       kept = rw (pushed c, reverse-more a.log.entries (entry c)) (kept c);
+      late = rw (pushed c, reverse-more a.log.entries (entry c)) (answer-late a.cluster a.capacity (past_in a) c.args.by c.args.node a.state.mode a.state.hosts.items w.sound (allowed c).known (allowed c).allowed w.late);
       history = rw (pushed c, is_answered c) (history-more (core_data a) c.args.by (Answer c.args.node) w.history);
     }
 

@@ -17,17 +17,29 @@ use Rattle.lin_core.specs.declared.log.LogEntry.{LogEntry}
 use Rattle.lin_core.specs.declared.slot.OpenSlot.{OpenSlot}
 use Rattle.lin_core.specs.declared.step.Step.TheVariants.{Finish}
 use Rattle.lin_core.proofs.Entries.{reverse-more, history-more}
-use Rattle.lin_core.proofs.Keeping.{done_entry, done-answered, finished_entry, finish-keeps, Finishes, FinishesStill, still-hosts}
+use Rattle.lin_core.proofs.FinishCases.{Still, finishes-quiet, known_behind}
+use Rattle.lin_core.proofs.Keeping.{done_entry, done-answered, finished_entry, finish-keeps, Finishes, same-hosts}
+use Rattle.lin_core.proofs.LateKeeping.{still-late}
+use Rattle.lin_core.proofs.ModeKeeping.{finish-mode}
+use Rattle.lin_core.specs.KeptLate.{KeepsLate, KeepsMode}
+use Rattle.lin_core.specs.Loads.{is_still, load_of}
+use Rattle.lin_core.specs.Core.{past_of}
+use Rattle.lin_core.specs.History.{Slot, open_slot}
+use Rattle.std.specs.Prelude.{Some, true}
+use Rattle.lin_core.proofs.Hosts.{HostState}
 use Rattle.lin_core.proofs.SignalKeeping.{Ends}
-use Rattle.lin_core.proofs.Making.{OpenIs, open-inside, still-inside, past_in}
+use Rattle.lin_core.proofs.Making.{OpenIs, open-inside, past_in}
 use Rattle.lin_core.proofs.machine.Core.finish_plain.Goals.{After-push}
 use Rattle.lin_core.proofs.machine.Core.finish_plain.Goals as goal
 
 opened : (c : After-push) → OpenIs c.self.inside c.args.by
 opened c = open-inside c.self.inside c.args.self.now c.args.by c.self.view_is c.self.invariant c.requires.allowed c.requires.few
 
-quiet : (c : After-push) → FinishesStill c.self.inside.cluster (past_in c.self.inside) c.args.by (slot_in (opened c).slot) (opened c).step.known
-quiet c = still-inside c.self.inside c.args.self.now c.args.by c.self.view_is c.self.invariant (opened c) c.requires.none
+quiet : (c : After-push) → Still c.self.inside.cluster (past_in c.self.inside) c.args.by (slot_in (opened c).slot) c.self.invariant.sound (opened c).step.known
+quiet c =
+    let o = opened c in
+    finishes-quiet c.self.inside.cluster (past_in c.self.inside) c.args.by (slot_in o.slot) c.self.invariant.sound o.step.known o.is
+    (subst (λ (d : CoreData). (s : Slot) → open_slot (past_of d) ≡ Some s → is_still (load_of s) s.hurt ≡ true) (sym c.self.view_is) c.requires.still (slot_in o.slot) o.is)
 
 abbrev entry : (c : After-push) → LogEntry
 entry c = finished_entry c.self.inside.cluster (past_in c.self.inside) c.args.by
@@ -72,8 +84,23 @@ kept c =
     let o = opened c in
     rw c.take.ensures.after
     (finish-keeps a.cluster a.opening a.capacity a.log.entries (past_in a) o.slot a.state.time (a.state.time + c.from.result) a.state.walker c.advance.new.self a.state.hosts.items a.state.hosts.items a.state.signals c.finish.new.self c.args.by (finishes c) (ends c) refl
-    (λ h host there. still-hosts a.cluster a.capacity a.log.entries (past_in a) c.args.by (slot_in o.slot) w.sound o.step.known (quiet c) h host (w.kept.each_host h host there))
+    (λ h host there. same-hosts a.cluster a.capacity a.log.entries (past_in a) (entry c) w.sound o.step.known (known_behind a.cluster (past_in a) c.args.by (finish_events a.cluster c.args.by (past_in a)) w.sound o.step.known)
+    (λ x. ap (λ (s : HostState). s.rest) ((quiet c).same (finish_events a.cluster c.args.by (past_in a)) x)) (λ x. refl) h host (w.kept.each_host h host there))
     (subst (λ (s : Option OpenSlot). Keeps a.cluster a.opening a.capacity a.log.entries (past_in a) s a.state.time a.state.walker a.state.hosts.items a.state.signals) o.at w.kept))
+
+mode_is : (c : After-push) → KeepsMode c.self.inside.cluster (entry c ∷ past_in c.self.inside) c.finish-2.new.self
+mode_is c =
+    let a = c.self.inside in
+    let o = opened c in
+    rw (c.finish-2.ensures o.slot o.at) (finish-mode a.cluster (past_in a) c.args.by (finish_events a.cluster c.args.by (past_in a)) (slot_in o.slot) a.state.mode o.is c.self.invariant.late.mode_is)
+
+late : (c : After-push) → KeepsLate c.self.inside.cluster (entry c ∷ past_in c.self.inside) c.finish-2.new.self c.self.inside.state.hosts.items
+late c =
+    let a = c.self.inside in
+    let w = c.self.invariant in
+    let o = opened c in
+    let es = finish_events a.cluster c.args.by (past_in a) in
+    still-late a.cluster (past_in a) (entry c) a.state.mode c.finish-2.new.self a.state.hosts.items w.sound o.step.known (known_behind a.cluster (past_in a) c.args.by es w.sound o.step.known) ((quiet c).same es) (λ x. refl) (mode_is c) w.late
 
 pub invariant_of-self-2 : goal.invariant_of-self-2
 invariant_of-self-2 c =
@@ -86,6 +113,7 @@ invariant_of-self-2 c =
       sound = w.sound;
       opening = w.opening;
       kept = rw (pushed c, reverse-more a.log.entries (entry c)) (kept c);
+      late = rw (pushed c, reverse-more a.log.entries (entry c)) (late c);
       history = rw (pushed c, is_answered c) (history-more (core_data a) c.args.by Finish w.history);
     }
 

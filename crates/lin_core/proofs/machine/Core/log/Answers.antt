@@ -1,8 +1,8 @@
 use Rattle.std.proofs.Common.{subst}
 use Rattle.lin_core.specs.Core.{CoreData, past_of}
-use Rattle.lin_core.specs.Promises.{CarriesFrames, DeliversExactly, FatesAreFinal, LosesNothing, PutsInOrder}
+use Rattle.lin_core.specs.Promises.{CarriesFrames, DeliversExactly, FatesAreFinal, LosesNothing, PutsInOrder, StaysClosed}
 use Rattle.lin_core.specs.Whole.{core_data}
-use Rattle.lin_core.proofs.Laws.{log-carries, log-delivers, log-final, log-in-order, log-loses-nothing}
+use Rattle.lin_core.proofs.Laws.{log-carries, log-closed, log-delivers, log-final, log-in-order, log-loses-nothing}
 use Rattle.lin_core.proofs.machine.Core.log.Goals as goal
 
 pub returns-clause-exact_delivery : goal.returns-clause-exact_delivery
@@ -19,3 +19,6 @@ returns-clause-slots_carry_frames c = subst (λ (d : CoreData). CarriesFrames d.
 
 pub returns-clause-nothing_lost : goal.returns-clause-nothing_lost
 returns-clause-nothing_lost c = subst (λ (d : CoreData). LosesNothing d.cluster (past_of d)) c.self.view_is (log-loses-nothing (core_data c.self.inside) c.self.invariant.sound c.self.invariant.history)
+
+pub returns-clause-nothing_after_close : goal.returns-clause-nothing_after_close
+returns-clause-nothing_after_close c = subst (λ (d : CoreData). StaysClosed (past_of d)) c.self.view_is (log-closed (core_data c.self.inside) c.self.invariant.history)

@@ -1,5 +1,5 @@
 use Rattle.std.proofs.Common.{refl, ◌≡◌, List, [], ◌∷◌, ◌++◌, ap, sym, ◌∙◌, subst, arith, length-append}
-use Rattle.std.specs.Prelude.{not, Bool, filter}
+use Rattle.std.specs.Prelude.{not, Bool, ◌||◌, filter}
 use Rattle.lin_cluster.specs.Cluster.{line_of, nodes}
 use Rattle.lin_frame.specs.Words.{numbers}
 use Rattle.lin_schedule.specs.Due.{due_for}
@@ -14,7 +14,9 @@ use Rattle.lin_core.specs.declared.log.LogEntry.{LogEntry}
 use Rattle.lin_core.specs.declared.step.Step.TheVariants.{Open}
 use Rattle.lin_core.proofs.Entries.{reverse-more, history-more}
 use Rattle.lin_core.proofs.Keeping.{done_entry, done-answered, open-keeps, opening-is, Opens}
+use Rattle.lin_core.proofs.LateKeeping.{open-late}
 use Rattle.lin_core.proofs.Making.{Allowed, allowed-inside, opens-inside, past_in}
+use Rattle.lin_core.proofs.Selected.{responder-inside}
 use Rattle.lin_core.proofs.machine.Core.open.Goals.{After-push}
 use Rattle.lin_core.proofs.machine.Core.open.Goals as goal
 
@@ -27,10 +29,10 @@ opens c =
     let flags : c.as_slice-pending.result.now ≡ a.state.signals.pending.items = c.as_slice-pending.ensures.value in
     let due : c.due-due.result ≡ due_for a.cluster a.state.signals.pending.items (line_of a.cluster a.state.walker.place.0 a.state.walker.place.1).entry
     = c.due-due.ensures.entry ∙ ap (λ (bs : List Bool). due_for a.cluster bs (line_of a.cluster a.state.walker.place.0 a.state.walker.place.1).entry) flags in
-    opens-inside a c.args.by c.index.result.now c.begin-slot.result (not c.is_empty-waits.result) c.place-place.result c.due-due.result c.self.invariant (allowed c) c.index.ensures (ap not c.is_empty-waits.ensures) c.place-place.ensures.value due
+    opens-inside a c.args.by c.index.result.now c.begin-slot.result c.has_request-requests.result c.responder-responder.result c.place-place.result c.due-due.result c.self.invariant (allowed c) c.index.ensures (c.has_request-requests.ensures ∙ ap (λ (b : Bool). not b || a.state.mode.asked) c.is_empty-waits.ensures) (responder-inside a c.as_slice.result.now c.responder-responder.result c.self.invariant c.as_slice.ensures.value c.responder-responder.ensures.none c.responder-responder.ensures.some) c.place-place.ensures.value due
     (c.begin-slot.ensures.opened
-    ∙ ap (λ (bs : List Bool). begun c.place-place.result.0 c.place-place.result.1 (header_of a.cluster (not c.is_empty-waits.result) c.due-due.result) (filter (is_due_of a.cluster bs (not c.is_empty-waits.result) c.due-due.result) (numbers (nodes a.cluster)))) flags)
-    c.begin-slot.ensures.few c.begin-slot.ensures.empty
+    ∙ ap (λ (bs : List Bool). begun c.place-place.result.0 c.place-place.result.1 (header_of a.cluster c.has_request-requests.result c.due-due.result) (filter (is_due_of a.cluster bs c.has_request-requests.result c.responder-responder.result c.due-due.result) (numbers (nodes a.cluster)))) flags)
+    c.begin-slot.ensures.few c.begin-slot.ensures.empty c.begin-slot.ensures.none_left c.begin-slot.ensures.calm
 
 pub begin-slot-requires-clause-there : goal.begin-slot-requires-clause-there
 begin-slot-requires-clause-there c =
@@ -64,6 +66,7 @@ invariant_of-self-2 c =
       kept = rw (pushed c, reverse-more a.log.entries (entry c))
           (open-keeps a.cluster a.opening a.capacity a.log.entries (past_in a) a.state.slot c.begin-slot.result a.state.time a.state.walker a.state.hosts.items a.state.signals c.args.by
           w.sound (allowed c).known (allowed c).allowed (opens c) w.kept);
+      late = rw (pushed c, reverse-more a.log.entries (entry c)) (open-late a.cluster a.opening a.capacity (past_in a) c.args.by a.state.mode a.state.hosts.items w.sound (allowed c).known (allowed c).allowed w.late);
       history = rw (pushed c, is_answered c) (history-more (core_data a) c.args.by Open w.history);
     }
 
@@ -71,3 +74,17 @@ pub returns-clause-ok : goal.returns-clause-ok
 returns-clause-ok c =
     subst (λ (d : CoreData). c.push.new.self.entries ≡ d.log ++ answered d c.args.by Open ∷ []) c.self.view_is
     (pushed c ∙ ap (λ (e : LogEntry). c.self.inside.log.entries ++ e ∷ []) (is_answered c))
+
+pub invariant_of-self-then-is_err-2 : goal.invariant_of-self-then-is_err-2
+invariant_of-self-then-is_err-2 c =
+    let w = c.self.invariant in
+    record {
+      few = rw c.make_room.ensures.entries w.few;
+      empty = rw c.try_reserve.ensures.items w.empty;
+      rules = w.rules;
+      sound = w.sound;
+      opening = w.opening;
+      kept = rw c.make_room.ensures.entries w.kept;
+      late = rw c.make_room.ensures.entries w.late;
+      history = rw c.make_room.ensures.entries w.history;
+    }

@@ -8,6 +8,7 @@ use Rattle.lin_core.specs.declared.step.Step.{Step}
 use Rattle.lin_core.specs.declared.step.Step.TheVariants.{Send}
 use Rattle.lin_core.proofs.Entries.{reverse-more, history-more}
 use Rattle.lin_core.proofs.Keeping.{send_entry, send-answered, send-keeps}
+use Rattle.lin_core.proofs.LateKeeping.{send-late}
 use Rattle.lin_core.proofs.Making.{Allowed, allowed-inside, Sender, sender-inside, past_in}
 use Rattle.lin_core.proofs.machine.Core.send.Goals.{After-len, After-push}
 use Rattle.lin_core.proofs.machine.Core.send.Goals as goal
@@ -69,6 +70,9 @@ invariant_of-self-2 c =
       kept = rw (pushed c, reverse-more a.log.entries (entry c))
           (send-keeps a.cluster a.opening a.capacity a.log.entries (past_in a) a.state.slot a.state.time a.state.walker a.state.hosts.items _ a.state.signals host c.args.by c.args.from c.args.to c.args.message (number c)
           w.sound (allowed c).known (allowed c).allowed (sender c).at (ap (slice_set a.state.hosts.items c.args.from) queue) w.kept);
+      late = rw (pushed c, reverse-more a.log.entries (entry c))
+          (send-late a.cluster a.capacity (past_in a) c.args.by c.args.from c.args.to c.args.message _ (length a.log.entries) host a.state.mode a.state.hosts.items _ w.sound (allowed c).known (allowed c).allowed (sender c).at
+          (ap (slice_set a.state.hosts.items c.args.from) queue) w.late);
       history = rw (pushed c, is_answered c) (history-more (core_data a) c.args.by (Send c.args.from c.args.to c.args.message) w.history);
     }
 

@@ -7,6 +7,7 @@ use Rattle.lin_core.specs.declared.step.Step.{Step}
 use Rattle.lin_core.specs.declared.step.Step.TheVariants.{Write}
 use Rattle.lin_core.proofs.Entries.{reverse-more, history-more}
 use Rattle.lin_core.proofs.Keeping.{done_entry, done-answered, write-keeps}
+use Rattle.lin_core.proofs.LateKeeping.{write-late}
 use Rattle.lin_core.proofs.Making.{Allowed, allowed-inside, past_in}
 use Rattle.lin_core.proofs.machine.Core.write.Goals.{After-push}
 use Rattle.lin_core.proofs.machine.Core.write.Goals as goal
@@ -39,6 +40,7 @@ invariant_of-self-2 c =
           (write-keeps a.cluster a.opening a.capacity a.log.entries (past_in a) a.state.slot a.state.time a.state.walker a.state.hosts.items a.state.signals c.write.new.self c.args.by c.args.node c.args.signal c.args.value
           w.sound (allowed c).known (allowed c).allowed
           (record { values = rw c.copied.ensures.same at c.write.ensures.values; heard = c.write.ensures.heard; room = c.write.ensures.room; count = c.write.ensures.frames; pending = c.write.ensures.pending }) w.kept);
+      late = rw (pushed c, reverse-more a.log.entries (entry c)) (write-late a.cluster (past_in a) c.args.by c.args.node c.args.signal c.args.value a.state.mode a.state.hosts.items w.sound (allowed c).known w.late);
       history = rw (pushed c, is_answered c) (history-more (core_data a) c.args.by (Write c.args.node c.args.signal c.args.value) w.history);
     }
 

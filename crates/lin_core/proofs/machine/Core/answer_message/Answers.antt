@@ -1,11 +1,11 @@
-use Rattle.std.proofs.Common.{refl, ◌≡◌, ◌<◌, ℕ, List, [], ◌∷◌, ◌++◌, length, ap, sym, ◌∙◌, subst, arith, length-append}
+use Rattle.std.proofs.Common.{refl, ◌≡◌, ◌<◌, ℕ, Bool, List, [], ◌∷◌, ◌++◌, length, ap, sym, ◌∙◌, subst, arith, length-append}
 use Rattle.std.specs.Prelude.{Option, Some, None}
 use Rattle.lin_frame.specs.Words.{choose}
-use Rattle.lin_transport.specs.Transport.{frame}
 use Rattle.lin_core.specs.Core.{answered, CoreData}
+use Rattle.lin_core.specs.Dues.{frame_answered}
 use Rattle.lin_core.specs.History.{open_slot}
 use Rattle.lin_core.specs.Kept.{Keeps, message_at}
-use Rattle.lin_core.specs.Links.{nad_on}
+use Rattle.lin_core.specs.KeptLate.{HasNext}
 use Rattle.lin_core.specs.Replies.{put_event}
 use Rattle.lin_core.specs.Slots.{with_classic}
 use Rattle.lin_core.specs.Whole.{core_data}
@@ -13,32 +13,28 @@ use Rattle.lin_core.specs.declared.event.Event.{Event}
 use Rattle.lin_core.specs.declared.event.Event.TheVariants.{Put}
 use Rattle.lin_core.specs.declared.log.LogEntry.{LogEntry}
 use Rattle.lin_core.specs.declared.slot.OpenSlot.{OpenSlot}
-use Rattle.lin_core.specs.declared.step.Step.TheVariants.{Answer}
-use Rattle.lin_core.proofs.Entries.{reverse-more, history-more}
-use Rattle.lin_core.proofs.Keeping.{done_entry, done-answered, answer-keeps, answer-told}
-use Rattle.lin_core.proofs.Making.{AnswersNext, answer-next, allowed-inside, past_in}
-use Rattle.lin_core.proofs.Answering.{AnswerSlot, answer-slot, answered-by, head-inside, none-inside, request-answers}
-use Rattle.lin_core.proofs.Opening.{put-room, with_put}
-use Rattle.lin_core.specs.Dues.{frame_answered}
 use Rattle.lin_core.specs.declared.slot.Put.{Put as KeptPut}
-use Rattle.lin_core.proofs.machine.Core.answer_request.Goals.{After-push}
-use Rattle.lin_core.proofs.machine.Core.answer_request.Goals as goal
+use Rattle.lin_core.specs.declared.step.Step.TheVariants.{Answer}
+use Rattle.lin_core.proofs.Answering.{AnswerSlot, answer-slot, answered-by, none-inside, request-answers}
+use Rattle.lin_core.proofs.Entries.{reverse-more, history-more}
+use Rattle.lin_core.proofs.Keeping.{done_entry, done-answered, answer-keeps}
+use Rattle.lin_core.proofs.LateKeeping.{answer-late}
+use Rattle.lin_core.proofs.Making.{Allowed, allowed-inside, past_in}
+use Rattle.lin_core.proofs.Opening.{put-room, with_put}
+use Rattle.lin_core.proofs.Transporting.{AnswersNext, answers-next}
+use Rattle.lin_core.proofs.machine.Core.answer_message.Goals.{After-push}
+use Rattle.lin_core.proofs.machine.Core.answer_message.Goals as goal
 
-pub single_frame-answer-requires-clause-there : goal.single_frame-answer-requires-clause-there
-single_frame-answer-requires-clause-there c =
-    let x = answer-next c.self.inside c.args.self.now c.args.by c.args.node c.index.result.now c.next-place.result c.self.view_is c.self.invariant c.requires.allowed c.requires.few
-    (head-inside c.self.inside c.args.self.now c.args.by c.args.node c.self.view_is c.self.invariant c.requires.allowed c.requires.few c.requires.none) c.index.ensures c.next-place.ensures in
-    rw c.make_room.ensures.entries x.next.below
+next : (c : After-push) → AnswersNext c.self.inside c.args.by c.args.node c.index-host.result.now c.next-place.result c.header_of-header.result c.is_sleep_asked-sleeping.result
+next c =
+    answers-next c.self.inside c.args.self.now c.args.by c.args.node c.index-host.result.now c.next-place.result c.header_of-header.result c.is_sleep_asked-sleeping.result c.self.view_is c.self.invariant c.requires.allowed c.requires.few c.requires.none
+    c.index-host.ensures c.next-place.ensures c.header_of-header.ensures c.is_sleep_asked-sleeping.ensures
 
-pub single_frame-answer-requires-clause-can : goal.single_frame-answer-requires-clause-can
-single_frame-answer-requires-clause-can c =
-    let x = answer-next c.self.inside c.args.self.now c.args.by c.args.node c.index.result.now c.next-place.result c.self.view_is c.self.invariant c.requires.allowed c.requires.few
-    (head-inside c.self.inside c.args.self.now c.args.by c.args.node c.self.view_is c.self.invariant c.requires.allowed c.requires.few c.requires.none) c.index.ensures c.next-place.ensures in
-    rw c.make_room.ensures.entries x.next.can
-
-next : (c : After-push) → AnswersNext c.self.inside c.args.by c.args.node c.next-place.result
-next c = answer-next c.self.inside c.args.self.now c.args.by c.args.node c.index.result.now c.next-place.result c.self.view_is c.self.invariant c.requires.allowed c.requires.few
-    (head-inside c.self.inside c.args.self.now c.args.by c.args.node c.self.view_is c.self.invariant c.requires.allowed c.requires.few c.requires.none) c.index.ensures c.next-place.ensures
+pub next_bytes-data-requires : goal.next_bytes-data-requires
+next_bytes-data-requires c =
+    let x = answers-next c.self.inside c.args.self.now c.args.by c.args.node c.index-host.result.now c.next-place.result c.header_of-header.result c.is_sleep_asked-sleeping.result c.self.view_is c.self.invariant c.requires.allowed c.requires.few c.requires.none
+    c.index-host.ensures c.next-place.ensures c.header_of-header.ensures c.is_sleep_asked-sleeping.ensures in
+    rw c.make_room.ensures.entries x.has
 
 abbrev events : (c : After-push) → List Event
 events c = choose (open_slot (past_in c.self.inside)) [] (put_event c.self.inside.cluster (past_in c.self.inside) c.args.node)
@@ -46,27 +42,18 @@ events c = choose (open_slot (past_in c.self.inside)) [] (put_event c.self.insid
 abbrev entry : (c : After-push) → LogEntry
 entry c = done_entry c.args.by (Answer c.args.node) (events c)
 
-abbrev frame_of : (c : After-push) → List ℕ
-frame_of c = with_classic (frame (nad_on c.self.inside.cluster (next c).answer.message.link) (next c).answer.message.bytes 0)
-
-there : (c : After-push) → message_at c.make_room.new.self.entries c.next-place.result ≡ Some (next c).answer.message
-there c = ap (λ (log : List LogEntry). message_at log c.next-place.result) c.make_room.ensures.entries ∙ (next c).next.is
-
-told : (c : After-push) → Put c.args.node (frame_of c) ∷ [] ≡ events c
-told c = answer-told c.self.inside.cluster (past_in c.self.inside) (next c).step.known.states c.args.node (next c).answer
-
-at : (c : After-push) → AnswerSlot c.self.inside c.args.node
-at c = answer-slot c.self.inside c.args.by c.args.node c.self.invariant (next c).step
-
 abbrev put_of : (c : After-push) → KeptPut
-put_of c = record { node = c.args.node; answer = frame_of c; cleared = None }
+put_of c = record { node = c.args.node; answer = c.answer-answer.result; cleared = None }
+
+told : (c : After-push) → Put c.args.node c.answer-answer.result ∷ [] ≡ events c
+told c = ap (λ (bytes : List ℕ). Put c.args.node bytes ∷ []) (c.answer-answer.ensures ∙ ap with_classic (rw (← c.make_room.ensures.entries) c.next_bytes-data.ensures)) ∙ (next c).told
 
 pushed : (c : After-push) → c.push.new.self.entries ≡ c.self.inside.log.entries ++ entry c ∷ []
 pushed c =
     let a = c.self.inside in
     c.push.ensures ∙ ap (λ (log : List LogEntry). log ++ done_entry c.args.by (Answer c.args.node) c.one_event-events.result ∷ []) c.make_room.ensures.entries
     ∙ ap (λ (es : List Event). a.log.entries ++ done_entry c.args.by (Answer c.args.node) es ∷ [])
-    (c.one_event-events.ensures ∙ ap (λ (bytes : List ℕ). Put c.args.node bytes ∷ []) (c.copied_answer-told.ensures ∙ c.single_frame-answer.ensures (next c).answer.message (there c)) ∙ told c)
+    (c.one_event-events.ensures ∙ ap (λ (bytes : List ℕ). Put c.args.node bytes ∷ []) c.copied_answer-told.ensures ∙ told c)
 
 is_answered : (c : After-push) → entry c ≡ answered (core_data c.self.inside) c.args.by (Answer c.args.node)
 is_answered c = done-answered (core_data c.self.inside) c.args.by (Answer c.args.node) (events c) (next c).step.allowed refl
@@ -76,9 +63,8 @@ kept c =
     let a = c.self.inside in
     let w = c.self.invariant in
     let x = next c in
-    let s = at c in
-    let put : c.put_in.new.slot ≡ Some (with_put s.slot (put_of c))
-    = c.put_in.ensures s.slot s.at ∙ ap (λ (bytes : List ℕ). Some (with_put s.slot (record { node = c.args.node; answer = bytes; cleared = None }))) (c.single_frame-answer.ensures x.answer.message (there c)) in
+    let s = x.slot in
+    let put : c.put_in.new.slot ≡ Some (with_put s.slot (put_of c)) = c.put_in.ensures s.slot s.at in
     let keeps : Keeps a.cluster a.opening a.capacity a.log.entries (past_in a) (Some s.slot) a.state.time a.state.walker a.state.hosts.items a.state.signals
     = subst (λ (o : Option OpenSlot). Keeps a.cluster a.opening a.capacity a.log.entries (past_in a) o a.state.time a.state.walker a.state.hosts.items a.state.signals) s.at w.kept in
     let none : frame_answered a.cluster (past_in a) c.args.node ≡ None = none-inside a c.args.self.now c.args.node c.self.view_is c.requires.none in
@@ -104,6 +90,7 @@ invariant_of-self-2 c =
       sound = w.sound;
       opening = w.opening;
       kept = rw (pushed c, reverse-more a.log.entries (entry c)) (kept c);
+      late = rw (pushed c, reverse-more a.log.entries (entry c)) (answer-late a.cluster a.capacity (past_in a) c.args.by c.args.node a.state.mode a.state.hosts.items w.sound (next c).step.known (next c).step.allowed w.late);
       history = rw (pushed c, is_answered c) (history-more (core_data a) c.args.by (Answer c.args.node) w.history);
     }
 

@@ -1,0 +1,67 @@
+-- The cluster's mode behind a finish.
+use Rattle.std.proofs.Common.{◌≡◌, ℕ, Bool, true, false, List, [], ◌∷◌, refl, ap, ◌∙◌, arith}
+use Rattle.std.specs.Prelude.{Option, Some, None, cond, find, ◌++◌, ◌&&◌, ◌==◌, if◌then◌else◌, nat_le, slice_index}
+use Rattle.std.proofs.lemmas.Bool.Decides.{nat_tests}
+use Rattle.lin_frame.specs.Words.{choose}
+use Rattle.lin_cluster.specs.declared.parts.Parts.{Parts}
+use Rattle.lin_core.specs.History.{Slot, asked, asleep, good_under, is_sleep_slot, open_slot}
+use Rattle.lin_core.specs.KeptLate.{KeepsMode, mode_after}
+use Rattle.lin_core.specs.Slots.{addressed, node_with, selected}
+use Rattle.lin_core.specs.declared.event.Event.{Event}
+use Rattle.lin_core.specs.declared.log.LogEntry.{LogEntry}
+use Rattle.lin_core.specs.declared.mode.Mode.{Mode}
+use Rattle.lin_core.specs.declared.port.PortId.{PortId}
+use Rattle.lin_core.specs.declared.step.Step.TheVariants.{Finish}
+use Rattle.lin_core.proofs.Known.{entry_is}
+
+-- the mode by the bytes of a good master request
+abbrev mode_by : Parts → Option (List ℕ) → Mode → Mode
+mode_by c o mode =
+    choose o mode
+    (λ bytes.
+    if slice_index bytes 0 == 0 then record { asleep = true; asked = false; selected = None }
+    else if nat_le (slice_index bytes 0) 125 then record mode { selected = node_with c (slice_index bytes 0) }
+    else mode)
+
+abbrev sleeps_by : Option (List ℕ) → Bool
+sleeps_by o = choose o false (λ bytes. slice_index bytes 0 == 0)
+
+abbrev addressed_by : Parts → Option (List ℕ) → Option (Option ℕ)
+addressed_by c o = choose o None (λ bytes. if nat_le 1 (slice_index bytes 0) && nat_le (slice_index bytes 0) 125 then Some (node_with c (slice_index bytes 0)) else None)
+
+some-least : (n : ℕ) → (n == 0) ≡ false → nat_le 1 n ≡ true
+some-least n e = grind (arith, nat_tests, e)
+
+record ModeIs (c : Parts) (o : Option (List ℕ)) (mode : Mode) (sleeping asking : Bool) (node : Option ℕ) : Type 0 where
+  asleep_is : (mode_by c o mode).asleep ≡ (if sleeps_by o then true else sleeping)
+  asked_is : (mode_by c o mode).asked ≡ (if sleeps_by o then false else asking)
+  selected_is : (mode_by c o mode).selected ≡ (if sleeps_by o then None else choose (addressed_by c o) node (λ n. n))
+
+by-bytes : (c : Parts) (bytes : List ℕ) (mode : Mode) (sleeping asking : Bool) (node : Option ℕ) (zero far : Bool) → (slice_index bytes 0 == 0) ≡ zero → nat_le (slice_index bytes 0) 125 ≡ far
+    → mode.asleep ≡ sleeping → mode.asked ≡ asking → mode.selected ≡ node → ModeIs c (Some bytes) mode sleeping asking node
+by-bytes c bytes mode sleeping asking node true far z f a b d = record { asleep_is = rw z refl; asked_is = rw z refl; selected_is = rw z refl }
+by-bytes c bytes mode sleeping asking node false true z f a b d = let l = some-least (slice_index bytes 0) z in record { asleep_is = rw (z, f) a; asked_is = rw (z, f) b; selected_is = rw (z, f, l) refl }
+by-bytes c bytes mode sleeping asking node false false z f a b d = let l = some-least (slice_index bytes 0) z in record { asleep_is = rw (z, f) a; asked_is = rw (z, f) b; selected_is = rw (z, f, l) d }
+
+mode-by : (c : Parts) (o : Option (List ℕ)) (mode : Mode) (sleeping asking : Bool) (node : Option ℕ) → mode.asleep ≡ sleeping → mode.asked ≡ asking → mode.selected ≡ node → ModeIs c o mode sleeping asking node
+mode-by c None mode sleeping asking node a b d = record { asleep_is = a; asked_is = b; selected_is = d }
+mode-by c (Some bytes) mode sleeping asking node a b d = by-bytes c bytes mode sleeping asking node (slice_index bytes 0 == 0) (nat_le (slice_index bytes 0) 125) refl refl a b d
+
+pub finish-mode : (c : Parts) (past : List LogEntry) (by : PortId) (es : List Event) (s : Slot) (mode : Mode) → open_slot past ≡ Some s → KeepsMode c past mode → KeepsMode c (entry_is by Finish es ∷ past) (mode_after c s mode)
+finish-mode c past by es s mode is k =
+    let m : ModeIs c (good_under 0x3C s) mode (asleep past) (asked past) (selected c past) = mode-by c (good_under 0x3C s) mode (asleep past) (asked past) (selected c past) k.asleep_is k.asked_is k.selected_is
+    in record { asleep_is = rw is m.asleep_is; asked_is = rw is m.asked_is; selected_is = rw is m.selected_is }
+
+found-one : (b : Bool) (x : ℕ) → cond b (Some x) None ≡ (if b then Some x else None)
+found-one true x = refl
+found-one false x = refl
+
+found-by : (b : Bool) (y : ℕ) (p : ℕ → Bool) (xs : List ℕ) (x : ℕ) → find p (xs ++ x ∷ []) ≡ choose (find p xs) (if p x then Some x else None) Some
+    → cond b (Some y) (find p (xs ++ x ∷ [])) ≡ choose (cond b (Some y) (find p xs)) (if p x then Some x else None) Some
+found-by true y p xs x e = refl
+found-by false y p xs x e = e
+
+-- what is found in a list with one more item
+pub find-more : (p : ℕ → Bool) (xs : List ℕ) (x : ℕ) → find p (xs ++ x ∷ []) ≡ choose (find p xs) (if p x then Some x else None) Some
+find-more p [] x = found-one (p x) x
+find-more p (y ∷ xs) x = found-by (p y) y p xs x (find-more p xs x)

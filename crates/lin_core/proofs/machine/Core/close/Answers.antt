@@ -1,0 +1,42 @@
+use Rattle.std.proofs.Common.{◌≡◌, refl, [], ◌∷◌, ◌++◌, ◌∙◌}
+use Rattle.lin_core.specs.Core.{answered}
+use Rattle.lin_core.specs.Whole.{core_data}
+use Rattle.lin_core.specs.declared.log.LogEntry.{LogEntry}
+use Rattle.lin_core.specs.declared.step.Step.TheVariants.{Close}
+use Rattle.lin_core.proofs.Keeping.{done_entry}
+use Rattle.lin_core.proofs.LateKeeping.{close-keeps, close-late}
+use Rattle.lin_core.proofs.LateMaking.{entry-is, logged-returns, logged-whole, pushed-is, closed-host}
+use Rattle.lin_core.proofs.Making.{Allowed, allowed-inside, past_in}
+use Rattle.lin_core.proofs.machine.Core.close.Goals.{After-push}
+use Rattle.lin_core.proofs.machine.Core.close.Goals as goal
+
+allowed : (c : After-push) → Allowed c.self.inside c.args.by (Close c.args.host)
+allowed c = allowed-inside c.self.inside c.args.self.now c.args.by (Close c.args.host) c.self.view_is c.self.invariant c.requires.allowed c.requires.few
+
+abbrev entry : (c : After-push) → LogEntry
+entry c = done_entry c.args.by (Close c.args.host) []
+
+pushed : (c : After-push) → c.push.new.self.entries ≡ c.self.inside.log.entries ++ entry c ∷ []
+pushed c = pushed-is c.self.inside c.args.by (Close c.args.host) c.new-2.result [] c.push.new.self.entries c.make_room.new.self.entries c.push.ensures c.make_room.ensures.entries (c.new-2.ensures ∙ c.new.ensures.items)
+
+is_answered : (c : After-push) → entry c ≡ answered (core_data c.self.inside) c.args.by (Close c.args.host)
+is_answered c = entry-is c.self.inside c.args.by (Close c.args.host) [] (allowed c) refl
+
+pub invariant_of-self-2 : goal.invariant_of-self-2
+invariant_of-self-2 c =
+    let a = c.self.inside in
+    let w = c.self.invariant in
+    let here = closed-host a c.args.by c.args.host c.index_mut.result.now w (allowed c) c.index_mut.ensures.value in
+    logged-whole a _ c.args.by (Close c.args.host) (entry c) w (allowed c) (is_answered c)
+    (record {
+      log = pushed c;
+      empty = w.empty;
+      cluster = refl;
+      opening = refl;
+      capacity = refl;
+      kept = close-keeps a.cluster a.opening a.capacity a.log.entries (past_in a) a.state.slot a.state.time a.state.walker a.state.hosts.items a.state.signals c.index_mut.result.now c.args.by c.args.host w.sound (allowed c).known here w.kept;
+      late = close-late a.cluster (past_in a) c.args.by c.args.host c.index_mut.result.now a.state.mode a.state.hosts.items w.sound (allowed c).known here w.late;
+    })
+
+pub returns-clause-ok : goal.returns-clause-ok
+returns-clause-ok c = logged-returns c.self.inside c.args.self.now c.args.by (Close c.args.host) (entry c) c.push.new.self.entries c.self.view_is (is_answered c) (pushed c)

@@ -1,0 +1,190 @@
+use Rattle.std.proofs.Common.{refl, ◌≡◌, ◌+◌, ℕ, suc, length, List, [], ◌∷◌, ◌++◌, ap, sym, ◌∙◌, subst, arith, length-append}
+use Rattle.std.specs.Prelude.{Option}
+use Rattle.lin_cluster.specs.Cluster.{line_of}
+use Rattle.lin_core.specs.Core.{answered, CoreData}
+use Rattle.lin_core.specs.Kept.{Keeps, slot_in}
+use Rattle.lin_core.specs.Replies.{finish_events}
+use Rattle.lin_core.specs.Slots.{moves}
+use Rattle.lin_core.specs.Whole.{core_data}
+use Rattle.lin_core.specs.History.{is_clash_seen}
+use Rattle.lin_schedule.specs.Schedule.Move.{Slot as SlotMove}
+use Rattle.lin_schedule.specs.Walker.{Stands}
+use Rattle.std.specs.Prelude.{Bool}
+use Rattle.lin_core.specs.declared.event.Event.{Event}
+use Rattle.lin_core.specs.Replies.{receiver_of}
+use Rattle.lin_core.specs.declared.event.Seen.{Seen as HowSeen}
+use Rattle.lin_core.specs.declared.event.Event.TheVariants.{Message as MessageEvent, Seen, Sent}
+use Rattle.lin_core.specs.declared.log.LogEntry.{LogEntry}
+use Rattle.lin_core.specs.declared.slot.OpenSlot.{OpenSlot}
+use Rattle.lin_core.specs.declared.step.Step.TheVariants.{Finish}
+use Rattle.lin_core.proofs.Entries.{reverse-more, history-more}
+use Rattle.std.specs.Prelude.{slice_set}
+use Rattle.std.proofs.Math.ListN.{length-set}
+use Rattle.std.specs.Prelude.{Some, false, true}
+use Rattle.lin_core.specs.Hosts.{settled}
+use Rattle.lin_core.specs.Kept.{message_at}
+use Rattle.lin_core.proofs.FinishCases.{Done, finishes-whole, known_behind}
+use Rattle.lin_core.proofs.Settled.{SettlesHost, settles-host}
+use Rattle.lin_core.proofs.Settling.{settled-hosts, settled-late}
+use Rattle.lin_core.proofs.Goods.{GoodIs, carried-inside, carried-slot, good-inside, host-there, last-by}
+use Rattle.lin_core.proofs.Making.{known-inside}
+use Rattle.lin_core.proofs.Keeping.{done_entry, done-answered, finished_entry, finish-keeps, Finishes}
+use Rattle.lin_core.proofs.ModeKeeping.{finish-mode}
+use Rattle.lin_core.specs.KeptLate.{KeepsLate, KeepsMode}
+use Rattle.lin_core.proofs.SignalKeeping.{Ends}
+use Rattle.lin_core.proofs.Making.{OpenIs, open-inside, past_in}
+use Rattle.lin_core.proofs.machine.Core.finish_whole.Goals.{After-push}
+use Rattle.lin_core.proofs.machine.Core.finish_whole.Goals as goal
+
+pub index-requires : goal.index-requires
+index-requires c =
+    let a = c.self.inside in
+    let w = c.self.invariant in
+    let i = host-there a c.args.sender false w (known-inside a w) (carried-inside a c.args.self.now c.args.sender false c.self.view_is c.requires.carried) in
+    let count = w.kept.hosts_count in
+    let below = i.below in
+    omega arith
+
+pub index_mut-host-requires : goal.index_mut-host-requires
+index_mut-host-requires c =
+    let a = c.self.inside in
+    let w = c.self.invariant in
+    let i = host-there a c.args.sender false w (known-inside a w) (carried-inside a c.args.self.now c.args.sender false c.self.view_is c.requires.carried) in
+    let count = w.kept.hosts_count in
+    let below = i.below in
+    omega arith
+
+pub overflow_add-number : goal.overflow_add-number
+overflow_add-number c =
+    let a = c.self.inside in
+    let w = c.self.invariant in
+    let o = open-inside a c.args.self.now c.args.by c.self.view_is w c.requires.allowed c.requires.few in
+    let g = good-inside a c.args.sender false c.index.result.now c.next-place.result w o.step.known (carried-inside a c.args.self.now c.args.sender false c.self.view_is c.requires.carried) c.index.ensures c.next-place.ensures in
+    let own = settles-host a c.args.by o c.args.sender c.index_mut-host.result.now g.message g.later w g.below g.first c.index_mut-host.ensures.value in
+    let small = own.small in
+    omega arith
+
+pub settle-requires : goal.settle-requires
+settle-requires c =
+    let a = c.self.inside in
+    let w = c.self.invariant in
+    let o = open-inside a c.args.self.now c.args.by c.self.view_is w c.requires.allowed c.requires.few in
+    let g = good-inside a c.args.sender false c.index.result.now c.next-place.result w o.step.known (carried-inside a c.args.self.now c.args.sender false c.self.view_is c.requires.carried) c.index.ensures c.next-place.ensures in
+    let own = settles-host a c.args.by o c.args.sender c.index_mut-host.result.now g.message g.later w g.below g.first c.index_mut-host.ensures.value in
+    let small = own.small in
+    omega arith
+
+opened : (c : After-push) → OpenIs c.self.inside c.args.by
+opened c = open-inside c.self.inside c.args.self.now c.args.by c.self.view_is c.self.invariant c.requires.allowed c.requires.few
+
+good : (c : After-push) → GoodIs c.self.inside (opened c).step.known c.args.sender c.index.result.now c.next-place.result
+good c =
+    let a = c.self.inside in
+    good-inside a c.args.sender false c.index.result.now c.next-place.result c.self.invariant (opened c).step.known (carried-inside a c.args.self.now c.args.sender false c.self.view_is c.requires.carried) c.index.ensures c.next-place.ensures
+
+own : (c : After-push) → SettlesHost c.self.inside c.args.by (opened c) c.args.sender c.index_mut-host.result.now
+own c = let g = good c in settles-host c.self.inside c.args.by (opened c) c.args.sender c.index_mut-host.result.now g.message g.later c.self.invariant g.below g.first c.index_mut-host.ensures.value
+
+whole : (c : After-push) → Done c.self.inside.cluster (past_in c.self.inside) c.args.by (slot_in (opened c).slot) c.self.invariant.sound (opened c).step.known c.args.sender
+    (MessageEvent c.args.sender (receiver_of (good c).message.link.dir (good c).message.link.node) (good c).message.bytes ∷ Sent c.args.sender (suc (length ((opened c).step.known.states c.args.sender).done)) ∷ [])
+whole c =
+    let a = c.self.inside in
+    let o = opened c in
+    let g = good c in
+    let s = carried-slot (past_in a) c.args.sender false (slot_in o.slot) o.is (carried-inside a c.args.self.now c.args.sender false c.self.view_is c.requires.carried) in
+    finishes-whole a.cluster (past_in a) c.args.by (slot_in o.slot) c.self.invariant.sound o.step.known c.args.sender g.message g.later o.is s.0 s.1 g.first
+    (last-by a c.args.self.now c.args.sender c.index.result.now c.next-place.result true c.self.invariant o.step.known g c.self.view_is c.requires.last)
+
+abbrev entry : (c : After-push) → LogEntry
+entry c = finished_entry c.self.inside.cluster (past_in c.self.inside) c.args.by
+
+is_answered : (c : After-push) → entry c ≡ answered (core_data c.self.inside) c.args.by Finish
+is_answered c = done-answered (core_data c.self.inside) c.args.by Finish (finish_events c.self.inside.cluster c.args.by (past_in c.self.inside)) (opened c).step.allowed refl
+
+finishes : (c : After-push) → Finishes c.self.inside.cluster c.self.inside.opening (past_in c.self.inside) (opened c).slot c.self.inside.state.time (c.self.inside.state.time + c.from.result) c.self.inside.state.walker c.advance.new.self
+finishes c =
+    let a = c.self.inside in
+    let o = opened c in
+    let delay : c.delay_of-delay.result ≡ (line_of a.cluster o.slot.table o.slot.entry).delay_us = c.delay_of-delay.ensures.value o.slot o.at in
+    record {
+      clock_is = ap (λ (n : ℕ). a.state.time + n) (c.from.ensures ∙ delay);
+      few = rw (← delay) c.delay_of-delay.ensures.few;
+      stands = subst (λ (b : Bool). Stands a.cluster a.opening c.advance.new.self (SlotMove b ∷ moves (past_in a)))
+          (c.is_clash-clash.ensures ∙ ap is_clash_seen (c.seen_in-seen.ensures o.slot (c.take.ensures.value ∙ o.at))) (c.advance.ensures.stands a.opening (moves (past_in a)) c.self.invariant.kept.stands);
+      walks = c.advance.ensures.walks;
+    }
+
+ends : (c : After-push) → Ends c.self.inside.cluster (opened c).slot c.self.inside.state.signals c.finish.new.self
+ends c = let o = opened c in record {
+  values = c.finish.ensures.values;
+  room = c.finish.ensures.room;
+  heard_count = c.finish.ensures.signals;
+  count = c.finish.ensures.frames;
+  heard = c.finish.ensures.heard o.slot o.at;
+  pending = c.finish.ensures.pending o.slot o.at;
+}
+
+three-events : (h : ℕ) (s s' : HowSeen) (to to' : ℕ) (bytes bytes' : List ℕ) (n n' : ℕ) → s ≡ s' → to ≡ to' → bytes ≡ bytes' → n ≡ n' → Seen s ∷ MessageEvent h to bytes ∷ Sent h n ∷ [] ≡ Seen s' ∷ MessageEvent h to' bytes' ∷ Sent h n' ∷ []
+three-events h s s' to to' bytes bytes' n n' p q r t = rw (p, q, r, t) refl
+
+told : (c : After-push) → Seen c.seen_in-seen.result ∷ MessageEvent c.args.sender c.receiver_at-to.result c.new-2.result ∷ Sent c.args.sender (c.index_mut-host.result.now.settled + 1) ∷ [] ≡ finish_events c.self.inside.cluster c.args.by (past_in c.self.inside)
+told c =
+    let g = good c in
+    let there : message_at c.make_room.new.self.entries c.next-place.result ≡ Some g.message = ap (λ (log : List LogEntry). message_at log c.next-place.result) c.make_room.ensures.entries ∙ g.at in
+    three-events _ _ _ _ _ _ _ _ _ (c.seen_in-seen.ensures (opened c).slot (c.take.ensures.value ∙ (opened c).at)) (c.receiver_at-to.ensures g.message there) (c.new-2.ensures ∙ c.in-Ok.ensures.items ∙ c.message_at.ensures g.message there) (own c).number
+    ∙ sym (whole c).told
+
+pushed : (c : After-push) → c.push.new.self.entries ≡ c.self.inside.log.entries ++ entry c ∷ []
+pushed c =
+    let a = c.self.inside in
+    c.push.ensures ∙ ap (λ (log : List LogEntry). log ++ done_entry c.args.by Finish c.three_events-events.result ∷ []) c.make_room.ensures.entries
+    ∙ ap (λ (es : List Event). a.log.entries ++ done_entry c.args.by Finish es ∷ []) (c.three_events-events.ensures ∙ told c)
+
+kept : (c : After-push) → Keeps c.self.inside.cluster c.self.inside.opening c.self.inside.capacity (c.self.inside.log.entries ++ entry c ∷ []) (entry c ∷ past_in c.self.inside) c.take.new.self (c.self.inside.state.time + c.from.result) c.advance.new.self (slice_set c.self.inside.state.hosts.items c.args.sender c.settle.new.self) c.finish.new.self
+kept c =
+    let a = c.self.inside in
+    let w = c.self.invariant in
+    let o = opened c in
+    let host = c.index_mut-host.result.now in
+    let es = finish_events a.cluster c.args.by (past_in a) in
+    rw (c.take.ensures.after, c.settle.ensures)
+    (finish-keeps a.cluster a.opening a.capacity a.log.entries (past_in a) o.slot a.state.time (a.state.time + c.from.result) a.state.walker c.advance.new.self a.state.hosts.items (slice_set a.state.hosts.items c.args.sender (settled host)) a.state.signals c.finish.new.self c.args.by (finishes c) (ends c)
+    (length-set a.state.hosts.items c.args.sender (settled host))
+    (settled-hosts a.cluster a.capacity a.log.entries (past_in a) (entry c) c.args.sender host a.state.hosts.items w.sound o.step.known (known_behind a.cluster (past_in a) c.args.by es w.sound o.step.known) ((whole c).settles es) (own c).here w.kept.each_host)
+    (subst (λ (s : Option OpenSlot). Keeps a.cluster a.opening a.capacity a.log.entries (past_in a) s a.state.time a.state.walker a.state.hosts.items a.state.signals) o.at w.kept))
+
+mode_is : (c : After-push) → KeepsMode c.self.inside.cluster (entry c ∷ past_in c.self.inside) c.finish-2.new.self
+mode_is c =
+    let a = c.self.inside in
+    let o = opened c in
+    rw (c.finish-2.ensures o.slot o.at) (finish-mode a.cluster (past_in a) c.args.by (finish_events a.cluster c.args.by (past_in a)) (slot_in o.slot) a.state.mode o.is c.self.invariant.late.mode_is)
+
+late : (c : After-push) → KeepsLate c.self.inside.cluster (entry c ∷ past_in c.self.inside) c.finish-2.new.self (slice_set c.self.inside.state.hosts.items c.args.sender c.settle.new.self)
+late c =
+    let a = c.self.inside in
+    let w = c.self.invariant in
+    let o = opened c in
+    let host = c.index_mut-host.result.now in
+    let es = finish_events a.cluster c.args.by (past_in a) in
+    rw c.settle.ensures
+    (settled-late a.cluster (past_in a) (entry c) c.args.sender host a.state.mode c.finish-2.new.self a.state.hosts.items w.sound o.step.known (known_behind a.cluster (past_in a) c.args.by es w.sound o.step.known) ((whole c).settles es) (own c).here (λ y. refl) (mode_is c) w.late)
+
+pub invariant_of-self-2 : goal.invariant_of-self-2
+invariant_of-self-2 c =
+    let a = c.self.inside in
+    let w = c.self.invariant in
+    record {
+      few = let few = (opened c).step.few in rw (pushed c, length-append) (omega arith);
+      empty = rw c.replace-room.ensures.after c.new.ensures.items;
+      rules = w.rules;
+      sound = w.sound;
+      opening = w.opening;
+      kept = rw (pushed c, reverse-more a.log.entries (entry c)) (kept c);
+      late = rw (pushed c, reverse-more a.log.entries (entry c)) (late c);
+      history = rw (pushed c, is_answered c) (history-more (core_data a) c.args.by Finish w.history);
+    }
+
+pub returns-clause-ok : goal.returns-clause-ok
+returns-clause-ok c =
+    subst (λ (d : CoreData). c.push.new.self.entries ≡ d.log ++ answered d c.args.by Finish ∷ []) c.self.view_is
+    (pushed c ∙ ap (λ (e : LogEntry). c.self.inside.log.entries ++ e ∷ []) (is_answered c))

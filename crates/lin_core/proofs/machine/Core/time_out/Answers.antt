@@ -1,0 +1,75 @@
+use Rattle.std.proofs.Common.{◌≡◌, ◌+◌, refl, [], ◌∷◌, ◌++◌, ◌∙◌, ap, sym, subst, arith}
+use Rattle.std.specs.Prelude.{List, slice_index_or, slice_set}
+use Rattle.lin_core.specs.Core.{answered}
+use Rattle.lin_core.specs.Hosts.{settled}
+use Rattle.lin_core.specs.Links.{host_of}
+use Rattle.lin_core.specs.Replies.{all_reports, link_at, quiet_entry}
+use Rattle.lin_core.specs.Whole.{core_data}
+use Rattle.lin_core.specs.declared.event.Event.{Event}
+use Rattle.lin_core.specs.declared.event.Event.TheVariants.{Lost}
+use Rattle.lin_core.specs.declared.link.Cause.TheVariants.{TimedOut}
+use Rattle.lin_core.specs.declared.log.LogEntry.{LogEntry}
+use Rattle.lin_core.specs.declared.step.Step.TheVariants.{Timeout}
+use Rattle.lin_core.proofs.Keeping.{done_entry}
+use Rattle.lin_core.proofs.LateMaking.{entry-is, logged-returns, logged-whole, pushed-is}
+use Rattle.lin_core.proofs.Making.{Allowed, allowed-inside, past_in}
+use Rattle.lin_core.proofs.Timeouts.{TimesOut, times-out, timeout-keeps, timeout-late}
+use Rattle.lin_core.proofs.machine.Core.time_out.Goals.{After-push}
+use Rattle.lin_core.proofs.machine.Core.time_out.Goals as goal
+
+pub overflow_add-number : goal.overflow_add-number
+overflow_add-number c =
+    let n = allowed-inside c.self.inside c.args.self.now c.args.by (Timeout c.args.node c.args.dir) c.self.view_is c.self.invariant c.requires.allowed c.requires.few in
+    let o = times-out c.self.inside c.args.by c.args.node c.args.dir c.index_mut-kept.result.now c.self.invariant n (rw (← c.sender_over-host.ensures) c.index_mut-kept.ensures.value) in
+    let small = o.small in
+    omega arith
+
+pub settle-requires : goal.settle-requires
+settle-requires c =
+    let n = allowed-inside c.self.inside c.args.self.now c.args.by (Timeout c.args.node c.args.dir) c.self.view_is c.self.invariant c.requires.allowed c.requires.few in
+    let o = times-out c.self.inside c.args.by c.args.node c.args.dir c.index_mut-kept.result.now c.self.invariant n (rw (← c.sender_over-host.ensures) c.index_mut-kept.ensures.value) in
+    let small = o.small in
+    omega arith
+
+allowed : (c : After-push) → Allowed c.self.inside c.args.by (Timeout c.args.node c.args.dir)
+allowed c = allowed-inside c.self.inside c.args.self.now c.args.by (Timeout c.args.node c.args.dir) c.self.view_is c.self.invariant c.requires.allowed c.requires.few
+
+out : (c : After-push) → TimesOut c.self.inside c.args.by c.args.node c.args.dir c.index_mut-kept.result.now
+out c = times-out c.self.inside c.args.by c.args.node c.args.dir c.index_mut-kept.result.now c.self.invariant (allowed c) (rw (← c.sender_over-host.ensures) c.index_mut-kept.ensures.value)
+
+abbrev events : (c : After-push) → List Event
+events c = all_reports c.self.inside.cluster (quiet_entry c.args.by (Timeout c.args.node c.args.dir)) (past_in c.self.inside)
+
+abbrev entry : (c : After-push) → LogEntry
+entry c = done_entry c.args.by (Timeout c.args.node c.args.dir) (events c)
+
+told : (c : After-push) → c.one_event-events.result ≡ events c
+told c = c.one_event-events.ensures ∙ rw c.sender_over-host.ensures (out c).told
+
+pushed : (c : After-push) → c.push.new.self.entries ≡ c.self.inside.log.entries ++ entry c ∷ []
+pushed c = pushed-is c.self.inside c.args.by (Timeout c.args.node c.args.dir) c.one_event-events.result (events c) c.push.new.self.entries c.make_room.new.self.entries c.push.ensures c.make_room.ensures.entries (told c)
+
+is_answered : (c : After-push) → entry c ≡ answered (core_data c.self.inside) c.args.by (Timeout c.args.node c.args.dir)
+is_answered c = entry-is c.self.inside c.args.by (Timeout c.args.node c.args.dir) (events c) (allowed c) refl
+
+pub invariant_of-self-2 : goal.invariant_of-self-2
+invariant_of-self-2 c =
+    let a = c.self.inside in
+    let w = c.self.invariant in
+    let o = out c in
+    logged-whole a _ c.args.by (Timeout c.args.node c.args.dir) (entry c) w (allowed c) (is_answered c)
+    (record {
+      log = pushed c;
+      empty = rw c.replace-room.ensures.after c.new.ensures.items;
+      cluster = refl;
+      opening = refl;
+      capacity = refl;
+      kept = rw (c.sender_over-host.ensures, c.settle.ensures)
+          (timeout-keeps a.cluster a.opening a.capacity a.log.entries (past_in a) a.state.slot a.state.time a.state.walker a.state.hosts.items a.state.signals c.index_mut-kept.result.now c.args.by c.args.node c.args.dir (events c)
+          w.sound o.known o.none o.here (o.settles (events c)) w.kept);
+      late = rw (c.sender_over-host.ensures, c.settle.ensures)
+          (timeout-late a.cluster (past_in a) a.state.mode a.state.hosts.items c.index_mut-kept.result.now c.args.by c.args.node c.args.dir (events c) w.sound o.known o.none o.here (o.settles (events c)) w.late);
+    })
+
+pub returns-clause-ok : goal.returns-clause-ok
+returns-clause-ok c = logged-returns c.self.inside c.args.self.now c.args.by (Timeout c.args.node c.args.dir) (entry c) c.push.new.self.entries c.self.view_is (is_answered c) (pushed c)

@@ -1,0 +1,117 @@
+//! When a write, a switch, an ask for sleep or a wake is refused.
+
+ghost use Rattle.std.specs.Prelude.{◌≡◌, ℕ, ◌<◌, List, length, option_map};
+ghost use Rattle.lin_frame.specs.Bits.{fits_place};
+ghost use Rattle.lin_cluster.specs.Cluster.{signal_of};
+ghost use Rattle.lin_cluster.specs.Rules.{place_at};
+ghost use Rattle.lin_cluster.specs.declared.parts.Parts.{Parts};
+ghost use Rattle.lin_core.specs.History.{asleep, open_slot};
+ghost use Rattle.lin_core.specs.Kept.{slot_in};
+ghost use Rattle.lin_core.specs.Replies.{refusal, may};
+ghost use Rattle.lin_core.specs.declared.log.LogEntry.{LogEntry};
+
+use crate::port::PortId;
+use crate::reply::Refusal;
+use crate::slot::OpenSlot;
+use crate::step::Step;
+use lin_cluster::Cluster;
+use lin_frame::{Place, Value};
+
+/// Whether a port may write a node's signals.
+fn may_write(by: PortId, node: u8) -> bool
+    ensures { (signal : ℕ) (value : Value) → result ≡ may by (Step.Write node signal value) }
+{
+    match by {
+        PortId::Bus => true,
+        PortId::Host(host) => node == host,
+        PortId::Node(_) => false,
+    }
+}
+
+/// Whether a value has the kind and the size of a signal.
+fn fits_signal(cluster: &Cluster, signal: u16, value: &Value) -> bool
+    requires { signal < length cluster.now.signals }
+    ensures { result ≡ fits_place (place_at 0 (signal_of cluster.now signal)) value.now }
+{
+    let place = Place {
+        offset: 0,
+        size: cluster.signal_size(signal),
+        array: matches!(cluster.initial(signal), Value::Bytes(_)),
+    };
+    place.fits(value)
+}
+
+/// Why a write is refused.
+pub(crate) fn refuse_write(
+    cluster: &Cluster,
+    by: PortId,
+    node: u8,
+    signal: u16,
+    value: &Value,
+) -> Option<Refusal>
+    ensures { (capacity : ℕ) (past : List LogEntry) → result ≡ refusal cluster.now capacity past by (Step.Write node signal value.now) }
+{
+    if node as usize >= cluster.nodes() {
+        return Some(Refusal::NoSuchNode);
+    }
+    if signal as usize >= cluster.signals() {
+        return Some(Refusal::NoSuchSignal);
+    }
+    if node != cluster.publisher(signal) {
+        return Some(Refusal::NotPublisher);
+    }
+    if !fits_signal(cluster, signal, value) {
+        return Some(Refusal::BadValue);
+    }
+    if !may_write(by, node) {
+        return Some(Refusal::NotYours);
+    }
+    None
+}
+
+/// Why a switch is refused.
+pub(crate) fn refuse_switch(
+    cluster: &Cluster,
+    slot: &Option<OpenSlot>,
+    by: PortId,
+    table: u16,
+) -> Option<Refusal>
+    ensures { (capacity : ℕ) (past : List LogEntry) → option_map slot_in slot.now ≡ open_slot past → result ≡ refusal cluster.now capacity past by (Step.Switch table) }
+{
+    if table as usize >= cluster.tables() {
+        return Some(Refusal::NoSuchTable);
+    }
+    if slot.is_some() {
+        return Some(Refusal::SlotOpen);
+    }
+    match by {
+        PortId::Bus => None,
+        PortId::Host(_) | PortId::Node(_) => Some(Refusal::NotYours),
+    }
+}
+
+/// Why an ask for sleep is refused, where the cluster is asleep or not.
+pub(crate) fn refuse_ask_sleep(sleeping: bool, by: PortId) -> Option<Refusal>
+    ensures { (c : Parts) (capacity : ℕ) (past : List LogEntry) → sleeping ≡ asleep past → result ≡ refusal c capacity past by Step.AskSleep }
+{
+    if sleeping {
+        return Some(Refusal::Asleep);
+    }
+    match by {
+        PortId::Bus => None,
+        PortId::Host(_) | PortId::Node(_) => Some(Refusal::NotYours),
+    }
+}
+
+/// Why a wake is refused, where the cluster is asleep or not.
+pub(crate) fn refuse_wake(sleeping: bool, by: PortId) -> Option<Refusal>
+    ensures { (c : Parts) (capacity : ℕ) (past : List LogEntry) → sleeping ≡ asleep past → result ≡ refusal c capacity past by Step.Wake }
+{
+    if !sleeping {
+        return Some(Refusal::Awake);
+    }
+    match by {
+        PortId::Bus => None,
+        PortId::Host(_) | PortId::Node(_) => Some(Refusal::NotYours),
+    }
+}

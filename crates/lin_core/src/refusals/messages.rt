@@ -1,0 +1,130 @@
+//! When a send, a timeout or a close is refused.
+
+ghost use Rattle.std.specs.Prelude.{◌≡◌, ℕ, ◌<◌, List, None, length, option_map, is_some};
+ghost use Rattle.lin_cluster.specs.Cluster.{nodes};
+ghost use Rattle.lin_core.specs.History.{closed, open_slot};
+ghost use Rattle.lin_core.specs.Kept.{slot_in};
+ghost use Rattle.lin_core.specs.Links.{waiting};
+ghost use Rattle.lin_core.specs.Replies.{begun_on, has_address, may, refusal};
+ghost use Rattle.lin_core.specs.declared.log.LogEntry.{LogEntry};
+
+use crate::link::Direction;
+use crate::payload::Payload;
+use crate::port::PortId;
+use crate::reply::Refusal;
+use crate::slot::OpenSlot;
+use crate::step::Step;
+use lin_cluster::Cluster;
+
+/// The most bytes that a message has (ISO 17987-2, transport layer).
+const MESSAGE_BYTES: usize = 4095;
+
+/// Whether a port may send from a host.
+fn may_send(by: PortId, from: u8) -> bool
+    ensures { (to : ℕ) (message : List ℕ) → result ≡ may by (Step.Send from to message) }
+{
+    match by {
+        PortId::Bus => true,
+        PortId::Host(host) => from == host,
+        PortId::Node(_) => false,
+    }
+}
+
+/// Whether a port may close a host.
+fn may_close(by: PortId, host: u8) -> bool
+    ensures { result ≡ may by (Step.Close host) }
+{
+    match by {
+        PortId::Bus => true,
+        PortId::Host(own) => host == own,
+        PortId::Node(_) => false,
+    }
+}
+
+/// Whether exactly one of sender and receiver is host 0, and the other one has an address.
+fn has_address(cluster: &Cluster, from: u8, to: u8) -> bool
+    requires from { from < nodes cluster.now }
+    requires to { to < nodes cluster.now }
+    ensures { result ≡ has_address cluster.now from to }
+{
+    (from == 0 && to != 0 && cluster.nad(to).is_some())
+        || (to == 0 && from != 0 && cluster.nad(from).is_some())
+}
+
+/// Why a send is refused, where this many messages of the sender wait, and it is closed or not.
+pub(crate) fn refuse_send(
+    cluster: &Cluster,
+    capacity: usize,
+    queued: usize,
+    shut: bool,
+    by: PortId,
+    from: u8,
+    to: u8,
+    message: &Payload,
+) -> Option<Refusal>
+    ensures { (past : List LogEntry) → (from < nodes cluster.now → (length (waiting cluster.now past from) ≡ queued) × (closed past from ≡ shut)) → result ≡ refusal cluster.now capacity past by (Step.Send from to message.now) }
+{
+    let nodes = cluster.nodes();
+    if from as usize >= nodes || to as usize >= nodes {
+        return Some(Refusal::NoSuchNode);
+    }
+    if !has_address(cluster, from, to) {
+        return Some(Refusal::NoAddress);
+    }
+    let length = message.as_slice().len();
+    if length == 0 || length > MESSAGE_BYTES {
+        return Some(Refusal::BadLength);
+    }
+    if shut {
+        return Some(Refusal::Closed);
+    }
+    if queued >= capacity {
+        return Some(Refusal::QueueFull);
+    }
+    if !may_send(by, from) {
+        return Some(Refusal::NotYours);
+    }
+    None
+}
+
+/// Why a timeout is refused, where a message is begun there or not.
+pub(crate) fn refuse_timeout(
+    cluster: &Cluster,
+    slot: &Option<OpenSlot>,
+    begun: bool,
+    by: PortId,
+    node: u8,
+    dir: Direction,
+) -> Option<Refusal>
+    ensures { (capacity : ℕ) (past : List LogEntry) → option_map slot_in slot.now ≡ open_slot past → (node < nodes cluster.now → open_slot past ≡ None → is_some (begun_on cluster.now past node dir) ≡ begun) → result ≡ refusal cluster.now capacity past by (Step.Timeout node dir) }
+{
+    if node as usize >= cluster.nodes() {
+        return Some(Refusal::NoSuchNode);
+    }
+    if slot.is_some() {
+        return Some(Refusal::SlotOpen);
+    }
+    if !matches!(by, PortId::Bus) {
+        return Some(Refusal::NotYours);
+    }
+    if !begun {
+        return Some(Refusal::NoTransfer);
+    }
+    None
+}
+
+/// Why a close is refused, where the host is closed or not.
+pub(crate) fn refuse_close(cluster: &Cluster, shut: bool, by: PortId, host: u8) -> Option<Refusal>
+    ensures { (capacity : ℕ) (past : List LogEntry) → (host < nodes cluster.now → closed past host ≡ shut) → result ≡ refusal cluster.now capacity past by (Step.Close host) }
+{
+    if host as usize >= cluster.nodes() {
+        return Some(Refusal::NoSuchNode);
+    }
+    if shut {
+        return Some(Refusal::Closed);
+    }
+    if !may_close(by, host) {
+        return Some(Refusal::NotYours);
+    }
+    None
+}
