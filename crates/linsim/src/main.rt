@@ -6,6 +6,8 @@ mod checking;
 mod describing;
 mod fault;
 mod finding;
+#[cfg(test)]
+mod held_steps;
 mod listing;
 mod replaying;
 
