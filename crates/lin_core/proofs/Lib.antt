@@ -43,3 +43,4 @@ pub mod Settled
 pub mod Lasts
 pub mod Goods
 pub mod Sleeping
+mod Passing

@@ -18,3 +18,4 @@ pub mod KeptLate
 pub mod Whole
 pub mod Fits
 pub mod Loads
+pub mod Passes

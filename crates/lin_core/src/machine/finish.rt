@@ -13,7 +13,6 @@ use crate::messages::{address_at, message_at, receiver_at};
 use crate::payload::Payload;
 use crate::port::PortId;
 use crate::reply::Reply;
-use crate::slot::{delay_of, is_clash, seen_in};
 use crate::step::Step;
 use std::mem;
 
@@ -37,13 +36,7 @@ impl Core {
         if self.log.make_room().is_err() || self.room.try_reserve(1).is_err() {
             return Err(Hold::OutOfMemory(Step::Finish));
         }
-        let delay = delay_of(&self.cluster, &self.state.slot);
-        self.state.signals.finish(&self.cluster, &self.state.slot);
-        self.state.mode.finish(&self.cluster, &self.state.slot);
-        let seen = seen_in(self.state.slot.take());
-        self.state.time += u64::from(delay);
-        let clash = is_clash(&seen);
-        self.state.walker.advance(&self.cluster, clash);
+        let seen = self.state.pass_slot(&self.cluster);
         let room = mem::replace(&mut self.room, Vec::new(self.alloc));
         let events = one_event(room, Event::Seen(seen));
         self.log.push(LogEntry {
@@ -66,13 +59,7 @@ impl Core {
         if self.log.make_room().is_err() || self.room.try_reserve(2).is_err() {
             return Err(Hold::OutOfMemory(Step::Finish));
         }
-        let delay = delay_of(&self.cluster, &self.state.slot);
-        self.state.signals.finish(&self.cluster, &self.state.slot);
-        self.state.mode.finish(&self.cluster, &self.state.slot);
-        let seen = seen_in(self.state.slot.take());
-        self.state.time += u64::from(delay);
-        let clash = is_clash(&seen);
-        self.state.walker.advance(&self.cluster, clash);
+        let seen = self.state.pass_slot(&self.cluster);
         let host = &mut self.state.hosts[sender as usize];
         let number = host.settled + 1;
         host.settle();
@@ -117,13 +104,7 @@ impl Core {
         let place = self.state.hosts[sender as usize].next() as usize;
         let address = address_at(&self.cluster, &self.log, place);
         let len = message_at(&self.log, place).len();
-        let delay = delay_of(&self.cluster, &self.state.slot);
-        self.state.signals.finish(&self.cluster, &self.state.slot);
-        self.state.mode.finish(&self.cluster, &self.state.slot);
-        let seen = seen_in(self.state.slot.take());
-        self.state.time += u64::from(delay);
-        let clash = is_clash(&seen);
-        self.state.walker.advance(&self.cluster, clash);
+        let seen = self.state.pass_slot(&self.cluster);
         self.state.hosts[sender as usize].go_on(address, len);
         let room = mem::replace(&mut self.room, Vec::new(self.alloc));
         let events = one_event(room, Event::Seen(seen));
@@ -153,13 +134,7 @@ impl Core {
         let Ok(bytes) = Vec::from_slice(self.alloc, message_at(&self.log, place)) else {
             return Err(Hold::OutOfMemory(Step::Finish));
         };
-        let delay = delay_of(&self.cluster, &self.state.slot);
-        self.state.signals.finish(&self.cluster, &self.state.slot);
-        self.state.mode.finish(&self.cluster, &self.state.slot);
-        let seen = seen_in(self.state.slot.take());
-        self.state.time += u64::from(delay);
-        let clash = is_clash(&seen);
-        self.state.walker.advance(&self.cluster, clash);
+        let seen = self.state.pass_slot(&self.cluster);
         let host = &mut self.state.hosts[sender as usize];
         let number = host.settled + 1;
         host.settle();
@@ -195,13 +170,7 @@ impl Core {
         if self.log.make_room().is_err() || self.room.try_reserve(count).is_err() {
             return Err(Hold::OutOfMemory(Step::Finish));
         }
-        let delay = delay_of(&self.cluster, &self.state.slot);
-        self.state.signals.finish(&self.cluster, &self.state.slot);
-        self.state.mode.finish(&self.cluster, &self.state.slot);
-        let seen = seen_in(self.state.slot.take());
-        self.state.time += u64::from(delay);
-        let clash = is_clash(&seen);
-        self.state.walker.advance(&self.cluster, clash);
+        let seen = self.state.pass_slot(&self.cluster);
         let room = mem::replace(&mut self.room, Vec::new(self.alloc));
         let events = sleep_events(room, seen, &mut self.state.hosts);
         self.log.push(LogEntry {
