@@ -44,3 +44,5 @@ pub mod Lasts
 pub mod Goods
 pub mod Sleeping
 mod Passing
+mod Receiving
+mod Reassembling

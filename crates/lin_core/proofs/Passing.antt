@@ -1,6 +1,9 @@
 -- What the end of a slot leaves inside a core.
 use Rattle.std.proofs.Common.{◌≡◌, ℕ, List, [], ◌∷◌, ◌++◌, length, refl, subst}
 use Rattle.std.specs.Prelude.{Option, Some, slice_get}
+use Rattle.std.specs.Global.{Vec}
+use Rattle.lin_cluster.specs.declared.parts.Parts.{Parts}
+use Rattle.lin_core.specs.declared.receivers.Receivers.{Receivers}
 use Rattle.lin_core.specs.Core.{answered}
 use Rattle.lin_core.specs.Kept.{Keeps, KeepsHost, slot_in}
 use Rattle.lin_core.specs.KeptLate.{KeepsMode}
@@ -25,6 +28,10 @@ finish_of a by = finished_entry a.cluster (past_in a) by
 
 pub finish-answered : (a : Inside) (by : PortId) → OpenIs a by → finish_of a by ≡ answered (core_data a) by Finish
 finish-answered a by o = done-answered (core_data a) by Finish (finish_events a.cluster by (past_in a)) o.step.allowed refl
+
+-- what the receivers are doesn't matter
+pub passes-as : (c : Parts) (slot : OpenSlot) (old new : State) (rs : Vec Receivers) → Passes c slot (record old { receivers = rs }) new → Passes c slot old new
+passes-as c slot old new rs p = record { shut = p.shut; clock = p.clock; few = p.few; stands = p.stands; walks = p.walks; signals = p.signals; mode = p.mode }
 
 pub passed-keeps : (a : Inside) (by : PortId) (o : OpenIs a by) (new : State) (hosts : List Host) → IsWhole a → Passes a.cluster o.slot a.state new → length hosts ≡ length a.state.hosts.items
     → ((h : ℕ) (host : Host) → slice_get hosts h ≡ Some host → KeepsHost a.cluster a.capacity (a.log.entries ++ finish_of a by ∷ []) (finish_of a by ∷ past_in a) h host)

@@ -10,19 +10,22 @@ ghost use Rattle.lin_schedule.specs.Walker.{Walks};
 use crate::event::Seen;
 use crate::host::Host;
 use crate::mode::Mode;
+use crate::receivers::Receivers;
 use crate::signals::Signals;
 use crate::slot::{OpenSlot, delay_of, is_clash, seen_in};
 use lin_cluster::Cluster;
 use lin_schedule::Walker;
 
 /// What the core keeps of its log, so that no step and no read goes through it: the open slot, the delays of the finished slots in
-/// microseconds, where the schedule stands, one host per node, the signals with their frames, and the cluster's mode.
+/// microseconds, where the schedule stands, one host per node, the receivers of their links, the signals with
+/// their frames, and the cluster's mode.
 #[derive(Drop)]
 pub(crate) struct State {
     pub(crate) slot: Option<OpenSlot>,
     pub(crate) time: u64,
     pub(crate) walker: Walker,
     pub(crate) hosts: Vec<Host>,
+    pub(crate) receivers: Vec<Receivers>,
     pub(crate) signals: Signals,
     pub(crate) mode: Mode,
 }
@@ -38,6 +41,7 @@ impl State {
         ensures seen { (kept : OpenSlot) → self.old.slot ≡ Some kept → result ≡ seen (slot_in kept) }
         ensures passes { (kept : OpenSlot) → self.old.slot ≡ Some kept → Passes cluster.now kept self.old self.new }
         ensures hosts { self.new.hosts ≡ self.old.hosts }
+        ensures receivers { self.new.receivers ≡ self.old.receivers }
     {
         let delay = delay_of(cluster, &self.slot);
         self.signals.finish(cluster, &self.slot);

@@ -9,10 +9,12 @@ use crate::load::{Load, is_hurt, load_in};
 use crate::log::LogEntry;
 use crate::losses::sleep_events;
 use crate::machine::{Core, one_event, three_events, two_events};
-use crate::messages::{address_at, message_at, receiver_at};
+use crate::messages::{address_at, direction_at, message_at, receiver_at, responder_at};
 use crate::payload::Payload;
 use crate::port::PortId;
+use crate::receivers::{hear, reset_all};
 use crate::reply::Reply;
+use crate::slot::frame_in;
 use crate::step::Step;
 use std::mem;
 
@@ -104,6 +106,12 @@ impl Core {
         let place = self.state.hosts[sender as usize].next() as usize;
         let address = address_at(&self.cluster, &self.log, place);
         let len = message_at(&self.log, place).len();
+        let node = responder_at(&self.log, place);
+        let dir = direction_at(&self.log, place);
+        let frame = frame_in(&self.state.slot);
+        if hear(&mut self.state.receivers, node, dir, &frame).is_err() {
+            return Err(Hold::OutOfMemory(Step::Finish));
+        }
         let seen = self.state.pass_slot(&self.cluster);
         self.state.hosts[sender as usize].go_on(address, len);
         let room = mem::replace(&mut self.room, Vec::new(self.alloc));
@@ -131,9 +139,13 @@ impl Core {
         }
         let place = self.state.hosts[sender as usize].next() as usize;
         let to = receiver_at(&self.log, place);
-        let Ok(bytes) = Vec::from_slice(self.alloc, message_at(&self.log, place)) else {
+        let node = responder_at(&self.log, place);
+        let dir = direction_at(&self.log, place);
+        let frame = frame_in(&self.state.slot);
+        let Ok(message) = hear(&mut self.state.receivers, node, dir, &frame) else {
             return Err(Hold::OutOfMemory(Step::Finish));
         };
+        let bytes = message.unwrap();
         let seen = self.state.pass_slot(&self.cluster);
         let host = &mut self.state.hosts[sender as usize];
         let number = host.settled + 1;
@@ -171,6 +183,7 @@ impl Core {
             return Err(Hold::OutOfMemory(Step::Finish));
         }
         let seen = self.state.pass_slot(&self.cluster);
+        reset_all(&mut self.state.receivers);
         let room = mem::replace(&mut self.room, Vec::new(self.alloc));
         let events = sleep_events(room, seen, &mut self.state.hosts);
         self.log.push(LogEntry {

@@ -37,6 +37,8 @@ use Rattle.lin_core.specs.Passes.{Passes}
 use Rattle.lin_core.proofs.Passing.{finish_of, finish-answered, passed-keeps, passed-mode}
 use Rattle.lin_core.proofs.LateMaking.{logged-returns, logged-whole}
 use Rattle.lin_core.proofs.Making.{OpenIs, open-inside, past_in}
+use Rattle.lin_core.specs.KeptHeard.{KeepsHeard}
+use Rattle.lin_core.proofs.Receiving.{carries-frame, heard-same, hurt-heard}
 use Rattle.lin_core.proofs.machine.Core.finish_damaged.Goals.{After-push}
 use Rattle.lin_core.proofs.machine.Core.finish_damaged.Goals as goal
 
@@ -121,10 +123,20 @@ late c =
     rw (c.pass_slot-seen.ensures.hosts, c.settle.ensures)
     (settled-late a.cluster (past_in a) (entry c) c.args.sender host a.state.mode c.pass_slot-seen.new.self.mode a.state.hosts.items w.sound o.step.known (known_behind a.cluster (past_in a) c.args.by es w.sound o.step.known) (x.done.settles es) x.own.here (λ y. refl) (mode_is c) w.late)
 
+heard : (c : After-push) → KeepsHeard c.self.inside.cluster (entry c ∷ past_in c.self.inside) c.pass_slot-seen.new.self.receivers.items
+heard c =
+    let a = c.self.inside in
+    let w = c.self.invariant in
+    let o = opened c in
+    let past = past_in a in
+    let i = carries-frame a.cluster past c.args.by w.sound o.step.known (slot_in o.slot) c.args.sender o.is (carries c).0 in
+    rw c.pass_slot-seen.ensures.receivers
+    (heard-same a.cluster past (entry c ∷ past) a.state.receivers.items (hurt-heard a.cluster past c.args.by o.step.known (slot_in o.slot) c.args.sender i (carries c).1 (finish_events a.cluster c.args.by past)) w.heard)
+
 pub invariant_of-self-2 : goal.invariant_of-self-2
 invariant_of-self-2 c =
     logged-whole c.self.inside _ c.args.by Finish (entry c) c.self.invariant (opened c).step (is_answered c)
-    (record { log = pushed c; empty = rw c.replace-room.ensures.after c.new.ensures.items; cluster = refl; opening = refl; capacity = refl; kept = kept c; late = late c })
+    (record { log = pushed c; empty = rw c.replace-room.ensures.after c.new.ensures.items; cluster = refl; opening = refl; capacity = refl; kept = kept c; late = late c; heard = heard c })
 
 pub returns-clause-ok : goal.returns-clause-ok
 returns-clause-ok c = logged-returns c.self.inside c.args.self.now c.args.by Finish (entry c) c.push.new.self.entries c.self.view_is (is_answered c) (pushed c)

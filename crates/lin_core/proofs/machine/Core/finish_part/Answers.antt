@@ -1,5 +1,6 @@
 use Rattle.std.proofs.Common.{refl, ◌≡◌, ◌+◌, ℕ, length, List, [], ◌∷◌, ◌++◌, ap, sym, ◌∙◌, subst, arith, length-append}
-use Rattle.std.specs.Prelude.{Option}
+use Rattle.std.specs.Prelude.{Option, option_map}
+use Rattle.std.specs.Global.{Vec}
 use Rattle.lin_cluster.specs.Cluster.{line_of}
 use Rattle.lin_core.specs.Core.{answered, CoreData}
 use Rattle.lin_core.specs.History.{seen}
@@ -32,9 +33,14 @@ use Rattle.lin_core.proofs.Keeping.{done_entry, done-answered, finished_entry, f
 use Rattle.lin_core.proofs.ModeKeeping.{finish-mode}
 use Rattle.lin_core.specs.KeptLate.{KeepsLate, KeepsMode}
 use Rattle.lin_core.specs.Passes.{Passes}
-use Rattle.lin_core.proofs.Passing.{finish_of, finish-answered, passed-keeps, passed-mode}
+use Rattle.lin_core.proofs.Passing.{finish_of, finish-answered, passed-keeps, passed-mode, passes-as}
 use Rattle.lin_core.proofs.LateMaking.{logged-returns, logged-whole}
 use Rattle.lin_core.proofs.Making.{OpenIs, open-inside, past_in}
+use Rattle.lin_core.specs.Replies.{link_at}
+use Rattle.lin_core.specs.Links.{nad_on}
+use Rattle.lin_core.specs.KeptHeard.{HearsOn, KeepsHeard}
+use Rattle.lin_core.proofs.Reassembling.{heard-inside, if-ok}
+use Rattle.lin_core.proofs.Receiving.{HeardFrame}
 use Rattle.lin_core.proofs.machine.Core.finish_part.Goals.{After-push}
 use Rattle.lin_core.proofs.machine.Core.finish_part.Goals as goal
 
@@ -79,6 +85,16 @@ go_on-requires-clause-more c = λ s is.
     let same : c.index_mut.result.now ≡ c.index.result.now = same-host a c.args.sender c.index_mut.result.now c.index.result.now w g.below (rw c.pass_slot-seen.ensures.hosts at c.index_mut.ensures.value) c.index.ensures in
     more-frames a.cluster g.message g.later (k.states c.args.sender).count c.index_mut.result.now.sender s g.more (ap (λ (x : Host). x.sender) same ∙ g.sender_is) is
 
+pub hear-requires : goal.hear-requires
+hear-requires c =
+    let a = c.self.inside in
+    let w = c.self.invariant in
+    let g = good-inside a c.args.sender false c.index.result.now c.next-place.result w (known-inside a w) (carried-inside a c.args.self.now c.args.sender false c.self.view_is c.requires.carried) c.index.ensures c.next-place.ensures in
+    let node = c.responder_at-node.ensures g.message (rw c.make_room.ensures.entries g.at) in
+    let there = g.node in
+    let count = w.heard.count in
+    omega arith
+
 opened : (c : After-push) → OpenIs c.self.inside c.args.by
 opened c = open-inside c.self.inside c.args.self.now c.args.by c.self.view_is c.self.invariant c.requires.allowed c.requires.few
 
@@ -106,7 +122,7 @@ is_answered : (c : After-push) → entry c ≡ answered (core_data c.self.inside
 is_answered c = finish-answered c.self.inside c.args.by (opened c)
 
 passes : (c : After-push) → Passes c.self.inside.cluster (opened c).slot c.self.inside.state c.pass_slot-seen.new.self
-passes c = c.pass_slot-seen.ensures.passes (opened c).slot (opened c).at
+passes c = passes-as c.self.inside.cluster (opened c).slot c.self.inside.state c.pass_slot-seen.new.self c.hear.new.receivers (c.pass_slot-seen.ensures.passes (opened c).slot (opened c).at)
 
 pushed : (c : After-push) → c.push.new.self.entries ≡ c.self.inside.log.entries ++ entry c ∷ []
 pushed c =
@@ -159,10 +175,25 @@ late c =
     rw (c.pass_slot-seen.ensures.hosts, after c)
     (going-late a.cluster (past_in a) (entry c) c.args.sender c.index.result.now a.state.mode c.pass_slot-seen.new.self.mode a.state.hosts.items w.sound o.step.known (known_behind a.cluster (past_in a) c.args.by es w.sound o.step.known) (goes c) (good c).here (λ y. refl) (mode_is c) w.late)
 
+-- what the receiver answers
+answer : (c : After-push) → (m : Option (Vec ℕ)) × HearsOn (link_at c.responder_at-node.result c.direction_at-dir.result) c.frame_in-frame.result (option_map (λ v. v.items) m) c.self.inside.state.receivers.items c.hear.new.receivers.items
+answer c = if-ok c.hear.result (sym c.is_err-2.ensures.value ∙ c.if-is_err-3.false) c.hear.ensures.hears
+
+heard_frame : (c : After-push) → HeardFrame c.self.inside.cluster (past_in c.self.inside) (entry c ∷ past_in c.self.inside) (good c).message.link (option_map (λ v. v.items) (answer c).0) c.hear.new.receivers.items
+heard_frame c =
+    let a = c.self.inside in
+    let g = good c in
+    let there : message_at c.make_room.new.self.entries c.next-place.result ≡ Some g.message = ap (λ (log : List LogEntry). message_at log c.next-place.result) c.make_room.ensures.entries ∙ g.at in
+    heard-inside a c.args.by (opened c) c.args.sender c.index.result.now c.next-place.result c.self.invariant g (carried-inside a c.args.self.now c.args.sender false c.self.view_is c.requires.carried) c.responder_at-node.result c.direction_at-dir.result c.frame_in-frame.result
+    (option_map (λ v. v.items) (answer c).0) c.hear.new.receivers.items (c.responder_at-node.ensures g.message there) (c.direction_at-dir.ensures g.message there) c.frame_in-frame.ensures (answer c).1
+
+heard : (c : After-push) → KeepsHeard c.self.inside.cluster (entry c ∷ past_in c.self.inside) c.pass_slot-seen.new.self.receivers.items
+heard c = rw c.pass_slot-seen.ensures.receivers (heard_frame c).keeps
+
 pub invariant_of-self-2 : goal.invariant_of-self-2
 invariant_of-self-2 c =
     logged-whole c.self.inside _ c.args.by Finish (entry c) c.self.invariant (opened c).step (is_answered c)
-    (record { log = pushed c; empty = rw c.replace-room.ensures.after c.new.ensures.items; cluster = refl; opening = refl; capacity = refl; kept = kept c; late = late c })
+    (record { log = pushed c; empty = rw c.replace-room.ensures.after c.new.ensures.items; cluster = refl; opening = refl; capacity = refl; kept = kept c; late = late c; heard = heard c })
 
 pub returns-clause-ok : goal.returns-clause-ok
 returns-clause-ok c = logged-returns c.self.inside c.args.self.now c.args.by Finish (entry c) c.push.new.self.entries c.self.view_is (is_answered c) (pushed c)

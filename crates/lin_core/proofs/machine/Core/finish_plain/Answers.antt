@@ -31,17 +31,23 @@ use Rattle.lin_core.specs.Passes.{Passes}
 use Rattle.lin_core.proofs.Passing.{finish_of, finish-answered, passed-keeps, passed-mode}
 use Rattle.lin_core.proofs.LateMaking.{logged-returns, logged-whole}
 use Rattle.lin_core.proofs.Making.{OpenIs, open-inside, past_in}
+use Rattle.lin_core.specs.KeptHeard.{KeepsHeard}
+use Rattle.lin_core.proofs.Receiving.{heard-same, still-heard}
 use Rattle.lin_core.proofs.machine.Core.finish_plain.Goals.{After-push}
 use Rattle.lin_core.proofs.machine.Core.finish_plain.Goals as goal
 
 opened : (c : After-push) → OpenIs c.self.inside c.args.by
 opened c = open-inside c.self.inside c.args.self.now c.args.by c.self.view_is c.self.invariant c.requires.allowed c.requires.few
 
+still : (c : After-push) → is_still (load_of (slot_in (opened c).slot)) (opened c).slot.hurt ≡ true
+still c =
+    let o = opened c in
+    subst (λ (d : CoreData). (s : Slot) → open_slot (past_of d) ≡ Some s → is_still (load_of s) s.hurt ≡ true) (sym c.self.view_is) c.requires.still (slot_in o.slot) o.is
+
 quiet : (c : After-push) → Still c.self.inside.cluster (past_in c.self.inside) c.args.by (slot_in (opened c).slot) c.self.invariant.sound (opened c).step.known
 quiet c =
     let o = opened c in
-    finishes-quiet c.self.inside.cluster (past_in c.self.inside) c.args.by (slot_in o.slot) c.self.invariant.sound o.step.known o.is
-    (subst (λ (d : CoreData). (s : Slot) → open_slot (past_of d) ≡ Some s → is_still (load_of s) s.hurt ≡ true) (sym c.self.view_is) c.requires.still (slot_in o.slot) o.is)
+    finishes-quiet c.self.inside.cluster (past_in c.self.inside) c.args.by (slot_in o.slot) c.self.invariant.sound o.step.known o.is (still c)
 
 abbrev entry : (c : After-push) → LogEntry
 entry c = finish_of c.self.inside c.args.by
@@ -81,10 +87,19 @@ late c =
     rw c.pass_slot-seen.ensures.hosts
     (still-late a.cluster (past_in a) (entry c) a.state.mode c.pass_slot-seen.new.self.mode a.state.hosts.items w.sound o.step.known (known_behind a.cluster (past_in a) c.args.by es w.sound o.step.known) ((quiet c).same es) (λ x. refl) (mode_is c) w.late)
 
+heard : (c : After-push) → KeepsHeard c.self.inside.cluster (entry c ∷ past_in c.self.inside) c.pass_slot-seen.new.self.receivers.items
+heard c =
+    let a = c.self.inside in
+    let w = c.self.invariant in
+    let o = opened c in
+    rw c.pass_slot-seen.ensures.receivers
+    (heard-same a.cluster (past_in a) (entry c ∷ past_in a) a.state.receivers.items
+    (still-heard a.cluster (past_in a) c.args.by (finish_events a.cluster c.args.by (past_in a)) w.sound o.step.known (slot_in o.slot) o.is (still c)) w.heard)
+
 pub invariant_of-self-2 : goal.invariant_of-self-2
 invariant_of-self-2 c =
     logged-whole c.self.inside _ c.args.by Finish (entry c) c.self.invariant (opened c).step (is_answered c)
-    (record { log = pushed c; empty = rw c.replace-room.ensures.after c.new.ensures.items; cluster = refl; opening = refl; capacity = refl; kept = kept c; late = late c })
+    (record { log = pushed c; empty = rw c.replace-room.ensures.after c.new.ensures.items; cluster = refl; opening = refl; capacity = refl; kept = kept c; late = late c; heard = heard c })
 
 pub returns-clause-ok : goal.returns-clause-ok
 returns-clause-ok c = logged-returns c.self.inside c.args.self.now c.args.by Finish (entry c) c.push.new.self.entries c.self.view_is (is_answered c) (pushed c)

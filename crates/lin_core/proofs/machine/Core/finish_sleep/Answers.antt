@@ -32,6 +32,8 @@ use Rattle.lin_core.specs.Passes.{Passes}
 use Rattle.lin_core.proofs.Passing.{finish_of, finish-answered, passed-keeps, passed-mode}
 use Rattle.lin_core.proofs.LateMaking.{logged-returns, logged-whole}
 use Rattle.lin_core.proofs.Making.{OpenIs, open-inside, past_in}
+use Rattle.lin_core.specs.KeptHeard.{KeepsHeard}
+use Rattle.lin_core.proofs.Receiving.{heard-reset, sleep-heard}
 use Rattle.lin_core.proofs.machine.Core.finish_sleep.Goals.{After-push}
 use Rattle.lin_core.proofs.machine.Core.finish_sleep.Goals as goal
 
@@ -43,11 +45,16 @@ sleep_events-events-requires-clause-small c =
 opened : (c : After-push) → OpenIs c.self.inside c.args.by
 opened c = open-inside c.self.inside c.args.self.now c.args.by c.self.view_is c.self.invariant c.requires.allowed c.requires.few
 
+asleep : (c : After-push) → (load_of (slot_in (opened c).slot) ≡ Sleep) × ((slot_in (opened c).slot).hurt ≡ false)
+asleep c =
+    let o = opened c in
+    subst (λ (d : CoreData). (s : Slot) → open_slot (past_of d) ≡ Some s → (load_of s ≡ Sleep) × (s.hurt ≡ false)) (sym c.self.view_is) c.requires.asleep (slot_in o.slot) o.is
+
 sleeps : (c : After-push) → Sleeps c.self.inside.cluster (past_in c.self.inside) c.args.by (slot_in (opened c).slot) c.self.invariant.sound (opened c).step.known
 sleeps c =
     let a = c.self.inside in
     let o = opened c in
-    let s = subst (λ (d : CoreData). (s : Slot) → open_slot (past_of d) ≡ Some s → (load_of s ≡ Sleep) × (s.hurt ≡ false)) (sym c.self.view_is) c.requires.asleep (slot_in o.slot) o.is in
+    let s = asleep c in
     finishes-asleep a.cluster (past_in a) c.args.by (slot_in o.slot) c.self.invariant.sound o.step.known o.is s.0 s.1
 
 abbrev entry : (c : After-push) → LogEntry
@@ -89,10 +96,19 @@ late c =
     let es = finish_events a.cluster c.args.by (past_in a) in
     sleeping-late a.cluster a.capacity a.log.entries (past_in a) (entry c) a.state.mode c.pass_slot-seen.new.self.mode a.state.hosts.items c.sleep_events-events.new.hosts.items w.sound o.step.known (known_behind a.cluster (past_in a) c.args.by es w.sound o.step.known) ((sleeps c).states_are es) (λ x. refl) (λ x. refl) (rw c.pass_slot-seen.ensures.hosts at c.sleep_events-events.ensures.hosts) w.kept.each_host (mode_is c) w.late
 
+heard : (c : After-push) → KeepsHeard c.self.inside.cluster (entry c ∷ past_in c.self.inside) c.reset_all.new.receivers.items
+heard c =
+    let a = c.self.inside in
+    let w = c.self.invariant in
+    let o = opened c in
+    let past = past_in a in
+    heard-reset a.cluster past (entry c ∷ past) a.state.receivers.items c.reset_all.new.receivers.items (rw c.pass_slot-seen.ensures.receivers at c.reset_all.ensures.count) (rw c.pass_slot-seen.ensures.receivers at c.reset_all.ensures.each)
+    (sleep-heard a.cluster past c.args.by (finish_events a.cluster c.args.by past) w.sound o.step.known (slot_in o.slot) o.is (asleep c).0 (asleep c).1) w.heard
+
 pub invariant_of-self-2 : goal.invariant_of-self-2
 invariant_of-self-2 c =
     logged-whole c.self.inside _ c.args.by Finish (entry c) c.self.invariant (opened c).step (is_answered c)
-    (record { log = pushed c; empty = rw c.replace-room.ensures.after c.new.ensures.items; cluster = refl; opening = refl; capacity = refl; kept = kept c; late = late c })
+    (record { log = pushed c; empty = rw c.replace-room.ensures.after c.new.ensures.items; cluster = refl; opening = refl; capacity = refl; kept = kept c; late = late c; heard = heard c })
 
 pub returns-clause-ok : goal.returns-clause-ok
 returns-clause-ok c = logged-returns c.self.inside c.args.self.now c.args.by Finish (entry c) c.push.new.self.entries c.self.view_is (is_answered c) (pushed c)
