@@ -1,7 +1,7 @@
 -- What a finish makes of the hosts and tells, in five cases: nothing moves; one more frame of a message was seen good; its last was; one was
 -- damaged; the cluster goes to sleep.
 use Rattle.std.proofs.Common.{◌≡◌, ◌≢◌, ◌<◌, ℕ, zero, suc, Bool, true, false, List, [], ◌∷◌, ◌++◌, length, refl, ap, sym, ◌∙◌, subst, arith}
-use Rattle.std.specs.Prelude.{Option, Some, None, ◌==◌, if◌then◌else◌}
+use Rattle.std.specs.Prelude.{Option, Some, None, ◌==◌, drop, if◌then◌else◌}
 use Rattle.std.specs.List.{flat_map}
 use Rattle.std.proofs.lemmas.Bool.{ne_eqb}
 use Rattle.std.proofs.lemmas.Bool.Decides.{nat_tests}
@@ -11,7 +11,7 @@ use Rattle.lin_cluster.specs.Cluster.{nodes}
 use Rattle.lin_cluster.specs.declared.parts.Parts.{Parts}
 use Rattle.lin_cluster.specs.Sound.{IsSound}
 use Rattle.lin_core.specs.History.{Slot, asked, is_sleep_slot, open_slot, seen}
-use Rattle.lin_core.specs.Links.{Fate, Message, host_of}
+use Rattle.lin_core.specs.Links.{Fate, Message, host_of, reading}
 use Rattle.lin_core.specs.Links.Fate.{Lost, Sent}
 use Rattle.lin_core.specs.Replies.{finish_events, quiet_entry, receiver_of}
 use Rattle.lin_core.specs.declared.event.Event.{Event}
@@ -20,7 +20,7 @@ use Rattle.lin_core.specs.declared.link.Cause.TheVariants.{Damaged, Slept}
 use Rattle.lin_core.specs.declared.log.LogEntry.{LogEntry}
 use Rattle.lin_core.specs.declared.port.PortId.{PortId}
 use Rattle.lin_core.specs.declared.step.Step.TheVariants.{Finish}
-use Rattle.lin_core.proofs.FinishEvents.{finish-one, finish-quiet, finish-sleep, lost_by}
+use Rattle.lin_core.proofs.FinishEvents.{finish-one, finish-quiet, finish-sleep, lost_by, one-gains}
 use Rattle.lin_core.proofs.Going.{GoesOn}
 use Rattle.lin_core.proofs.Hosts.{HostState, IsLink, eqb-self}
 use Rattle.lin_core.proofs.Known.{Known, SlotIs, entry_is, finish-known}
@@ -229,17 +229,29 @@ settled-settles c past by sound k h m f i ds = record {
   accepted = λ x. refl;
 }
 
+whole-settled : (c : Parts) (past : List LogEntry) (by : PortId) (s : Slot) (sound : IsSound c) (k : Known c past) (h : ℕ) (m : Message) (ms : List Message) → open_slot past ≡ Some s → load_of s ≡ Carried h → s.hurt ≡ false
+    → (k.states h).rest ≡ m ∷ ms → is_last m.bytes (k.states h).count ≡ true → SettledIs c k.states (of_states c past by sound k []) h m Sent
+whole-settled c past by s sound k h m ms is load calm first last =
+    let at = message-at c past by s sound k h is load
+    in let i : CarriedIs c k.states (of_states c past by sound k []) false h = subst (λ (b : Bool). CarriedIs c k.states (of_states c past by sound k []) b h) calm at.1
+    in let both : i.message ∷ i.later ≡ m ∷ ms = sym i.first ∙ first
+    in let is_m : i.message ≡ m = cc
+    in subst (λ (y : Message). SettledIs c k.states (of_states c past by sound k []) h y Sent) is_m
+    (record { later = i.later; first = i.first; link = i.link; own = whole-own c k.states (of_states c past by sound k []) h i (ap (λ (y : Message). is_last y.bytes (k.states h).count) is_m ∙ last); others = i.others })
+
+-- what its receiver reads more
+pub whole-gains : (c : Parts) (past : List LogEntry) (by : PortId) (s : Slot) (sound : IsSound c) (k : Known c past) (h : ℕ) (m : Message) (ms : List Message) → open_slot past ≡ Some s → load_of s ≡ Carried h → s.hurt ≡ false
+    → (k.states h).rest ≡ m ∷ ms → is_last m.bytes (k.states h).count ≡ true → drop (length (reading c past m.link)) (reading c (entry_is by Finish [] ∷ past) m.link) ≡ m.bytes ∷ []
+whole-gains c past by s sound k h m ms is load calm first last =
+    let settled : SettledIs c k.states (of_states c past by sound k []) h m Sent = whole-settled c past by s sound k h m ms is load calm first last
+    in one-gains c past by h m settled.link k (known_behind c past by [] sound k) (λ x. done-settled c k.states (of_states c past by sound k []) h x m Sent (h == x) refl settled)
+
 pub finishes-whole : (c : Parts) (past : List LogEntry) (by : PortId) (s : Slot) (sound : IsSound c) (k : Known c past) (h : ℕ) (m : Message) (ms : List Message) → open_slot past ≡ Some s → load_of s ≡ Carried h → s.hurt ≡ false
     → (k.states h).rest ≡ m ∷ ms → is_last m.bytes (k.states h).count ≡ true
     → Done c past by s sound k h (MessageEvent h (receiver_of m.link.dir m.link.node) m.bytes ∷ SentEvent h (suc (length (k.states h).done)) ∷ [])
 finishes-whole c past by s sound k h m ms is load calm first last =
     let at = message-at c past by s sound k h is load
-    in let i : CarriedIs c k.states (of_states c past by sound k []) false h = subst (λ (b : Bool). CarriedIs c k.states (of_states c past by sound k []) b h) calm at.1
-    in let both : i.message ∷ i.later ≡ m ∷ ms = sym i.first ∙ first
-    in let is_m : i.message ≡ m = cc
-    in let settled : SettledIs c k.states (of_states c past by sound k []) h m Sent
-    = subst (λ (y : Message). SettledIs c k.states (of_states c past by sound k []) h y Sent) is_m
-    (record { later = i.later; first = i.first; link = i.link; own = whole-own c k.states (of_states c past by sound k []) h i (ap (λ (y : Message). is_last y.bytes (k.states h).count) is_m ∙ last); others = i.others })
+    in let settled : SettledIs c k.states (of_states c past by sound k []) h m Sent = whole-settled c past by s sound k h m ms is load calm first last
     in record {
       told = finish-one c past by s h m Sent sound settled.link k (known_behind c past by [] sound k) (λ x. done-settled c k.states (of_states c past by sound k []) h x m Sent (h == x) refl settled) at.0 is;
       settles = settled-settles c past by sound k h m Sent settled;

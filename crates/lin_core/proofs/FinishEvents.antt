@@ -231,6 +231,15 @@ told-at : (h x : ℕ) (t : ℕ → ℕ) (n : ℕ) (f : Fate) → t h ≡ n → (
 told-at h x t n f e true p = let same : h ≡ x = grind (arith, nat_tests, p) in subst (λ (y : ℕ). report y (t y) f ≡ report h n f) same (rw e refl)
 told-at h x t n f e false p = refl
 
+-- what the receiver of a message reads more, once it is whole
+pub one-gains : (c : Parts) (past : List LogEntry) (port : PortId) (h : ℕ) (m : Message) → IsLink c h m.link → (k : Known c past) (k' : Known c (quiet_entry port Finish ∷ past))
+    → ((x : ℕ) → (k'.states x).done ≡ (k.states x).done ++ (if h == x then (m, Sent) ∷ [] else [])) → drop (length (reading c past m.link)) (reading c (quiet_entry port Finish ∷ past) m.link) ≡ m.bytes ∷ []
+one-gains c past port h m link k k' more =
+    let g : (x : ℕ) → Grows (k.states x) (k'.states x) = λ x. record { more = if h == x then (m, Sent) ∷ [] else []; is = more x }
+    in gained-messages c past (quiet_entry port Finish ∷ past) m.link link.address k k' (g (host_of m.link))
+    ∙ on-one m.link m Sent h (h == host_of m.link) (same_link m.link m.link) link.host refl refl
+    ∙ rw (same-self m.link) refl
+
 -- a finish by which one message is whole or lost
 pub finish-one : (c : Parts) (past : List LogEntry) (port : PortId) (s : Slot) (h : ℕ) (m : Message) (f : Fate) → IsSound c → IsLink c h m.link → (k : Known c past) (k' : Known c (quiet_entry port Finish ∷ past))
     → ((x : ℕ) → (k'.states x).done ≡ (k.states x).done ++ (if h == x then (m, f) ∷ [] else [])) → is_sleep_slot s ≡ false → open_slot past ≡ Some s

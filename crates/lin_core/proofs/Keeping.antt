@@ -8,7 +8,8 @@ use Rattle.lin_cluster.specs.Cluster.{nodes}
 use Rattle.lin_cluster.specs.declared.parts.Parts.{Parts}
 use Rattle.lin_core.specs.Kept.{message_at, sent_in, Keeps, KeepsHost, KeepsSignals, message_of}
 use Rattle.lin_core.specs.declared.signals.Signals.{Signals}
-use Rattle.lin_core.proofs.SignalKeeping.{Writes, Answers, Ends, set-at, signals-same, open-signals, write-signals, write-fits, answer-signals, finish-signals}
+use Rattle.lin_core.specs.Passes.{Ends}
+use Rattle.lin_core.proofs.SignalKeeping.{Writes, Answers, set-at, signals-same, open-signals, write-signals, write-fits, answer-signals, finish-signals}
 use Rattle.lin_core.proofs.Opening.{with_put, put-open, answer-free}
 use Rattle.lin_core.specs.Kept.{IsOpen, put_in}
 use Rattle.std.proofs.lemmas.List.{map-append}

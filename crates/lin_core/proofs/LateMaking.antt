@@ -8,6 +8,7 @@ use Rattle.lin_cluster.specs.Cluster.{nodes}
 use Rattle.lin_core.specs.Core.{CoreData, IsAllowed, answered, past_of}
 use Rattle.lin_core.specs.History.{Slot, closed, has_decided, is_in, open_slot}
 use Rattle.lin_core.specs.Kept.{Keeps, slot_in}
+use Rattle.lin_core.specs.KeptHeard.{KeepsHeard}
 use Rattle.lin_core.specs.KeptLate.{KeepsLate}
 use Rattle.lin_core.specs.Replies.{done_events, is_open, refusal, refusals}
 use Rattle.lin_core.specs.Whole.{core_data, IsWhole}
@@ -48,6 +49,7 @@ pub record Logged (a b : Inside) (e : LogEntry) : Type 0 where
   pub capacity : b.capacity ≡ a.capacity
   pub kept : Keeps a.cluster a.opening a.capacity (a.log.entries ++ e ∷ []) (e ∷ past_in a) b.state.slot b.state.time b.state.walker b.state.hosts.items b.state.signals
   pub late : KeepsLate a.cluster (e ∷ past_in a) b.state.mode b.state.hosts.items
+  pub heard : KeepsHeard a.cluster (e ∷ past_in a) b.state.receivers.items
 
 pub logged-whole : (a b : Inside) (by : PortId) (step : Step) (e : LogEntry) → IsWhole a → Allowed a by step → e ≡ answered (core_data a) by step → Logged a b e → IsWhole b
 logged-whole a b by step e w n is l = record {
@@ -58,6 +60,7 @@ logged-whole a b by step e w n is l = record {
   opening = rw (l.opening, l.cluster) w.opening;
   kept = rw (l.cluster, l.opening, l.capacity, l.log, reverse-more a.log.entries e) l.kept;
   late = rw (l.cluster, l.log, reverse-more a.log.entries e) l.late;
+  heard = rw (l.cluster, l.log, reverse-more a.log.entries e) l.heard;
   history = rw (l.cluster, l.opening, l.capacity, l.log, is) (history-more (core_data a) by step w.history);
 }
 

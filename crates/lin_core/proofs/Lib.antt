@@ -43,3 +43,6 @@ pub mod Settled
 pub mod Lasts
 pub mod Goods
 pub mod Sleeping
+mod Passing
+mod Receiving
+mod Reassembling

@@ -14,6 +14,7 @@ use Rattle.lin_cluster.specs.Rules.{place_at, IsCluster}
 use Rattle.lin_cluster.specs.declared.parts.Parts.{Parts}
 use Rattle.lin_cluster.specs.declared.parts.Signal.{Signal}
 use Rattle.lin_core.specs.History.{open_slot, good, good_bytes, is_in, seen_by}
+use Rattle.lin_core.specs.Passes.{Ends}
 use Rattle.lin_core.specs.Kept.{ArePointwise, KeepsSignals, KeepsOne, cleared_in, is_cleared, put_in, slot_in}
 use Rattle.lin_core.specs.Replies.{refusal, refusals}
 use Rattle.lin_core.specs.Signals.{value, heard, pending, carried, value_in, written_since_answer}
@@ -239,15 +240,6 @@ cleared-flags flags f g l = elim (eqb_tells f g) [
 
 -- == a finish
 -- what a finish makes of what is kept
-pub record Ends (c : Parts) (slot : OpenSlot) (signals signals' : Signals) : Type 0 where
-  pub values : signals'.values ≡ signals.values
-  pub room : signals'.room ≡ signals.room
-  pub heard_count : length signals'.heard.items ≡ length signals.heard.items
-  pub count : length signals'.pending.items ≡ length signals.pending.items
-  pub heard : (g : ℕ → Value) → ArePointwise g signals.heard.items → ArePointwise (λ s. choose (value_in c (slot_in slot) s) (g s) (λ v. v)) signals'.heard.items
-  pub pending : (f : ℕ) → slice_index_or signals'.pending.items f false
-      ≡ (if is_some (good (slot_in slot)) then slice_index_or signals.pending.items f false else (slice_index_or signals.pending.items f false || is_cleared slot.puts.items f))
-
 uncleared : (flag cleared p : Bool) → (flag || cleared) ≡ p → cleared ≡ false → flag ≡ p
 uncleared flag cleared p same never = sym (or-false flag) ∙ ap (λ (b : Bool). flag || b) (sym never) ∙ same
 

@@ -4,7 +4,7 @@ use Rattle.std.specs.Prelude.{Option, Some, None, is_none, is_some, ◌&&◌, �
 use Rattle.std.proofs.lemmas.Bool.Decides.{nat_tests}
 use Rattle.std.proofs.lemmas.List.{length-map}
 use Rattle.lin_transport.specs.Sender.{Sending as Sender}
-use Rattle.lin_cluster.specs.Cluster.{nodes}
+use Rattle.lin_cluster.specs.Cluster.{nad, nodes}
 use Rattle.lin_cluster.specs.declared.parts.Parts.{Parts}
 use Rattle.lin_core.specs.History.{open_slot}
 use Rattle.lin_core.specs.Kept.{Keeps, KeepsHost, message_at, message_of}
@@ -109,6 +109,8 @@ not-none (Some x) e = refl
 pub record TimesOut (a : Inside) (by : PortId) (node : ℕ) (dir : Direction) (host : Host) : Type 0 where
   pub known : Known a.cluster (past_in a)
   pub none : open_slot (past_in a) ≡ None
+  pub there : node < nodes a.cluster
+  pub address : is_some (nad a.cluster node) ≡ true
   pub here : slice_get a.state.hosts.items (host_of (link_at node dir)) ≡ Some host
   pub small : host.settled + 1 < 2 ^ 32
   pub told : LostEvent (host_of (link_at node dir)) (host.settled + 1) TimedOut ∷ [] ≡ all_reports a.cluster (quiet_entry by (Timeout node dir)) (past_in a)
@@ -148,6 +150,8 @@ times-out a by node dir host w n e =
     in record {
       known = k;
       none = none;
+      there = there;
+      address = subst (λ (x : Link). is_some (nad c x.node) ≡ true) (same-is f.message.link l f.over) go.link.address;
       here = here;
       small = omega arith;
       told = ap (λ (x : ℕ). LostEvent h x TimedOut ∷ []) number

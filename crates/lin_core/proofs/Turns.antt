@@ -134,7 +134,7 @@ answer-is c capacity past port node k h s is =
     let a = answer-allowed c capacity past port node h
     in answer-by c past node k (open_slot past) refl k.slot a.0 a.1 s is
 
-load-frame : (table entry : ℕ) (due left : List ℕ) (hurt : Bool) (node : ℕ) (dir : Direction) (f : List ℕ) (n : ℕ) → 1 ≤ n → IsFrameOf n f
+pub load-frame : (table entry : ℕ) (due left : List ℕ) (hurt : Bool) (node : ℕ) (dir : Direction) (f : List ℕ) (n : ℕ) → 1 ≤ n → IsFrameOf n f
     → load_of (frame_slot table entry due left hurt (record_of node dir) f) ≡ Carried (host_of (record_of node dir))
 load-frame table entry due left hurt node Down f n some i = rw (i.address, ne_eqb n 0 (λ z. omega arith))
 load-frame table entry due left hurt node Up f n some i = refl
@@ -150,7 +150,7 @@ pub data FinishIs (c : Parts) (states states' : ℕ → HostState) : Option Slot
       → s.puts ≡ (h, with_classic (frame (nad_on c m.link) m.bytes k)) ∷ [] → (states h).rest ≡ m ∷ ms → (states h).count ≡ k → IsLink c h m.link
       → ((x : ℕ) → states' x ≡ (if h == x then advanced s.hurt (is_last m.bytes k) (states h).done m ms k else states x)) → FinishIs c states states' (Some s)
 
-other-load : (s : Slot) → header_is 0x3C s.header ≡ false → header_is 0x7D s.header ≡ false → load_of s ≡ Nothing
+pub other-load : (s : Slot) → header_is 0x3C s.header ≡ false → header_is 0x7D s.header ≡ false → load_of s ≡ Nothing
 other-load s p q = rw (p, q)
 
 pub finish-is : (c : Parts) (past : List LogEntry) (port : PortId) (es : List Event) (sound : IsSound c) (k : Known c past) → (o : Option Slot) (is : open_slot past ≡ o) (shape : SlotIs c (asked past) k.states o)

@@ -2,6 +2,7 @@
 use Rattle.std.specs.Prelude.{◌≡◌, ◌<◌, ◌^◌, min, [], length, reverse, vec_capacity}
 use Rattle.lin_core.specs.Core.{CoreData, IsHistory}
 use Rattle.lin_core.specs.Kept.{Keeps}
+use Rattle.lin_core.specs.KeptHeard.{KeepsHeard}
 use Rattle.lin_core.specs.KeptLate.{KeepsLate}
 use Rattle.lin_cluster.specs.Rules.{IsCluster}
 use Rattle.lin_cluster.specs.Sound.{IsSound}
@@ -27,4 +28,5 @@ pub record IsWhole (a : Inside) : Type 0 where
   pub opening : a.opening < length a.cluster.tables
   pub kept : Keeps a.cluster a.opening a.capacity a.log.entries (reverse a.log.entries) a.state.slot a.state.time a.state.walker a.state.hosts.items a.state.signals
   pub late : KeepsLate a.cluster (reverse a.log.entries) a.state.mode a.state.hosts.items
+  pub heard : KeepsHeard a.cluster (reverse a.log.entries) a.state.receivers.items
   pub history : IsHistory (core_data a)

@@ -18,6 +18,7 @@ mod messages;
 mod mode;
 mod payload;
 mod port;
+mod receivers;
 mod refusals;
 mod reply;
 mod signals;

@@ -21,6 +21,7 @@ use crate::messages::next_bytes;
 use crate::mode::Mode;
 use crate::payload::{Events, Payload};
 use crate::port::PortId;
+use crate::receivers::fresh_receivers;
 use crate::reply::{Refusal, Reply};
 use crate::signals::{Signals, copied};
 use crate::slot::{OpenSlot, Put, header_of, is_sleep_asked, put_in};
@@ -121,6 +122,7 @@ impl Core {
     {
         cluster.sound();
         let hosts = hosts(alloc, cluster.nodes(), capacity)?;
+        let receivers = fresh_receivers(alloc, &cluster)?;
         let signals = Signals::new(alloc, &cluster)?;
         Ok(Core {
             alloc,
@@ -134,6 +136,7 @@ impl Core {
                 time: 0,
                 walker: Walker::new(table),
                 hosts,
+                receivers,
                 signals,
                 mode: Mode::new(),
             },

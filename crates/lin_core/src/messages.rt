@@ -81,7 +81,7 @@ fn responder_of(from: u8, to: u8) -> u8
 }
 
 /// The responder whose message stands at a place in the log; 0 where none does.
-fn responder_at(log: &Log, place: usize) -> u8
+pub(crate) fn responder_at(log: &Log, place: usize) -> u8
     ensures { (m : Message) → message_at log.now.entries place ≡ Some m → result ≡ m.link.node }
 {
     if place >= log.len() {
@@ -90,6 +90,30 @@ fn responder_at(log: &Log, place: usize) -> u8
     match &log.entry(place).step {
         Step::Send { from, to, .. } => responder_of(*from, *to),
         _ => 0,
+    }
+}
+
+/// The direction of a send from a host.
+fn direction_from(from: u8) -> Direction
+    ensures { (to : ℕ) → result ≡ (link_of from to).dir }
+{
+    if from == 0 {
+        Direction::Down
+    } else {
+        Direction::Up
+    }
+}
+
+/// The direction of the message that stands at a place in the log; down where none does.
+pub(crate) fn direction_at(log: &Log, place: usize) -> Direction
+    ensures { (m : Message) → message_at log.now.entries place ≡ Some m → result ≡ m.link.dir }
+{
+    if place >= log.len() {
+        return Direction::Down;
+    }
+    match &log.entry(place).step {
+        Step::Send { from, .. } => direction_from(*from),
+        _ => Direction::Down,
     }
 }
 
@@ -114,7 +138,7 @@ pub(crate) fn receiver_at(log: &Log, place: usize) -> u8
 }
 
 /// The address of a node; 0 where it has none, and for a number that is no node's.
-fn address_of(cluster: &Cluster, node: u8) -> u8
+pub(crate) fn address_of(cluster: &Cluster, node: u8) -> u8
     ensures { node < nodes cluster.now → result ≡ choose (nad cluster.now node) 0 (λ n. n) }
 {
     if node as usize >= cluster.nodes() {

@@ -1,7 +1,7 @@
 //! The open slot, as the core keeps it.
 
 ghost use Rattle.std.specs.Prelude.{◌≡◌, ◌<◌, ◌++◌, ◌∷◌, [], Bool, ◌==◌, ◌&&◌, not, true, false, length, filter};
-ghost use Rattle.std.specs.Prelude.{◌+◌, ◌≤◌, ℕ, List, Some, None, is_some, option_map, map, vec_capacity};
+ghost use Rattle.std.specs.Prelude.{◌+◌, ◌≤◌, ℕ, List, Some, None, is_some, option_map, map, take, vec_capacity};
 ghost use Rattle.std.specs.List.{list_any};
 ghost use Rattle.lin_frame.specs.Words.{choose, numbers};
 ghost use Rattle.lin_cluster.specs.Cluster.{line_of, nodes};
@@ -10,6 +10,7 @@ ghost use Rattle.lin_core.specs.History.{good, has_decided, header_is, is_clash_
 ghost use Rattle.lin_core.specs.Kept.{begun, slot_in, IsThere};
 ghost use Rattle.lin_core.specs.declared.log.LogEntry.{LogEntry};
 ghost use Rattle.lin_core.specs.declared.slot.OpenSlot.{OpenSlot};
+ghost use Rattle.lin_core.specs.declared.slot.Put.{Put};
 
 use crate::due::{due_nodes, header_for};
 use crate::event::{Event, Seen};
@@ -182,6 +183,20 @@ pub(crate) fn put_in(slot: &mut Option<OpenSlot>, put: Put)
     if let Some(open) = slot {
         open.puts.push(put);
     }
+}
+
+/// The data bytes of the slot's only response; zeros where it has another number of them, or none is open.
+pub(crate) fn frame_in(slot: &Option<OpenSlot>) -> [u8; 8]
+    ensures { (kept : OpenSlot) (put : Put) → slot.now ≡ Some kept → kept.puts.items ≡ put ∷ [] → 8 ≤ length put.answer → result ≡ take 8 put.answer }
+{
+    let mut frame = [0; 8];
+    if let Some(open) = slot
+        && let Some(put) = open.puts.as_slice().first()
+        && put.answer.as_slice().len() >= 8
+    {
+        frame.copy_from_slice(&put.answer.as_slice()[..8]);
+    }
+    frame
 }
 
 /// The slot's header; 0 where it has none, or none is open.

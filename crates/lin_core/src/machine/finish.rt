@@ -9,11 +9,12 @@ use crate::load::{Load, is_hurt, load_in};
 use crate::log::LogEntry;
 use crate::losses::sleep_events;
 use crate::machine::{Core, one_event, three_events, two_events};
-use crate::messages::{address_at, message_at, receiver_at};
+use crate::messages::{address_at, direction_at, message_at, receiver_at, responder_at};
 use crate::payload::Payload;
 use crate::port::PortId;
+use crate::receivers::{hear, reset_all};
 use crate::reply::Reply;
-use crate::slot::{delay_of, is_clash, seen_in};
+use crate::slot::frame_in;
 use crate::step::Step;
 use std::mem;
 
@@ -37,13 +38,7 @@ impl Core {
         if self.log.make_room().is_err() || self.room.try_reserve(1).is_err() {
             return Err(Hold::OutOfMemory(Step::Finish));
         }
-        let delay = delay_of(&self.cluster, &self.state.slot);
-        self.state.signals.finish(&self.cluster, &self.state.slot);
-        self.state.mode.finish(&self.cluster, &self.state.slot);
-        let seen = seen_in(self.state.slot.take());
-        self.state.time += u64::from(delay);
-        let clash = is_clash(&seen);
-        self.state.walker.advance(&self.cluster, clash);
+        let seen = self.state.pass_slot(&self.cluster);
         let room = mem::replace(&mut self.room, Vec::new(self.alloc));
         let events = one_event(room, Event::Seen(seen));
         self.log.push(LogEntry {
@@ -66,13 +61,7 @@ impl Core {
         if self.log.make_room().is_err() || self.room.try_reserve(2).is_err() {
             return Err(Hold::OutOfMemory(Step::Finish));
         }
-        let delay = delay_of(&self.cluster, &self.state.slot);
-        self.state.signals.finish(&self.cluster, &self.state.slot);
-        self.state.mode.finish(&self.cluster, &self.state.slot);
-        let seen = seen_in(self.state.slot.take());
-        self.state.time += u64::from(delay);
-        let clash = is_clash(&seen);
-        self.state.walker.advance(&self.cluster, clash);
+        let seen = self.state.pass_slot(&self.cluster);
         let host = &mut self.state.hosts[sender as usize];
         let number = host.settled + 1;
         host.settle();
@@ -117,13 +106,13 @@ impl Core {
         let place = self.state.hosts[sender as usize].next() as usize;
         let address = address_at(&self.cluster, &self.log, place);
         let len = message_at(&self.log, place).len();
-        let delay = delay_of(&self.cluster, &self.state.slot);
-        self.state.signals.finish(&self.cluster, &self.state.slot);
-        self.state.mode.finish(&self.cluster, &self.state.slot);
-        let seen = seen_in(self.state.slot.take());
-        self.state.time += u64::from(delay);
-        let clash = is_clash(&seen);
-        self.state.walker.advance(&self.cluster, clash);
+        let node = responder_at(&self.log, place);
+        let dir = direction_at(&self.log, place);
+        let frame = frame_in(&self.state.slot);
+        if hear(&mut self.state.receivers, node, dir, &frame).is_err() {
+            return Err(Hold::OutOfMemory(Step::Finish));
+        }
+        let seen = self.state.pass_slot(&self.cluster);
         self.state.hosts[sender as usize].go_on(address, len);
         let room = mem::replace(&mut self.room, Vec::new(self.alloc));
         let events = one_event(room, Event::Seen(seen));
@@ -150,16 +139,14 @@ impl Core {
         }
         let place = self.state.hosts[sender as usize].next() as usize;
         let to = receiver_at(&self.log, place);
-        let Ok(bytes) = Vec::from_slice(self.alloc, message_at(&self.log, place)) else {
+        let node = responder_at(&self.log, place);
+        let dir = direction_at(&self.log, place);
+        let frame = frame_in(&self.state.slot);
+        let Ok(message) = hear(&mut self.state.receivers, node, dir, &frame) else {
             return Err(Hold::OutOfMemory(Step::Finish));
         };
-        let delay = delay_of(&self.cluster, &self.state.slot);
-        self.state.signals.finish(&self.cluster, &self.state.slot);
-        self.state.mode.finish(&self.cluster, &self.state.slot);
-        let seen = seen_in(self.state.slot.take());
-        self.state.time += u64::from(delay);
-        let clash = is_clash(&seen);
-        self.state.walker.advance(&self.cluster, clash);
+        let bytes = message.unwrap();
+        let seen = self.state.pass_slot(&self.cluster);
         let host = &mut self.state.hosts[sender as usize];
         let number = host.settled + 1;
         host.settle();
@@ -195,13 +182,8 @@ impl Core {
         if self.log.make_room().is_err() || self.room.try_reserve(count).is_err() {
             return Err(Hold::OutOfMemory(Step::Finish));
         }
-        let delay = delay_of(&self.cluster, &self.state.slot);
-        self.state.signals.finish(&self.cluster, &self.state.slot);
-        self.state.mode.finish(&self.cluster, &self.state.slot);
-        let seen = seen_in(self.state.slot.take());
-        self.state.time += u64::from(delay);
-        let clash = is_clash(&seen);
-        self.state.walker.advance(&self.cluster, clash);
+        let seen = self.state.pass_slot(&self.cluster);
+        reset_all(&mut self.state.receivers);
         let room = mem::replace(&mut self.room, Vec::new(self.alloc));
         let events = sleep_events(room, seen, &mut self.state.hosts);
         self.log.push(LogEntry {

@@ -30,7 +30,7 @@ impl Core {
         begun_by(hosts, host) && goes_over(&self.log, next_by(hosts, host) as usize, node, dir)
     }
 
-    /// Logs a timeout: the message that is begun there is lost.
+    /// Logs a timeout: the message that is begun there is lost, and its receiver forgets what it heard of it.
     pub(super) fn time_out(&mut self, by: PortId, node: u8, dir: Direction) -> Result<(), Hold>
         requires allowed { IsAllowed self.old by (Step.Timeout node dir) }
         requires few { length self.old.log < 2 ^ 32 - 1 }
@@ -45,6 +45,7 @@ impl Core {
         let kept = &mut self.state.hosts[host as usize];
         let number = kept.settled + 1;
         kept.settle();
+        self.state.receivers[node as usize].reset(dir);
         let room = mem::replace(&mut self.room, Vec::new(self.alloc));
         let lost = Event::Lost {
             host,

@@ -25,6 +25,7 @@ use Rattle.lin_core.proofs.LateKeeping.{answer-late}
 use Rattle.lin_core.proofs.Making.{Allowed, allowed-inside, past_in}
 use Rattle.lin_core.proofs.Answering.{AnswerSlot, answer-slot, answered-by, some-inside, put-told, frame-answers}
 use Rattle.lin_core.proofs.Opening.{put-room}
+use Rattle.lin_core.proofs.Receiving.{heard-same}
 use Rattle.lin_core.proofs.machine.Core.answer_frame.Goals.{After-push}
 use Rattle.lin_core.proofs.machine.Core.answer_frame.Goals as goal
 
@@ -106,6 +107,7 @@ invariant_of-self-2 c =
       opening = w.opening;
       kept = rw (pushed c, reverse-more a.log.entries (entry c)) (kept c);
       late = rw (pushed c, reverse-more a.log.entries (entry c)) (answer-late a.cluster a.capacity (past_in a) c.args.by c.args.node a.state.mode a.state.hosts.items w.sound (allowed c).known (allowed c).allowed w.late);
+      heard = rw (pushed c, reverse-more a.log.entries (entry c)) (heard-same a.cluster (past_in a) (entry c ∷ past_in a) a.state.receivers.items (λ l i. refl) w.heard);
       history = rw (pushed c, is_answered c) (history-more (core_data a) c.args.by (Answer c.args.node) w.history);
     }
 

@@ -7,6 +7,7 @@ use Rattle.lin_core.proofs.Keeping.{done_entry}
 use Rattle.lin_core.proofs.LateKeeping.{ask-keeps, ask-late}
 use Rattle.lin_core.proofs.LateMaking.{entry-is, logged-returns, logged-whole, pushed-is}
 use Rattle.lin_core.proofs.Making.{Allowed, allowed-inside, past_in}
+use Rattle.lin_core.proofs.Receiving.{heard-same}
 use Rattle.lin_core.proofs.machine.Core.ask_sleep.Goals.{After-push}
 use Rattle.lin_core.proofs.machine.Core.ask_sleep.Goals as goal
 
@@ -35,6 +36,7 @@ invariant_of-self-2 c =
       capacity = refl;
       kept = ask-keeps a.cluster a.opening a.capacity a.log.entries (past_in a) a.state.slot a.state.time a.state.walker a.state.hosts.items a.state.signals c.args.by w.sound (allowed c).known w.kept;
       late = ask-late a.cluster (past_in a) c.args.by a.state.mode a.state.hosts.items w.sound (allowed c).known w.late;
+      heard = heard-same a.cluster (past_in a) (entry c ∷ past_in a) a.state.receivers.items (λ l i. refl) w.heard;
     })
 
 pub returns-clause-ok : goal.returns-clause-ok

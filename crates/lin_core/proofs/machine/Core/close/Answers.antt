@@ -7,6 +7,7 @@ use Rattle.lin_core.proofs.Keeping.{done_entry}
 use Rattle.lin_core.proofs.LateKeeping.{close-keeps, close-late}
 use Rattle.lin_core.proofs.LateMaking.{entry-is, logged-returns, logged-whole, pushed-is, closed-host}
 use Rattle.lin_core.proofs.Making.{Allowed, allowed-inside, past_in}
+use Rattle.lin_core.proofs.Receiving.{heard-same}
 use Rattle.lin_core.proofs.machine.Core.close.Goals.{After-push}
 use Rattle.lin_core.proofs.machine.Core.close.Goals as goal
 
@@ -36,6 +37,7 @@ invariant_of-self-2 c =
       capacity = refl;
       kept = close-keeps a.cluster a.opening a.capacity a.log.entries (past_in a) a.state.slot a.state.time a.state.walker a.state.hosts.items a.state.signals c.index_mut.result.now c.args.by c.args.host w.sound (allowed c).known here w.kept;
       late = close-late a.cluster (past_in a) c.args.by c.args.host c.index_mut.result.now a.state.mode a.state.hosts.items w.sound (allowed c).known here w.late;
+      heard = heard-same a.cluster (past_in a) (entry c ∷ past_in a) a.state.receivers.items (λ l i. refl) w.heard;
     })
 
 pub returns-clause-ok : goal.returns-clause-ok

@@ -33,8 +33,12 @@ use Rattle.lin_core.specs.Loads.{load_of}
 use Rattle.lin_core.specs.Core.{past_of}
 use Rattle.lin_core.specs.History.{Slot, open_slot}
 use Rattle.std.specs.Prelude.{Some, true}
-use Rattle.lin_core.proofs.SignalKeeping.{Ends}
+use Rattle.lin_core.specs.Passes.{Passes}
+use Rattle.lin_core.proofs.Passing.{finish_of, finish-answered, passed-keeps, passed-mode}
+use Rattle.lin_core.proofs.LateMaking.{logged-returns, logged-whole}
 use Rattle.lin_core.proofs.Making.{OpenIs, open-inside, past_in}
+use Rattle.lin_core.specs.KeptHeard.{KeepsHeard}
+use Rattle.lin_core.proofs.Receiving.{carries-frame, heard-same, hurt-heard}
 use Rattle.lin_core.proofs.machine.Core.finish_damaged.Goals.{After-push}
 use Rattle.lin_core.proofs.machine.Core.finish_damaged.Goals as goal
 
@@ -47,13 +51,13 @@ index_mut-host-requires c =
     let i = host-carried a.cluster (past_in a) c.args.by (slot_in o.slot) w.sound o.step.known c.args.sender o.is carries.0 in
     let count = w.kept.hosts_count in
     let below = i.below in
-    omega arith
+    rw c.pass_slot-seen.ensures.hosts (omega arith)
 
 pub overflow_add-number : goal.overflow_add-number
 overflow_add-number c =
     let o = open-inside c.self.inside c.args.self.now c.args.by c.self.view_is c.self.invariant c.requires.allowed c.requires.few in
     let carries = subst (λ (d : CoreData). (s : Slot) → open_slot (past_of d) ≡ Some s → (load_of s ≡ Carried c.args.sender) × (s.hurt ≡ true)) (sym c.self.view_is) c.requires.carried (slot_in o.slot) o.is in
-    let x = damaged-inside c.self.inside c.args.by o c.args.sender c.index_mut-host.result.now c.self.invariant carries.0 carries.1 c.index_mut-host.ensures.value in
+    let x = damaged-inside c.self.inside c.args.by o c.args.sender c.index_mut-host.result.now c.self.invariant carries.0 carries.1 (rw c.pass_slot-seen.ensures.hosts at c.index_mut-host.ensures.value) in
     let small = x.own.small in
     omega arith
 
@@ -61,7 +65,7 @@ pub settle-requires : goal.settle-requires
 settle-requires c =
     let o = open-inside c.self.inside c.args.self.now c.args.by c.self.view_is c.self.invariant c.requires.allowed c.requires.few in
     let carries = subst (λ (d : CoreData). (s : Slot) → open_slot (past_of d) ≡ Some s → (load_of s ≡ Carried c.args.sender) × (s.hurt ≡ true)) (sym c.self.view_is) c.requires.carried (slot_in o.slot) o.is in
-    let x = damaged-inside c.self.inside c.args.by o c.args.sender c.index_mut-host.result.now c.self.invariant carries.0 carries.1 c.index_mut-host.ensures.value in
+    let x = damaged-inside c.self.inside c.args.by o c.args.sender c.index_mut-host.result.now c.self.invariant carries.0 carries.1 (rw c.pass_slot-seen.ensures.hosts at c.index_mut-host.ensures.value) in
     let small = x.own.small in
     omega arith
 
@@ -74,45 +78,25 @@ carries c =
     subst (λ (d : CoreData). (s : Slot) → open_slot (past_of d) ≡ Some s → (load_of s ≡ Carried c.args.sender) × (s.hurt ≡ true)) (sym c.self.view_is) c.requires.carried (slot_in o.slot) o.is
 
 damaged : (c : After-push) → DamagedIs c.self.inside c.args.by (opened c) c.self.invariant c.args.sender c.index_mut-host.result.now
-damaged c = damaged-inside c.self.inside c.args.by (opened c) c.args.sender c.index_mut-host.result.now c.self.invariant (carries c).0 (carries c).1 c.index_mut-host.ensures.value
+damaged c = damaged-inside c.self.inside c.args.by (opened c) c.args.sender c.index_mut-host.result.now c.self.invariant (carries c).0 (carries c).1 (rw c.pass_slot-seen.ensures.hosts at c.index_mut-host.ensures.value)
 
 abbrev entry : (c : After-push) → LogEntry
-entry c = finished_entry c.self.inside.cluster (past_in c.self.inside) c.args.by
+entry c = finish_of c.self.inside c.args.by
 
 is_answered : (c : After-push) → entry c ≡ answered (core_data c.self.inside) c.args.by Finish
-is_answered c = done-answered (core_data c.self.inside) c.args.by Finish (finish_events c.self.inside.cluster c.args.by (past_in c.self.inside)) (opened c).step.allowed refl
+is_answered c = finish-answered c.self.inside c.args.by (opened c)
 
-finishes : (c : After-push) → Finishes c.self.inside.cluster c.self.inside.opening (past_in c.self.inside) (opened c).slot c.self.inside.state.time (c.self.inside.state.time + c.from.result) c.self.inside.state.walker c.advance.new.self
-finishes c =
-    let a = c.self.inside in
-    let o = opened c in
-    let delay : c.delay_of-delay.result ≡ (line_of a.cluster o.slot.table o.slot.entry).delay_us = c.delay_of-delay.ensures.value o.slot o.at in
-    record {
-      clock_is = ap (λ (n : ℕ). a.state.time + n) (c.from.ensures ∙ delay);
-      few = rw (← delay) c.delay_of-delay.ensures.few;
-      stands = subst (λ (b : Bool). Stands a.cluster a.opening c.advance.new.self (SlotMove b ∷ moves (past_in a)))
-          (c.is_clash-clash.ensures ∙ ap is_clash_seen (c.seen_in-seen.ensures o.slot (c.take.ensures.value ∙ o.at))) (c.advance.ensures.stands a.opening (moves (past_in a)) c.self.invariant.kept.stands);
-      walks = c.advance.ensures.walks;
-    }
-
-ends : (c : After-push) → Ends c.self.inside.cluster (opened c).slot c.self.inside.state.signals c.finish.new.self
-ends c = let o = opened c in record {
-  values = c.finish.ensures.values;
-  room = c.finish.ensures.room;
-  heard_count = c.finish.ensures.signals;
-  count = c.finish.ensures.frames;
-  heard = c.finish.ensures.heard o.slot o.at;
-  pending = c.finish.ensures.pending o.slot o.at;
-}
+passes : (c : After-push) → Passes c.self.inside.cluster (opened c).slot c.self.inside.state c.pass_slot-seen.new.self
+passes c = c.pass_slot-seen.ensures.passes (opened c).slot (opened c).at
 
 pushed : (c : After-push) → c.push.new.self.entries ≡ c.self.inside.log.entries ++ entry c ∷ []
 pushed c =
     let a = c.self.inside in
-    let seen_is : c.seen_in-seen.result ≡ seen (slot_in (opened c).slot) = c.seen_in-seen.ensures (opened c).slot (c.take.ensures.value ∙ (opened c).at) in
+    let seen_is : c.pass_slot-seen.result ≡ seen (slot_in (opened c).slot) = c.pass_slot-seen.ensures.seen (opened c).slot (opened c).at in
     c.push.ensures ∙ ap (λ (log : List LogEntry). log ++ done_entry c.args.by Finish c.two_events-events.result ∷ []) c.make_room.ensures.entries
     ∙ ap (λ (es : List Event). a.log.entries ++ done_entry c.args.by Finish es ∷ []) (c.two_events-events.ensures ∙ ap (λ (s : _). Seen s ∷ Lost c.args.sender (c.index_mut-host.result.now.settled + 1) Damaged ∷ []) seen_is ∙ sym (damaged c).done.told)
 
-kept : (c : After-push) → Keeps c.self.inside.cluster c.self.inside.opening c.self.inside.capacity (c.self.inside.log.entries ++ entry c ∷ []) (entry c ∷ past_in c.self.inside) c.take.new.self (c.self.inside.state.time + c.from.result) c.advance.new.self (slice_set c.self.inside.state.hosts.items c.args.sender c.settle.new.self) c.finish.new.self
+kept : (c : After-push) → Keeps c.self.inside.cluster c.self.inside.opening c.self.inside.capacity (c.self.inside.log.entries ++ entry c ∷ []) (entry c ∷ past_in c.self.inside) c.pass_slot-seen.new.self.slot c.pass_slot-seen.new.self.time c.pass_slot-seen.new.self.walker (slice_set c.pass_slot-seen.new.self.hosts.items c.args.sender c.settle.new.self) c.pass_slot-seen.new.self.signals
 kept c =
     let a = c.self.inside in
     let w = c.self.invariant in
@@ -120,19 +104,15 @@ kept c =
     let host = c.index_mut-host.result.now in
     let x = damaged c in
     let es = finish_events a.cluster c.args.by (past_in a) in
-    rw (c.take.ensures.after, c.settle.ensures)
-    (finish-keeps a.cluster a.opening a.capacity a.log.entries (past_in a) o.slot a.state.time (a.state.time + c.from.result) a.state.walker c.advance.new.self a.state.hosts.items (slice_set a.state.hosts.items c.args.sender (settled host)) a.state.signals c.finish.new.self c.args.by (finishes c) (ends c)
+    rw (c.pass_slot-seen.ensures.hosts, c.settle.ensures)
+    (passed-keeps a c.args.by o c.pass_slot-seen.new.self (slice_set a.state.hosts.items c.args.sender (settled host)) w (passes c)
     (length-set a.state.hosts.items c.args.sender (settled host))
-    (settled-hosts a.cluster a.capacity a.log.entries (past_in a) (entry c) c.args.sender host a.state.hosts.items w.sound o.step.known (known_behind a.cluster (past_in a) c.args.by es w.sound o.step.known) (x.done.settles es) x.own.here w.kept.each_host)
-    (subst (λ (s : Option OpenSlot). Keeps a.cluster a.opening a.capacity a.log.entries (past_in a) s a.state.time a.state.walker a.state.hosts.items a.state.signals) o.at w.kept))
+    (settled-hosts a.cluster a.capacity a.log.entries (past_in a) (entry c) c.args.sender host a.state.hosts.items w.sound o.step.known (known_behind a.cluster (past_in a) c.args.by es w.sound o.step.known) (x.done.settles es) x.own.here w.kept.each_host))
 
-mode_is : (c : After-push) → KeepsMode c.self.inside.cluster (entry c ∷ past_in c.self.inside) c.finish-2.new.self
-mode_is c =
-    let a = c.self.inside in
-    let o = opened c in
-    rw (c.finish-2.ensures o.slot o.at) (finish-mode a.cluster (past_in a) c.args.by (finish_events a.cluster c.args.by (past_in a)) (slot_in o.slot) a.state.mode o.is c.self.invariant.late.mode_is)
+mode_is : (c : After-push) → KeepsMode c.self.inside.cluster (entry c ∷ past_in c.self.inside) c.pass_slot-seen.new.self.mode
+mode_is c = passed-mode c.self.inside c.args.by (opened c) c.pass_slot-seen.new.self c.self.invariant (passes c)
 
-late : (c : After-push) → KeepsLate c.self.inside.cluster (entry c ∷ past_in c.self.inside) c.finish-2.new.self (slice_set c.self.inside.state.hosts.items c.args.sender c.settle.new.self)
+late : (c : After-push) → KeepsLate c.self.inside.cluster (entry c ∷ past_in c.self.inside) c.pass_slot-seen.new.self.mode (slice_set c.pass_slot-seen.new.self.hosts.items c.args.sender c.settle.new.self)
 late c =
     let a = c.self.inside in
     let w = c.self.invariant in
@@ -140,25 +120,23 @@ late c =
     let host = c.index_mut-host.result.now in
     let x = damaged c in
     let es = finish_events a.cluster c.args.by (past_in a) in
-    rw c.settle.ensures
-    (settled-late a.cluster (past_in a) (entry c) c.args.sender host a.state.mode c.finish-2.new.self a.state.hosts.items w.sound o.step.known (known_behind a.cluster (past_in a) c.args.by es w.sound o.step.known) (x.done.settles es) x.own.here (λ y. refl) (mode_is c) w.late)
+    rw (c.pass_slot-seen.ensures.hosts, c.settle.ensures)
+    (settled-late a.cluster (past_in a) (entry c) c.args.sender host a.state.mode c.pass_slot-seen.new.self.mode a.state.hosts.items w.sound o.step.known (known_behind a.cluster (past_in a) c.args.by es w.sound o.step.known) (x.done.settles es) x.own.here (λ y. refl) (mode_is c) w.late)
+
+heard : (c : After-push) → KeepsHeard c.self.inside.cluster (entry c ∷ past_in c.self.inside) c.pass_slot-seen.new.self.receivers.items
+heard c =
+    let a = c.self.inside in
+    let w = c.self.invariant in
+    let o = opened c in
+    let past = past_in a in
+    let i = carries-frame a.cluster past c.args.by w.sound o.step.known (slot_in o.slot) c.args.sender o.is (carries c).0 in
+    rw c.pass_slot-seen.ensures.receivers
+    (heard-same a.cluster past (entry c ∷ past) a.state.receivers.items (hurt-heard a.cluster past c.args.by o.step.known (slot_in o.slot) c.args.sender i (carries c).1 (finish_events a.cluster c.args.by past)) w.heard)
 
 pub invariant_of-self-2 : goal.invariant_of-self-2
 invariant_of-self-2 c =
-    let a = c.self.inside in
-    let w = c.self.invariant in
-    record {
-      few = let few = (opened c).step.few in rw (pushed c, length-append) (omega arith);
-      empty = rw c.replace-room.ensures.after c.new.ensures.items;
-      rules = w.rules;
-      sound = w.sound;
-      opening = w.opening;
-      kept = rw (pushed c, reverse-more a.log.entries (entry c)) (kept c);
-      late = rw (pushed c, reverse-more a.log.entries (entry c)) (late c);
-      history = rw (pushed c, is_answered c) (history-more (core_data a) c.args.by Finish w.history);
-    }
+    logged-whole c.self.inside _ c.args.by Finish (entry c) c.self.invariant (opened c).step (is_answered c)
+    (record { log = pushed c; empty = rw c.replace-room.ensures.after c.new.ensures.items; cluster = refl; opening = refl; capacity = refl; kept = kept c; late = late c; heard = heard c })
 
 pub returns-clause-ok : goal.returns-clause-ok
-returns-clause-ok c =
-    subst (λ (d : CoreData). c.push.new.self.entries ≡ d.log ++ answered d c.args.by Finish ∷ []) c.self.view_is
-    (pushed c ∙ ap (λ (e : LogEntry). c.self.inside.log.entries ++ e ∷ []) (is_answered c))
+returns-clause-ok c = logged-returns c.self.inside c.args.self.now c.args.by Finish (entry c) c.push.new.self.entries c.self.view_is (is_answered c) (pushed c)

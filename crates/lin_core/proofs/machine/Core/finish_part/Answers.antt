@@ -1,5 +1,6 @@
 use Rattle.std.proofs.Common.{refl, ◌≡◌, ◌+◌, ℕ, length, List, [], ◌∷◌, ◌++◌, ap, sym, ◌∙◌, subst, arith, length-append}
-use Rattle.std.specs.Prelude.{Option}
+use Rattle.std.specs.Prelude.{Option, option_map}
+use Rattle.std.specs.Global.{Vec}
 use Rattle.lin_cluster.specs.Cluster.{line_of}
 use Rattle.lin_core.specs.Core.{answered, CoreData}
 use Rattle.lin_core.specs.History.{seen}
@@ -31,8 +32,15 @@ use Rattle.lin_core.proofs.Making.{known-inside}
 use Rattle.lin_core.proofs.Keeping.{done_entry, done-answered, finished_entry, finish-keeps, Finishes}
 use Rattle.lin_core.proofs.ModeKeeping.{finish-mode}
 use Rattle.lin_core.specs.KeptLate.{KeepsLate, KeepsMode}
-use Rattle.lin_core.proofs.SignalKeeping.{Ends}
+use Rattle.lin_core.specs.Passes.{Passes}
+use Rattle.lin_core.proofs.Passing.{finish_of, finish-answered, passed-keeps, passed-mode, passes-as}
+use Rattle.lin_core.proofs.LateMaking.{logged-returns, logged-whole}
 use Rattle.lin_core.proofs.Making.{OpenIs, open-inside, past_in}
+use Rattle.lin_core.specs.Replies.{link_at}
+use Rattle.lin_core.specs.Links.{nad_on}
+use Rattle.lin_core.specs.KeptHeard.{HearsOn, KeepsHeard}
+use Rattle.lin_core.proofs.Reassembling.{heard-inside, if-ok}
+use Rattle.lin_core.proofs.Receiving.{HeardFrame}
 use Rattle.lin_core.proofs.machine.Core.finish_part.Goals.{After-push}
 use Rattle.lin_core.proofs.machine.Core.finish_part.Goals as goal
 
@@ -52,7 +60,7 @@ index_mut-requires c =
     let i = host-there a c.args.sender false w (known-inside a w) (carried-inside a c.args.self.now c.args.sender false c.self.view_is c.requires.carried) in
     let count = w.kept.hosts_count in
     let below = i.below in
-    omega arith
+    rw c.pass_slot-seen.ensures.hosts (omega arith)
 
 pub go_on-requires-clause-some : goal.go_on-requires-clause-some
 go_on-requires-clause-some c =
@@ -74,8 +82,18 @@ go_on-requires-clause-more c = λ s is.
     let w = c.self.invariant in
     let k = known-inside a w in
     let g = good-inside a c.args.sender false c.index.result.now c.next-place.result w k (carried-inside a c.args.self.now c.args.sender false c.self.view_is c.requires.carried) c.index.ensures c.next-place.ensures in
-    let same : c.index_mut.result.now ≡ c.index.result.now = same-host a c.args.sender c.index_mut.result.now c.index.result.now w g.below c.index_mut.ensures.value c.index.ensures in
+    let same : c.index_mut.result.now ≡ c.index.result.now = same-host a c.args.sender c.index_mut.result.now c.index.result.now w g.below (rw c.pass_slot-seen.ensures.hosts at c.index_mut.ensures.value) c.index.ensures in
     more-frames a.cluster g.message g.later (k.states c.args.sender).count c.index_mut.result.now.sender s g.more (ap (λ (x : Host). x.sender) same ∙ g.sender_is) is
+
+pub hear-requires : goal.hear-requires
+hear-requires c =
+    let a = c.self.inside in
+    let w = c.self.invariant in
+    let g = good-inside a c.args.sender false c.index.result.now c.next-place.result w (known-inside a w) (carried-inside a c.args.self.now c.args.sender false c.self.view_is c.requires.carried) c.index.ensures c.next-place.ensures in
+    let node = c.responder_at-node.ensures g.message (rw c.make_room.ensures.entries g.at) in
+    let there = g.node in
+    let count = w.heard.count in
+    omega arith
 
 opened : (c : After-push) → OpenIs c.self.inside c.args.by
 opened c = open-inside c.self.inside c.args.self.now c.args.by c.self.view_is c.self.invariant c.requires.allowed c.requires.few
@@ -86,7 +104,7 @@ good c =
     good-inside a c.args.sender false c.index.result.now c.next-place.result c.self.invariant (opened c).step.known (carried-inside a c.args.self.now c.args.sender false c.self.view_is c.requires.carried) c.index.ensures c.next-place.ensures
 
 same : (c : After-push) → c.index_mut.result.now ≡ c.index.result.now
-same c = same-host c.self.inside c.args.sender c.index_mut.result.now c.index.result.now c.self.invariant (good c).below c.index_mut.ensures.value c.index.ensures
+same c = same-host c.self.inside c.args.sender c.index_mut.result.now c.index.result.now c.self.invariant (good c).below (rw c.pass_slot-seen.ensures.hosts at c.index_mut.ensures.value) c.index.ensures
 
 part : (c : After-push) → Part c.self.inside.cluster (past_in c.self.inside) c.args.by (slot_in (opened c).slot) c.self.invariant.sound (opened c).step.known c.args.sender
 part c =
@@ -98,38 +116,18 @@ part c =
     (last-by a c.args.self.now c.args.sender c.index.result.now c.next-place.result false c.self.invariant o.step.known g c.self.view_is c.requires.more)
 
 abbrev entry : (c : After-push) → LogEntry
-entry c = finished_entry c.self.inside.cluster (past_in c.self.inside) c.args.by
+entry c = finish_of c.self.inside c.args.by
 
 is_answered : (c : After-push) → entry c ≡ answered (core_data c.self.inside) c.args.by Finish
-is_answered c = done-answered (core_data c.self.inside) c.args.by Finish (finish_events c.self.inside.cluster c.args.by (past_in c.self.inside)) (opened c).step.allowed refl
+is_answered c = finish-answered c.self.inside c.args.by (opened c)
 
-finishes : (c : After-push) → Finishes c.self.inside.cluster c.self.inside.opening (past_in c.self.inside) (opened c).slot c.self.inside.state.time (c.self.inside.state.time + c.from.result) c.self.inside.state.walker c.advance.new.self
-finishes c =
-    let a = c.self.inside in
-    let o = opened c in
-    let delay : c.delay_of-delay.result ≡ (line_of a.cluster o.slot.table o.slot.entry).delay_us = c.delay_of-delay.ensures.value o.slot o.at in
-    record {
-      clock_is = ap (λ (n : ℕ). a.state.time + n) (c.from.ensures ∙ delay);
-      few = rw (← delay) c.delay_of-delay.ensures.few;
-      stands = subst (λ (b : Bool). Stands a.cluster a.opening c.advance.new.self (SlotMove b ∷ moves (past_in a)))
-          (c.is_clash-clash.ensures ∙ ap is_clash_seen (c.seen_in-seen.ensures o.slot (c.take.ensures.value ∙ o.at))) (c.advance.ensures.stands a.opening (moves (past_in a)) c.self.invariant.kept.stands);
-      walks = c.advance.ensures.walks;
-    }
-
-ends : (c : After-push) → Ends c.self.inside.cluster (opened c).slot c.self.inside.state.signals c.finish.new.self
-ends c = let o = opened c in record {
-  values = c.finish.ensures.values;
-  room = c.finish.ensures.room;
-  heard_count = c.finish.ensures.signals;
-  count = c.finish.ensures.frames;
-  heard = c.finish.ensures.heard o.slot o.at;
-  pending = c.finish.ensures.pending o.slot o.at;
-}
+passes : (c : After-push) → Passes c.self.inside.cluster (opened c).slot c.self.inside.state c.pass_slot-seen.new.self
+passes c = passes-as c.self.inside.cluster (opened c).slot c.self.inside.state c.pass_slot-seen.new.self c.hear.new.receivers (c.pass_slot-seen.ensures.passes (opened c).slot (opened c).at)
 
 pushed : (c : After-push) → c.push.new.self.entries ≡ c.self.inside.log.entries ++ entry c ∷ []
 pushed c =
     let a = c.self.inside in
-    let seen_is : c.seen_in-seen.result ≡ seen (slot_in (opened c).slot) = c.seen_in-seen.ensures (opened c).slot (c.take.ensures.value ∙ (opened c).at) in
+    let seen_is : c.pass_slot-seen.result ≡ seen (slot_in (opened c).slot) = c.pass_slot-seen.ensures.seen (opened c).slot (opened c).at in
     c.push.ensures ∙ ap (λ (log : List LogEntry). log ++ done_entry c.args.by Finish c.one_event-events.result ∷ []) c.make_room.ensures.entries
     ∙ ap (λ (es : List Event). a.log.entries ++ done_entry c.args.by Finish es ∷ []) (c.one_event-events.ensures ∙ ap (λ (s : _). Seen s ∷ []) seen_is ∙ sym (part c).told)
 
@@ -151,7 +149,7 @@ after c =
     (c.address_at-address.ensures g.message there g.node ∙ ap (λ (m : Message). nad_on c.self.inside.cluster m.link) one)
     (ap length (c.message_at-len.ensures g.message there) ∙ ap (λ (m : Message). length m.bytes) one)
 
-kept : (c : After-push) → Keeps c.self.inside.cluster c.self.inside.opening c.self.inside.capacity (c.self.inside.log.entries ++ entry c ∷ []) (entry c ∷ past_in c.self.inside) c.take.new.self (c.self.inside.state.time + c.from.result) c.advance.new.self (slice_set c.self.inside.state.hosts.items c.args.sender c.go_on.new.self) c.finish.new.self
+kept : (c : After-push) → Keeps c.self.inside.cluster c.self.inside.opening c.self.inside.capacity (c.self.inside.log.entries ++ entry c ∷ []) (entry c ∷ past_in c.self.inside) c.pass_slot-seen.new.self.slot c.pass_slot-seen.new.self.time c.pass_slot-seen.new.self.walker (slice_set c.pass_slot-seen.new.self.hosts.items c.args.sender c.go_on.new.self) c.pass_slot-seen.new.self.signals
 kept c =
     let a = c.self.inside in
     let w = c.self.invariant in
@@ -160,43 +158,42 @@ kept c =
     let m = (goes c).message in
     let new : Host = gone_on host (nad_on a.cluster m.link) (length m.bytes) in
     let es = finish_events a.cluster c.args.by (past_in a) in
-    rw (c.take.ensures.after, after c)
-    (finish-keeps a.cluster a.opening a.capacity a.log.entries (past_in a) o.slot a.state.time (a.state.time + c.from.result) a.state.walker c.advance.new.self a.state.hosts.items (slice_set a.state.hosts.items c.args.sender new) a.state.signals c.finish.new.self c.args.by (finishes c) (ends c)
+    rw (c.pass_slot-seen.ensures.hosts, after c)
+    (passed-keeps a c.args.by o c.pass_slot-seen.new.self (slice_set a.state.hosts.items c.args.sender new) w (passes c)
     (length-set a.state.hosts.items c.args.sender new)
-    (going-hosts a.cluster a.capacity a.log.entries (past_in a) (entry c) c.args.sender host a.state.hosts.items new.sender w.sound o.step.known (known_behind a.cluster (past_in a) c.args.by es w.sound o.step.known) (goes c) (good c).here w.kept.each_host)
-    (subst (λ (s : Option OpenSlot). Keeps a.cluster a.opening a.capacity a.log.entries (past_in a) s a.state.time a.state.walker a.state.hosts.items a.state.signals) o.at w.kept))
+    (going-hosts a.cluster a.capacity a.log.entries (past_in a) (entry c) c.args.sender host a.state.hosts.items new.sender w.sound o.step.known (known_behind a.cluster (past_in a) c.args.by es w.sound o.step.known) (goes c) (good c).here w.kept.each_host))
 
-mode_is : (c : After-push) → KeepsMode c.self.inside.cluster (entry c ∷ past_in c.self.inside) c.finish-2.new.self
-mode_is c =
-    let a = c.self.inside in
-    let o = opened c in
-    rw (c.finish-2.ensures o.slot o.at) (finish-mode a.cluster (past_in a) c.args.by (finish_events a.cluster c.args.by (past_in a)) (slot_in o.slot) a.state.mode o.is c.self.invariant.late.mode_is)
+mode_is : (c : After-push) → KeepsMode c.self.inside.cluster (entry c ∷ past_in c.self.inside) c.pass_slot-seen.new.self.mode
+mode_is c = passed-mode c.self.inside c.args.by (opened c) c.pass_slot-seen.new.self c.self.invariant (passes c)
 
-late : (c : After-push) → KeepsLate c.self.inside.cluster (entry c ∷ past_in c.self.inside) c.finish-2.new.self (slice_set c.self.inside.state.hosts.items c.args.sender c.go_on.new.self)
+late : (c : After-push) → KeepsLate c.self.inside.cluster (entry c ∷ past_in c.self.inside) c.pass_slot-seen.new.self.mode (slice_set c.pass_slot-seen.new.self.hosts.items c.args.sender c.go_on.new.self)
 late c =
     let a = c.self.inside in
     let w = c.self.invariant in
     let o = opened c in
     let es = finish_events a.cluster c.args.by (past_in a) in
-    rw (after c)
-    (going-late a.cluster (past_in a) (entry c) c.args.sender c.index.result.now a.state.mode c.finish-2.new.self a.state.hosts.items w.sound o.step.known (known_behind a.cluster (past_in a) c.args.by es w.sound o.step.known) (goes c) (good c).here (λ y. refl) (mode_is c) w.late)
+    rw (c.pass_slot-seen.ensures.hosts, after c)
+    (going-late a.cluster (past_in a) (entry c) c.args.sender c.index.result.now a.state.mode c.pass_slot-seen.new.self.mode a.state.hosts.items w.sound o.step.known (known_behind a.cluster (past_in a) c.args.by es w.sound o.step.known) (goes c) (good c).here (λ y. refl) (mode_is c) w.late)
+
+-- what the receiver answers
+answer : (c : After-push) → (m : Option (Vec ℕ)) × HearsOn (link_at c.responder_at-node.result c.direction_at-dir.result) c.frame_in-frame.result (option_map (λ v. v.items) m) c.self.inside.state.receivers.items c.hear.new.receivers.items
+answer c = if-ok c.hear.result (sym c.is_err-2.ensures.value ∙ c.if-is_err-3.false) c.hear.ensures.hears
+
+heard_frame : (c : After-push) → HeardFrame c.self.inside.cluster (past_in c.self.inside) (entry c ∷ past_in c.self.inside) (good c).message.link (option_map (λ v. v.items) (answer c).0) c.hear.new.receivers.items
+heard_frame c =
+    let a = c.self.inside in
+    let g = good c in
+    let there : message_at c.make_room.new.self.entries c.next-place.result ≡ Some g.message = ap (λ (log : List LogEntry). message_at log c.next-place.result) c.make_room.ensures.entries ∙ g.at in
+    heard-inside a c.args.by (opened c) c.args.sender c.index.result.now c.next-place.result c.self.invariant g (carried-inside a c.args.self.now c.args.sender false c.self.view_is c.requires.carried) c.responder_at-node.result c.direction_at-dir.result c.frame_in-frame.result
+    (option_map (λ v. v.items) (answer c).0) c.hear.new.receivers.items (c.responder_at-node.ensures g.message there) (c.direction_at-dir.ensures g.message there) c.frame_in-frame.ensures (answer c).1
+
+heard : (c : After-push) → KeepsHeard c.self.inside.cluster (entry c ∷ past_in c.self.inside) c.pass_slot-seen.new.self.receivers.items
+heard c = rw c.pass_slot-seen.ensures.receivers (heard_frame c).keeps
 
 pub invariant_of-self-2 : goal.invariant_of-self-2
 invariant_of-self-2 c =
-    let a = c.self.inside in
-    let w = c.self.invariant in
-    record {
-      few = let few = (opened c).step.few in rw (pushed c, length-append) (omega arith);
-      empty = rw c.replace-room.ensures.after c.new.ensures.items;
-      rules = w.rules;
-      sound = w.sound;
-      opening = w.opening;
-      kept = rw (pushed c, reverse-more a.log.entries (entry c)) (kept c);
-      late = rw (pushed c, reverse-more a.log.entries (entry c)) (late c);
-      history = rw (pushed c, is_answered c) (history-more (core_data a) c.args.by Finish w.history);
-    }
+    logged-whole c.self.inside _ c.args.by Finish (entry c) c.self.invariant (opened c).step (is_answered c)
+    (record { log = pushed c; empty = rw c.replace-room.ensures.after c.new.ensures.items; cluster = refl; opening = refl; capacity = refl; kept = kept c; late = late c; heard = heard c })
 
 pub returns-clause-ok : goal.returns-clause-ok
-returns-clause-ok c =
-    subst (λ (d : CoreData). c.push.new.self.entries ≡ d.log ++ answered d c.args.by Finish ∷ []) c.self.view_is
-    (pushed c ∙ ap (λ (e : LogEntry). c.self.inside.log.entries ++ e ∷ []) (is_answered c))
+returns-clause-ok c = logged-returns c.self.inside c.args.self.now c.args.by Finish (entry c) c.push.new.self.entries c.self.view_is (is_answered c) (pushed c)

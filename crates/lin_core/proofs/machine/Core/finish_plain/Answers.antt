@@ -27,97 +27,79 @@ use Rattle.lin_core.specs.Core.{past_of}
 use Rattle.lin_core.specs.History.{Slot, open_slot}
 use Rattle.std.specs.Prelude.{Some, true}
 use Rattle.lin_core.proofs.Hosts.{HostState}
-use Rattle.lin_core.proofs.SignalKeeping.{Ends}
+use Rattle.lin_core.specs.Passes.{Passes}
+use Rattle.lin_core.proofs.Passing.{finish_of, finish-answered, passed-keeps, passed-mode}
+use Rattle.lin_core.proofs.LateMaking.{logged-returns, logged-whole}
 use Rattle.lin_core.proofs.Making.{OpenIs, open-inside, past_in}
+use Rattle.lin_core.specs.KeptHeard.{KeepsHeard}
+use Rattle.lin_core.proofs.Receiving.{heard-same, still-heard}
 use Rattle.lin_core.proofs.machine.Core.finish_plain.Goals.{After-push}
 use Rattle.lin_core.proofs.machine.Core.finish_plain.Goals as goal
 
 opened : (c : After-push) → OpenIs c.self.inside c.args.by
 opened c = open-inside c.self.inside c.args.self.now c.args.by c.self.view_is c.self.invariant c.requires.allowed c.requires.few
 
+still : (c : After-push) → is_still (load_of (slot_in (opened c).slot)) (opened c).slot.hurt ≡ true
+still c =
+    let o = opened c in
+    subst (λ (d : CoreData). (s : Slot) → open_slot (past_of d) ≡ Some s → is_still (load_of s) s.hurt ≡ true) (sym c.self.view_is) c.requires.still (slot_in o.slot) o.is
+
 quiet : (c : After-push) → Still c.self.inside.cluster (past_in c.self.inside) c.args.by (slot_in (opened c).slot) c.self.invariant.sound (opened c).step.known
 quiet c =
     let o = opened c in
-    finishes-quiet c.self.inside.cluster (past_in c.self.inside) c.args.by (slot_in o.slot) c.self.invariant.sound o.step.known o.is
-    (subst (λ (d : CoreData). (s : Slot) → open_slot (past_of d) ≡ Some s → is_still (load_of s) s.hurt ≡ true) (sym c.self.view_is) c.requires.still (slot_in o.slot) o.is)
+    finishes-quiet c.self.inside.cluster (past_in c.self.inside) c.args.by (slot_in o.slot) c.self.invariant.sound o.step.known o.is (still c)
 
 abbrev entry : (c : After-push) → LogEntry
-entry c = finished_entry c.self.inside.cluster (past_in c.self.inside) c.args.by
+entry c = finish_of c.self.inside c.args.by
 
 is_answered : (c : After-push) → entry c ≡ answered (core_data c.self.inside) c.args.by Finish
-is_answered c = done-answered (core_data c.self.inside) c.args.by Finish (finish_events c.self.inside.cluster c.args.by (past_in c.self.inside)) (opened c).step.allowed refl
+is_answered c = finish-answered c.self.inside c.args.by (opened c)
 
-finishes : (c : After-push) → Finishes c.self.inside.cluster c.self.inside.opening (past_in c.self.inside) (opened c).slot c.self.inside.state.time (c.self.inside.state.time + c.from.result) c.self.inside.state.walker c.advance.new.self
-finishes c =
-    let a = c.self.inside in
-    let o = opened c in
-    let delay : c.delay_of-delay.result ≡ (line_of a.cluster o.slot.table o.slot.entry).delay_us = c.delay_of-delay.ensures.value o.slot o.at in
-    record {
-      clock_is = ap (λ (n : ℕ). a.state.time + n) (c.from.ensures ∙ delay);
-      few = rw (← delay) c.delay_of-delay.ensures.few;
-      stands = subst (λ (b : Bool). Stands a.cluster a.opening c.advance.new.self (SlotMove b ∷ moves (past_in a)))
-          (c.is_clash-clash.ensures ∙ ap is_clash_seen (c.seen_in-seen.ensures o.slot (c.take.ensures.value ∙ o.at))) (c.advance.ensures.stands a.opening (moves (past_in a)) c.self.invariant.kept.stands);
-      walks = c.advance.ensures.walks;
-    }
-
-ends : (c : After-push) → Ends c.self.inside.cluster (opened c).slot c.self.inside.state.signals c.finish.new.self
-ends c = let o = opened c in record {
-  values = c.finish.ensures.values;
-  room = c.finish.ensures.room;
-  heard_count = c.finish.ensures.signals;
-  count = c.finish.ensures.frames;
-  heard = c.finish.ensures.heard o.slot o.at;
-  pending = c.finish.ensures.pending o.slot o.at;
-}
+passes : (c : After-push) → Passes c.self.inside.cluster (opened c).slot c.self.inside.state c.pass_slot-seen.new.self
+passes c = c.pass_slot-seen.ensures.passes (opened c).slot (opened c).at
 
 pushed : (c : After-push) → c.push.new.self.entries ≡ c.self.inside.log.entries ++ entry c ∷ []
 pushed c =
     let a = c.self.inside in
-    let seen_is : c.seen_in-seen.result ≡ seen (slot_in (opened c).slot) = c.seen_in-seen.ensures (opened c).slot (c.take.ensures.value ∙ (opened c).at) in
+    let seen_is : c.pass_slot-seen.result ≡ seen (slot_in (opened c).slot) = c.pass_slot-seen.ensures.seen (opened c).slot (opened c).at in
     c.push.ensures ∙ ap (λ (log : List LogEntry). log ++ done_entry c.args.by Finish c.one_event-events.result ∷ []) c.make_room.ensures.entries
     ∙ ap (λ (es : List Event). a.log.entries ++ done_entry c.args.by Finish es ∷ []) (c.one_event-events.ensures ∙ ap (λ (s : _). Seen s ∷ []) seen_is ∙ sym (quiet c).told)
 
-kept : (c : After-push) → Keeps c.self.inside.cluster c.self.inside.opening c.self.inside.capacity (c.self.inside.log.entries ++ entry c ∷ []) (entry c ∷ past_in c.self.inside) c.take.new.self (c.self.inside.state.time + c.from.result) c.advance.new.self c.self.inside.state.hosts.items c.finish.new.self
+kept : (c : After-push) → Keeps c.self.inside.cluster c.self.inside.opening c.self.inside.capacity (c.self.inside.log.entries ++ entry c ∷ []) (entry c ∷ past_in c.self.inside) c.pass_slot-seen.new.self.slot c.pass_slot-seen.new.self.time c.pass_slot-seen.new.self.walker c.pass_slot-seen.new.self.hosts.items c.pass_slot-seen.new.self.signals
 kept c =
     let a = c.self.inside in
     let w = c.self.invariant in
     let o = opened c in
-    rw c.take.ensures.after
-    (finish-keeps a.cluster a.opening a.capacity a.log.entries (past_in a) o.slot a.state.time (a.state.time + c.from.result) a.state.walker c.advance.new.self a.state.hosts.items a.state.hosts.items a.state.signals c.finish.new.self c.args.by (finishes c) (ends c) refl
+    rw c.pass_slot-seen.ensures.hosts
+    (passed-keeps a c.args.by o c.pass_slot-seen.new.self a.state.hosts.items w (passes c) refl
     (λ h host there. same-hosts a.cluster a.capacity a.log.entries (past_in a) (entry c) w.sound o.step.known (known_behind a.cluster (past_in a) c.args.by (finish_events a.cluster c.args.by (past_in a)) w.sound o.step.known)
-    (λ x. ap (λ (s : HostState). s.rest) ((quiet c).same (finish_events a.cluster c.args.by (past_in a)) x)) (λ x. refl) h host (w.kept.each_host h host there))
-    (subst (λ (s : Option OpenSlot). Keeps a.cluster a.opening a.capacity a.log.entries (past_in a) s a.state.time a.state.walker a.state.hosts.items a.state.signals) o.at w.kept))
+    (λ x. ap (λ (s : HostState). s.rest) ((quiet c).same (finish_events a.cluster c.args.by (past_in a)) x)) (λ x. refl) h host (w.kept.each_host h host there)))
 
-mode_is : (c : After-push) → KeepsMode c.self.inside.cluster (entry c ∷ past_in c.self.inside) c.finish-2.new.self
-mode_is c =
-    let a = c.self.inside in
-    let o = opened c in
-    rw (c.finish-2.ensures o.slot o.at) (finish-mode a.cluster (past_in a) c.args.by (finish_events a.cluster c.args.by (past_in a)) (slot_in o.slot) a.state.mode o.is c.self.invariant.late.mode_is)
+mode_is : (c : After-push) → KeepsMode c.self.inside.cluster (entry c ∷ past_in c.self.inside) c.pass_slot-seen.new.self.mode
+mode_is c = passed-mode c.self.inside c.args.by (opened c) c.pass_slot-seen.new.self c.self.invariant (passes c)
 
-late : (c : After-push) → KeepsLate c.self.inside.cluster (entry c ∷ past_in c.self.inside) c.finish-2.new.self c.self.inside.state.hosts.items
+late : (c : After-push) → KeepsLate c.self.inside.cluster (entry c ∷ past_in c.self.inside) c.pass_slot-seen.new.self.mode c.pass_slot-seen.new.self.hosts.items
 late c =
     let a = c.self.inside in
     let w = c.self.invariant in
     let o = opened c in
     let es = finish_events a.cluster c.args.by (past_in a) in
-    still-late a.cluster (past_in a) (entry c) a.state.mode c.finish-2.new.self a.state.hosts.items w.sound o.step.known (known_behind a.cluster (past_in a) c.args.by es w.sound o.step.known) ((quiet c).same es) (λ x. refl) (mode_is c) w.late
+    rw c.pass_slot-seen.ensures.hosts
+    (still-late a.cluster (past_in a) (entry c) a.state.mode c.pass_slot-seen.new.self.mode a.state.hosts.items w.sound o.step.known (known_behind a.cluster (past_in a) c.args.by es w.sound o.step.known) ((quiet c).same es) (λ x. refl) (mode_is c) w.late)
+
+heard : (c : After-push) → KeepsHeard c.self.inside.cluster (entry c ∷ past_in c.self.inside) c.pass_slot-seen.new.self.receivers.items
+heard c =
+    let a = c.self.inside in
+    let w = c.self.invariant in
+    let o = opened c in
+    rw c.pass_slot-seen.ensures.receivers
+    (heard-same a.cluster (past_in a) (entry c ∷ past_in a) a.state.receivers.items
+    (still-heard a.cluster (past_in a) c.args.by (finish_events a.cluster c.args.by (past_in a)) w.sound o.step.known (slot_in o.slot) o.is (still c)) w.heard)
 
 pub invariant_of-self-2 : goal.invariant_of-self-2
 invariant_of-self-2 c =
-    let a = c.self.inside in
-    let w = c.self.invariant in
-    record {
-      few = let few = (opened c).step.few in rw (pushed c, length-append) (omega arith);
-      empty = rw c.replace-room.ensures.after c.new.ensures.items;
-      rules = w.rules;
-      sound = w.sound;
-      opening = w.opening;
-      kept = rw (pushed c, reverse-more a.log.entries (entry c)) (kept c);
-      late = rw (pushed c, reverse-more a.log.entries (entry c)) (late c);
-      history = rw (pushed c, is_answered c) (history-more (core_data a) c.args.by Finish w.history);
-    }
+    logged-whole c.self.inside _ c.args.by Finish (entry c) c.self.invariant (opened c).step (is_answered c)
+    (record { log = pushed c; empty = rw c.replace-room.ensures.after c.new.ensures.items; cluster = refl; opening = refl; capacity = refl; kept = kept c; late = late c; heard = heard c })
 
 pub returns-clause-ok : goal.returns-clause-ok
-returns-clause-ok c =
-    subst (λ (d : CoreData). c.push.new.self.entries ≡ d.log ++ answered d c.args.by Finish ∷ []) c.self.view_is
-    (pushed c ∙ ap (λ (e : LogEntry). c.self.inside.log.entries ++ e ∷ []) (is_answered c))
+returns-clause-ok c = logged-returns c.self.inside c.args.self.now c.args.by Finish (entry c) c.push.new.self.entries c.self.view_is (is_answered c) (pushed c)

@@ -8,6 +8,7 @@ use Rattle.lin_core.proofs.Keeping.{done_entry}
 use Rattle.lin_core.proofs.LateKeeping.{hurt-keeps, hurt-late}
 use Rattle.lin_core.proofs.LateMaking.{entry-is, logged-returns, logged-whole, pushed-is, OpenNow, hurt-inside}
 use Rattle.lin_core.proofs.Making.{Allowed, allowed-inside, past_in}
+use Rattle.lin_core.proofs.Receiving.{heard-same}
 use Rattle.lin_core.proofs.machine.Core.hurt.Goals.{After-push}
 use Rattle.lin_core.proofs.machine.Core.hurt.Goals as goal
 
@@ -42,6 +43,7 @@ invariant_of-self-2 c =
       capacity = refl;
       kept = rw (disturbed c) (hurt-keeps a.cluster a.opening a.capacity a.log.entries (past_in a) (hurts c).slot a.state.time a.state.walker a.state.hosts.items a.state.signals c.args.by c.args.bytes w.sound (allowed c).known (hurts c).kept);
       late = hurt-late a.cluster (past_in a) c.args.by c.args.bytes a.state.mode a.state.hosts.items w.sound (allowed c).known w.late;
+      heard = heard-same a.cluster (past_in a) (entry c ∷ past_in a) a.state.receivers.items (λ l i. refl) w.heard;
     })
 
 pub returns-clause-ok : goal.returns-clause-ok

@@ -8,6 +8,7 @@ use Rattle.lin_core.proofs.Keeping.{done_entry}
 use Rattle.lin_core.proofs.LateKeeping.{leave-keeps, leave-late}
 use Rattle.lin_core.proofs.LateMaking.{entry-is, logged-returns, logged-whole, pushed-is, OpenNow, leave-inside, leave-room}
 use Rattle.lin_core.proofs.Making.{Allowed, allowed-inside, past_in}
+use Rattle.lin_core.proofs.Receiving.{heard-same}
 use Rattle.lin_core.proofs.machine.Core.leave.Goals.{After-push}
 use Rattle.lin_core.proofs.machine.Core.leave.Goals as goal
 
@@ -49,6 +50,7 @@ invariant_of-self-2 c =
       capacity = refl;
       kept = rw (left c) (leave-keeps a.cluster a.opening a.capacity a.log.entries (past_in a) (leaves c).slot a.state.time a.state.walker a.state.hosts.items a.state.signals c.args.by c.args.node w.sound (allowed c).known (allowed c).allowed (leaves c).is (leaves c).kept);
       late = leave-late a.cluster (past_in a) c.args.by c.args.node a.state.mode a.state.hosts.items w.sound (allowed c).known w.late;
+      heard = heard-same a.cluster (past_in a) (entry c ∷ past_in a) a.state.receivers.items (λ l i. refl) w.heard;
     })
 
 pub returns-clause-ok : goal.returns-clause-ok

@@ -17,6 +17,7 @@ use Rattle.lin_core.proofs.Keeping.{done_entry, done-answered, open-keeps, openi
 use Rattle.lin_core.proofs.LateKeeping.{open-late}
 use Rattle.lin_core.proofs.Making.{Allowed, allowed-inside, opens-inside, past_in}
 use Rattle.lin_core.proofs.Selected.{responder-inside}
+use Rattle.lin_core.proofs.Receiving.{heard-same}
 use Rattle.lin_core.proofs.machine.Core.open.Goals.{After-push}
 use Rattle.lin_core.proofs.machine.Core.open.Goals as goal
 
@@ -67,6 +68,7 @@ invariant_of-self-2 c =
           (open-keeps a.cluster a.opening a.capacity a.log.entries (past_in a) a.state.slot c.begin-slot.result a.state.time a.state.walker a.state.hosts.items a.state.signals c.args.by
           w.sound (allowed c).known (allowed c).allowed (opens c) w.kept);
       late = rw (pushed c, reverse-more a.log.entries (entry c)) (open-late a.cluster a.opening a.capacity (past_in a) c.args.by a.state.mode a.state.hosts.items w.sound (allowed c).known (allowed c).allowed w.late);
+      heard = rw (pushed c, reverse-more a.log.entries (entry c)) (heard-same a.cluster (past_in a) (entry c ∷ past_in a) a.state.receivers.items (λ l i. refl) w.heard);
       history = rw (pushed c, is_answered c) (history-more (core_data a) c.args.by Open w.history);
     }
 
@@ -86,5 +88,6 @@ invariant_of-self-then-is_err-2 c =
       opening = w.opening;
       kept = rw c.make_room.ensures.entries w.kept;
       late = rw c.make_room.ensures.entries w.late;
+      heard = rw c.make_room.ensures.entries w.heard;
       history = rw c.make_room.ensures.entries w.history;
     }

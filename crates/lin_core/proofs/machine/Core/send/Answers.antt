@@ -1,4 +1,4 @@
-use Rattle.std.proofs.Common.{ℕ, ◌≡◌, ◌+◌, length, [], ◌∷◌, ◌++◌, ap, ◌∙◌, subst, arith, length-append}
+use Rattle.std.proofs.Common.{refl, ℕ, ◌≡◌, ◌+◌, length, [], ◌∷◌, ◌++◌, ap, ◌∙◌, subst, arith, length-append}
 use Rattle.lin_core.specs.Core.{answered, CoreData}
 use Rattle.std.specs.Prelude.{slice_set}
 use Rattle.lin_core.specs.Hosts.{queued}
@@ -10,6 +10,7 @@ use Rattle.lin_core.proofs.Entries.{reverse-more, history-more}
 use Rattle.lin_core.proofs.Keeping.{send_entry, send-answered, send-keeps}
 use Rattle.lin_core.proofs.LateKeeping.{send-late}
 use Rattle.lin_core.proofs.Making.{Allowed, allowed-inside, Sender, sender-inside, past_in}
+use Rattle.lin_core.proofs.Receiving.{heard-same}
 use Rattle.lin_core.proofs.machine.Core.send.Goals.{After-len, After-push}
 use Rattle.lin_core.proofs.machine.Core.send.Goals as goal
 
@@ -73,6 +74,7 @@ invariant_of-self-2 c =
       late = rw (pushed c, reverse-more a.log.entries (entry c))
           (send-late a.cluster a.capacity (past_in a) c.args.by c.args.from c.args.to c.args.message _ (length a.log.entries) host a.state.mode a.state.hosts.items _ w.sound (allowed c).known (allowed c).allowed (sender c).at
           (ap (slice_set a.state.hosts.items c.args.from) queue) w.late);
+      heard = rw (pushed c, reverse-more a.log.entries (entry c)) (heard-same a.cluster (past_in a) (entry c ∷ past_in a) a.state.receivers.items (λ l i. refl) w.heard);
       history = rw (pushed c, is_answered c) (history-more (core_data a) c.args.by (Send c.args.from c.args.to c.args.message) w.history);
     }
 

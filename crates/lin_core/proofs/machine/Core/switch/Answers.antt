@@ -10,6 +10,7 @@ use Rattle.lin_core.proofs.Entries.{reverse-more, history-more}
 use Rattle.lin_core.proofs.Keeping.{done_entry, done-answered, switch-keeps, switch-there}
 use Rattle.lin_core.proofs.LateKeeping.{switch-late}
 use Rattle.lin_core.proofs.Making.{Allowed, allowed-inside, past_in}
+use Rattle.lin_core.proofs.Receiving.{heard-same}
 use Rattle.lin_core.proofs.machine.Core.switch.Goals.{After-push}
 use Rattle.lin_core.proofs.machine.Core.switch.Goals as goal
 
@@ -42,6 +43,7 @@ invariant_of-self-2 c =
           w.sound (allowed c).known (c.switch.ensures.stands a.cluster a.opening (moves (past_in a)) w.kept.stands)
           (c.switch.ensures.walks a.cluster w.rules (switch-there a.cluster a.capacity (past_in a) c.args.by c.args.table (allowed c).allowed)) w.kept);
       late = rw (pushed c, reverse-more a.log.entries (entry c)) (switch-late a.cluster (past_in a) c.args.by c.args.table a.state.mode a.state.hosts.items w.sound (allowed c).known w.late);
+      heard = rw (pushed c, reverse-more a.log.entries (entry c)) (heard-same a.cluster (past_in a) (entry c ∷ past_in a) a.state.receivers.items (λ l i. refl) w.heard);
       history = rw (pushed c, is_answered c) (history-more (core_data a) c.args.by (Switch c.args.table) w.history);
     }
 

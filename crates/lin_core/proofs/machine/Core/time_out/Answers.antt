@@ -1,5 +1,9 @@
 use Rattle.std.proofs.Common.{◌≡◌, ◌+◌, refl, [], ◌∷◌, ◌++◌, ◌∙◌, ap, sym, subst, arith}
-use Rattle.std.specs.Prelude.{List, slice_index_or, slice_set}
+use Rattle.std.specs.Prelude.{List, Some, slice_get, slice_index_or, slice_set}
+use Rattle.std.proofs.lemmas.Option.{slice_get_read}
+use Rattle.lin_cluster.specs.Cluster.{nodes}
+use Rattle.lin_core.specs.KeptHeard.{KeepsHeard}
+use Rattle.lin_core.proofs.Receiving.{timeout-heard}
 use Rattle.lin_core.specs.Core.{answered}
 use Rattle.lin_core.specs.Hosts.{settled}
 use Rattle.lin_core.specs.Links.{host_of}
@@ -31,6 +35,15 @@ settle-requires c =
     let small = o.small in
     omega arith
 
+pub index_mut-requires : goal.index_mut-requires
+index_mut-requires c =
+    let w = c.self.invariant in
+    let n = allowed-inside c.self.inside c.args.self.now c.args.by (Timeout c.args.node c.args.dir) c.self.view_is w c.requires.allowed c.requires.few in
+    let o = times-out c.self.inside c.args.by c.args.node c.args.dir c.index_mut-kept.result.now w n (rw (← c.sender_over-host.ensures) c.index_mut-kept.ensures.value) in
+    let there = o.there in
+    let count = w.heard.count in
+    omega arith
+
 allowed : (c : After-push) → Allowed c.self.inside c.args.by (Timeout c.args.node c.args.dir)
 allowed c = allowed-inside c.self.inside c.args.self.now c.args.by (Timeout c.args.node c.args.dir) c.self.view_is c.self.invariant c.requires.allowed c.requires.few
 
@@ -52,6 +65,17 @@ pushed c = pushed-is c.self.inside c.args.by (Timeout c.args.node c.args.dir) c.
 is_answered : (c : After-push) → entry c ≡ answered (core_data c.self.inside) c.args.by (Timeout c.args.node c.args.dir)
 is_answered c = entry-is c.self.inside c.args.by (Timeout c.args.node c.args.dir) (events c) (allowed c) refl
 
+heard : (c : After-push) → KeepsHeard c.self.inside.cluster (entry c ∷ past_in c.self.inside) (slice_set c.self.inside.state.receivers.items c.args.node c.reset.new.self)
+heard c =
+    let a = c.self.inside in
+    let w = c.self.invariant in
+    let o = out c in
+    let there = o.there in
+    let count = w.heard.count in
+    let was = c.index_mut.result.now in
+    let here : slice_get a.state.receivers.items c.args.node ≡ Some was = slice_get_read a.state.receivers.items (nodes a.cluster) c.args.node was (sym count) there c.index_mut.ensures.value in
+    timeout-heard a.cluster (past_in a) c.args.by c.args.node c.args.dir (events c) a.state.receivers.items was c.reset.new.self here o.address c.reset.ensures.own c.reset.ensures.other w.heard
+
 pub invariant_of-self-2 : goal.invariant_of-self-2
 invariant_of-self-2 c =
     let a = c.self.inside in
@@ -69,6 +93,7 @@ invariant_of-self-2 c =
           w.sound o.known o.none o.here (o.settles (events c)) w.kept);
       late = rw (c.sender_over-host.ensures, c.settle.ensures)
           (timeout-late a.cluster (past_in a) a.state.mode a.state.hosts.items c.index_mut-kept.result.now c.args.by c.args.node c.args.dir (events c) w.sound o.known o.none o.here (o.settles (events c)) w.late);
+      heard = heard c;
     })
 
 pub returns-clause-ok : goal.returns-clause-ok

@@ -8,6 +8,7 @@ use Rattle.lin_core.specs.Slots.{moves}
 use Rattle.lin_core.proofs.LateKeeping.{wake-keeps, wake-late}
 use Rattle.lin_core.proofs.LateMaking.{entry-is, logged-returns, logged-whole, pushed-is}
 use Rattle.lin_core.proofs.Making.{Allowed, allowed-inside, past_in}
+use Rattle.lin_core.proofs.Receiving.{heard-same}
 use Rattle.lin_core.proofs.machine.Core.wake.Goals.{After-push}
 use Rattle.lin_core.proofs.machine.Core.wake.Goals as goal
 
@@ -36,6 +37,7 @@ invariant_of-self-2 c =
       capacity = refl;
       kept = wake-keeps a.cluster a.opening a.capacity a.log.entries (past_in a) a.state.slot a.state.time a.state.walker c.restart.new.self a.state.hosts.items a.state.signals c.args.by w.sound (allowed c).known (c.restart.ensures.stands a.cluster a.opening (moves (past_in a)) w.kept.stands) (c.restart.ensures.walks a.cluster w.kept.walks) w.kept;
       late = wake-late a.cluster (past_in a) c.args.by a.state.mode a.state.hosts.items w.sound (allowed c).known w.late;
+      heard = heard-same a.cluster (past_in a) (entry c ∷ past_in a) a.state.receivers.items (λ l i. refl) w.heard;
     })
 
 pub returns-clause-ok : goal.returns-clause-ok

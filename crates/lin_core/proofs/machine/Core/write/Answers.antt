@@ -9,6 +9,7 @@ use Rattle.lin_core.proofs.Entries.{reverse-more, history-more}
 use Rattle.lin_core.proofs.Keeping.{done_entry, done-answered, write-keeps}
 use Rattle.lin_core.proofs.LateKeeping.{write-late}
 use Rattle.lin_core.proofs.Making.{Allowed, allowed-inside, past_in}
+use Rattle.lin_core.proofs.Receiving.{heard-same}
 use Rattle.lin_core.proofs.machine.Core.write.Goals.{After-push}
 use Rattle.lin_core.proofs.machine.Core.write.Goals as goal
 
@@ -41,6 +42,7 @@ invariant_of-self-2 c =
           w.sound (allowed c).known (allowed c).allowed
           (record { values = rw c.copied.ensures.same at c.write.ensures.values; heard = c.write.ensures.heard; room = c.write.ensures.room; count = c.write.ensures.frames; pending = c.write.ensures.pending }) w.kept);
       late = rw (pushed c, reverse-more a.log.entries (entry c)) (write-late a.cluster (past_in a) c.args.by c.args.node c.args.signal c.args.value a.state.mode a.state.hosts.items w.sound (allowed c).known w.late);
+      heard = rw (pushed c, reverse-more a.log.entries (entry c)) (heard-same a.cluster (past_in a) (entry c ∷ past_in a) a.state.receivers.items (λ l i. refl) w.heard);
       history = rw (pushed c, is_answered c) (history-more (core_data a) c.args.by (Write c.args.node c.args.signal c.args.value) w.history);
     }
 
