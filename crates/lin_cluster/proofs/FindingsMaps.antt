@@ -4,10 +4,10 @@ use Rattle.std.specs.Prelude.{if◌then◌else◌, ◌||◌, is_some, find}
 use Rattle.std.specs.Str.{bytes_eq}
 use Rattle.std.specs.List.{list_any}
 use Rattle.std.specs.Map.{update}
-use Rattle.std.specs.Option.{option_or}
+use Rattle.std.specs.Option.{option_or, option_map, option_map_or}
 use Rattle.std.proofs.lemmas.Slice.Eq.{bytes_eq-Decides}
 use Rattle.std.proofs.lemmas.List.{take_more}
-use Rattle.std.proofs.lemmas.List.Folds.{find-append}
+use Rattle.std.proofs.lemmas.List.Folds.{find-append, list_any_more}
 use Rattle.lin_cluster.specs.FindingsMaps.{or_else, lent}
 use denote.Ref.{Bor}
 
@@ -53,3 +53,45 @@ found_first x false o r so = so
 pub found_any : {A : Type 0} (p : A → Bool) (xs : List A) → is_some (find p xs) ≡ list_any p xs
 found_any p [] = refl
 found_any p (x ∷ xs) = found_first x (p x) (find p xs) (list_any p xs) (found_any p xs)
+
+made_by : {A V : Type 0} (f : A → V) (b : Bool) (o : Option A) (x : A) → or_else (option_map f o) (if b then Some (f x) else None) ≡ option_map f (option_or o (cond b (Some x) None))
+made_by f true (Some y) x = refl
+made_by f true None x = refl
+made_by f false (Some y) x = refl
+made_by f false None x = refl
+
+-- what is made of the first, with one more of the declarations
+pub made_more : {A V : Type 0} (f : A → V) (p : A → Bool) (xs : List A) (i : ℕ) (x : A) (v : V) (old new : Option V) (b : Bool) → i < length xs → get_or xs i x ≡ x → b ≡ p x → v ≡ f x → old ≡ option_map f (find p (take i xs)) → new ≡ or_else old (if b then Some v else None) → new ≡ option_map f (find p (take (i + 1) xs))
+made_more f p xs i x v old new b h is passes made so here =
+    here ∙ ap (λ o. or_else o (if b then Some v else None)) so ∙ ap (λ w. or_else (option_map f (find p (take i xs))) (if b then Some w else None)) made ∙ made_by f b (find p (take i xs)) x
+    ∙ ap (λ t. option_map f (option_or (find p (take i xs)) (cond t (Some x) None))) passes
+    ∙ ap (λ y. option_map f (option_or (find p (take i xs)) (find p (y ∷ [])))) (sym is) ∙ ap (option_map f) (sym (find-append p (take i xs) (get_or xs i x ∷ []))) ∙ ap (λ ys. option_map f (find p ys)) (sym (take_more xs i x h))
+
+-- a test of what is made
+pub made_knows : {A : Type 0} (f : A → Bool) (o : Option A) (b : Bool) → Some b ≡ option_map f o → b ≡ option_map_or f o false
+made_knows f (Some x) b h = ap (λ m. option_map_or (λ y. y) m false) h
+made_knows f None b h = absurd (cc)
+
+pub made_none : {A : Type 0} (f : A → Bool) (o : Option A) → None ≡ option_map f o → false ≡ option_map_or f o false
+made_none f (Some x) h = absurd (cc)
+made_none f None h = refl
+
+-- a set with one more item
+pub seen_more : {A : Type 0} (p : A → Bool) (xs : List A) (i : ℕ) (d : A) (b old new : Bool) → i < length xs → b ≡ p (get_or xs i d) → old ≡ list_any p (take i xs) → new ≡ (old || b) → new ≡ list_any p (take (i + 1) xs)
+seen_more p xs i d b old new h is so here = here ∙ ap (λ c. c || b) so ∙ ap (λ c. list_any p (take i xs) || c) is ∙ sym (list_any_more p xs i d h)
+
+pub or_by : (b old : Bool) → cond b true old ≡ (old || b)
+or_by true true = refl
+or_by true false = refl
+or_by false true = refl
+or_by false false = refl
+
+either_is : {V : Type 0} (b : Bool) (v : V) (o : Option V) → is_some (or_else o (if b then Some v else None)) ≡ (is_some o || b)
+either_is true v (Some w) = refl
+either_is true v None = refl
+either_is false v (Some w) = refl
+either_is false v None = refl
+
+-- a set of texts with one more text
+pub text_more : {V : Type 0} (b : Bool) (v : V) (old new : Option V) → new ≡ or_else old (if b then Some v else None) → is_some new ≡ (is_some old || b)
+text_more b v old new here = ap is_some here ∙ either_is b v old

@@ -10,7 +10,9 @@ pub mod DescribedTables
 pub mod Enumerated
 pub mod FindingsLists
 pub mod FindingsMaps
+pub mod FindingsMembers
 pub mod FindingsOrder
+pub mod FindingsRepeats
 pub mod FindingsRows
 pub mod GoodParts
 pub mod Identifiers

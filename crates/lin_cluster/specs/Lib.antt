@@ -7,5 +7,7 @@ pub mod FindingsNames
 pub mod FindingsFrames
 pub mod FindingsTables
 pub mod FindingsMaps
+pub mod FindingsMembers
+pub mod FindingsRepeats
 pub mod Findings
 pub mod Fitting

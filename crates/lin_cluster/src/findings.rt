@@ -2,12 +2,14 @@
 
 mod addresses;
 mod identifiers;
+mod judged;
 mod known;
 mod limits;
 mod members;
 mod numbers;
 mod overlaps;
 mod places;
+mod repeats;
 mod sizes;
 mod slots;
 mod tables;
@@ -21,6 +23,7 @@ ghost use Rattle.lin_cluster.specs.FindingsFrames.{unknown_names, wrong_publishe
 ghost use Rattle.lin_cluster.specs.FindingsTables.{slots_too_short, zero_delays, bad_event_frames, bad_sporadics, nested_collisions, empty_tables, limits_passed};
 
 use crate::finding::Finding;
+use judged::Judged;
 use known::Known;
 use lin_ldf::Description;
 use std::alloc::{AllocError, Global};
@@ -49,21 +52,27 @@ fn of_signals(found: &mut Vec<Finding>, known: &Known) -> Result<(), AllocError>
 fn of_slots_and_addresses(
     alloc: Global,
     found: &mut Vec<Finding>,
-    known: &Known,
+    judged: &Judged,
 ) -> Result<(), AllocError>
-    ensures { OnOk result (found.new.items ≡ found.old.items ++ slots_too_short known.now ++ zero_delays known.now ++ bad_nads known.now ++ nads_twice known.now) }
+    ensures { OnOk result (found.new.items ≡ found.old.items ++ slots_too_short judged.now ++ zero_delays judged.now ++ bad_nads judged.now ++ nads_twice judged.now) }
 {
-    slots::slots_too_short(found, known)?;
+    let known = judged.known();
+    slots::slots_too_short(found, judged)?;
     slots::zero_delays(found, known)?;
     addresses::bad_addresses(alloc, found, known)
 }
 
-fn of_tables(found: &mut Vec<Finding>, known: &Known) -> Result<(), AllocError>
-    ensures { OnOk result (found.new.items ≡ found.old.items ++ bad_event_frames known.now ++ bad_sporadics known.now ++ nested_collisions known.now ++ empty_tables known.now ++ limits_passed known.now) }
+fn of_tables(
+    alloc: Global,
+    found: &mut Vec<Finding>,
+    judged: &Judged,
+) -> Result<(), AllocError>
+    ensures { OnOk result (found.new.items ≡ found.old.items ++ bad_event_frames judged.now ++ bad_sporadics judged.now ++ nested_collisions judged.now ++ empty_tables judged.now ++ limits_passed judged.now) }
 {
-    members::bad_event_frames(found, known)?;
+    let known = judged.known();
+    members::bad_event_frames(alloc, found, judged)?;
     members::bad_sporadics(found, known)?;
-    tables::nested_collisions(found, known)?;
+    tables::nested_collisions(found, judged)?;
     tables::empty_tables(found, known)?;
     limits::limits_passed(found, known)
 }
@@ -71,11 +80,12 @@ fn of_tables(found: &mut Vec<Finding>, known: &Known) -> Result<(), AllocError>
 fn unordered(alloc: Global, known: &Known) -> Result<Vec<Finding>, AllocError>
     ensures { IfOk result (λ found. found.items ≡ candidates known.now) }
 {
+    let judged = Judged::new(alloc, known)?;
     let mut found = Vec::new(alloc);
     of_names_and_numbers(alloc, &mut found, known)?;
     of_signals(&mut found, known)?;
-    of_slots_and_addresses(alloc, &mut found, known)?;
-    of_tables(&mut found, known)?;
+    of_slots_and_addresses(alloc, &mut found, &judged)?;
+    of_tables(alloc, &mut found, &judged)?;
     Ok(found)
 }
 

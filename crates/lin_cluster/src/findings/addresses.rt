@@ -1,13 +1,15 @@
 //! Diagnostic addresses of responders.
 
-ghost use Rattle.std.specs.Prelude.{◌≡◌, ◌++◌, ◌==◌, OnOk, IfOk};
-ghost use Rattle.std.specs.List.{flat_map, filter_map, list_any, enumerate_from};
+ghost use Rattle.std.specs.Prelude.{◌≡◌, ◌++◌, OnOk, IfOk, nat_eq};
+ghost use Rattle.std.specs.List.{flat_map, filter_map, enumerate_from};
+ghost use Rattle.indexmap.specs.IndexSet.{contains};
 ghost use Rattle.lin_cluster.specs.FindingsFrames.{address, addresses, bad_nad, bad_nads, nad_twice, nads_twice};
 ghost use Rattle.lin_cluster.specs.FindingsNames.{at_number, when};
 
 use super::known::Known;
 use super::words::{at_number, push_when};
 use crate::finding::Finding;
+use indexmap::IndexSet;
 use lin_ldf::{Attributes, Number};
 use std::alloc::{AllocError, Global};
 
@@ -46,24 +48,28 @@ fn bad_nads(found: &mut Vec<Finding>, nads: &[Number]) -> Result<(), AllocError>
     Ok(())
 }
 
-fn is_among(nads: &[Number], nad: &Number) -> bool
-    ensures { result ≡ list_any (λ y. y.value == nad.now.value) nads.now }
+fn twice(
+    found: &mut Vec<Finding>,
+    earlier: &IndexSet<u32>,
+    nad: &Number,
+) -> Result<(), AllocError>
+    ensures { OnOk result (found.new.items ≡ found.old.items ++ when (contains nat_eq earlier.now nad.now.value) (at_number 12 nad.now)) }
 {
-    nads.iter().any(|other| other.value == nad.value)
-}
-
-fn twice(found: &mut Vec<Finding>, earlier: &[Number], nad: &Number) -> Result<(), AllocError>
-    ensures { OnOk result (found.new.items ≡ found.old.items ++ when (list_any (λ y. y.value == nad.now.value) earlier.now) (at_number 12 nad.now)) }
-{
-    push_when(found, is_among(earlier, nad), at_number(12, nad))
+    push_when(found, earlier.contains(&nad.value), at_number(12, nad))
 }
 
 #[tactic(auto, using(crate::proofs::FindingsLists::each_all))]
-fn nads_twice(found: &mut Vec<Finding>, nads: &[Number]) -> Result<(), AllocError>
+fn nads_twice(
+    alloc: Global,
+    found: &mut Vec<Finding>,
+    nads: &[Number],
+) -> Result<(), AllocError>
     ensures { OnOk result (found.new.items ≡ found.old.items ++ flat_map (nad_twice nads.now) (enumerate_from 0 nads.now)) }
 {
-    for (i, nad) in nads.iter().enumerate() {
-        twice(found, &nads[..i], nad)?;
+    let mut earlier = IndexSet::new(alloc);
+    for nad in nads {
+        twice(found, &earlier, nad)?;
+        earlier.insert(nad.value)?;
     }
     Ok(())
 }
@@ -78,5 +84,5 @@ pub(super) fn bad_addresses(
 {
     let nads = addresses(alloc, known, known.description().attributes())?;
     bad_nads(found, nads.as_slice())?;
-    nads_twice(found, nads.as_slice())
+    nads_twice(alloc, found, nads.as_slice())
 }

@@ -1,10 +1,11 @@
 //! Identifiers of frames and of event-triggered frames.
 
-ghost use Rattle.std.specs.Prelude.{◌≡◌, ◌++◌, ◌==◌, ◌&&◌, OnOk, IfOk, map, count_by};
+ghost use Rattle.std.specs.Prelude.{◌≡◌, ◌++◌, OnOk, IfOk, map};
 ghost use Rattle.std.specs.List.{flat_map};
-ghost use Rattle.lin_cluster.specs.FindingsFrames.{ids, bad_id, bad_ids, is_up_to, is_repeated, id_twice, ids_twice};
+ghost use Rattle.lin_cluster.specs.FindingsFrames.{ids, bad_id, bad_ids, id_twice, ids_twice};
 
 use super::known::Known;
+use super::repeats::Repeats;
 use super::words::{at_number, push_when};
 use crate::finding::Finding;
 use lin_ldf::{EventFrame, Frame, Number};
@@ -35,36 +36,16 @@ fn bad_ids(found: &mut Vec<Finding>, ids: &[Number]) -> Result<(), AllocError>
     Ok(())
 }
 
-fn is_up_to(x: &Number, y: &Number) -> bool
-    ensures { result ≡ is_up_to x.now y.now }
-{
-    y.line < x.line || (y.line == x.line && y.column <= x.column)
-}
-
-fn count_up_to(ids: &[Number], x: &Number) -> usize
-    ensures { result ≡ count_by (λ y. y.value == x.now.value && is_up_to x.now y) ids.now }
-{
-    ids.iter()
-        .filter(|y| y.value == x.value && is_up_to(x, y))
-        .count()
-}
-
-fn is_repeated(ids: &[Number], x: &Number) -> bool
-    ensures { result ≡ is_repeated ids.now x.now }
-{
-    1 < count_up_to(ids, x)
-}
-
-fn id_twice(found: &mut Vec<Finding>, ids: &[Number], id: &Number) -> Result<(), AllocError>
+fn id_twice(found: &mut Vec<Finding>, ids: &Repeats, id: &Number) -> Result<(), AllocError>
     ensures { OnOk result (found.new.items ≡ found.old.items ++ id_twice ids.now id.now) }
 {
-    push_when(found, is_repeated(ids, id), at_number(4, id))
+    push_when(found, ids.is_repeated(id), at_number(4, id))
 }
 
-fn ids_twice(found: &mut Vec<Finding>, ids: &[Number]) -> Result<(), AllocError>
+fn ids_twice(found: &mut Vec<Finding>, ids: &Repeats) -> Result<(), AllocError>
     ensures { OnOk result (found.new.items ≡ found.old.items ++ flat_map (id_twice ids.now) ids.now) }
 {
-    for id in ids {
+    for id in ids.numbers() {
         id_twice(found, ids, id)?;
     }
     Ok(())
@@ -85,7 +66,7 @@ pub(super) fn bad_identifiers(
 ) -> Result<(), AllocError>
     ensures { OnOk result (found.new.items ≡ found.old.items ++ bad_ids known.now ++ ids_twice known.now) }
 {
-    let ids = all_ids(alloc, known)?;
-    bad_ids(found, ids.as_slice())?;
-    ids_twice(found, ids.as_slice())
+    let ids = Repeats::new(alloc, all_ids(alloc, known)?)?;
+    bad_ids(found, ids.numbers())?;
+    ids_twice(found, &ids)
 }

@@ -1,47 +1,52 @@
 //! Members of event-triggered and of sporadic frames.
 
-ghost use Rattle.std.specs.Prelude.{◌≡◌, ◌++◌, OnOk, true, nat_lt, slice_get, option_and_then};
+ghost use Rattle.std.specs.Prelude.{◌≡◌, ◌++◌, ◌||◌, List, ℕ, OnOk, true, not, ◌==◌, nat_lt, slice_get, is_some, option_and_then};
 ghost use Rattle.std.specs.List.{flat_map, list_any, enumerate_from};
 ghost use Rattle.std.specs.Option.{option_copied, option_map_or};
+ghost use Rattle.std.specs.Str.{bytes_eq};
+ghost use Rattle.indexmap.specs.IndexMap.{get_by};
+ghost use Rattle.lin_cluster.specs.FindingsMembers.{is_bad_behind, is_wrong_behind, has_text};
 ghost use Rattle.lin_cluster.specs.FindingsNames.{at_name, when, frame_named, knows, signal_named};
-ghost use Rattle.lin_cluster.specs.FindingsTables.{has_publisher, differs_from_first, is_in_front, is_bad_member, is_wrong_member, bad_member_at, bad_members_in, bad_event_frames, is_responders, bad_sporadic_at, bad_sporadics_in, bad_sporadics};
+ghost use Rattle.lin_cluster.specs.FindingsTables.{is_in_front, bad_member_at, bad_members_in, bad_event_frames, is_responders, bad_sporadic_at, bad_sporadics_in, bad_sporadics};
 
+use super::judged::Judged;
 use super::known::{Known, same_name};
+use super::numbers::add;
 use super::words::{at_name, push_when};
 use crate::finding::Finding;
+use indexmap::IndexMap;
 use lin_ldf::{EventFrame, Frame, Name, PlacedSignal, Sporadic};
-use std::alloc::AllocError;
+use std::alloc::{AllocError, Global};
 
-fn has_publisher(known: &Known, publisher: &Name, member: &Name) -> bool
-    ensures { result ≡ has_publisher known.now publisher.now member.now }
+/// The publishers of some members.
+type Publishers<'a> = IndexMap<&'a [u8], ()>;
+
+fn add_publisher<'a>(
+    publishers: &mut Publishers<'a>,
+    judged: &Judged<'_, 'a>,
+    member: &Name,
+) -> Result<(), AllocError>
+    ensures { OnOk result ((q : List ℕ) → has_text publishers.new q ≡ (has_text publishers.old q || knows (frame_named judged.now member.now) (λ g. bytes_eq g.publisher.text q))) }
 {
-    match known.frame(member) {
-        Some(frame) => same_name(&frame.publisher, publisher),
-        None => false,
+    if let Some(frame) = judged.known().frame(member) {
+        add(publishers, frame.publisher.text.as_slice(), ())?;
     }
+    Ok(())
 }
 
-fn is_publisher_of_any(known: &Known, publisher: &Name, members: &[Name]) -> bool
-    ensures { result ≡ list_any (has_publisher known.now publisher.now) members.now }
-{
-    members
-        .iter()
-        .any(|member| has_publisher(known, publisher, member))
-}
-
-fn first_frame<'a>(known: &Known<'a>, members: &[Name]) -> Option<&'a Frame>
-    ensures { option_copied result ≡ option_and_then (frame_named known.now) (slice_get members.now 0) }
+fn first_frame<'a>(judged: &Judged<'_, 'a>, members: &[Name]) -> Option<&'a Frame>
+    ensures { option_copied result ≡ option_and_then (frame_named judged.now) (slice_get members.now 0) }
 {
     match members.first() {
-        Some(member) => known.frame(member),
+        Some(member) => judged.known().frame(member),
         None => None,
     }
 }
 
-fn differs_from_first(known: &Known, members: &[Name], frame: &Frame) -> bool
-    ensures { result ≡ differs_from_first known.now members.now frame.now }
+fn differs_from(first: Option<&Frame>, frame: &Frame) -> bool
+    ensures { result ≡ knows (option_copied first.entry) (λ g. not (g.size.value == frame.now.size.value)) }
 {
-    match first_frame(known, members) {
+    match first {
         Some(first) => !(first.size.value == frame.size.value),
         None => false,
     }
@@ -62,94 +67,118 @@ fn is_in_front(known: &Known, placed: &PlacedSignal) -> bool
     placed.offset.value < 8 && has_bits(known, &placed.signal)
 }
 
-fn has_signal_in_front(known: &Known, all_placed: &[PlacedSignal]) -> bool
+/// Whether a frame has a signal of one bit at least that begins in data byte 0.
+pub(super) fn has_signal_in_front(known: &Known, all_placed: &[PlacedSignal]) -> bool
     ensures { result ≡ list_any (is_in_front known.now) all_placed.now }
 {
     all_placed.iter().any(|placed| is_in_front(known, placed))
 }
 
-fn is_bad_member(known: &Known, members: &[Name], earlier: &[Name], frame: &Frame) -> bool
-    ensures { result ≡ is_bad_member known.now members.now earlier.now frame.now }
+fn is_bad_member(
+    judged: &Judged,
+    first: Option<&Frame>,
+    publishers: &Publishers,
+    is_in_front: bool,
+    frame: &Frame,
+) -> bool
+    ensures { result ≡ is_bad_behind judged.now (option_copied first.entry) (has_text publishers.now) is_in_front frame.now }
 {
+    let known = judged.known();
     same_name(&frame.publisher, known.description().master())
         || (known.is_node(&frame.publisher)
-            && is_publisher_of_any(known, &frame.publisher, earlier))
-        || differs_from_first(known, members, frame)
-        || has_signal_in_front(known, frame.placed.as_slice())
+            && publishers.contains_key(&frame.publisher.text.as_slice()))
+        || differs_from(first, frame)
+        || is_in_front
 }
 
-fn is_bad_frame(known: &Known, members: &[Name], earlier: &[Name], member: &Name) -> bool
-    ensures { result ≡ option_map_or (is_bad_member known.now members.now earlier.now) (frame_named known.now member.now) true }
+fn is_wrong_member(
+    judged: &Judged,
+    first: Option<&Frame>,
+    publishers: &Publishers,
+    member: &Name,
+) -> bool
+    ensures { result ≡ is_wrong_behind judged.now (option_copied first.entry) (has_text publishers.now) member.now }
 {
+    let known = judged.known();
     match known.frame(member) {
-        Some(frame) => is_bad_member(known, members, earlier, frame),
-        None => true,
+        Some(frame) => is_bad_member(
+            judged,
+            first,
+            publishers,
+            judged.has_signal_in_front(member),
+            frame,
+        ),
+        None => known.is_any_frame(member),
     }
-}
-
-fn is_wrong_member(known: &Known, members: &[Name], earlier: &[Name], member: &Name) -> bool
-    ensures { result ≡ is_wrong_member known.now members.now earlier.now member.now }
-{
-    known.is_any_frame(member) && is_bad_frame(known, members, earlier, member)
 }
 
 fn bad_member(
     found: &mut Vec<Finding>,
-    known: &Known,
-    members: &[Name],
-    earlier: &[Name],
+    judged: &Judged,
+    first: Option<&Frame>,
+    publishers: &Publishers,
     member: &Name,
 ) -> Result<(), AllocError>
-    ensures { OnOk result (found.new.items ≡ found.old.items ++ when (is_wrong_member known.now members.now earlier.now member.now) (at_name 13 member.now)) }
+    ensures { OnOk result (found.new.items ≡ found.old.items ++ when (is_wrong_behind judged.now (option_copied first.entry) (has_text publishers.now) member.now) (at_name 13 member.now)) }
 {
-    let is_wrong = is_wrong_member(known, members, earlier, member);
+    let is_wrong = is_wrong_member(judged, first, publishers, member);
     push_when(found, is_wrong, at_name(13, member))
 }
 
 #[tactic(auto, using(crate::proofs::FindingsLists::each_all))]
 fn bad_members_among(
+    alloc: Global,
     found: &mut Vec<Finding>,
-    known: &Known,
+    judged: &Judged,
     members: &[Name],
 ) -> Result<(), AllocError>
-    ensures { OnOk result (found.new.items ≡ found.old.items ++ flat_map (bad_member_at known.now members.now) (enumerate_from 0 members.now)) }
+    ensures { OnOk result (found.new.items ≡ found.old.items ++ flat_map (bad_member_at judged.now members.now) (enumerate_from 0 members.now)) }
 {
-    for (i, member) in members.iter().enumerate() {
-        bad_member(found, known, members, &members[..i], member)?;
+    let first = first_frame(judged, members);
+    let mut publishers = IndexMap::new(alloc);
+    for member in members {
+        bad_member(found, judged, first, &publishers, member)?;
+        add_publisher(&mut publishers, judged, member)?;
     }
     Ok(())
 }
 
 fn bad_members_in(
+    alloc: Global,
     found: &mut Vec<Finding>,
-    known: &Known,
+    judged: &Judged,
     event: &EventFrame,
 ) -> Result<(), AllocError>
-    ensures { OnOk result (found.new.items ≡ found.old.items ++ bad_members_in known.now event.now) }
+    ensures { OnOk result (found.new.items ≡ found.old.items ++ bad_members_in judged.now event.now) }
 {
     let members = event.members.as_slice();
     push_when(found, members.is_empty(), at_name(13, &event.name))?;
-    bad_members_among(found, known, members)
+    bad_members_among(alloc, found, judged, members)
 }
 
 fn bad_members_in_each(
+    alloc: Global,
     found: &mut Vec<Finding>,
-    known: &Known,
+    judged: &Judged,
     events: &[EventFrame],
 ) -> Result<(), AllocError>
-    ensures { OnOk result (found.new.items ≡ found.old.items ++ flat_map (bad_members_in known.now) events.now) }
+    ensures { OnOk result (found.new.items ≡ found.old.items ++ flat_map (bad_members_in judged.now) events.now) }
 {
     for event in events {
-        bad_members_in(found, known, event)?;
+        bad_members_in(alloc, found, judged, event)?;
     }
     Ok(())
 }
 
 /// Members that an event-triggered frame may not carry.
-pub(super) fn bad_event_frames(found: &mut Vec<Finding>, known: &Known) -> Result<(), AllocError>
-    ensures { OnOk result (found.new.items ≡ found.old.items ++ bad_event_frames known.now) }
+pub(super) fn bad_event_frames(
+    alloc: Global,
+    found: &mut Vec<Finding>,
+    judged: &Judged,
+) -> Result<(), AllocError>
+    ensures { OnOk result (found.new.items ≡ found.old.items ++ bad_event_frames judged.now) }
 {
-    bad_members_in_each(found, known, known.description().events())
+    bad_members_in_each(alloc, found, judged, judged.known().description().events())
 }
 
 fn is_responders(known: &Known, frame: &Frame) -> bool

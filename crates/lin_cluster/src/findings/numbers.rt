@@ -12,7 +12,7 @@ use std::alloc::{AllocError, Global};
 pub(super) type ByName<'a, T> = IndexMap<&'a [u8], &'a T>;
 
 /// Gives a name what it names, where it names nothing yet.
-fn add<'a, V: Copy>(
+pub(super) fn add<'a, V: Copy>(
     map: &mut IndexMap<&'a [u8], V>,
     name: &'a [u8],
     value: V,

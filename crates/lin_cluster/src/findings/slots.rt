@@ -1,10 +1,11 @@
 //! Delays that are too short, or zero.
 
-ghost use Rattle.std.specs.Prelude.{◌≡◌, ◌++◌, ◌<◌, ◌≤◌, OnOk, IfSome, fold, max, is_some};
+ghost use Rattle.std.specs.Prelude.{◌≡◌, ◌++◌, ◌<◌, OnOk, fold, max, is_some};
 ghost use Rattle.std.specs.List.{flat_map, list_all};
 ghost use Rattle.std.specs.Option.{option_map_or};
 ghost use Rattle.lin_cluster.specs.FindingsTables.{needed_us, is_speed, good_size, frame_size, greatest_size, first_size, size_of, slot_size, short_slot, short_slot_at, short_slots_in, slots_too_short, zero_delay, zero_delays_in, zero_delays};
 
+use super::judged::Judged;
 use super::known::{Known, carries_frame};
 use super::sizes::is_frame_size;
 use super::words::{at_number, push_when};
@@ -14,7 +15,6 @@ use std::alloc::AllocError;
 
 fn needed_us(jitter: u32, speed: u32, size: u32) -> u64
     requires speed { 0 < speed }
-    requires size { size ≤ 8 }
     ensures { result ≡ needed_us jitter speed size }
 {
     let bits = 34 + 10 * (u64::from(size) + 1);
@@ -29,8 +29,7 @@ pub(super) fn is_speed(speed: u32) -> bool
 }
 
 fn good_size(frame: &Frame) -> Option<u32>
-    ensures size { result ≡ good_size frame.now }
-    ensures small { IfSome result (λ n. n ≤ 8) }
+    ensures { result ≡ good_size frame.now }
 {
     let size = frame.size.value;
     if is_frame_size(size) {
@@ -41,8 +40,7 @@ fn good_size(frame: &Frame) -> Option<u32>
 }
 
 fn frame_size(known: &Known, name: &Name) -> Option<u32>
-    ensures size { result ≡ frame_size known.now name.now }
-    ensures small { IfSome result (λ n. n ≤ 8) }
+    ensures { result ≡ frame_size known.now name.now }
 {
     match known.frame(name) {
         Some(frame) => good_size(frame),
@@ -59,8 +57,7 @@ fn have_sizes(known: &Known, members: &[Name]) -> bool
 }
 
 fn size_or_none(known: &Known, member: &Name) -> u32
-    ensures size { result ≡ option_map_or (λ k. k) (frame_size known.now member.now) 0 }
-    ensures small { result ≤ 8 }
+    ensures { result ≡ option_map_or (λ k. k) (frame_size known.now member.now) 0 }
 {
     match frame_size(known, member) {
         Some(size) => size,
@@ -69,8 +66,7 @@ fn size_or_none(known: &Known, member: &Name) -> u32
 }
 
 fn greatest(known: &Known, members: &[Name]) -> u32
-    ensures size { result ≡ fold (λ n m. max n (option_map_or (λ k. k) (frame_size known.now m) 0)) 0 members.now }
-    ensures small { result ≤ 8 }
+    ensures { result ≡ fold (λ n m. max n (option_map_or (λ k. k) (frame_size known.now m) 0)) 0 members.now }
 {
     let mut greatest: u32 = 0;
     for member in members {
@@ -79,9 +75,9 @@ fn greatest(known: &Known, members: &[Name]) -> u32
     greatest
 }
 
-fn greatest_size(known: &Known, members: &[Name]) -> Option<u32>
-    ensures size { result ≡ greatest_size known.now members.now }
-    ensures small { IfSome result (λ n. n ≤ 8) }
+/// The greatest size of some members, where all are frames of good sizes.
+pub(super) fn greatest_size(known: &Known, members: &[Name]) -> Option<u32>
+    ensures { result ≡ greatest_size known.now members.now }
 {
     if have_sizes(known, members) {
         Some(greatest(known, members))
@@ -90,9 +86,9 @@ fn greatest_size(known: &Known, members: &[Name]) -> Option<u32>
     }
 }
 
-fn first_size(known: &Known, members: &[Name]) -> Option<u32>
-    ensures size { result ≡ first_size known.now members.now }
-    ensures small { IfSome result (λ n. n ≤ 8) }
+/// The size of the first member.
+pub(super) fn first_size(known: &Known, members: &[Name]) -> Option<u32>
+    ensures { result ≡ first_size known.now members.now }
 {
     match members.first() {
         Some(member) => frame_size(known, member),
@@ -100,28 +96,26 @@ fn first_size(known: &Known, members: &[Name]) -> Option<u32>
     }
 }
 
-fn size_of(known: &Known, name: &Name) -> Option<u32>
-    ensures size { result ≡ size_of known.now name.now }
-    ensures small { IfSome result (λ n. n ≤ 8) }
+fn size_of(judged: &Judged, name: &Name) -> Option<u32>
+    ensures { result ≡ size_of judged.now name.now }
 {
-    if known.frame(name).is_some() {
-        return frame_size(known, name);
+    if judged.known().frame(name).is_some() {
+        return frame_size(judged.known(), name);
     }
-    match known.sporadic(name) {
-        Some(frame) => greatest_size(known, frame.members.as_slice()),
-        None => match known.event(name) {
-            Some(event) => first_size(known, event.members.as_slice()),
+    match judged.sporadic_size(name) {
+        Some(size) => size,
+        None => match judged.event_size(name) {
+            Some(size) => size,
             None => None,
         },
     }
 }
 
-fn slot_size(known: &Known, entry: &TableEntry) -> Option<u32>
-    ensures size { result ≡ slot_size known.now entry.now }
-    ensures small { IfSome result (λ n. n ≤ 8) }
+fn slot_size(judged: &Judged, entry: &TableEntry) -> Option<u32>
+    ensures { result ≡ slot_size judged.now entry.now }
 {
     if carries_frame(entry) {
-        size_of(known, &entry.name)
+        size_of(judged, &entry.name)
     } else {
         Some(8)
     }
@@ -134,7 +128,6 @@ fn short_slot(
     entry: &TableEntry,
     size: Option<u32>,
 ) -> Result<(), AllocError>
-    requires { IfSome size (λ n. n ≤ 8) }
     ensures { OnOk result (found.new.items ≡ found.old.items ++ short_slot jitter speed entry.now size) }
 {
     if let Some(size) = size {
@@ -155,13 +148,13 @@ fn short_slot(
 
 fn short_slot_at(
     found: &mut Vec<Finding>,
-    known: &Known,
+    judged: &Judged,
     entry: &TableEntry,
 ) -> Result<(), AllocError>
-    ensures { OnOk result (found.new.items ≡ found.old.items ++ short_slot_at known.now entry.now) }
+    ensures { OnOk result (found.new.items ≡ found.old.items ++ short_slot_at judged.now entry.now) }
 {
-    let description = known.description();
-    let size = slot_size(known, entry);
+    let description = judged.known().description();
+    let size = slot_size(judged, entry);
     short_slot(
         found,
         description.jitter.value,
@@ -173,41 +166,41 @@ fn short_slot_at(
 
 fn short_slots_of(
     found: &mut Vec<Finding>,
-    known: &Known,
+    judged: &Judged,
     entries: &[TableEntry],
 ) -> Result<(), AllocError>
-    ensures { OnOk result (found.new.items ≡ found.old.items ++ flat_map (short_slot_at known.now) entries.now) }
+    ensures { OnOk result (found.new.items ≡ found.old.items ++ flat_map (short_slot_at judged.now) entries.now) }
 {
     for entry in entries {
-        short_slot_at(found, known, entry)?;
+        short_slot_at(found, judged, entry)?;
     }
     Ok(())
 }
 
-fn short_slots(found: &mut Vec<Finding>, known: &Known, table: &Table) -> Result<(), AllocError>
-    ensures { OnOk result (found.new.items ≡ found.old.items ++ short_slots_in known.now table.now) }
+fn short_slots(found: &mut Vec<Finding>, judged: &Judged, table: &Table) -> Result<(), AllocError>
+    ensures { OnOk result (found.new.items ≡ found.old.items ++ short_slots_in judged.now table.now) }
 {
-    short_slots_of(found, known, table.entries.as_slice())
+    short_slots_of(found, judged, table.entries.as_slice())
 }
 
 fn short_slots_in(
     found: &mut Vec<Finding>,
-    known: &Known,
+    judged: &Judged,
     tables: &[Table],
 ) -> Result<(), AllocError>
-    ensures { OnOk result (found.new.items ≡ found.old.items ++ flat_map (short_slots_in known.now) tables.now) }
+    ensures { OnOk result (found.new.items ≡ found.old.items ++ flat_map (short_slots_in judged.now) tables.now) }
 {
     for table in tables {
-        short_slots(found, known, table)?;
+        short_slots(found, judged, table)?;
     }
     Ok(())
 }
 
 /// Slots whose delay is below the time that they take at most.
-pub(super) fn slots_too_short(found: &mut Vec<Finding>, known: &Known) -> Result<(), AllocError>
-    ensures { OnOk result (found.new.items ≡ found.old.items ++ slots_too_short known.now) }
+pub(super) fn slots_too_short(found: &mut Vec<Finding>, judged: &Judged) -> Result<(), AllocError>
+    ensures { OnOk result (found.new.items ≡ found.old.items ++ slots_too_short judged.now) }
 {
-    short_slots_in(found, known, known.description().tables())
+    short_slots_in(found, judged, judged.known().description().tables())
 }
 
 fn zero_delay(found: &mut Vec<Finding>, entry: &TableEntry) -> Result<(), AllocError>

@@ -2,55 +2,48 @@
 
 ghost use Rattle.std.specs.Prelude.{◌≡◌, ◌++◌, OnOk};
 ghost use Rattle.std.specs.List.{flat_map, list_any};
-ghost use Rattle.lin_cluster.specs.FindingsNames.{is_event_entry, knows, table_named};
+ghost use Rattle.lin_cluster.specs.FindingsNames.{is_event_entry};
 ghost use Rattle.lin_cluster.specs.FindingsTables.{nested_at, nested_collisions, empty_table, empty_tables};
 
+use super::judged::Judged;
 use super::known::Known;
 use super::words::{at_name, finding_at, push_when};
 use crate::finding::Finding;
-use lin_ldf::{EventFrame, Name, Table, TableEntry};
+use lin_ldf::{EventFrame, Table, TableEntry};
 use std::alloc::AllocError;
 
-fn has_event_entry(known: &Known, entries: &[TableEntry]) -> bool
+/// Whether a table has an event-triggered entry.
+pub(super) fn has_event_entry(known: &Known, entries: &[TableEntry]) -> bool
     ensures { result ≡ list_any (is_event_entry known.now) entries.now }
 {
     entries.iter().any(|entry| known.is_event_entry(entry))
 }
 
-fn is_nested(known: &Known, table: &Name) -> bool
-    ensures { result ≡ knows (table_named known.now table.now) (λ t. list_any (is_event_entry known.now) t.entries) }
+fn nested_at(found: &mut Vec<Finding>, judged: &Judged, event: &EventFrame) -> Result<(), AllocError>
+    ensures { OnOk result (found.new.items ≡ found.old.items ++ nested_at judged.now event.now) }
 {
-    match known.table(table) {
-        Some(table) => has_event_entry(known, table.entries.as_slice()),
-        None => false,
-    }
-}
-
-fn nested_at(found: &mut Vec<Finding>, known: &Known, event: &EventFrame) -> Result<(), AllocError>
-    ensures { OnOk result (found.new.items ≡ found.old.items ++ nested_at known.now event.now) }
-{
-    let is_wrong = is_nested(known, &event.table);
+    let is_wrong = judged.is_nested(&event.table);
     push_when(found, is_wrong, at_name(15, &event.table))
 }
 
 fn nested_at_each(
     found: &mut Vec<Finding>,
-    known: &Known,
+    judged: &Judged,
     events: &[EventFrame],
 ) -> Result<(), AllocError>
-    ensures { OnOk result (found.new.items ≡ found.old.items ++ flat_map (nested_at known.now) events.now) }
+    ensures { OnOk result (found.new.items ≡ found.old.items ++ flat_map (nested_at judged.now) events.now) }
 {
     for event in events {
-        nested_at(found, known, event)?;
+        nested_at(found, judged, event)?;
     }
     Ok(())
 }
 
 /// Resolving tables with an event-triggered entry.
-pub(super) fn nested_collisions(found: &mut Vec<Finding>, known: &Known) -> Result<(), AllocError>
-    ensures { OnOk result (found.new.items ≡ found.old.items ++ nested_collisions known.now) }
+pub(super) fn nested_collisions(found: &mut Vec<Finding>, judged: &Judged) -> Result<(), AllocError>
+    ensures { OnOk result (found.new.items ≡ found.old.items ++ nested_collisions judged.now) }
 {
-    nested_at_each(found, known, known.description().events())
+    nested_at_each(found, judged, judged.known().description().events())
 }
 
 fn empty_table(found: &mut Vec<Finding>, table: &Table) -> Result<(), AllocError>

@@ -4,4 +4,4 @@ use Rattle.lin_cluster.specs.FindingsTables.{nested_at}
 use Rattle.lin_cluster.proofs.findings.tables.nested_at_each.Given as goal
 
 abbrev pub invariant-loop-event : goal.invariant-loop-event
-invariant-loop-event l = l.found.items ≡ l.fn.found.items ++ flat_map (nested_at l.known) (take l.event-index l.events)
+invariant-loop-event l = l.found.items ≡ l.fn.found.items ++ flat_map (nested_at l.judged) (take l.event-index l.events)

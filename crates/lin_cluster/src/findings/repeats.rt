@@ -1,0 +1,135 @@
+//! Numbers whose value an earlier number has, by the first two places of each value.
+
+ghost use Rattle.std.specs.Prelude.{◌≡◌, ◌&&◌, ◌||◌, List, OnOk, IfOk, nat_eq};
+ghost use Rattle.std.specs.Option.{option_copied};
+ghost use Rattle.indexmap.specs.IndexMap.{get};
+ghost use Rattle.lin_cluster.specs.FindingsFrames.{is_up_to, is_repeated};
+ghost use Rattle.lin_cluster.specs.FindingsRepeats.{has_one, has_two, is_use, CountsUses};
+ghost use Rattle.lin_cluster.specs.FindingsNames.{knows};
+ghost use Rattle.lin_ldf.specs.declared.description.Number.{Number};
+
+use indexmap::IndexMap;
+use lin_ldf::Number;
+use std::alloc::{AllocError, Global};
+use std::marker::Model;
+
+/// The first two of the numbers that have one value, by place.
+#[derive(Clone, Copy)]
+pub(super) struct Uses {
+    first: Number,
+    second: Option<Number>,
+}
+
+/// Numbers, and the first two of each value. Contracts see the numbers.
+#[derive(Drop)]
+pub(super) struct Repeats {
+    all: Vec<Number>,
+    uses: IndexMap<u32, Uses>,
+}
+
+impl Model for Repeats {
+    ghost use Rattle.std.specs.Prelude.{List};
+    ghost use Rattle.lin_cluster.specs.FindingsRepeats.{CountsUses};
+    ghost use Rattle.lin_ldf.specs.declared.description.Number.{Number};
+
+    ghost Value = { List Number };
+
+    ghost view = { λ r. r.all.items };
+
+    ghost invariant = { λ r. CountsUses r.all.items r.uses };
+}
+
+fn is_up_to(x: &Number, y: &Number) -> bool
+    ensures { result ≡ is_up_to x.now y.now }
+{
+    y.line < x.line || (y.line == x.line && y.column <= x.column)
+}
+
+fn earlier(a: Number, b: Number) -> Number
+    ensures { (x : Number) → is_up_to x result ≡ (is_up_to x a || is_up_to x b) }
+{
+    if is_up_to(&b, &a) { a } else { b }
+}
+
+fn later(a: Number, b: Number) -> Number
+    ensures { (x : Number) → is_up_to x result ≡ (is_up_to x a && is_up_to x b) }
+{
+    if is_up_to(&b, &a) { b } else { a }
+}
+
+// The first two of one more number.
+fn again(uses: &Uses, id: Number) -> Uses
+    ensures first { (x : Number) → is_up_to x result.first ≡ (is_up_to x uses.now.first || is_up_to x id) }
+    ensures second { (x : Number) → knows result.second (is_up_to x) ≡ (knows uses.now.second (is_up_to x) || (is_up_to x uses.now.first && is_up_to x id)) }
+{
+    let both = later(uses.first, id);
+    let second = match uses.second {
+        Some(second) => earlier(second, both),
+        None => both,
+    };
+    Uses {
+        first: earlier(uses.first, id),
+        second: Some(second),
+    }
+}
+
+fn with_use(uses: Option<&Uses>, id: Number) -> Uses
+    ensures first { (x : Number) → is_up_to x result.first ≡ (has_one (option_copied uses.entry) x || is_up_to x id) }
+    ensures second { (x : Number) → knows result.second (is_up_to x) ≡ (has_two (option_copied uses.entry) x || (has_one (option_copied uses.entry) x && is_up_to x id)) }
+{
+    match uses {
+        Some(uses) => again(uses, id),
+        None => Uses {
+            first: id,
+            second: None,
+        },
+    }
+}
+
+fn count(uses: &mut IndexMap<u32, Uses>, id: Number) -> Result<(), AllocError>
+    ensures one { OnOk result ((x : Number) → has_one (get nat_eq uses.new x.value) x ≡ (has_one (get nat_eq uses.old x.value) x || is_use x id)) }
+    ensures two { OnOk result ((x : Number) → has_two (get nat_eq uses.new x.value) x ≡ (has_two (get nat_eq uses.old x.value) x || (has_one (get nat_eq uses.old x.value) x && is_use x id))) }
+{
+    let more = with_use(uses.get(&id.value), id);
+    uses.insert(id.value, more)?;
+    Ok(())
+}
+
+fn counted(alloc: Global, ids: &[Number]) -> Result<IndexMap<u32, Uses>, AllocError>
+    ensures { IfOk result (CountsUses ids.now) }
+{
+    let mut uses = IndexMap::new(alloc);
+    for id in ids {
+        count(&mut uses, *id)?;
+    }
+    Ok(uses)
+}
+
+impl Repeats {
+    /// An error is want of memory.
+    pub(super) fn new(alloc: Global, all: Vec<Number>) -> Result<Repeats, AllocError>
+        ensures { IfOk result (λ r. r ≡ all.items) }
+    {
+        let uses = counted(alloc, all.as_slice())?;
+        Ok(Repeats { all, uses })
+    }
+
+    pub(super) fn numbers(&self) -> &[Number]
+        ensures { result.now ≡ self.now }
+    {
+        self.all.as_slice()
+    }
+
+    /// Whether up to the place of a number more than one has its value.
+    pub(super) fn is_repeated(&self, x: &Number) -> bool
+        ensures { result ≡ is_repeated self.now x.now }
+    {
+        match self.uses.get(&x.value) {
+            Some(uses) => match uses.second {
+                Some(second) => is_up_to(x, &second),
+                None => false,
+            },
+            None => false,
+        }
+    }
+}
