@@ -25,6 +25,7 @@ use Rattle.lin_core.proofs.Entries.{history-more, reverse-more}
 use Rattle.lin_core.proofs.Keeping.{done_entry, done-answered}
 use Rattle.lin_core.proofs.Making.{Allowed, open-some, past_in}
 use Rattle.lin_core.proofs.LateKeeping.{leave-allowed, leave-fewer}
+use Rattle.lin_core.proofs.Places.{get-there}
 use Rattle.lin_core.proofs.Steps.{AllFalse, both-false, none-of, not-false}
 
 -- a host of this number
@@ -107,11 +108,6 @@ leave-room a by node o n =
     in omega arith
 
 -- == a refusal
-pub get-there : (hosts : List Host) (i : ℕ) → i < length hosts → (x : Host) × (slice_get hosts i ≡ Some x)
-get-there [] i h = absurd (omega arith)
-get-there (x ∷ xs) zero h = (x, refl)
-get-there (x ∷ xs) (suc i) h = get-there xs i (omega arith)
-
 pub closed-inside : (a : Inside) (hosts : List Host) (h : ℕ) (shut : Bool) → IsWhole a → hosts ≡ a.state.hosts.items → ((host : Host) → slice_get hosts h ≡ Some host → shut ≡ host.closed) → h < nodes a.cluster → closed (past_in a) h ≡ shut
 closed-inside a hosts h shut w e is below =
     let count = w.kept.hosts_count

@@ -28,6 +28,7 @@ pub mod Hearing
 pub mod Opening
 pub mod LateKeeping
 pub mod Keeping
+pub mod Places
 pub mod LateMaking
 pub mod Settling
 pub mod Timeouts

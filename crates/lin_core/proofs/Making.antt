@@ -53,6 +53,7 @@ use Rattle.lin_schedule.specs.declared.due.Due.{Due}
 use Rattle.lin_core.specs.declared.step.Step.TheVariants.{Open}
 use Rattle.std.specs.Prelude.{filter, ◌||◌}
 use Rattle.lin_core.specs.Replies.{refusals}
+use Rattle.lin_core.proofs.Places.{get-there}
 use Rattle.lin_core.proofs.Steps.{not-false, none-of}
 use Rattle.lin_core.proofs.Reports.{index-some}
 use Rattle.lin_core.proofs.Steps.{history-known}
@@ -157,11 +158,6 @@ open-inside a d by is w allowed few =
     in record { step = s; slot = k.0; at = k.1; is = k.2 }
 
 -- == a refusal
-get-there : (hosts : List Host) (i : ℕ) → i < length hosts → (x : Host) × (slice_get hosts i ≡ Some x)
-get-there [] i h = absurd (omega arith)
-get-there (x ∷ xs) zero h = (x, refl)
-get-there (x ∷ xs) (suc i) h = get-there xs i (omega arith)
-
 pub queued-inside : (a : Inside) (hosts : List Host) (from n : ℕ) → IsWhole a → hosts ≡ a.state.hosts.items → ((host : Host) → slice_get hosts from ≡ Some host → n ≡ length host.queue.items) → from < nodes a.cluster → length (waiting a.cluster (past_in a) from) ≡ n
 queued-inside a hosts from n w e counts below =
     let count = w.kept.hosts_count

@@ -32,26 +32,9 @@ use Rattle.lin_core.proofs.Hosts.{CanGo, IsLink, eqb-self, same-self}
 use Rattle.lin_core.proofs.Known.{Known, SlotIs, entry_is, has-nad}
 use Rattle.lin_core.proofs.Known.SlotIs.{carries, closed, master, other, slave, sleep}
 use Rattle.lin_core.proofs.Moves.{heard_by, record_of, same-is}
+use Rattle.lin_core.proofs.Places.{get-there, set-other, set-own}
 use Rattle.lin_core.proofs.Steps.{first-go}
 use Rattle.lin_core.proofs.Turns.{load-frame, other-load}
-
--- == lists
-get-there : {X : Type 0} (xs : List X) (i : ℕ) → i < length xs → (x : X) × (slice_get xs i ≡ Some x)
-get-there [] i h = absurd (omega arith)
-get-there (x ∷ xs) zero h = (x, refl)
-get-there (x ∷ xs) (suc i) h = get-there xs i (omega arith)
-
-pub set-own : {X : Type 0} (xs : List X) (i : ℕ) (x y : X) → slice_get xs i ≡ Some x → slice_get (slice_set xs i y) i ≡ Some y
-set-own [] i x y e = cc
-set-own (a ∷ xs) zero x y e = refl
-set-own (a ∷ xs) (suc i) x y e = set-own xs i x y e
-
-pub set-other : {X : Type 0} (xs : List X) (i j : ℕ) (y : X) → i ≢ j → slice_get (slice_set xs i y) j ≡ slice_get xs j
-set-other [] i j y differ = refl
-set-other (a ∷ xs) zero zero y differ = absurd (differ refl)
-set-other (a ∷ xs) zero (suc j) y differ = refl
-set-other (a ∷ xs) (suc i) zero y differ = refl
-set-other (a ∷ xs) (suc i) (suc j) y differ = set-other xs i j y (λ e. differ (ap suc e))
 
 -- == nothing is heard
 receiver-same : (c : Parts) (past past' : List LogEntry) (l : Link) (r : Reception) → heard_on c past' l ≡ heard_on c past l → KeepsReceiver c past l r → KeepsReceiver c past' l r

@@ -13,7 +13,7 @@ use Rattle.lin_core.specs.declared.host.Host.{Host}
 use Rattle.lin_core.specs.declared.log.LogEntry.{LogEntry}
 use Rattle.lin_core.specs.declared.machine.Core.TheInside.{Inside}
 use Rattle.lin_core.proofs.Keeping.{queue-length}
-use Rattle.lin_core.proofs.LateMaking.{get-there}
+use Rattle.lin_core.proofs.Places.{get-there}
 use Rattle.lin_core.proofs.Making.{past_in}
 use Rattle.lin_core.proofs.ModeKeeping.{find-more}
 

@@ -23,7 +23,7 @@ use Rattle.lin_core.proofs.FinishEvents.{lost_by}
 use Rattle.lin_core.proofs.Hosts.{HostState, IsCount}
 use Rattle.lin_core.proofs.Keeping.{host-few, queue-length}
 use Rattle.lin_core.proofs.Known.{Known}
-use Rattle.lin_core.proofs.LateMaking.{get-there}
+use Rattle.lin_core.proofs.Places.{get-there}
 use Rattle.lin_core.proofs.Making.{past_in}
 use Rattle.lin_core.proofs.Moves.{marked}
 use Rattle.lin_core.proofs.Queues.{accepted-count, waiting-are}

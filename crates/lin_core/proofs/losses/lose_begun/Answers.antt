@@ -1,4 +1,4 @@
-use Rattle.std.proofs.Common.{◌≡◌, ◌≢◌, ◌<◌, ◌≤◌, ◌+◌, ℕ, zero, suc, Bool, true, false, List, [], ◌∷◌, ◌++◌, length, refl, ap, sym, ◌∙◌, subst, arith, inl, inr, append_assoc, length-append}
+use Rattle.std.proofs.Common.{◌≡◌, ◌<◌, ◌≤◌, ◌+◌, ℕ, suc, Bool, true, false, List, [], ◌∷◌, ◌++◌, length, refl, ap, sym, ◌∙◌, subst, arith, inl, inr, append_assoc, length-append}
 use Rattle.std.specs.Prelude.{Option, Some, None, flat_map, nat_lt, option_map, slice_get, slice_set}
 use Rattle.std.proofs.Math.ListN.{length-set}
 use Rattle.std.proofs.lemmas.Bool.Decides.{eqb_tells, nat_tests}
@@ -9,20 +9,9 @@ use Rattle.lin_transport.specs.Sender.{Sending as Sender}
 use Rattle.lin_core.specs.Hosts.{lost_of, losses_of, slept}
 use Rattle.lin_core.specs.declared.event.Event.{Event}
 use Rattle.lin_core.specs.declared.host.Host.{Host}
+use Rattle.lin_core.proofs.Places.{set-other, set-own}
 use Rattle.lin_core.proofs.Reports.{flat-append}
 use Rattle.lin_core.proofs.losses.lose_begun.Goals as goal
-
-set-own : (xs : List Host) (i : ℕ) (x y : Host) → slice_get xs i ≡ Some x → slice_get (slice_set xs i y) i ≡ Some y
-set-own [] i x y e = cc
-set-own (a ∷ xs) zero x y e = refl
-set-own (a ∷ xs) (suc i) x y e = set-own xs i x y e
-
-set-other : (xs : List Host) (i j : ℕ) (y : Host) → i ≢ j → slice_get (slice_set xs i y) j ≡ slice_get xs j
-set-other [] i j y differ = refl
-set-other (a ∷ xs) zero zero y differ = absurd (differ refl)
-set-other (a ∷ xs) zero (suc j) y differ = refl
-set-other (a ∷ xs) (suc i) zero y differ = refl
-set-other (a ∷ xs) (suc i) (suc j) y differ = set-other xs i j y (λ e. differ (ap suc e))
 
 told-more : (f : ℕ → List Event) (i : ℕ) (base es more : List Event) → es ≡ base ++ flat_map f (numbers i) → more ≡ f i → es ++ more ≡ base ++ flat_map f (numbers (i + 1))
 told-more f i base es more e m =

@@ -1,11 +1,11 @@
-use Rattle.std.proofs.Common.{◌≡◌, ◌≢◌, ◌<◌, ◌≤◌, ℕ, List, length, refl, ap, sym, ◌∙◌, subst, arith, inl, inr}
+use Rattle.std.proofs.Common.{◌≡◌, ◌<◌, ℕ, List, length, refl, sym, ◌∙◌, subst, arith, inl, inr}
 use Rattle.std.specs.Prelude.{Some, slice_get, slice_set}
 use Rattle.std.proofs.Math.ListN.{length-set}
 use Rattle.std.proofs.lemmas.Bool.Decides.{eqb_tells}
 use Rattle.std.proofs.lemmas.Option.{slice_get_read, slice_get_within}
 use Rattle.lin_core.specs.KeptHeard.{AreReset}
 use Rattle.lin_core.specs.declared.receivers.Receivers.{Receivers}
-use Rattle.lin_core.proofs.Receiving.{set-other, set-own}
+use Rattle.lin_core.proofs.Places.{set-other, set-own}
 use Rattle.lin_core.proofs.receivers.reset_all.Goals as goal
 
 pub loop-node-preserved : goal.loop-node-preserved

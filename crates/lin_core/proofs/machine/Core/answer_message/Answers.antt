@@ -1,11 +1,10 @@
-use Rattle.std.proofs.Common.{refl, ◌≡◌, ◌<◌, ℕ, Bool, List, [], ◌∷◌, ◌++◌, length, ap, sym, ◌∙◌, subst, arith, length-append}
+use Rattle.std.proofs.Common.{refl, ◌≡◌, ◌<◌, ℕ, List, [], ◌∷◌, ◌++◌, length, ap, sym, ◌∙◌, subst, arith, length-append}
 use Rattle.std.specs.Prelude.{Option, Some, None}
 use Rattle.lin_frame.specs.Words.{choose}
 use Rattle.lin_core.specs.Core.{answered, CoreData}
 use Rattle.lin_core.specs.Dues.{frame_answered}
 use Rattle.lin_core.specs.History.{open_slot}
-use Rattle.lin_core.specs.Kept.{Keeps, message_at}
-use Rattle.lin_core.specs.KeptLate.{HasNext}
+use Rattle.lin_core.specs.Kept.{Keeps}
 use Rattle.lin_core.specs.Replies.{put_event}
 use Rattle.lin_core.specs.Slots.{with_classic}
 use Rattle.lin_core.specs.Whole.{core_data}
@@ -15,11 +14,11 @@ use Rattle.lin_core.specs.declared.log.LogEntry.{LogEntry}
 use Rattle.lin_core.specs.declared.slot.OpenSlot.{OpenSlot}
 use Rattle.lin_core.specs.declared.slot.Put.{Put as KeptPut}
 use Rattle.lin_core.specs.declared.step.Step.TheVariants.{Answer}
-use Rattle.lin_core.proofs.Answering.{AnswerSlot, answer-slot, answered-by, none-inside, request-answers}
+use Rattle.lin_core.proofs.Answering.{answer-slot, answered-by, none-inside, request-answers}
 use Rattle.lin_core.proofs.Entries.{reverse-more, history-more}
 use Rattle.lin_core.proofs.Keeping.{done_entry, done-answered, answer-keeps}
 use Rattle.lin_core.proofs.LateKeeping.{answer-late}
-use Rattle.lin_core.proofs.Making.{Allowed, allowed-inside, past_in}
+use Rattle.lin_core.proofs.Making.{allowed-inside, past_in}
 use Rattle.lin_core.proofs.Opening.{put-room, with_put}
 use Rattle.lin_core.proofs.Transporting.{AnswersNext, answers-next}
 use Rattle.lin_core.proofs.Receiving.{heard-same}

@@ -1,23 +1,15 @@
-use Rattle.std.proofs.Common.{refl, ◌≡◌, ◌+◌, ℕ, length, List, [], ◌∷◌, ◌++◌, ap, sym, ◌∙◌, subst, arith, length-append}
+use Rattle.std.proofs.Common.{refl, ◌≡◌, ℕ, length, List, [], ◌∷◌, ◌++◌, ap, sym, ◌∙◌, arith}
 use Rattle.std.specs.Prelude.{Option, option_map}
 use Rattle.std.specs.Global.{Vec}
-use Rattle.lin_cluster.specs.Cluster.{line_of}
-use Rattle.lin_core.specs.Core.{answered, CoreData}
+use Rattle.lin_core.specs.Core.{answered}
 use Rattle.lin_core.specs.History.{seen}
 use Rattle.lin_core.specs.Kept.{Keeps, slot_in}
 use Rattle.lin_core.specs.Replies.{finish_events}
-use Rattle.lin_core.specs.Slots.{moves}
 use Rattle.lin_core.specs.Whole.{core_data}
-use Rattle.lin_core.specs.History.{is_clash_seen}
-use Rattle.lin_schedule.specs.Schedule.Move.{Slot as SlotMove}
-use Rattle.lin_schedule.specs.Walker.{Stands}
-use Rattle.std.specs.Prelude.{Bool}
 use Rattle.lin_core.specs.declared.event.Event.{Event}
 use Rattle.lin_core.specs.declared.event.Event.TheVariants.{Seen}
 use Rattle.lin_core.specs.declared.log.LogEntry.{LogEntry}
-use Rattle.lin_core.specs.declared.slot.OpenSlot.{OpenSlot}
 use Rattle.lin_core.specs.declared.step.Step.TheVariants.{Finish}
-use Rattle.lin_core.proofs.Entries.{reverse-more, history-more}
 use Rattle.std.specs.Prelude.{slice_set}
 use Rattle.std.proofs.Math.ListN.{length-set}
 use Rattle.std.specs.Prelude.{Some, false}
@@ -29,8 +21,7 @@ use Rattle.lin_core.proofs.FinishCases.{Part, finishes-part, known_behind}
 use Rattle.lin_core.proofs.Going.{GoesOn, going-hosts, going-late}
 use Rattle.lin_core.proofs.Goods.{GoodIs, carried-inside, carried-slot, good-inside, host-there, last-by, more-frames, same-host}
 use Rattle.lin_core.proofs.Making.{known-inside}
-use Rattle.lin_core.proofs.Keeping.{done_entry, done-answered, finished_entry, finish-keeps, Finishes}
-use Rattle.lin_core.proofs.ModeKeeping.{finish-mode}
+use Rattle.lin_core.proofs.Keeping.{done_entry}
 use Rattle.lin_core.specs.KeptLate.{KeepsLate, KeepsMode}
 use Rattle.lin_core.specs.Passes.{Passes}
 use Rattle.lin_core.proofs.Passing.{finish_of, finish-answered, passed-keeps, passed-mode, passes-as}

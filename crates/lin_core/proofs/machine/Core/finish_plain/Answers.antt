@@ -1,26 +1,16 @@
-use Rattle.std.proofs.Common.{refl, ◌≡◌, ◌+◌, ℕ, List, [], ◌∷◌, ◌++◌, ap, sym, ◌∙◌, subst, arith, length-append}
-use Rattle.std.specs.Prelude.{Option}
-use Rattle.lin_cluster.specs.Cluster.{line_of}
+use Rattle.std.proofs.Common.{refl, ◌≡◌, List, [], ◌∷◌, ◌++◌, ap, sym, ◌∙◌, subst}
 use Rattle.lin_core.specs.Core.{answered, CoreData}
 use Rattle.lin_core.specs.History.{seen}
 use Rattle.lin_core.specs.Kept.{Keeps, slot_in}
 use Rattle.lin_core.specs.Replies.{finish_events}
-use Rattle.lin_core.specs.Slots.{moves}
 use Rattle.lin_core.specs.Whole.{core_data}
-use Rattle.lin_core.specs.History.{is_clash_seen}
-use Rattle.lin_schedule.specs.Schedule.Move.{Slot as SlotMove}
-use Rattle.lin_schedule.specs.Walker.{Stands}
-use Rattle.std.specs.Prelude.{Bool}
 use Rattle.lin_core.specs.declared.event.Event.{Event}
 use Rattle.lin_core.specs.declared.event.Event.TheVariants.{Seen}
 use Rattle.lin_core.specs.declared.log.LogEntry.{LogEntry}
-use Rattle.lin_core.specs.declared.slot.OpenSlot.{OpenSlot}
 use Rattle.lin_core.specs.declared.step.Step.TheVariants.{Finish}
-use Rattle.lin_core.proofs.Entries.{reverse-more, history-more}
 use Rattle.lin_core.proofs.FinishCases.{Still, finishes-quiet, known_behind}
-use Rattle.lin_core.proofs.Keeping.{done_entry, done-answered, finished_entry, finish-keeps, Finishes, same-hosts}
+use Rattle.lin_core.proofs.Keeping.{done_entry, same-hosts}
 use Rattle.lin_core.proofs.LateKeeping.{still-late}
-use Rattle.lin_core.proofs.ModeKeeping.{finish-mode}
 use Rattle.lin_core.specs.KeptLate.{KeepsLate, KeepsMode}
 use Rattle.lin_core.specs.Loads.{is_still, load_of}
 use Rattle.lin_core.specs.Core.{past_of}

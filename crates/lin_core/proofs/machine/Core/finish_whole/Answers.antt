@@ -1,23 +1,14 @@
-use Rattle.std.proofs.Common.{refl, ◌≡◌, ◌+◌, ℕ, suc, length, List, [], ◌∷◌, ◌++◌, ap, sym, ◌∙◌, subst, arith, length-append}
-use Rattle.std.specs.Prelude.{Option}
-use Rattle.lin_cluster.specs.Cluster.{line_of}
-use Rattle.lin_core.specs.Core.{answered, CoreData}
+use Rattle.std.proofs.Common.{refl, ◌≡◌, ◌+◌, ℕ, suc, length, List, [], ◌∷◌, ◌++◌, ap, sym, ◌∙◌, arith}
+use Rattle.lin_core.specs.Core.{answered}
 use Rattle.lin_core.specs.Kept.{Keeps, slot_in}
 use Rattle.lin_core.specs.Replies.{finish_events}
-use Rattle.lin_core.specs.Slots.{moves}
 use Rattle.lin_core.specs.Whole.{core_data}
-use Rattle.lin_core.specs.History.{is_clash_seen}
-use Rattle.lin_schedule.specs.Schedule.Move.{Slot as SlotMove}
-use Rattle.lin_schedule.specs.Walker.{Stands}
-use Rattle.std.specs.Prelude.{Bool}
 use Rattle.lin_core.specs.declared.event.Event.{Event}
 use Rattle.lin_core.specs.Replies.{receiver_of}
 use Rattle.lin_core.specs.declared.event.Seen.{Seen as HowSeen}
 use Rattle.lin_core.specs.declared.event.Event.TheVariants.{Message as MessageEvent, Seen, Sent}
 use Rattle.lin_core.specs.declared.log.LogEntry.{LogEntry}
-use Rattle.lin_core.specs.declared.slot.OpenSlot.{OpenSlot}
 use Rattle.lin_core.specs.declared.step.Step.TheVariants.{Finish}
-use Rattle.lin_core.proofs.Entries.{reverse-more, history-more}
 use Rattle.std.specs.Prelude.{slice_set}
 use Rattle.std.proofs.Math.ListN.{length-set}
 use Rattle.std.specs.Prelude.{Some, false, true}
@@ -28,8 +19,7 @@ use Rattle.lin_core.proofs.Settled.{SettlesHost, settles-host}
 use Rattle.lin_core.proofs.Settling.{settled-hosts, settled-late}
 use Rattle.lin_core.proofs.Goods.{GoodIs, carried-inside, carried-slot, good-inside, host-there, last-by}
 use Rattle.lin_core.proofs.Making.{known-inside}
-use Rattle.lin_core.proofs.Keeping.{done_entry, done-answered, finished_entry, finish-keeps, Finishes}
-use Rattle.lin_core.proofs.ModeKeeping.{finish-mode}
+use Rattle.lin_core.proofs.Keeping.{done_entry}
 use Rattle.lin_core.specs.KeptLate.{KeepsLate, KeepsMode}
 use Rattle.lin_core.specs.Passes.{Passes}
 use Rattle.lin_core.proofs.Passing.{finish_of, finish-answered, passed-keeps, passed-mode, passes-as}

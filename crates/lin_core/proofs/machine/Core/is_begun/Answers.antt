@@ -6,7 +6,7 @@ use Rattle.lin_core.specs.History.{open_slot}
 use Rattle.lin_core.specs.Links.{host_of}
 use Rattle.lin_core.specs.Replies.{begun_on, link_at}
 use Rattle.lin_core.specs.declared.host.Host.{Host}
-use Rattle.lin_core.proofs.LateMaking.{get-there}
+use Rattle.lin_core.proofs.Places.{get-there}
 use Rattle.lin_core.proofs.Timeouts.{begun-inside, none-inside, over-node}
 use Rattle.lin_core.proofs.machine.Core.is_begun.Goals as goal
 

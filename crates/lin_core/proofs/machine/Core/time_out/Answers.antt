@@ -1,17 +1,13 @@
-use Rattle.std.proofs.Common.{◌≡◌, ◌+◌, refl, [], ◌∷◌, ◌++◌, ◌∙◌, ap, sym, subst, arith}
-use Rattle.std.specs.Prelude.{List, Some, slice_get, slice_index_or, slice_set}
+use Rattle.std.proofs.Common.{◌≡◌, refl, [], ◌∷◌, ◌++◌, ◌∙◌, sym, arith}
+use Rattle.std.specs.Prelude.{List, Some, slice_get, slice_set}
 use Rattle.std.proofs.lemmas.Option.{slice_get_read}
 use Rattle.lin_cluster.specs.Cluster.{nodes}
 use Rattle.lin_core.specs.KeptHeard.{KeepsHeard}
 use Rattle.lin_core.proofs.Receiving.{timeout-heard}
 use Rattle.lin_core.specs.Core.{answered}
-use Rattle.lin_core.specs.Hosts.{settled}
-use Rattle.lin_core.specs.Links.{host_of}
-use Rattle.lin_core.specs.Replies.{all_reports, link_at, quiet_entry}
+use Rattle.lin_core.specs.Replies.{all_reports, quiet_entry}
 use Rattle.lin_core.specs.Whole.{core_data}
 use Rattle.lin_core.specs.declared.event.Event.{Event}
-use Rattle.lin_core.specs.declared.event.Event.TheVariants.{Lost}
-use Rattle.lin_core.specs.declared.link.Cause.TheVariants.{TimedOut}
 use Rattle.lin_core.specs.declared.log.LogEntry.{LogEntry}
 use Rattle.lin_core.specs.declared.step.Step.TheVariants.{Timeout}
 use Rattle.lin_core.proofs.Keeping.{done_entry}

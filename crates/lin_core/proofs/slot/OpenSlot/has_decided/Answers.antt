@@ -1,4 +1,3 @@
-use Rattle.std.proofs.Common.{◌≡◌, ◌∙◌}
 use Rattle.lin_core.proofs.OpenSlots.{decided-left, decided-put}
 use Rattle.lin_core.proofs.slot.OpenSlot.has_decided.Goals as goal
 
