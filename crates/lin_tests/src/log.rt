@@ -4,11 +4,12 @@ mod fakes;
 
 ghost use Rattle.std.specs.Prelude.{◌≤◌};
 
-use crate::{ReplayFault, ScriptFault, read_script, replay, steps_of};
+use crate::samples::DOOR_CLUSTER;
 use fakes::{Broken, Counted, Refusing, Slow};
 use lin_cluster::{Cluster, check};
 use lin_core::{Core, PortId, Step};
 use lin_ldf::parse;
+use lin_log::{ReplayFault, ScriptFault, read_script, replay, steps_of};
 use std::alloc::Global;
 use std::io::{ErrorKind, Read, Write};
 use std::test::Fail;
@@ -29,16 +30,6 @@ const REFUSED: &str =
 
 const QUEUE_OF_ONE: &str =
     "h0 send 0 1 01\n> accepted 0 1\nh0 send 0 1 01\n> refused 9\nbus open\n> slot 0 0 3C\n> due 0\nbus answer 0\n> put 0 010101FFFFFFFFFFFC\nbus finish\n> seen good 010101FFFFFFFFFFFC\n> message 0 1 01\n> sent 0 1\nh0 send 0 1 01\n> accepted 0 2\n";
-
-/// The text of the cluster of the rows: a commander, and a door with the diagnostic address 1.
-const DOOR_CLUSTER: &[u8] = b"LIN_description_file;
-LIN_protocol_version = \"2.2\";
-LIN_language_version = \"2.2\";
-LIN_speed = 19.2 kbps;
-Nodes { Master: cem, 5 ms, 0.1 ms; Slaves: door; }
-Node_attributes { door { LIN_protocol = \"2.2\"; configured_NAD = 0x01; } }
-Schedule_tables { diag { MasterReq delay 10 ms; SlaveResp delay 10 ms; } }
-";
 
 /// The cluster of the rows, where there is memory.
 fn door_cluster(alloc: Global) -> Option<Cluster> {
