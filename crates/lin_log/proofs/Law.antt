@@ -8,15 +8,17 @@ use Rattle.std.proofs.lemmas.Fmt.{decimal_by_steps, length-decimal-le}
 use Rattle.std.proofs.lemmas.Grind.{common_steps}
 use Rattle.hex.specs.Hex.{encode_upper, encode_with, upper_digits, decode_of, IsBytes}
 use Rattle.hex.proofs.HexLemmas.{decode_of-encode_upper}
-use Rattle.lin_log.specs.Words.{hex_word, port_word, step_words, value_word}
+use Rattle.lin_log.specs.Words.{hex_word, port_word, direction_word, step_words, value_word}
 use Rattle.lin_core.specs.Fits.{FitsPort, FitsStep, FitsValue}
-use Rattle.lin_log.specs.Script.{number, number_after, hex_bytes, port, form, send_form, write_form, switch_form, node_form, port_step, value}
+use Rattle.lin_log.specs.Script.{number, number_after, hex_bytes, port, form, send_form, write_form, hurt_form, timeout_form, switch_form, node_form, port_step, value}
 use Rattle.lin_frame.specs.declared.value.Value.{Value}
 use Rattle.lin_frame.specs.declared.value.Value.TheVariants.{Scalar, Bytes}
 use Rattle.lin_core.specs.declared.port.PortId.{PortId}
 use Rattle.lin_core.specs.declared.port.PortId.TheVariants.{Bus, Host, Node}
 use Rattle.lin_core.specs.declared.step.Step.{Step}
-use Rattle.lin_core.specs.declared.step.Step.TheVariants.{Send, Write, Open, Answer, Finish, Switch}
+use Rattle.lin_core.specs.declared.step.Step.TheVariants.{Send, Write, Open, Answer, Leave, Hurt, Finish, Timeout, Switch, AskSleep, Wake, Close}
+use Rattle.lin_core.specs.declared.link.Direction.{Direction}
+use Rattle.lin_core.specs.declared.link.Direction.TheVariants.{Down, Up}
 use Rattle.lin_log.proofs.FieldLemmas.{IsWord, all_plain, plain, plain-append}
 
 guarded : (b : Bool) (x y : Option ℕ) (k l : ℕ) → (x ≡ Some k → y ≡ Some l) → (if b then x else None) ≡ Some k → (if b then y else None) ≡ Some l
@@ -151,6 +153,32 @@ pub form-switch : (table : ℕ) → FitsStep (Switch table) → form (codes "swi
 unfolding form switch_form
 form-switch table h = rw (number-decimal 65535 table (omega arith) (omega arith)) refl
 
+pub form-leave : (node : ℕ) → FitsStep (Leave node) → form (codes "leave") (decimal node ∷ []) ≡ Some (Leave node)
+unfolding form node_form
+form-leave node h = rw (number-decimal 255 node (omega arith) (omega arith)) refl
+
+pub form-close : (host : ℕ) → FitsStep (Close host) → form (codes "close") (decimal host ∷ []) ≡ Some (Close host)
+unfolding form node_form
+form-close host h = rw (number-decimal 255 host (omega arith) (omega arith)) refl
+
+pub form-hurt : (bytes : List ℕ) → FitsStep (Hurt bytes) → form (codes "hurt") (hex_word bytes ∷ []) ≡ Some (Hurt bytes)
+unfolding form hurt_form
+form-hurt bytes h = rw (hex-again bytes h) refl
+
+pub form-timeout : (node : ℕ) (dir : Direction) → FitsStep (Timeout node dir)
+    → form (codes "timeout") (decimal node ∷ direction_word dir ∷ []) ≡ Some (Timeout node dir)
+unfolding form timeout_form
+form-timeout node Down h = rw (number-decimal 255 node (omega arith) (omega arith)) refl
+form-timeout node Up h = rw (number-decimal 255 node (omega arith) (omega arith)) refl
+
+pub form-sleep : form (codes "sleep") [] ≡ Some AskSleep
+unfolding form
+form-sleep = refl
+
+pub form-wake : form (codes "wake") [] ≡ Some Wake
+unfolding form
+form-wake = refl
+
 pub form-open : form (codes "open") [] ≡ Some Open
 unfolding form
 form-open = refl
@@ -166,5 +194,11 @@ step-again p (Send from to message) hp h = rw (port-again p hp, form-send from t
 step-again p (Write by signal v) hp h = rw (port-again p hp, form-write by signal v h) refl
 step-again p Open hp h = rw (port-again p hp, form-open) refl
 step-again p (Answer node) hp h = rw (port-again p hp, form-answer node h) refl
+step-again p (Leave node) hp h = rw (port-again p hp, form-leave node h) refl
+step-again p (Hurt bytes) hp h = rw (port-again p hp, form-hurt bytes h) refl
 step-again p Finish hp h = rw (port-again p hp, form-finish) refl
+step-again p (Timeout node dir) hp h = rw (port-again p hp, form-timeout node dir h) refl
 step-again p (Switch table) hp h = rw (port-again p hp, form-switch table h) refl
+step-again p AskSleep hp h = rw (port-again p hp, form-sleep) refl
+step-again p Wake hp h = rw (port-again p hp, form-wake) refl
+step-again p (Close host) hp h = rw (port-again p hp, form-close host h) refl

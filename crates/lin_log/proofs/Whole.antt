@@ -7,7 +7,7 @@ use Rattle.std.proofs.lemmas.List.Elements.{All-nil, All-cons}
 use Rattle.std.proofs.lemmas.List.Splits.{slice_split_at}
 use Rattle.std.proofs.lemmas.Bool.{and_parts}
 use Rattle.std.proofs.lemmas.Grind.{common_steps}
-use Rattle.lin_log.specs.Words.{spaced, port_word, step_words, value_word, step_line, reply_line, event_words, seen_words, header_word, refusal_number, reply_text, entry_text, text}
+use Rattle.lin_log.specs.Words.{spaced, port_word, direction_word, step_words, value_word, step_line, reply_line, event_words, seen_words, cause_word, header_word, refusal_number, reply_text, entry_text, text}
 use Rattle.std.proofs.lemmas.List.Elements.{All-head, All-tail}
 use Rattle.lin_core.specs.Runs.{steps_of}
 use Rattle.lin_core.specs.Fits.{FitsPort, FitsStep, FitsValue}
@@ -18,7 +18,11 @@ use Rattle.lin_frame.specs.declared.value.Value.TheVariants.{Scalar, Bytes}
 use Rattle.lin_core.specs.declared.port.PortId.{PortId}
 use Rattle.lin_core.specs.declared.port.PortId.TheVariants.{Bus, Host, Node}
 use Rattle.lin_core.specs.declared.step.Step.{Step}
-use Rattle.lin_core.specs.declared.step.Step.TheVariants.{Send, Write, Open, Answer, Finish, Switch}
+use Rattle.lin_core.specs.declared.step.Step.TheVariants.{Send, Write, Open, Answer, Leave, Hurt, Finish, Timeout, Switch, AskSleep, Wake, Close}
+use Rattle.lin_core.specs.declared.link.Direction.{Direction}
+use Rattle.lin_core.specs.declared.link.Direction.TheVariants.{Down, Up}
+use Rattle.lin_core.specs.declared.link.Cause.{Cause}
+use Rattle.lin_core.specs.declared.link.Cause.TheVariants as cause
 use Rattle.std.specs.Result.{result_ok}
 use Rattle.lin_core.specs.declared.event.Event.{Event}
 use Rattle.lin_core.specs.declared.event.Event.TheVariants as event
@@ -129,6 +133,10 @@ word-value : (v : Value) → FitsValue v → IsWord (value_word v)
 word-value (Scalar n) h = word-decimal n (omega arith)
 word-value (Bytes bs) h = record { some = omega arith; whole = (word-hex bs).whole }
 
+word-direction : (d : Direction) → IsWord (direction_word d)
+word-direction Down = record { some = omega arith; whole = refl }
+word-direction Up = record { some = omega arith; whole = refl }
+
 abbrev literal : (w : List ℕ) → 0 < length w → all_plain w ≡ true → IsWord w
 literal w a b = record { some = a; whole = b }
 
@@ -138,8 +146,14 @@ words-step (Write by signal v) h =
     more (literal _ (omega arith) refl) (more (word-any by (omega arith)) (more (word-any signal (omega arith)) (more (word-value v h.2) none)))
 words-step Open h = more (literal _ (omega arith) refl) none
 words-step (Answer n) h = more (literal _ (omega arith) refl) (more (word-any n (omega arith)) none)
+words-step (Leave n) h = more (literal _ (omega arith) refl) (more (word-any n (omega arith)) none)
+words-step (Hurt bytes) h = more (literal _ (omega arith) refl) (more (word-hex bytes) none)
 words-step Finish h = more (literal _ (omega arith) refl) none
+words-step (Timeout n d) h = more (literal _ (omega arith) refl) (more (word-any n (omega arith)) (more (word-direction d) none))
 words-step (Switch table) h = more (literal _ (omega arith) refl) (more (word-any table (omega arith)) none)
+words-step AskSleep h = more (literal _ (omega arith) refl) none
+words-step Wake h = more (literal _ (omega arith) refl) none
+words-step (Close n) h = more (literal _ (omega arith) refl) (more (word-any n (omega arith)) none)
 
 pub says-step : (p : PortId) (s : Step) (rest : List ℕ) (xs : List (PortId × Step)) → FitsPort p → FitsStep s → Says rest xs
     → Says (step_line p s ++ rest) ((p, s) ∷ xs)
@@ -163,6 +177,11 @@ plain-header : (h : Option ℕ) → all_plain (header_word h) ≡ true
 plain-header None = refl
 plain-header (Some h) = plain-hex (h ∷ [])
 
+plain-cause : (c : Cause) → all_plain (cause_word c) ≡ true
+plain-cause cause.Damaged = refl
+plain-cause cause.TimedOut = refl
+plain-cause cause.Slept = refl
+
 plain-event : (e : Event) → plains (event_words e) ≡ true
 plain-event (event.Accepted host number) = rw (plain-decimal host, plain-decimal number) refl
 plain-event (event.Slot table entry header) = rw (plain-decimal table, plain-decimal entry, plain-header header) refl
@@ -171,6 +190,8 @@ plain-event (event.Put node answer) = rw (plain-decimal node, (word-hex answer).
 plain-event (event.Seen s) = plain-seen s
 plain-event (event.Message from to bytes) = rw (plain-decimal from, plain-decimal to, (word-hex bytes).whole) refl
 plain-event (event.Sent host number) = rw (plain-decimal host, plain-decimal number) refl
+plain-event (event.Lost host number why) = rw (plain-decimal host, plain-decimal number, plain-cause why) refl
+plain-event event.Asleep = refl
 
 says-events : (es : List Event) (rest : List ℕ) (xs : List (PortId × Step)) → Says rest xs → Says (flat_map (λ e. reply_line (event_words e)) es ++ rest) xs
 says-events [] rest xs k = k

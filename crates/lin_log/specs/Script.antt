@@ -10,7 +10,9 @@ use Rattle.lin_frame.specs.declared.value.Value.TheVariants.{Scalar, Bytes}
 use Rattle.lin_core.specs.declared.port.PortId.{PortId}
 use Rattle.lin_core.specs.declared.port.PortId.TheVariants.{Bus, Host, Node}
 use Rattle.lin_core.specs.declared.step.Step.{Step}
-use Rattle.lin_core.specs.declared.step.Step.TheVariants.{Send, Write, Open, Answer, Finish, Switch}
+use Rattle.lin_core.specs.declared.step.Step.TheVariants.{Send, Write, Open, Answer, Leave, Hurt, Finish, Timeout, Switch, AskSleep, Wake, Close}
+use Rattle.lin_core.specs.declared.link.Direction.{Direction}
+use Rattle.lin_core.specs.declared.link.Direction.TheVariants.{Down, Up}
 
 infixl 10 ◌>>=◌
 abbrev pub ◌>>=◌ : {A B : Type 0} → Option A → (A → Option B) → Option B
@@ -59,6 +61,13 @@ port word =
     else if slice_index word 0 == 110 then option_map Node (number 255 (drop 1 word))
     else None
 
+-- `down` or `up`
+abbrev pub direction : List ℕ → Option Direction
+direction word =
+    if bytes_eq word (codes "down") then Some Down
+    else if bytes_eq word (codes "up") then Some Up
+    else None
+
 -- fields in turn: what the first one says, and the others
 abbrev pub field_by : {A : Type 0} → (List ℕ → Option A) → List (List ℕ) → Option (A × List (List ℕ))
 field_by reads [] = None
@@ -84,6 +93,17 @@ write_form fs = do
   v ← field_by value signal.1
   no_more (Write by.0 signal.0 v.0) v.1
 
+unfoldable pub hurt_form : List (List ℕ) → Option Step
+hurt_form fs = do
+  bytes ← field_by hex_bytes fs
+  no_more (Hurt bytes.0) bytes.1
+
+unfoldable pub timeout_form : List (List ℕ) → Option Step
+timeout_form fs = do
+  node ← field_by (number 255) fs
+  dir ← field_by direction node.1
+  no_more (Timeout node.0 dir.0) dir.1
+
 unfoldable pub switch_form : List (List ℕ) → Option Step
 switch_form fs = do
   table ← field_by (number 65535) fs
@@ -101,8 +121,14 @@ form word fs =
     else if bytes_eq word (codes "write") then write_form fs
     else if bytes_eq word (codes "open") then no_more Open fs
     else if bytes_eq word (codes "answer") then node_form Answer fs
+    else if bytes_eq word (codes "leave") then node_form Leave fs
+    else if bytes_eq word (codes "hurt") then hurt_form fs
     else if bytes_eq word (codes "finish") then no_more Finish fs
+    else if bytes_eq word (codes "timeout") then timeout_form fs
     else if bytes_eq word (codes "switch") then switch_form fs
+    else if bytes_eq word (codes "sleep") then no_more AskSleep fs
+    else if bytes_eq word (codes "wake") then no_more Wake fs
+    else if bytes_eq word (codes "close") then node_form Close fs
     else None
 
 -- a port, then a step

@@ -7,7 +7,11 @@ use Rattle.lin_frame.specs.declared.value.Value.TheVariants.{Scalar, Bytes}
 use Rattle.lin_core.specs.declared.port.PortId.{PortId}
 use Rattle.lin_core.specs.declared.port.PortId.TheVariants.{Bus, Host, Node}
 use Rattle.lin_core.specs.declared.step.Step.{Step}
-use Rattle.lin_core.specs.declared.step.Step.TheVariants.{Send, Write, Open, Answer, Finish, Switch}
+use Rattle.lin_core.specs.declared.step.Step.TheVariants.{Send, Write, Open, Answer, Leave, Hurt, Finish, Timeout, Switch, AskSleep, Wake, Close}
+use Rattle.lin_core.specs.declared.link.Direction.{Direction}
+use Rattle.lin_core.specs.declared.link.Direction.TheVariants.{Down, Up}
+use Rattle.lin_core.specs.declared.link.Cause.{Cause}
+use Rattle.lin_core.specs.declared.link.Cause.TheVariants as cause
 use Rattle.lin_core.specs.declared.event.Event.{Event}
 use Rattle.lin_core.specs.declared.event.Event.TheVariants as event
 use Rattle.lin_core.specs.declared.event.Seen.{Seen}
@@ -42,14 +46,25 @@ abbrev pub value_word : Value → List ℕ
 value_word (Scalar n) = decimal n
 value_word (Bytes bytes) = 120 ∷ hex_word bytes
 
+-- the direction of a transfer
+abbrev pub direction_word : Direction → List ℕ
+direction_word Down = codes "down"
+direction_word Up = codes "up"
+
 -- what a step is called, and its parts
 abbrev pub step_words : Step → List (List ℕ)
 step_words (Send from to message) = codes "send" ∷ decimal from ∷ decimal to ∷ hex_word message ∷ []
 step_words (Write by signal value) = codes "write" ∷ decimal by ∷ decimal signal ∷ value_word value ∷ []
 step_words Open = codes "open" ∷ []
 step_words (Answer node) = codes "answer" ∷ decimal node ∷ []
+step_words (Leave node) = codes "leave" ∷ decimal node ∷ []
+step_words (Hurt bytes) = codes "hurt" ∷ hex_word bytes ∷ []
 step_words Finish = codes "finish" ∷ []
+step_words (Timeout node dir) = codes "timeout" ∷ decimal node ∷ direction_word dir ∷ []
 step_words (Switch table) = codes "switch" ∷ decimal table ∷ []
+step_words AskSleep = codes "sleep" ∷ []
+step_words Wake = codes "wake" ∷ []
+step_words (Close host) = codes "close" ∷ decimal host ∷ []
 
 -- a header's protected identifier, and `-` for none
 abbrev pub header_word : Option ℕ → List ℕ
@@ -64,6 +79,12 @@ seen_words (seen.Good answer) = codes "good" ∷ hex_word answer ∷ []
 seen_words seen.Damaged = codes "damaged" ∷ []
 seen_words seen.Collided = codes "collided" ∷ []
 
+-- why a message is lost
+abbrev pub cause_word : Cause → List ℕ
+cause_word cause.Damaged = codes "damaged"
+cause_word cause.TimedOut = codes "timedout"
+cause_word cause.Slept = codes "slept"
+
 -- what an event is called, and its parts
 abbrev pub event_words : Event → List (List ℕ)
 event_words (event.Accepted host number) = codes "accepted" ∷ decimal host ∷ decimal number ∷ []
@@ -73,6 +94,8 @@ event_words (event.Put node answer) = codes "put" ∷ decimal node ∷ hex_word 
 event_words (event.Seen s) = codes "seen" ∷ seen_words s
 event_words (event.Message from to bytes) = codes "message" ∷ decimal from ∷ decimal to ∷ hex_word bytes ∷ []
 event_words (event.Sent host number) = codes "sent" ∷ decimal host ∷ decimal number ∷ []
+event_words (event.Lost host number why) = codes "lost" ∷ decimal host ∷ decimal number ∷ cause_word why ∷ []
+event_words event.Asleep = codes "asleep" ∷ []
 
 -- a refusal's number
 abbrev pub refusal_number : Refusal → ℕ
@@ -83,11 +106,17 @@ refusal_number refusal.NotPublisher = 4
 refusal_number refusal.BadValue = 5
 refusal_number refusal.NoAddress = 6
 refusal_number refusal.BadLength = 7
+refusal_number refusal.Closed = 8
 refusal_number refusal.QueueFull = 9
+refusal_number refusal.Asleep = 10
+refusal_number refusal.Awake = 11
 refusal_number refusal.SlotOpen = 12
 refusal_number refusal.NoSlot = 13
 refusal_number refusal.NotYours = 14
 refusal_number refusal.Decided = 15
+refusal_number refusal.NothingOnWire = 16
+refusal_number refusal.PassesCheck = 17
+refusal_number refusal.NoTransfer = 18
 
 -- the line of a step begins with its port, a line of a reply with `>`
 abbrev pub step_line : PortId → Step → List ℕ

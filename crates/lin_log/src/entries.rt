@@ -1,14 +1,15 @@
 //! Logs as text.
 
-ghost use Rattle.std.specs.Prelude.{◌≡◌, ◌∷◌, codes, flat_map, map};
+ghost use Rattle.std.specs.Prelude.{◌≡◌, ◌∷◌, [], codes, flat_map, map};
+ghost use Rattle.std.specs.Fmt.{decimal};
 ghost use Rattle.lin_log.specs.Shown.{shown};
 ghost use Rattle.lin_log.specs.Sink.{Puts, WritesText};
-ghost use Rattle.lin_log.specs.Words.{entry_text, event_words, header_word, port_word, refusal_number, reply_line, reply_text, seen_words, step_line, text, value_word};
+ghost use Rattle.lin_log.specs.Words.{cause_word, direction_word, entry_text, event_words, header_word, line, port_word, refusal_number, reply_line, reply_text, seen_words, step_line, text, value_word};
 
 use crate::fault::WriteFailed;
 use crate::sink::{Buffer, flush};
 use crate::words::{Word, put_line, put_reply_line};
-use lin_core::{Event, Log, LogEntry, PortId, Refusal, Reply, Seen, Step};
+use lin_core::{Cause, Direction, Event, Log, LogEntry, PortId, Refusal, Reply, Seen, Step};
 use lin_frame::Value;
 use std::io::Write;
 
@@ -29,6 +30,33 @@ fn word_of_value(value: &Value) -> Word<'_>
         Value::Scalar(number) => Word::Number(u32::from(*number)),
         Value::Bytes(bytes) => Word::Array(bytes.as_slice()),
     }
+}
+
+fn word_of_direction(direction: Direction) -> Word<'static>
+    ensures { shown result ≡ direction_word direction }
+{
+    match direction {
+        Direction::Down => Word::Text("down"),
+        Direction::Up => Word::Text("up"),
+    }
+}
+
+/// A step with a number and nothing else.
+fn put_numbered<W: Write>(
+    writer: &mut W,
+    buffer: &mut Buffer,
+    by: Word<'_>,
+    name: &str,
+    number: u16,
+) -> Result<(), WriteFailed>
+    ensures { Puts (W.contents writer.old) buffer.old.items (W.contents writer.new) buffer.new.items result (line (shown by.entry ∷ name.now ∷ decimal number ∷ [])) }
+{
+    put_line(
+        writer,
+        buffer,
+        by,
+        &[Word::Text(name), Word::Number(u32::from(number))],
+    )
 }
 
 fn put_step<W: Write>(
@@ -68,19 +96,29 @@ fn put_step<W: Write>(
             ],
         ),
         Step::Open => put_line(writer, buffer, by, &[Word::Text("open")]),
-        Step::Answer { node } => put_line(
+        Step::Answer { node } => put_numbered(writer, buffer, by, "answer", u16::from(*node)),
+        Step::Leave { node } => put_numbered(writer, buffer, by, "leave", u16::from(*node)),
+        Step::Hurt { bytes } => put_line(
             writer,
             buffer,
             by,
-            &[Word::Text("answer"), Word::Number(u32::from(*node))],
+            &[Word::Text("hurt"), Word::Hex(bytes.as_slice())],
         ),
         Step::Finish => put_line(writer, buffer, by, &[Word::Text("finish")]),
-        Step::Switch { table } => put_line(
+        Step::Timeout { node, dir } => put_line(
             writer,
             buffer,
             by,
-            &[Word::Text("switch"), Word::Number(u32::from(*table))],
+            &[
+                Word::Text("timeout"),
+                Word::Number(u32::from(*node)),
+                word_of_direction(*dir),
+            ],
         ),
+        Step::Switch { table } => put_numbered(writer, buffer, by, "switch", *table),
+        Step::AskSleep => put_line(writer, buffer, by, &[Word::Text("sleep")]),
+        Step::Wake => put_line(writer, buffer, by, &[Word::Text("wake")]),
+        Step::Close { host } => put_numbered(writer, buffer, by, "close", u16::from(*host)),
     }
 }
 
@@ -121,6 +159,37 @@ fn put_seen<W: Write>(writer: &mut W, buffer: &mut Buffer, seen: &Seen) -> Resul
     }
 }
 
+fn word_of_cause(cause: Cause) -> Word<'static>
+    ensures { shown result ≡ cause_word cause }
+{
+    match cause {
+        Cause::Damaged => Word::Text("damaged"),
+        Cause::TimedOut => Word::Text("timedout"),
+        Cause::Slept => Word::Text("slept"),
+    }
+}
+
+/// What became of a host's message, with its number.
+fn put_fate<W: Write>(
+    writer: &mut W,
+    buffer: &mut Buffer,
+    name: &str,
+    host: u8,
+    number: u32,
+) -> Result<(), WriteFailed>
+    ensures { Puts (W.contents writer.old) buffer.old.items (W.contents writer.new) buffer.new.items result (reply_line (name.now ∷ decimal host ∷ decimal number ∷ [])) }
+{
+    put_reply_line(
+        writer,
+        buffer,
+        &[
+            Word::Text(name),
+            Word::Number(u32::from(host)),
+            Word::Number(number),
+        ],
+    )
+}
+
 fn put_event<W: Write>(
     writer: &mut W,
     buffer: &mut Buffer,
@@ -129,15 +198,7 @@ fn put_event<W: Write>(
     ensures { Puts (W.contents writer.old) buffer.old.items (W.contents writer.new) buffer.new.items result (reply_line (event_words event.now)) }
 {
     match event {
-        Event::Accepted { host, number } => put_reply_line(
-            writer,
-            buffer,
-            &[
-                Word::Text("accepted"),
-                Word::Number(u32::from(*host)),
-                Word::Number(*number),
-            ],
-        ),
+        Event::Accepted { host, number } => put_fate(writer, buffer, "accepted", *host, *number),
         Event::Slot {
             table,
             entry,
@@ -177,15 +238,22 @@ fn put_event<W: Write>(
                 Word::Hex(bytes.as_slice()),
             ],
         ),
-        Event::Sent { host, number } => put_reply_line(
+        Event::Sent { host, number } => put_fate(writer, buffer, "sent", *host, *number),
+        Event::Lost {
+            host,
+            number,
+            cause,
+        } => put_reply_line(
             writer,
             buffer,
             &[
-                Word::Text("sent"),
+                Word::Text("lost"),
                 Word::Number(u32::from(*host)),
                 Word::Number(*number),
+                word_of_cause(*cause),
             ],
         ),
+        Event::Asleep => put_reply_line(writer, buffer, &[Word::Text("asleep")]),
     }
 }
 
@@ -213,11 +281,17 @@ fn refusal_number(refusal: Refusal) -> u32
         Refusal::BadValue => 5,
         Refusal::NoAddress => 6,
         Refusal::BadLength => 7,
+        Refusal::Closed => 8,
         Refusal::QueueFull => 9,
+        Refusal::Asleep => 10,
+        Refusal::Awake => 11,
         Refusal::SlotOpen => 12,
         Refusal::NoSlot => 13,
         Refusal::NotYours => 14,
         Refusal::Decided => 15,
+        Refusal::NothingOnWire => 16,
+        Refusal::PassesCheck => 17,
+        Refusal::NoTransfer => 18,
     }
 }
 

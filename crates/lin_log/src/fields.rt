@@ -3,11 +3,11 @@
 ghost use Rattle.std.specs.Prelude.{◌≡◌, ◌<◌, ◌≤◌, ◌∷◌, ◌==◌, [], false, length, slice_index, take, MatchOption};
 ghost use Rattle.std.specs.List.{All};
 ghost use Rattle.lin_log.specs.Read.{Gives};
-ghost use Rattle.lin_log.specs.Script.{array_bytes, field_by, fields, hex_bytes, number, port, value};
+ghost use Rattle.lin_log.specs.Script.{array_bytes, direction, field_by, fields, hex_bytes, number, port, value};
 
 use arrayvec::ArrayVec;
 use hex::FromHexError;
-use lin_core::{Payload, PortId};
+use lin_core::{Direction, Payload, PortId};
 use lin_frame::{Value, ValueBytes};
 use std::alloc::Global;
 
@@ -170,6 +170,28 @@ pub(crate) fn value_field(alloc: Global, line: &[u8]) -> Result<(Value, &[u8]), 
     match first_field(line) {
         None => Err(LineFault::Bad),
         Some((word, rest)) => Ok((value(alloc, word)?, rest)),
+    }
+}
+
+fn direction(word: &[u8]) -> Result<Direction, LineFault>
+    ensures { Gives (λ x. x) result (direction word.now) }
+{
+    if word == b"down".as_slice() {
+        Ok(Direction::Down)
+    } else if word == b"up".as_slice() {
+        Ok(Direction::Up)
+    } else {
+        Err(LineFault::Bad)
+    }
+}
+
+/// A field that is the direction of a transfer.
+pub(crate) fn direction_field(line: &[u8]) -> Result<(Direction, &[u8]), LineFault>
+    ensures { Gives (λ x. (x.0, fields x.1.now)) result (field_by direction (fields line.now)) }
+{
+    match first_field(line) {
+        None => Err(LineFault::Bad),
+        Some((word, rest)) => Ok((direction(word)?, rest)),
     }
 }
 

@@ -2,12 +2,13 @@
 
 ghost use Rattle.std.specs.Prelude.{◌≡◌};
 ghost use Rattle.std.specs.Option.{option_to_list};
-ghost use Rattle.lin_core.specs.declared.step.Step.TheVariants.{Answer};
+ghost use Rattle.lin_core.specs.declared.step.Step.TheVariants.{Answer, Close, Leave};
 ghost use Rattle.lin_log.specs.Read.{Gives};
-ghost use Rattle.lin_log.specs.Script.{fields, form, is_remark, line_steps, no_more, node_form, port_step, send_form, switch_form, write_form};
+ghost use Rattle.lin_log.specs.Script.{fields, form, hurt_form, is_remark, line_steps, no_more, node_form, port_step, send_form, switch_form, timeout_form, write_form};
 
 use crate::fields::{
-    LineFault, first_field, hex_field, index_field, node_field, port_field, value_field,
+    LineFault, direction_field, first_field, hex_field, index_field, node_field, port_field,
+    value_field,
 };
 use lin_core::{PortId, Step};
 use std::alloc::Global;
@@ -42,6 +43,23 @@ fn write(alloc: Global, line: &[u8]) -> Result<Step, LineFault>
     no_more(rest, Step::Write { by, signal, value })
 }
 
+#[tactic(auto, unfolding(crate::specs::Script::hurt_form))]
+fn hurt(alloc: Global, line: &[u8]) -> Result<Step, LineFault>
+    ensures { Gives (λ x. x) result (hurt_form (fields line.now)) }
+{
+    let (bytes, rest) = hex_field(alloc, line)?;
+    no_more(rest, Step::Hurt { bytes })
+}
+
+#[tactic(auto, unfolding(crate::specs::Script::timeout_form))]
+fn timeout(line: &[u8]) -> Result<Step, LineFault>
+    ensures { Gives (λ x. x) result (timeout_form (fields line.now)) }
+{
+    let (node, rest) = node_field(line)?;
+    let (dir, rest) = direction_field(rest)?;
+    no_more(rest, Step::Timeout { node, dir })
+}
+
 #[tactic(auto, unfolding(crate::specs::Script::switch_form))]
 fn switch(line: &[u8]) -> Result<Step, LineFault>
     ensures { Gives (λ x. x) result (switch_form (fields line.now)) }
@@ -58,6 +76,22 @@ fn answer(line: &[u8]) -> Result<Step, LineFault>
     no_more(rest, Step::Answer { node })
 }
 
+#[tactic(auto, unfolding(crate::specs::Script::node_form))]
+fn leave(line: &[u8]) -> Result<Step, LineFault>
+    ensures { Gives (λ x. x) result (node_form Leave (fields line.now)) }
+{
+    let (node, rest) = node_field(line)?;
+    no_more(rest, Step::Leave { node })
+}
+
+#[tactic(auto, unfolding(crate::specs::Script::node_form))]
+fn close(line: &[u8]) -> Result<Step, LineFault>
+    ensures { Gives (λ x. x) result (node_form Close (fields line.now)) }
+{
+    let (host, rest) = node_field(line)?;
+    no_more(rest, Step::Close { host })
+}
+
 /// The step that a word names, with what stands behind it.
 #[tactic(auto, unfolding(crate::specs::Script::form))]
 fn form(alloc: Global, word: &[u8], rest: &[u8]) -> Result<Step, LineFault>
@@ -71,10 +105,22 @@ fn form(alloc: Global, word: &[u8], rest: &[u8]) -> Result<Step, LineFault>
         no_more(rest, Step::Open)
     } else if word == b"answer".as_slice() {
         answer(rest)
+    } else if word == b"leave".as_slice() {
+        leave(rest)
+    } else if word == b"hurt".as_slice() {
+        hurt(alloc, rest)
     } else if word == b"finish".as_slice() {
         no_more(rest, Step::Finish)
+    } else if word == b"timeout".as_slice() {
+        timeout(rest)
     } else if word == b"switch".as_slice() {
         switch(rest)
+    } else if word == b"sleep".as_slice() {
+        no_more(rest, Step::AskSleep)
+    } else if word == b"wake".as_slice() {
+        no_more(rest, Step::Wake)
+    } else if word == b"close".as_slice() {
+        close(rest)
     } else {
         Err(LineFault::Bad)
     }

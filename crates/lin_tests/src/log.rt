@@ -31,6 +31,9 @@ const REFUSED: &str =
 const QUEUE_OF_ONE: &str =
     "h0 send 0 1 01\n> accepted 0 1\nh0 send 0 1 01\n> refused 9\nbus open\n> slot 0 0 3C\n> due 0\nbus answer 0\n> put 0 010101FFFFFFFFFFFC\nbus finish\n> seen good 010101FFFFFFFFFFFC\n> message 0 1 01\n> sent 0 1\nh0 send 0 1 01\n> accepted 0 2\n";
 
+const LOST: &str =
+    "h0 send 0 1 01\n> accepted 0 1\nbus open\n> slot 0 0 3C\n> due 0\nbus answer 0\n> put 0 010101FFFFFFFFFFFC\nbus hurt -\nbus finish\n> seen damaged\n> lost 0 1 damaged\nh0 send 0 1 0102030405060708\n> accepted 0 2\nbus open\n> slot 0 1 7D\nbus finish\n> seen none\nbus open\n> slot 0 0 3C\n> due 0\nbus answer 0\n> put 0 0110080102030405D7\nbus finish\n> seen good 0110080102030405D7\nbus timeout 1 down\n> lost 0 2 timedout\nh1 send 1 0 0102030405060708\n> accepted 1 1\nbus open\n> slot 0 1 7D\n> due 1\nbus answer 1\n> put 1 0110080102030405D7\nbus finish\n> seen good 0110080102030405D7\nbus sleep\nbus open\n> slot 0 0 3C\n> due 0\nbus answer 0\n> put 0 00FFFFFFFFFFFFFF00\nbus finish\n> seen good 00FFFFFFFFFFFFFF00\n> asleep\n> lost 1 1 slept\nbus open\n> refused 10\nbus sleep\n> refused 10\nbus wake\nbus open\n> slot 0 0 -\n";
+
 /// The cluster of the rows, where there is memory.
 fn door_cluster(alloc: Global) -> Option<Cluster> {
     match parse(alloc, DOOR_CLUSTER) {
@@ -96,7 +99,7 @@ fn three_byte_message(rt: HostRuntime) -> Result<(), Fail> {
 #[test]
 fn log_is_a_script(rt: HostRuntime) -> Result<(), Fail> {
     let alloc = rt.alloc();
-    for log in [FIRST_LOG, SIX_BYTES, LEFT_OUT, REFUSED] {
+    for log in [FIRST_LOG, SIX_BYTES, LEFT_OUT, REFUSED, LOST] {
         let text = written(alloc, 16, log.as_bytes())?;
         assert_eq!(rt; text.as_slice(), log.as_bytes());
     }
@@ -141,6 +144,10 @@ fn forms_of_lines(rt: HostRuntime) -> Result<(), Fail> {
             "bus write 0 0 0065535\nh0 write 00 65535 x0aFf\nbus write 9 1 x-\nbus switch 00\nbus switch 65535",
             "bus write 0 0 65535\n> refused 2\nh0 write 0 65535 x0AFF\n> refused 2\nbus write 9 1 x-\n> refused 1\nbus switch 0\nbus switch 65535\n> refused 3\n",
         ),
+        (
+            "bus leave 001\nbus hurt -\nbus hurt 0aFf\nbus timeout 00 down\nbus timeout 1  up\nbus sleep\nbus wake\nbus close 255",
+            "bus leave 1\n> refused 13\nbus hurt -\n> refused 13\nbus hurt 0AFF\n> refused 13\nbus timeout 0 down\n> refused 18\nbus timeout 1 up\n> refused 18\nbus sleep\nbus wake\n> refused 11\nbus close 255\n> refused 1\n",
+        ),
     ] {
         let text = written(alloc, 16, script.as_bytes())?;
         assert_eq!(rt; text.as_slice(), log.as_bytes(), "of {script}");
@@ -162,7 +169,14 @@ fn forms_of_lines(rt: HostRuntime) -> Result<(), Fail> {
         ("bus write 0 0 x010203040506070809", 1),
         ("bus write 0 0", 1),
         ("bus switch 65536", 1),
+        ("bus leave 256", 1),
         ("bus hurt 0", 1),
+        ("bus hurt", 1),
+        ("bus timeout 1", 1),
+        ("bus timeout 1 UP", 1),
+        ("bus sleep 0", 1),
+        ("bus wake 0", 1),
+        ("bus close 256", 1),
         ("bus\topen", 1),
         ("bus open\r\r\n", 1),
         ("\n#\n # x\nbus", 3),
