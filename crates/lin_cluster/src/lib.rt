@@ -8,8 +8,6 @@ mod finding;
 mod findings;
 mod parts;
 mod rules;
-#[cfg(test)]
-mod tests;
 
 pub use checks::check;
 pub use cluster::Cluster;

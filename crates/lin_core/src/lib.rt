@@ -38,6 +38,3 @@ pub use payload::{Events, Payload};
 pub use port::PortId;
 pub use reply::{Refusal, Reply};
 pub use step::Step;
-
-#[cfg(test)]
-mod tests;

@@ -114,6 +114,3 @@ pub fn lex(alloc: Global, source: &[u8]) -> Result<Vec<Token>, LdfFault>
     let (_, text) = source.split_at(skipped);
     tokens_of(alloc, skipped, text)
 }
-
-#[cfg(test)]
-mod tests;

@@ -16,8 +16,6 @@ mod parser;
 mod place;
 mod reader;
 mod repeat;
-#[cfg(test)]
-mod sample_texts;
 mod scanner;
 mod schedule_section;
 mod section;

@@ -88,6 +88,3 @@ pub fn parse(alloc: Global, source: &[u8]) -> Result<Description, LdfFault>
     let tokens = lex(alloc, source)?;
     read_tokens(alloc, source, &tokens)
 }
-
-#[cfg(test)]
-mod tests;

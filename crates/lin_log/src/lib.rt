@@ -16,6 +16,3 @@ pub use entries::write_log;
 pub use fault::{ReplayFault, ScriptFault, WriteFailed};
 pub use listing::steps_of;
 pub use script::read_script;
-
-#[cfg(test)]
-mod tests;

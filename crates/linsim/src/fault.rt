@@ -88,31 +88,3 @@ impl<T: Drop> From<AllocFailed<T>> for Fault {
         Fault::OutOfMemory
     }
 }
-
-#[cfg(test)]
-mod tests {
-    use super::*;
-    use std::test::Fail;
-
-    #[test]
-    fn lines_and_statuses(rt: HostRuntime) -> Result<(), Fail> {
-        for (fault, line, status) in [
-            (
-                Fault::BadLine { line: 16_777_217 },
-                "script 16777217 bad line",
-                1,
-            ),
-            (Fault::LdfTooLong, "ldf too long", 1),
-            (Fault::ScriptTooLong, "script too long", 1),
-            (Fault::NoSuchTable, "no such table", 1),
-            (Fault::OutOfMemory, "out of memory", 3),
-            (Fault::ReadFailed, "read failed", 4),
-            (Fault::WriteFailed, "write failed", 4),
-        ] {
-            let shown = format!(in rt.alloc(); "{fault}")?;
-            assert_eq!(rt; shown.as_str(), line);
-            assert_eq!(rt; fault.status(), status, "of {line}");
-        }
-        Ok(())
-    }
-}

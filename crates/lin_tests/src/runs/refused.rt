@@ -3,12 +3,10 @@
 use super::rows::{
     Answered, BUS, Given, H0, H1, N0, N1, Row, Told, compare_log, door_core, give, waiting,
 };
-use crate::{Core, PortId, Refusal};
+use lin_core::{Core, PortId, Refusal};
 use std::alloc::Global;
 use std::process::Abort;
 use std::test::Fail;
-
-const SEVEN: [u8; 7] = [1, 2, 3, 4, 5, 6, 7];
 
 const LONG: [u8; 4096] = [0x5A; 4096];
 
@@ -79,11 +77,12 @@ fn refused_in_order(rt: HostRuntime) -> Result<(), Fail> {
         (N1, Given::Send(9, 1, &[]), Refusal::NoSuchNode),
         (H1, Given::Send(0, 9, &[]), Refusal::NoSuchNode),
         (BUS, Given::Send(2, 1, &[1]), Refusal::NoSuchNode),
-        (H0, Given::Send(1, 0, &SEVEN), Refusal::NoAddress),
+        (H0, Given::Send(1, 1, &LONG), Refusal::NoAddress),
+        (H0, Given::Send(1, 0, &LONG), Refusal::BadLength),
         (H1, Given::Send(0, 0, &[]), Refusal::NoAddress),
         (BUS, Given::Send(1, 1, &[1]), Refusal::NoAddress),
         (H1, Given::Send(0, 1, &[]), Refusal::BadLength),
-        (N0, Given::Send(0, 1, &SEVEN), Refusal::BadLength),
+        (N0, Given::Send(0, 1, &LONG), Refusal::BadLength),
         (H1, Given::Send(0, 1, &[1]), Refusal::NotYours),
         (N0, Given::Send(0, 1, &[1]), Refusal::NotYours),
         (H0, Given::Open, Refusal::NotYours),
@@ -101,7 +100,7 @@ fn refused_in_order(rt: HostRuntime) -> Result<(), Fail> {
     );
     give(&rt, alloc, &mut core, &[accepted])?;
     let full = [
-        (H1, Given::Send(0, 1, &SEVEN), Refusal::BadLength),
+        (H1, Given::Send(0, 1, &LONG), Refusal::BadLength),
         (H1, Given::Send(0, 1, &[1]), Refusal::QueueFull),
     ];
     refuse(&rt, alloc, &mut core, &full)

@@ -1,7 +1,7 @@
 //! Parts of clusters from rows of plain numbers and texts.
 
-use crate::{Entry, EventFrame, Line, Node, Parts, Signal, SignalFrame, Table};
 use arrayvec::ArrayVec;
+use lin_cluster::{Entry, EventFrame, Line, Node, Parts, Signal, SignalFrame, Table};
 use lin_frame::{Layout, Place, Places, SumKind, Value, ValueBytes};
 use lin_ldf::{Many, Text};
 use std::alloc::{AllocError, Global};

@@ -1,7 +1,7 @@
 //! Every read once.
 
 use super::building::{b, line, tables};
-use crate::{Cluster, Entry, Parts};
+use lin_cluster::{Cluster, Entry, Parts};
 use lin_frame::{SumKind, Value};
 use std::test::Fail;
 

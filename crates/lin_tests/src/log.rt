@@ -4,11 +4,12 @@ mod fakes;
 
 ghost use Rattle.std.specs.Prelude.{◌≤◌};
 
-use crate::{ReplayFault, ScriptFault, read_script, replay, steps_of};
+use crate::samples::DOOR_CLUSTER;
 use fakes::{Broken, Counted, Refusing, Slow};
 use lin_cluster::{Cluster, check};
 use lin_core::{Core, PortId, Step};
 use lin_ldf::parse;
+use lin_log::{ReplayFault, ScriptFault, read_script, replay, steps_of};
 use std::alloc::Global;
 use std::io::{ErrorKind, Read, Write};
 use std::test::Fail;
@@ -32,16 +33,6 @@ const QUEUE_OF_ONE: &str =
 
 const LOST: &str =
     "h0 send 0 1 01\n> accepted 0 1\nbus open\n> slot 0 0 3C\n> due 0\nbus answer 0\n> put 0 010101FFFFFFFFFFFC\nbus hurt -\nbus finish\n> seen damaged\n> lost 0 1 damaged\nh0 send 0 1 0102030405060708\n> accepted 0 2\nbus open\n> slot 0 1 7D\nbus finish\n> seen none\nbus open\n> slot 0 0 3C\n> due 0\nbus answer 0\n> put 0 0110080102030405D7\nbus finish\n> seen good 0110080102030405D7\nbus timeout 1 down\n> lost 0 2 timedout\nh1 send 1 0 0102030405060708\n> accepted 1 1\nbus open\n> slot 0 1 7D\n> due 1\nbus answer 1\n> put 1 0110080102030405D7\nbus finish\n> seen good 0110080102030405D7\nbus sleep\nbus open\n> slot 0 0 3C\n> due 0\nbus answer 0\n> put 0 00FFFFFFFFFFFFFF00\nbus finish\n> seen good 00FFFFFFFFFFFFFF00\n> asleep\n> lost 1 1 slept\nbus open\n> refused 10\nbus sleep\n> refused 10\nbus wake\nbus open\n> slot 0 0 -\n";
-
-/// The text of the cluster of the rows: a commander, and a door with the diagnostic address 1.
-const DOOR_CLUSTER: &[u8] = b"LIN_description_file;
-LIN_protocol_version = \"2.2\";
-LIN_language_version = \"2.2\";
-LIN_speed = 19.2 kbps;
-Nodes { Master: cem, 5 ms, 0.1 ms; Slaves: door; }
-Node_attributes { door { LIN_protocol = \"2.2\"; configured_NAD = 0x01; } }
-Schedule_tables { diag { MasterReq delay 10 ms; SlaveResp delay 10 ms; } }
-";
 
 /// The cluster of the rows, where there is memory.
 fn door_cluster(alloc: Global) -> Option<Cluster> {

@@ -1,8 +1,8 @@
 //! Tokens of whole texts, and each form at its edges.
 
-use super::*;
-use crate::sample_texts::{BODY_CLUSTER, DOOR_CLUSTER, KEYS_CLUSTER, LIGHT_AND_FAN_CLUSTER};
-use crate::token::TokenKind;
+use crate::samples::{BODY_CLUSTER, DOOR_CLUSTER, KEYS_CLUSTER, LIGHT_AND_FAN_CLUSTER};
+use lin_ldf::{Token, TokenKind, lex};
+use std::alloc::Global;
 use std::process::Abort;
 use std::test::Fail;
 

@@ -1,8 +1,11 @@
 //! Steps with what they are answered, as rows of plain numbers.
 
-use crate::{Core, Event, Events, LogEntry, Payload, PortId, Refusal, Reply, Seen, Step};
+use crate::samples::DOOR_CLUSTER;
 use arrayvec::ArrayVec;
 use lin_cluster::{Cluster, check};
+use lin_core::{
+    Cause, Core, Direction, Event, Events, LogEntry, Payload, PortId, Refusal, Reply, Seen, Step,
+};
 use lin_frame::{Value, ValueBytes};
 use lin_ldf::parse;
 use std::alloc::{AllocError, Global};
@@ -32,9 +35,12 @@ pub(super) enum Told<'a> {
     Silent,
     NoAnswer,
     Good(&'a [u8]),
+    Damaged,
     Collided,
     Message(u8, u8, &'a [u8]),
     Sent(u8, u32),
+    Lost(u8, u32, Cause),
+    Asleep,
 }
 
 #[derive(Clone, Copy)]
@@ -44,8 +50,14 @@ pub(super) enum Given<'a> {
     WriteBytes(u8, u16, &'a [u8]),
     Open,
     Answer(u8),
+    Leave(u8),
+    Hurt(&'a [u8]),
     Finish,
+    Timeout(u8, Direction),
     Switch(u16),
+    AskSleep,
+    Wake,
+    Close(u8),
 }
 
 #[derive(Clone, Copy)]
@@ -61,6 +73,7 @@ fn is_seen(seen: &Seen, told: Told) -> bool {
         (Seen::Silent, Told::Silent) => true,
         (Seen::NoAnswer, Told::NoAnswer) => true,
         (Seen::Good(answer), Told::Good(bytes)) => answer.as_slice() == bytes,
+        (Seen::Damaged, Told::Damaged) => true,
         (Seen::Collided, Told::Collided) => true,
         _ => false,
     }
@@ -86,6 +99,15 @@ fn is_told(event: &Event, told: Told) -> bool {
             *from == sender && *to == receiver && bytes.as_slice() == message
         }
         (Event::Sent { host, number }, Told::Sent(of, at)) => *host == of && *number == at,
+        (
+            Event::Lost {
+                host,
+                number,
+                cause,
+            },
+            Told::Lost(of, at, by),
+        ) => *host == of && *number == at && *cause == by,
+        (Event::Asleep, Told::Asleep) => true,
         _ => false,
     }
 }
@@ -140,8 +162,16 @@ fn is_given(step: &Step, given: Given) -> bool {
         (Step::Write { by, signal, value }, given) => is_written(*by, *signal, value, given),
         (Step::Open, Given::Open) => true,
         (Step::Answer { node }, Given::Answer(number)) => *node == number,
+        (Step::Leave { node }, Given::Leave(number)) => *node == number,
+        (Step::Hurt { bytes }, Given::Hurt(items)) => bytes.as_slice() == items,
         (Step::Finish, Given::Finish) => true,
+        (Step::Timeout { node, dir }, Given::Timeout(number, way)) => {
+            *node == number && *dir == way
+        }
         (Step::Switch { table }, Given::Switch(number)) => *table == number,
+        (Step::AskSleep, Given::AskSleep) => true,
+        (Step::Wake, Given::Wake) => true,
+        (Step::Close { host }, Given::Close(number)) => *host == number,
         _ => false,
     }
 }
@@ -165,8 +195,16 @@ fn step_of(alloc: Global, given: Given) -> Result<Step, AllocError> {
         },
         Given::Open => Step::Open,
         Given::Answer(node) => Step::Answer { node },
+        Given::Leave(node) => Step::Leave { node },
+        Given::Hurt(bytes) => Step::Hurt {
+            bytes: Payload::new(Vec::from_slice(alloc, bytes)?),
+        },
         Given::Finish => Step::Finish,
+        Given::Timeout(node, dir) => Step::Timeout { node, dir },
         Given::Switch(table) => Step::Switch { table },
+        Given::AskSleep => Step::AskSleep,
+        Given::Wake => Step::Wake,
+        Given::Close(host) => Step::Close { host },
     })
 }
 
@@ -179,16 +217,6 @@ fn compare(rt: &impl Abort, entry: &LogEntry, row: Row, index: usize) {
         "the reply of row {index}"
     );
 }
-
-// A commander, and a door with the diagnostic address 1.
-const DOOR_CLUSTER: &[u8] = b"LIN_description_file;
-LIN_protocol_version = \"2.2\";
-LIN_language_version = \"2.2\";
-LIN_speed = 19.2 kbps;
-Nodes { Master: cem, 5 ms, 0.1 ms; Slaves: door; }
-Node_attributes { door { LIN_protocol = \"2.2\"; configured_NAD = 0x01; } }
-Schedule_tables { diag { MasterReq delay 10 ms; SlaveResp delay 10 ms; } }
-";
 
 // A core on a cluster with diagnostic frames alone.
 pub(super) fn door_core(rt: &impl Abort, alloc: Global, capacity: usize) -> Result<Core, Fail> {

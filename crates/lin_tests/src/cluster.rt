@@ -4,4 +4,3 @@ mod broken;
 mod building;
 mod checks;
 mod reads;
-mod texts;

@@ -1,7 +1,7 @@
 //! Messages from their sends to their receivers.
 
 use super::rows::{Answered, BUS, Given, H0, N0, Row, Told, compare_log, door_core, give, waiting};
-use crate::Refusal;
+use lin_core::Refusal;
 use std::test::Fail;
 
 const FRAME_OF_1: [u8; 9] = [0x01, 0x01, 0x01, 0xFF, 0xFF, 0xFF, 0xFF, 0xFF, 0xFC];

@@ -1,10 +1,13 @@
 //! Descriptions of whole texts.
 
-use super::*;
-use crate::description::{
-    Attributes, EventFrame, Frame, Init, Name, Number, Signal, Sporadic, Table,
+use super::outcomes::{HEADER, expect_outcomes, joined};
+use crate::samples::{BODY_CLUSTER, DOOR_CLUSTER, KEYS_CLUSTER, LIGHT_AND_FAN_CLUSTER};
+use lin_ldf::{
+    Attributes, Description, EventFrame, Frame, Init, Name, Number, Signal, Sporadic, Table, parse,
 };
-use crate::sample_texts::{BODY_CLUSTER, DOOR_CLUSTER, KEYS_CLUSTER, LIGHT_AND_FAN_CLUSTER};
+use std::alloc::Global;
+use std::process::Abort;
+use std::test::Fail;
 
 const BYTE_ORDER_MARK: &[u8] = b"\xEF\xBB\xBF";
 

@@ -4,7 +4,7 @@ use super::building::{
     FrameRow, Initial, Made, b, b_nodes, b_signals, bare, events, fan, frames, left_key, light,
     line, nodes, numbers, right_key, signals, sporadic, tables,
 };
-use crate::{Entry, Line, Node, Parts, Signal, Table};
+use lin_cluster::{Entry, Line, Node, Parts, Signal, Table};
 use lin_frame::{Place, SumKind, Value};
 use lin_ldf::{Many, Text};
 use std::alloc::{AllocError, Global};

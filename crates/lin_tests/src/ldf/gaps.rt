@@ -1,7 +1,11 @@
 //! Texts that lack a token or their end.
 
-use super::*;
-use crate::sample_texts::DOOR_CLUSTER;
+use super::outcomes::{HEADER, joined, outcome};
+use crate::samples::DOOR_CLUSTER;
+use lin_ldf::{Token, lex};
+use std::alloc::Global;
+use std::process::Abort;
+use std::test::Fail;
 
 /// The text without one of its tokens: spaces stand in its place.
 fn without(alloc: Global, text: &[u8], token: &Token) -> Result<Vec<u8>, Fail> {
@@ -25,13 +29,28 @@ fn distance(letter: u8) -> usize {
     }
 }
 
+/// The line and column behind the last byte of a text.
+fn end_of(text: &[u8]) -> (u64, u64) {
+    let mut line = 1u64;
+    let mut column = 1u64;
+    for c in text {
+        if *c == b'\n' {
+            line = line.saturating_add(1);
+            column = 1;
+        } else {
+            column = column.saturating_add(1);
+        }
+    }
+    (line, column)
+}
+
 /// The outcome that is wanted where a token lacks; `-` where none is needed there.
 fn wanted(
     alloc: Global,
     tokens: &[Token],
     gap: usize,
     letter: u8,
-    end: Place,
+    end: (u64, u64),
 ) -> Result<Vec<u8>, Fail> {
     let mut out = Vec::new(alloc);
     if letter == b'-' {
@@ -40,7 +59,7 @@ fn wanted(
     }
     let (line, column) = match tokens.get(gap.saturating_add(distance(letter))) {
         Some(token) => (token.line, token.column),
-        None => (end.line, end.column),
+        None => end,
     };
     out.extend_from_slice(format!(in alloc; "{line}:{column} fault 4 Unexpected")?.as_bytes())?;
     Ok(out)

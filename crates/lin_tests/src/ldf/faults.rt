@@ -1,7 +1,10 @@
 //! The fault of each text that isn't read, with its place; and texts beside them that are read.
 
-use super::*;
-use crate::sample_texts::DOOR_CLUSTER;
+use super::outcomes::{HEADER, expect_outcomes, joined, outcome};
+use crate::samples::DOOR_CLUSTER;
+use std::alloc::Global;
+use std::process::Abort;
+use std::test::Fail;
 
 /// The first fault of the tokens, and a section that stands twice.
 #[test]

@@ -1,16 +1,12 @@
-//! Texts that are read, and the fault of each that isn't.
+//! What comes of reading a text: it is accepted, or its fault.
 
-use super::*;
+use lin_ldf::parse;
+use std::alloc::Global;
 use std::process::Abort;
 use std::test::Fail;
 
-mod faults;
-mod gaps;
-mod listing;
-mod numbers;
-
 /// A header and nodes: five lines.
-const HEADER: &[u8] = b"LIN_description_file;
+pub(super) const HEADER: &[u8] = b"LIN_description_file;
 LIN_protocol_version = \"2.2\";
 LIN_language_version = \"2.2\";
 LIN_speed = 19.2 kbps;
@@ -18,7 +14,7 @@ Nodes { Master: m, 5 ms, 0.1 ms; Slaves: s, t; }
 ";
 
 /// "accepted", or the fault.
-fn outcome(alloc: Global, source: &[u8]) -> Result<Vec<u8>, Fail> {
+pub(super) fn outcome(alloc: Global, source: &[u8]) -> Result<Vec<u8>, Fail> {
     let mut out = Vec::new(alloc);
     match parse(alloc, source) {
         Ok(_description) => out.extend_from_slice(b"accepted")?,
@@ -27,7 +23,7 @@ fn outcome(alloc: Global, source: &[u8]) -> Result<Vec<u8>, Fail> {
     Ok(out)
 }
 
-fn joined(alloc: Global, parts: &[&[u8]]) -> Result<Vec<u8>, Fail> {
+pub(super) fn joined(alloc: Global, parts: &[&[u8]]) -> Result<Vec<u8>, Fail> {
     let mut out = Vec::new(alloc);
     for part in parts {
         out.extend_from_slice(part)?;
@@ -36,7 +32,12 @@ fn joined(alloc: Global, parts: &[&[u8]]) -> Result<Vec<u8>, Fail> {
 }
 
 /// Each line has a text and, behind an arrow, its outcome. The front stands before each text.
-fn expect_outcomes(rt: &impl Abort, alloc: Global, front: &[u8], cases: &str) -> Result<(), Fail> {
+pub(super) fn expect_outcomes(
+    rt: &impl Abort,
+    alloc: Global,
+    front: &[u8],
+    cases: &str,
+) -> Result<(), Fail> {
     for line in cases.lines() {
         let (text, want) = line.split_once(" => ").ok_or("no arrow")?;
         let source = joined(alloc, &[front, text.as_bytes()])?;

@@ -1,6 +1,7 @@
 //! Each number at its limit and above, and numbers of a form that can't stand there.
 
-use super::*;
+use super::outcomes::{HEADER, expect_outcomes};
+use std::test::Fail;
 
 /// Numbers without fraction; hexadecimal ones too.
 const INTS: &str = "Signals { a: 4294967295, 0xFFFFFFFF, m; } => accepted

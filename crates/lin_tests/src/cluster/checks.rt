@@ -1,7 +1,7 @@
 //! The clusters of whole LDF texts, as `check` makes them.
 
-use super::texts::{BODY_CLUSTER, DOOR_CLUSTER, KEYS_CLUSTER};
-use crate::{Cluster, Entry, check};
+use crate::samples::{BODY_CLUSTER, DOOR_CLUSTER, KEYS_CLUSTER};
+use lin_cluster::{Cluster, Entry, check};
 use lin_frame::Value;
 use lin_ldf::parse;
 use std::alloc::Global;

@@ -2,7 +2,7 @@
 
 use super::clusters::{DIAGNOSTIC, MAIN, RESOLVE, keyed_cluster, plain_cluster};
 use super::rows::{Answered, BUS, Given, H0, H1, H2, N1, N2, Row, Told, core_on, give};
-use crate::{Core, Refusal};
+use lin_core::{Core, Refusal};
 use lin_frame::Value;
 use std::process::Abort;
 use std::test::Fail;

@@ -1,0 +1,13 @@
+//! Tests of the public calls of the other crates, apart from them, so that a crate isn't proved a second time with its tests.
+#![tactic(auto)]
+
+#[cfg(test)]
+mod cluster;
+#[cfg(test)]
+mod ldf;
+#[cfg(test)]
+mod log;
+#[cfg(test)]
+mod runs;
+#[cfg(test)]
+mod samples;

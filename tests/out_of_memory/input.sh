@@ -1,0 +1,1 @@
+head -c 16777216 /dev/zero | tr "\0" " "
