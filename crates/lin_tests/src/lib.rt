@@ -4,6 +4,8 @@
 #[cfg(test)]
 mod cluster;
 #[cfg(test)]
+mod held_steps;
+#[cfg(test)]
 mod ldf;
 #[cfg(test)]
 mod log;

@@ -6,8 +6,6 @@ mod checking;
 mod describing;
 mod fault;
 mod finding;
-#[cfg(test)]
-mod held_steps;
 mod listing;
 mod replaying;
 

@@ -1,6 +1,7 @@
 //! Logs that are made again from their own text, where a step that is held is made a second time. `bench/refused_memory` refuses each request
 //! for memory of these tests in turn: they then end for want of memory, or with the same text.
 
+use crate::samples::{DOOR_CLUSTER, KEYS_CLUSTER};
 use lin_cluster::{CheckFault, check};
 use lin_core::{Core, Hold, PortId, Step};
 use lin_ldf::{LdfFault, parse};
@@ -8,16 +9,7 @@ use lin_log::{read_script, write_log};
 use std::alloc::Global;
 use std::test::Fail;
 
-/// A commander and a door; a message of three bytes goes down.
-const DOOR: &[u8] = b"LIN_description_file;
-LIN_protocol_version = \"2.2\";
-LIN_language_version = \"2.2\";
-LIN_speed = 19.2 kbps;
-Nodes { Master: cem, 5 ms, 0.1 ms; Slaves: door; }
-Node_attributes { door { LIN_protocol = \"2.2\"; configured_NAD = 0x01; } }
-Schedule_tables { diag { MasterReq delay 10 ms; SlaveResp delay 10 ms; } }
-";
-
+/// A message of three bytes, to the door.
 const THREE_BYTES: &str = "h0 send 0 1 22062E
 > accepted 0 1
 bus open
@@ -31,38 +23,7 @@ bus finish
 > sent 0 1
 ";
 
-/// A commander and two responders, of which one pauses its message while the other one sends.
-const LIGHTS: &[u8] = b"LIN_description_file;
-LIN_protocol_version = \"2.2\";
-LIN_language_version = \"2.2\";
-LIN_speed = 19.2 kbps;
-Nodes { Master: cem, 5 ms, 0.1 ms; Slaves: lsm, rsm; }
-Signals {
-  level: 4, 2, cem, lsm, rsm;
-  mode: 10, 0x155, cem, lsm;
-  speed: 8, 5, cem, rsm;
-  lkey: 8, 0, lsm, cem;
-  rkey: 8, 0, rsm, cem;
-}
-Frames {
-  Light: 0x00, cem, 2 { level, 0; mode, 4; }
-  Fan: 0x01, cem, 1 { speed, 0; }
-  LeftKey: 0x02, lsm, 2 { lkey, 8; }
-  RightKey: 0x03, rsm, 2 { rkey, 8; }
-}
-Sporadic_frames { Spor: Light, Fan; }
-Event_triggered_frames { Keys: Resolve, 0x04, LeftKey, RightKey; }
-Node_attributes {
-  lsm { LIN_protocol = \"2.2\"; configured_NAD = 0x01; }
-  rsm { LIN_protocol = \"2.2\"; configured_NAD = 0x02; }
-}
-Schedule_tables {
-  Main { Spor delay 10 ms; Keys delay 10 ms; Light delay 10 ms; }
-  Resolve { LeftKey delay 10 ms; RightKey delay 10 ms; }
-  Diag { MasterReq delay 10 ms; SlaveResp delay 10 ms; }
-}
-";
-
+/// One of two responders pauses its message while the other one sends.
 const TWO_RESPONDERS: &str = "h0 send 0 1 3E
 > accepted 0 1
 h1 send 1 0 1122334455667788
@@ -167,14 +128,14 @@ fn again(alloc: Global, cluster: &[u8], table: u16, log: &str) -> Result<Vec<u8>
 
 #[test]
 fn three_byte_message(rt: HostRuntime) -> Result<(), Fail> {
-    let text = again(rt.alloc(), DOOR, 0, THREE_BYTES)?;
+    let text = again(rt.alloc(), DOOR_CLUSTER, 0, THREE_BYTES)?;
     assert_eq!(rt; text.as_slice(), THREE_BYTES.as_bytes());
     Ok(())
 }
 
 #[test]
 fn two_responders_interleaved(rt: HostRuntime) -> Result<(), Fail> {
-    let text = again(rt.alloc(), LIGHTS, 2, TWO_RESPONDERS)?;
+    let text = again(rt.alloc(), KEYS_CLUSTER, 2, TWO_RESPONDERS)?;
     assert_eq!(rt; text.as_slice(), TWO_RESPONDERS.as_bytes());
     Ok(())
 }
