@@ -1,4 +1,14 @@
-//! LDF texts for tests.
+//! LDF texts for tests, and the clusters that they describe.
+
+use lin_cluster::{Cluster, check};
+use lin_ldf::parse;
+use std::alloc::Global;
+use std::test::Fail;
+
+/// The cluster that a text describes.
+pub fn cluster_of(alloc: Global, text: &[u8]) -> Result<Cluster, Fail> {
+    Ok(check(alloc, parse(alloc, text)?)?)
+}
 
 /// A commander and a door, with diagnostic frames alone.
 pub const DOOR_CLUSTER: &[u8] = b"LIN_description_file;

@@ -1,19 +1,13 @@
 //! The clusters of whole LDF texts, as `check` makes them.
 
-use crate::samples::{BODY_CLUSTER, DOOR_CLUSTER, KEYS_CLUSTER};
-use lin_cluster::{Cluster, Entry, check};
+use crate::samples::{BODY_CLUSTER, DOOR_CLUSTER, KEYS_CLUSTER, cluster_of};
+use lin_cluster::Entry;
 use lin_frame::Value;
-use lin_ldf::parse;
-use std::alloc::Global;
 use std::test::Fail;
-
-fn checked(alloc: Global, text: &[u8]) -> Result<Cluster, Fail> {
-    Ok(check(alloc, parse(alloc, text)?)?)
-}
 
 #[test]
 fn door_cluster(rt: HostRuntime) -> Result<(), Fail> {
-    let cluster = checked(rt.alloc(), DOOR_CLUSTER)?;
+    let cluster = cluster_of(rt.alloc(), DOOR_CLUSTER)?;
     assert_eq!(rt; cluster.nodes(), 2);
     assert_eq!(rt; cluster.node_name(1), b"door".as_slice());
     assert_eq!(rt; cluster.nad(1), Some(1));
@@ -24,7 +18,7 @@ fn door_cluster(rt: HostRuntime) -> Result<(), Fail> {
 
 #[test]
 fn signals_of_the_keys(rt: HostRuntime) -> Result<(), Fail> {
-    let cluster = checked(rt.alloc(), KEYS_CLUSTER)?;
+    let cluster = cluster_of(rt.alloc(), KEYS_CLUSTER)?;
     assert_eq!(rt; cluster.signals(), 5);
     assert_eq!(rt; cluster.signal_name(4), b"rkey".as_slice());
     assert_eq!(rt; cluster.publisher(3), 1);
@@ -35,7 +29,7 @@ fn signals_of_the_keys(rt: HostRuntime) -> Result<(), Fail> {
 
 #[test]
 fn frames_of_the_keys(rt: HostRuntime) -> Result<(), Fail> {
-    let cluster = checked(rt.alloc(), KEYS_CLUSTER)?;
+    let cluster = cluster_of(rt.alloc(), KEYS_CLUSTER)?;
     assert_eq!(rt; cluster.frames(), 4);
     assert_eq!(rt; cluster.frame_pid(3), 0x03);
     assert_eq!(rt; cluster.layout(0).pid, None);
@@ -46,7 +40,7 @@ fn frames_of_the_keys(rt: HostRuntime) -> Result<(), Fail> {
 
 #[test]
 fn events_of_the_keys(rt: HostRuntime) -> Result<(), Fail> {
-    let cluster = checked(rt.alloc(), KEYS_CLUSTER)?;
+    let cluster = cluster_of(rt.alloc(), KEYS_CLUSTER)?;
     assert_eq!(rt; cluster.sporadics(), 1);
     assert_eq!(rt; cluster.sporadic(0), [0, 1].as_slice());
     assert_eq!(rt; cluster.events(), 1);
@@ -57,7 +51,7 @@ fn events_of_the_keys(rt: HostRuntime) -> Result<(), Fail> {
 
 #[test]
 fn tables_of_the_keys(rt: HostRuntime) -> Result<(), Fail> {
-    let cluster = checked(rt.alloc(), KEYS_CLUSTER)?;
+    let cluster = cluster_of(rt.alloc(), KEYS_CLUSTER)?;
     assert_eq!(rt; cluster.tables(), 3);
     assert!(rt; cluster.entry(0, 0) == Entry::Sporadic(0));
     assert_eq!(rt; cluster.entries(1), 2);
@@ -68,7 +62,7 @@ fn tables_of_the_keys(rt: HostRuntime) -> Result<(), Fail> {
 
 #[test]
 fn body_cluster(rt: HostRuntime) -> Result<(), Fail> {
-    let cluster = checked(rt.alloc(), BODY_CLUSTER)?;
+    let cluster = cluster_of(rt.alloc(), BODY_CLUSTER)?;
     assert_eq!(rt; cluster.tables(), 1);
     assert_eq!(rt; cluster.entries(0), 2);
     assert!(rt; cluster.entry(0, 0) == Entry::Quiet);

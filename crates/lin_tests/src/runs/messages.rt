@@ -1,229 +1,126 @@
 //! Messages from their sends to their receivers.
 
-use super::rows::{Answered, BUS, Given, H0, N0, Row, Told, compare_log, door_core, give, waiting};
-use lin_core::Refusal;
+use super::{ANSWER, FINISH, OPEN, SEND, core_behind, joined, state};
+use crate::samples::{DOOR_CLUSTER, cluster_of};
+use lin_core::{Core, PortId, Step};
+use std::alloc::Global;
+use std::process::Abort;
 use std::test::Fail;
 
-const FRAME_OF_1: [u8; 9] = [0x01, 0x01, 0x01, 0xFF, 0xFF, 0xFF, 0xFF, 0xFF, 0xFC];
+const OF_THREE_BYTES: &str =
+    "h0 send 0 1 22062E\n> accepted 0 1\nbus open\n> slot 0 0 3C\n> due 0\nn0 answer 0\n> put 0 010322062EFFFFFFA5\nbus finish\n> seen good 010322062EFFFFFFA5\n> message 0 1 22062E\n> sent 0 1\n";
 
-const MESSAGE_OF_3: [u8; 3] = [0x22, 0x06, 0x2E];
+const OF_SIX_BYTES: &str =
+    "h0 send 0 1 010203040506\n> accepted 0 1\nbus open\n> slot 0 0 3C\n> due 0\nn0 answer 0\n> put 0 0106010203040506E3\n";
 
-const FRAME_OF_3: [u8; 9] = [0x01, 0x03, 0x22, 0x06, 0x2E, 0xFF, 0xFF, 0xFF, 0xA5];
+const SILENT: &str = "bus open\n> slot 0 0 -\nbus finish\n> seen silent\n";
 
-const FRAME_OF_6: [u8; 9] = [0x01, 0x06, 0x01, 0x02, 0x03, 0x04, 0x05, 0x06, 0xE3];
+const NO_ANSWER: &str = "bus finish\n> seen none\n";
 
-// The three steps of a slot that brings host 0's first message, the byte 01, to node 1.
-fn slot_of_1() -> [Row<'static>; 3] {
-    [
-        (
-            BUS,
-            Given::Open,
-            Answered::Done(&[Told::Slot(0, 0, Some(0x3C)), Told::Due(0)]),
-        ),
-        (
-            BUS,
-            Given::Answer(0),
-            Answered::Done(&[Told::Put(0, &FRAME_OF_1)]),
-        ),
-        (
-            BUS,
-            Given::Finish,
-            Answered::Done(&[
-                Told::Good(&FRAME_OF_1),
-                Told::Message(0, 1, &[1]),
-                Told::Sent(0, 1),
-            ]),
-        ),
-    ]
-}
+const OPEN_NEXT: &str = "bus open\n> slot 0 1 7D\n";
 
-#[test]
-fn three_byte_message(rt: HostRuntime) -> Result<(), Fail> {
-    let alloc = rt.alloc();
-    let rows: [Row; 4] = [
-        (
-            H0,
-            Given::Send(0, 1, &MESSAGE_OF_3),
-            Answered::Done(&[Told::Accepted(0, 1)]),
-        ),
-        (
-            BUS,
-            Given::Open,
-            Answered::Done(&[Told::Slot(0, 0, Some(0x3C)), Told::Due(0)]),
-        ),
-        (
-            N0,
-            Given::Answer(0),
-            Answered::Done(&[Told::Put(0, &FRAME_OF_3)]),
-        ),
-        (
-            BUS,
-            Given::Finish,
-            Answered::Done(&[
-                Told::Good(&FRAME_OF_3),
-                Told::Message(0, 1, &MESSAGE_OF_3),
-                Told::Sent(0, 1),
-            ]),
-        ),
-    ];
-    let mut core = door_core(&rt, alloc, 16)?;
-    core.make_room()?;
-    give(&rt, alloc, &mut core, &rows)?;
-    compare_log(&rt, &core, &rows);
-    assert_eq!(rt; core.time(), 10_000);
-    assert_eq!(rt; waiting(&rt, &core, 0), 0);
+const QUEUE_FULL: &str = "h0 send 0 1 01\n> refused 9\n";
+
+const SECOND_SEND: &str = "h0 send 0 1 01\n> accepted 0 2\n";
+
+/// A run on the cluster with a door, and the state behind it.
+fn expect_state(
+    rt: &impl Abort,
+    alloc: Global,
+    capacity: usize,
+    run: &[&str],
+    want: (u64, usize, usize),
+) -> Result<(), Fail> {
+    let run = joined(alloc, run)?;
+    let cluster = cluster_of(alloc, DOOR_CLUSTER)?;
+    let core = core_behind(rt, alloc, cluster, capacity, &run)?;
+    assert_eq!(rt; state(rt, &core), want);
     Ok(())
 }
 
 #[test]
-fn six_byte_message(rt: HostRuntime) -> Result<(), Fail> {
-    let alloc = rt.alloc();
-    let rows: [Row; 3] = [
-        (
-            H0,
-            Given::Send(0, 1, &[1, 2, 3, 4, 5, 6]),
-            Answered::Done(&[Told::Accepted(0, 1)]),
-        ),
-        (
-            BUS,
-            Given::Open,
-            Answered::Done(&[Told::Slot(0, 0, Some(0x3C)), Told::Due(0)]),
-        ),
-        (
-            N0,
-            Given::Answer(0),
-            Answered::Done(&[Told::Put(0, &FRAME_OF_6)]),
-        ),
-    ];
-    let mut core = door_core(&rt, alloc, 16)?;
-    give(&rt, alloc, &mut core, &rows)
+fn messages_of_one_frame(rt: HostRuntime) -> Result<(), Fail> {
+    expect_state(&rt, rt.alloc(), 16, &[OF_THREE_BYTES], (10_000, 0, 0))?;
+    expect_state(&rt, rt.alloc(), 16, &[OF_SIX_BYTES], (0, 1, 0))
+}
+
+#[test]
+fn one_step(rt: HostRuntime) -> Result<(), Fail> {
+    let cluster = cluster_of(rt.alloc(), DOOR_CLUSTER)?;
+    assert!(rt; cluster.tables() > 0);
+    let mut core = Core::new(rt.alloc(), cluster, 0, 16)?;
+    core.make_room()?;
+    assert!(rt; core.step(PortId::Bus, Step::Open).is_ok());
+    assert_eq!(rt; core.log().len(), 1);
+    let newest = core.newest();
+    assert!(rt; newest.port == PortId::Bus);
+    assert!(rt; matches!(newest.step, Step::Open));
+    Ok(())
 }
 
 #[test]
 fn left_out_answer_only_delays(rt: HostRuntime) -> Result<(), Fail> {
-    let alloc = rt.alloc();
-    let rows: [Row; 5] = [
-        (
-            H0,
-            Given::Send(0, 1, &[1]),
-            Answered::Done(&[Told::Accepted(0, 1)]),
-        ),
-        (
-            BUS,
-            Given::Open,
-            Answered::Done(&[Told::Slot(0, 0, Some(0x3C)), Told::Due(0)]),
-        ),
-        (BUS, Given::Finish, Answered::Done(&[Told::NoAnswer])),
-        (
-            BUS,
-            Given::Open,
-            Answered::Done(&[Told::Slot(0, 1, Some(0x7D))]),
-        ),
-        (BUS, Given::Finish, Answered::Done(&[Told::NoAnswer])),
+    let run = [
+        SEND, OPEN, NO_ANSWER, OPEN_NEXT, NO_ANSWER, OPEN, ANSWER, FINISH,
     ];
-    let mut core = door_core(&rt, alloc, 16)?;
-    give(&rt, alloc, &mut core, &rows)?;
-    assert_eq!(rt; waiting(&rt, &core, 0), 1);
-    give(&rt, alloc, &mut core, &slot_of_1())?;
-    assert_eq!(rt; waiting(&rt, &core, 0), 0);
-    assert_eq!(rt; core.time(), 30_000);
-    Ok(())
+    expect_state(
+        &rt,
+        rt.alloc(),
+        16,
+        run.get(..5).unwrap_or(&[]),
+        (20_000, 1, 0),
+    )?;
+    expect_state(&rt, rt.alloc(), 16, &run, (30_000, 0, 0))
 }
 
 #[test]
 fn silent_slot(rt: HostRuntime) -> Result<(), Fail> {
-    let alloc = rt.alloc();
-    let rows: [Row; 2] = [
-        (BUS, Given::Open, Answered::Done(&[Told::Slot(0, 0, None)])),
-        (BUS, Given::Finish, Answered::Done(&[Told::Silent])),
-    ];
-    let mut core = door_core(&rt, alloc, 16)?;
-    give(&rt, alloc, &mut core, &rows)?;
-    assert_eq!(rt; core.time(), 10_000);
-    Ok(())
+    expect_state(&rt, rt.alloc(), 16, &[SILENT], (10_000, 0, 0))
 }
 
 #[test]
 fn undecided_nodes(rt: HostRuntime) -> Result<(), Fail> {
-    let alloc = rt.alloc();
-    let mut core = door_core(&rt, alloc, 16)?;
-    assert_eq!(rt; core.undecided(), 0);
-    let accepted: Row = (
-        H0,
-        Given::Send(0, 1, &[1]),
-        Answered::Done(&[Told::Accepted(0, 1)]),
-    );
-    let [opened, put, finished] = slot_of_1();
-    let next: Row = (
-        BUS,
-        Given::Open,
-        Answered::Done(&[Told::Slot(0, 1, Some(0x7D))]),
-    );
-    for (row, undecided) in [
-        (accepted, 0),
-        (opened, 1),
-        (put, 0),
-        (finished, 0),
-        (next, 0),
+    let run = [SEND, OPEN, ANSWER, FINISH, OPEN_NEXT];
+    for (length, state) in [
+        (0, (0, 0, 0)),
+        (1, (0, 1, 0)),
+        (2, (0, 1, 1)),
+        (3, (0, 1, 0)),
+        (4, (10_000, 0, 0)),
+        (5, (10_000, 0, 0)),
     ] {
-        give(&rt, alloc, &mut core, &[row])?;
-        assert_eq!(rt; core.undecided(), undecided);
+        expect_state(&rt, rt.alloc(), 16, run.get(..length).unwrap_or(&[]), state)?;
     }
     Ok(())
 }
 
 #[test]
 fn queue_of_one(rt: HostRuntime) -> Result<(), Fail> {
-    let alloc = rt.alloc();
-    let mut core = door_core(&rt, alloc, 1)?;
-    let rows: [Row; 2] = [
-        (
-            H0,
-            Given::Send(0, 1, &[1]),
-            Answered::Done(&[Told::Accepted(0, 1)]),
-        ),
-        (
-            H0,
-            Given::Send(0, 1, &[1]),
-            Answered::Refused(Refusal::QueueFull),
-        ),
-    ];
-    give(&rt, alloc, &mut core, &rows)?;
-    assert_eq!(rt; waiting(&rt, &core, 0), 1);
-    give(&rt, alloc, &mut core, &slot_of_1())?;
-    let next: Row = (
-        H0,
-        Given::Send(0, 1, &[1]),
-        Answered::Done(&[Told::Accepted(0, 2)]),
-    );
-    give(&rt, alloc, &mut core, &[next])
+    let run = [SEND, QUEUE_FULL, OPEN, ANSWER, FINISH, SECOND_SEND];
+    expect_state(&rt, rt.alloc(), 1, run.get(..2).unwrap_or(&[]), (0, 1, 0))?;
+    expect_state(&rt, rt.alloc(), 1, &run, (10_000, 1, 0))
 }
 
 #[test]
 fn full_queue_of_1024(rt: HostRuntime) -> Result<(), Fail> {
     let alloc = rt.alloc();
-    let mut core = door_core(&rt, alloc, 1024)?;
-    for number in 1..1025 {
-        let row: Row = (
-            H0,
-            Given::Send(0, 1, &[1]),
-            Answered::Done(&[Told::Accepted(0, number)]),
-        );
-        give(&rt, alloc, &mut core, &[row])?;
+    let mut run = Vec::new(alloc);
+    for number in 1..=1024u32 {
+        run.extend_from_slice(format!(in alloc;
+            "h0 send 0 1 01\n> accepted 0 {number}\n"
+        )?.as_bytes())?;
     }
-    let refused: Row = (
-        H0,
-        Given::Send(0, 1, &[1]),
-        Answered::Refused(Refusal::QueueFull),
-    );
-    give(&rt, alloc, &mut core, &[refused])?;
-    give(&rt, alloc, &mut core, &slot_of_1())?;
-    let next: Row = (
-        H0,
-        Given::Send(0, 1, &[1]),
-        Answered::Done(&[Told::Accepted(0, 1025)]),
-    );
-    give(&rt, alloc, &mut core, &[next])?;
-    assert_eq!(rt; waiting(&rt, &core, 0), 1024);
+    for part in [
+        QUEUE_FULL,
+        OPEN,
+        ANSWER,
+        FINISH,
+        "h0 send 0 1 01\n> accepted 0 1025\n",
+    ] {
+        run.extend_from_slice(part.as_bytes())?;
+    }
+    let cluster = cluster_of(alloc, DOOR_CLUSTER)?;
+    let core = core_behind(&rt, alloc, cluster, 1024, &run)?;
+    assert_eq!(rt; state(&rt, &core), (10_000, 1024, 0));
     Ok(())
 }

@@ -1,151 +1,131 @@
 //! Steps that are refused, and for which reason where several hold.
 
-use super::rows::{
-    Answered, BUS, Given, H0, H1, N0, N1, Row, Told, compare_log, door_core, give, waiting,
-};
-use lin_core::{Core, PortId, Refusal};
+use super::{ANSWER, OPEN, SEND, core_behind, joined, state};
+use crate::samples::{DOOR_CLUSTER, cluster_of};
 use std::alloc::Global;
 use std::process::Abort;
 use std::test::Fail;
 
-const LONG: [u8; 4096] = [0x5A; 4096];
+/// A text with 4,096 bytes in place of each `LONG`.
+fn with_long(alloc: Global, text: &str) -> Result<Vec<u8>, Fail> {
+    let mut out = Vec::new(alloc);
+    for (index, part) in text.split("LONG").enumerate() {
+        if index > 0 {
+            out.extend_from_slice(&[b'5'; 8192])?;
+        }
+        out.extend_from_slice(part.as_bytes())?;
+    }
+    Ok(out)
+}
 
-const FRAME_OF_1: [u8; 9] = [0x01, 0x01, 0x01, 0xFF, 0xFF, 0xFF, 0xFF, 0xFF, 0xFC];
-
-// Gives steps that are all refused, and looks that they change nothing.
-fn refuse(
+/// Steps behind a run that are all refused, which changes nothing.
+fn expect_refused(
     rt: &impl Abort,
     alloc: Global,
-    core: &mut Core,
-    rows: &[(PortId, Given, Refusal)],
+    capacity: usize,
+    run: &[&str],
+    refused: &str,
 ) -> Result<(), Fail> {
-    let before = (waiting(rt, core, 0), core.time(), core.undecided());
-    let entries = core.log().len();
-    for (port, given, refusal) in rows {
-        give(
-            rt,
-            alloc,
-            core,
-            &[(*port, *given, Answered::Refused(*refusal))],
-        )?;
-        assert_eq!(rt; waiting(rt, core, 0), before.0);
-        assert_eq!(rt; core.time(), before.1);
-        assert_eq!(rt; core.undecided(), before.2);
-    }
-    assert_eq!(rt; core.log().len().checked_sub(rows.len()), Some(entries));
+    let mut run = joined(alloc, run)?;
+    let cluster = cluster_of(alloc, DOOR_CLUSTER)?;
+    let before = core_behind(rt, alloc, cluster, capacity, &run)?;
+    run.extend_from_slice(with_long(alloc, refused)?.as_slice())?;
+    let cluster = cluster_of(alloc, DOOR_CLUSTER)?;
+    let core = core_behind(rt, alloc, cluster, capacity, &run)?;
+    assert_eq!(rt; state(rt, &core), state(rt, &before));
+    assert_eq!(rt;
+        core.log().len().checked_sub(before.log().len()),
+        Some(refused.split("> refused ").count().saturating_sub(1))
+    );
     Ok(())
 }
 
-#[test]
-fn refused_sends(rt: HostRuntime) -> Result<(), Fail> {
-    let alloc = rt.alloc();
-    let rows: [Row; 4] = [
-        (
-            H0,
-            Given::Send(0, 1, &[]),
-            Answered::Refused(Refusal::BadLength),
-        ),
-        (
-            H0,
-            Given::Send(0, 1, &LONG),
-            Answered::Refused(Refusal::BadLength),
-        ),
-        (
-            H0,
-            Given::Send(0, 0, &[1]),
-            Answered::Refused(Refusal::NoAddress),
-        ),
-        (
-            H0,
-            Given::Send(0, 9, &[]),
-            Answered::Refused(Refusal::NoSuchNode),
-        ),
-    ];
-    let mut core = door_core(&rt, alloc, 16)?;
-    give(&rt, alloc, &mut core, &rows)?;
-    compare_log(&rt, &core, &rows);
-    assert_eq!(rt; core.log().len(), 4);
-    assert_eq!(rt; waiting(&rt, &core, 0), 0);
-    Ok(())
-}
+const SENDS: &str =
+    "h0 send 0 1 -\n> refused 7\nh0 send 0 1 LONG\n> refused 7\nh0 send 0 0 01\n> refused 6\nh0 send 0 9 -\n> refused 1\n";
+
+const WITHOUT_A_SLOT: &str = "n1 send 9 1 -
+> refused 1
+h1 send 0 9 -
+> refused 1
+bus send 2 1 01
+> refused 1
+h0 send 1 1 LONG
+> refused 6
+h0 send 1 0 LONG
+> refused 7
+h1 send 0 0 -
+> refused 6
+bus send 1 1 01
+> refused 6
+h1 send 0 1 -
+> refused 7
+n0 send 0 1 LONG
+> refused 7
+h1 send 0 1 01
+> refused 14
+n0 send 0 1 01
+> refused 14
+h0 open
+> refused 14
+n0 open
+> refused 14
+h0 answer 2
+> refused 1
+n1 answer 0
+> refused 13
+h0 finish
+> refused 13
+bus finish
+> refused 13
+";
+
+const FULL: &str = "h1 send 0 1 LONG\n> refused 7\nh1 send 0 1 01\n> refused 9\n";
 
 #[test]
-fn refused_in_order(rt: HostRuntime) -> Result<(), Fail> {
-    let alloc = rt.alloc();
-    let mut core = door_core(&rt, alloc, 1)?;
-    let no_slot = [
-        (N1, Given::Send(9, 1, &[]), Refusal::NoSuchNode),
-        (H1, Given::Send(0, 9, &[]), Refusal::NoSuchNode),
-        (BUS, Given::Send(2, 1, &[1]), Refusal::NoSuchNode),
-        (H0, Given::Send(1, 1, &LONG), Refusal::NoAddress),
-        (H0, Given::Send(1, 0, &LONG), Refusal::BadLength),
-        (H1, Given::Send(0, 0, &[]), Refusal::NoAddress),
-        (BUS, Given::Send(1, 1, &[1]), Refusal::NoAddress),
-        (H1, Given::Send(0, 1, &[]), Refusal::BadLength),
-        (N0, Given::Send(0, 1, &LONG), Refusal::BadLength),
-        (H1, Given::Send(0, 1, &[1]), Refusal::NotYours),
-        (N0, Given::Send(0, 1, &[1]), Refusal::NotYours),
-        (H0, Given::Open, Refusal::NotYours),
-        (N0, Given::Open, Refusal::NotYours),
-        (H0, Given::Answer(2), Refusal::NoSuchNode),
-        (N1, Given::Answer(0), Refusal::NoSlot),
-        (H0, Given::Finish, Refusal::NoSlot),
-        (BUS, Given::Finish, Refusal::NoSlot),
-    ];
-    refuse(&rt, alloc, &mut core, &no_slot)?;
-    let accepted: Row = (
-        BUS,
-        Given::Send(0, 1, &[1]),
-        Answered::Done(&[Told::Accepted(0, 1)]),
-    );
-    give(&rt, alloc, &mut core, &[accepted])?;
-    let full = [
-        (H1, Given::Send(0, 1, &LONG), Refusal::BadLength),
-        (H1, Given::Send(0, 1, &[1]), Refusal::QueueFull),
-    ];
-    refuse(&rt, alloc, &mut core, &full)
+fn sends(rt: HostRuntime) -> Result<(), Fail> {
+    expect_refused(&rt, rt.alloc(), 16, &[], SENDS)?;
+    expect_refused(&rt, rt.alloc(), 1, &[], WITHOUT_A_SLOT)?;
+    expect_refused(
+        &rt,
+        rt.alloc(),
+        1,
+        &["bus send 0 1 01\n> accepted 0 1\n"],
+        FULL,
+    )
 }
 
+const UNANSWERED: &str = "bus open
+> refused 12
+h0 open
+> refused 12
+n0 answer 2
+> refused 1
+h0 answer 0
+> refused 14
+n1 answer 0
+> refused 14
+n1 answer 1
+> refused 14
+bus answer 1
+> refused 14
+h0 finish
+> refused 14
+n0 finish
+> refused 14
+";
+
+const ANSWERED: &str = "n1 answer 0
+> refused 14
+bus answer 1
+> refused 14
+bus answer 0
+> refused 15
+n0 answer 0
+> refused 15
+";
+
 #[test]
-fn refused_in_slots(rt: HostRuntime) -> Result<(), Fail> {
-    let alloc = rt.alloc();
-    let mut core = door_core(&rt, alloc, 16)?;
-    let opened: [Row; 2] = [
-        (
-            H0,
-            Given::Send(0, 1, &[1]),
-            Answered::Done(&[Told::Accepted(0, 1)]),
-        ),
-        (
-            BUS,
-            Given::Open,
-            Answered::Done(&[Told::Slot(0, 0, Some(0x3C)), Told::Due(0)]),
-        ),
-    ];
-    give(&rt, alloc, &mut core, &opened)?;
-    let unanswered = [
-        (BUS, Given::Open, Refusal::SlotOpen),
-        (H0, Given::Open, Refusal::SlotOpen),
-        (N0, Given::Answer(2), Refusal::NoSuchNode),
-        (H0, Given::Answer(0), Refusal::NotYours),
-        (N1, Given::Answer(0), Refusal::NotYours),
-        (N1, Given::Answer(1), Refusal::NotYours),
-        (BUS, Given::Answer(1), Refusal::NotYours),
-        (H0, Given::Finish, Refusal::NotYours),
-        (N0, Given::Finish, Refusal::NotYours),
-    ];
-    refuse(&rt, alloc, &mut core, &unanswered)?;
-    let put: Row = (
-        BUS,
-        Given::Answer(0),
-        Answered::Done(&[Told::Put(0, &FRAME_OF_1)]),
-    );
-    give(&rt, alloc, &mut core, &[put])?;
-    let answered = [
-        (N1, Given::Answer(0), Refusal::NotYours),
-        (BUS, Given::Answer(1), Refusal::NotYours),
-        (BUS, Given::Answer(0), Refusal::Decided),
-        (N0, Given::Answer(0), Refusal::Decided),
-    ];
-    refuse(&rt, alloc, &mut core, &answered)
+fn in_slots(rt: HostRuntime) -> Result<(), Fail> {
+    expect_refused(&rt, rt.alloc(), 16, &[SEND, OPEN], UNANSWERED)?;
+    expect_refused(&rt, rt.alloc(), 16, &[SEND, OPEN, ANSWER], ANSWERED)
 }

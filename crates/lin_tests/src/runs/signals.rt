@@ -1,35 +1,62 @@
-//! Runs of signals, sporadic and event-triggered frames, each step's entry compared.
+//! Runs of signals, sporadic and event-triggered frames.
 
-use super::clusters::{DIAGNOSTIC, MAIN, RESOLVE, keyed_cluster, plain_cluster};
-use super::rows::{Answered, BUS, Given, H0, H1, H2, N1, N2, Row, Told, core_on, give};
-use lin_core::{Core, Refusal};
+use super::{core_behind, joined, state};
+use crate::samples::cluster_of;
+use lin_core::Core;
 use lin_frame::Value;
+use std::alloc::Global;
 use std::process::Abort;
 use std::test::Fail;
 
-const DONE: Answered = Answered::Done(&[]);
-
-const LEFT: [u8; 3] = [0x42, 0x11, 0x6A];
-
-const RIGHT: [u8; 3] = [0x03, 0x22, 0xD7];
-
-const LIGHT: [u8; 3] = [0x53, 0xD5, 0x56];
-
-// A write is done.
-const fn write<'a>(node: u8, signal: u16, number: u16) -> Row<'a> {
-    (BUS, Given::Write(node, signal, number), DONE)
+/// A commander and two responders, with a frame of an array.
+const BUILD: &str = "LIN_description_file;
+LIN_protocol_version = \"2.2\";
+LIN_language_version = \"2.2\";
+LIN_speed = 19.2 kbps;
+Nodes { Master: cem, 5 ms, 0.1 ms; Slaves: lsm, rsm; }
+Signals {
+  level: 4, 2, cem, lsm, rsm;
+  mode: 10, 0x155, cem, lsm;
+  speed: 8, 5, cem, rsm;
+  lkey: 8, 0, lsm, cem;
+  rkey: 8, 0, rsm, cem;
+  pair: 16, {0, 0}, cem, lsm, rsm;
 }
-
-const fn open<'a>(told: &'a [Told<'a>]) -> Row<'a> {
-    (BUS, Given::Open, Answered::Done(told))
+Frames {
+  Light: 0x00, cem, 2 { level, 0; mode, 4; }
+  Fan: 0x01, cem, 1 { speed, 0; }
+  LeftKey: 0x02, lsm, 2 { lkey, 8; }
+  RightKey: 0x03, rsm, 2 { rkey, 8; }
+  Pair: 0x05, cem, 2 { pair, 0; }
 }
-
-const fn answer<'a>(node: u8, told: &'a [Told<'a>]) -> Row<'a> {
-    (BUS, Given::Answer(node), Answered::Done(told))
+Node_attributes {
+  lsm { LIN_protocol = \"2.2\"; configured_NAD = 0x01; }
+  rsm { LIN_protocol = \"2.2\"; configured_NAD = 0x02; }
 }
+";
 
-const fn finish<'a>(told: &'a [Told<'a>]) -> Row<'a> {
-    (BUS, Given::Finish, Answered::Done(told))
+/// Two sporadic frames, and the event-triggered frame of the keys, whose collisions the second table resolves.
+const KEYED: &str = "Sporadic_frames { Spor: Light, Fan; Alone: Fan; }
+Event_triggered_frames { Keys: Resolve, 0x04, LeftKey, RightKey; }
+Schedule_tables {
+  Main { Spor delay 10 ms; Keys delay 10 ms; Light delay 10 ms; Alone delay 10 ms; }
+  Resolve { LeftKey delay 10 ms; RightKey delay 10 ms; }
+  Diag { MasterReq delay 10 ms; SlaveResp delay 10 ms; }
+}
+";
+
+/// Neither.
+const PLAIN: &str = "Schedule_tables {
+  Main { Light delay 10 ms; Fan delay 5 ms; Pair delay 5 ms; }
+  Resolve { LeftKey delay 10 ms; RightKey delay 10 ms; }
+  Diag { MasterReq delay 10 ms; SlaveResp delay 10 ms; }
+}
+";
+
+fn run(rt: &impl Abort, alloc: Global, frames: &str, log: &str) -> Result<Core, Fail> {
+    let text = joined(alloc, &[BUILD, frames])?;
+    let cluster = cluster_of(alloc, &text)?;
+    core_behind(rt, alloc, cluster, 16, log.as_bytes())
 }
 
 fn scalar(rt: &impl Abort, core: &Core, node: u8, signal: u16) -> Option<u16> {
@@ -41,161 +68,206 @@ fn scalar(rt: &impl Abort, core: &Core, node: u8, signal: u16) -> Option<u16> {
     }
 }
 
+const COLLISION: &str = "h1 write 1 3 17
+h2 write 2 4 34
+bus open
+> slot 0 0 -
+bus finish
+> seen silent
+bus open
+> slot 0 1 C4
+> due 1
+> due 2
+n1 answer 1
+> put 1 4211E7
+n2 answer 2
+> put 2 032216
+bus finish
+> seen collided
+bus open
+> slot 1 0 42
+> due 1
+bus answer 1
+> put 1 42116A
+bus finish
+> seen good 42116A
+bus open
+> slot 1 1 03
+> due 2
+bus answer 2
+> put 2 0322D7
+bus finish
+> seen good 0322D7
+bus open
+> slot 0 2 80
+> due 0
+";
+
 #[test]
 fn collision_and_resolution(rt: HostRuntime) -> Result<(), Fail> {
-    let alloc = rt.alloc();
-    let mut core = core_on(&rt, alloc, keyed_cluster(&rt, alloc)?, 16)?;
-    let rows = [
-        (H1, Given::Write(1, 3, 17), DONE),
-        (H2, Given::Write(2, 4, 34), DONE),
-        open(&[Told::Slot(MAIN, 0, None)]),
-        finish(&[Told::Silent]),
-        open(&[Told::Slot(MAIN, 1, Some(0xC4)), Told::Due(1), Told::Due(2)]),
-        (
-            N1,
-            Given::Answer(1),
-            Answered::Done(&[Told::Put(1, &[0x42, 0x11, 0xE7])]),
-        ),
-        (
-            N2,
-            Given::Answer(2),
-            Answered::Done(&[Told::Put(2, &[0x03, 0x22, 0x16])]),
-        ),
-        finish(&[Told::Collided]),
-        open(&[Told::Slot(RESOLVE, 0, Some(0x42)), Told::Due(1)]),
-        answer(1, &[Told::Put(1, &LEFT)]),
-        finish(&[Told::Good(&LEFT)]),
-        open(&[Told::Slot(RESOLVE, 1, Some(0x03)), Told::Due(2)]),
-        answer(2, &[Told::Put(2, &RIGHT)]),
-        finish(&[Told::Good(&RIGHT)]),
-        open(&[Told::Slot(MAIN, 2, Some(0x80)), Told::Due(0)]),
-    ];
-    give(&rt, alloc, &mut core, &rows)?;
+    let core = run(&rt, rt.alloc(), KEYED, COLLISION)?;
     assert_eq!(rt; scalar(&rt, &core, 0, 3), Some(17));
     assert_eq!(rt; scalar(&rt, &core, 1, 4), Some(34));
     Ok(())
 }
 
+/// A frame that two sporadic frames list goes for each of them.
+const UPDATES: &str = "bus write 0 2 7
+bus write 0 0 3
+bus open
+> slot 0 0 80
+> due 0
+bus answer 0
+> put 0 53D556
+bus finish
+> seen good 53D556
+bus open
+> slot 0 1 C4
+bus finish
+> seen none
+bus open
+> slot 0 2 80
+> due 0
+bus answer 0
+> put 0 53D556
+bus finish
+> seen good 53D556
+bus open
+> slot 0 3 C1
+> due 0
+bus answer 0
+> put 0 0737
+bus write 0 2 9
+bus finish
+> seen good 0737
+bus open
+> slot 0 0 C1
+> due 0
+bus answer 0
+> put 0 0935
+bus finish
+> seen good 0935
+bus open
+> slot 0 1 C4
+bus finish
+> seen none
+bus open
+> slot 0 2 80
+> due 0
+bus finish
+> seen none
+bus open
+> slot 0 3 -
+";
+
+/// A switch leaves the table that resolves a collision.
+const SWITCH: &str = "bus write 1 3 17
+bus write 2 4 34
+bus open
+> slot 0 0 -
+bus finish
+> seen silent
+bus open
+> slot 0 1 C4
+> due 1
+> due 2
+bus answer 1
+> put 1 4211E7
+bus answer 2
+> put 2 032216
+bus finish
+> seen collided
+bus switch 2
+bus open
+> slot 2 0 -
+bus finish
+> seen silent
+bus switch 0
+bus open
+> slot 0 0 -
+";
+
 #[test]
-fn sporadic_updates(rt: HostRuntime) -> Result<(), Fail> {
-    let alloc = rt.alloc();
-    let mut core = core_on(&rt, alloc, keyed_cluster(&rt, alloc)?, 16)?;
-    let rows = [
-        write(0, 2, 7),
-        write(0, 0, 3),
-        open(&[Told::Slot(MAIN, 0, Some(0x80)), Told::Due(0)]),
-        answer(0, &[Told::Put(0, &LIGHT)]),
-        finish(&[Told::Good(&LIGHT)]),
-        open(&[Told::Slot(MAIN, 1, Some(0xC4))]),
-        finish(&[Told::NoAnswer]),
-        open(&[Told::Slot(MAIN, 2, Some(0x80)), Told::Due(0)]),
-        answer(0, &[Told::Put(0, &LIGHT)]),
-        finish(&[Told::Good(&LIGHT)]),
-        // the other sporadic frame has the second frame too
-        open(&[Told::Slot(MAIN, 3, Some(0xC1)), Told::Due(0)]),
-        answer(0, &[Told::Put(0, &[0x07, 0x37])]),
-        write(0, 2, 9),
-        finish(&[Told::Good(&[0x07, 0x37])]),
-        open(&[Told::Slot(MAIN, 0, Some(0xC1)), Told::Due(0)]),
-        answer(0, &[Told::Put(0, &[0x09, 0x35])]),
-        finish(&[Told::Good(&[0x09, 0x35])]),
-        open(&[Told::Slot(MAIN, 1, Some(0xC4))]),
-        finish(&[Told::NoAnswer]),
-        open(&[Told::Slot(MAIN, 2, Some(0x80)), Told::Due(0)]),
-        finish(&[Told::NoAnswer]),
-        open(&[Told::Slot(MAIN, 3, None)]),
-    ];
-    give(&rt, alloc, &mut core, &rows)
+fn sporadic_updates_and_a_switch(rt: HostRuntime) -> Result<(), Fail> {
+    for log in [UPDATES, SWITCH] {
+        run(&rt, rt.alloc(), KEYED, log)?;
+    }
+    Ok(())
 }
+
+const REFUSED: &str = "h1 write 0 0 1
+> refused 14
+h1 write 1 0 1
+> refused 4
+h0 write 0 0 16
+> refused 5
+h0 write 0 5 x01
+> refused 5
+h0 write 0 6 0
+> refused 2
+bus switch 3
+> refused 3
+bus finish
+> refused 13
+";
 
 #[test]
 fn refused_writes(rt: HostRuntime) -> Result<(), Fail> {
-    let alloc = rt.alloc();
-    let refused = |refusal: Refusal| Answered::Refused(refusal);
-    for cluster in [keyed_cluster(&rt, alloc)?, plain_cluster(&rt, alloc)?] {
-        let mut core = core_on(&rt, alloc, cluster, 16)?;
-        let rows = [
-            (H1, Given::Write(0, 0, 1), refused(Refusal::NotYours)),
-            (H1, Given::Write(1, 0, 1), refused(Refusal::NotPublisher)),
-            (H0, Given::Write(0, 0, 16), refused(Refusal::BadValue)),
-            (
-                H0,
-                Given::WriteBytes(0, 5, &[1]),
-                refused(Refusal::BadValue),
-            ),
-            (H0, Given::Write(0, 6, 0), refused(Refusal::NoSuchSignal)),
-            (BUS, Given::Switch(3), refused(Refusal::NoSuchTable)),
-            (BUS, Given::Finish, refused(Refusal::NoSlot)),
-        ];
-        give(&rt, alloc, &mut core, &rows)?;
+    for frames in [KEYED, PLAIN] {
+        let core = run(&rt, rt.alloc(), frames, REFUSED)?;
         assert_eq!(rt; scalar(&rt, &core, 0, 0), Some(2));
     }
     Ok(())
 }
 
+const TABLES: &str = "bus open
+> slot 0 0 80
+> due 0
+bus answer 0
+> put 0 52D557
+bus finish
+> seen good 52D557
+bus open
+> slot 0 1 C1
+> due 0
+bus answer 0
+> put 0 0539
+bus switch 0
+> refused 12
+bus finish
+> seen good 0539
+bus switch 1
+bus open
+> slot 1 0 42
+> due 1
+bus answer 1
+> put 1 FF00BD
+";
+
 #[test]
 fn tables_without_sporadic_frames(rt: HostRuntime) -> Result<(), Fail> {
-    let alloc = rt.alloc();
-    let mut core = core_on(&rt, alloc, plain_cluster(&rt, alloc)?, 16)?;
-    let rows = [
-        open(&[Told::Slot(MAIN, 0, Some(0x80)), Told::Due(0)]),
-        answer(0, &[Told::Put(0, &[0x52, 0xD5, 0x57])]),
-        finish(&[Told::Good(&[0x52, 0xD5, 0x57])]),
-        open(&[Told::Slot(MAIN, 1, Some(0xC1)), Told::Due(0)]),
-        answer(0, &[Told::Put(0, &[0x05, 0x39])]),
-        (
-            BUS,
-            Given::Switch(MAIN),
-            Answered::Refused(Refusal::SlotOpen),
-        ),
-        finish(&[Told::Good(&[0x05, 0x39])]),
-        (BUS, Given::Switch(RESOLVE), DONE),
-        open(&[Told::Slot(RESOLVE, 0, Some(0x42)), Told::Due(1)]),
-        answer(1, &[Told::Put(1, &[0xFF, 0x00, 0xBD])]),
-    ];
-    give(&rt, alloc, &mut core, &rows)?;
-    assert_eq!(rt; core.time(), 15_000);
-    assert_eq!(rt; core.undecided(), 0);
+    let core = run(&rt, rt.alloc(), PLAIN, TABLES)?;
+    assert_eq!(rt; state(&rt, &core), (15_000, 0, 0));
     Ok(())
 }
 
+const LIMITS: &str = "h0 write 0 0 15
+h0 write 0 1 1023
+h0 write 0 5 xFF01
+bus open
+> slot 0 0 80
+> due 0
+bus answer 0
+> put 0 FFFF7F
+bus finish
+> seen good FFFF7F
+";
+
 #[test]
 fn values_at_their_limits(rt: HostRuntime) -> Result<(), Fail> {
-    let alloc = rt.alloc();
-    let mut core = core_on(&rt, alloc, plain_cluster(&rt, alloc)?, 16)?;
-    let rows = [
-        (H0, Given::Write(0, 0, 15), DONE),
-        (H0, Given::Write(0, 1, 0x3FF), DONE),
-        (H0, Given::WriteBytes(0, 5, &[0xFF, 0x01]), DONE),
-        open(&[Told::Slot(MAIN, 0, Some(0x80)), Told::Due(0)]),
-        answer(0, &[Told::Put(0, &[0xFF, 0xFF, 0x7F])]),
-        finish(&[Told::Good(&[0xFF, 0xFF, 0x7F])]),
-    ];
-    give(&rt, alloc, &mut core, &rows)?;
+    let core = run(&rt, rt.alloc(), PLAIN, LIMITS)?;
     assert_eq!(rt; scalar(&rt, &core, 1, 0), Some(15));
     assert_eq!(rt; scalar(&rt, &core, 2, 1), Some(0x3FF));
     assert_eq!(rt; scalar(&rt, &core, 0, 5), None);
     Ok(())
-}
-
-#[test]
-fn switch_leaves_an_excursion(rt: HostRuntime) -> Result<(), Fail> {
-    let alloc = rt.alloc();
-    let mut core = core_on(&rt, alloc, keyed_cluster(&rt, alloc)?, 16)?;
-    let rows = [
-        write(1, 3, 17),
-        write(2, 4, 34),
-        open(&[Told::Slot(MAIN, 0, None)]),
-        finish(&[Told::Silent]),
-        open(&[Told::Slot(MAIN, 1, Some(0xC4)), Told::Due(1), Told::Due(2)]),
-        answer(1, &[Told::Put(1, &[0x42, 0x11, 0xE7])]),
-        answer(2, &[Told::Put(2, &[0x03, 0x22, 0x16])]),
-        finish(&[Told::Collided]),
-        (BUS, Given::Switch(DIAGNOSTIC), DONE),
-        open(&[Told::Slot(DIAGNOSTIC, 0, None)]),
-        finish(&[Told::Silent]),
-        (BUS, Given::Switch(MAIN), DONE),
-        open(&[Told::Slot(MAIN, 0, None)]),
-    ];
-    give(&rt, alloc, &mut core, &rows)
 }

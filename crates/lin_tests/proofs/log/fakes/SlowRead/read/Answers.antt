@@ -1,7 +1,9 @@
-use Rattle.std.proofs.Common.{arith, List, ℕ, [], ◌∷◌, ◌++◌, ◌≡◌, ◌<◌, ◌≤◌, length, take, drop, slice_set, slice_index_or, refl}
+use Rattle.std.proofs.Common.{arith, List, ℕ, [], ◌∷◌, ◌++◌, ◌-◌, ◌≡◌, ◌<◌, ◌≤◌, length, take, drop, slice_set, slice_index_or, refl}
 use Rattle.std.proofs.lemmas.Grind.{common_steps}
-use Rattle.lin_log.proofs.Sinks.{slice-rest}
-use Rattle.lin_log.proofs.tests.fakes.SlowRead.read.Goals as goal
+use Rattle.lin_tests.proofs.log.fakes.SlowRead.read.Goals as goal
+
+slice-rest : (xs : List ℕ) (n : ℕ) → take (length xs - n) (drop n xs) ≡ drop n xs
+slice-rest xs n = grind (arith, common_steps)
 
 one-byte : (buf rest : List ℕ) → 0 < length buf → 1 ≤ length rest → rest ≡ take 1 (slice_set buf 0 (slice_index_or rest 0 0)) ++ drop 1 rest
 one-byte [] rest h k = absurd (omega arith)
