@@ -1,5 +1,5 @@
 -- An answer: the slot in which it is made, and what it makes of what is kept of signals.
-use Rattle.std.proofs.Common.{◌≡◌, ℕ, ◌-◌, ◌^◌, ◌<◌, ◌≤◌, Bool, true, false, List, [], ◌∷◌, ◌++◌, map, length, refl, ap, sym, ◌∙◌, subst, arith, inl, inr, get_or-set_same}
+use Rattle.std.proofs.Common.{◌≡◌, ℕ, ◌<◌, ◌≤◌, Bool, true, false, List, [], ◌∷◌, ◌++◌, map, length, refl, ap, sym, ◌∙◌, subst, arith, inl, inr, get_or-set_same}
 use Rattle.std.specs.Prelude.{Option, Some, None, IfSome, ◌&&◌, ◌||◌, ◌==◌, if◌then◌else◌, is_some, slice_get, slice_index_or, slice_set, vec_capacity, IsTrue}
 use Rattle.std.proofs.lemmas.Bool.Decides.{nat_tests}
 use Rattle.std.proofs.Math.ListN.{length-set}
@@ -16,10 +16,10 @@ use Rattle.lin_cluster.specs.declared.parts.Entry.TheVariants.{Frame, Sporadic, 
 use Rattle.lin_core.specs.Dues.{frame_answered, frame_by, model_by}
 use Rattle.lin_core.specs.History.{Slot, header_is, is_in, has_decided, open_slot}
 use Rattle.lin_core.specs.Kept.{CanAnswer, IsOpen, IsThere, KeepsSignals, put_in, slot_in}
-use Rattle.lin_core.specs.Replies.{in_slot, put_event}
+use Rattle.lin_core.specs.Replies.{put_event}
 use Rattle.lin_core.specs.Signals.{carried, signal_bytes}
 use Rattle.lin_core.specs.Slots.{put}
-use Rattle.lin_core.specs.Core.{CoreData, IsAllowed, past_of}
+use Rattle.lin_core.specs.Core.{CoreData, past_of}
 use Rattle.lin_core.specs.Whole.{IsWhole, core_data}
 use Rattle.lin_core.specs.declared.event.Event.TheVariants.{Put as PutEvent}
 use Rattle.lin_core.specs.declared.log.LogEntry.{LogEntry}
@@ -30,7 +30,7 @@ use Rattle.lin_core.specs.declared.slot.OpenSlot.{OpenSlot}
 use Rattle.lin_core.specs.declared.slot.Put.{Put}
 use Rattle.lin_core.specs.declared.step.Step.TheVariants.{Answer}
 use Rattle.lin_core.proofs.Hearing.{carried-one}
-use Rattle.lin_core.proofs.Making.{Allowed, allowed-inside, open-some, past_in}
+use Rattle.lin_core.proofs.Making.{Allowed, open-some, past_in}
 use Rattle.lin_core.proofs.Opening.{Free, with_put}
 use Rattle.lin_core.proofs.SignalKeeping.{Answers, cleared-by, cleared-flags}
 use Rattle.lin_core.proofs.Steps.{and-parts, answer-allowed}

@@ -1,6 +1,6 @@
 -- What a finish makes of the hosts and tells, in five cases: nothing moves; one more frame of a message was seen good; its last was; one was
 -- damaged; the cluster goes to sleep.
-use Rattle.std.proofs.Common.{◌≡◌, ◌≢◌, ◌<◌, ℕ, zero, suc, Bool, true, false, List, [], ◌∷◌, ◌++◌, length, refl, ap, sym, ◌∙◌, subst, arith}
+use Rattle.std.proofs.Common.{◌≡◌, ◌≢◌, ◌<◌, ℕ, suc, Bool, true, false, List, [], ◌∷◌, ◌++◌, length, refl, ap, sym, ◌∙◌, subst, arith}
 use Rattle.std.specs.Prelude.{Option, Some, None, ◌==◌, drop, if◌then◌else◌}
 use Rattle.std.specs.List.{flat_map}
 use Rattle.std.proofs.lemmas.Bool.{ne_eqb}
@@ -11,9 +11,9 @@ use Rattle.lin_cluster.specs.Cluster.{nodes}
 use Rattle.lin_cluster.specs.declared.parts.Parts.{Parts}
 use Rattle.lin_cluster.specs.Sound.{IsSound}
 use Rattle.lin_core.specs.History.{Slot, asked, is_sleep_slot, open_slot, seen}
-use Rattle.lin_core.specs.Links.{Fate, Message, host_of, reading}
+use Rattle.lin_core.specs.Links.{Fate, Message, reading}
 use Rattle.lin_core.specs.Links.Fate.{Lost, Sent}
-use Rattle.lin_core.specs.Replies.{finish_events, quiet_entry, receiver_of}
+use Rattle.lin_core.specs.Replies.{finish_events, receiver_of}
 use Rattle.lin_core.specs.declared.event.Event.{Event}
 use Rattle.lin_core.specs.declared.event.Event.TheVariants.{Asleep as SleepEvent, Lost as LostEvent, Message as MessageEvent, Seen as SeenEvent, Sent as SentEvent}
 use Rattle.lin_core.specs.declared.link.Cause.TheVariants.{Damaged, Slept}

@@ -41,7 +41,6 @@ use Rattle.std.specs.Prelude.{◌+◌}
 use Rattle.std.proofs.Common.{subst}
 use Rattle.std.proofs.lemmas.Bool.Decides.{nat_tests}
 use Rattle.lin_core.specs.Reports.{numbered}
-use Rattle.lin_core.specs.declared.event.Event.TheVariants.{Sent as SentEvent}
 use Rattle.lin_core.proofs.Hosts.{same-self}
 use Rattle.lin_core.proofs.Reports.{reports-are, ahead, host-below}
 use Rattle.std.proofs.Common.{◌≢◌}

@@ -1,15 +1,15 @@
 -- The hosts behind a finish by which one more frame of a message was seen good, and more of them follow.
-use Rattle.std.proofs.Common.{◌≡◌, ◌≢◌, ℕ, zero, suc, ◌+◌, Bool, true, false, List, [], ◌∷◌, ◌++◌, length, map, refl, ap, sym, ◌∙◌, subst, arith, inl, inr}
-use Rattle.std.specs.Prelude.{Option, Some, None, ◌⊎◌, slice_get, slice_set}
+use Rattle.std.proofs.Common.{◌≡◌, ◌≢◌, ℕ, zero, suc, ◌+◌, List, [], ◌∷◌, ◌++◌, length, refl, ap, sym, ◌∙◌, subst, arith, inl, inr}
+use Rattle.std.specs.Prelude.{Option, Some, slice_get, slice_set}
 use Rattle.lin_transport.specs.Sender.{Sending as Sender}
 use Rattle.lin_frame.specs.Words.{choose}
 use Rattle.lin_cluster.specs.declared.parts.Parts.{Parts}
 use Rattle.lin_cluster.specs.Sound.{IsSound}
 use Rattle.lin_core.specs.History.{closed}
 use Rattle.lin_core.specs.Hosts.{gone_on}
-use Rattle.lin_core.specs.Kept.{KeepsHost, message_of}
+use Rattle.lin_core.specs.Kept.{KeepsHost}
 use Rattle.lin_core.specs.KeptLate.{KeepsLate, KeepsMode, KeepsSender, sender_now}
-use Rattle.lin_core.specs.Links.{Message, accepted_from, nad_on, waiting}
+use Rattle.lin_core.specs.Links.{Message, accepted_from, nad_on}
 use Rattle.lin_core.specs.declared.host.Host.{Host}
 use Rattle.lin_core.specs.declared.log.LogEntry.{LogEntry}
 use Rattle.lin_core.specs.declared.mode.Mode.{Mode}

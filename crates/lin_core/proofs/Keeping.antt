@@ -34,12 +34,11 @@ use Rattle.std.proofs.Math.ListN.{length-set}
 use Rattle.lin_schedule.specs.Walker.{Position}
 use Rattle.lin_core.specs.declared.slot.OpenSlot.{OpenSlot}
 use Rattle.lin_core.specs.Core.{IsAllowed, past_of}
-use Rattle.lin_core.specs.Hosts.{queued, settled, fresh}
+use Rattle.lin_core.specs.Hosts.{queued, fresh}
 use Rattle.std.specs.Prelude.{All}
 use Rattle.std.proofs.lemmas.List.Elements.{All-get_or}
 use Rattle.std.proofs.lemmas.Option.{slice_get_within, get_or_from_slice_get}
 use Rattle.lin_core.specs.declared.slot.Put.{Put}
-use Rattle.std.specs.Prelude.{drop}
 use Rattle.lin_core.specs.History.{done}
 use Rattle.lin_cluster.specs.Sound.{IsSound}
 use Rattle.lin_core.specs.Links.{link_of, accepted_from, sent_from}
@@ -53,28 +52,19 @@ use Rattle.lin_core.proofs.Steps.{AllFalse, none-of, both-false, more_if, send-k
 use Rattle.lin_core.proofs.Queues.{waiting-are}
 use Rattle.lin_cluster.specs.Cluster.{line_of}
 use Rattle.lin_cluster.specs.declared.parts.Entry.{Entry}
-use Rattle.lin_transport.specs.Transport.{frame}
-use Rattle.lin_core.specs.History.{Slot, open_slot}
+use Rattle.lin_core.specs.History.{open_slot}
 use Rattle.lin_core.specs.Kept.{slot_in}
-use Rattle.lin_core.specs.Links.{nad_on}
-use Rattle.lin_core.specs.Slots.{header, due_nodes, next_due, with_classic}
+use Rattle.lin_core.specs.Slots.{header, due_nodes, next_due}
 use Rattle.lin_core.specs.Replies.{opening_events, done_events, put_event}
 use Rattle.lin_core.specs.declared.event.Event.{Event}
 use Rattle.lin_core.specs.declared.event.Event.TheVariants.{Slot as SlotEvent, Due, Put as PutEvent}
 use Rattle.lin_core.specs.declared.step.Step.TheVariants.{Write, Open, Answer, Finish, Switch}
 use Rattle.lin_core.proofs.Finishes.{slot_of}
-use Rattle.lin_core.specs.Links.{Link}
-use Rattle.lin_core.specs.Links.Fate.{Sent}
-use Rattle.lin_core.specs.Replies.{receiver_of}
-use Rattle.lin_core.proofs.Hosts.{IsLink}
-use Rattle.lin_core.proofs.Known.{finish-known}
 use Rattle.lin_schedule.specs.Schedule.Move.{Slot as SlotMove, Switch as SwitchMove}
 use Rattle.lin_schedule.specs.Walker.{Stands, Walks}
-use Rattle.lin_core.specs.History.{time, seen, is_clash, told_all}
+use Rattle.lin_core.specs.History.{time, is_clash, told_all}
 use Rattle.lin_core.specs.Slots.{moves}
 use Rattle.lin_core.specs.Replies.{finish_events}
-use Rattle.lin_core.specs.declared.event.Event.TheVariants.{Seen as SeenEvent, Message as MessageEvent, Sent as SentEvent}
-use Rattle.lin_core.specs.declared.link.Direction.TheVariants.{Down}
 use Rattle.std.specs.Prelude.{option_map}
 use Rattle.lin_core.proofs.Steps.{open-known, answer-known, told-due}
 

@@ -1,19 +1,17 @@
 -- The cluster's mode and the hosts' begun messages stay those of the log, one more entry on.
-use Rattle.std.proofs.Common.{◌≡◌, ◌≢◌, ℕ, zero, suc, ◌+◌, ◌<◌, ◌≤◌, Bool, true, false, List, [], ◌∷◌, ◌++◌, length, map, refl, ap, sym, ◌∙◌, subst, arith, inl, inr}
-use Rattle.std.specs.Prelude.{Option, Some, None, ◌==◌, ◌⊎◌, if◌then◌else◌, slice_get, slice_set, drop}
+use Rattle.std.proofs.Common.{◌≡◌, ℕ, zero, suc, ◌<◌, ◌≤◌, Bool, true, false, List, [], ◌∷◌, ◌++◌, length, refl, ap, sym, ◌∙◌, subst, arith, inl, inr}
+use Rattle.std.specs.Prelude.{Option, Some, None, ◌==◌, if◌then◌else◌, slice_get, slice_set}
 use Rattle.std.proofs.lemmas.Bool.{ne_eqb}
 use Rattle.std.proofs.lemmas.Bool.Decides.{nat_tests}
-use Rattle.std.proofs.lemmas.List.{append-nil}
 use Rattle.lin_frame.specs.declared.value.Value.{Value}
 use Rattle.lin_cluster.specs.declared.parts.Parts.{Parts}
 use Rattle.lin_cluster.specs.Sound.{IsSound}
-use Rattle.lin_core.specs.History.{asked, asleep, closed}
-use Rattle.lin_core.specs.Hosts.{fresh, queued, settled}
-use Rattle.lin_core.specs.Kept.{KeepsHost, message_at, message_of}
+use Rattle.lin_core.specs.History.{closed}
+use Rattle.lin_core.specs.Hosts.{fresh, queued}
+use Rattle.lin_core.specs.Kept.{KeepsHost}
 use Rattle.lin_core.specs.KeptLate.{KeepsLate, KeepsMode, KeepsSender, sender_now}
-use Rattle.lin_core.specs.Links.{Message, accepted_from, link_of, waiting}
+use Rattle.lin_core.specs.Links.{Message, link_of}
 use Rattle.lin_core.specs.Replies.{refusal}
-use Rattle.lin_core.specs.Slots.{selected}
 use Rattle.lin_core.specs.declared.event.Event.{Event}
 use Rattle.lin_core.specs.declared.host.Host.{Host}
 use Rattle.lin_core.specs.declared.log.LogEntry.{LogEntry}
@@ -39,7 +37,7 @@ use Rattle.std.specs.Prelude.{IfSome}
 use Rattle.lin_core.specs.Replies.{in_slot, refusals}
 use Rattle.lin_core.proofs.Hosts.{eqb-self}
 use Rattle.lin_core.proofs.OpenSlots.{or-assoc, or-false}
-use Rattle.lin_core.proofs.Steps.{AllFalse, both-false, none-of, not-false}
+use Rattle.lin_core.proofs.Steps.{both-false, none-of, not-false}
 use Rattle.lin_schedule.specs.Schedule.Move.{Restart}
 use Rattle.lin_schedule.specs.Walker.{Position, Stands, Walks}
 use Rattle.lin_core.specs.Kept.{Keeps}
@@ -53,10 +51,8 @@ use Rattle.lin_core.specs.declared.step.Step.TheVariants.{Answer, Open}
 use Rattle.lin_core.proofs.Steps.{answer-known, open-known}
 use Rattle.lin_core.proofs.Keeping.{all-at, same-hosts}
 use Rattle.lin_core.proofs.SignalKeeping.{signals-same}
-use Rattle.lin_core.proofs.Entries.{messages-stay}
 use Rattle.lin_core.proofs.Hosts.{HostState, IsCount}
 use Rattle.lin_core.proofs.Known.{Known, ask-known, close-known, entry_is, hurt-known, leave-known, refused-known, switch-known, wake-known, write-known}
-use Rattle.lin_core.proofs.Queues.{waiting-are}
 use Rattle.lin_core.proofs.Senders.{sender-is, sender_for}
 use Rattle.lin_core.proofs.SignalKeeping.{set-at}
 use Rattle.lin_core.proofs.Steps.{more_if, send-known}

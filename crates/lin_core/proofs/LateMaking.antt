@@ -1,16 +1,16 @@
 -- What stands inside a core as it makes a step that is allowed.
-use Rattle.std.proofs.Common.{◌≡◌, ℕ, zero, suc, ◌+◌, ◌-◌, ◌^◌, ◌<◌, ◌≤◌, Bool, true, false, List, [], ◌∷◌, ◌++◌, reverse, length, refl, ap, sym, ◌∙◌, subst, arith}
-use Rattle.std.specs.Prelude.{Option, Some, None, is_some, option_map, ◌||◌, nat_le, not, slice_get, slice_index_or}
+use Rattle.std.proofs.Common.{◌≡◌, ℕ, ◌<◌, Bool, true, false, List, [], ◌∷◌, ◌++◌, length, refl, ap, sym, ◌∙◌, subst, arith}
+use Rattle.std.specs.Prelude.{Option, Some, nat_le, not, slice_get, slice_index_or}
 use Rattle.std.proofs.lemmas.Bool.Decides.{nat_tests}
 use Rattle.std.proofs.lemmas.List.{length-append}
 use Rattle.std.proofs.lemmas.Option.{slice_get_read}
 use Rattle.lin_cluster.specs.Cluster.{nodes}
-use Rattle.lin_core.specs.Core.{CoreData, IsAllowed, answered, past_of}
-use Rattle.lin_core.specs.History.{Slot, closed, has_decided, is_in, open_slot}
+use Rattle.lin_core.specs.Core.{CoreData, answered}
+use Rattle.lin_core.specs.History.{closed, has_decided, is_in, open_slot}
 use Rattle.lin_core.specs.Kept.{Keeps, slot_in}
 use Rattle.lin_core.specs.KeptHeard.{KeepsHeard}
 use Rattle.lin_core.specs.KeptLate.{KeepsLate}
-use Rattle.lin_core.specs.Replies.{done_events, is_open, refusal, refusals}
+use Rattle.lin_core.specs.Replies.{done_events, is_open, refusals}
 use Rattle.lin_core.specs.Whole.{core_data, IsWhole}
 use Rattle.lin_core.specs.declared.event.Event.{Event}
 use Rattle.lin_core.specs.declared.host.Host.{Host}
@@ -18,7 +18,6 @@ use Rattle.lin_core.specs.declared.log.LogEntry.{LogEntry}
 use Rattle.lin_core.specs.declared.machine.Core.TheInside.{Inside}
 use Rattle.lin_core.specs.declared.port.PortId.{PortId}
 use Rattle.lin_core.specs.declared.slot.OpenSlot.{OpenSlot}
-use Rattle.lin_core.specs.declared.state.State.{State}
 use Rattle.lin_core.specs.declared.step.Step.{Step}
 use Rattle.lin_core.specs.declared.step.Step.TheVariants.{Close, Hurt, Leave}
 use Rattle.lin_core.proofs.Entries.{history-more, reverse-more}
@@ -26,7 +25,7 @@ use Rattle.lin_core.proofs.Keeping.{done_entry, done-answered}
 use Rattle.lin_core.proofs.Making.{Allowed, open-some, past_in}
 use Rattle.lin_core.proofs.LateKeeping.{leave-allowed, leave-fewer}
 use Rattle.lin_core.proofs.Places.{get-there}
-use Rattle.lin_core.proofs.Steps.{AllFalse, both-false, none-of, not-false}
+use Rattle.lin_core.proofs.Steps.{none-of, not-false}
 
 -- a host of this number
 pub host-of : (a : Inside) (h : ℕ) (host : Host) → IsWhole a → h < nodes a.cluster → host ≡ slice_index_or a.state.hosts.items h host → slice_get a.state.hosts.items h ≡ Some host

@@ -1,12 +1,10 @@
 -- What stands inside a core as it makes a step.
-use Rattle.lin_core.specs.declared.link.Direction.TheVariants.{Down}
-use Rattle.std.proofs.Common.{◌≡◌, ℕ, zero, suc, ◌+◌, ◌-◌, ◌^◌, ◌<◌, ◌≤◌, List, [], ◌∷◌, reverse, length, refl, ap, sym, ◌∙◌, subst, arith}
+use Rattle.std.proofs.Common.{◌≡◌, ℕ, zero, suc, ◌+◌, ◌-◌, ◌^◌, ◌<◌, ◌≤◌, List, [], reverse, length, refl, ap, sym, ◌∙◌, subst, arith}
 use Rattle.std.specs.Prelude.{Some, None, slice_get, slice_index_or}
 use Rattle.lin_cluster.specs.Cluster.{nodes}
-use Rattle.lin_cluster.specs.declared.parts.Parts.{Parts}
 use Rattle.lin_core.specs.History.{asked}
 use Rattle.lin_core.specs.KeptLate.{responder_now}
-use Rattle.lin_core.specs.Core.{CoreData, IsAllowed, past_of}
+use Rattle.lin_core.specs.Core.{CoreData, IsAllowed}
 use Rattle.lin_core.specs.Kept.{KeepsHost}
 use Rattle.lin_core.specs.Links.{waiting}
 use Rattle.lin_core.specs.Replies.{refusal}
@@ -19,23 +17,18 @@ use Rattle.lin_core.specs.declared.port.PortId.{PortId}
 use Rattle.lin_core.specs.declared.step.Step.{Step}
 use Rattle.lin_core.specs.declared.step.Step.TheVariants.{Send}
 use Rattle.lin_core.proofs.Keeping.{host-few, host-at, send-room, queue-length}
-use Rattle.std.specs.Prelude.{Bool, not, ◌==◌, nat_lt, Option, map, option_map}
+use Rattle.std.specs.Prelude.{Bool, not, ◌==◌, nat_lt, Option, option_map}
 use Rattle.std.proofs.lemmas.Bool.Decides.{nat_tests}
-use Rattle.std.proofs.lemmas.Option.{slice_get_read, slice_get_within}
-use Rattle.lin_frame.specs.Words.{choose}
+use Rattle.std.proofs.lemmas.Option.{slice_get_read}
 use Rattle.lin_cluster.specs.Cluster.{line_of}
 use Rattle.lin_cluster.specs.declared.parts.Entry.{Entry}
 use Rattle.lin_core.specs.History.{Slot, open_slot}
-use Rattle.lin_core.specs.Kept.{message_of, slot_in, begun}
-use Rattle.lin_core.specs.Links.{Message, accepted_from, heard_on, signs}
+use Rattle.lin_core.specs.Kept.{slot_in, begun}
 use Rattle.lin_core.specs.Slots.{header}
 use Rattle.lin_core.specs.declared.slot.OpenSlot.{OpenSlot}
-use Rattle.lin_core.specs.declared.step.Step.TheVariants.{Answer, Finish}
+use Rattle.lin_core.specs.declared.step.Step.TheVariants.{Finish}
 use Rattle.lin_core.proofs.Keeping.{Opens}
-use Rattle.lin_core.proofs.Hosts.{CanGo}
 use Rattle.lin_core.proofs.Known.{Known}
-use Rattle.lin_core.proofs.Queues.{waiting-are, accepted-count}
-use Rattle.std.proofs.lemmas.List.{length-map}
 use Rattle.std.specs.Prelude.{true, false, is_some}
 use Rattle.lin_core.specs.Kept.{cleared_in}
 use Rattle.lin_core.proofs.OpenSlots.{or-false}
@@ -44,8 +37,6 @@ use Rattle.lin_core.proofs.Keeping.{shut-slot}
 use Rattle.lin_core.specs.Dues.{header_of, is_due_of}
 use Rattle.lin_core.specs.Signals.{pending}
 use Rattle.lin_core.specs.Slots.{due_nodes}
-use Rattle.lin_core.specs.Replies.{in_slot}
-use Rattle.lin_core.specs.History.{header_is}
 use Rattle.lin_frame.specs.Words.{numbers}
 use Rattle.lin_schedule.specs.Due.{due_for}
 use Rattle.lin_schedule.specs.Walker.{HasEntry, Position}
@@ -55,7 +46,6 @@ use Rattle.std.specs.Prelude.{filter, ◌||◌}
 use Rattle.lin_core.specs.Replies.{refusals}
 use Rattle.lin_core.proofs.Places.{get-there}
 use Rattle.lin_core.proofs.Steps.{not-false, none-of}
-use Rattle.lin_core.proofs.Reports.{index-some}
 use Rattle.lin_core.proofs.Steps.{history-known}
 
 abbrev pub past_in : Inside → List LogEntry

@@ -1,12 +1,12 @@
 -- The cluster's mode behind a finish.
-use Rattle.std.proofs.Common.{◌≡◌, ℕ, Bool, true, false, List, [], ◌∷◌, refl, ap, ◌∙◌, arith}
+use Rattle.std.proofs.Common.{◌≡◌, ℕ, Bool, true, false, List, [], ◌∷◌, refl, arith}
 use Rattle.std.specs.Prelude.{Option, Some, None, cond, find, ◌++◌, ◌&&◌, ◌==◌, if◌then◌else◌, nat_le, slice_index}
 use Rattle.std.proofs.lemmas.Bool.Decides.{nat_tests}
 use Rattle.lin_frame.specs.Words.{choose}
 use Rattle.lin_cluster.specs.declared.parts.Parts.{Parts}
-use Rattle.lin_core.specs.History.{Slot, asked, asleep, good_under, is_sleep_slot, open_slot}
+use Rattle.lin_core.specs.History.{Slot, asked, asleep, good_under, open_slot}
 use Rattle.lin_core.specs.KeptLate.{KeepsMode, mode_after}
-use Rattle.lin_core.specs.Slots.{addressed, node_with, selected}
+use Rattle.lin_core.specs.Slots.{node_with, selected}
 use Rattle.lin_core.specs.declared.event.Event.{Event}
 use Rattle.lin_core.specs.declared.log.LogEntry.{LogEntry}
 use Rattle.lin_core.specs.declared.mode.Mode.{Mode}

@@ -1,7 +1,7 @@
 -- A slot that opens: its header and who is due, by what is kept, and what its responses can be.
-use Rattle.std.proofs.Common.{◌≡◌, ◌≢◌, ℕ, zero, suc, ◌+◌, ◌<◌, ◌≤◌, Bool, true, false, List, [], ◌∷◌, ◌++◌, map, length, refl, ap, sym, ◌∙◌, subst, arith, inl, inr, length-append}
+use Rattle.std.proofs.Common.{◌≡◌, ℕ, ◌+◌, ◌<◌, ◌≤◌, Bool, true, false, List, [], ◌∷◌, ◌++◌, map, length, refl, ap, sym, ◌∙◌, arith, inl, inr, length-append}
 use Rattle.std.proofs.Math.Path.{fun_ext}
-use Rattle.std.specs.Prelude.{Option, Some, None, IfSome, All, cond, ◌&&◌, ◌||◌, not, ◌==◌, ◌⊎◌, if◌then◌else◌, filter, find, is_some, nat_lt, option_map, slice_index_or}
+use Rattle.std.specs.Prelude.{Option, Some, None, ◌&&◌, ◌||◌, not, ◌==◌, if◌then◌else◌, filter, find, is_some, nat_lt, option_map, slice_index_or}
 use Rattle.std.specs.List.{list_any}
 use Rattle.std.proofs.lemmas.Bool.{ne_eqb}
 use Rattle.std.proofs.lemmas.Bool.Decides.{eqb_tells, nat_tests}
@@ -19,11 +19,11 @@ use Rattle.lin_schedule.specs.Walker.{HasEntry}
 use Rattle.lin_transport.proofs.Frames.{and-false}
 use Rattle.lin_core.proofs.Finishes.{and-true}
 use Rattle.lin_core.specs.KeptLate.{responder_now}
-use Rattle.lin_core.specs.Dues.{HasDue, header_of, is_due_of, frame_by}
-use Rattle.lin_core.specs.History.{Slot, asked, has_decided, header_is, is_in, open_slot}
+use Rattle.lin_core.specs.Dues.{HasDue, header_of, is_due_of}
+use Rattle.lin_core.specs.History.{asked, has_decided, header_is, is_in, open_slot}
 use Rattle.lin_core.specs.Kept.{CanAnswer, IsOpen, put_in, slot_in}
 use Rattle.lin_core.specs.Links.{waiting}
-use Rattle.lin_core.specs.Replies.{in_slot, refusal}
+use Rattle.lin_core.specs.Replies.{refusal}
 use Rattle.lin_core.specs.Signals.{pending}
 use Rattle.lin_core.specs.Slots.{due_nodes, header, is_due, selected}
 use Rattle.lin_core.specs.declared.log.LogEntry.{LogEntry}

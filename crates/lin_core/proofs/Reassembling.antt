@@ -1,5 +1,5 @@
 -- What the receiver of a link hears, as a core finishes the slot of a good frame.
-use Rattle.std.proofs.Common.{◌≡◌, ◌≤◌, ◌+◌, ℕ, true, List, [], ◌∷◌, ◌++◌, map, length, take, refl, ap, sym, ◌∙◌, subst, arith, length-append}
+use Rattle.std.proofs.Common.{◌≡◌, ◌≤◌, ◌+◌, ℕ, true, List, [], ◌∷◌, map, length, take, refl, ap, sym, ◌∙◌, subst, arith, length-append}
 use Rattle.std.specs.Global.{Vec}
 use Rattle.std.specs.Prelude.{IfOk, IsSome, Option, Result, Ok, Err, None, Some, false, is_err, option_map}
 use Rattle.lin_frame.specs.Frame.{classic}

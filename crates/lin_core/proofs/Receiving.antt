@@ -1,6 +1,6 @@
 -- What the receivers of the links hear of each step.
-use Rattle.std.proofs.Common.{◌≡◌, ◌≢◌, ℕ, zero, suc, ◌<◌, ◌≤◌, Bool, true, false, List, [], ◌∷◌, ◌++◌, length, take, refl, ap, sym, ◌∙◌, subst, arith, inl, inr}
-use Rattle.std.specs.Prelude.{Option, Some, None, ◌==◌, drop, if◌then◌else◌, is_some, option_to_list, slice_get, slice_index, slice_set}
+use Rattle.std.proofs.Common.{◌≡◌, ◌≢◌, ℕ, ◌<◌, Bool, true, false, List, [], ◌∷◌, ◌++◌, length, refl, ap, sym, ◌∙◌, subst, arith, inl, inr}
+use Rattle.std.specs.Prelude.{Option, Some, None, drop, if◌then◌else◌, is_some, option_to_list, slice_get, slice_index, slice_set}
 use Rattle.std.proofs.Math.ListN.{length-set}
 use Rattle.std.proofs.lemmas.Bool.Decides.{eqb_tells}
 use Rattle.std.proofs.lemmas.List.{drop_at}
@@ -11,7 +11,7 @@ use Rattle.lin_transport.specs.Receiver.{Hears, Reception, Stands}
 use Rattle.lin_cluster.specs.Cluster.{nad}
 use Rattle.lin_cluster.specs.Sound.{IsSound}
 use Rattle.lin_cluster.specs.declared.parts.Parts.{Parts}
-use Rattle.lin_core.specs.History.{Slot, asked, header_is, open_slot}
+use Rattle.lin_core.specs.History.{Slot, asked, open_slot}
 use Rattle.lin_core.specs.KeptHeard.{AreReset, HearsOn, IsReset, KeepsHeard, KeepsReceiver, opposite, receiver_in}
 use Rattle.lin_core.specs.Links.{Link, Message, accepted_from, heard_on, nad_on, reading, same_link, signs}
 use Rattle.lin_core.specs.Loads.{is_still, load_of}

@@ -1,5 +1,5 @@
 -- The selected responder is a node, and who of the kept hosts is due in a slave response.
-use Rattle.std.proofs.Common.{◌≡◌, ℕ, zero, suc, ◌<◌, ◌≤◌, Bool, true, false, List, [], ◌∷◌, ◌++◌, length, refl, ap, sym, ◌∙◌, subst, arith}
+use Rattle.std.proofs.Common.{◌≡◌, ℕ, zero, suc, ◌<◌, Bool, true, false, List, [], ◌∷◌, length, refl, ap, sym, ◌∙◌, arith}
 use Rattle.std.specs.Prelude.{Option, Some, None, ◌==◌, find, nat_le, nat_lt, if◌then◌else◌, ◌&&◌, slice_get, slice_index}
 use Rattle.lin_frame.specs.Words.{choose, numbers}
 use Rattle.lin_cluster.specs.Cluster.{nad, nodes}

@@ -1,11 +1,11 @@
 -- How far the message is that a host has begun, by what is known of the host.
-use Rattle.std.proofs.Common.{◌≡◌, ℕ, zero, suc, Bool, true, false, List, [], ◌∷◌, ◌++◌, length, map, refl, ap, sym, ◌∙◌, subst, inl, inr}
-use Rattle.std.specs.Prelude.{Option, Some, None, ◌==◌, if◌then◌else◌, filter, find, option_map, slice_index_or}
+use Rattle.std.proofs.Common.{◌≡◌, ℕ, zero, suc, true, false, List, [], ◌∷◌, ◌++◌, length, map, refl, ap, sym, ◌∙◌, subst, inl, inr}
+use Rattle.std.specs.Prelude.{Option, Some, None, filter, find, option_map, slice_index_or}
 use Rattle.std.proofs.lemmas.Bool.Decides.{eqb_tells}
-use Rattle.std.proofs.lemmas.List.{append-nil, length-append}
+use Rattle.std.proofs.lemmas.List.{append-nil}
 use Rattle.lin_transport.specs.Transport.{first, frame}
 use Rattle.lin_transport.specs.Sender.{Sending as Sender}
-use Rattle.lin_transport.proofs.Frames.{and-false, length-first}
+use Rattle.lin_transport.proofs.Frames.{length-first}
 use Rattle.lin_cluster.specs.declared.parts.Parts.{Parts}
 use Rattle.lin_cluster.specs.Sound.{IsSound}
 use Rattle.lin_core.specs.History.{Slot, asked, open_slot}

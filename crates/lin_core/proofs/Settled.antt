@@ -1,14 +1,12 @@
 -- A finish by which a host's first message is settled, inside a core.
-use Rattle.std.proofs.Common.{◌≡◌, ℕ, suc, ◌+◌, ◌-◌, ◌^◌, ◌<◌, ◌≤◌, List, [], ◌∷◌, length, refl, ap, sym, ◌∙◌, subst, arith}
+use Rattle.std.proofs.Common.{◌≡◌, ℕ, suc, ◌+◌, ◌^◌, ◌<◌, ◌≤◌, List, [], ◌∷◌, length, ap, sym, ◌∙◌, subst, arith}
 use Rattle.std.specs.Prelude.{Some, slice_get, slice_index_or, true}
 use Rattle.std.proofs.lemmas.List.{length-map}
 use Rattle.lin_cluster.specs.Cluster.{nodes}
-use Rattle.lin_core.specs.History.{Slot}
 use Rattle.lin_core.specs.Kept.{KeepsHost, message_of, slot_in}
 use Rattle.lin_core.specs.Links.{Message, waiting}
 use Rattle.lin_core.specs.Loads.{load_of}
 use Rattle.lin_core.specs.Whole.{IsWhole}
-use Rattle.lin_core.specs.declared.event.Event.{Event}
 use Rattle.lin_core.specs.declared.event.Event.TheVariants.{Lost}
 use Rattle.lin_core.specs.declared.host.Host.{Host}
 use Rattle.lin_core.specs.declared.link.Cause.TheVariants.{Damaged}

@@ -1,7 +1,6 @@
 -- The hosts behind an entry by which the first message that waits of one of them is settled.
-use Rattle.std.proofs.Common.{◌≡◌, ◌≢◌, ℕ, zero, suc, ◌+◌, ◌<◌, ◌≤◌, Bool, true, false, List, [], ◌∷◌, ◌++◌, length, map, refl, ap, sym, ◌∙◌, subst, arith, inl, inr}
-use Rattle.std.specs.Prelude.{Option, Some, None, ◌==◌, ◌⊎◌, if◌then◌else◌, drop, slice_get, slice_set}
-use Rattle.std.proofs.lemmas.Bool.{ne_eqb}
+use Rattle.std.proofs.Common.{◌≡◌, ◌≢◌, ℕ, zero, suc, Bool, true, false, List, [], ◌∷◌, ◌++◌, length, map, refl, ap, sym, ◌∙◌, subst, arith, inl, inr}
+use Rattle.std.specs.Prelude.{Some, None, drop, slice_get, slice_set}
 use Rattle.lin_cluster.specs.declared.parts.Parts.{Parts}
 use Rattle.lin_cluster.specs.Sound.{IsSound}
 use Rattle.lin_core.specs.History.{closed}
@@ -15,12 +14,11 @@ use Rattle.lin_core.specs.declared.log.LogEntry.{LogEntry}
 use Rattle.lin_core.specs.declared.mode.Mode.{Mode}
 use Rattle.lin_core.proofs.Entries.{messages-stay}
 use Rattle.lin_core.proofs.Hosts.{AllCanGo, HostState}
-use Rattle.lin_core.proofs.Keeping.{same-hosts}
 use Rattle.lin_core.proofs.Known.{Known}
 use Rattle.lin_core.proofs.LateKeeping.{sender-stays}
 use Rattle.lin_core.proofs.Moves.{marked}
 use Rattle.lin_core.proofs.Queues.{waiting-are}
-use Rattle.lin_core.proofs.Senders.{sender-is, sender_for}
+use Rattle.lin_core.proofs.Senders.{sender-is}
 use Rattle.lin_core.proofs.SignalKeeping.{set-at}
 
 -- one host's first message is settled, and no other host's messages change

@@ -15,9 +15,9 @@ use Rattle.lin_cluster.specs.declared.parts.Parts.{Parts}
 use Rattle.lin_cluster.specs.declared.parts.Signal.{Signal}
 use Rattle.lin_core.specs.History.{open_slot, good, good_bytes, is_in, seen_by}
 use Rattle.lin_core.specs.Passes.{Ends}
-use Rattle.lin_core.specs.Kept.{ArePointwise, KeepsSignals, KeepsOne, cleared_in, is_cleared, put_in, slot_in}
+use Rattle.lin_core.specs.Kept.{KeepsSignals, KeepsOne, cleared_in, is_cleared, put_in, slot_in}
 use Rattle.lin_core.specs.Replies.{refusal, refusals}
-use Rattle.lin_core.specs.Signals.{value, heard, pending, carried, value_in, written_since_answer}
+use Rattle.lin_core.specs.Signals.{value, heard, pending, carried, written_since_answer}
 use Rattle.lin_core.specs.declared.event.Event.{Event}
 use Rattle.lin_core.specs.declared.log.LogEntry.{LogEntry}
 use Rattle.lin_core.specs.declared.port.PortId.{PortId}

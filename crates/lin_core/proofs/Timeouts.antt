@@ -1,6 +1,6 @@
 -- What a timeout finds, and what it leaves.
-use Rattle.std.proofs.Common.{◌≡◌, ◌≢◌, ℕ, zero, suc, ◌+◌, ◌-◌, ◌^◌, ◌<◌, ◌≤◌, Bool, true, false, List, [], ◌∷◌, ◌++◌, reverse, length, map, refl, ap, sym, ◌∙◌, subst, arith}
-use Rattle.std.specs.Prelude.{Option, Some, None, is_none, is_some, ◌&&◌, ◌==◌, if◌then◌else◌, nat_le, slice_get, slice_index_or}
+use Rattle.std.proofs.Common.{◌≡◌, ℕ, zero, suc, ◌+◌, ◌^◌, ◌<◌, ◌≤◌, Bool, true, false, List, [], ◌∷◌, ◌++◌, length, map, refl, ap, sym, ◌∙◌, subst, arith}
+use Rattle.std.specs.Prelude.{Option, Some, None, is_none, is_some, ◌&&◌, nat_le, slice_get, slice_index_or}
 use Rattle.std.proofs.lemmas.Bool.Decides.{nat_tests}
 use Rattle.std.proofs.lemmas.List.{length-map}
 use Rattle.lin_transport.specs.Sender.{Sending as Sender}
@@ -10,7 +10,7 @@ use Rattle.lin_core.specs.History.{open_slot}
 use Rattle.lin_core.specs.Kept.{Keeps, KeepsHost, message_at, message_of}
 use Rattle.lin_core.specs.KeptLate.{KeepsLate}
 use Rattle.lin_core.specs.Links.{Link, Message, accepted_from, heard_on, host_of, same_link, signs, waiting}
-use Rattle.lin_core.specs.Replies.{all_reports, begun_on, link_at, quiet_entry, refusal, refusals}
+use Rattle.lin_core.specs.Replies.{all_reports, begun_on, link_at, quiet_entry, refusals}
 use Rattle.lin_core.specs.Whole.{IsWhole}
 use Rattle.lin_core.specs.declared.event.Event.{Event}
 use Rattle.lin_core.specs.declared.event.Event.TheVariants.{Lost as LostEvent}

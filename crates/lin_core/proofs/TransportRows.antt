@@ -1,9 +1,8 @@
 -- Worked examples of messages of several frames, damage, absence, timeouts, sleep and closes, on the two clusters of the other rows.
-use Rattle.std.specs.Prelude.{◌≡◌, ℕ, List, [], ◌∷◌, ◌++◌, map, reverse, Some, None, true, false}
+use Rattle.std.specs.Prelude.{◌≡◌, ℕ, List, [], ◌∷◌, ◌++◌, map, reverse, Some, None}
 use Rattle.std.proofs.Common.{refl}
 use Rattle.lin_frame.specs.declared.value.Value.TheVariants.{Scalar}
 use Rattle.lin_cluster.specs.declared.parts.Parts.{Parts}
-use Rattle.lin_core.specs.History.{asleep}
 use Rattle.lin_core.specs.Runs.{history}
 use Rattle.lin_core.specs.Replies.{reply}
 use Rattle.lin_core.specs.declared.log.LogEntry.{LogEntry}

@@ -1,6 +1,6 @@
 -- An answer with a frame of a message, or with the sleep frame.
-use Rattle.std.proofs.Common.{◌≡◌, ◌≢◌, ℕ, ◌-◌, ◌^◌, ◌<◌, Bool, true, false, List, [], ◌∷◌, length, refl, ap, sym, ◌∙◌, subst}
-use Rattle.std.specs.Prelude.{Option, Some, None, ◌==◌, ◌&&◌, ◌||◌, slice_get, slice_index_or}
+use Rattle.std.proofs.Common.{◌≡◌, ℕ, ◌-◌, ◌^◌, ◌<◌, Bool, true, false, List, [], ◌∷◌, length, refl, ap, sym, ◌∙◌, subst}
+use Rattle.std.specs.Prelude.{Some, None, ◌==◌, ◌&&◌, ◌||◌, slice_get, slice_index_or}
 use Rattle.lin_frame.specs.Words.{choose}
 use Rattle.lin_core.specs.Core.{CoreData, IsAllowed, past_of}
 use Rattle.lin_core.specs.Dues.{frame_answered}
@@ -30,7 +30,6 @@ use Rattle.std.proofs.Common.{arith}
 use Rattle.std.proofs.lemmas.Bool.Decides.{nat_tests}
 use Rattle.lin_core.specs.Replies.{refusals}
 use Rattle.lin_core.proofs.Steps.{none-of}
-use Rattle.lin_core.proofs.Finishes.{and-true}
 use Rattle.lin_core.specs.declared.slot.OpenSlot.{OpenSlot}
 use Rattle.lin_core.specs.declared.log.LogEntry.{LogEntry}
 use Rattle.lin_cluster.specs.declared.parts.Parts.{Parts}

@@ -1,19 +1,17 @@
 -- What an answer puts, and what a finish and a timeout make of the messages that wait, by the open slot.
-use Rattle.std.proofs.Common.{◌≡◌, ◌≢◌, ℕ, zero, suc, ◌≤◌, Bool, true, false, List, [], ◌∷◌, length, refl, ap, sym, ◌∙◌, subst, arith}
-use Rattle.std.specs.Prelude.{Option, Some, None, ◌==◌, ◌||◌, if◌then◌else◌, is_some, slice_index}
+use Rattle.std.proofs.Common.{◌≡◌, ◌≢◌, ℕ, zero, suc, ◌≤◌, Bool, true, false, List, [], ◌∷◌, refl, ap, sym, ◌∙◌, subst, arith}
+use Rattle.std.specs.Prelude.{Option, Some, None, ◌==◌, ◌||◌, if◌then◌else◌, is_some}
 use Rattle.std.specs.List.{list_any}
 use Rattle.std.proofs.lemmas.Bool.{ne_eqb}
 use Rattle.lin_transport.specs.Transport.{frame}
 use Rattle.lin_cluster.specs.Cluster.{line_of}
 use Rattle.lin_cluster.specs.Sound.{IsSound}
-use Rattle.lin_cluster.specs.declared.parts.Entry.TheVariants.{MasterReq, SlaveResp}
 use Rattle.lin_cluster.specs.declared.parts.Parts.{Parts}
 use Rattle.lin_core.specs.History.{Slot, asked, has_decided, header_is, is_in, is_sleep_slot, open_slot}
 use Rattle.lin_core.specs.Links.{Fate, Link, Message, accepted_from, begun, blocks, heard_on, header_for, host_of, nad_on, same_link, signs, waiting}
 use Rattle.lin_core.specs.Replies.{begun_on, in_slot, link_at, refusal}
 use Rattle.lin_core.specs.Slots.{next_frame, put, sleep_frame, with_classic}
 use Rattle.lin_core.specs.Loads.{load_of}
-use Rattle.lin_core.specs.declared.load.Load.{Load}
 use Rattle.lin_core.specs.declared.load.Load.TheVariants.{Carried, Nothing, Sleep}
 use Rattle.lin_core.specs.declared.event.Event.{Event}
 use Rattle.lin_core.specs.declared.link.Cause.TheVariants.{Slept}

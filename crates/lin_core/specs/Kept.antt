@@ -1,5 +1,5 @@
 -- What a core keeps of its log.
-use Rattle.std.specs.Prelude.{◌≡◌, ⊤, ℕ, ◌+◌, ◌*◌, ◌^◌, ◌≤◌, ◌<◌, List, [], ◌∷◌, map, length, Bool, true, false, slice_get, slice_index_or, IsTrue, IfSome, All, filter, not, ◌==◌, ◌&&◌, ◌||◌, ◌⊎◌, vec_capacity, Option, Some, None, option_map}
+use Rattle.std.specs.Prelude.{◌≡◌, ⊤, ℕ, ◌+◌, ◌*◌, ◌^◌, ◌≤◌, ◌<◌, List, [], ◌∷◌, map, length, Bool, true, false, slice_get, slice_index_or, IsTrue, IfSome, All, filter, not, ◌==◌, ◌||◌, ◌⊎◌, vec_capacity, Option, Some, None, option_map}
 use Rattle.std.specs.List.{list_any}
 use Rattle.lin_frame.specs.Words.{choose}
 use Rattle.lin_frame.specs.Bits.{fits_place}

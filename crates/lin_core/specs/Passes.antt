@@ -1,5 +1,5 @@
 -- What the end of a slot makes of what a core keeps.
-use Rattle.std.specs.Prelude.{◌≡◌, ◌+◌, ◌≤◌, ℕ, ◌||◌, false, if◌then◌else◌, List, ◌∷◌, length, is_some, slice_index_or, Some, None}
+use Rattle.std.specs.Prelude.{◌≡◌, ◌+◌, ◌≤◌, ℕ, ◌||◌, false, if◌then◌else◌, List, ◌∷◌, length, is_some, slice_index_or, None}
 use Rattle.lin_frame.specs.Words.{choose}
 use Rattle.lin_frame.specs.declared.value.Value.{Value}
 use Rattle.lin_cluster.specs.Cluster.{line_of}

@@ -1,6 +1,6 @@
 -- What a slot is for: its header, who is due in it, and what an answer puts (ISO 17987-3, frame transfer; ISO 17987-2, diagnostic schedules).
-use Rattle.std.specs.Prelude.{ℕ, ◌==◌, nat_le, nat_lt, Bool, true, false, ◌&&◌, ◌||◌, if◌then◌else◌, List, [], ◌∷◌, ◌++◌, filter, find, length, replicate, slice_index, Option, Some, None, is_some, option_map}
-use Rattle.std.specs.List.{list_any, list_all, cons_option}
+use Rattle.std.specs.Prelude.{ℕ, ◌==◌, nat_le, nat_lt, Bool, false, ◌&&◌, ◌||◌, if◌then◌else◌, List, [], ◌∷◌, ◌++◌, filter, find, length, replicate, slice_index, Option, Some, None, is_some, option_map}
+use Rattle.std.specs.List.{list_any, cons_option}
 use Rattle.lin_frame.specs.Words.{numbers, choose}
 use Rattle.lin_frame.specs.Frame.{classic, answer_of}
 use Rattle.lin_frame.specs.declared.sums.SumKind.{SumKind}
@@ -8,8 +8,6 @@ use Rattle.lin_frame.specs.declared.sums.SumKind.TheVariants.{Classic}
 use Rattle.lin_transport.specs.Transport.{frame}
 use Rattle.lin_cluster.specs.Cluster.{nad, nodes, frame_of, sporadic_of, event_of}
 use Rattle.lin_cluster.specs.declared.parts.Parts.{Parts}
-use Rattle.lin_cluster.specs.declared.parts.Table.{Table}
-use Rattle.lin_cluster.specs.declared.parts.Line.{Line}
 use Rattle.lin_cluster.specs.declared.parts.Entry.{Entry}
 use Rattle.lin_cluster.specs.declared.parts.Entry.TheVariants.{Frame, Sporadic, Event, MasterReq, SlaveResp, Quiet}
 use Rattle.lin_schedule.specs.Schedule.{Move, standing, due}

@@ -1,22 +1,13 @@
-use Rattle.std.proofs.Common.{refl, ◌≡◌, ◌+◌, ℕ, List, [], ◌∷◌, ◌++◌, ap, sym, ◌∙◌, subst, arith, length-append}
-use Rattle.std.specs.Prelude.{Option}
-use Rattle.lin_cluster.specs.Cluster.{line_of}
+use Rattle.std.proofs.Common.{refl, ◌≡◌, List, [], ◌∷◌, ◌++◌, ap, sym, ◌∙◌, subst}
 use Rattle.lin_core.specs.Core.{answered, CoreData}
 use Rattle.lin_core.specs.History.{seen}
 use Rattle.lin_core.specs.Kept.{Keeps, slot_in}
 use Rattle.lin_core.specs.Replies.{finish_events}
-use Rattle.lin_core.specs.Slots.{moves}
 use Rattle.lin_core.specs.Whole.{core_data}
-use Rattle.lin_core.specs.History.{is_clash_seen}
-use Rattle.lin_schedule.specs.Schedule.Move.{Slot as SlotMove}
-use Rattle.lin_schedule.specs.Walker.{Stands}
-use Rattle.std.specs.Prelude.{Bool}
 use Rattle.lin_core.specs.declared.event.Event.{Event}
 use Rattle.lin_core.specs.declared.event.Event.TheVariants.{Asleep as SleepEvent, Seen}
 use Rattle.lin_core.specs.declared.log.LogEntry.{LogEntry}
-use Rattle.lin_core.specs.declared.slot.OpenSlot.{OpenSlot}
 use Rattle.lin_core.specs.declared.step.Step.TheVariants.{Finish}
-use Rattle.lin_core.proofs.Entries.{reverse-more, history-more}
 use Rattle.std.specs.Prelude.{Some, false}
 use Rattle.lin_core.specs.Core.{past_of}
 use Rattle.lin_core.specs.History.{Slot, open_slot}
@@ -25,8 +16,7 @@ use Rattle.lin_core.specs.Loads.{load_of}
 use Rattle.lin_core.specs.declared.load.Load.TheVariants.{Sleep}
 use Rattle.lin_core.proofs.FinishCases.{Sleeps, finishes-asleep, known_behind}
 use Rattle.lin_core.proofs.Sleeping.{losses-are, settled-small, sleeping-hosts, sleeping-late}
-use Rattle.lin_core.proofs.Keeping.{done_entry, done-answered, finished_entry, finish-keeps, Finishes}
-use Rattle.lin_core.proofs.ModeKeeping.{finish-mode}
+use Rattle.lin_core.proofs.Keeping.{done_entry}
 use Rattle.lin_core.specs.KeptLate.{KeepsLate, KeepsMode}
 use Rattle.lin_core.specs.Passes.{Passes}
 use Rattle.lin_core.proofs.Passing.{finish_of, finish-answered, passed-keeps, passed-mode}

@@ -1,11 +1,10 @@
-use Rattle.std.proofs.Common.{◌≡◌, ◌<◌, refl, length, sym, ◌∙◌, subst, ap, arith}
-use Rattle.std.specs.Prelude.{Some, None, true, ◌&&◌, is_some, slice_get}
+use Rattle.std.proofs.Common.{◌≡◌, ◌<◌, refl, sym, ◌∙◌, subst, arith}
+use Rattle.std.specs.Prelude.{Some, None, true, is_some, slice_get}
 use Rattle.lin_cluster.specs.Cluster.{nodes}
 use Rattle.lin_core.specs.Core.{CoreData, past_of}
 use Rattle.lin_core.specs.History.{open_slot}
 use Rattle.lin_core.specs.Links.{host_of}
 use Rattle.lin_core.specs.Replies.{begun_on, link_at}
-use Rattle.lin_core.specs.declared.host.Host.{Host}
 use Rattle.lin_core.proofs.Places.{get-there}
 use Rattle.lin_core.proofs.Timeouts.{begun-inside, none-inside, over-node}
 use Rattle.lin_core.proofs.machine.Core.is_begun.Goals as goal
