@@ -12,6 +12,8 @@ pub mod FindingsLists
 pub mod FindingsMaps
 pub mod FindingsMembers
 pub mod FindingsOrder
+pub mod FindingsPlaces
+pub mod FindingsRanges
 pub mod FindingsRepeats
 pub mod FindingsRows
 pub mod GoodParts

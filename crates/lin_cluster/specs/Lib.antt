@@ -8,6 +8,8 @@ pub mod FindingsFrames
 pub mod FindingsTables
 pub mod FindingsMaps
 pub mod FindingsMembers
+pub mod FindingsRanges
+pub mod FindingsPlaces
 pub mod FindingsRepeats
 pub mod Findings
 pub mod Fitting

@@ -9,6 +9,7 @@ mod members;
 mod numbers;
 mod overlaps;
 mod places;
+mod ranges;
 mod repeats;
 mod sizes;
 mod slots;
@@ -40,12 +41,12 @@ fn of_names_and_numbers(
     identifiers::bad_identifiers(alloc, found, known)
 }
 
-fn of_signals(found: &mut Vec<Finding>, known: &Known) -> Result<(), AllocError>
+fn of_signals(alloc: Global, found: &mut Vec<Finding>, known: &Known) -> Result<(), AllocError>
     ensures { OnOk result (found.new.items ≡ found.old.items ++ bad_sizes known.now ++ signals_outside known.now ++ signals_overlap known.now ++ bad_inits known.now) }
 {
     sizes::bad_sizes(found, known)?;
     places::signals_outside(found, known)?;
-    overlaps::signals_overlap(found, known)?;
+    overlaps::signals_overlap(alloc, found, known)?;
     sizes::bad_inits(found, known)
 }
 
@@ -62,11 +63,7 @@ fn of_slots_and_addresses(
     addresses::bad_addresses(alloc, found, known)
 }
 
-fn of_tables(
-    alloc: Global,
-    found: &mut Vec<Finding>,
-    judged: &Judged,
-) -> Result<(), AllocError>
+fn of_tables(alloc: Global, found: &mut Vec<Finding>, judged: &Judged) -> Result<(), AllocError>
     ensures { OnOk result (found.new.items ≡ found.old.items ++ bad_event_frames judged.now ++ bad_sporadics judged.now ++ nested_collisions judged.now ++ empty_tables judged.now ++ limits_passed judged.now) }
 {
     let known = judged.known();
@@ -83,7 +80,7 @@ fn unordered(alloc: Global, known: &Known) -> Result<Vec<Finding>, AllocError>
     let judged = Judged::new(alloc, known)?;
     let mut found = Vec::new(alloc);
     of_names_and_numbers(alloc, &mut found, known)?;
-    of_signals(&mut found, known)?;
+    of_signals(alloc, &mut found, known)?;
     of_slots_and_addresses(alloc, &mut found, &judged)?;
     of_tables(alloc, &mut found, &judged)?;
     Ok(found)

@@ -48,22 +48,14 @@ fn bad_nads(found: &mut Vec<Finding>, nads: &[Number]) -> Result<(), AllocError>
     Ok(())
 }
 
-fn twice(
-    found: &mut Vec<Finding>,
-    earlier: &IndexSet<u32>,
-    nad: &Number,
-) -> Result<(), AllocError>
+fn twice(found: &mut Vec<Finding>, earlier: &IndexSet<u32>, nad: &Number) -> Result<(), AllocError>
     ensures { OnOk result (found.new.items ≡ found.old.items ++ when (contains nat_eq earlier.now nad.now.value) (at_number 12 nad.now)) }
 {
     push_when(found, earlier.contains(&nad.value), at_number(12, nad))
 }
 
 #[tactic(auto, using(crate::proofs::FindingsLists::each_all))]
-fn nads_twice(
-    alloc: Global,
-    found: &mut Vec<Finding>,
-    nads: &[Number],
-) -> Result<(), AllocError>
+fn nads_twice(alloc: Global, found: &mut Vec<Finding>, nads: &[Number]) -> Result<(), AllocError>
     ensures { OnOk result (found.new.items ≡ found.old.items ++ flat_map (nad_twice nads.now) (enumerate_from 0 nads.now)) }
 {
     let mut earlier = IndexSet::new(alloc);

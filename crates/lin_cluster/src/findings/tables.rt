@@ -19,7 +19,11 @@ pub(super) fn has_event_entry(known: &Known, entries: &[TableEntry]) -> bool
     entries.iter().any(|entry| known.is_event_entry(entry))
 }
 
-fn nested_at(found: &mut Vec<Finding>, judged: &Judged, event: &EventFrame) -> Result<(), AllocError>
+fn nested_at(
+    found: &mut Vec<Finding>,
+    judged: &Judged,
+    event: &EventFrame,
+) -> Result<(), AllocError>
     ensures { OnOk result (found.new.items ≡ found.old.items ++ nested_at judged.now event.now) }
 {
     let is_wrong = judged.is_nested(&event.table);

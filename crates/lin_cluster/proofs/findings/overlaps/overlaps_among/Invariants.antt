@@ -1,8 +1,19 @@
-use Rattle.std.proofs.Common.{◌≡◌, ◌++◌, take}
-use Rattle.std.specs.List.{flat_map}
+use Rattle.std.proofs.Common.{◌≡◌, ◌++◌, ◌<◌, ℕ, List, true, take}
+use Rattle.std.specs.Prelude.{◌↔◌}
+use Rattle.std.specs.List.{flat_map, list_any}
 use Rattle.std.specs.List.{enumerate_from}
+use Rattle.std.specs.Str.{bytes_eq}
 use Rattle.lin_cluster.specs.FindingsFrames.{overlap_at}
+use Rattle.lin_cluster.specs.FindingsMembers.{has_text}
+use Rattle.lin_cluster.specs.FindingsNames.{knows, signal_named}
+use Rattle.lin_cluster.specs.FindingsPlaces.{lies_in}
+use Rattle.lin_cluster.specs.FindingsRanges.{Meets, AreApart}
 use Rattle.lin_cluster.proofs.findings.overlaps.overlaps_among.Given as goal
 
-abbrev pub invariant-loop-i : goal.invariant-loop-i
-invariant-loop-i l = l.found.items ≡ l.fn.found.items ++ flat_map (overlap_at l.known l.all_placed) (take l.i (enumerate_from 0 l.all_placed))
+abbrev pub invariant-loop-placed : goal.invariant-loop-placed
+invariant-loop-placed l = record {
+  found : l.found.items ≡ l.fn.found.items ++ flat_map (overlap_at l.known l.all_placed) (take l.placed-index (enumerate_from 0 l.all_placed));
+  apart : AreApart l.ranges;
+  names : (q : List ℕ) → has_text l.names q ≡ list_any (λ p. bytes_eq p.signal.text q) (take l.placed-index l.all_placed);
+  ranges : (a b : ℕ) → a < b → Meets l.ranges a b ↔ (list_any (λ p. knows (signal_named l.known p.signal) (lies_in a b p)) (take l.placed-index l.all_placed) ≡ true);
+}

@@ -1,0 +1,157 @@
+-- What the signals of a frame take up, with one more signal.
+use Rattle.std.proofs.Common.{◌≡◌, ℕ, ◌+◌, ◌<◌, ◌≤◌, Bool, true, false, List, [], ◌∷◌, length, take, get_or, Option, Some, None, sym, ap, refl, subst, ◌∙◌, ◌⊎◌, inl, inr, arith}
+use Rattle.std.specs.Prelude.{◌↔◌, ◌||◌, ◌&&◌, nat_lt}
+use Rattle.std.specs.BTreeMap.{BTreeMap}
+use Rattle.std.specs.List.{list_any}
+use Rattle.std.specs.Str.{bytes_eq}
+use Rattle.indexmap.specs.IndexMap.{IndexMap}
+use Rattle.std.proofs.lemmas.Bool.{lt-ltb, cases_lt}
+use Rattle.std.proofs.lemmas.Bool.Decides.{nat_tests}
+use Rattle.std.proofs.lemmas.List.Folds.{list_any_more}
+use Rattle.lin_cluster.specs.FindingsFrames.{meets, share_bit}
+use Rattle.lin_cluster.specs.FindingsMembers.{has_text}
+use Rattle.lin_cluster.specs.FindingsNames.{knows, signal_named, same_name}
+use Rattle.lin_cluster.specs.FindingsPlaces.{IsTaken, lies_in}
+use Rattle.lin_cluster.specs.FindingsRanges.{Meets}
+use Rattle.lin_ldf.specs.declared.description.Description.{Description}
+use Rattle.lin_ldf.specs.declared.description.PlacedSignal.{PlacedSignal}
+use Rattle.lin_ldf.specs.declared.description.Signal.{Signal}
+use denote.Ref.{Bor}
+
+pub same_answer : (a b : Bool) → (a ≡ true → b ≡ true) → (b ≡ true → a ≡ true) → a ≡ b
+same_answer true b there back = sym (there refl)
+same_answer false true there back = back refl
+same_answer false false there back = refl
+
+either : (a b : Bool) → (a || b) ≡ true → (a ≡ true) ⊎ (b ≡ true)
+either true b h = inl refl
+either false b h = inr h
+
+first_of_two : (a b : Bool) → a ≡ true → (a || b) ≡ true
+first_of_two true b h = refl
+first_of_two false b h = absurd (cc)
+
+second_of_two : (a b : Bool) → b ≡ true → (a || b) ≡ true
+second_of_two true b h = refl
+second_of_two false b h = h
+
+four : (a b c d : Bool) → ((a || b) || (c || d)) ≡ ((a || c) || (b || d))
+four true b c d = refl
+four false true true d = refl
+four false true false d = refl
+four false false true d = refl
+four false false false d = refl
+
+any_either : {A : Type 0} (f g : A → Bool) (xs : List A) → list_any (λ x. f x || g x) xs ≡ (list_any f xs || list_any g xs)
+any_either f g [] = refl
+any_either f g (x ∷ xs) = ap (λ b. (f x || g x) || b) (any_either f g xs) ∙ four (f x) (g x) (list_any f xs) (list_any g xs)
+
+unknown_no : {A : Type 0} (o : Option A) → knows o (λ x. false) ≡ false
+unknown_no (Some x) = refl
+unknown_no None = refl
+
+any_no : {A B : Type 0} (o : A → Option B) (xs : List A) → list_any (λ x. knows (o x) (λ y. false)) xs ≡ false
+any_no o [] = refl
+any_no o (x ∷ xs) = ap (λ b. b || list_any (λ z. knows (o z) (λ y. false)) xs) (unknown_no (o x)) ∙ any_no o xs
+
+no_bits : (m : ℕ) → m ≤ 0 → nat_lt 0 m ≡ false
+no_bits m h = grind (arith, nat_tests)
+
+abbrev Shares : Description → ℕ → ℕ → List PlacedSignal → Bool → Bool
+Shares d a m xs b = list_any (λ (q : PlacedSignal). knows (signal_named d q.signal) (λ t. b && nat_lt 0 t.size.value && nat_lt a (q.offset.value + t.size.value) && nat_lt q.offset.value (a + m))) xs
+
+bits_taken : (d : Description) (ranges : BTreeMap ℕ ℕ) (a m : ℕ) (xs : List PlacedSignal) → ((b e : ℕ) → b < e → Meets ranges b e ↔ (list_any (λ q. knows (signal_named d q.signal) (lies_in b e q)) xs ≡ true))
+    → (list_any (λ q. knows (signal_named d q.signal) (λ t. share_bit a m q.offset.value t.size.value)) xs ≡ true) ↔ ((0 < m) × Meets ranges a (a + m))
+bits_taken d ranges a m xs so =
+    elim (cases_lt 0 m) as (λ _. (list_any (λ q. knows (signal_named d q.signal) (λ t. share_bit a m q.offset.value t.size.value)) xs ≡ true) ↔ ((0 < m) × Meets ranges a (a + m))) [
+      | inl some ↦
+          let e = ap (Shares d a m xs) (lt-ltb 0 m some) in
+          let here = so a (a + m) (omega arith) in
+          (λ h. (some, here.1 (sym e ∙ h)), λ met. e ∙ here.0 met.1)
+      | inr none ↦
+          let e = ap (Shares d a m xs) (no_bits m none) ∙ any_no (λ (q : PlacedSignal). signal_named d q.signal) xs in
+          (λ h. absurd (let no : true ≡ false = sym h ∙ e in cc), λ met. absurd (let low : 0 < m = met.0 in omega arith))
+    ]
+
+pub taken : {V S : Type 0} (d : Description) (names : IndexMap (Bor (List ℕ)) V S) (ranges : BTreeMap ℕ ℕ) (xs : List PlacedSignal) (p : PlacedSignal) (s : Signal)
+    → ((q : List ℕ) → has_text names q ≡ list_any (λ x. bytes_eq x.signal.text q) xs)
+    → ((b e : ℕ) → b < e → Meets ranges b e ↔ (list_any (λ q. knows (signal_named d q.signal) (lies_in b e q)) xs ≡ true))
+    → (list_any (meets d p s) xs ≡ true) ↔ IsTaken names ranges p s
+taken d names ranges xs p s named so =
+    let f : PlacedSignal → Bool = λ q. same_name q.signal p.signal in
+    let g : PlacedSignal → Bool = λ q. knows (signal_named d q.signal) (λ t. share_bit p.offset.value s.size.value q.offset.value t.size.value) in
+    let e : list_any (meets d p s) xs ≡ (list_any f xs || list_any g xs) = any_either f g xs in
+    let bits = bits_taken d ranges p.offset.value s.size.value xs so in (
+      λ h. elim (either (list_any f xs) (list_any g xs) (sym e ∙ h)) as (λ _. IsTaken names ranges p s) [
+        | inl name ↦ inl (named p.signal.text ∙ name)
+        | inr bit ↦ inr (bits.0 bit)
+      ],
+      λ h. e ∙ elim h as (λ _. (list_any f xs || list_any g xs) ≡ true) [
+        | inl name ↦ first_of_two (list_any f xs) (list_any g xs) (sym (named p.signal.text) ∙ name)
+        | inr met ↦ second_of_two (list_any f xs) (list_any g xs) (bits.1 met)
+      ],
+    )
+
+pub more_bits : {A : Type 0} (old new : Type 0) (p : A → Bool) (xs : List A) (i : ℕ) (d : A) → i < length xs → get_or xs i d ≡ d → (old ↔ (list_any p (take i xs) ≡ true)) → (new ↔ (old ⊎ (p d ≡ true))) → new ↔ (list_any p (take (i + 1) xs) ≡ true)
+more_bits old new p xs i d lt is so here =
+    let e : list_any p (take (i + 1) xs) ≡ (list_any p (take i xs) || p d) = list_any_more p xs i d lt ∙ ap (λ x. list_any p (take i xs) || p x) is in (
+      λ h. e ∙ elim (here.0 h) as (λ _. (list_any p (take i xs) || p d) ≡ true) [
+        | inl past ↦ first_of_two (list_any p (take i xs)) (p d) (so.0 past)
+        | inr now ↦ second_of_two (list_any p (take i xs)) (p d) now
+      ],
+      λ h. elim (either (list_any p (take i xs)) (p d) (sym e ∙ h)) as (λ _. new) [
+        | inl past ↦ here.1 (inl (so.1 past))
+        | inr now ↦ here.1 (inr now)
+      ],
+    )
+
+named_never : {V S : Type 0} (names : IndexMap (Bor (List ℕ)) V S) (q : List ℕ) → false ≡ has_text names q → has_text names q ≡ true → ⊥
+named_never names q unnamed named = absurd (let e : false ≡ true = unnamed ∙ named in cc)
+
+pub taken_by_bits : {V S : Type 0} (names : IndexMap (Bor (List ℕ)) V S) (ranges : BTreeMap ℕ ℕ) (p : PlacedSignal) (s : Signal) (start size : ℕ) (b : Bool) → false ≡ has_text names p.signal.text → start ≡ p.offset.value → size ≡ s.size.value → 0 < size
+    → ((b ≡ true) ↔ Meets ranges start (start + size)) → (b ≡ true) ↔ IsTaken names ranges p s
+taken_by_bits names ranges p s start size b unnamed at wide some met =
+    let there = subst (λ (xy : ℕ × ℕ). Meets ranges xy.0 (xy.0 + xy.1)) (λ i. (at i, wide i)) in
+    let back = subst (λ (xy : ℕ × ℕ). Meets ranges xy.0 (xy.0 + xy.1)) (λ i. (sym at i, sym wide i)) in (
+      λ e. inr (subst (λ n. 0 < n) wide some, there (met.0 e)),
+      λ t. elim t as (λ _. b ≡ true) [
+        | inl name ↦ absurd (named_never names p.signal.text unnamed name)
+        | inr here ↦ met.1 (back here.1)
+      ],
+    )
+
+pub taken_by_none : {V S : Type 0} (names : IndexMap (Bor (List ℕ)) V S) (ranges : BTreeMap ℕ ℕ) (p : PlacedSignal) (s : Signal) (size : ℕ) → false ≡ has_text names p.signal.text → size ≡ s.size.value → size ≤ 0 → (nat_lt 0 size ≡ true) ↔ IsTaken names ranges p s
+taken_by_none names ranges p s size unnamed wide none = (
+  λ e. absurd (let never : true ≡ false = sym e ∙ no_bits size none in cc),
+  λ t. elim t as (λ _. nat_lt 0 size ≡ true) [
+    | inl name ↦ absurd (named_never names p.signal.text unnamed name)
+    | inr here ↦ absurd (let some : 0 < s.size.value = here.0 in omega arith)
+  ],
+)
+
+lies_from : (m o a b : ℕ) → 0 < m → o < b → a < o + m → (nat_lt 0 m && nat_lt a (o + m) && nat_lt o b) ≡ true
+lies_from m o a b some low high = grind (arith, nat_tests)
+
+lies_low : (m o a b : ℕ) → (nat_lt 0 m && nat_lt a (o + m) && nat_lt o b) ≡ true → o < b
+lies_low m o a b h = grind (arith, nat_tests)
+
+lies_high : (m o a b : ℕ) → (nat_lt 0 m && nat_lt a (o + m) && nat_lt o b) ≡ true → a < o + m
+lies_high m o a b h = grind (arith, nat_tests)
+
+pub added_bits : (d : Description) (p : PlacedSignal) (s : Signal) (start size a b : ℕ) (old new : Type 0) → Some s ≡ signal_named d p.signal → start ≡ p.offset.value → size ≡ s.size.value → 0 < s.size.value
+    → (new ↔ (old ⊎ ((start < b) × (a < start + size)))) → new ↔ (old ⊎ (knows (signal_named d p.signal) (lies_in a b p) ≡ true))
+added_bits d p s start size a b old new found at wide some same =
+    let e : knows (signal_named d p.signal) (lies_in a b p) ≡ lies_in a b p s = ap (λ o. knows o (lies_in a b p)) (sym found) in
+    let m : ℕ = s.size.value in
+    let o : ℕ = p.offset.value in (
+      λ h. elim (same.0 h) as (λ _. old ⊎ (knows (signal_named d p.signal) (lies_in a b p) ≡ true)) [
+        | inl past ↦ inl past
+        | inr now ↦ inr (e ∙ lies_from m o a b some (subst (λ x. x < b) at now.0) (subst (λ (xy : ℕ × ℕ). a < xy.0 + xy.1) (λ i. (at i, wide i)) now.1))
+      ],
+      λ h. same.1 (elim h as (λ _. old ⊎ ((start < b) × (a < start + size))) [
+        | inl past ↦ inl past
+        | inr now ↦
+            let lies : lies_in a b p s ≡ true = sym e ∙ now in
+            inr (subst (λ x. x < b) (sym at) (lies_low m o a b lies), subst (λ (xy : ℕ × ℕ). a < xy.0 + xy.1) (λ i. (sym at i, sym wide i)) (lies_high m o a b lies))
+      ]),
+    )

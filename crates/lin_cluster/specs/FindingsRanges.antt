@@ -1,0 +1,25 @@
+-- Ranges of bits, as a map from starts to ends: a range has its start, and not its end.
+use Rattle.std.specs.Prelude.{◌≡◌, ◌<◌, ◌≤◌, ◌⊎◌, ℕ, Some}
+use Rattle.std.specs.BTreeMap.{BTreeMap, get}
+use Rattle.std.specs.Ordering.{nat_cmp}
+
+-- one of the ranges has a bit of the range from a to b
+abbrev pub Meets : BTreeMap ℕ ℕ → ℕ → ℕ → Type 0
+Meets m a b = (k : ℕ) × (e : ℕ) × (get nat_cmp m k ≡ Some e) × (k < b) × (a < e)
+
+-- each has a bit, and no two have one in common
+pub record AreApart (m : BTreeMap ℕ ℕ) : Type 0 where
+  pub some : (k e : ℕ) → get nat_cmp m k ≡ Some e → k < e
+  pub apart : (j k e f : ℕ) → get nat_cmp m j ≡ Some e → get nat_cmp m k ≡ Some f → j < k → e ≤ k
+
+-- none begins below b
+abbrev pub IsNoneBelow : BTreeMap ℕ ℕ → ℕ → Type 0
+IsNoneBelow m b = (k e : ℕ) → get nat_cmp m k ≡ Some e → b ≤ k
+
+-- a range that begins below b, after each other one that does
+abbrev pub IsLastBelow : BTreeMap ℕ ℕ → ℕ → ℕ × ℕ → Type 0
+IsLastBelow m b r = (get nat_cmp m r.0 ≡ Some r.1) × (r.0 < b) × ((k e : ℕ) → get nat_cmp m k ≡ Some e → k < b → k ≤ r.0)
+
+-- one of the ranges, or the range from s to e, has a bit of the range from a to b
+abbrev pub Covers : BTreeMap ℕ ℕ → ℕ → ℕ → ℕ → ℕ → Type 0
+Covers m s e a b = Meets m a b ⊎ ((s < b) × (a < e))

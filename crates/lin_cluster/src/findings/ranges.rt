@@ -1,0 +1,73 @@
+//! Ranges of bits, as a map from starts to ends in which no two share a bit.
+
+ghost use Rattle.std.specs.Prelude.{◌≡◌, ◌<◌, ◌↔◌, ℕ, Some, true, IfSome, IfNone, OnOk};
+ghost use Rattle.std.specs.BTreeMap.{get};
+ghost use Rattle.std.specs.Ordering.{nat_cmp};
+ghost use Rattle.lin_cluster.specs.FindingsRanges.{Meets, AreApart, Covers, IsNoneBelow, IsLastBelow};
+
+use std::alloc::AllocError;
+use std::collections::BTreeMap;
+
+pub(super) type Ranges = BTreeMap<u64, u64>;
+
+fn last_below(ranges: &Ranges, end: u64) -> Option<(u64, u64)>
+    ensures some { IfSome result (IsLastBelow ranges.now end) }
+    ensures none { IfNone result (IsNoneBelow ranges.now end) }
+{
+    match ranges.range(..end).next_back() {
+        Some((start, last)) => Some((*start, *last)),
+        None => None,
+    }
+}
+
+// A range with a bit of another range.
+#[tactic(auto, using(crate::proofs::FindingsRanges::none_met, crate::proofs::FindingsRanges::last_unmet))]
+fn meeting(ranges: &Ranges, start: u64, end: u64) -> Option<(u64, u64)>
+    requires { AreApart ranges.now }
+    ensures some { IfSome result (λ r. (get nat_cmp ranges.now r.0 ≡ Some r.1) × (r.0 < end) × (start < r.1)) }
+    ensures none { IfNone result (Meets ranges.now start end → ⊥) }
+{
+    match last_below(ranges, end) {
+        Some((other, last)) if start < last => Some((other, last)),
+        Some(_) | None => None,
+    }
+}
+
+/// Whether the range has a bit of one of these.
+pub(super) fn is_met(ranges: &Ranges, start: u64, end: u64) -> bool
+    requires { AreApart ranges.now }
+    ensures { (result ≡ true) ↔ Meets ranges.now start end }
+{
+    meeting(ranges, start, end).is_some()
+}
+
+// Takes out the ranges that have a bit of a range, and gives the range of all their bits.
+fn merged(ranges: &mut Ranges, start: u64, end: u64) -> (u64, u64)
+    requires apart { AreApart ranges.old }
+    requires some { start < end }
+    ensures apart { AreApart ranges.new }
+    ensures some { result.0 < result.1 }
+    ensures free { Meets ranges.new result.0 result.1 → ⊥ }
+    ensures same { (a b : ℕ) → a < b → Covers ranges.new result.0 result.1 a b ↔ Covers ranges.old start end a b }
+{
+    let mut first = start;
+    let mut behind = end;
+    while let Some((other, last)) = meeting(ranges, first, behind) {
+        ranges.remove(&other);
+        first = first.min(other);
+        behind = behind.max(last);
+    }
+    (first, behind)
+}
+
+/// Adds the bits of one more range; an error is want of memory.
+pub(super) fn add_range(ranges: &mut Ranges, start: u64, end: u64) -> Result<(), AllocError>
+    requires apart { AreApart ranges.old }
+    requires some { start < end }
+    ensures apart { OnOk result (AreApart ranges.new) }
+    ensures meets { OnOk result ((a b : ℕ) → a < b → Meets ranges.new a b ↔ Covers ranges.old start end a b) }
+{
+    let (first, behind) = merged(ranges, start, end);
+    ranges.insert(first, behind)?;
+    Ok(())
+}
