@@ -1,21 +1,17 @@
 -- A description without findings says a cluster, and its numbers fit.
-use Rattle.std.proofs.Common.{◌≡◌, ◌<◌, ◌≤◌, ◌+◌, ◌*◌, ◌%◌, ◌^◌, ◌/◌, nat_lt, nat_le, ℕ, zero, suc, Bool, true, false, not, ◌&&◌, ◌==◌, if◌then◌else◌, List, length, get_or, Option, Some, None, refl, sym, subst, ap, ◌∙◌, inl, inr, arith}
+use Rattle.std.proofs.Common.{◌≡◌, ◌<◌, ◌≤◌, ◌+◌, ◌*◌, ◌%◌, ◌^◌, ◌/◌, nat_lt, nat_le, ℕ, true, false, not, ◌&&◌, ◌==◌, List, length, get_or, Option, Some, None, arith}
 use Rattle.std.specs.Prelude.{All, IfSome}
 use Rattle.std.specs.List.{list_any}
 use Rattle.std.proofs.Math.Pow.{pow_mono}
 use Rattle.std.proofs.lemmas.Bool.{and_parts, leb-true, ltb-true, ltb-false, eqb-true, or_parts, not-true}
-use Rattle.lin_ldf.specs.declared.description.Attributes.{Attributes}
 use Rattle.lin_ldf.specs.declared.description.Description.{Description}
 use Rattle.lin_ldf.specs.declared.description.Init.{Init}
 use Rattle.lin_ldf.specs.declared.description.Init.TheVariants.{Scalar, Array}
 use Rattle.lin_ldf.specs.declared.description.Number.{Number}
-use Rattle.lin_ldf.specs.declared.description.Frame.{Frame}
-use Rattle.lin_ldf.specs.declared.description.PlacedSignal.{PlacedSignal}
-use Rattle.lin_ldf.specs.declared.description.Signal.{Signal}
 use Rattle.lin_cluster.specs.Described.{described_nad, parts_of}
 use Rattle.lin_cluster.specs.Findings.{IsFree}
 use Rattle.lin_cluster.specs.FindingsFrames as found
-use Rattle.lin_cluster.specs.Fitting.{FitsInitial, FitsSignal, FitsFrame, FitsNad, FitsNumbers, FitsParts, HasMembers}
+use Rattle.lin_cluster.specs.Fitting.{FitsInitial, FitsSignal, FitsFrame, FitsParts, HasMembers}
 use Rattle.lin_cluster.specs.Rules.{IsCluster, IsAddress}
 use Rattle.lin_cluster.proofs.DescribedEvents.{described-sporadic, described-events}
 use Rattle.lin_cluster.proofs.DescribedFrames.{described-frames}

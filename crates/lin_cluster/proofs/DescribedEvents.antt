@@ -1,34 +1,32 @@
 -- The sporadic and event-triggered frames of a description without findings keep the rules of clusters.
-use Rattle.std.proofs.Common.{◌≡◌, ◌≢◌, ◌<◌, ◌≤◌, ◌==◌, nat_lt, ℕ, zero, suc, Bool, true, false, not, ◌&&◌, ◌||◌, cond, if◌then◌else◌, List, [], ◌∷◌, length, get_or, take, map, Option, Some, None, refl, sym, subst, ap, ◌∙◌, inl, inr, arith}
-use Rattle.std.specs.Prelude.{All, AllPairs, codes, find, is_some, slice_get, option_and_then}
+use Rattle.std.proofs.Common.{◌≡◌, ◌<◌, ◌≤◌, ◌==◌, nat_lt, ℕ, Bool, true, false, not, ◌&&◌, ◌||◌, if◌then◌else◌, List, [], ◌∷◌, length, get_or, take, map, refl, sym, subst, ap, ◌∙◌, inl, inr, arith}
+use Rattle.std.specs.Prelude.{All, AllPairs, codes, find, is_some}
 use Rattle.std.specs.List.{list_any, position_or_len}
 use Rattle.std.specs.Str.{bytes_eq}
-use Rattle.std.proofs.lemmas.Bool.{or_parts, both_ways, eqb-true, not-false, lt-ltb, le-ltb, cases_lt, true_from_ne_false}
+use Rattle.std.proofs.lemmas.Bool.{or_parts, both_ways, eqb-true, not-false, lt-ltb, le-ltb, cases_lt}
 use Rattle.std.proofs.lemmas.List.{length-map, get_or-take, length-take-le, get_or-map}
 use Rattle.std.proofs.lemmas.List.Elements.{All-map}
 use Rattle.lin_frame.specs.declared.sums.SumKind.TheVariants.{Enhanced}
 use Rattle.lin_ldf.specs.declared.description.Description.{Description}
 use Rattle.lin_ldf.specs.declared.description.EventFrame as declared_event
-use Rattle.lin_ldf.specs.declared.description.Frame as declared_frame
 use Rattle.lin_ldf.specs.declared.description.Name.{Name}
 use Rattle.lin_ldf.specs.declared.description.Sporadic.{Sporadic}
 use Rattle.lin_ldf.specs.declared.description.TableEntry.{TableEntry}
-use Rattle.lin_cluster.specs.Cluster.{frame_of, table_of, named_table}
-use Rattle.lin_cluster.specs.Described.{node_number, frame_number, sporadic_number, event_number, table_number, members_of, described_frame, described_event, described_entry, described_line, described_table, frame_entry, parts_of}
-use Rattle.lin_cluster.specs.FindingsNames.{is_node, same_name, frame_named, sporadic_named, event_named, is_event_entry, carries_frame}
+use Rattle.lin_cluster.specs.Cluster.{frame_of, table_of}
+use Rattle.lin_cluster.specs.Described.{node_number, frame_number, sporadic_number, event_number, table_number, members_of, described_event, described_entry, described_line, described_table, parts_of}
+use Rattle.lin_cluster.specs.FindingsNames.{is_node, same_name, sporadic_named, event_named, is_event_entry}
 use Rattle.lin_cluster.specs.FindingsTables.{is_responders, is_bad_member, has_publisher, differs_from_first, is_in_front}
 use Rattle.lin_cluster.specs.Fitting.{HasMembers}
 use Rattle.lin_cluster.specs.Rules.{AreSporadic, AreEvents, IsCommanders, IsResponders, HaveOwnPublishers, HaveOneSize, is_event}
-use Rattle.lin_cluster.specs.declared.parts.Entry.{Entry}
 use Rattle.lin_cluster.specs.declared.parts.Entry.TheVariants.{Frame, Sporadic as SporadicEntry, Event, MasterReq, SlaveResp, Quiet}
 use Rattle.lin_cluster.specs.declared.parts.EventFrame.{EventFrame}
 use Rattle.lin_cluster.specs.declared.parts.Line.{Line}
 use Rattle.lin_cluster.specs.declared.parts.SignalFrame.{SignalFrame}
 use Rattle.lin_cluster.specs.declared.parts.Table.{Table}
 use Rattle.lin_cluster.proofs.DescribedTables.{frames-count}
-use Rattle.lin_cluster.proofs.GoodParts.{GoodMember, GoodSporadic, GoodEvent, the_frame, good-frames, good-sporadics, good-events, within-limits}
+use Rattle.lin_cluster.proofs.GoodParts.{GoodMember, GoodEvent, the_frame, good-frames, good-sporadics, good-events, within-limits}
 use Rattle.lin_cluster.proofs.KnownNames.{no_table, commander, not-commander, same-node, frame-found, frame-part}
-use Rattle.lin_cluster.proofs.Named.{found-within, found-at, found-past}
+use Rattle.lin_cluster.proofs.Named.{found-at, found-past}
 use Rattle.lin_cluster.proofs.NothingFound.{NothingFound}
 use Rattle.lin_cluster.proofs.NothingIn.{none-has}
 use Rattle.lin_cluster.proofs.Pairs.{pairs-map}

@@ -1,11 +1,11 @@
 -- The frames of a description without findings keep the rules of clusters.
-use Rattle.std.proofs.Common.{◌≡◌, ◌≢◌, ◌<◌, ◌≤◌, ◌+◌, ◌*◌, ◌%◌, ◌/◌, ◌^◌, ◌==◌, nat_lt, nat_le, ℕ, zero, suc, Bool, true, false, not, ◌&&◌, ◌||◌, cond, if◌then◌else◌, List, [], ◌∷◌, length, get_or, take, map, Option, Some, None, refl, sym, subst, ap, ◌∙◌, arith}
-use Rattle.std.specs.Prelude.{All, AllPairs, IsTrue, find}
+use Rattle.std.proofs.Common.{◌≡◌, ◌≢◌, ◌<◌, ◌≤◌, ◌+◌, ◌*◌, ◌%◌, ◌==◌, nat_lt, nat_le, ℕ, Bool, true, false, not, ◌&&◌, ◌||◌, if◌then◌else◌, List, [], ◌∷◌, length, get_or, take, map, Some, None, refl, sym, subst, ap, ◌∙◌, arith}
+use Rattle.std.specs.Prelude.{All, AllPairs, IsTrue}
 use Rattle.std.specs.List.{list_any, list_all, enumerate_from, AllZip}
-use Rattle.std.proofs.lemmas.Bool.{and_parts, and_from, or_parts, not-false, not-true, ltb-true, ltb-false, leb-true, le-leb, ltb-false, lt-ltb, eqb-true, and_right, both_ways}
+use Rattle.std.proofs.lemmas.Bool.{and_parts, and_from, or_parts, ltb-false, leb-true, le-leb, ltb-false, lt-ltb, eqb-true, both_ways}
 use Rattle.std.proofs.lemmas.Bool.Decides.{nat_tests}
-use Rattle.std.proofs.lemmas.List.{length-map, length-take-le, get_or-take, get_or_default, get_or-map}
-use Rattle.std.proofs.lemmas.List.Elements.{All-map, All-get_or}
+use Rattle.std.proofs.lemmas.List.{length-map, length-take-le, get_or-take, get_or_default}
+use Rattle.std.proofs.lemmas.List.Elements.{All-map}
 use Rattle.std.proofs.lemmas.List.Sums.{list_all-from_AllPass}
 use Rattle.std.proofs.lemmas.List.Folds.{Any-from_list_any}
 use Rattle.lin_frame.specs.Bits.{has_good_size, lies_in, are_apart, all_apart, good_layout, first_bit}
@@ -20,10 +20,10 @@ use Rattle.lin_ldf.specs.declared.description.Frame.{Frame}
 use Rattle.lin_ldf.specs.declared.description.Name.{Name}
 use Rattle.lin_ldf.specs.declared.description.PlacedSignal.{PlacedSignal}
 use Rattle.lin_ldf.specs.declared.description.Signal as declared_signal
-use Rattle.lin_cluster.specs.Cluster.{nodes, signal_of}
-use Rattle.lin_cluster.specs.Described.{initial_of, described_signal, node_number, signal_number, frame_number, frames_of, is_member, own_pid, described_place, described_layout, described_frame, parts_of}
+use Rattle.lin_cluster.specs.Cluster.{nodes}
+use Rattle.lin_cluster.specs.Described.{initial_of, described_signal, node_number, signal_number, frame_number, frames_of, is_member, described_place, described_layout, described_frame, parts_of}
 use Rattle.lin_cluster.specs.FindingsFrames as found
-use Rattle.lin_cluster.specs.FindingsNames.{is_node, signal_named, same_name, knows}
+use Rattle.lin_cluster.specs.FindingsNames.{is_node, same_name}
 use Rattle.lin_cluster.specs.FindingsTables.{is_in_front, has_publisher, differs_from_first}
 use Rattle.lin_cluster.specs.Rules.{AreFrames, IsSignalAt, is_array, place_at}
 use Rattle.lin_cluster.specs.declared.parts.Signal.{Signal}

@@ -1,20 +1,16 @@
 -- The identifiers of a description without findings keep the rules of clusters.
-use Rattle.std.proofs.Common.{◌≡◌, ◌≢◌, ◌<◌, ◌≤◌, ◌+◌, ◌%◌, ◌==◌, nat_lt, nat_le, ℕ, zero, suc, Bool, true, false, ◌&&◌, ◌||◌, cond, if◌then◌else◌, List, [], ◌∷◌, ◌++◌, length, get_or, map, Option, Some, None, refl, sym, subst, ap, ◌∙◌, ◌⊎◌, inl, inr, arith}
-use Rattle.std.specs.Prelude.{All, AllPairs, EachIndex, count_by}
+use Rattle.std.proofs.Common.{◌≡◌, ◌≢◌, ◌<◌, ◌≤◌, ◌+◌, ◌%◌, ◌==◌, nat_lt, nat_le, ℕ, Bool, true, ◌&&◌, ◌||◌, if◌then◌else◌, List, [], ◌∷◌, ◌++◌, length, get_or, map, Some, None, refl, sym, subst, ap, ◌∙◌, ◌⊎◌, inl, inr, arith}
+use Rattle.std.specs.Prelude.{All, AllPairs, count_by}
 use Rattle.std.specs.List.{list_any, enumerate_from}
 use Rattle.std.proofs.lemmas.Bool.{ltb-false, lt-ltb, le-leb, eq-eqb, and_from, or_left, or_right, cases_lt, cases_order}
-use Rattle.std.proofs.lemmas.Bool.Decides.{nat_tests, leb_tells, eqb_tells}
-use Rattle.std.proofs.lemmas.List.{length-map, map-append, get_or-map}
+use Rattle.std.proofs.lemmas.List.{map-append}
 use Rattle.std.proofs.lemmas.List.Elements.{All-map}
-use Rattle.std.proofs.lemmas.List.FromFn.{get_or-enumerate_from, length-enumerate_from}
 use Rattle.lin_frame.specs.Frame.{pid}
 use Rattle.lin_ldf.specs.declared.description.Description.{Description}
 use Rattle.lin_ldf.specs.declared.description.EventFrame as declared_event
 use Rattle.lin_ldf.specs.declared.description.Frame.{Frame}
-use Rattle.lin_ldf.specs.declared.description.Name.{Name}
 use Rattle.lin_ldf.specs.declared.description.Number.{Number}
-use Rattle.lin_cluster.specs.Cluster.{frame_of}
-use Rattle.lin_cluster.specs.Described.{frame_number, is_member, own_pid, described_frame, described_event, frames_of, events_of, parts_of}
+use Rattle.lin_cluster.specs.Described.{frame_number, is_member, described_frame, described_event, events_of, parts_of}
 use Rattle.lin_cluster.specs.FindingsFrames.{ids, bad_id, is_up_to, is_repeated, id_twice}
 use Rattle.lin_cluster.specs.FindingsNames.{at_number}
 use Rattle.lin_cluster.specs.Rules.{AreIdentifiers, CarriesSignals, HasOwnPid, is_listed, pids}
@@ -22,7 +18,7 @@ use Rattle.lin_cluster.specs.declared.parts.EventFrame.{EventFrame}
 use Rattle.lin_cluster.specs.declared.parts.SignalFrame.{SignalFrame}
 use Rattle.lin_cluster.proofs.DescribedFrames.{each-frame}
 use Rattle.lin_cluster.proofs.DescribedTables.{frames-count}
-use Rattle.lin_cluster.proofs.GoodParts.{GoodFrame, GoodEvent, good-frames, good-events, small-id}
+use Rattle.lin_cluster.proofs.GoodParts.{good-frames, good-events, small-id}
 use Rattle.lin_cluster.proofs.Identifiers.{all-carry}
 use Rattle.lin_cluster.proofs.KnownNames.{no_frame, frame-part}
 use Rattle.lin_cluster.proofs.NothingFound.{NothingFound}

@@ -1,11 +1,11 @@
 -- The nodes of a description without findings keep the rules of clusters.
-use Rattle.std.proofs.Common.{◌≡◌, ◌≢◌, ◌<◌, ◌≤◌, ◌+◌, ◌==◌, nat_le, ℕ, zero, suc, Bool, true, false, not, ◌&&◌, ◌||◌, cond, if◌then◌else◌, List, [], ◌∷◌, length, get_or, take, map, Option, Some, None, refl, sym, subst, ap, ◌∙◌, inl, inr, arith}
+use Rattle.std.proofs.Common.{◌≡◌, ◌≢◌, ◌<◌, ◌≤◌, ◌+◌, ◌==◌, nat_le, ℕ, zero, suc, Bool, true, false, not, ◌&&◌, cond, List, [], ◌∷◌, length, get_or, take, map, Option, Some, None, refl, sym, subst, ap, ◌∙◌, inl, inr, arith}
 use Rattle.std.specs.Prelude.{All, AllPairs, IfSome, find, is_some, filter_map, option_and_then}
 use Rattle.std.specs.List.{list_any, enumerate_from, position_or_len}
 use Rattle.std.specs.Str.{bytes_eq}
-use Rattle.std.proofs.lemmas.Bool.{and_parts, and_from, not-false, leb-true, eqb-true, eqb-false, eq-eqb, cases_lt, cases_order, cond-true}
-use Rattle.std.proofs.lemmas.List.{get_or-take, length-take-le, get_or_default}
-use Rattle.std.proofs.lemmas.List.Elements.{All-nil, All-cons, All-head, All-tail, All-map}
+use Rattle.std.proofs.lemmas.Bool.{and_parts, not-false, leb-true, eqb-true, eqb-false, cases_lt, cases_order, cond-true}
+use Rattle.std.proofs.lemmas.List.{get_or-take, length-take-le}
+use Rattle.std.proofs.lemmas.List.Elements.{All-cons, All-head, All-tail, All-map}
 use Rattle.std.proofs.lemmas.List.Sums.{passes_at_first}
 use Rattle.std.proofs.lemmas.List.Folds.{list_any_at}
 use Rattle.std.proofs.lemmas.List.FromFn.{get_or-enumerate_from, length-enumerate_from}
@@ -14,16 +14,15 @@ use Rattle.lin_ldf.specs.declared.description.Attributes.{Attributes}
 use Rattle.lin_ldf.specs.declared.description.Description.{Description}
 use Rattle.lin_ldf.specs.declared.description.Name.{Name}
 use Rattle.lin_ldf.specs.declared.description.Number.{Number}
-use Rattle.lin_cluster.specs.Cluster.{nodes, nad}
-use Rattle.lin_cluster.specs.Described.{node_names, node_number, is_block_of, configured_nad, described_nad, responder, nodes_of, parts_of}
+use Rattle.lin_cluster.specs.Described.{node_number, is_block_of, configured_nad, described_nad, responder, nodes_of, parts_of}
 use Rattle.lin_cluster.specs.FindingsFrames.{address, addresses, bad_nad, nad_twice}
-use Rattle.lin_cluster.specs.FindingsNames.{is_responder, same_name, at_number}
+use Rattle.lin_cluster.specs.FindingsNames.{is_responder, at_number}
 use Rattle.lin_cluster.specs.Fitting.{HasMembers}
 use Rattle.lin_cluster.specs.Rules.{AreNodes, IsAddress, HaveOwnAddresses}
 use Rattle.lin_cluster.specs.declared.parts.Node.{Node}
 use Rattle.lin_cluster.proofs.GoodParts.{within-limits}
 use Rattle.lin_cluster.proofs.KnownNames.{no_name, nodes-count}
-use Rattle.lin_cluster.proofs.Named.{found-within, found-at, found-past, any-within}
+use Rattle.lin_cluster.proofs.Named.{found-at, found-past}
 use Rattle.lin_cluster.proofs.NothingFound.{NothingFound}
 use Rattle.lin_cluster.proofs.NothingIn.{each-nil, when-nil, of-each, from-each, none-has}
 use Rattle.lin_cluster.proofs.Pairs.{pairs-cons, pairs-map, pairs-first, pairs-rest}

@@ -1,23 +1,21 @@
 -- The signals of a description without findings keep the rules of clusters.
-use Rattle.std.proofs.Common.{◌≡◌, ◌<◌, ◌≤◌, ◌+◌, ◌*◌, ◌%◌, ◌/◌, ◌^◌, ◌==◌, nat_lt, nat_le, ℕ, zero, suc, Bool, true, false, not, ◌&&◌, if◌then◌else◌, List, [], ◌∷◌, length, get_or, map, refl, sym, subst, ap, ◌∙◌, arith}
-use Rattle.std.specs.Prelude.{All, IsTrue}
+use Rattle.std.proofs.Common.{◌≡◌, ◌<◌, ◌*◌, ◌%◌, ◌/◌, ◌==◌, nat_lt, nat_le, ℕ, Bool, true, false, not, ◌&&◌, if◌then◌else◌, List, length, get_or, map, refl, arith}
+use Rattle.std.specs.Prelude.{IsTrue}
 use Rattle.std.specs.List.{list_any}
-use Rattle.std.proofs.lemmas.Bool.{and_parts, and_from, and_right, eqb-true, eq-eqb}
+use Rattle.std.proofs.lemmas.Bool.{and_parts, and_right, eqb-true, eq-eqb}
 use Rattle.std.proofs.lemmas.List.{length-map}
 use Rattle.std.proofs.lemmas.List.Elements.{All-map}
 use Rattle.lin_frame.specs.Bits.{fits_place, has_good_size}
-use Rattle.lin_frame.specs.declared.value.Value.TheVariants as values
 use Rattle.lin_ldf.specs.declared.description.Description.{Description}
 use Rattle.lin_ldf.specs.declared.description.Init.{Init}
 use Rattle.lin_ldf.specs.declared.description.Init.TheVariants as inits
 use Rattle.lin_ldf.specs.declared.description.Number.{Number}
-use Rattle.lin_ldf.specs.declared.description.Signal as declared_signal
 use Rattle.lin_cluster.specs.Cluster.{nodes}
-use Rattle.lin_cluster.specs.Described.{initial_of, described_signal, node_number, parts_of}
+use Rattle.lin_cluster.specs.Described.{initial_of, described_signal, parts_of}
 use Rattle.lin_cluster.specs.FindingsFrames as found
 use Rattle.lin_cluster.specs.Rules.{AreSignals, is_array, place_at}
 use Rattle.lin_cluster.specs.declared.parts.Signal.{Signal}
-use Rattle.lin_cluster.proofs.GoodParts.{GoodSignal, good-signals, within-limits}
+use Rattle.lin_cluster.proofs.GoodParts.{good-signals, within-limits}
 use Rattle.lin_cluster.proofs.KnownNames.{nodes-count, node-within}
 use Rattle.lin_cluster.proofs.NothingFound.{NothingFound}
 

@@ -1,5 +1,5 @@
 -- The schedule tables of a description without findings keep the rules of clusters.
-use Rattle.std.proofs.Common.{◌≡◌, ◌<◌, ◌≤◌, ℕ, Bool, true, false, cond, nat_lt, if◌then◌else◌, List, length, get_or, map, refl, sym, subst, ap, ◌∙◌, arith}
+use Rattle.std.proofs.Common.{◌≡◌, ◌≤◌, Bool, true, false, nat_lt, if◌then◌else◌, length, get_or, refl, ◌∙◌, arith}
 use Rattle.std.specs.Prelude.{All, codes}
 use Rattle.std.specs.Str.{bytes_eq}
 use Rattle.std.proofs.lemmas.Bool.{ltb-true}
@@ -14,11 +14,11 @@ use Rattle.lin_ldf.specs.declared.description.TableEntry.{TableEntry}
 use Rattle.lin_cluster.specs.Described.{frame_number, sporadic_number, event_number, frame_entry, described_frame, described_event, described_entry, described_line, described_table, members_of, parts_of}
 use Rattle.lin_cluster.specs.Rules.{AreTables, IsEntry, IsDelay}
 use Rattle.lin_cluster.specs.declared.parts.Entry.{Entry}
-use Rattle.lin_cluster.specs.declared.parts.Entry.TheVariants.{Frame, Sporadic as SporadicEntry, Event, MasterReq, SlaveResp, Quiet}
+use Rattle.lin_cluster.specs.declared.parts.Entry.TheVariants.{MasterReq, SlaveResp, Quiet}
 use Rattle.lin_cluster.specs.declared.parts.Line.{Line}
 use Rattle.lin_cluster.specs.declared.parts.Parts.{Parts}
 use Rattle.lin_cluster.specs.declared.parts.Table.{Table}
-use Rattle.lin_cluster.proofs.GoodParts.{GoodTable, GoodLine, good-tables, some-tables, within-limits}
+use Rattle.lin_cluster.proofs.GoodParts.{good-tables, some-tables, within-limits}
 use Rattle.lin_cluster.proofs.NothingFound.{NothingFound}
 
 pub frames-count : (d : Description) → length (parts_of d).frames ≡ length d.frames

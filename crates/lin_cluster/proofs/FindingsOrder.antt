@@ -1,6 +1,6 @@
 -- At most one list is in order and has the findings of a description.
-use Rattle.std.proofs.Common.{◌≡◌, ℕ, zero, suc, ◌+◌, ◌<◌, ◌≤◌, Bool, true, false, cond, List, [], ◌∷◌, length, get_or, sym, ap, refl, ◌∙◌, subst, arith}
-use Rattle.std.specs.Prelude.{IsSorted, IsPermutation, sum_by}
+use Rattle.std.proofs.Common.{◌≡◌, ℕ, suc, ◌+◌, ◌<◌, Bool, true, false, cond, List, [], ◌∷◌, length, get_or, sym, ap, refl, ◌∙◌, subst, arith}
+use Rattle.std.specs.Prelude.{IsSorted, sum_by}
 use Rattle.std.specs.List.Sorted.{IsSortedBy}
 use Rattle.std.specs.declared.cmp.Ordering.{Ordering}
 use Rattle.std.specs.declared.cmp.Ordering.TheVariants.{Less, Equal, Greater}

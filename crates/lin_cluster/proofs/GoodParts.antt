@@ -1,13 +1,11 @@
 -- What a description without findings has, declaration by declaration.
-use Rattle.std.proofs.Common.{◌≡◌, ◌≢◌, ◌<◌, ◌≤◌, ◌+◌, ◌*◌, ◌%◌, ◌/◌, ◌^◌, ◌==◌, nat_lt, nat_le, ℕ, zero, suc, Bool, true, false, cond, not, ◌||◌, ◌&&◌, List, [], ◌∷◌, ◌++◌, length, get_or, take, map, refl, sym, subst, ap, ◌∙◌, arith}
-use Rattle.std.specs.Prelude.{Option, Some, None, All, find, is_some, is_none, flat_map, slice_get}
+use Rattle.std.proofs.Common.{◌≡◌, ◌<◌, ◌≤◌, ◌==◌, nat_lt, ℕ, zero, suc, Bool, true, false, not, ◌&&◌, List, [], ◌∷◌, ◌++◌, length, get_or, take, map, refl, arith}
+use Rattle.std.specs.Prelude.{Option, Some, None, All, is_some, flat_map, slice_get}
 use Rattle.std.specs.List.{list_any, enumerate_from}
-use Rattle.std.proofs.lemmas.Bool.{and_parts, not-true, not-false, leb-true, ltb-false, eqb-false, cases_eq, both_ways}
-use Rattle.std.proofs.lemmas.Bool.Decides.{nat_tests}
+use Rattle.std.proofs.lemmas.Bool.{not-false, ltb-false}
 use Rattle.lin_ldf.specs.declared.description.Description.{Description}
 use Rattle.lin_ldf.specs.declared.description.EventFrame.{EventFrame}
 use Rattle.lin_ldf.specs.declared.description.Frame.{Frame}
-use Rattle.lin_ldf.specs.declared.description.Init.{Init}
 use Rattle.lin_ldf.specs.declared.description.Name.{Name}
 use Rattle.lin_ldf.specs.declared.description.PlacedSignal.{PlacedSignal}
 use Rattle.lin_ldf.specs.declared.description.Signal.{Signal}
@@ -18,10 +16,10 @@ use Rattle.std.specs.Str.{bytes_eq}
 use Rattle.std.specs.Option.{option_map_or}
 use Rattle.lin_cluster.specs.Described.{signal_number, frame_number, table_number}
 use Rattle.lin_cluster.specs.FindingsFrames.{unknown_in_signal, unknown_node, unknown_in_frame, unknown_signal, unknown_in_sporadic, unknown_member, unknown_in_event, unknown_in_block, unknown_in_table, wrong_publishers_in, wrong_publisher_at, is_published_elsewhere, ids, bad_id, bad_signal_size, bad_frame_size, is_good_size, is_frame_size, outside_in, outside_at, is_outside, overlaps_in, overlap_at, is_overlapping, bad_init, init_place, is_good_init}
-use Rattle.lin_cluster.specs.FindingsNames.{is_node, signal_named, frame_named, sporadic_named, event_named, table_named, is_any_frame, is_event_entry, carries_frame, knows, at_name, at_number, at_place, same_name}
-use Rattle.lin_cluster.specs.FindingsTables.{responder_limits, frame_limits, table_limits, time_limits, past, long_delay, too_long, zero_delays_in, zero_delay, empty_table, bad_members_in, bad_member_at, is_wrong_member, bad_sporadics_in, bad_sporadic_at, is_responders, is_bad_member, nested_at}
+use Rattle.lin_cluster.specs.FindingsNames.{is_node, signal_named, frame_named, table_named, is_any_frame, is_event_entry, knows, at_name, at_number, at_place}
+use Rattle.lin_cluster.specs.FindingsTables.{responder_limits, frame_limits, table_limits, time_limits, past, long_delay, zero_delays_in, zero_delay, empty_table, bad_members_in, bad_member_at, bad_sporadics_in, bad_sporadic_at, is_responders, is_bad_member, nested_at}
 use Rattle.lin_cluster.specs.declared.finding.Finding.{Finding}
-use Rattle.lin_cluster.proofs.KnownNames.{no_frame, no_table, some-of, the_signal, signal-within, signal-at, frame-found, table-within, table-found}
+use Rattle.lin_cluster.proofs.KnownNames.{no_frame, no_table, the_signal, signal-within, signal-at, frame-found, table-within, table-found}
 use Rattle.lin_cluster.proofs.Named.{found-within}
 use Rattle.lin_cluster.proofs.Pairs.{all-front, all-back, all-of-map}
 use Rattle.lin_cluster.proofs.NothingFound.{NothingFound}

@@ -1,5 +1,5 @@
 -- The protected identifiers of all frames, by those of the two kinds.
-use Rattle.std.proofs.Common.{◌≡◌, ◌≢◌, ◌↔◌, ℕ, List, ◌++◌, map, get_or}
+use Rattle.std.proofs.Common.{◌≢◌, ◌↔◌, ℕ, List, map, get_or}
 use Rattle.std.specs.Prelude.{All, AllPairs}
 use Rattle.std.proofs.lemmas.List.Elements.{All-append, All-map}
 use Rattle.lin_cluster.specs.Rules.{pids, CarriesSignals}

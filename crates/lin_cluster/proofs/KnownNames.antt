@@ -1,11 +1,10 @@
 -- The numbers of names that a description knows.
-use Rattle.std.proofs.Common.{◌≡◌, ◌≢◌, ◌<◌, ◌≤◌, ◌+◌, ℕ, zero, suc, Bool, true, false, cond, not, ◌||◌, List, [], ◌∷◌, length, get_or, map, refl, sym, subst, ap, ◌∙◌, arith}
-use Rattle.std.specs.Prelude.{Option, Some, None, find, is_some, is_none}
-use Rattle.std.specs.List.{list_any, enumerate_from, position_or_len}
+use Rattle.std.proofs.Common.{◌≡◌, ◌≢◌, ◌<◌, ◌+◌, ℕ, suc, Bool, true, false, List, [], ◌∷◌, length, get_or, refl, sym, subst, ap, ◌∙◌, arith}
+use Rattle.std.specs.Prelude.{Option, Some, None, is_some, is_none}
+use Rattle.std.specs.List.{enumerate_from, position_or_len}
 use Rattle.std.specs.Str.{bytes_eq}
 use Rattle.std.proofs.lemmas.List.{get_or-map, length-map}
 use Rattle.std.proofs.lemmas.List.FromFn.{length-enumerate_from, get_or-enumerate_from}
-use Rattle.lin_frame.specs.declared.value.Value.TheVariants as values
 use Rattle.lin_ldf.specs.declared.description.Description.{Description}
 use Rattle.lin_ldf.specs.declared.description.Init.TheVariants as inits
 use Rattle.lin_ldf.specs.declared.description.Frame as declared_frame
@@ -15,9 +14,8 @@ use Rattle.lin_ldf.specs.declared.description.PlacedSignal.{PlacedSignal}
 use Rattle.lin_ldf.specs.declared.description.Signal as declared_signal
 use Rattle.lin_ldf.specs.declared.description.Table as declared_table
 use Rattle.lin_cluster.specs.Cluster.{nodes, signal_of, frame_of}
-use Rattle.lin_cluster.specs.Described.{node_names, node_number, signal_number, frame_number, table_number, responder, described_signal, described_frame, signals_of, parts_of}
+use Rattle.lin_cluster.specs.Described.{node_names, node_number, signal_number, frame_number, table_number, responder, described_signal, described_frame, parts_of}
 use Rattle.lin_cluster.specs.FindingsNames.{is_node, signal_named, frame_named, table_named, same_name}
-use Rattle.lin_cluster.specs.declared.parts.Signal.{Signal}
 use Rattle.lin_cluster.proofs.Named.{number_by, same-text, text-same, has-text, one-text, any-within, found-within, found-at}
 
 abbrev pub no_name : Name

@@ -1,6 +1,6 @@
 -- A description without findings has none of any kind.
 use Rattle.std.proofs.Common.{◌≡◌, List, [], ◌++◌}
-use Rattle.lin_cluster.specs.Findings.{IsFree, candidates}
+use Rattle.lin_cluster.specs.Findings.{IsFree}
 use Rattle.lin_cluster.specs.FindingsFrames.{unknown_names, wrong_publishers, bad_ids, ids_twice, bad_sizes, signals_outside, signals_overlap, bad_inits, bad_nads, nads_twice}
 use Rattle.lin_cluster.specs.FindingsTables.{slots_too_short, zero_delays, bad_event_frames, bad_sporadics, nested_collisions, empty_tables, limits_passed}
 use Rattle.lin_cluster.specs.declared.finding.Finding.{Finding}

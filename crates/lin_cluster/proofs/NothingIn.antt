@@ -1,10 +1,10 @@
 -- What an empty list of findings says of what it was collected from, and what a whole list has.
-use Rattle.std.proofs.Common.{◌≡◌, ◌<◌, ◌≤◌, ◌+◌, ◌-◌, ℕ, zero, suc, Bool, true, false, cond, not, ◌||◌, ◌&&◌, List, [], ◌∷◌, ◌++◌, length, map, get_or, refl, sym, subst, ap, ◌∙◌, arith}
-use Rattle.std.specs.Prelude.{All, AllPairs, Option, Some, None, slice_get, count_by}
-use Rattle.std.specs.List.{flat_map, list_any, enumerate_from, AllZip, filter_map}
+use Rattle.std.proofs.Common.{◌≡◌, ◌<◌, ◌≤◌, ◌+◌, ℕ, zero, suc, Bool, true, false, cond, ◌||◌, List, [], ◌∷◌, ◌++◌, length, map, get_or, refl, ap, arith}
+use Rattle.std.specs.Prelude.{All, slice_get, count_by}
+use Rattle.std.specs.List.{flat_map, list_any, enumerate_from, AllZip}
 use Rattle.std.proofs.lemmas.List.Elements.{All-nil, All-cons, All-head, All-tail}
 use Rattle.std.proofs.lemmas.List.Sums.{sum_by-cons, get_or-le-sum_by}
-use Rattle.lin_cluster.specs.FindingsNames.{when, at_name}
+use Rattle.lin_cluster.specs.FindingsNames.{when}
 use Rattle.lin_cluster.specs.FindingsTables.{past}
 use Rattle.lin_cluster.specs.declared.finding.Finding.{Finding}
 use Rattle.lin_ldf.specs.declared.description.Name.{Name}

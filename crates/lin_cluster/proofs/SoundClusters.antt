@@ -1,11 +1,11 @@
 -- Clusters are sound: their addresses and identifiers tell frames apart.
-use Rattle.std.proofs.Common.{◌≡◌, ◌≢◌, ◌<◌, ◌≤◌, ◌+◌, ◌*◌, ◌%◌, ℕ, zero, suc, List, [], ◌∷◌, length, get_or, Option, Some, None, arith, sym, subst, ap, ◌∙◌, inl, inr}
+use Rattle.std.proofs.Common.{◌≡◌, ◌≢◌, ◌<◌, ◌≤◌, ◌+◌, ◌*◌, ◌%◌, ℕ, zero, suc, List, [], ◌∷◌, get_or, Some, None, arith, sym, subst, ap, ◌∙◌, inl, inr}
 use Rattle.std.specs.Prelude.{All, AllPairs, IfSome}
-use Rattle.std.proofs.lemmas.List.Elements.{All-map, All-head, All-tail}
+use Rattle.std.proofs.lemmas.List.Elements.{All-head, All-tail}
 use Rattle.std.proofs.lemmas.List.{get_or_past}
 use Rattle.std.proofs.lemmas.Bool.{cases_lt}
 use Rattle.lin_frame.specs.Frame.{pid}
-use Rattle.lin_cluster.specs.Cluster.{nodes, node_of, nad, frame_of, event_of}
+use Rattle.lin_cluster.specs.Cluster.{nodes, nad}
 use Rattle.lin_cluster.specs.Rules.{IsCluster, CarriesSignals, IsAddress, HaveOwnAddresses}
 use Rattle.lin_cluster.specs.Sound.{IsSound, IsSignalPid}
 use Rattle.lin_cluster.specs.declared.parts.EventFrame.{EventFrame}

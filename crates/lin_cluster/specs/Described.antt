@@ -1,6 +1,6 @@
 -- The cluster that an LDF description says (LIN 2.2A, section 9). Things of each kind are numbered in file order, and a name
 -- means the first that has it. A name that nothing has means the number behind the last; such a description has a finding.
-use Rattle.std.specs.Prelude.{ℕ, ◌+◌, Bool, List, [], ◌∷◌, length, map, find, slice_index_or, Option, Some, None, option_and_then, ◌==◌, nat_lt, if◌then◌else◌, codes}
+use Rattle.std.specs.Prelude.{ℕ, Bool, List, [], ◌∷◌, length, map, find, slice_index_or, Option, Some, None, option_and_then, ◌==◌, nat_lt, if◌then◌else◌, codes}
 use Rattle.std.specs.List.{list_any, enumerate_from, position_or_len}
 use Rattle.std.specs.Option.{option_map}
 use Rattle.std.specs.Str.{bytes_eq}
@@ -19,7 +19,6 @@ use Rattle.lin_ldf.specs.declared.description.Init.TheVariants as inits
 use Rattle.lin_ldf.specs.declared.description.Name.{Name}
 use Rattle.lin_ldf.specs.declared.description.PlacedSignal.{PlacedSignal}
 use Rattle.lin_ldf.specs.declared.description.Signal as declared_signal
-use Rattle.lin_ldf.specs.declared.description.Sporadic as declared_sporadic
 use Rattle.lin_ldf.specs.declared.description.Table as declared_table
 use Rattle.lin_ldf.specs.declared.description.TableEntry.{TableEntry}
 use Rattle.lin_cluster.specs.Rules.{place_at}

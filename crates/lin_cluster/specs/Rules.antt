@@ -1,5 +1,5 @@
 -- What the parts of every cluster have (ISO 17987-3; LIN 2.2A, section 9), within this project's limits.
-use Rattle.std.specs.Prelude.{◌≡◌, ◌≢◌, ◌<◌, ◌≤◌, ℕ, Bool, true, false, not, ◌==◌, if◌then◌else◌, List, ◌++◌, length, map, All, AllPairs, EachIndex, Option, Some, None, IfSome, IsTrue}
+use Rattle.std.specs.Prelude.{◌≡◌, ◌≢◌, ◌<◌, ◌≤◌, ℕ, Bool, true, false, ◌==◌, if◌then◌else◌, List, ◌++◌, length, map, All, AllPairs, EachIndex, Some, None, IfSome, IsTrue}
 use Rattle.std.specs.List.{AllZip, list_any}
 use Rattle.lin_frame.specs.Bits.{fits_place, good_layout, has_good_size}
 use Rattle.lin_frame.specs.Frame.{pid}
@@ -10,13 +10,9 @@ use Rattle.lin_frame.specs.declared.value.Value.TheVariants.{Scalar, Bytes}
 use Rattle.lin_cluster.specs.Cluster.{nodes, nad, signal_of, frame_of, table_of}
 use Rattle.lin_cluster.specs.declared.parts.Entry.{Entry}
 use Rattle.lin_cluster.specs.declared.parts.Entry.TheVariants.{Frame, Sporadic, Event, MasterReq, SlaveResp, Quiet}
-use Rattle.lin_cluster.specs.declared.parts.EventFrame.{EventFrame}
-use Rattle.lin_cluster.specs.declared.parts.Line.{Line}
 use Rattle.lin_cluster.specs.declared.parts.Node.{Node}
 use Rattle.lin_cluster.specs.declared.parts.Parts.{Parts}
 use Rattle.lin_cluster.specs.declared.parts.Signal.{Signal}
-use Rattle.lin_cluster.specs.declared.parts.SignalFrame.{SignalFrame}
-use Rattle.lin_cluster.specs.declared.parts.Table.{Table}
 
 -- the diagnostic addresses of responders
 abbrev pub IsAddress : ℕ → Type 0

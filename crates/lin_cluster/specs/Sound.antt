@@ -1,5 +1,5 @@
 -- What the transport over a cluster rests on: addresses and identifiers that tell their frames apart.
-use Rattle.std.specs.Prelude.{◌≡◌, ◌≢◌, ◌≤◌, ℕ, Option, Some, None}
+use Rattle.std.specs.Prelude.{◌≡◌, ◌≢◌, ◌≤◌, ℕ, Some, None}
 use Rattle.lin_cluster.specs.Cluster.{nad, frame_of, event_of}
 use Rattle.lin_cluster.specs.declared.parts.Parts.{Parts}
 

@@ -1,6 +1,6 @@
 use Rattle.std.proofs.Common.{◌≡◌, ◌≢◌, ◌==◌, true, false, List, length, sym, subst, ◌∙◌}
 use Rattle.std.proofs.lemmas.Bool.{eqb-true, eqb-false}
-use Rattle.lin_cluster.specs.Findings.{AreFindings, IsFree}
+use Rattle.lin_cluster.specs.Findings.{AreFindings}
 use Rattle.lin_cluster.specs.declared.finding.Finding.{Finding}
 use Rattle.lin_cluster.proofs.CheckedDescriptions.{free-from-none, some-found}
 use Rattle.lin_cluster.proofs.FindingsOrder.{one_answer}

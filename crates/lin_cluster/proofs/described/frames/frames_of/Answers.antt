@@ -1,4 +1,4 @@
-use Rattle.std.proofs.Common.{◌+◌, [], arith}
+use Rattle.std.proofs.Common.{[], arith}
 use Rattle.lin_cluster.specs.Described.{described_frame}
 use Rattle.lin_cluster.proofs.Enumerated.{pushed}
 use Rattle.lin_cluster.proofs.described.frames.frames_of.Goals as goal

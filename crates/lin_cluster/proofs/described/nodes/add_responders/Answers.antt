@@ -1,4 +1,4 @@
-use Rattle.std.proofs.Common.{◌+◌, [], arith}
+use Rattle.std.proofs.Common.{◌+◌, arith}
 use Rattle.lin_cluster.specs.Described.{responder}
 use Rattle.lin_cluster.proofs.Enumerated.{pushed}
 use Rattle.lin_cluster.proofs.described.nodes.add_responders.Goals as goal

@@ -1,4 +1,4 @@
-use Rattle.std.proofs.Common.{ℕ, ap, refl, ◌∙◌, ◌++◌, get_or}
+use Rattle.std.proofs.Common.{ap, refl, ◌∙◌, ◌++◌, get_or}
 use Rattle.std.specs.Prelude.{◌==◌, nat_eq}
 use Rattle.indexmap.specs.IndexSet.{contains}
 use Rattle.lin_cluster.specs.FindingsFrames.{nad_twice}

@@ -1,4 +1,3 @@
-use Rattle.std.proofs.Common.{◌≢◌}
 use Rattle.lin_cluster.specs.Rules.{HaveOneSize}
 use Rattle.lin_cluster.proofs.Pairs.{pairs-step, pairs-fail}
 use Rattle.lin_cluster.proofs.rules.events.have_one_size.Goals as goal

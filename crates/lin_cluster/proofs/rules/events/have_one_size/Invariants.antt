@@ -1,4 +1,4 @@
-use Rattle.std.proofs.Common.{◌↔◌, ◌≢◌, length, AllPairs}
+use Rattle.std.proofs.Common.{◌↔◌, length, AllPairs}
 use Rattle.lin_cluster.specs.Rules.{HaveOneSize}
 use Rattle.lin_cluster.proofs.rules.events.have_one_size.Given as goal
 

@@ -1,4 +1,3 @@
-use Rattle.std.proofs.Common.{◌≢◌}
 use Rattle.lin_cluster.specs.Rules.{HaveOwnPublishers}
 use Rattle.lin_cluster.proofs.Pairs.{pairs-step, pairs-fail}
 use Rattle.lin_cluster.proofs.rules.events.have_own_publishers.Goals as goal

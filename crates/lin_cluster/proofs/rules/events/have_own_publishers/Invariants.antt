@@ -1,4 +1,4 @@
-use Rattle.std.proofs.Common.{◌↔◌, ◌≢◌, length, AllPairs}
+use Rattle.std.proofs.Common.{◌↔◌, length, AllPairs}
 use Rattle.lin_cluster.specs.Rules.{HaveOwnPublishers}
 use Rattle.lin_cluster.proofs.rules.events.have_own_publishers.Given as goal
 

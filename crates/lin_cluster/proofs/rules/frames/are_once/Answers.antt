@@ -1,5 +1,4 @@
 use Rattle.std.proofs.Common.{◌≢◌}
-use Rattle.std.proofs.Common.{ℕ}
 use Rattle.lin_cluster.proofs.Pairs.{pairs-step, pairs-fail}
 use Rattle.lin_cluster.proofs.rules.frames.are_once.Goals as goal
 

@@ -1,5 +1,4 @@
 use Rattle.std.proofs.Common.{◌↔◌, ◌≢◌, length, AllPairs}
-use Rattle.std.proofs.Common.{ℕ}
 use Rattle.lin_cluster.proofs.rules.frames.are_once.Given as goal
 
 abbrev pub invariant-loop-signal : goal.invariant-loop-signal

@@ -1,4 +1,3 @@
-use Rattle.std.proofs.Common.{◌≢◌}
 use Rattle.lin_cluster.specs.Rules.{HaveOwnAddresses}
 use Rattle.lin_cluster.proofs.Pairs.{pairs-step, pairs-fail}
 use Rattle.lin_cluster.proofs.rules.nodes.are_own_addresses.Goals as goal

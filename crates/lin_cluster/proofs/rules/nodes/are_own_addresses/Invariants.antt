@@ -1,4 +1,4 @@
-use Rattle.std.proofs.Common.{◌↔◌, ◌≢◌, length, AllPairs}
+use Rattle.std.proofs.Common.{◌↔◌, length, AllPairs}
 use Rattle.lin_cluster.specs.Rules.{HaveOwnAddresses}
 use Rattle.lin_cluster.proofs.rules.nodes.are_own_addresses.Given as goal
 
