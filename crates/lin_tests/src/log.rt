@@ -214,7 +214,7 @@ fn reads_and_length(rt: HostRuntime) {
     };
     let steps = read_script(rt.alloc(), &mut longest);
     assert!(rt; matches!(&steps, Ok(steps) if steps.is_empty()));
-    assert_eq!(rt; longest.reads, 1_048_577);
+    assert_eq!(rt; longest.reads, 16_777_217);
 
     let mut longer = Counted {
         spaces: 20_000_000,
@@ -222,7 +222,7 @@ fn reads_and_length(rt: HostRuntime) {
     };
     let steps = read_script(rt.alloc(), &mut longer);
     assert!(rt; matches!(steps, Err(ScriptFault::TooLong)));
-    assert_eq!(rt; longer.reads, 1_048_577);
+    assert_eq!(rt; longer.reads, 16_777_217);
 }
 
 #[test]

@@ -1,4 +1,4 @@
-//! Readers and writers that give and take a byte or a few at a time, fail, and count.
+//! Readers and writers that give and take one byte at a time, fail, and count.
 
 ghost use Rattle.std.specs.Prelude.{◌≡◌, IfOk, Some};
 
@@ -60,7 +60,7 @@ impl Write for Refusing {
     }
 }
 
-/// Gives this many spaces, 16 a read, and counts the reads.
+/// Gives this many spaces, one a read, and counts the reads.
 #[derive(Drop)]
 pub struct Counted {
     pub spaces: usize,
@@ -70,10 +70,12 @@ pub struct Counted {
 impl Read for Counted {
     fn read(&mut self, buf: &mut [u8]) -> Result<usize> {
         self.reads = self.reads.saturating_add(1);
-        let count = self.spaces.min(buf.len()).min(16);
-        buf[..count].fill(b' ');
-        self.spaces -= count;
-        Ok(count)
+        if self.spaces == 0 || buf.is_empty() {
+            return Ok(0);
+        }
+        self.spaces -= 1;
+        buf[0] = b' ';
+        Ok(1)
     }
 }
 
