@@ -32,12 +32,13 @@ use std::alloc::{AllocError, Global};
 fn of_names_and_numbers(
     alloc: Global,
     found: &mut Vec<Finding>,
-    known: &Known,
+    judged: &Judged,
 ) -> Result<(), AllocError>
-    ensures { OnOk result (found.new.items ≡ found.old.items ++ unknown_names known.now ++ wrong_publishers known.now ++ bad_ids known.now ++ ids_twice known.now) }
+    ensures { OnOk result (found.new.items ≡ found.old.items ++ unknown_names judged.now ++ wrong_publishers judged.now ++ bad_ids judged.now ++ ids_twice judged.now) }
 {
+    let known = judged.known();
     unknown_names::unknown_names(found, known)?;
-    places::wrong_publishers(found, known)?;
+    places::wrong_publishers(found, judged)?;
     identifiers::bad_identifiers(alloc, found, known)
 }
 
@@ -68,7 +69,7 @@ fn of_tables(alloc: Global, found: &mut Vec<Finding>, judged: &Judged) -> Result
 {
     let known = judged.known();
     members::bad_event_frames(alloc, found, judged)?;
-    members::bad_sporadics(found, known)?;
+    members::bad_sporadics(found, judged)?;
     tables::nested_collisions(found, judged)?;
     tables::empty_tables(found, known)?;
     limits::limits_passed(found, known)
@@ -79,7 +80,7 @@ fn unordered(alloc: Global, known: &Known) -> Result<Vec<Finding>, AllocError>
 {
     let judged = Judged::new(alloc, known)?;
     let mut found = Vec::new(alloc);
-    of_names_and_numbers(alloc, &mut found, known)?;
+    of_names_and_numbers(alloc, &mut found, &judged)?;
     of_signals(alloc, &mut found, known)?;
     of_slots_and_addresses(alloc, &mut found, &judged)?;
     of_tables(alloc, &mut found, &judged)?;
