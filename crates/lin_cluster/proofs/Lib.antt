@@ -10,7 +10,7 @@ pub mod DescribedTables
 pub mod Enumerated
 pub mod FindingsLists
 pub mod FindingsMaps
-pub mod FindingsMembers
+pub mod FindingsNodes
 pub mod FindingsOrder
 pub mod FindingsPlaces
 pub mod FindingsRanges

@@ -1,10 +1,11 @@
--- What is wrong with a member of an event-triggered frame, by the first member and by the texts of the publishers of those before it.
+-- What is wrong with a member of an event-triggered frame, by the first member and by the numbers of the publishers of those before it.
 use Rattle.std.specs.Prelude.{ℕ, List, Option, is_some, Bool, true, not, ◌==◌, ◌&&◌, ◌||◌}
 use Rattle.std.specs.List.{list_any}
 use Rattle.std.specs.Option.{option_map_or}
 use Rattle.std.specs.Str.{bytes_eq}
 use Rattle.indexmap.specs.IndexMap.{IndexMap, get_by}
-use Rattle.lin_cluster.specs.FindingsNames.{same_name, is_node, frame_named, is_any_frame, knows}
+use Rattle.lin_cluster.specs.FindingsNames.{frame_named, is_any_frame, knows}
+use Rattle.lin_cluster.specs.FindingsNodes.{node_of, is_number}
 use Rattle.lin_cluster.specs.FindingsTables.{is_in_front}
 use Rattle.lin_ldf.specs.declared.description.Description.{Description}
 use Rattle.lin_ldf.specs.declared.description.Frame.{Frame}
@@ -15,12 +16,12 @@ use denote.Ref.{Bor}
 abbrev pub has_text : {V S : Type 0} → IndexMap (Bor (List ℕ)) V S → List ℕ → Bool
 has_text m q = is_some (get_by (λ k. bytes_eq q k.now) m)
 
-abbrev pub is_bad_behind : Description → Option Frame → (List ℕ → Bool) → Bool → Frame → Bool
-is_bad_behind d first published in_front f =
-    same_name f.publisher d.master
-    || (is_node d f.publisher && published f.publisher.text)
+abbrev pub is_bad_behind : Option Frame → (ℕ → Bool) → Option ℕ → Bool → Frame → Bool
+is_bad_behind first published publisher in_front f =
+    is_number 0 publisher
+    || knows publisher published
     || knows first (λ g. not (g.size.value == f.size.value))
     || in_front
 
-abbrev pub is_wrong_behind : Description → Option Frame → (List ℕ → Bool) → Name → Bool
-is_wrong_behind d first published m = is_any_frame d m && option_map_or (λ f. is_bad_behind d first published (list_any (is_in_front d) f.placed) f) (frame_named d m) true
+abbrev pub is_wrong_behind : Description → Option Frame → (ℕ → Bool) → Name → Bool
+is_wrong_behind d first published m = is_any_frame d m && option_map_or (λ f. is_bad_behind first published (node_of d f.publisher) (list_any (is_in_front d) f.placed) f) (frame_named d m) true

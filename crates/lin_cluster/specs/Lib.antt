@@ -8,6 +8,7 @@ pub mod FindingsFrames
 pub mod FindingsTables
 pub mod FindingsMaps
 pub mod FindingsMembers
+pub mod FindingsNodes
 pub mod FindingsRanges
 pub mod FindingsPlaces
 pub mod FindingsRepeats

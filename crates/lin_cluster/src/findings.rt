@@ -32,12 +32,13 @@ use std::alloc::{AllocError, Global};
 fn of_names_and_numbers(
     alloc: Global,
     found: &mut Vec<Finding>,
-    known: &Known,
+    judged: &Judged,
 ) -> Result<(), AllocError>
-    ensures { OnOk result (found.new.items ≡ found.old.items ++ unknown_names known.now ++ wrong_publishers known.now ++ bad_ids known.now ++ ids_twice known.now) }
+    ensures { OnOk result (found.new.items ≡ found.old.items ++ unknown_names judged.now ++ wrong_publishers judged.now ++ bad_ids judged.now ++ ids_twice judged.now) }
 {
+    let known = judged.known();
     unknown_names::unknown_names(found, known)?;
-    places::wrong_publishers(found, known)?;
+    places::wrong_publishers(found, judged)?;
     identifiers::bad_identifiers(alloc, found, known)
 }
 
@@ -68,21 +69,36 @@ fn of_tables(alloc: Global, found: &mut Vec<Finding>, judged: &Judged) -> Result
 {
     let known = judged.known();
     members::bad_event_frames(alloc, found, judged)?;
-    members::bad_sporadics(found, known)?;
+    members::bad_sporadics(found, judged)?;
     tables::nested_collisions(found, judged)?;
     tables::empty_tables(found, known)?;
     limits::limits_passed(found, known)
 }
 
-fn unordered(alloc: Global, known: &Known) -> Result<Vec<Finding>, AllocError>
+fn gathered(alloc: Global, judged: &Judged) -> Result<Vec<Finding>, AllocError>
+    ensures { IfOk result (λ found. found.items ≡ candidates judged.now) }
+{
+    let mut found = Vec::new(alloc);
+    of_names_and_numbers(alloc, &mut found, judged)?;
+    of_signals(alloc, &mut found, judged.known())?;
+    of_slots_and_addresses(alloc, &mut found, judged)?;
+    of_tables(alloc, &mut found, judged)?;
+    Ok(found)
+}
+
+fn of_known(alloc: Global, known: &Known) -> Result<Vec<Finding>, AllocError>
     ensures { IfOk result (λ found. found.items ≡ candidates known.now) }
 {
     let judged = Judged::new(alloc, known)?;
-    let mut found = Vec::new(alloc);
-    of_names_and_numbers(alloc, &mut found, known)?;
-    of_signals(alloc, &mut found, known)?;
-    of_slots_and_addresses(alloc, &mut found, &judged)?;
-    of_tables(alloc, &mut found, &judged)?;
+    let found = gathered(alloc, &judged)?;
+    Ok(found)
+}
+
+fn unordered(alloc: Global, description: &Description) -> Result<Vec<Finding>, AllocError>
+    ensures { IfOk result (λ found. found.items ≡ candidates description.now) }
+{
+    let known = Known::new(alloc, description)?;
+    let found = of_known(alloc, &known)?;
     Ok(found)
 }
 
@@ -96,8 +112,7 @@ fn sort(found: &mut Vec<Finding>) -> Result<(), AllocError>
 fn ordered(alloc: Global, description: &Description) -> Result<Vec<Finding>, AllocError>
     ensures { IfOk result (λ found. AreFindings description.now found.items) }
 {
-    let known = Known::new(alloc, description)?;
-    let mut found = unordered(alloc, &known)?;
+    let mut found = unordered(alloc, description)?;
     sort(&mut found)?;
     Ok(found)
 }

@@ -1,10 +1,11 @@
-//! What is worked out once of each frame and each table, since very many names may name one.
+//! What is worked out once of each signal, each frame and each table, since very many names may name one.
 
-ghost use Rattle.std.specs.Prelude.{◌≡◌, IfOk};
+ghost use Rattle.std.specs.Prelude.{◌≡◌, IfOk, option_and_then};
 ghost use Rattle.std.specs.List.{list_any};
 ghost use Rattle.std.specs.Option.{option_map};
 ghost use Rattle.lin_cluster.specs.FindingsMaps.{Finds};
-ghost use Rattle.lin_cluster.specs.FindingsNames.{frame_named, sporadic_named, event_named, table_named, is_event_entry, knows};
+ghost use Rattle.lin_cluster.specs.FindingsNames.{signal_named, frame_named, sporadic_named, event_named, table_named, is_event_entry, knows};
+ghost use Rattle.lin_cluster.specs.FindingsNodes.{node_of};
 ghost use Rattle.lin_cluster.specs.FindingsTables.{greatest_size, first_size, is_in_front};
 
 use super::known::Known;
@@ -13,13 +14,14 @@ use super::numbers::add;
 use super::slots::{first_size, greatest_size};
 use super::tables::has_event_entry;
 use indexmap::IndexMap;
-use lin_ldf::{EventFrame, Frame, Name, Sporadic, Table};
+use lin_ldf::{EventFrame, Frame, Name, Signal, Sporadic, Table};
 use std::alloc::{AllocError, Global};
 use std::marker::Model;
 
 type ByName<'a, V> = IndexMap<&'a [u8], V>;
 
-/// The names of a description, with the sizes of sporadic and of event-triggered frames, and what is asked of frames and of tables.
+/// The names of a description, with the nodes that publish signals and frames, the sizes of sporadic and of event-triggered
+/// frames, and what is asked of frames and of tables.
 /// Contracts see the description.
 #[derive(Drop)]
 pub(super) struct Judged<'k, 'a> {
@@ -28,12 +30,15 @@ pub(super) struct Judged<'k, 'a> {
     events: ByName<'a, Option<u32>>,
     fronts: ByName<'a, bool>,
     nested: ByName<'a, bool>,
+    signal_nodes: ByName<'a, Option<usize>>,
+    frame_nodes: ByName<'a, Option<usize>>,
 }
 
 impl<'k, 'a> Model for Judged<'k, 'a> {
     ghost use Rattle.std.specs.List.{list_any};
     ghost use Rattle.lin_cluster.specs.FindingsMaps.{Finds};
     ghost use Rattle.lin_cluster.specs.FindingsNames.{is_event_entry};
+    ghost use Rattle.lin_cluster.specs.FindingsNodes.{node_of};
     ghost use Rattle.lin_cluster.specs.FindingsTables.{greatest_size, first_size, is_in_front};
     ghost use Rattle.lin_ldf.specs.declared.description.Description.{Description};
 
@@ -41,7 +46,7 @@ impl<'k, 'a> Model for Judged<'k, 'a> {
 
     ghost view = { λ j. j.known.now };
 
-    ghost invariant = { λ j. Finds (λ f. f.name.text) (λ f. greatest_size j.known.now f.members) j.known.now.sporadic j.sporadics × Finds (λ e. e.name.text) (λ e. first_size j.known.now e.members) j.known.now.events j.events × Finds (λ f. f.name.text) (λ f. list_any (is_in_front j.known.now) f.placed) j.known.now.frames j.fronts × Finds (λ t. t.name.text) (λ t. list_any (is_event_entry j.known.now) t.entries) j.known.now.tables j.nested };
+    ghost invariant = { λ j. Finds (λ f. f.name.text) (λ f. greatest_size j.known.now f.members) j.known.now.sporadic j.sporadics × Finds (λ e. e.name.text) (λ e. first_size j.known.now e.members) j.known.now.events j.events × Finds (λ f. f.name.text) (λ f. list_any (is_in_front j.known.now) f.placed) j.known.now.frames j.fronts × Finds (λ t. t.name.text) (λ t. list_any (is_event_entry j.known.now) t.entries) j.known.now.tables j.nested × Finds (λ s. s.name.text) (λ s. node_of j.known.now s.publisher) j.known.now.signals j.signal_nodes × Finds (λ f. f.name.text) (λ f. node_of j.known.now f.publisher) j.known.now.frames j.frame_nodes };
 }
 
 fn sporadic_sizes<'a>(
@@ -104,6 +109,36 @@ fn nested<'a>(
     Ok(map)
 }
 
+fn signal_nodes<'a>(
+    alloc: Global,
+    known: &Known<'a>,
+    signals: &'a [Signal],
+) -> Result<ByName<'a, Option<usize>>, AllocError>
+    ensures { IfOk result (Finds (λ s. s.name.text) (λ s. node_of known.now s.publisher) signals.now) }
+{
+    let mut map = IndexMap::new(alloc);
+    for signal in signals {
+        let node = known.node(&signal.publisher);
+        add(&mut map, signal.name.text.as_slice(), node)?;
+    }
+    Ok(map)
+}
+
+fn frame_nodes<'a>(
+    alloc: Global,
+    known: &Known<'a>,
+    frames: &'a [Frame],
+) -> Result<ByName<'a, Option<usize>>, AllocError>
+    ensures { IfOk result (Finds (λ f. f.name.text) (λ f. node_of known.now f.publisher) frames.now) }
+{
+    let mut map = IndexMap::new(alloc);
+    for frame in frames {
+        let node = known.node(&frame.publisher);
+        add(&mut map, frame.name.text.as_slice(), node)?;
+    }
+    Ok(map)
+}
+
 impl<'k, 'a> Judged<'k, 'a> {
     /// An error is want of memory.
     pub(super) fn new(alloc: Global, known: &'k Known<'a>) -> Result<Judged<'k, 'a>, AllocError>
@@ -114,12 +149,16 @@ impl<'k, 'a> Judged<'k, 'a> {
         let events = event_sizes(alloc, known, description.events())?;
         let fronts = fronts(alloc, known, description.frames())?;
         let nested = nested(alloc, known, description.tables())?;
+        let signal_nodes = signal_nodes(alloc, known, description.signals())?;
+        let frame_nodes = frame_nodes(alloc, known, description.frames())?;
         Ok(Judged {
             known,
             sporadics,
             events,
             fronts,
             nested,
+            signal_nodes,
+            frame_nodes,
         })
     }
 
@@ -145,6 +184,26 @@ impl<'k, 'a> Judged<'k, 'a> {
     {
         match self.events.get(&name.text.as_slice()) {
             Some(size) => Some(*size),
+            None => None,
+        }
+    }
+
+    /// The node that publishes a signal, where the name is one's and there is such a node.
+    pub(super) fn signal_node(&self, name: &Name) -> Option<usize>
+        ensures { result ≡ option_and_then (λ s. node_of self.now s.publisher) (signal_named self.now name.now) }
+    {
+        match self.signal_nodes.get(&name.text.as_slice()) {
+            Some(node) => *node,
+            None => None,
+        }
+    }
+
+    /// The node that publishes a frame, where the name is one's and there is such a node.
+    pub(super) fn frame_node(&self, name: &Name) -> Option<usize>
+        ensures { result ≡ option_and_then (λ f. node_of self.now f.publisher) (frame_named self.now name.now) }
+    {
+        match self.frame_nodes.get(&name.text.as_slice()) {
+            Some(node) => *node,
             None => None,
         }
     }

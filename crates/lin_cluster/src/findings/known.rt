@@ -1,23 +1,18 @@
 //! What the names of a description name.
 
 ghost use Rattle.std.specs.Prelude.{◌≡◌, IfOk};
-ghost use Rattle.std.specs.List.{list_any};
 ghost use Rattle.std.specs.Option.{option_copied};
-ghost use Rattle.lin_cluster.specs.FindingsNames.{same_name, is_node, is_responder, signal_named, frame_named, sporadic_named, event_named, table_named, is_any_frame, is_diagnostic, carries_frame, is_event_entry};
+ghost use Rattle.lin_cluster.specs.FindingsNames.{is_node, is_responder, signal_named, frame_named, sporadic_named, event_named, table_named, is_any_frame, is_diagnostic, carries_frame, is_event_entry};
+ghost use Rattle.lin_cluster.specs.FindingsNodes.{node_of, is_behind_commander};
 
 use super::numbers::{
-    ByName, events_by_name, frames_by_name, signals_by_name, slaves_by_name, sporadics_by_name,
+    ByName, events_by_name, frames_by_name, nodes_by_name, signals_by_name, sporadics_by_name,
     tables_by_name,
 };
+use indexmap::IndexMap;
 use lin_ldf::{Description, EventFrame, Frame, Name, Signal, Sporadic, Table, TableEntry};
 use std::alloc::{AllocError, Global};
 use std::marker::Model;
-
-pub(super) fn same_name(a: &Name, b: &Name) -> bool
-    ensures { result ≡ same_name a.now b.now }
-{
-    a.text.as_slice() == b.text.as_slice()
-}
 
 pub(super) fn is_diagnostic(name: &Name) -> bool
     ensures { result ≡ is_diagnostic name.now }
@@ -33,11 +28,21 @@ pub(super) fn carries_frame(entry: &TableEntry) -> bool
     !entry.has_group && !is_diagnostic(&entry.name)
 }
 
+/// Whether there is a node, and it isn't the commander.
+pub(super) fn is_behind_commander(node: Option<usize>) -> bool
+    ensures { result ≡ is_behind_commander node }
+{
+    match node {
+        Some(number) => 0 < number,
+        None => false,
+    }
+}
+
 /// A description and what its names name. Contracts see the description.
 #[derive(Drop)]
 pub(super) struct Known<'a> {
     description: &'a Description,
-    slaves: ByName<'a, Name>,
+    nodes: IndexMap<&'a [u8], usize>,
     signals: ByName<'a, Signal>,
     frames: ByName<'a, Frame>,
     sporadics: ByName<'a, Sporadic>,
@@ -46,14 +51,16 @@ pub(super) struct Known<'a> {
 }
 
 impl<'a> Model for Known<'a> {
-    ghost use Rattle.lin_cluster.specs.FindingsMaps.{FindsFirst};
+    ghost use Rattle.std.specs.List.{enumerate_from};
+    ghost use Rattle.lin_cluster.specs.Described.{node_names};
+    ghost use Rattle.lin_cluster.specs.FindingsMaps.{Finds, FindsFirst};
     ghost use Rattle.lin_ldf.specs.declared.description.Description.{Description};
 
     ghost Value = { Description };
 
     ghost view = { λ k. k.description.now };
 
-    ghost invariant = { λ k. FindsFirst (λ s. s.text) k.description.now.slaves k.slaves × FindsFirst (λ s. s.name.text) k.description.now.signals k.signals × FindsFirst (λ s. s.name.text) k.description.now.frames k.frames × FindsFirst (λ s. s.name.text) k.description.now.sporadic k.sporadics × FindsFirst (λ s. s.name.text) k.description.now.events k.events × FindsFirst (λ s. s.name.text) k.description.now.tables k.tables };
+    ghost invariant = { λ k. Finds (λ n. n.1.text) (λ n. n.0) (enumerate_from 0 (node_names k.description.now)) k.nodes × FindsFirst (λ s. s.name.text) k.description.now.signals k.signals × FindsFirst (λ s. s.name.text) k.description.now.frames k.frames × FindsFirst (λ s. s.name.text) k.description.now.sporadic k.sporadics × FindsFirst (λ s. s.name.text) k.description.now.events k.events × FindsFirst (λ s. s.name.text) k.description.now.tables k.tables };
 }
 
 impl<'a> Known<'a> {
@@ -61,7 +68,7 @@ impl<'a> Known<'a> {
     pub(super) fn new(alloc: Global, description: &'a Description) -> Result<Known<'a>, AllocError>
         ensures { IfOk result (λ k. k ≡ description.now) }
     {
-        let slaves = slaves_by_name(alloc, description.slaves())?;
+        let nodes = nodes_by_name(alloc, description.master(), description.slaves())?;
         let signals = signals_by_name(alloc, description.signals())?;
         let frames = frames_by_name(alloc, description.frames())?;
         let sporadics = sporadics_by_name(alloc, description.sporadic())?;
@@ -69,7 +76,7 @@ impl<'a> Known<'a> {
         let tables = tables_by_name(alloc, description.tables())?;
         Ok(Known {
             description,
-            slaves,
+            nodes,
             signals,
             frames,
             sporadics,
@@ -84,22 +91,26 @@ impl<'a> Known<'a> {
         self.description
     }
 
-    fn is_slave(&self, name: &Name) -> bool
-        ensures { result ≡ list_any (λ m. same_name m name.now) self.now.slaves }
+    /// The number of the node with this name: the commander's is 0.
+    pub(super) fn node(&self, name: &Name) -> Option<usize>
+        ensures { result ≡ node_of self.now name.now }
     {
-        self.slaves.contains_key(&name.text.as_slice())
+        match self.nodes.get(&name.text.as_slice()) {
+            Some(number) => Some(*number),
+            None => None,
+        }
     }
 
     pub(super) fn is_node(&self, name: &Name) -> bool
         ensures { result ≡ is_node self.now name.now }
     {
-        same_name(self.description().master(), name) || self.is_slave(name)
+        self.node(name).is_some()
     }
 
     pub(super) fn is_responder(&self, name: &Name) -> bool
         ensures { result ≡ is_responder self.now name.now }
     {
-        !same_name(self.description().master(), name) && self.is_slave(name)
+        is_behind_commander(self.node(name))
     }
 
     pub(super) fn signal(&self, name: &Name) -> Option<&'a Signal>

@@ -1,35 +1,31 @@
 //! Members of event-triggered and of sporadic frames.
 
-ghost use Rattle.std.specs.Prelude.{◌≡◌, ◌++◌, ◌||◌, List, ℕ, OnOk, true, not, ◌==◌, nat_lt, slice_get, is_some, option_and_then};
+ghost use Rattle.std.specs.Prelude.{◌≡◌, ◌++◌, ◌||◌, ℕ, OnOk, true, not, ◌==◌, nat_eq, nat_lt, slice_get, option_and_then};
 ghost use Rattle.std.specs.List.{flat_map, list_any, enumerate_from};
 ghost use Rattle.std.specs.Option.{option_copied, option_map_or};
-ghost use Rattle.std.specs.Str.{bytes_eq};
-ghost use Rattle.indexmap.specs.IndexMap.{get_by};
-ghost use Rattle.lin_cluster.specs.FindingsMembers.{is_bad_behind, is_wrong_behind, has_text};
+ghost use Rattle.indexmap.specs.IndexSet.{contains};
+ghost use Rattle.lin_cluster.specs.FindingsMembers.{is_bad_behind, is_wrong_behind};
 ghost use Rattle.lin_cluster.specs.FindingsNames.{at_name, when, frame_named, knows, signal_named};
+ghost use Rattle.lin_cluster.specs.FindingsNodes.{node_of, is_number};
 ghost use Rattle.lin_cluster.specs.FindingsTables.{is_in_front, bad_member_at, bad_members_in, bad_event_frames, is_responders, bad_sporadic_at, bad_sporadics_in, bad_sporadics};
 
 use super::judged::Judged;
-use super::known::{Known, same_name};
-use super::numbers::add;
+use super::known::{Known, is_behind_commander};
 use super::words::{at_name, push_when};
 use crate::finding::Finding;
-use indexmap::IndexMap;
+use indexmap::IndexSet;
 use lin_ldf::{EventFrame, Frame, Name, PlacedSignal, Sporadic};
 use std::alloc::{AllocError, Global};
 
-/// The publishers of some members.
-type Publishers<'a> = IndexMap<&'a [u8], ()>;
-
-fn add_publisher<'a>(
-    publishers: &mut Publishers<'a>,
-    judged: &Judged<'_, 'a>,
+fn add_publisher(
+    publishers: &mut IndexSet<usize>,
+    judged: &Judged,
     member: &Name,
 ) -> Result<(), AllocError>
-    ensures { OnOk result ((q : List ℕ) → has_text publishers.new q ≡ (has_text publishers.old q || knows (frame_named judged.now member.now) (λ g. bytes_eq g.publisher.text q))) }
+    ensures { OnOk result ((q : ℕ) → contains nat_eq publishers.new q ≡ (contains nat_eq publishers.old q || knows (frame_named judged.now member.now) (λ g. is_number q (node_of judged.now g.publisher)))) }
 {
-    if let Some(frame) = judged.known().frame(member) {
-        add(publishers, frame.publisher.text.as_slice(), ())?;
+    if let Some(node) = judged.frame_node(member) {
+        publishers.insert(node)?;
     }
     Ok(())
 }
@@ -74,19 +70,35 @@ pub(super) fn has_signal_in_front(known: &Known, all_placed: &[PlacedSignal]) ->
     all_placed.iter().any(|placed| is_in_front(known, placed))
 }
 
+fn is_commander(publisher: Option<usize>) -> bool
+    ensures { result ≡ is_number 0 publisher }
+{
+    match publisher {
+        Some(node) => node == 0,
+        None => false,
+    }
+}
+
+fn has_published(publishers: &IndexSet<usize>, publisher: Option<usize>) -> bool
+    ensures { result ≡ knows publisher (contains nat_eq publishers.now) }
+{
+    match publisher {
+        Some(node) => publishers.contains(&node),
+        None => false,
+    }
+}
+
 fn is_bad_member(
-    judged: &Judged,
     first: Option<&Frame>,
-    publishers: &Publishers,
+    publishers: &IndexSet<usize>,
+    publisher: Option<usize>,
     is_in_front: bool,
     frame: &Frame,
 ) -> bool
-    ensures { result ≡ is_bad_behind judged.now (option_copied first.entry) (has_text publishers.now) is_in_front frame.now }
+    ensures { result ≡ is_bad_behind (option_copied first.entry) (contains nat_eq publishers.now) publisher is_in_front frame.now }
 {
-    let known = judged.known();
-    same_name(&frame.publisher, known.description().master())
-        || (known.is_node(&frame.publisher)
-            && publishers.contains_key(&frame.publisher.text.as_slice()))
+    is_commander(publisher)
+        || has_published(publishers, publisher)
         || differs_from(first, frame)
         || is_in_front
 }
@@ -94,17 +106,17 @@ fn is_bad_member(
 fn is_wrong_member(
     judged: &Judged,
     first: Option<&Frame>,
-    publishers: &Publishers,
+    publishers: &IndexSet<usize>,
     member: &Name,
 ) -> bool
-    ensures { result ≡ is_wrong_behind judged.now (option_copied first.entry) (has_text publishers.now) member.now }
+    ensures { result ≡ is_wrong_behind judged.now (option_copied first.entry) (contains nat_eq publishers.now) member.now }
 {
     let known = judged.known();
     match known.frame(member) {
         Some(frame) => is_bad_member(
-            judged,
             first,
             publishers,
+            judged.frame_node(member),
             judged.has_signal_in_front(member),
             frame,
         ),
@@ -116,10 +128,10 @@ fn bad_member(
     found: &mut Vec<Finding>,
     judged: &Judged,
     first: Option<&Frame>,
-    publishers: &Publishers,
+    publishers: &IndexSet<usize>,
     member: &Name,
 ) -> Result<(), AllocError>
-    ensures { OnOk result (found.new.items ≡ found.old.items ++ when (is_wrong_behind judged.now (option_copied first.entry) (has_text publishers.now) member.now) (at_name 13 member.now)) }
+    ensures { OnOk result (found.new.items ≡ found.old.items ++ when (is_wrong_behind judged.now (option_copied first.entry) (contains nat_eq publishers.now) member.now) (at_name 13 member.now)) }
 {
     let is_wrong = is_wrong_member(judged, first, publishers, member);
     push_when(found, is_wrong, at_name(13, member))
@@ -135,7 +147,7 @@ fn bad_members_among(
     ensures { OnOk result (found.new.items ≡ found.old.items ++ flat_map (bad_member_at judged.now members.now) (enumerate_from 0 members.now)) }
 {
     let first = first_frame(judged, members);
-    let mut publishers = IndexMap::new(alloc);
+    let mut publishers = IndexSet::new(alloc);
     for member in members {
         bad_member(found, judged, first, &publishers, member)?;
         add_publisher(&mut publishers, judged, member)?;
@@ -181,69 +193,65 @@ pub(super) fn bad_event_frames(
     bad_members_in_each(alloc, found, judged, judged.known().description().events())
 }
 
-fn is_responders(known: &Known, frame: &Frame) -> bool
-    ensures { result ≡ is_responders known.now frame.now }
+fn is_no_commanders(judged: &Judged, member: &Name) -> bool
+    ensures { result ≡ option_map_or (is_responders judged.now) (frame_named judged.now member.now) true }
 {
-    known.is_node(&frame.publisher) && !same_name(&frame.publisher, known.description().master())
+    judged.known().frame(member).is_none() || is_behind_commander(judged.frame_node(member))
 }
 
-fn is_no_commanders(known: &Known, member: &Name) -> bool
-    ensures { result ≡ option_map_or (is_responders known.now) (frame_named known.now member.now) true }
+fn bad_sporadic_at(
+    found: &mut Vec<Finding>,
+    judged: &Judged,
+    member: &Name,
+) -> Result<(), AllocError>
+    ensures { OnOk result (found.new.items ≡ found.old.items ++ bad_sporadic_at judged.now member.now) }
 {
-    match known.frame(member) {
-        Some(frame) => is_responders(known, frame),
-        None => true,
-    }
-}
-
-fn bad_sporadic_at(found: &mut Vec<Finding>, known: &Known, member: &Name) -> Result<(), AllocError>
-    ensures { OnOk result (found.new.items ≡ found.old.items ++ bad_sporadic_at known.now member.now) }
-{
-    let is_wrong = known.is_any_frame(member) && is_no_commanders(known, member);
+    let known = judged.known();
+    let is_wrong = known.is_any_frame(member) && is_no_commanders(judged, member);
     push_when(found, is_wrong, at_name(14, member))
 }
 
 fn bad_sporadics_at(
     found: &mut Vec<Finding>,
-    known: &Known,
+    judged: &Judged,
     members: &[Name],
 ) -> Result<(), AllocError>
-    ensures { OnOk result (found.new.items ≡ found.old.items ++ flat_map (bad_sporadic_at known.now) members.now) }
+    ensures { OnOk result (found.new.items ≡ found.old.items ++ flat_map (bad_sporadic_at judged.now) members.now) }
 {
     for member in members {
-        bad_sporadic_at(found, known, member)?;
+        bad_sporadic_at(found, judged, member)?;
     }
     Ok(())
 }
 
 fn bad_sporadics_of(
     found: &mut Vec<Finding>,
-    known: &Known,
+    judged: &Judged,
     frame: &Sporadic,
 ) -> Result<(), AllocError>
-    ensures { OnOk result (found.new.items ≡ found.old.items ++ bad_sporadics_in known.now frame.now) }
+    ensures { OnOk result (found.new.items ≡ found.old.items ++ bad_sporadics_in judged.now frame.now) }
 {
     let members = frame.members.as_slice();
     push_when(found, members.is_empty(), at_name(14, &frame.name))?;
-    bad_sporadics_at(found, known, members)
+    bad_sporadics_at(found, judged, members)
 }
 
 fn bad_sporadics_in(
     found: &mut Vec<Finding>,
-    known: &Known,
+    judged: &Judged,
     frames: &[Sporadic],
 ) -> Result<(), AllocError>
-    ensures { OnOk result (found.new.items ≡ found.old.items ++ flat_map (bad_sporadics_in known.now) frames.now) }
+    ensures { OnOk result (found.new.items ≡ found.old.items ++ flat_map (bad_sporadics_in judged.now) frames.now) }
 {
     for frame in frames {
-        bad_sporadics_of(found, known, frame)?;
+        bad_sporadics_of(found, judged, frame)?;
     }
     Ok(())
 }
 
 /// Members that a sporadic frame may not carry.
-pub(super) fn bad_sporadics(found: &mut Vec<Finding>, known: &Known) -> Result<(), AllocError>
-    ensures { OnOk result (found.new.items ≡ found.old.items ++ bad_sporadics known.now) }
+pub(super) fn bad_sporadics(found: &mut Vec<Finding>, judged: &Judged) -> Result<(), AllocError>
+    ensures { OnOk result (found.new.items ≡ found.old.items ++ bad_sporadics judged.now) }
 {
-    bad_sporadics_in(found, known, known.description().sporadic())
+    bad_sporadics_in(found, judged, judged.known().description().sporadic())
 }

@@ -1,9 +1,10 @@
 //! Maps from names to what they name first.
 
-ghost use Rattle.std.specs.Prelude.{◌≡◌, List, ℕ, OnOk, IfOk, Some, None, if◌then◌else◌};
+ghost use Rattle.std.specs.Prelude.{◌≡◌, List, ◌∷◌, ℕ, OnOk, IfOk, Some, None, if◌then◌else◌};
+ghost use Rattle.std.specs.List.{enumerate_from};
 ghost use Rattle.std.specs.Str.{bytes_eq};
 ghost use Rattle.indexmap.specs.IndexMap.{get_by};
-ghost use Rattle.lin_cluster.specs.FindingsMaps.{or_else, FindsFirst};
+ghost use Rattle.lin_cluster.specs.FindingsMaps.{or_else, Finds, FindsFirst};
 
 use indexmap::IndexMap;
 use lin_ldf::{EventFrame, Frame, Name, Signal, Sporadic, Table};
@@ -25,15 +26,18 @@ pub(super) fn add<'a, V: Copy>(
     Ok(())
 }
 
-pub(super) fn slaves_by_name<'a>(
+/// The numbers of the nodes: the commander's is 0, the responders follow from 1.
+pub(super) fn nodes_by_name<'a>(
     alloc: Global,
+    master: &'a Name,
     slaves: &'a [Name],
-) -> Result<ByName<'a, Name>, AllocError>
-    ensures { IfOk result (FindsFirst (λ s. s.text) slaves.now) }
+) -> Result<IndexMap<&'a [u8], usize>, AllocError>
+    ensures { IfOk result (Finds (λ n. n.1.text) (λ n. n.0) (enumerate_from 0 (master.now ∷ slaves.now))) }
 {
     let mut map = IndexMap::new(alloc);
-    for slave in slaves {
-        add(&mut map, slave.text.as_slice(), slave)?;
+    add(&mut map, master.text.as_slice(), 0)?;
+    for (place, slave) in slaves.iter().enumerate() {
+        add(&mut map, slave.text.as_slice(), place + 1)?;
     }
     Ok(map)
 }

@@ -2,87 +2,89 @@
 
 ghost use Rattle.std.specs.Prelude.{◌≡◌, ◌++◌, OnOk};
 ghost use Rattle.std.specs.List.{flat_map};
-ghost use Rattle.lin_cluster.specs.FindingsFrames.{is_array, is_published_elsewhere, wrong_publisher_at, wrong_publishers_in, wrong_publishers, is_outside, outside_at, outside_in, signals_outside};
+ghost use Rattle.lin_cluster.specs.FindingsFrames.{is_array, wrong_publishers_in, wrong_publishers, is_outside, outside_at, outside_in, signals_outside};
 ghost use Rattle.lin_cluster.specs.FindingsNames.{knows, signal_named};
+ghost use Rattle.lin_cluster.specs.FindingsNodes.{node_of, are_two, wrong_publisher_by};
 
-use super::known::{Known, same_name};
+use super::judged::Judged;
+use super::known::Known;
 use super::sizes::is_array;
 use super::words::{at_name, at_number, push_when};
 use crate::finding::Finding;
 use lin_ldf::{Frame, PlacedSignal, Signal};
 use std::alloc::AllocError;
 
-fn is_published_elsewhere(known: &Known, frame: &Frame, signal: &Signal) -> bool
-    ensures { result ≡ is_published_elsewhere known.now frame.now signal.now }
+// A name that is no node's is no other node's.
+fn are_two(node: Option<usize>, other: Option<usize>) -> bool
+    ensures { result ≡ are_two node other }
 {
-    known.is_node(&signal.publisher)
-        && known.is_node(&frame.publisher)
-        && !same_name(&signal.publisher, &frame.publisher)
+    match (node, other) {
+        (Some(node), Some(other)) => node != other,
+        _ => false,
+    }
 }
 
-fn has_wrong_publisher(known: &Known, frame: &Frame, placed: &PlacedSignal) -> bool
-    ensures { result ≡ knows (signal_named known.now placed.now.signal) (is_published_elsewhere known.now frame.now) }
+fn has_other_publisher(judged: &Judged, publisher: Option<usize>, placed: &PlacedSignal) -> bool
+    ensures { result ≡ knows (signal_named judged.now placed.now.signal) (λ s. are_two (node_of judged.now s.publisher) publisher) }
 {
-    match known.signal(&placed.signal) {
-        Some(signal) => is_published_elsewhere(known, frame, signal),
-        None => false,
-    }
+    are_two(judged.signal_node(&placed.signal), publisher)
 }
 
 fn wrong_publisher_at(
     found: &mut Vec<Finding>,
-    known: &Known,
-    frame: &Frame,
+    judged: &Judged,
+    publisher: Option<usize>,
     placed: &PlacedSignal,
 ) -> Result<(), AllocError>
-    ensures { OnOk result (found.new.items ≡ found.old.items ++ wrong_publisher_at known.now frame.now placed.now) }
+    ensures { OnOk result (found.new.items ≡ found.old.items ++ wrong_publisher_by judged.now publisher placed.now) }
 {
-    let is_wrong = has_wrong_publisher(known, frame, placed);
+    let is_wrong = has_other_publisher(judged, publisher, placed);
     push_when(found, is_wrong, at_name(2, &placed.signal))
 }
 
 fn wrong_publishers_at(
     found: &mut Vec<Finding>,
-    known: &Known,
-    frame: &Frame,
+    judged: &Judged,
+    publisher: Option<usize>,
     all_placed: &[PlacedSignal],
 ) -> Result<(), AllocError>
-    ensures { OnOk result (found.new.items ≡ found.old.items ++ flat_map (wrong_publisher_at known.now frame.now) all_placed.now) }
+    ensures { OnOk result (found.new.items ≡ found.old.items ++ flat_map (wrong_publisher_by judged.now publisher) all_placed.now) }
 {
     for placed in all_placed {
-        wrong_publisher_at(found, known, frame, placed)?;
+        wrong_publisher_at(found, judged, publisher, placed)?;
     }
     Ok(())
 }
 
 fn wrong_publishers_of(
     found: &mut Vec<Finding>,
-    known: &Known,
+    judged: &Judged,
     frame: &Frame,
 ) -> Result<(), AllocError>
-    ensures { OnOk result (found.new.items ≡ found.old.items ++ wrong_publishers_in known.now frame.now) }
+    ensures { OnOk result (found.new.items ≡ found.old.items ++ wrong_publishers_in judged.now frame.now) }
 {
-    wrong_publishers_at(found, known, frame, frame.placed.as_slice())
+    let publisher = judged.known().node(&frame.publisher);
+    wrong_publishers_at(found, judged, publisher, frame.placed.as_slice())
 }
 
 fn wrong_publishers_in(
     found: &mut Vec<Finding>,
-    known: &Known,
+    judged: &Judged,
     frames: &[Frame],
 ) -> Result<(), AllocError>
-    ensures { OnOk result (found.new.items ≡ found.old.items ++ flat_map (wrong_publishers_in known.now) frames.now) }
+    ensures { OnOk result (found.new.items ≡ found.old.items ++ flat_map (wrong_publishers_in judged.now) frames.now) }
 {
     for frame in frames {
-        wrong_publishers_of(found, known, frame)?;
+        wrong_publishers_of(found, judged, frame)?;
     }
     Ok(())
 }
 
 /// Signals whose publisher isn't that of the frame.
-pub(super) fn wrong_publishers(found: &mut Vec<Finding>, known: &Known) -> Result<(), AllocError>
-    ensures { OnOk result (found.new.items ≡ found.old.items ++ wrong_publishers known.now) }
+pub(super) fn wrong_publishers(found: &mut Vec<Finding>, judged: &Judged) -> Result<(), AllocError>
+    ensures { OnOk result (found.new.items ≡ found.old.items ++ wrong_publishers judged.now) }
 {
-    wrong_publishers_in(found, known, known.description().frames())
+    wrong_publishers_in(found, judged, judged.known().description().frames())
 }
 
 fn is_outside(frame: &Frame, placed: &PlacedSignal, signal: &Signal) -> bool

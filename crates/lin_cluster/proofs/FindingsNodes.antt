@@ -1,0 +1,141 @@
+-- Publishers that are compared by the numbers of their nodes.
+use Rattle.std.proofs.Common.{◌≡◌, ◌<◌, ℕ, suc, ◌+◌, Bool, true, false, cond, List, [], ◌∷◌, length, get_or, refl, sym, ap, ◌∙◌, arith, add-one, one-add}
+use Rattle.std.specs.Prelude.{Option, Some, None, is_some, find, not, ◌==◌, ◌&&◌, ◌||◌, nat_lt, slice_get, option_and_then}
+use Rattle.std.specs.List.{list_any, enumerate_from, position_or_len}
+use Rattle.std.specs.Option.{option_map, option_map_or}
+use Rattle.std.specs.Str.{bytes_eq}
+use Rattle.std.proofs.lemmas.Bool.{eqb-true, eq-eqb, lt-ltb}
+use Rattle.std.proofs.lemmas.List.FromFn.{get_or-enumerate_from}
+use Rattle.std.proofs.Math.Dec.{eqb-suc-zero}
+use Rattle.lin_cluster.specs.Described.{node_names, node_number}
+use Rattle.lin_cluster.specs.FindingsFrames.{wrong_publisher_at}
+use Rattle.lin_cluster.specs.FindingsMembers.{is_bad_behind, is_wrong_behind}
+use Rattle.lin_cluster.specs.FindingsNames.{at_name, when, same_name, is_node, is_responder, signal_named, frame_named, is_any_frame, knows}
+use Rattle.lin_cluster.specs.FindingsNodes.{node_of, is_number, is_behind_commander, are_two, wrong_publisher_by}
+use Rattle.lin_cluster.specs.FindingsTables.{has_publisher, differs_from_first, is_in_front, is_bad_member, is_wrong_member}
+use Rattle.lin_cluster.proofs.KnownNames.{node-same, same-node}
+use Rattle.lin_cluster.proofs.Named.{same-text, text-same}
+use Rattle.lin_ldf.specs.declared.description.Description.{Description}
+use Rattle.lin_ldf.specs.declared.description.Frame.{Frame}
+use Rattle.lin_ldf.specs.declared.description.Name.{Name}
+
+-- an item behind the first, with its number
+pub item-behind : {X : Type 0} (first : X) (xs : List X) (i : ℕ) (x : X) → i < length xs → get_or xs i x ≡ x → get_or (enumerate_from 0 (first ∷ xs)) (i + 1) (i + 1, x) ≡ (i + 1, x)
+item-behind first xs i x lt is =
+    let within : i + 1 < suc (length xs) = omega arith
+    in let place : 0 + (i + 1) ≡ i + 1 = omega arith
+    in let item : get_or (first ∷ xs) (i + 1) x ≡ x = rw add-one is
+    in get_or-enumerate_from 0 (first ∷ xs) (i + 1) (i + 1, x) within ∙ (λ j. (place j, item j))
+
+-- the number of the first that passes, where one does
+pub numbered : {X : Type 0} (p : X → Bool) (k : ℕ) (xs : List X) → option_map (λ x. x.0) (find (λ x. p x.1) (enumerate_from k xs)) ≡ cond (list_any p xs) (Some (k + position_or_len p xs)) None
+numbered p k [] = refl
+numbered p k (x ∷ xs) =
+    elim (p x) as (λ b. option_map (λ y. y.0) (cond b (Some (k, x)) (find (λ y. p y.1) (enumerate_from (k + 1) xs))) ≡ cond (b || list_any p xs) (Some (k + cond (not b) (1 + position_or_len p xs) 0)) None) [
+      | true ↦ ap Some (omega arith)
+      | false ↦ numbered p (k + 1) xs ∙ ap (λ n. cond (list_any p xs) (Some n) None) (omega arith)
+    ]
+
+none-before : (k : ℕ) → 0 + k ≡ k
+none-before k = omega arith
+
+pub node-numbered : (d : Description) (n : Name) → option_map (λ x. x.0) (find (λ x. bytes_eq x.1.text n.text) (enumerate_from 0 (node_names d))) ≡ node_of d n
+node-numbered d n = numbered (λ m. bytes_eq m.text n.text) 0 (node_names d) ∙ ap (λ k. cond (is_node d n) (Some k) None) (none-before (node_number d n))
+
+some-by : {A : Type 0} (b : Bool) (x : A) → is_some (cond b (Some x) None) ≡ b
+some-by true x = refl
+some-by false x = refl
+
+pub some-node : (d : Description) (n : Name) → is_some (node_of d n) ≡ is_node d n
+some-node d n = some-by (is_node d n) (node_number d n)
+
+behind-by : (b : Bool) (k : ℕ) → knows (cond b (Some (1 + k)) None) (λ n. nat_lt 0 n) ≡ b
+behind-by true k = lt-ltb 0 (1 + k) (omega arith)
+behind-by false k = refl
+
+responder-by : (b rest : Bool) (k : ℕ) → knows (cond (b || rest) (Some (cond (not b) (1 + k) 0)) None) (λ n. nat_lt 0 n) ≡ (not b && rest)
+responder-by true rest k = refl
+responder-by false rest k = behind-by rest k
+
+-- a node behind the commander is a responder
+pub behind-responder : (d : Description) (n : Name) → is_behind_commander (node_of d n) ≡ is_responder d n
+behind-responder d n = responder-by (same_name d.master n) (list_any (λ m. same_name m n) d.slaves) (position_or_len (λ m. bytes_eq m.text n.text) d.slaves)
+
+alike : (a b : Bool) → (a ≡ true → b ≡ true) → (b ≡ true → a ≡ true) → a ≡ b
+alike true b there back = sym (there refl)
+alike false true there back = back refl
+alike false false there back = refl
+
+same-names : (a b : Name) → same_name a b ≡ same_name b a
+same-names a b = alike (same_name a b) (same_name b a) (λ e. text-same b.text a.text (sym (same-text a.text b.text e))) (λ e. text-same a.text b.text (sym (same-text b.text a.text e)))
+
+-- ---- two publishers
+
+both-known : (d : Description) (a b : Name) → is_node d a ≡ true → is_node d b ≡ true → same_name a b ≡ (node_number d a == node_number d b)
+both-known d a b known other =
+    alike (same_name a b) (node_number d a == node_number d b) (λ e. eq-eqb (node_number d a) (node_number d b) (node-same d a b e)) (λ e. same-node d a b known (eqb-true (node_number d a) (node_number d b) e))
+
+elsewhere : (d : Description) (a b : Name) → are_two (node_of d a) (node_of d b) ≡ (is_node d a && is_node d b && not (same_name a b))
+elsewhere d a b =
+    elim (is_node d a) as (λ t. is_node d a ≡ t → are_two (cond t (Some (node_number d a)) None) (node_of d b) ≡ (t && is_node d b && not (same_name a b))) [
+      | true ↦ λ e. elim (is_node d b) as (λ u. is_node d b ≡ u → knows (cond u (Some (node_number d b)) None) (λ k. not (node_number d a == k)) ≡ (u && not (same_name a b))) [
+        | true ↦ λ f. ap not (sym (both-known d a b e f))
+        | false ↦ λ f. refl
+      ] refl
+      | false ↦ λ e. refl
+    ] refl
+
+pub wrong-by : (d : Description) (f : Frame) → wrong_publisher_by d (node_of d f.publisher) ≡ wrong_publisher_at d f
+wrong-by d f = λ i p. when (knows (signal_named d p.signal) (λ s. elsewhere d s.publisher f.publisher i)) (at_name 2 p.signal)
+
+-- ---- publishers of members
+
+node-text : (d : Description) (a b : Name) → same_name a b ≡ true → node_of d a ≡ node_of d b
+node-text d a b e = ap (λ t. cond (list_any (λ n. bytes_eq n.text t) (node_names d)) (Some (position_or_len (λ n. bytes_eq n.text t) (node_names d))) None) (same-text a.text b.text e)
+
+own-number : (d : Description) (b : Name) → is_node d b ≡ true → is_number (node_number d b) (node_of d b) ≡ true
+own-number d b known = ap (λ t. is_number (node_number d b) (cond t (Some (node_number d b)) None)) known ∙ eq-eqb (node_number d b) (node_number d b) refl
+
+of-number : (d : Description) (a b : Name) → is_number (node_number d b) (node_of d a) ≡ true → same_name a b ≡ true
+of-number d a b h =
+    elim (is_node d a) as (λ t. is_node d a ≡ t → is_number (node_number d b) (cond t (Some (node_number d a)) None) ≡ true → same_name a b ≡ true) [
+      | true ↦ λ e n. same-node d a b e (eqb-true (node_number d a) (node_number d b) n)
+      | false ↦ λ e n. absurd (cc)
+    ] refl h
+
+same-number : (d : Description) (a b : Name) → is_node d b ≡ true → is_number (node_number d b) (node_of d a) ≡ same_name a b
+same-number d a b known =
+    alike (is_number (node_number d b) (node_of d a)) (same_name a b) (of-number d a b) (λ e. ap (is_number (node_number d b)) (node-text d a b e) ∙ own-number d b known)
+
+commander-by : (b rest : Bool) (k : ℕ) → is_number 0 (cond (b || rest) (Some (cond (not b) (1 + k) 0)) None) ≡ b
+commander-by true rest k = refl
+commander-by false true k = rw one-add (eqb-suc-zero k)
+commander-by false false k = refl
+
+commanders : (d : Description) (a : Name) → is_number 0 (node_of d a) ≡ same_name a d.master
+commanders d a = commander-by (same_name d.master a) (list_any (λ m. same_name m a) d.slaves) (position_or_len (λ m. bytes_eq m.text a.text) d.slaves) ∙ same-names d.master a
+
+-- whether the node with a number publishes one of some members
+abbrev pub publishes : Description → List Name → ℕ → Bool
+publishes d members k = list_any (λ m. knows (frame_named d m) (λ g. is_number k (node_of d g.publisher))) members
+
+published-same : (d : Description) (earlier : List Name) (published : ℕ → Bool) (a : Name) → ((k : ℕ) → published k ≡ publishes d earlier k) → knows (node_of d a) published ≡ (is_node d a && list_any (has_publisher d a) earlier)
+published-same d earlier published a so =
+    elim (is_node d a) as (λ t. is_node d a ≡ t → knows (cond t (Some (node_number d a)) None) published ≡ (t && list_any (has_publisher d a) earlier)) [
+      | true ↦ λ e. so (node_number d a) ∙ (λ i. list_any (λ m. knows (frame_named d m) (λ g. same-number d g.publisher a e i)) earlier)
+      | false ↦ λ e. refl
+    ] refl
+
+bad-same : (d : Description) (members earlier : List Name) (published : ℕ → Bool) (f : Frame) → ((k : ℕ) → published k ≡ publishes d earlier k)
+    → is_bad_behind (option_and_then (frame_named d) (slice_get members 0)) published (node_of d f.publisher) (list_any (is_in_front d) f.placed) f ≡ is_bad_member d members earlier f
+bad-same d members earlier published f so = λ i.
+    commanders d f.publisher i
+    || published-same d earlier published f.publisher so i
+    || differs_from_first d members f
+    || list_any (is_in_front d) f.placed
+
+-- a wrong member by the first member and the publishers of those before it
+pub same_wrong : (d : Description) (members earlier : List Name) (first : Option Frame) (published : ℕ → Bool) (m : Name) → first ≡ option_and_then (frame_named d) (slice_get members 0) → ((k : ℕ) → published k ≡ publishes d earlier k)
+    → is_wrong_behind d first published m ≡ is_wrong_member d members earlier m
+same_wrong d members earlier first published m is so =
+    (λ i. is_wrong_behind d (is i) published m) ∙ (λ i. is_any_frame d m && option_map_or (λ f. bad-same d members earlier published f so i) (frame_named d m) true)

@@ -1,0 +1,26 @@
+-- The numbers of the nodes that publish, by which publishers are compared.
+use Rattle.std.specs.Prelude.{ℕ, List, Option, Some, None, Bool, not, if◌then◌else◌, ◌==◌, nat_lt}
+use Rattle.lin_cluster.specs.Described.{node_number}
+use Rattle.lin_cluster.specs.FindingsNames.{at_name, when, is_node, signal_named, knows}
+use Rattle.lin_cluster.specs.declared.finding.Finding.{Finding}
+use Rattle.lin_ldf.specs.declared.description.Description.{Description}
+use Rattle.lin_ldf.specs.declared.description.Name.{Name}
+use Rattle.lin_ldf.specs.declared.description.PlacedSignal.{PlacedSignal}
+
+-- the number of the node with this name, where there is one: the commander's is 0
+abbrev pub node_of : Description → Name → Option ℕ
+node_of d n = if is_node d n then Some (node_number d n) else None
+
+abbrev pub is_number : ℕ → Option ℕ → Bool
+is_number k o = knows o (λ n. n == k)
+
+abbrev pub is_behind_commander : Option ℕ → Bool
+is_behind_commander o = knows o (λ n. nat_lt 0 n)
+
+-- two nodes, and not the same
+abbrev pub are_two : Option ℕ → Option ℕ → Bool
+are_two a b = knows a (λ n. knows b (λ k. not (n == k)))
+
+-- a signal in a frame with this publisher
+abbrev pub wrong_publisher_by : Description → Option ℕ → PlacedSignal → List Finding
+wrong_publisher_by d publisher p = when (knows (signal_named d p.signal) (λ s. are_two (node_of d s.publisher) publisher)) (at_name 2 p.signal)
