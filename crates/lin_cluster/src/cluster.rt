@@ -40,7 +40,7 @@ fn first_named(tables: &[Table], name: &[u8]) -> Option<usize>
 }
 
 impl Cluster {
-    /// The cluster of these parts. The condition is that they make one, which `Parts::is_cluster` tells.
+    /// The cluster of these parts. The condition is that they keep the rules of every cluster; `check` makes such parts of a description.
     pub fn new(parts: Parts) -> Cluster
         requires { IsCluster parts }
         ensures { result ≡ parts }

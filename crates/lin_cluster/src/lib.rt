@@ -7,7 +7,6 @@ mod described;
 mod finding;
 mod findings;
 mod parts;
-mod rules;
 
 pub use checks::check;
 pub use cluster::Cluster;

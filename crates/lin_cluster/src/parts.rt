@@ -1,6 +1,9 @@
 //! What a cluster is made of. Nodes, signals, frames of each kind and tables are numbered, each kind from 0.
 
-use lin_frame::{Layout, SumKind, Value};
+ghost use Rattle.std.specs.Prelude.{◌≡◌};
+ghost use Rattle.lin_cluster.specs.Rules.{is_array, place_at};
+
+use lin_frame::{Layout, Place, SumKind, Value};
 use lin_ldf::{Many, Text};
 
 /// A node: the commander (number 0) or a responder. `nad` is its diagnostic address (ISO 17987-2), where it has one.
@@ -17,6 +20,28 @@ pub struct Signal {
     pub publisher: u8,
     pub size: u8,
     pub initial: Value,
+}
+
+fn is_array(value: &Value) -> bool
+    ensures { result ≡ is_array value.now }
+{
+    match value {
+        Value::Scalar(_) => false,
+        Value::Bytes(_) => true,
+    }
+}
+
+impl Signal {
+    /// The signal's place in a frame in which it begins at this bit: an array, where its initial value is one (ISO 17987-3, signals).
+    pub fn place_at(&self, offset: u8) -> Place
+        ensures { result ≡ place_at offset self.now }
+    {
+        Place {
+            offset,
+            size: self.size,
+            array: is_array(&self.initial),
+        }
+    }
 }
 
 /// An unconditional frame: its protected identifier, its checksum model, the node that sends it, and its signals in the order of the places

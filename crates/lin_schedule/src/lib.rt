@@ -9,5 +9,3 @@ pub use due::Due;
 pub use law::{entries_in_turn, excursions_run_once};
 pub use walker::Walker;
 
-#[cfg(test)]
-mod tests;

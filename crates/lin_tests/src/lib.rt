@@ -13,3 +13,5 @@ mod log;
 mod runs;
 #[cfg(test)]
 mod samples;
+#[cfg(test)]
+mod schedule;

@@ -8,7 +8,6 @@ ghost use Rattle.lin_cluster.specs.Fitting.{FitsFrame, FitsNumbers};
 
 use super::numbers::{frame_number, node_number, signal_number, table_number};
 use crate::parts::{EventFrame, Signal, SignalFrame};
-use crate::rules::signals::place_at;
 use lin_frame::{FrameId, Layout, Place, Places, SumKind, protected};
 use lin_ldf::{Description, Frame, Many, Name, PlacedSignal, Sporadic};
 use std::alloc::{AllocError, Global};
@@ -49,7 +48,7 @@ fn place_of(d: &Description, signals: &[Signal], placed: &PlacedSignal) -> Place
 {
     let offset = placed.offset.value as u8;
     match signals.get(usize::from(signal_number(d, &placed.signal))) {
-        Some(signal) => place_at(offset, signal),
+        Some(signal) => signal.place_at(offset),
         None => Place {
             offset,
             size: 1,

@@ -7,6 +7,7 @@ use super::building::{
 use lin_cluster::{Entry, Line, Node, Parts, Signal, Table};
 use lin_frame::{Place, SumKind, Value};
 use lin_ldf::{Many, Text};
+use lin_rules::is_cluster;
 use std::alloc::{AllocError, Global};
 use std::test::Fail;
 
@@ -45,7 +46,7 @@ fn is_good_with_nodes(alloc: Global, number: usize) -> Result<bool, AllocError> 
         Many::new(Vec::new(alloc)),
         one_table(alloc)?,
     )?;
-    Ok(parts.is_cluster())
+    Ok(is_cluster(&parts))
 }
 
 #[test]
@@ -67,7 +68,7 @@ fn is_good_with_addresses(
         nodes: nodes(alloc, &rows)?,
         ..b(alloc)?
     };
-    Ok(parts.is_cluster())
+    Ok(is_cluster(&parts))
 }
 
 #[test]
@@ -95,7 +96,7 @@ fn is_good_with_signals(alloc: Global, number: usize) -> Result<bool, AllocError
         })?;
     }
     let parts = plain(alloc, b_nodes(alloc)?, Many::new(many), one_table(alloc)?)?;
-    Ok(parts.is_cluster())
+    Ok(is_cluster(&parts))
 }
 
 #[test]
@@ -119,7 +120,7 @@ fn is_good_with_scalar(
         signals: b_signals(alloc, publisher, size, Initial::Scalar(initial))?,
         ..b(alloc)?
     };
-    Ok(parts.is_cluster())
+    Ok(is_cluster(&parts))
 }
 
 #[test]
@@ -141,7 +142,7 @@ fn is_good_with_array(alloc: Global, size: u8, initial: &[u8]) -> Result<bool, A
         signals: b_signals(alloc, 0, size, Initial::Bytes(initial))?,
         ..b(alloc)?
     };
-    Ok(parts.is_cluster())
+    Ok(is_cluster(&parts))
 }
 
 #[test]
@@ -160,7 +161,7 @@ fn is_good_with_last(alloc: Global, last: FrameRow) -> Result<bool, AllocError> 
         frames: frames(alloc, &rows)?,
         ..b(alloc)?
     };
-    Ok(parts.is_cluster())
+    Ok(is_cluster(&parts))
 }
 
 // A frame without signals, good, then with a publisher that is no node, a classic checksum, no data byte, nine of
@@ -306,7 +307,7 @@ fn is_good_with_own(alloc: Global, own: Option<u8>) -> Result<bool, AllocError> 
         frames: frames(alloc, &[light(), fan(), left, right_key(), bare()])?,
         ..b(alloc)?
     };
-    Ok(parts.is_cluster())
+    Ok(is_cluster(&parts))
 }
 
 #[test]
@@ -322,7 +323,7 @@ fn is_good_with_sporadic(alloc: Global, members: &[u16]) -> Result<bool, AllocEr
         sporadic: sporadic(alloc, &[&[0, 1], members])?,
         ..b(alloc)?
     };
-    Ok(parts.is_cluster())
+    Ok(is_cluster(&parts))
 }
 
 fn is_good_with_many_sporadic(alloc: Global, number: usize) -> Result<bool, AllocError> {
@@ -334,7 +335,7 @@ fn is_good_with_many_sporadic(alloc: Global, number: usize) -> Result<bool, Allo
         sporadic: Many::new(many),
         ..b(alloc)?
     };
-    Ok(parts.is_cluster())
+    Ok(is_cluster(&parts))
 }
 
 #[test]
@@ -386,7 +387,7 @@ fn is_good_with_event(
         frames: frames(alloc, &[light(), fan(), left_key(), right_key(), last])?,
         ..b(alloc)?
     };
-    Ok(parts.is_cluster())
+    Ok(is_cluster(&parts))
 }
 
 #[test]
@@ -419,7 +420,7 @@ fn is_good_with_header(alloc: Global, pid: u8, model: SumKind) -> Result<bool, A
         )?,
         ..b(alloc)?
     };
-    Ok(parts.is_cluster())
+    Ok(is_cluster(&parts))
 }
 
 #[test]
@@ -457,7 +458,7 @@ fn is_good_with_tables(alloc: Global, number: usize, entries: usize) -> Result<b
         signals(alloc, &[])?,
         Many::new(many),
     )?;
-    Ok(parts.is_cluster())
+    Ok(is_cluster(&parts))
 }
 
 #[test]
@@ -482,7 +483,7 @@ fn is_good_with_line(alloc: Global, line: Line) -> Result<bool, AllocError> {
         signals(alloc, &[])?,
         tables(alloc, &[(b"t", &[line])])?,
     )?;
-    Ok(parts.is_cluster())
+    Ok(is_cluster(&parts))
 }
 
 #[test]

@@ -3,12 +3,13 @@
 use super::building::{b, line, tables};
 use lin_cluster::{Cluster, Entry, Parts};
 use lin_frame::{SumKind, Value};
+use lin_rules::is_cluster;
 use std::test::Fail;
 
 #[test]
 fn nodes_and_signals(rt: HostRuntime) -> Result<(), Fail> {
     let parts = b(rt.alloc())?;
-    assert!(rt; parts.is_cluster());
+    assert!(rt; is_cluster(&parts));
     let cluster = Cluster::new(parts);
     assert_eq!(rt; cluster.nodes(), 3);
     assert_eq!(rt; cluster.node_name(2), b"rsm".as_slice());
@@ -25,7 +26,7 @@ fn nodes_and_signals(rt: HostRuntime) -> Result<(), Fail> {
 #[test]
 fn frames_of_each_kind(rt: HostRuntime) -> Result<(), Fail> {
     let parts = b(rt.alloc())?;
-    assert!(rt; parts.is_cluster());
+    assert!(rt; is_cluster(&parts));
     let cluster = Cluster::new(parts);
     assert_eq!(rt; cluster.frames(), 5);
     assert_eq!(rt; cluster.frame_pid(2), 0x42);
@@ -47,7 +48,7 @@ fn frames_of_each_kind(rt: HostRuntime) -> Result<(), Fail> {
 #[test]
 fn schedule_tables(rt: HostRuntime) -> Result<(), Fail> {
     let parts = b(rt.alloc())?;
-    assert!(rt; parts.is_cluster());
+    assert!(rt; is_cluster(&parts));
     let cluster = Cluster::new(parts);
     assert_eq!(rt; cluster.tables(), 3);
     assert_eq!(rt; cluster.table_name(1), b"Resolve".as_slice());
@@ -77,7 +78,7 @@ fn tables_by_name(rt: HostRuntime) -> Result<(), Fail> {
         sporadic: super::building::sporadic(alloc, &[])?,
         ..b(alloc)?
     };
-    assert!(rt; parts.is_cluster());
+    assert!(rt; is_cluster(&parts));
     let cluster = Cluster::new(parts);
     for (name, table) in [
         ("Main", Some(0)),

@@ -1,5 +1,0 @@
-use Rattle.lin_cluster.proofs.Identifiers.{all-carry}
-use Rattle.lin_cluster.proofs.rules.identifiers.are_carriers.Goals as goal
-
-pub returns : goal.returns
-returns c = (λ yes'. (all-carry c.args.parts.now).0 (c.all_carry_signals.ensures.0 yes'), λ all. c.all_carry_signals.ensures.1 ((all-carry c.args.parts.now).1 all))
