@@ -8,4 +8,3 @@ mod walker;
 pub use due::Due;
 pub use law::{entries_in_turn, excursions_run_once};
 pub use walker::Walker;
-
