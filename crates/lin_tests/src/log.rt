@@ -12,6 +12,7 @@ use lin_ldf::parse;
 use lin_log::{ReplayFault, ScriptFault, read_script, replay, steps_of};
 use std::alloc::Global;
 use std::io::{ErrorKind, Read, Write};
+use std::process::Abort;
 use std::test::Fail;
 
 const FIRST: &str = "h0 send 0 1 22062E\nbus open\nn0 answer 0\nbus finish\n";
@@ -69,18 +70,7 @@ fn written(alloc: Global, capacity: usize, script: &[u8]) -> Result<Vec<u8>, Fai
     Ok(text)
 }
 
-#[test]
-fn three_byte_message(rt: HostRuntime) -> Result<(), Fail> {
-    let alloc = rt.alloc();
-    let mut text = Vec::new(alloc);
-    let mut rest = FIRST.as_bytes();
-    let core = run(alloc, 16, &mut rest, &mut text)?;
-    assert_eq!(rt; text.as_slice(), FIRST_LOG.as_bytes());
-
-    let steps = steps_of(alloc, core.log())?;
-    assert_eq!(rt; steps.len(), 4);
-    let (port, send) = &steps[0];
-    assert_eq!(rt; *port, PortId::Host(0));
+fn expect_first_send(rt: &impl Abort, alloc: Global, send: &Step) -> Result<(), Fail> {
     let Step::Send {
         from: 0,
         to: 1,
@@ -90,10 +80,33 @@ fn three_byte_message(rt: HostRuntime) -> Result<(), Fail> {
         return Err(Fail::from("the first step is no send"));
     };
     assert_eq!(rt; message.as_slice(), [0x22, 0x06, 0x2E].as_slice());
+    Ok(())
+}
+
+fn expect_first_steps(
+    rt: &impl Abort,
+    alloc: Global,
+    steps: &[(PortId, Step)],
+) -> Result<(), Fail> {
+    assert_eq!(rt; steps.len(), 4);
     assert!(rt; matches!(&steps[1], (PortId::Bus, Step::Open)));
     assert!(rt; matches!(&steps[2], (PortId::Node(0), Step::Answer { node: 0 })));
     assert!(rt; matches!(&steps[3], (PortId::Bus, Step::Finish)));
-    Ok(())
+    let (port, send) = &steps[0];
+    assert_eq!(rt; *port, PortId::Host(0));
+    expect_first_send(rt, alloc, send)
+}
+
+#[test]
+fn three_byte_message(rt: HostRuntime) -> Result<(), Fail> {
+    let alloc = rt.alloc();
+    let mut text = Vec::new(alloc);
+    let mut rest = FIRST.as_bytes();
+    let core = run(alloc, 16, &mut rest, &mut text)?;
+    assert_eq!(rt; text.as_slice(), FIRST_LOG.as_bytes());
+
+    let steps = steps_of(alloc, core.log())?;
+    expect_first_steps(&rt, alloc, steps.as_slice())
 }
 
 #[test]

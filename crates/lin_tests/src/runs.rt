@@ -4,6 +4,7 @@ mod messages;
 mod refused;
 mod signals;
 
+use crate::samples::{DOOR_CLUSTER, cluster_of};
 use lin_cluster::Cluster;
 use lin_core::Core;
 use lin_log::replay;
@@ -52,4 +53,16 @@ fn core_behind(
 fn state(rt: &impl Abort, core: &Core) -> (u64, usize, usize) {
     assert!(rt; core.cluster().nodes() > 0);
     (core.time(), core.waiting(0), core.undecided())
+}
+
+/// The state behind a run on the cluster with a door, and how many entries its log has.
+fn behind(
+    rt: &impl Abort,
+    alloc: Global,
+    capacity: usize,
+    run: &[u8],
+) -> Result<((u64, usize, usize), usize), Fail> {
+    let cluster = cluster_of(alloc, DOOR_CLUSTER)?;
+    let core = core_behind(rt, alloc, cluster, capacity, run)?;
+    Ok((state(rt, &core), core.log().len()))
 }

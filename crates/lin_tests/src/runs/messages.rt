@@ -1,6 +1,6 @@
 //! Messages from their sends to their receivers.
 
-use super::{ANSWER, FINISH, OPEN, SEND, core_behind, joined, state};
+use super::{ANSWER, FINISH, OPEN, SEND, behind, joined};
 use crate::samples::{DOOR_CLUSTER, cluster_of};
 use lin_core::{Core, PortId, Step};
 use std::alloc::Global;
@@ -32,9 +32,8 @@ fn expect_state(
     want: (u64, usize, usize),
 ) -> Result<(), Fail> {
     let run = joined(alloc, run)?;
-    let cluster = cluster_of(alloc, DOOR_CLUSTER)?;
-    let core = core_behind(rt, alloc, cluster, capacity, &run)?;
-    assert_eq!(rt; state(rt, &core), want);
+    let (state, _) = behind(rt, alloc, capacity, &run)?;
+    assert_eq!(rt; state, want);
     Ok(())
 }
 
@@ -50,6 +49,7 @@ fn one_step(rt: HostRuntime) -> Result<(), Fail> {
     assert!(rt; cluster.tables() > 0);
     let mut core = Core::new(rt.alloc(), cluster, 0, 16)?;
     core.make_room()?;
+    assert!(rt; !core.asleep());
     assert!(rt; core.step(PortId::Bus, Step::Open).is_ok());
     assert_eq!(rt; core.log().len(), 1);
     let newest = core.newest();
@@ -101,15 +101,21 @@ fn queue_of_one(rt: HostRuntime) -> Result<(), Fail> {
     expect_state(&rt, rt.alloc(), 1, &run, (10_000, 1, 0))
 }
 
-#[test]
-fn full_queue_of_1024(rt: HostRuntime) -> Result<(), Fail> {
-    let alloc = rt.alloc();
+// So many sends, each accepted.
+fn sends(alloc: Global, count: u32) -> Result<Vec<u8>, Fail> {
     let mut run = Vec::new(alloc);
-    for number in 1..=1024u32 {
+    for number in 1..=count {
         run.extend_from_slice(format!(in alloc;
             "h0 send 0 1 01\n> accepted 0 {number}\n"
         )?.as_bytes())?;
     }
+    Ok(run)
+}
+
+#[test]
+fn full_queue_of_1024(rt: HostRuntime) -> Result<(), Fail> {
+    let alloc = rt.alloc();
+    let mut run = sends(alloc, 1024)?;
     for part in [
         QUEUE_FULL,
         OPEN,
@@ -119,8 +125,7 @@ fn full_queue_of_1024(rt: HostRuntime) -> Result<(), Fail> {
     ] {
         run.extend_from_slice(part.as_bytes())?;
     }
-    let cluster = cluster_of(alloc, DOOR_CLUSTER)?;
-    let core = core_behind(&rt, alloc, cluster, 1024, &run)?;
-    assert_eq!(rt; state(&rt, &core), (10_000, 1024, 0));
+    let (state, _) = behind(&rt, alloc, 1024, &run)?;
+    assert_eq!(rt; state, (10_000, 1024, 0));
     Ok(())
 }

@@ -1,7 +1,6 @@
 //! Steps that are refused, and for which reason where several hold.
 
-use super::{ANSWER, OPEN, SEND, core_behind, joined, state};
-use crate::samples::{DOOR_CLUSTER, cluster_of};
+use super::{ANSWER, OPEN, SEND, behind, joined};
 use std::alloc::Global;
 use std::process::Abort;
 use std::test::Fail;
@@ -27,14 +26,12 @@ fn expect_refused(
     refused: &str,
 ) -> Result<(), Fail> {
     let mut run = joined(alloc, run)?;
-    let cluster = cluster_of(alloc, DOOR_CLUSTER)?;
-    let before = core_behind(rt, alloc, cluster, capacity, &run)?;
+    let (before, entries) = behind(rt, alloc, capacity, &run)?;
     run.extend_from_slice(with_long(alloc, refused)?.as_slice())?;
-    let cluster = cluster_of(alloc, DOOR_CLUSTER)?;
-    let core = core_behind(rt, alloc, cluster, capacity, &run)?;
-    assert_eq!(rt; state(rt, &core), state(rt, &before));
+    let (after, all) = behind(rt, alloc, capacity, &run)?;
+    assert_eq!(rt; after, before);
     assert_eq!(rt;
-        core.log().len().checked_sub(before.log().len()),
+        all.checked_sub(entries),
         Some(refused.split("> refused ").count().saturating_sub(1))
     );
     Ok(())
