@@ -21,7 +21,7 @@ use Rattle.lin_cluster.specs.FindingsTables.{responder_limits, frame_limits, tab
 use Rattle.lin_cluster.specs.declared.finding.Finding.{Finding}
 use Rattle.lin_cluster.proofs.KnownNames.{no_frame, no_table, the_signal, signal-within, signal-at, frame-found, table-within, table-found}
 use Rattle.lin_cluster.proofs.Named.{found-within}
-use Rattle.lin_cluster.proofs.Pairs.{all-front, all-back, all-of-map}
+use Rattle.lin_parts.proofs.Pairs.{all-front, all-back, all-of-map}
 use Rattle.lin_cluster.proofs.NothingFound.{NothingFound}
 use Rattle.lin_cluster.proofs.NothingIn.{nil-parts, each-nil, when-nil, within-limit, of-each, none-has}
 

@@ -17,11 +17,7 @@ pub mod FindingsRanges
 pub mod FindingsRepeats
 pub mod FindingsRows
 pub mod GoodParts
-pub mod Identifiers
 pub mod KnownNames
-pub mod Limits
 pub mod Named
 pub mod NothingFound
 pub mod NothingIn
-pub mod Pairs
-pub mod SoundClusters

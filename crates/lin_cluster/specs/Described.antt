@@ -21,16 +21,16 @@ use Rattle.lin_ldf.specs.declared.description.PlacedSignal.{PlacedSignal}
 use Rattle.lin_ldf.specs.declared.description.Signal as declared_signal
 use Rattle.lin_ldf.specs.declared.description.Table as declared_table
 use Rattle.lin_ldf.specs.declared.description.TableEntry.{TableEntry}
-use Rattle.lin_cluster.specs.Rules.{place_at}
-use Rattle.lin_cluster.specs.declared.parts.Entry.{Entry}
-use Rattle.lin_cluster.specs.declared.parts.Entry.TheVariants as entries
-use Rattle.lin_cluster.specs.declared.parts.EventFrame.{EventFrame}
-use Rattle.lin_cluster.specs.declared.parts.Line.{Line}
-use Rattle.lin_cluster.specs.declared.parts.Node.{Node}
-use Rattle.lin_cluster.specs.declared.parts.Parts.{Parts}
-use Rattle.lin_cluster.specs.declared.parts.Signal.{Signal}
-use Rattle.lin_cluster.specs.declared.parts.SignalFrame.{SignalFrame}
-use Rattle.lin_cluster.specs.declared.parts.Table.{Table}
+use Rattle.lin_parts.specs.Rules.{place_at}
+use Rattle.lin_parts.specs.declared.parts.Entry.{Entry}
+use Rattle.lin_parts.specs.declared.parts.Entry.TheVariants as entries
+use Rattle.lin_parts.specs.declared.parts.EventFrame.{EventFrame}
+use Rattle.lin_parts.specs.declared.parts.Line.{Line}
+use Rattle.lin_parts.specs.declared.parts.Node.{Node}
+use Rattle.lin_parts.specs.declared.parts.Parts.{Parts}
+use Rattle.lin_parts.specs.declared.parts.Signal.{Signal}
+use Rattle.lin_parts.specs.declared.parts.SignalFrame.{SignalFrame}
+use Rattle.lin_parts.specs.declared.parts.Table.{Table}
 
 -- ---- numbers of names
 

@@ -1,7 +1,4 @@
 pub mod Checks
-pub mod Cluster
-pub mod Rules
-pub mod Sound
 pub mod Described
 pub mod FindingsNames
 pub mod FindingsFrames

@@ -6,11 +6,11 @@ ghost use Rattle.lin_cluster.specs.Described.{parts_of};
 ghost use Rattle.lin_cluster.specs.Findings.{AreFindings, IsFree};
 ghost use Rattle.lin_cluster.specs.declared.finding.CheckFault.TheVariants.{OutOfMemory};
 
-use crate::cluster::Cluster;
 use crate::described::parts_of;
 use crate::finding::{CheckFault, Finding};
 use crate::findings::findings;
 use lin_ldf::{Description, Many};
+use lin_parts::Cluster;
 use std::alloc::{AllocError, Global};
 
 impl From<AllocError> for CheckFault {

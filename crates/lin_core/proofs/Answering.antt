@@ -8,11 +8,11 @@ use Rattle.lin_frame.specs.Words.{choose}
 use Rattle.lin_frame.specs.Bits.{fits_place}
 use Rattle.lin_frame.specs.Frame.{answer_of}
 use Rattle.lin_frame.specs.declared.value.Value.{Value}
-use Rattle.lin_cluster.specs.Cluster.{frame_of, line_of, signal_of}
-use Rattle.lin_cluster.specs.Rules.{place_at}
-use Rattle.lin_cluster.specs.declared.parts.Parts.{Parts}
-use Rattle.lin_cluster.specs.declared.parts.Entry.{Entry}
-use Rattle.lin_cluster.specs.declared.parts.Entry.TheVariants.{Frame, Sporadic, Event as EventEntry, MasterReq, SlaveResp, Quiet}
+use Rattle.lin_parts.specs.Cluster.{frame_of, line_of, signal_of}
+use Rattle.lin_parts.specs.Rules.{place_at}
+use Rattle.lin_parts.specs.declared.parts.Parts.{Parts}
+use Rattle.lin_parts.specs.declared.parts.Entry.{Entry}
+use Rattle.lin_parts.specs.declared.parts.Entry.TheVariants.{Frame, Sporadic, Event as EventEntry, MasterReq, SlaveResp, Quiet}
 use Rattle.lin_core.specs.Dues.{frame_answered, frame_by, model_by}
 use Rattle.lin_core.specs.History.{Slot, header_is, is_in, has_decided, open_slot}
 use Rattle.lin_core.specs.Kept.{CanAnswer, IsOpen, IsThere, KeepsSignals, put_in, slot_in}

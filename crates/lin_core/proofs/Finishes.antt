@@ -9,13 +9,13 @@ use Rattle.lin_frame.specs.Words.{choose}
 use Rattle.lin_frame.specs.Frame.{classic}
 use Rattle.lin_transport.specs.Transport.{frame, Heard}
 use Rattle.lin_transport.specs.Transport.Heard.{Reset}
-use Rattle.lin_cluster.specs.declared.parts.Parts.{Parts}
-use Rattle.lin_cluster.specs.Cluster.{nad}
+use Rattle.lin_parts.specs.declared.parts.Parts.{Parts}
+use Rattle.lin_parts.specs.Cluster.{nad}
 use Rattle.lin_core.specs.History.{Slot, open_slot, seen, header_is, good_under, is_sleep_slot}
 use Rattle.lin_core.specs.Links.{Link, same_dir, same_link, host_of, Sign, nad_on, put_on, signs, heard_on, heard_good, header_for}
 use Rattle.lin_core.specs.Links.Sign.{Put, Mark}
 use Rattle.lin_core.specs.Slots.{with_classic, sleep_frame}
-use Rattle.lin_cluster.specs.Sound.{IsSound}
+use Rattle.lin_parts.specs.Sound.{IsSound}
 use Rattle.lin_core.specs.declared.log.LogEntry.{LogEntry}
 use Rattle.lin_core.specs.declared.port.PortId.{PortId}
 use Rattle.lin_core.specs.declared.step.Step.TheVariants.{Finish}

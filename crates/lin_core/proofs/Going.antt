@@ -3,8 +3,8 @@ use Rattle.std.proofs.Common.{◌≡◌, ◌≢◌, ℕ, zero, suc, ◌+◌, Lis
 use Rattle.std.specs.Prelude.{Option, Some, slice_get, slice_set}
 use Rattle.lin_transport.specs.Sender.{Sending as Sender}
 use Rattle.lin_frame.specs.Words.{choose}
-use Rattle.lin_cluster.specs.declared.parts.Parts.{Parts}
-use Rattle.lin_cluster.specs.Sound.{IsSound}
+use Rattle.lin_parts.specs.declared.parts.Parts.{Parts}
+use Rattle.lin_parts.specs.Sound.{IsSound}
 use Rattle.lin_core.specs.History.{closed}
 use Rattle.lin_core.specs.Hosts.{gone_on}
 use Rattle.lin_core.specs.Kept.{KeepsHost}

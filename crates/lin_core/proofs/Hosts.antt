@@ -6,8 +6,8 @@ use Rattle.std.proofs.lemmas.List.{append-nil, map-append, length-append, get_or
 use Rattle.std.proofs.lemmas.List.Elements.{filter-append}
 use Rattle.lin_frame.specs.Words.{choose}
 use Rattle.lin_transport.specs.Transport.{frame, frames, frame_count, Heard}
-use Rattle.lin_cluster.specs.Cluster.{nad}
-use Rattle.lin_cluster.specs.declared.parts.Parts.{Parts}
+use Rattle.lin_parts.specs.Cluster.{nad}
+use Rattle.lin_parts.specs.declared.parts.Parts.{Parts}
 use Rattle.lin_core.specs.Links.{Link, same_dir, same_link, Message, host_of, Sign, Fate, fate, is_waiting, frames_of, begins_good, blocks_of, Sending, nad_on, sendings_from, fate_of, waits, is_begun}
 use Rattle.lin_core.specs.declared.link.Direction.{Direction}
 use Rattle.lin_core.specs.declared.link.Direction.TheVariants.{Down, Up}

@@ -4,8 +4,8 @@ use Rattle.std.specs.Prelude.{Option, Some, None, slice_get, slice_set, slice_in
 use Rattle.std.proofs.lemmas.List.{length-map}
 use Rattle.std.proofs.lemmas.Option.{slice_get_read}
 use Rattle.lin_frame.specs.Words.{choose}
-use Rattle.lin_cluster.specs.Cluster.{nodes}
-use Rattle.lin_cluster.specs.declared.parts.Parts.{Parts}
+use Rattle.lin_parts.specs.Cluster.{nodes}
+use Rattle.lin_parts.specs.declared.parts.Parts.{Parts}
 use Rattle.lin_core.specs.Kept.{message_at, sent_in, Keeps, KeepsHost, KeepsSignals, message_of}
 use Rattle.lin_core.specs.declared.signals.Signals.{Signals}
 use Rattle.lin_core.specs.Passes.{Ends}
@@ -40,7 +40,7 @@ use Rattle.std.proofs.lemmas.List.Elements.{All-get_or}
 use Rattle.std.proofs.lemmas.Option.{slice_get_within, get_or_from_slice_get}
 use Rattle.lin_core.specs.declared.slot.Put.{Put}
 use Rattle.lin_core.specs.History.{done}
-use Rattle.lin_cluster.specs.Sound.{IsSound}
+use Rattle.lin_parts.specs.Sound.{IsSound}
 use Rattle.lin_core.specs.Links.{link_of, accepted_from, sent_from}
 use Rattle.lin_core.specs.Replies.{refusal, refusals}
 use Rattle.lin_core.specs.declared.event.Event.TheVariants.{Accepted}
@@ -50,8 +50,8 @@ use Rattle.lin_core.proofs.Hosts.{HostState}
 use Rattle.lin_core.proofs.Known.{Known, write-known, switch-known}
 use Rattle.lin_core.proofs.Steps.{AllFalse, none-of, both-false, more_if, send-known}
 use Rattle.lin_core.proofs.Queues.{waiting-are}
-use Rattle.lin_cluster.specs.Cluster.{line_of}
-use Rattle.lin_cluster.specs.declared.parts.Entry.{Entry}
+use Rattle.lin_parts.specs.Cluster.{line_of}
+use Rattle.lin_parts.specs.declared.parts.Entry.{Entry}
 use Rattle.lin_core.specs.History.{open_slot}
 use Rattle.lin_core.specs.Kept.{slot_in}
 use Rattle.lin_core.specs.Slots.{header, due_nodes, next_due}

@@ -4,8 +4,8 @@ use Rattle.std.specs.Prelude.{◌==◌, take}
 use Rattle.std.specs.List.{list_any}
 use Rattle.lin_frame.specs.Words.{choose}
 use Rattle.lin_transport.specs.Transport.{frame_count}
-use Rattle.lin_cluster.specs.declared.parts.Parts.{Parts}
-use Rattle.lin_cluster.specs.Sound.{IsSound}
+use Rattle.lin_parts.specs.declared.parts.Parts.{Parts}
+use Rattle.lin_parts.specs.Sound.{IsSound}
 use Rattle.lin_core.specs.Kept.{message_of}
 use Rattle.lin_core.specs.KeptLate.{is_last_next, sent_now}
 use Rattle.lin_core.specs.Links.{Message, Sending, waiting}

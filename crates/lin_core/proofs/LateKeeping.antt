@@ -4,8 +4,8 @@ use Rattle.std.specs.Prelude.{Option, Some, None, ◌==◌, if◌then◌else◌,
 use Rattle.std.proofs.lemmas.Bool.{ne_eqb}
 use Rattle.std.proofs.lemmas.Bool.Decides.{nat_tests}
 use Rattle.lin_frame.specs.declared.value.Value.{Value}
-use Rattle.lin_cluster.specs.declared.parts.Parts.{Parts}
-use Rattle.lin_cluster.specs.Sound.{IsSound}
+use Rattle.lin_parts.specs.declared.parts.Parts.{Parts}
+use Rattle.lin_parts.specs.Sound.{IsSound}
 use Rattle.lin_core.specs.History.{closed}
 use Rattle.lin_core.specs.Hosts.{fresh, queued}
 use Rattle.lin_core.specs.Kept.{KeepsHost}
@@ -29,9 +29,9 @@ use Rattle.std.proofs.lemmas.List.{length-append}
 use Rattle.lin_core.specs.History.{Slot, has_decided, is_in, leave, open_slot}
 use Rattle.lin_core.specs.Kept.{KeepsSignals, slot_in}
 use Rattle.lin_core.specs.Signals.{carried, carried_by}
-use Rattle.lin_cluster.specs.Cluster.{line_of}
-use Rattle.lin_cluster.specs.declared.parts.Entry.{Entry}
-use Rattle.lin_cluster.specs.declared.parts.Entry.TheVariants.{Frame, Sporadic, Event as EventEntry, MasterReq, SlaveResp, Quiet}
+use Rattle.lin_parts.specs.Cluster.{line_of}
+use Rattle.lin_parts.specs.declared.parts.Entry.{Entry}
+use Rattle.lin_parts.specs.declared.parts.Entry.TheVariants.{Frame, Sporadic, Event as EventEntry, MasterReq, SlaveResp, Quiet}
 use Rattle.lin_core.specs.declared.slot.Put.{Put}
 use Rattle.std.specs.Prelude.{IfSome}
 use Rattle.lin_core.specs.Replies.{in_slot, refusals}

@@ -1,7 +1,7 @@
 -- What stands inside a core as it makes a step.
 use Rattle.std.proofs.Common.{◌≡◌, ℕ, zero, suc, ◌+◌, ◌-◌, ◌^◌, ◌<◌, ◌≤◌, List, [], reverse, length, refl, ap, sym, ◌∙◌, subst, arith}
 use Rattle.std.specs.Prelude.{Some, None, slice_get, slice_index_or}
-use Rattle.lin_cluster.specs.Cluster.{nodes}
+use Rattle.lin_parts.specs.Cluster.{nodes}
 use Rattle.lin_core.specs.History.{asked}
 use Rattle.lin_core.specs.KeptLate.{responder_now}
 use Rattle.lin_core.specs.Core.{CoreData, IsAllowed}
@@ -20,8 +20,8 @@ use Rattle.lin_core.proofs.Keeping.{host-few, host-at, send-room, queue-length}
 use Rattle.std.specs.Prelude.{Bool, not, ◌==◌, nat_lt, Option, option_map}
 use Rattle.std.proofs.lemmas.Bool.Decides.{nat_tests}
 use Rattle.std.proofs.lemmas.Option.{slice_get_read}
-use Rattle.lin_cluster.specs.Cluster.{line_of}
-use Rattle.lin_cluster.specs.declared.parts.Entry.{Entry}
+use Rattle.lin_parts.specs.Cluster.{line_of}
+use Rattle.lin_parts.specs.declared.parts.Entry.{Entry}
 use Rattle.lin_core.specs.History.{Slot, open_slot}
 use Rattle.lin_core.specs.Kept.{slot_in, begun}
 use Rattle.lin_core.specs.Slots.{header}

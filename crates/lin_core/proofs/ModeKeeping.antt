@@ -3,7 +3,7 @@ use Rattle.std.proofs.Common.{◌≡◌, ℕ, Bool, true, false, List, [], ◌�
 use Rattle.std.specs.Prelude.{Option, Some, None, cond, find, ◌++◌, ◌&&◌, ◌==◌, if◌then◌else◌, nat_le, slice_index}
 use Rattle.std.proofs.lemmas.Bool.Decides.{nat_tests}
 use Rattle.lin_frame.specs.Words.{choose}
-use Rattle.lin_cluster.specs.declared.parts.Parts.{Parts}
+use Rattle.lin_parts.specs.declared.parts.Parts.{Parts}
 use Rattle.lin_core.specs.History.{Slot, asked, asleep, good_under, open_slot}
 use Rattle.lin_core.specs.KeptLate.{KeepsMode, mode_after}
 use Rattle.lin_core.specs.Slots.{node_with, selected}

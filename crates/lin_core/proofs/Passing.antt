@@ -2,7 +2,7 @@
 use Rattle.std.proofs.Common.{◌≡◌, ℕ, List, [], ◌∷◌, ◌++◌, length, refl, subst}
 use Rattle.std.specs.Prelude.{Option, Some, slice_get}
 use Rattle.std.specs.Global.{Vec}
-use Rattle.lin_cluster.specs.declared.parts.Parts.{Parts}
+use Rattle.lin_parts.specs.declared.parts.Parts.{Parts}
 use Rattle.lin_core.specs.declared.receivers.Receivers.{Receivers}
 use Rattle.lin_core.specs.Core.{answered}
 use Rattle.lin_core.specs.Kept.{Keeps, KeepsHost, slot_in}

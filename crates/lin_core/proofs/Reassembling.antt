@@ -5,7 +5,7 @@ use Rattle.std.specs.Prelude.{IfOk, IsSome, Option, Result, Ok, Err, None, Some,
 use Rattle.lin_frame.specs.Frame.{classic}
 use Rattle.lin_transport.specs.Transport.{frame}
 use Rattle.lin_transport.proofs.Frames.{length-frame}
-use Rattle.lin_cluster.specs.declared.parts.Parts.{Parts}
+use Rattle.lin_parts.specs.declared.parts.Parts.{Parts}
 use Rattle.lin_core.specs.Kept.{put_in, slot_in}
 use Rattle.lin_core.specs.KeptHeard.{HearsOn}
 use Rattle.lin_core.specs.Links.{Link, Message, nad_on}

@@ -8,9 +8,9 @@ use Rattle.std.proofs.lemmas.Option.{slice_get_within}
 use Rattle.lin_transport.specs.Transport.{Heard, frame, heard_with, messages_in}
 use Rattle.lin_transport.specs.Transport.Heard.{Frame, Reset}
 use Rattle.lin_transport.specs.Receiver.{Hears, Reception, Stands}
-use Rattle.lin_cluster.specs.Cluster.{nad}
-use Rattle.lin_cluster.specs.Sound.{IsSound}
-use Rattle.lin_cluster.specs.declared.parts.Parts.{Parts}
+use Rattle.lin_parts.specs.Cluster.{nad}
+use Rattle.lin_parts.specs.Sound.{IsSound}
+use Rattle.lin_parts.specs.declared.parts.Parts.{Parts}
 use Rattle.lin_core.specs.History.{Slot, asked, open_slot}
 use Rattle.lin_core.specs.KeptHeard.{AreReset, HearsOn, IsReset, KeepsHeard, KeepsReceiver, opposite, receiver_in}
 use Rattle.lin_core.specs.Links.{Link, Message, accepted_from, heard_on, nad_on, reading, same_link, signs}

@@ -2,8 +2,8 @@
 use Rattle.std.proofs.Common.{◌≡◌, ℕ, zero, suc, ◌<◌, Bool, true, false, List, [], ◌∷◌, length, refl, ap, sym, ◌∙◌, arith}
 use Rattle.std.specs.Prelude.{Option, Some, None, ◌==◌, find, nat_le, nat_lt, if◌then◌else◌, ◌&&◌, slice_get, slice_index}
 use Rattle.lin_frame.specs.Words.{choose, numbers}
-use Rattle.lin_cluster.specs.Cluster.{nad, nodes}
-use Rattle.lin_cluster.specs.declared.parts.Parts.{Parts}
+use Rattle.lin_parts.specs.Cluster.{nad, nodes}
+use Rattle.lin_parts.specs.declared.parts.Parts.{Parts}
 use Rattle.lin_core.specs.History.{Slot, finished, good_under, is_sleep_mark}
 use Rattle.lin_core.specs.KeptLate.{responder_now}
 use Rattle.lin_core.specs.Links.{waiting}

@@ -6,8 +6,8 @@ use Rattle.std.proofs.lemmas.List.{append-nil}
 use Rattle.lin_transport.specs.Transport.{first, frame}
 use Rattle.lin_transport.specs.Sender.{Sending as Sender}
 use Rattle.lin_transport.proofs.Frames.{length-first}
-use Rattle.lin_cluster.specs.declared.parts.Parts.{Parts}
-use Rattle.lin_cluster.specs.Sound.{IsSound}
+use Rattle.lin_parts.specs.declared.parts.Parts.{Parts}
+use Rattle.lin_parts.specs.Sound.{IsSound}
 use Rattle.lin_core.specs.History.{Slot, asked, open_slot}
 use Rattle.lin_core.specs.KeptLate.{sender_now, sender_of}
 use Rattle.lin_core.specs.Links.{Link, same_link, Message, Sending, Sign, Fate, accepted_from, begins_good, blocks, blocks_of, fate_of, heard_on, is_begun, is_good, is_waiting, nad_on, sendings_from, signs}

@@ -2,7 +2,7 @@
 use Rattle.std.proofs.Common.{◌≡◌, ℕ, suc, ◌+◌, ◌^◌, ◌<◌, ◌≤◌, List, [], ◌∷◌, length, ap, sym, ◌∙◌, subst, arith}
 use Rattle.std.specs.Prelude.{Some, slice_get, slice_index_or, true}
 use Rattle.std.proofs.lemmas.List.{length-map}
-use Rattle.lin_cluster.specs.Cluster.{nodes}
+use Rattle.lin_parts.specs.Cluster.{nodes}
 use Rattle.lin_core.specs.Kept.{KeepsHost, message_of, slot_in}
 use Rattle.lin_core.specs.Links.{Message, waiting}
 use Rattle.lin_core.specs.Loads.{load_of}

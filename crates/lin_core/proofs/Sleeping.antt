@@ -4,9 +4,9 @@ use Rattle.std.specs.Prelude.{Option, Some, None, flat_map, option_map, slice_ge
 use Rattle.std.proofs.lemmas.List.{length-map}
 use Rattle.lin_frame.specs.Words.{numbers}
 use Rattle.lin_transport.specs.Sender.{Sending as Sender}
-use Rattle.lin_cluster.specs.Cluster.{nodes}
-use Rattle.lin_cluster.specs.declared.parts.Parts.{Parts}
-use Rattle.lin_cluster.specs.Sound.{IsSound}
+use Rattle.lin_parts.specs.Cluster.{nodes}
+use Rattle.lin_parts.specs.declared.parts.Parts.{Parts}
+use Rattle.lin_parts.specs.Sound.{IsSound}
 use Rattle.lin_core.specs.History.{closed}
 use Rattle.lin_core.specs.Hosts.{losses, losses_of, lost_of, settled, slept}
 use Rattle.lin_core.specs.Kept.{KeepsHost, message_of}

@@ -1,5 +1,5 @@
 -- The steps that need their refusals: a timeout, a send, an open, an answer; and the whole history.
-use Rattle.lin_cluster.specs.Cluster.{sporadic_of}
+use Rattle.lin_parts.specs.Cluster.{sporadic_of}
 use Rattle.std.proofs.Common.{◌≡◌, ◌≢◌, ℕ, zero, suc, Bool, true, false, List, [], ◌∷◌, ◌++◌, length, map, refl, ap, sym, ◌∙◌, subst, arith, inl, inr, append_assoc}
 use Rattle.std.specs.Prelude.{⊤, Option, Some, None, cond, ◌&&◌, ◌||◌, not, ◌==◌, if◌then◌else◌, is_some, option_map, filter, find, nat_lt, nat_le, slice_index}
 use Rattle.std.specs.List.{list_any}
@@ -9,8 +9,8 @@ use Rattle.std.proofs.lemmas.List.{append-nil}
 use Rattle.lin_frame.specs.Words.{choose, numbers}
 use Rattle.lin_transport.specs.Transport.{frame, Heard}
 use Rattle.lin_transport.specs.Transport.Heard.{Reset}
-use Rattle.lin_cluster.specs.declared.parts.Parts.{Parts}
-use Rattle.lin_cluster.specs.Cluster.{nad, nodes, line_of, frame_of, event_of}
+use Rattle.lin_parts.specs.declared.parts.Parts.{Parts}
+use Rattle.lin_parts.specs.Cluster.{nad, nodes, line_of, frame_of, event_of}
 use Rattle.lin_core.specs.History.{finished, is_sleep_mark, Slot, open_slot, told_all, hurt, header_is, asked, good_under}
 use Rattle.lin_core.specs.History.{is_in}
 use Rattle.lin_core.specs.Signals.{pending}
@@ -19,15 +19,15 @@ use Rattle.lin_core.specs.Links.Sign.{Mark}
 use Rattle.lin_core.specs.Slots.{with_classic, sleep_frame, next_frame, first_frame, put, header, is_due, due_nodes, selected, addressed, node_with, next_due}
 use Rattle.lin_core.specs.Replies.{refusal, refusals, in_slot, has_address, put_event, opening_events, done_events}
 use Rattle.lin_core.specs.History.{has_decided}
-use Rattle.lin_cluster.specs.Sound.{IsSound, IsSignalPid}
+use Rattle.lin_parts.specs.Sound.{IsSound, IsSignalPid}
 use Rattle.lin_core.specs.declared.log.LogEntry.{LogEntry}
 use Rattle.lin_core.specs.declared.port.PortId.{PortId}
 use Rattle.lin_core.specs.declared.step.Step.{Step}
 use Rattle.lin_core.specs.declared.step.Step.TheVariants.{Send, Write, Open, Answer, Leave, Hurt, Finish, Timeout, Switch, AskSleep, Wake, Close}
 use Rattle.lin_core.specs.declared.event.Event.{Event}
 use Rattle.lin_core.specs.declared.event.Event.TheVariants.{Due, Put as PutEvent}
-use Rattle.lin_cluster.specs.declared.parts.Entry.{Entry}
-use Rattle.lin_cluster.specs.declared.parts.Entry.TheVariants.{Frame as FrameEntry, Sporadic, Event as EventEntry, MasterReq, SlaveResp, Quiet}
+use Rattle.lin_parts.specs.declared.parts.Entry.{Entry}
+use Rattle.lin_parts.specs.declared.parts.Entry.TheVariants.{Frame as FrameEntry, Sporadic, Event as EventEntry, MasterReq, SlaveResp, Quiet}
 use Rattle.lin_core.specs.declared.reply.Reply.TheVariants.{Done, Refused}
 use Rattle.lin_core.specs.declared.reply.Refusal.{Refusal}
 use Rattle.lin_core.specs.declared.link.Cause.TheVariants.{TimedOut}

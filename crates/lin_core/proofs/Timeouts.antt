@@ -4,8 +4,8 @@ use Rattle.std.specs.Prelude.{Option, Some, None, is_none, is_some, ◌&&◌, na
 use Rattle.std.proofs.lemmas.Bool.Decides.{nat_tests}
 use Rattle.std.proofs.lemmas.List.{length-map}
 use Rattle.lin_transport.specs.Sender.{Sending as Sender}
-use Rattle.lin_cluster.specs.Cluster.{nad, nodes}
-use Rattle.lin_cluster.specs.declared.parts.Parts.{Parts}
+use Rattle.lin_parts.specs.Cluster.{nad, nodes}
+use Rattle.lin_parts.specs.declared.parts.Parts.{Parts}
 use Rattle.lin_core.specs.History.{open_slot}
 use Rattle.lin_core.specs.Kept.{Keeps, KeepsHost, message_at, message_of}
 use Rattle.lin_core.specs.KeptLate.{KeepsLate}
@@ -34,7 +34,7 @@ use Rattle.lin_core.proofs.Settling.{Settles, marked-other, marked-own, settled-
 use Rattle.lin_core.proofs.SignalKeeping.{signals-same}
 use Rattle.std.proofs.Math.ListN.{length-set}
 use Rattle.std.specs.Prelude.{slice_set}
-use Rattle.lin_cluster.specs.Sound.{IsSound}
+use Rattle.lin_parts.specs.Sound.{IsSound}
 use Rattle.lin_schedule.specs.Walker.{Position}
 use Rattle.lin_core.specs.Hosts.{settled}
 use Rattle.lin_core.specs.declared.link.Direction.TheVariants.{Down, Up}

@@ -9,7 +9,7 @@ use Rattle.lin_core.specs.Kept.{message_at, slot_in}
 use Rattle.lin_core.specs.KeptLate.{HasNext, bytes_next}
 use Rattle.lin_core.specs.Replies.{put_event}
 use Rattle.lin_core.specs.Slots.{put, with_classic}
-use Rattle.lin_cluster.specs.Cluster.{line_of}
+use Rattle.lin_parts.specs.Cluster.{line_of}
 use Rattle.lin_core.specs.Whole.{IsWhole, core_data}
 use Rattle.lin_core.specs.declared.event.Event.TheVariants.{Put as PutEvent}
 use Rattle.lin_core.specs.declared.host.Host.{Host}
@@ -24,7 +24,7 @@ use Rattle.lin_core.proofs.Making.{Allowed, allowed-inside, past_in}
 use Rattle.lin_core.proofs.Nexts.{next-has, next-inside, next-same}
 use Rattle.lin_core.proofs.Turns.{AnswerIs, answer-is, next_of}
 use Rattle.lin_core.proofs.Turns.AnswerIs.{request, response, signals}
-use Rattle.lin_cluster.specs.Cluster.{nodes}
+use Rattle.lin_parts.specs.Cluster.{nodes}
 use Rattle.std.specs.Prelude.{nat_le}
 use Rattle.std.proofs.Common.{arith}
 use Rattle.std.proofs.lemmas.Bool.Decides.{nat_tests}
@@ -32,7 +32,7 @@ use Rattle.lin_core.specs.Replies.{refusals}
 use Rattle.lin_core.proofs.Steps.{none-of}
 use Rattle.lin_core.specs.declared.slot.OpenSlot.{OpenSlot}
 use Rattle.lin_core.specs.declared.log.LogEntry.{LogEntry}
-use Rattle.lin_cluster.specs.declared.parts.Parts.{Parts}
+use Rattle.lin_parts.specs.declared.parts.Parts.{Parts}
 
 -- in a slot under a header of the transport: something is due, and what is put
 record TurnIs (c : Parts) (past : List LogEntry) (states : ℕ → HostState) (node : ℕ) (s : Slot) : Type 0 where

@@ -4,9 +4,9 @@ use Rattle.std.specs.Prelude.{Option, Some, None, ◌==◌, ◌||◌, if◌then�
 use Rattle.std.specs.List.{list_any}
 use Rattle.std.proofs.lemmas.Bool.{ne_eqb}
 use Rattle.lin_transport.specs.Transport.{frame}
-use Rattle.lin_cluster.specs.Cluster.{line_of}
-use Rattle.lin_cluster.specs.Sound.{IsSound}
-use Rattle.lin_cluster.specs.declared.parts.Parts.{Parts}
+use Rattle.lin_parts.specs.Cluster.{line_of}
+use Rattle.lin_parts.specs.Sound.{IsSound}
+use Rattle.lin_parts.specs.declared.parts.Parts.{Parts}
 use Rattle.lin_core.specs.History.{Slot, asked, has_decided, header_is, is_in, is_sleep_slot, open_slot}
 use Rattle.lin_core.specs.Links.{Fate, Link, Message, accepted_from, begun, blocks, heard_on, header_for, host_of, nad_on, same_link, signs, waiting}
 use Rattle.lin_core.specs.Replies.{begun_on, in_slot, link_at, refusal}

@@ -3,8 +3,8 @@ use Rattle.std.specs.Prelude.{◌≡◌, ℕ, true, List, ◌∷◌, length, sli
 use Rattle.lin_transport.specs.Transport.{Heard}
 use Rattle.lin_transport.specs.Transport.Heard.{Reset}
 use Rattle.lin_transport.specs.Receiver.{Hears, Reception, Stands}
-use Rattle.lin_cluster.specs.Cluster.{nad, nodes}
-use Rattle.lin_cluster.specs.declared.parts.Parts.{Parts}
+use Rattle.lin_parts.specs.Cluster.{nad, nodes}
+use Rattle.lin_parts.specs.declared.parts.Parts.{Parts}
 use Rattle.lin_core.specs.Links.{Link, heard_on, nad_on}
 use Rattle.lin_core.specs.Replies.{link_at}
 use Rattle.lin_core.specs.declared.link.Direction.{Direction}

@@ -5,8 +5,8 @@ use Rattle.std.specs.List.{list_any}
 use Rattle.lin_frame.specs.Words.{choose}
 use Rattle.lin_transport.specs.Transport.{frame, frame_count}
 use Rattle.lin_transport.specs.Sender.{Sending as Sender}
-use Rattle.lin_cluster.specs.Cluster.{nodes}
-use Rattle.lin_cluster.specs.declared.parts.Parts.{Parts}
+use Rattle.lin_parts.specs.Cluster.{nodes}
+use Rattle.lin_parts.specs.declared.parts.Parts.{Parts}
 use Rattle.lin_core.specs.History.{Slot, asleep, asked, closed, good_under}
 use Rattle.lin_core.specs.Links.{Message, Sending, begun, is_good, nad_on, waiting}
 use Rattle.lin_core.specs.Slots.{node_with, selected, sleep_frame}

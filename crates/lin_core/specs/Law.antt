@@ -1,7 +1,7 @@
 -- The laws that hold of every history of a cluster.
 use Rattle.std.specs.Prelude.{◌≡◌, ℕ, ◌==◌, ⊤, Bool, true, false, ◌&&◌, ◌||◌, not, List, [], ◌∷◌, ◌++◌, map, filter}
 use Rattle.lin_transport.specs.Transport.{frames}
-use Rattle.lin_cluster.specs.declared.parts.Parts.{Parts}
+use Rattle.lin_parts.specs.declared.parts.Parts.{Parts}
 use Rattle.lin_core.specs.History.{did, closed, is_sleep_mark}
 use Rattle.lin_core.specs.Links.{Link, same_link, host_of, Sign, Fate, fate, is_waiting, frames_of, Message, Sending, sendings, fate_of, reading, waiting, accepted}
 use Rattle.lin_core.specs.Links.Fate.{Waiting, Sent, Lost}

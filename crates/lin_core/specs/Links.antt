@@ -6,8 +6,8 @@ use Rattle.lin_transport.specs.Words.{with_last}
 use Rattle.lin_core.specs.Words.{same_frames}
 use Rattle.lin_transport.specs.Transport.{frames, begins, Heard, messages_in}
 use Rattle.lin_transport.specs.Transport.Heard.{Frame, Reset}
-use Rattle.lin_cluster.specs.Cluster.{nad}
-use Rattle.lin_cluster.specs.declared.parts.Parts.{Parts}
+use Rattle.lin_parts.specs.Cluster.{nad}
+use Rattle.lin_parts.specs.declared.parts.Parts.{Parts}
 use Rattle.lin_core.specs.History.{Slot, open_slot, finished, done, did, seen, good_under, header_is, is_sleep_mark}
 use Rattle.lin_core.specs.declared.log.LogEntry.{LogEntry}
 use Rattle.lin_core.specs.declared.step.Step.{Step}

@@ -1,7 +1,7 @@
 -- What holds of every log of a core: the laws, each as one statement over its history.
 use Rattle.std.specs.Prelude.{◌≡◌, ℕ, ⊤, true, List, [], ◌∷◌, is_some}
-use Rattle.lin_cluster.specs.Cluster.{nad}
-use Rattle.lin_cluster.specs.declared.parts.Parts.{Parts}
+use Rattle.lin_parts.specs.Cluster.{nad}
+use Rattle.lin_parts.specs.declared.parts.Parts.{Parts}
 use Rattle.lin_core.specs.Defined.{AreDefined}
 use Rattle.lin_core.specs.History.{events}
 use Rattle.lin_core.specs.Law.{InOrder, NoneLost, NoSendAfterClose, ReadsAll, ReadsSent, Stays, is_calm, outcomes_of}

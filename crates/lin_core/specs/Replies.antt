@@ -4,9 +4,9 @@ use Rattle.std.specs.List.{list_any}
 use Rattle.lin_frame.specs.Words.{numbers, choose}
 use Rattle.lin_frame.specs.Frame.{is_answer}
 use Rattle.lin_frame.specs.Bits.{fits_place}
-use Rattle.lin_cluster.specs.Cluster.{nodes, nad, line_of, signal_of}
-use Rattle.lin_cluster.specs.Rules.{place_at}
-use Rattle.lin_cluster.specs.declared.parts.Parts.{Parts}
+use Rattle.lin_parts.specs.Cluster.{nodes, nad, line_of, signal_of}
+use Rattle.lin_parts.specs.Rules.{place_at}
+use Rattle.lin_parts.specs.declared.parts.Parts.{Parts}
 use Rattle.lin_core.specs.History.{Slot as OpenSlot, open_slot, asleep, closed, seen, is_in, is_sleep_slot, has_decided}
 use Rattle.lin_core.specs.Links.{Link, Sending, Fate, accepted_from, host_of, same_link, waiting, begun, sendings, fate_of, waits, reading}
 use Rattle.lin_core.specs.Links.Fate.{Waiting, Sent as IsSent, Lost as IsLost}

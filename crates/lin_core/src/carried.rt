@@ -1,8 +1,8 @@
 //! Which frame a response carries.
 
 ghost use Rattle.std.specs.Prelude.{◌≡◌, ◌==◌, ◌<◌, ℕ, List, All, find, length, option_map, IfSome, Some};
-ghost use Rattle.lin_cluster.specs.Cluster.{frame_of, line_of};
-ghost use Rattle.lin_cluster.specs.Rules.{IsEntry};
+ghost use Rattle.lin_parts.specs.Cluster.{frame_of, line_of};
+ghost use Rattle.lin_parts.specs.Rules.{IsEntry};
 ghost use Rattle.lin_core.specs.Dues.{frame_by, frame_answered, model_by};
 ghost use Rattle.lin_core.specs.History.{open_slot};
 ghost use Rattle.lin_core.specs.Slots.{model_of};
@@ -11,8 +11,8 @@ ghost use Rattle.lin_core.specs.declared.log.LogEntry.{LogEntry};
 ghost use Rattle.lin_core.specs.declared.slot.OpenSlot.{OpenSlot};
 
 use crate::slot::OpenSlot;
-use lin_cluster::{Cluster, Entry};
 use lin_frame::SumKind;
+use lin_parts::{Cluster, Entry};
 
 /// The first of these frames with a protected identifier.
 fn frame_under(cluster: &Cluster, frames: &[u16], header: u8) -> Option<u16>

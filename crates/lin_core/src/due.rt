@@ -3,12 +3,12 @@
 ghost use Rattle.std.specs.Prelude.{◌≡◌, ◌==◌, ◌&&◌, ◌||◌, ◌<◌, ◌≤◌, All, filter, length, slice_index_or, false};
 ghost use Rattle.std.specs.List.{list_any};
 ghost use Rattle.lin_frame.specs.Words.{numbers};
-ghost use Rattle.lin_cluster.specs.Cluster.{frame_of, nodes};
+ghost use Rattle.lin_parts.specs.Cluster.{frame_of, nodes};
 ghost use Rattle.lin_core.specs.Dues.{header_of, is_due_of, HasDue};
 
 use crate::slot::{MASTER_REQUEST, SLAVE_RESPONSE};
 use arrayvec::ArrayVec;
-use lin_cluster::Cluster;
+use lin_parts::Cluster;
 use lin_schedule::Due;
 
 /// Whether the commander has something to request: a message waits, or sleep is asked.

@@ -4,8 +4,8 @@ ghost use Rattle.std.specs.Prelude.{◌≡◌, ◌<◌, ◌≤◌, ℕ, [], List
 ghost use Rattle.lin_frame.specs.Bits.{fits_place, packed, unpacked};
 ghost use Rattle.lin_frame.specs.Frame.{answer_of};
 ghost use Rattle.lin_frame.specs.Words.{choose};
-ghost use Rattle.lin_cluster.specs.Cluster.{frame_of, signal_of};
-ghost use Rattle.lin_cluster.specs.Rules.{place_at};
+ghost use Rattle.lin_parts.specs.Cluster.{frame_of, signal_of};
+ghost use Rattle.lin_parts.specs.Rules.{place_at};
 ghost use Rattle.lin_core.specs.History.{good};
 ghost use Rattle.lin_core.specs.Kept.{ArePointwise, slot_in, IsThere};
 ghost use Rattle.lin_core.specs.Signals.{place_in, value_in};
@@ -14,8 +14,8 @@ use crate::carried::frame_by;
 use crate::signals::copied;
 use crate::slot::OpenSlot;
 use arrayvec::ArrayVec;
-use lin_cluster::Cluster;
 use lin_frame::{Answer, SumKind, Value, answer, pack, unpack};
+use lin_parts::Cluster;
 
 /// The values of these signals, in the room that was made for them.
 fn gather(room: &mut Vec<Value>, values: &[Value], signals: &[u16])

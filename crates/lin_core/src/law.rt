@@ -1,8 +1,8 @@
 //! What holds of every history: of each list of steps, by any ports, in any order, refused ones included.
 
 ghost use Rattle.std.specs.Prelude.{ℕ, List};
-ghost use Rattle.lin_cluster.specs.Sound.{IsSound};
-ghost use Rattle.lin_cluster.specs.declared.parts.Parts.{Parts};
+ghost use Rattle.lin_parts.specs.Sound.{IsSound};
+ghost use Rattle.lin_parts.specs.declared.parts.Parts.{Parts};
 ghost use Rattle.lin_core.specs.Promises.{CarriesFrames, StaysClosed, DeliversExactly, FatesAreFinal, LosesNothing, PutsInOrder};
 ghost use Rattle.lin_core.specs.Runs.{history};
 ghost use Rattle.lin_core.specs.declared.port.PortId.{PortId};

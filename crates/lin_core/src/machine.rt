@@ -27,8 +27,8 @@ use crate::signals::{Signals, copied};
 use crate::slot::{OpenSlot, Put, header_of, is_sleep_asked, put_in};
 use crate::state::State;
 use crate::step::Step;
-use lin_cluster::Cluster;
 use lin_frame::{SumKind, Value, answer};
+use lin_parts::Cluster;
 use lin_schedule::Walker;
 use std::alloc::{AllocError, Global};
 use std::marker::Model;
@@ -101,7 +101,7 @@ impl Core {
     ghost use Rattle.std.specs.Prelude.{⊤, slice_index_or};
     ghost use Rattle.lin_core.specs.Promises.{CarriesFrames, DeliversExactly, FatesAreFinal, LosesNothing, PutsInOrder, StaysClosed};
     ghost use Rattle.lin_core.specs.Replies.{refusal};
-    ghost use Rattle.lin_cluster.specs.Cluster.{nodes};
+    ghost use Rattle.lin_parts.specs.Cluster.{nodes};
     ghost use Rattle.lin_core.specs.History.{asleep, time, undecided};
     ghost use Rattle.lin_core.specs.Signals.{value_at};
     ghost use Rattle.lin_core.specs.Dues.{frame_answered};

@@ -2,7 +2,7 @@
 
 ghost use Rattle.std.specs.Prelude.{◌≡◌, ◌<◌, ℕ, Some, List, length};
 ghost use Rattle.lin_frame.specs.Words.{choose};
-ghost use Rattle.lin_cluster.specs.Cluster.{nad, nodes};
+ghost use Rattle.lin_parts.specs.Cluster.{nad, nodes};
 ghost use Rattle.lin_core.specs.Kept.{message_at};
 ghost use Rattle.lin_core.specs.KeptLate.{bytes_next, HasNext};
 ghost use Rattle.lin_core.specs.Links.{Message, host_of, link_of, nad_on, same_dir, same_link};
@@ -13,7 +13,7 @@ use crate::host::Host;
 use crate::link::Direction;
 use crate::log::Log;
 use crate::step::Step;
-use lin_cluster::Cluster;
+use lin_parts::Cluster;
 use lin_transport::Sender;
 
 /// The host that sends the messages between host 0 and a node, in a direction.

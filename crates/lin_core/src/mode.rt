@@ -2,7 +2,7 @@
 
 ghost use Rattle.std.specs.Prelude.{◌≡◌, ◌==◌, ◌<◌, ℕ, List, true, false, None, Some, if◌then◌else◌, find, option_map, slice_index};
 ghost use Rattle.lin_frame.specs.Words.{choose, numbers};
-ghost use Rattle.lin_cluster.specs.Cluster.{nad, nodes};
+ghost use Rattle.lin_parts.specs.Cluster.{nad, nodes};
 ghost use Rattle.lin_core.specs.History.{good_under};
 ghost use Rattle.lin_core.specs.Kept.{slot_in};
 ghost use Rattle.lin_core.specs.KeptLate.{mode_after};
@@ -10,7 +10,7 @@ ghost use Rattle.lin_core.specs.Slots.{node_with};
 ghost use Rattle.lin_core.specs.declared.slot.OpenSlot.{OpenSlot};
 
 use crate::slot::{MASTER_REQUEST, OpenSlot};
-use lin_cluster::Cluster;
+use lin_parts::Cluster;
 
 /// The greatest address of a responder that a frame selects (ISO 17987-2, node addresses).
 const LAST_ADDRESS: u8 = 125;

@@ -9,7 +9,7 @@ ghost use Rattle.lin_core.specs.declared.receivers.Receivers.{Receivers};
 
 use crate::link::Direction;
 use crate::messages::address_of;
-use lin_cluster::Cluster;
+use lin_parts::Cluster;
 use lin_transport::Receiver;
 use std::alloc::{AllocError, Global};
 

@@ -4,7 +4,7 @@ ghost use Rattle.std.specs.Prelude.{◌≡◌, ◌<◌, ◌++◌, ◌∷◌, [],
 ghost use Rattle.std.specs.Prelude.{◌+◌, ◌≤◌, ℕ, List, Some, None, is_some, option_map, map, take, vec_capacity};
 ghost use Rattle.std.specs.List.{list_any};
 ghost use Rattle.lin_frame.specs.Words.{choose, numbers};
-ghost use Rattle.lin_cluster.specs.Cluster.{line_of, nodes};
+ghost use Rattle.lin_parts.specs.Cluster.{line_of, nodes};
 ghost use Rattle.lin_core.specs.Dues.{header_of, is_due_of, HasDue};
 ghost use Rattle.lin_core.specs.History.{good, has_decided, header_is, is_clash_seen, is_in, open_slot, seen};
 ghost use Rattle.lin_core.specs.Kept.{begun, slot_in, IsThere};
@@ -16,8 +16,8 @@ use crate::due::{due_nodes, header_for};
 use crate::event::{Event, Seen};
 use crate::payload::Events;
 use arrayvec::ArrayVec;
-use lin_cluster::Cluster;
 use lin_frame::Answer;
+use lin_parts::Cluster;
 use lin_schedule::Due;
 
 /// The protected identifiers of the diagnostic frames (ISO 17987-3: 60, master request, and 61, slave response).

@@ -13,7 +13,7 @@ use crate::mode::Mode;
 use crate::receivers::Receivers;
 use crate::signals::Signals;
 use crate::slot::{OpenSlot, delay_of, is_clash, seen_in};
-use lin_cluster::Cluster;
+use lin_parts::Cluster;
 use lin_schedule::Walker;
 
 /// What the core keeps of its log, so that no step and no read goes through it: the open slot, the delays of the finished slots in

@@ -7,8 +7,8 @@ ghost use Rattle.lin_log.specs.Replay.{IsReplay, log_of};
 use crate::entries::write_log;
 use crate::fault::{ReplayFault, ScriptFault};
 use crate::script::read_script;
-use lin_cluster::Cluster;
 use lin_core::{Core, Hold, PortId, Step};
+use lin_parts::Cluster;
 use std::alloc::{AllocError, Global};
 use std::io::{Read, Write};
 

@@ -1,12 +1,12 @@
 //! Event-triggered frames: their frames, and the tables that resolve their collisions.
 
 ghost use Rattle.std.specs.Prelude.{◌≡◌, ◌<◌, ◌≤◌, ◌↔◌, All, AllPairs, IsTrue, length, false};
-ghost use Rattle.lin_cluster.specs.Cluster.{frame_of, table_of};
-ghost use Rattle.lin_cluster.specs.Rules.{IsResponders, HaveOwnPublishers, HaveOneSize, is_event, AreEvents};
+ghost use Rattle.lin_parts.specs.Cluster.{frame_of, table_of};
+ghost use Rattle.lin_parts.specs.Rules.{IsResponders, HaveOwnPublishers, HaveOneSize, is_event, AreEvents};
 ghost use Rattle.lin_frame.specs.declared.sums.SumKind.TheVariants.{Enhanced};
 
-use lin_cluster::{Entry, EventFrame, Line, Parts};
 use lin_frame::SumKind;
+use lin_parts::{Entry, EventFrame, Line, Parts};
 
 fn are_enhanced(events: &[EventFrame]) -> bool
     ensures { IsTrue result ↔ All (λ e. e.model ≡ Enhanced) events.now }

@@ -4,11 +4,11 @@ ghost use Rattle.std.specs.Prelude.{◌≡◌, ◌≢◌, ◌<◌, ◌↔◌, Al
 ghost use Rattle.std.specs.List.{AllZip};
 ghost use Rattle.lin_frame.specs.Bits.{good_layout};
 ghost use Rattle.lin_frame.specs.declared.sums.SumKind.TheVariants.{Enhanced};
-ghost use Rattle.lin_cluster.specs.Cluster.{nodes};
-ghost use Rattle.lin_cluster.specs.Rules.{IsSignalAt, AreFrames};
+ghost use Rattle.lin_parts.specs.Cluster.{nodes};
+ghost use Rattle.lin_parts.specs.Rules.{IsSignalAt, AreFrames};
 
-use lin_cluster::{Parts, SignalFrame};
 use lin_frame::{Place, SumKind};
+use lin_parts::{Parts, SignalFrame};
 
 fn are_published(parts: &Parts, frames: &[SignalFrame]) -> bool
     ensures { IsTrue result ↔ All (λ f. f.publisher < nodes parts.now) frames.now }

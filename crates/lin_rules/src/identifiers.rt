@@ -2,10 +2,10 @@
 
 ghost use Rattle.std.specs.Prelude.{◌≡◌, ◌≢◌, ◌<◌, ◌↔◌, ◌==◌, All, AllPairs, EachIndex, IsTrue, length};
 ghost use Rattle.std.specs.List.{list_any};
-ghost use Rattle.lin_cluster.specs.Rules.{is_listed, HasOwnPid, pids, CarriesSignals, AreIdentifiers};
+ghost use Rattle.lin_parts.specs.Rules.{is_listed, HasOwnPid, pids, CarriesSignals, AreIdentifiers};
 
-use lin_cluster::{EventFrame, Parts, SignalFrame};
 use lin_frame::unprotect;
+use lin_parts::{EventFrame, Parts, SignalFrame};
 
 fn lists(frames: &[u16], frame: usize) -> bool
     ensures { result ≡ list_any (λ g. g == frame) frames.now }

@@ -2,9 +2,9 @@
 #![tactic(auto)]
 
 ghost use Rattle.std.specs.Prelude.{◌↔◌, IsTrue};
-ghost use Rattle.lin_cluster.specs.Rules.{AreNodes, AreSignals, AreFrames, AreIdentifiers, AreSporadic, AreEvents, AreTables, IsCluster};
+ghost use Rattle.lin_parts.specs.Rules.{AreNodes, AreSignals, AreFrames, AreIdentifiers, AreSporadic, AreEvents, AreTables, IsCluster};
 
-use lin_cluster::Parts;
+use lin_parts::Parts;
 
 mod events;
 mod frames;

@@ -1,10 +1,10 @@
 //! The commander and the responders, and their diagnostic addresses.
 
 ghost use Rattle.std.specs.Prelude.{◌≡◌, ◌≤◌, ◌↔◌, All, AllPairs, IfSome, IsTrue, None, length};
-ghost use Rattle.lin_cluster.specs.Cluster.{nodes, nad};
-ghost use Rattle.lin_cluster.specs.Rules.{IsAddress, HaveOwnAddresses, AreNodes};
+ghost use Rattle.lin_parts.specs.Cluster.{nodes, nad};
+ghost use Rattle.lin_parts.specs.Rules.{IsAddress, HaveOwnAddresses, AreNodes};
 
-use lin_cluster::{Node, Parts};
+use lin_parts::{Node, Parts};
 
 fn is_good_number(parts: &Parts) -> bool
     ensures { IsTrue result ↔ ((2 ≤ nodes parts.now) × (nodes parts.now ≤ 16)) }

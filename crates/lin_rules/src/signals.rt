@@ -2,10 +2,10 @@
 
 ghost use Rattle.std.specs.Prelude.{◌≡◌, ◌<◌, ◌≤◌, ◌↔◌, All, IsTrue, length};
 ghost use Rattle.lin_frame.specs.Bits.{fits_place, has_good_size};
-ghost use Rattle.lin_cluster.specs.Cluster.{nodes};
-ghost use Rattle.lin_cluster.specs.Rules.{place_at, AreSignals};
+ghost use Rattle.lin_parts.specs.Cluster.{nodes};
+ghost use Rattle.lin_parts.specs.Rules.{place_at, AreSignals};
 
-use lin_cluster::{Parts, Signal};
+use lin_parts::{Parts, Signal};
 
 fn is_few(signals: &[Signal]) -> bool
     ensures { IsTrue result ↔ (length signals.now ≤ 1024) }

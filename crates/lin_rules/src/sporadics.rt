@@ -1,10 +1,10 @@
 //! Sporadic frames: their frames are the commander's.
 
 ghost use Rattle.std.specs.Prelude.{◌≡◌, ◌≤◌, ◌↔◌, All, IsTrue, length};
-ghost use Rattle.lin_cluster.specs.Rules.{IsCommanders, AreSporadic};
+ghost use Rattle.lin_parts.specs.Rules.{IsCommanders, AreSporadic};
 
-use lin_cluster::Parts;
 use lin_ldf::Many;
+use lin_parts::Parts;
 
 fn is_few(sporadic: &[Many<u16>]) -> bool
     ensures { IsTrue result ↔ (length sporadic.now ≤ 256) }

@@ -1,9 +1,9 @@
 //! Schedule tables: their lengths, delays and entries.
 
 ghost use Rattle.std.specs.Prelude.{◌≡◌, ◌≤◌, ◌↔◌, All, IsTrue, length};
-ghost use Rattle.lin_cluster.specs.Rules.{IsEntry, IsDelay, AreTables};
+ghost use Rattle.lin_parts.specs.Rules.{IsEntry, IsDelay, AreTables};
 
-use lin_cluster::{Entry, Line, Parts, Table};
+use lin_parts::{Entry, Line, Parts, Table};
 
 fn is_good_number(tables: &[Table]) -> bool
     ensures { IsTrue result ↔ ((1 ≤ length tables.now) × (length tables.now ≤ 256)) }

@@ -5,11 +5,11 @@ use Rattle.std.specs.Option.{ForSome}
 use Rattle.std.proofs.lemmas.Option.{none-some}
 use Rattle.std.proofs.lemmas.Bool.Decides.{nat_tests}
 use Rattle.lin_frame.specs.Words.{choose}
-use Rattle.lin_cluster.specs.Cluster.{table_of}
-use Rattle.lin_cluster.specs.declared.parts.Parts.{Parts}
+use Rattle.lin_parts.specs.Cluster.{table_of}
+use Rattle.lin_parts.specs.declared.parts.Parts.{Parts}
 use Rattle.lin_schedule.specs.Walker.{Position, HasEntry, Walks}
-use Rattle.lin_cluster.specs.Cluster.{line_of}
-use Rattle.lin_cluster.specs.Rules.{IsCluster}
+use Rattle.lin_parts.specs.Cluster.{line_of}
+use Rattle.lin_parts.specs.Rules.{IsCluster}
 use Rattle.lin_schedule.specs.Schedule.{resolving}
 use Rattle.lin_schedule.proofs.Clusters.{table-start, line-entry, resolving-start}
 use Rattle.lin_schedule.proofs.Times.{next, next-lt}

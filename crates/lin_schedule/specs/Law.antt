@@ -1,8 +1,8 @@
 -- How the time in a table tells its entries.
 use Rattle.std.specs.Prelude.{◌≡◌, ℕ, zero, suc, ◌+◌, ◌%◌, ◌<◌, Bool, true, false, List, ◌∷◌, ◌++◌, length, map, replicate, Some, None}
-use Rattle.lin_cluster.specs.Cluster.{table_of, line_of}
-use Rattle.lin_cluster.specs.declared.parts.Line.{Line}
-use Rattle.lin_cluster.specs.declared.parts.Parts.{Parts}
+use Rattle.lin_parts.specs.Cluster.{table_of, line_of}
+use Rattle.lin_parts.specs.declared.parts.Line.{Line}
+use Rattle.lin_parts.specs.declared.parts.Parts.{Parts}
 use Rattle.lin_schedule.specs.Schedule.{Move, Slot, offset, entry_at, due, due_line, resolving, standing}
 
 -- no two entries of a table have one offset

@@ -1,11 +1,11 @@
 -- Which entry of which schedule table is due (ISO 17987-3, schedule tables and event-triggered frames).
 use Rattle.std.specs.Prelude.{ℕ, suc, ◌+◌, ◌%◌, Bool, nat_lt, ◌==◌, if◌then◌else◌, List, [], ◌∷◌, length, take, sum_by, find, Option, Some, None}
 use Rattle.lin_frame.specs.Words.{numbers, choose}
-use Rattle.lin_cluster.specs.Cluster.{event_of, table_of, line_of}
-use Rattle.lin_cluster.specs.declared.parts.Parts.{Parts}
-use Rattle.lin_cluster.specs.declared.parts.Line.{Line}
-use Rattle.lin_cluster.specs.declared.parts.Entry.{Entry}
-use Rattle.lin_cluster.specs.declared.parts.Entry.TheVariants.{Event}
+use Rattle.lin_parts.specs.Cluster.{event_of, table_of, line_of}
+use Rattle.lin_parts.specs.declared.parts.Parts.{Parts}
+use Rattle.lin_parts.specs.declared.parts.Line.{Line}
+use Rattle.lin_parts.specs.declared.parts.Entry.{Entry}
+use Rattle.lin_parts.specs.declared.parts.Entry.TheVariants.{Event}
 
 -- the sum of the delays before entry k of a table, in microseconds
 abbrev pub offset : List Line → ℕ → ℕ

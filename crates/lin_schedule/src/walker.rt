@@ -1,15 +1,15 @@
 //! The walk through schedule tables.
 
 ghost use Rattle.std.specs.Prelude.{◌≡◌, ◌<◌, ℕ, suc, List, [], ◌∷◌, length, nat_lt, if◌then◌else◌, Option, Some, None, All, find, slice_index_or, false};
-ghost use Rattle.lin_cluster.specs.Cluster.{table_of, line_of};
-ghost use Rattle.lin_cluster.specs.Rules.{IsCluster, IsEntry};
-ghost use Rattle.lin_cluster.specs.declared.parts.Parts.{Parts};
+ghost use Rattle.lin_parts.specs.Cluster.{table_of, line_of};
+ghost use Rattle.lin_parts.specs.Rules.{IsCluster, IsEntry};
+ghost use Rattle.lin_parts.specs.declared.parts.Parts.{Parts};
 ghost use Rattle.lin_schedule.specs.Due.{due_for};
 ghost use Rattle.lin_schedule.specs.Schedule.{Move, Slot, Switch, Restart, due, due_line, resolving, standing};
 ghost use Rattle.lin_schedule.specs.Walker.{Stands, HasEntry, Walks};
 
 use crate::due::Due;
-use lin_cluster::{Cluster, Entry};
+use lin_parts::{Cluster, Entry};
 use std::marker::Model;
 
 /// A walk through a cluster's schedule tables (ISO 17987-3, schedule tables). It keeps which entry is due in the next slot, and,

@@ -88,15 +88,27 @@ bus finish
 > sent 1 1
 ";
 
+/// The step that is held for want of memory.
+fn held(hold: Hold) -> Result<Step, Fail> {
+    match hold {
+        Hold::OutOfMemory(step) => Ok(step),
+        Hold::LogFull(_) => Err(Fail::from("the log is full")),
+    }
+}
+
+/// Makes a step that was held once.
+fn make_again(core: &mut Core, by: PortId, step: Step) -> Result<(), Fail> {
+    match core.step(by, step) {
+        Ok(()) => Ok(()),
+        Err(_) => Err(Fail::from("held twice")),
+    }
+}
+
 /// Makes a step, and where it is held for want of memory makes it once more.
 fn make(core: &mut Core, by: PortId, step: Step) -> Result<(), Fail> {
     match core.step(by, step) {
         Ok(()) => Ok(()),
-        Err(Hold::OutOfMemory(step)) => match core.step(by, step) {
-            Ok(()) => Ok(()),
-            Err(_) => Err(Fail::from("held twice")),
-        },
-        Err(Hold::LogFull(_)) => Err(Fail::from("the log is full")),
+        Err(hold) => make_again(core, by, held(hold)?),
     }
 }
 

@@ -4,7 +4,7 @@ use Rattle.lin_ldf.specs.Describes.{Describes}
 use Rattle.lin_ldf.specs.declared.description.Description.{Description}
 use Rattle.lin_cluster.specs.Described.{parts_of}
 use Rattle.lin_cluster.specs.Findings.{IsFree}
-use Rattle.lin_cluster.specs.declared.parts.Parts.{Parts}
+use Rattle.lin_parts.specs.declared.parts.Parts.{Parts}
 
 -- These parts are those of what the text describes, in which nothing is found.
 pub record IsClusterOf (text : List ℕ) (parts : Parts) : Type 0 where

@@ -6,8 +6,9 @@ ghost use Rattle.linsim.specs.Reading.{IsUnread, ReadsAll};
 
 use crate::fault::Fault;
 use crate::finding::Findings;
-use lin_cluster::{CheckFault, Cluster, check};
+use lin_cluster::{CheckFault, check};
 use lin_ldf::{LdfFault, parse};
+use lin_parts::Cluster;
 use std::alloc::Global;
 use std::fs::{self, Files};
 use std::io::{Error, ErrorKind, Read};

@@ -1,6 +1,6 @@
 //! What a cluster has, as lines.
 
-use lin_cluster::Cluster;
+use lin_parts::Cluster;
 use std::io::{self, Write};
 
 fn put_nodes<W: Write>(writer: &mut W, cluster: &Cluster) -> io::Result<()> {

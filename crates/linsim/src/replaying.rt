@@ -6,8 +6,8 @@ ghost use Rattle.linsim.specs.Opening.{Opens, opening_of};
 use crate::describing::described_by;
 use crate::fault::Fault;
 use clap::ArgMatches;
-use lin_cluster::Cluster;
 use lin_log::replay;
+use lin_parts::Cluster;
 use std::fs::Files;
 use std::io;
 

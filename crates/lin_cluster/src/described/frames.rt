@@ -7,9 +7,9 @@ ghost use Rattle.lin_cluster.specs.Described.{frame_number, signal_number, signa
 ghost use Rattle.lin_cluster.specs.Fitting.{FitsFrame, FitsNumbers};
 
 use super::numbers::{frame_number, node_number, signal_number, table_number};
-use crate::parts::{EventFrame, Signal, SignalFrame};
 use lin_frame::{FrameId, Layout, Place, Places, SumKind, protected};
 use lin_ldf::{Description, Frame, Many, Name, PlacedSignal, Sporadic};
+use lin_parts::{EventFrame, Signal, SignalFrame};
 use std::alloc::{AllocError, Global};
 
 fn pid_of(id: u32) -> u8

@@ -7,8 +7,8 @@ ghost use Rattle.lin_cluster.specs.Described.{is_block_of, described_nad, respon
 ghost use Rattle.lin_cluster.specs.Fitting.{FitsNad};
 
 use super::numbers::node_number;
-use crate::parts::Node;
 use lin_ldf::{Attributes, Description, Many, Name, Text};
+use lin_parts::Node;
 use std::alloc::{AllocError, Global};
 
 fn block_of<'a>(d: &'a Description, node: u8) -> Option<&'a Attributes>

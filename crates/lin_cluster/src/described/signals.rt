@@ -5,10 +5,10 @@ ghost use Rattle.lin_cluster.specs.Described.{initial_of, described_signal};
 ghost use Rattle.lin_cluster.specs.Fitting.{FitsInitial, FitsSignal};
 
 use super::numbers::node_number;
-use crate::parts::Signal;
 use arrayvec::ArrayVec;
 use lin_frame::{Value, ValueBytes};
 use lin_ldf::{Description, Init, Many, Number, Text};
+use lin_parts::Signal;
 use std::alloc::{AllocError, Global};
 
 fn bytes_of(items: &[Number]) -> ArrayVec<u8, 8>

@@ -5,8 +5,8 @@ ghost use Rattle.lin_cluster.specs.Described.{frame_entry, described_entry, desc
 ghost use Rattle.lin_cluster.specs.Fitting.{FitsNumbers};
 
 use super::numbers::{event_number, frame_number, sporadic_number};
-use crate::parts::{Entry, Line, Table};
 use lin_ldf::{Description, Many, Name, TableEntry, Text};
+use lin_parts::{Entry, Line, Table};
 use std::alloc::{AllocError, Global};
 
 fn frame_entry(d: &Description, name: &Name) -> Entry

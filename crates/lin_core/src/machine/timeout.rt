@@ -16,7 +16,7 @@ use std::mem;
 
 impl Core {
     ghost use Rattle.std.specs.Prelude.{◌≡◌, ◌<◌, ◌≤◌, ◌-◌, ◌^◌, ◌++◌, ◌∷◌, [], None, length, is_some, OnOk, IfErr};
-    ghost use Rattle.lin_cluster.specs.Cluster.{nodes};
+    ghost use Rattle.lin_parts.specs.Cluster.{nodes};
     ghost use Rattle.lin_core.specs.Core.{answered, past_of, IsAlike, IsAllowed};
     ghost use Rattle.lin_core.specs.History.{open_slot};
     ghost use Rattle.lin_core.specs.Replies.{begun_on};

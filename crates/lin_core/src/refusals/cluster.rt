@@ -2,9 +2,9 @@
 
 ghost use Rattle.std.specs.Prelude.{◌≡◌, ℕ, ◌<◌, List, length, option_map};
 ghost use Rattle.lin_frame.specs.Bits.{fits_place};
-ghost use Rattle.lin_cluster.specs.Cluster.{signal_of};
-ghost use Rattle.lin_cluster.specs.Rules.{place_at};
-ghost use Rattle.lin_cluster.specs.declared.parts.Parts.{Parts};
+ghost use Rattle.lin_parts.specs.Cluster.{signal_of};
+ghost use Rattle.lin_parts.specs.Rules.{place_at};
+ghost use Rattle.lin_parts.specs.declared.parts.Parts.{Parts};
 ghost use Rattle.lin_core.specs.History.{asleep, open_slot};
 ghost use Rattle.lin_core.specs.Kept.{slot_in};
 ghost use Rattle.lin_core.specs.Replies.{refusal, may};
@@ -14,8 +14,8 @@ use crate::port::PortId;
 use crate::reply::Refusal;
 use crate::slot::OpenSlot;
 use crate::step::Step;
-use lin_cluster::Cluster;
 use lin_frame::{Place, Value};
+use lin_parts::Cluster;
 
 /// Whether a port may write a node's signals.
 fn may_write(by: PortId, node: u8) -> bool

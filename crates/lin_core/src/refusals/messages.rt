@@ -1,7 +1,7 @@
 //! When a send, a timeout or a close is refused.
 
 ghost use Rattle.std.specs.Prelude.{◌≡◌, ℕ, ◌<◌, List, None, length, option_map, is_some};
-ghost use Rattle.lin_cluster.specs.Cluster.{nodes};
+ghost use Rattle.lin_parts.specs.Cluster.{nodes};
 ghost use Rattle.lin_core.specs.History.{closed, open_slot};
 ghost use Rattle.lin_core.specs.Kept.{slot_in};
 ghost use Rattle.lin_core.specs.Links.{waiting};
@@ -14,7 +14,7 @@ use crate::port::PortId;
 use crate::reply::Refusal;
 use crate::slot::OpenSlot;
 use crate::step::Step;
-use lin_cluster::Cluster;
+use lin_parts::Cluster;
 
 /// The most bytes that a message has (ISO 17987-2, transport layer).
 const MESSAGE_BYTES: usize = 4095;

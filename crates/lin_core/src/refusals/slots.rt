@@ -5,7 +5,7 @@ ghost use Rattle.lin_core.specs.History.{asleep, open_slot};
 ghost use Rattle.lin_core.specs.Kept.{slot_in, IsThere};
 ghost use Rattle.lin_core.specs.Replies.{refusal, may, passes_in};
 ghost use Rattle.lin_schedule.specs.Walker.{HasEntry};
-ghost use Rattle.lin_cluster.specs.declared.parts.Parts.{Parts};
+ghost use Rattle.lin_parts.specs.declared.parts.Parts.{Parts};
 ghost use Rattle.lin_core.specs.declared.log.LogEntry.{LogEntry};
 
 use crate::carried::model_under;
@@ -13,8 +13,8 @@ use crate::port::PortId;
 use crate::reply::Refusal;
 use crate::slot::OpenSlot;
 use crate::step::Step;
-use lin_cluster::Cluster;
 use lin_frame::passes;
+use lin_parts::Cluster;
 
 /// Whether a port may answer for a node, or leave its response out.
 fn may_answer(by: PortId, node: u8) -> bool

@@ -5,7 +5,7 @@ use Rattle.lin_frame.specs.Words.{choose}
 use Rattle.lin_frame.specs.declared.layout.Layout.{Layout}
 use Rattle.lin_frame.specs.declared.layout.Place.{Place}
 use Rattle.lin_core.specs.Kept.{ArePointwise}
-use Rattle.lin_cluster.specs.Cluster.{frame_of}
+use Rattle.lin_parts.specs.Cluster.{frame_of}
 use Rattle.lin_core.proofs.ClusterFrames.{FrameIs, frame-is}
 use Rattle.lin_core.proofs.Hearing.{from_place, hear-none, hear-more, hear-all, no_place}
 use Rattle.lin_core.proofs.heard.hear.Goals as goal

@@ -5,7 +5,7 @@ use Rattle.lin_frame.specs.Words.{choose}
 use Rattle.lin_frame.specs.Bits.{unpacked}
 use Rattle.lin_frame.specs.declared.value.Value.{Value}
 use Rattle.std.specs.Prelude.{option_map, take}
-use Rattle.lin_cluster.specs.Cluster.{frame_of, line_of}
+use Rattle.lin_parts.specs.Cluster.{frame_of, line_of}
 use Rattle.lin_core.specs.Dues.{frame_by}
 use Rattle.lin_core.specs.Kept.{slot_in}
 use Rattle.lin_core.specs.Signals.{place_in, value_in}

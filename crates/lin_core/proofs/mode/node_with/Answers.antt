@@ -1,7 +1,7 @@
 use Rattle.std.proofs.Common.{◌≡◌, ◌+◌, ℕ, suc, Bool, sym, ◌∙◌, ap, arith}
 use Rattle.std.specs.Prelude.{false, find, ◌==◌, Option, Some, None, if◌then◌else◌}
 use Rattle.lin_frame.specs.Words.{choose, numbers}
-use Rattle.lin_cluster.specs.Cluster.{nad}
+use Rattle.lin_parts.specs.Cluster.{nad}
 use Rattle.lin_core.proofs.ModeKeeping.{find-more}
 use Rattle.lin_core.proofs.mode.node_with.Goals.{After-first-found}
 use Rattle.lin_core.proofs.mode.node_with.Goals as goal

@@ -1,7 +1,7 @@
 use Rattle.std.proofs.Common.{◌≡◌}
 use Rattle.std.specs.Prelude.{false, find, ◌==◌}
 use Rattle.lin_frame.specs.Words.{choose, numbers}
-use Rattle.lin_cluster.specs.Cluster.{nad}
+use Rattle.lin_parts.specs.Cluster.{nad}
 use Rattle.lin_core.proofs.mode.node_with.Given as goal
 
 abbrev pub invariant-loop-node : goal.invariant-loop-node

@@ -1,8 +1,8 @@
 use Rattle.std.proofs.Common.{◌≡◌, ◌<◌, ℕ, zero, suc, List, [], ◌∷◌, ◌++◌, length, refl, ap, sym, ◌∙◌, subst, arith, inl, inr, length-append}
 use Rattle.std.specs.Prelude.{◌⊎◌, Some, slice_get}
 use Rattle.lin_frame.specs.Words.{choose}
-use Rattle.lin_cluster.specs.Cluster.{nad, nodes}
-use Rattle.lin_cluster.specs.declared.parts.Parts.{Parts}
+use Rattle.lin_parts.specs.Cluster.{nad, nodes}
+use Rattle.lin_parts.specs.declared.parts.Parts.{Parts}
 use Rattle.lin_transport.specs.Receiver.{Reception, Stands}
 use Rattle.lin_core.specs.KeptHeard.{receiver_in, KeepsReceiver}
 use Rattle.lin_core.specs.Replies.{link_at}

@@ -1,5 +1,5 @@
-use Rattle.lin_cluster.specs.Rules.{HaveOneSize}
-use Rattle.lin_cluster.proofs.Pairs.{pairs-step, pairs-fail}
+use Rattle.lin_parts.specs.Rules.{HaveOneSize}
+use Rattle.lin_parts.proofs.Pairs.{pairs-step, pairs-fail}
 use Rattle.lin_rules.proofs.events.have_one_size.Goals as goal
 
 pub returns-then-not-is_one_size_among : goal.returns-then-not-is_one_size_among

@@ -1,5 +1,5 @@
 use Rattle.std.proofs.Common.{◌↔◌, length, AllPairs}
-use Rattle.lin_cluster.specs.Rules.{HaveOneSize}
+use Rattle.lin_parts.specs.Rules.{HaveOneSize}
 use Rattle.lin_rules.proofs.events.have_one_size.Given as goal
 
 abbrev pub invariant-loop-frame : goal.invariant-loop-frame

@@ -1,5 +1,5 @@
-use Rattle.lin_cluster.specs.Rules.{HaveOwnPublishers}
-use Rattle.lin_cluster.proofs.Pairs.{pairs-step, pairs-fail}
+use Rattle.lin_parts.specs.Rules.{HaveOwnPublishers}
+use Rattle.lin_parts.proofs.Pairs.{pairs-step, pairs-fail}
 use Rattle.lin_rules.proofs.events.have_own_publishers.Goals as goal
 
 pub returns-then-not-is_only_publisher_among : goal.returns-then-not-is_only_publisher_among

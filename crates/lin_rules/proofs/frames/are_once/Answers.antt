@@ -1,5 +1,5 @@
 use Rattle.std.proofs.Common.{◌≢◌}
-use Rattle.lin_cluster.proofs.Pairs.{pairs-step, pairs-fail}
+use Rattle.lin_parts.proofs.Pairs.{pairs-step, pairs-fail}
 use Rattle.lin_rules.proofs.frames.are_once.Goals as goal
 
 pub returns-then-not-is_none_of : goal.returns-then-not-is_none_of

@@ -1,6 +1,6 @@
 use Rattle.std.proofs.Common.{◌↔◌, length}
 use Rattle.std.specs.List.{AllZip}
-use Rattle.lin_cluster.specs.Rules.{IsSignalAt}
+use Rattle.lin_parts.specs.Rules.{IsSignalAt}
 use Rattle.lin_rules.proofs.frames.are_signals_at.Given as goal
 
 abbrev pub invariant-loop-place : goal.invariant-loop-place

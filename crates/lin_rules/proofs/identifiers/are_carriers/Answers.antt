@@ -1,4 +1,4 @@
-use Rattle.lin_cluster.proofs.Identifiers.{all-carry}
+use Rattle.lin_parts.proofs.Identifiers.{all-carry}
 use Rattle.lin_rules.proofs.identifiers.are_carriers.Goals as goal
 
 pub returns : goal.returns

@@ -1,6 +1,6 @@
 use Rattle.std.proofs.Common.{◌≢◌}
-use Rattle.lin_cluster.specs.declared.parts.EventFrame.{EventFrame}
-use Rattle.lin_cluster.proofs.Pairs.{pairs-step, pairs-fail}
+use Rattle.lin_parts.specs.declared.parts.EventFrame.{EventFrame}
+use Rattle.lin_parts.proofs.Pairs.{pairs-step, pairs-fail}
 use Rattle.lin_rules.proofs.identifiers.are_own_of_events.Goals as goal
 
 pub returns-then-not-is_no_events_pid : goal.returns-then-not-is_no_events_pid

@@ -1,5 +1,5 @@
 use Rattle.std.proofs.Common.{◌↔◌, ◌≢◌, length, AllPairs}
-use Rattle.lin_cluster.specs.declared.parts.EventFrame.{EventFrame}
+use Rattle.lin_parts.specs.declared.parts.EventFrame.{EventFrame}
 use Rattle.lin_rules.proofs.identifiers.are_own_of_events.Given as goal
 
 abbrev pub invariant-loop-event : goal.invariant-loop-event

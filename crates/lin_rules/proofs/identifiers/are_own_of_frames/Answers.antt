@@ -1,6 +1,6 @@
 use Rattle.std.proofs.Common.{◌≢◌}
-use Rattle.lin_cluster.specs.declared.parts.SignalFrame.{SignalFrame}
-use Rattle.lin_cluster.proofs.Pairs.{pairs-step, pairs-fail}
+use Rattle.lin_parts.specs.declared.parts.SignalFrame.{SignalFrame}
+use Rattle.lin_parts.proofs.Pairs.{pairs-step, pairs-fail}
 use Rattle.lin_rules.proofs.identifiers.are_own_of_frames.Goals as goal
 
 pub returns-then-not-is_no_frames_pid : goal.returns-then-not-is_no_frames_pid

@@ -1,5 +1,5 @@
 use Rattle.std.proofs.Common.{◌↔◌, ◌≢◌, length, AllPairs}
-use Rattle.lin_cluster.specs.declared.parts.SignalFrame.{SignalFrame}
+use Rattle.lin_parts.specs.declared.parts.SignalFrame.{SignalFrame}
 use Rattle.lin_rules.proofs.identifiers.are_own_of_frames.Given as goal
 
 abbrev pub invariant-loop-frame : goal.invariant-loop-frame

@@ -1,5 +1,5 @@
 use Rattle.std.proofs.Common.{ℕ, ◌<◌}
-use Rattle.lin_cluster.specs.Rules.{HasOwnPid}
+use Rattle.lin_parts.specs.Rules.{HasOwnPid}
 use Rattle.lin_rules.proofs.identifiers.have_own_pids.Given as goal
 
 abbrev pub invariant-loop-number : goal.invariant-loop-number

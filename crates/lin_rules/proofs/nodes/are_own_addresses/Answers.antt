@@ -1,5 +1,5 @@
-use Rattle.lin_cluster.specs.Rules.{HaveOwnAddresses}
-use Rattle.lin_cluster.proofs.Pairs.{pairs-step, pairs-fail}
+use Rattle.lin_parts.specs.Rules.{HaveOwnAddresses}
+use Rattle.lin_parts.proofs.Pairs.{pairs-step, pairs-fail}
 use Rattle.lin_rules.proofs.nodes.are_own_addresses.Goals as goal
 
 pub returns-then-not-is_own_among : goal.returns-then-not-is_own_among

@@ -1,5 +1,5 @@
 use Rattle.std.proofs.Common.{◌↔◌, length, AllPairs}
-use Rattle.lin_cluster.specs.Rules.{HaveOwnAddresses}
+use Rattle.lin_parts.specs.Rules.{HaveOwnAddresses}
 use Rattle.lin_rules.proofs.nodes.are_own_addresses.Given as goal
 
 abbrev pub invariant-loop-node : goal.invariant-loop-node

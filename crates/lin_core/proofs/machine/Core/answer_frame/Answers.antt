@@ -3,7 +3,7 @@ use Rattle.std.specs.Prelude.{Option, Some, None}
 use Rattle.lin_frame.specs.Words.{choose}
 use Rattle.lin_frame.specs.Frame.{answer_of}
 use Rattle.lin_frame.specs.declared.sums.SumKind.{SumKind}
-use Rattle.lin_cluster.specs.Cluster.{line_of}
+use Rattle.lin_parts.specs.Cluster.{line_of}
 use Rattle.lin_core.specs.Core.{answered, CoreData}
 use Rattle.lin_core.specs.Dues.{frame_by, model_by}
 use Rattle.lin_core.specs.History.{open_slot}

@@ -1,6 +1,6 @@
 use Rattle.std.proofs.Common.{◌≡◌, ◌<◌, subst, sym}
 use Rattle.std.specs.Prelude.{None, is_some}
-use Rattle.lin_cluster.specs.Cluster.{nodes}
+use Rattle.lin_parts.specs.Cluster.{nodes}
 use Rattle.lin_core.specs.History.{open_slot}
 use Rattle.lin_core.specs.Core.{CoreData, past_of}
 use Rattle.lin_core.specs.Replies.{begun_on, refusal}

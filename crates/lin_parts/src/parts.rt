@@ -1,7 +1,7 @@
 //! What a cluster is made of. Nodes, signals, frames of each kind and tables are numbered, each kind from 0.
 
 ghost use Rattle.std.specs.Prelude.{◌≡◌};
-ghost use Rattle.lin_cluster.specs.Rules.{is_array, place_at};
+ghost use Rattle.lin_parts.specs.Rules.{is_array, place_at};
 
 use lin_frame::{Layout, Place, SumKind, Value};
 use lin_ldf::{Many, Text};

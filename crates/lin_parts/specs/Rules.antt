@@ -7,12 +7,12 @@ use Rattle.lin_frame.specs.declared.layout.Place.{Place}
 use Rattle.lin_frame.specs.declared.sums.SumKind.TheVariants.{Enhanced}
 use Rattle.lin_frame.specs.declared.value.Value.{Value}
 use Rattle.lin_frame.specs.declared.value.Value.TheVariants.{Scalar, Bytes}
-use Rattle.lin_cluster.specs.Cluster.{nodes, nad, signal_of, frame_of, table_of}
-use Rattle.lin_cluster.specs.declared.parts.Entry.{Entry}
-use Rattle.lin_cluster.specs.declared.parts.Entry.TheVariants.{Frame, Sporadic, Event, MasterReq, SlaveResp, Quiet}
-use Rattle.lin_cluster.specs.declared.parts.Node.{Node}
-use Rattle.lin_cluster.specs.declared.parts.Parts.{Parts}
-use Rattle.lin_cluster.specs.declared.parts.Signal.{Signal}
+use Rattle.lin_parts.specs.Cluster.{nodes, nad, signal_of, frame_of, table_of}
+use Rattle.lin_parts.specs.declared.parts.Entry.{Entry}
+use Rattle.lin_parts.specs.declared.parts.Entry.TheVariants.{Frame, Sporadic, Event, MasterReq, SlaveResp, Quiet}
+use Rattle.lin_parts.specs.declared.parts.Node.{Node}
+use Rattle.lin_parts.specs.declared.parts.Parts.{Parts}
+use Rattle.lin_parts.specs.declared.parts.Signal.{Signal}
 
 -- the diagnostic addresses of responders
 abbrev pub IsAddress : ℕ → Type 0

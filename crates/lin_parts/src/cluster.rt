@@ -2,9 +2,9 @@
 
 ghost use Rattle.std.specs.Prelude.{◌≡◌, ◌+◌, ◌<◌, ◌≤◌, length, position, IfSome};
 ghost use Rattle.std.specs.Str.{bytes_eq};
-ghost use Rattle.lin_cluster.specs.Cluster.{nodes, nad, node_of, signal_of, frame_of, sporadic_of, event_of, named_table, table_of, line_of, first_table};
-ghost use Rattle.lin_cluster.specs.Rules.{IsCluster, IsDelay};
-ghost use Rattle.lin_cluster.specs.Sound.{IsSound};
+ghost use Rattle.lin_parts.specs.Cluster.{nodes, nad, node_of, signal_of, frame_of, sporadic_of, event_of, named_table, table_of, line_of, first_table};
+ghost use Rattle.lin_parts.specs.Rules.{IsCluster, IsDelay};
+ghost use Rattle.lin_parts.specs.Sound.{IsSound};
 
 use crate::parts::{Entry, EventFrame, Line, Node, Parts, Signal, SignalFrame, Table};
 use lin_frame::{Layout, SumKind, Value};
@@ -18,13 +18,13 @@ pub struct Cluster {
 }
 
 impl Model for Cluster {
-    ghost use Rattle.lin_cluster.specs.declared.parts.Parts.{Parts};
+    ghost use Rattle.lin_parts.specs.declared.parts.Parts.{Parts};
 
     ghost Value = { Parts };
 
     ghost view = { λ c. c.parts };
 
-    ghost use Rattle.lin_cluster.specs.Rules.{IsCluster};
+    ghost use Rattle.lin_parts.specs.Rules.{IsCluster};
 
     ghost invariant = { λ c. IsCluster c.parts };
 }

@@ -3,14 +3,14 @@ use Rattle.std.specs.Prelude.{ℕ, List, [], length, slice_index_or, position, O
 use Rattle.std.specs.Str.{bytes_eq}
 use Rattle.lin_frame.specs.declared.sums.SumKind.TheVariants.{Enhanced}
 use Rattle.lin_frame.specs.declared.value.Value.TheVariants.{Scalar}
-use Rattle.lin_cluster.specs.declared.parts.Entry.TheVariants.{Quiet}
-use Rattle.lin_cluster.specs.declared.parts.Node.{Node}
-use Rattle.lin_cluster.specs.declared.parts.Signal.{Signal}
-use Rattle.lin_cluster.specs.declared.parts.SignalFrame.{SignalFrame}
-use Rattle.lin_cluster.specs.declared.parts.EventFrame.{EventFrame}
-use Rattle.lin_cluster.specs.declared.parts.Line.{Line}
-use Rattle.lin_cluster.specs.declared.parts.Table.{Table}
-use Rattle.lin_cluster.specs.declared.parts.Parts.{Parts}
+use Rattle.lin_parts.specs.declared.parts.Entry.TheVariants.{Quiet}
+use Rattle.lin_parts.specs.declared.parts.Node.{Node}
+use Rattle.lin_parts.specs.declared.parts.Signal.{Signal}
+use Rattle.lin_parts.specs.declared.parts.SignalFrame.{SignalFrame}
+use Rattle.lin_parts.specs.declared.parts.EventFrame.{EventFrame}
+use Rattle.lin_parts.specs.declared.parts.Line.{Line}
+use Rattle.lin_parts.specs.declared.parts.Table.{Table}
+use Rattle.lin_parts.specs.declared.parts.Parts.{Parts}
 
 -- how many nodes there are: their numbers are those below this
 abbrev pub nodes : Parts → ℕ

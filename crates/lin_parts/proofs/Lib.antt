@@ -1,0 +1,4 @@
+pub mod Identifiers
+pub mod Limits
+pub mod Pairs
+pub mod SoundClusters
