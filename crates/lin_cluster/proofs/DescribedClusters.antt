@@ -4,10 +4,10 @@ use Rattle.std.specs.Prelude.{All, IfSome}
 use Rattle.std.specs.List.{list_any}
 use Rattle.std.proofs.Math.Pow.{pow_mono}
 use Rattle.std.proofs.lemmas.Bool.{and_parts, leb-true, ltb-true, ltb-false, eqb-true, or_parts, not-true}
-use Rattle.lin_ldf.specs.declared.description.Description.{Description}
-use Rattle.lin_ldf.specs.declared.description.Init.{Init}
-use Rattle.lin_ldf.specs.declared.description.Init.TheVariants.{Scalar, Array}
-use Rattle.lin_ldf.specs.declared.description.Number.{Number}
+use Rattle.lin_description.specs.declared.description.Description.{Description}
+use Rattle.lin_description.specs.declared.description.Init.{Init}
+use Rattle.lin_description.specs.declared.description.Init.TheVariants.{Scalar, Array}
+use Rattle.lin_description.specs.declared.description.Number.{Number}
 use Rattle.lin_cluster.specs.Described.{described_nad, parts_of}
 use Rattle.lin_cluster.specs.Findings.{IsFree}
 use Rattle.lin_cluster.specs.FindingsFrames as found

@@ -7,11 +7,11 @@ use Rattle.std.proofs.lemmas.Bool.{or_parts, both_ways, eqb-true, not-false, lt-
 use Rattle.std.proofs.lemmas.List.{length-map, get_or-take, length-take-le, get_or-map}
 use Rattle.std.proofs.lemmas.List.Elements.{All-map}
 use Rattle.lin_frame.specs.declared.sums.SumKind.TheVariants.{Enhanced}
-use Rattle.lin_ldf.specs.declared.description.Description.{Description}
-use Rattle.lin_ldf.specs.declared.description.EventFrame as declared_event
-use Rattle.lin_ldf.specs.declared.description.Name.{Name}
-use Rattle.lin_ldf.specs.declared.description.Sporadic.{Sporadic}
-use Rattle.lin_ldf.specs.declared.description.TableEntry.{TableEntry}
+use Rattle.lin_description.specs.declared.description.Description.{Description}
+use Rattle.lin_description.specs.declared.description.EventFrame as declared_event
+use Rattle.lin_description.specs.declared.description.Name.{Name}
+use Rattle.lin_description.specs.declared.description.Sporadic.{Sporadic}
+use Rattle.lin_description.specs.declared.description.TableEntry.{TableEntry}
 use Rattle.lin_parts.specs.Cluster.{frame_of, table_of}
 use Rattle.lin_cluster.specs.Described.{node_number, frame_number, sporadic_number, event_number, table_number, members_of, described_event, described_entry, described_line, described_table, parts_of}
 use Rattle.lin_cluster.specs.FindingsNames.{is_node, same_name, sporadic_named, event_named, is_event_entry}

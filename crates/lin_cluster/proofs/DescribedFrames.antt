@@ -14,12 +14,12 @@ use Rattle.lin_frame.specs.Words.{choose}
 use Rattle.lin_frame.specs.declared.layout.Layout.{Layout}
 use Rattle.lin_frame.specs.declared.layout.Place.{Place}
 use Rattle.lin_frame.specs.declared.sums.SumKind.TheVariants.{Enhanced}
-use Rattle.lin_ldf.specs.declared.description.Description.{Description}
-use Rattle.lin_ldf.specs.declared.description.EventFrame.{EventFrame}
-use Rattle.lin_ldf.specs.declared.description.Frame.{Frame}
-use Rattle.lin_ldf.specs.declared.description.Name.{Name}
-use Rattle.lin_ldf.specs.declared.description.PlacedSignal.{PlacedSignal}
-use Rattle.lin_ldf.specs.declared.description.Signal as declared_signal
+use Rattle.lin_description.specs.declared.description.Description.{Description}
+use Rattle.lin_description.specs.declared.description.EventFrame.{EventFrame}
+use Rattle.lin_description.specs.declared.description.Frame.{Frame}
+use Rattle.lin_description.specs.declared.description.Name.{Name}
+use Rattle.lin_description.specs.declared.description.PlacedSignal.{PlacedSignal}
+use Rattle.lin_description.specs.declared.description.Signal as declared_signal
 use Rattle.lin_parts.specs.Cluster.{nodes}
 use Rattle.lin_cluster.specs.Described.{initial_of, described_signal, node_number, signal_number, frame_number, frames_of, is_member, described_place, described_layout, described_frame, parts_of}
 use Rattle.lin_cluster.specs.FindingsFrames as found

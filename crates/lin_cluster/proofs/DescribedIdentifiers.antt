@@ -6,10 +6,10 @@ use Rattle.std.proofs.lemmas.Bool.{ltb-false, lt-ltb, le-leb, eq-eqb, and_from, 
 use Rattle.std.proofs.lemmas.List.{map-append}
 use Rattle.std.proofs.lemmas.List.Elements.{All-map}
 use Rattle.lin_frame.specs.Frame.{pid}
-use Rattle.lin_ldf.specs.declared.description.Description.{Description}
-use Rattle.lin_ldf.specs.declared.description.EventFrame as declared_event
-use Rattle.lin_ldf.specs.declared.description.Frame.{Frame}
-use Rattle.lin_ldf.specs.declared.description.Number.{Number}
+use Rattle.lin_description.specs.declared.description.Description.{Description}
+use Rattle.lin_description.specs.declared.description.EventFrame as declared_event
+use Rattle.lin_description.specs.declared.description.Frame.{Frame}
+use Rattle.lin_description.specs.declared.description.Number.{Number}
 use Rattle.lin_cluster.specs.Described.{frame_number, is_member, described_frame, described_event, events_of, parts_of}
 use Rattle.lin_cluster.specs.FindingsFrames.{ids, bad_id, is_up_to, is_repeated, id_twice}
 use Rattle.lin_cluster.specs.FindingsNames.{at_number}

@@ -10,10 +10,10 @@ use Rattle.std.proofs.lemmas.List.Sums.{passes_at_first}
 use Rattle.std.proofs.lemmas.List.Folds.{list_any_at}
 use Rattle.std.proofs.lemmas.List.FromFn.{get_or-enumerate_from, length-enumerate_from}
 use Rattle.std.specs.Option.{option_map}
-use Rattle.lin_ldf.specs.declared.description.Attributes.{Attributes}
-use Rattle.lin_ldf.specs.declared.description.Description.{Description}
-use Rattle.lin_ldf.specs.declared.description.Name.{Name}
-use Rattle.lin_ldf.specs.declared.description.Number.{Number}
+use Rattle.lin_description.specs.declared.description.Attributes.{Attributes}
+use Rattle.lin_description.specs.declared.description.Description.{Description}
+use Rattle.lin_description.specs.declared.description.Name.{Name}
+use Rattle.lin_description.specs.declared.description.Number.{Number}
 use Rattle.lin_cluster.specs.Described.{node_number, is_block_of, configured_nad, described_nad, responder, nodes_of, parts_of}
 use Rattle.lin_cluster.specs.FindingsFrames.{address, addresses, bad_nad, nad_twice}
 use Rattle.lin_cluster.specs.FindingsNames.{is_responder, at_number}

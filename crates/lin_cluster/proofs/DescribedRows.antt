@@ -4,18 +4,18 @@ use Rattle.std.proofs.Common.{◌≡◌, ℕ, List, [], ◌∷◌, true, false, 
 use Rattle.std.specs.Prelude.{codes, Some, None, slice_index_or}
 use Rattle.lin_frame.specs.declared.sums.SumKind.TheVariants.{Enhanced}
 use Rattle.lin_frame.specs.declared.value.Value.TheVariants as values
-use Rattle.lin_ldf.specs.declared.description.Attributes.{Attributes}
-use Rattle.lin_ldf.specs.declared.description.Description.{Description}
-use Rattle.lin_ldf.specs.declared.description.EventFrame as declared_event
-use Rattle.lin_ldf.specs.declared.description.Frame as declared_frame
-use Rattle.lin_ldf.specs.declared.description.Init.{Init}
-use Rattle.lin_ldf.specs.declared.description.Init.TheVariants as inits
-use Rattle.lin_ldf.specs.declared.description.Name.{Name}
-use Rattle.lin_ldf.specs.declared.description.Number.{Number}
-use Rattle.lin_ldf.specs.declared.description.PlacedSignal.{PlacedSignal}
-use Rattle.lin_ldf.specs.declared.description.Signal as declared_signal
-use Rattle.lin_ldf.specs.declared.description.Table as declared_table
-use Rattle.lin_ldf.specs.declared.description.TableEntry.{TableEntry}
+use Rattle.lin_description.specs.declared.description.Attributes.{Attributes}
+use Rattle.lin_description.specs.declared.description.Description.{Description}
+use Rattle.lin_description.specs.declared.description.EventFrame as declared_event
+use Rattle.lin_description.specs.declared.description.Frame as declared_frame
+use Rattle.lin_description.specs.declared.description.Init.{Init}
+use Rattle.lin_description.specs.declared.description.Init.TheVariants as inits
+use Rattle.lin_description.specs.declared.description.Name.{Name}
+use Rattle.lin_description.specs.declared.description.Number.{Number}
+use Rattle.lin_description.specs.declared.description.PlacedSignal.{PlacedSignal}
+use Rattle.lin_description.specs.declared.description.Signal as declared_signal
+use Rattle.lin_description.specs.declared.description.Table as declared_table
+use Rattle.lin_description.specs.declared.description.TableEntry.{TableEntry}
 use Rattle.lin_parts.specs.Cluster.{frame_of, line_of}
 use Rattle.lin_cluster.specs.Described.{parts_of, nodes_of, signals_of, sporadic_frames_of, events_of, frame_number, node_number}
 use Rattle.lin_parts.specs.declared.parts.Entry.TheVariants.{Frame, Sporadic as SporadicEntry, Event, SlaveResp, Quiet}

@@ -7,10 +7,10 @@ use Rattle.std.proofs.lemmas.List.{length-map}
 use Rattle.std.proofs.lemmas.List.Elements.{All-map}
 use Rattle.std.proofs.lemmas.List.FromFn.{length-enumerate_from}
 use Rattle.std.specs.List.{enumerate_from}
-use Rattle.lin_ldf.specs.declared.description.Description.{Description}
-use Rattle.lin_ldf.specs.declared.description.Name.{Name}
-use Rattle.lin_ldf.specs.declared.description.Sporadic.{Sporadic}
-use Rattle.lin_ldf.specs.declared.description.TableEntry.{TableEntry}
+use Rattle.lin_description.specs.declared.description.Description.{Description}
+use Rattle.lin_description.specs.declared.description.Name.{Name}
+use Rattle.lin_description.specs.declared.description.Sporadic.{Sporadic}
+use Rattle.lin_description.specs.declared.description.TableEntry.{TableEntry}
 use Rattle.lin_cluster.specs.Described.{frame_number, sporadic_number, event_number, frame_entry, described_frame, described_event, described_entry, described_line, described_table, members_of, parts_of}
 use Rattle.lin_parts.specs.Rules.{AreTables, IsEntry, IsDelay}
 use Rattle.lin_parts.specs.declared.parts.Entry.{Entry}

@@ -15,9 +15,9 @@ use Rattle.lin_cluster.specs.FindingsNodes.{node_of, is_number, is_behind_comman
 use Rattle.lin_cluster.specs.FindingsTables.{has_publisher, differs_from_first, is_in_front, is_bad_member, is_wrong_member}
 use Rattle.lin_cluster.proofs.KnownNames.{node-same, same-node}
 use Rattle.lin_cluster.proofs.Named.{same-text, text-same}
-use Rattle.lin_ldf.specs.declared.description.Description.{Description}
-use Rattle.lin_ldf.specs.declared.description.Frame.{Frame}
-use Rattle.lin_ldf.specs.declared.description.Name.{Name}
+use Rattle.lin_description.specs.declared.description.Description.{Description}
+use Rattle.lin_description.specs.declared.description.Frame.{Frame}
+use Rattle.lin_description.specs.declared.description.Name.{Name}
 
 -- an item behind the first, with its number
 pub item-behind : {X : Type 0} (first : X) (xs : List X) (i : ℕ) (x : X) → i < length xs → get_or xs i x ≡ x → get_or (enumerate_from 0 (first ∷ xs)) (i + 1) (i + 1, x) ≡ (i + 1, x)

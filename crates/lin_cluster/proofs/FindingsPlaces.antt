@@ -13,9 +13,9 @@ use Rattle.lin_cluster.specs.FindingsMembers.{has_text}
 use Rattle.lin_cluster.specs.FindingsNames.{knows, signal_named, same_name}
 use Rattle.lin_cluster.specs.FindingsPlaces.{IsTaken, lies_in}
 use Rattle.lin_cluster.specs.FindingsRanges.{Meets}
-use Rattle.lin_ldf.specs.declared.description.Description.{Description}
-use Rattle.lin_ldf.specs.declared.description.PlacedSignal.{PlacedSignal}
-use Rattle.lin_ldf.specs.declared.description.Signal.{Signal}
+use Rattle.lin_description.specs.declared.description.Description.{Description}
+use Rattle.lin_description.specs.declared.description.PlacedSignal.{PlacedSignal}
+use Rattle.lin_description.specs.declared.description.Signal.{Signal}
 use denote.Ref.{Bor}
 
 pub same_answer : (a b : Bool) → (a ≡ true → b ≡ true) → (b ≡ true → a ≡ true) → a ≡ b

@@ -4,18 +4,18 @@ use Rattle.std.specs.Prelude.{◌+◌, codes, Some, None}
 use Rattle.lin_cluster.specs.Findings.{candidates}
 use Rattle.lin_cluster.specs.FindingsFrames.{ids_twice}
 use Rattle.lin_cluster.specs.FindingsNames.{finding_at}
-use Rattle.lin_ldf.specs.declared.description.Attributes.{Attributes}
-use Rattle.lin_ldf.specs.declared.description.Description.{Description}
-use Rattle.lin_ldf.specs.declared.description.EventFrame.{EventFrame}
-use Rattle.lin_ldf.specs.declared.description.Frame.{Frame}
-use Rattle.lin_ldf.specs.declared.description.Init.TheVariants.{Scalar}
-use Rattle.lin_ldf.specs.declared.description.Name.{Name}
-use Rattle.lin_ldf.specs.declared.description.Number.{Number}
-use Rattle.lin_ldf.specs.declared.description.PlacedSignal.{PlacedSignal}
-use Rattle.lin_ldf.specs.declared.description.Signal.{Signal}
-use Rattle.lin_ldf.specs.declared.description.Sporadic.{Sporadic}
-use Rattle.lin_ldf.specs.declared.description.Table.{Table}
-use Rattle.lin_ldf.specs.declared.description.TableEntry.{TableEntry}
+use Rattle.lin_description.specs.declared.description.Attributes.{Attributes}
+use Rattle.lin_description.specs.declared.description.Description.{Description}
+use Rattle.lin_description.specs.declared.description.EventFrame.{EventFrame}
+use Rattle.lin_description.specs.declared.description.Frame.{Frame}
+use Rattle.lin_description.specs.declared.description.Init.TheVariants.{Scalar}
+use Rattle.lin_description.specs.declared.description.Name.{Name}
+use Rattle.lin_description.specs.declared.description.Number.{Number}
+use Rattle.lin_description.specs.declared.description.PlacedSignal.{PlacedSignal}
+use Rattle.lin_description.specs.declared.description.Signal.{Signal}
+use Rattle.lin_description.specs.declared.description.Sporadic.{Sporadic}
+use Rattle.lin_description.specs.declared.description.Table.{Table}
+use Rattle.lin_description.specs.declared.description.TableEntry.{TableEntry}
 
 abbrev name : List ℕ → ℕ → ℕ → Name
 name text line column = record { text = text; line = line; column = column }

@@ -7,7 +7,7 @@ use Rattle.std.proofs.lemmas.List.Sums.{sum_by-cons, get_or-le-sum_by}
 use Rattle.lin_cluster.specs.FindingsNames.{when}
 use Rattle.lin_cluster.specs.FindingsTables.{past}
 use Rattle.lin_cluster.specs.declared.finding.Finding.{Finding}
-use Rattle.lin_ldf.specs.declared.description.Name.{Name}
+use Rattle.lin_description.specs.declared.description.Name.{Name}
 
 pub nil-parts : {X : Type 0} (xs ys : List X) → xs ++ ys ≡ [] → (xs ≡ []) × (ys ≡ [])
 nil-parts [] ys e = (refl, e)

@@ -10,17 +10,17 @@ use Rattle.lin_frame.specs.declared.layout.Place.{Place}
 use Rattle.lin_frame.specs.declared.sums.SumKind.TheVariants.{Enhanced}
 use Rattle.lin_frame.specs.declared.value.Value.{Value}
 use Rattle.lin_frame.specs.declared.value.Value.TheVariants as values
-use Rattle.lin_ldf.specs.declared.description.Attributes.{Attributes}
-use Rattle.lin_ldf.specs.declared.description.Description.{Description}
-use Rattle.lin_ldf.specs.declared.description.EventFrame as declared_event
-use Rattle.lin_ldf.specs.declared.description.Frame as declared_frame
-use Rattle.lin_ldf.specs.declared.description.Init.{Init}
-use Rattle.lin_ldf.specs.declared.description.Init.TheVariants as inits
-use Rattle.lin_ldf.specs.declared.description.Name.{Name}
-use Rattle.lin_ldf.specs.declared.description.PlacedSignal.{PlacedSignal}
-use Rattle.lin_ldf.specs.declared.description.Signal as declared_signal
-use Rattle.lin_ldf.specs.declared.description.Table as declared_table
-use Rattle.lin_ldf.specs.declared.description.TableEntry.{TableEntry}
+use Rattle.lin_description.specs.declared.description.Attributes.{Attributes}
+use Rattle.lin_description.specs.declared.description.Description.{Description}
+use Rattle.lin_description.specs.declared.description.EventFrame as declared_event
+use Rattle.lin_description.specs.declared.description.Frame as declared_frame
+use Rattle.lin_description.specs.declared.description.Init.{Init}
+use Rattle.lin_description.specs.declared.description.Init.TheVariants as inits
+use Rattle.lin_description.specs.declared.description.Name.{Name}
+use Rattle.lin_description.specs.declared.description.PlacedSignal.{PlacedSignal}
+use Rattle.lin_description.specs.declared.description.Signal as declared_signal
+use Rattle.lin_description.specs.declared.description.Table as declared_table
+use Rattle.lin_description.specs.declared.description.TableEntry.{TableEntry}
 use Rattle.lin_parts.specs.Rules.{place_at}
 use Rattle.lin_parts.specs.declared.parts.Entry.{Entry}
 use Rattle.lin_parts.specs.declared.parts.Entry.TheVariants as entries

@@ -3,20 +3,20 @@ use Rattle.std.specs.Prelude.{ℕ, ◌+◌, ◌*◌, ◌/◌, ◌%◌, ◌^◌, 
 use Rattle.std.specs.List.{list_any, enumerate_from}
 use Rattle.lin_cluster.specs.FindingsNames.{at_name, at_number, at_place, when, same_name, is_node, is_responder, signal_named, table_named, is_any_frame, knows, carries_frame}
 use Rattle.lin_cluster.specs.declared.finding.Finding.{Finding}
-use Rattle.lin_ldf.specs.declared.description.Attributes.{Attributes}
-use Rattle.lin_ldf.specs.declared.description.Description.{Description}
-use Rattle.lin_ldf.specs.declared.description.EventFrame.{EventFrame}
-use Rattle.lin_ldf.specs.declared.description.Frame.{Frame}
-use Rattle.lin_ldf.specs.declared.description.Init.{Init}
-use Rattle.lin_ldf.specs.declared.description.Init.TheVariants.{Scalar, Array}
-use Rattle.lin_ldf.specs.declared.description.Name.{Name}
-use Rattle.lin_ldf.specs.declared.description.Number.{Number}
-use Rattle.lin_ldf.specs.declared.description.PlacedSignal.{PlacedSignal}
-use Rattle.lin_ldf.specs.declared.description.Signal.{Signal}
-use Rattle.lin_ldf.specs.declared.description.Sporadic.{Sporadic}
-use Rattle.lin_ldf.specs.declared.description.Table.{Table}
-use Rattle.lin_ldf.specs.declared.description.TableEntry.{TableEntry}
-use Rattle.lin_ldf.specs.declared.place.Place.{Place}
+use Rattle.lin_description.specs.declared.description.Attributes.{Attributes}
+use Rattle.lin_description.specs.declared.description.Description.{Description}
+use Rattle.lin_description.specs.declared.description.EventFrame.{EventFrame}
+use Rattle.lin_description.specs.declared.description.Frame.{Frame}
+use Rattle.lin_description.specs.declared.description.Init.{Init}
+use Rattle.lin_description.specs.declared.description.Init.TheVariants.{Scalar, Array}
+use Rattle.lin_description.specs.declared.description.Name.{Name}
+use Rattle.lin_description.specs.declared.description.Number.{Number}
+use Rattle.lin_description.specs.declared.description.PlacedSignal.{PlacedSignal}
+use Rattle.lin_description.specs.declared.description.Signal.{Signal}
+use Rattle.lin_description.specs.declared.description.Sporadic.{Sporadic}
+use Rattle.lin_description.specs.declared.description.Table.{Table}
+use Rattle.lin_description.specs.declared.description.TableEntry.{TableEntry}
+use Rattle.lin_description.specs.declared.place.Place.{Place}
 
 -- ---- 1 UnknownName
 

@@ -7,9 +7,9 @@ use Rattle.indexmap.specs.IndexMap.{IndexMap, get_by}
 use Rattle.lin_cluster.specs.FindingsNames.{frame_named, is_any_frame, knows}
 use Rattle.lin_cluster.specs.FindingsNodes.{node_of, is_number}
 use Rattle.lin_cluster.specs.FindingsTables.{is_in_front}
-use Rattle.lin_ldf.specs.declared.description.Description.{Description}
-use Rattle.lin_ldf.specs.declared.description.Frame.{Frame}
-use Rattle.lin_ldf.specs.declared.description.Name.{Name}
+use Rattle.lin_description.specs.declared.description.Description.{Description}
+use Rattle.lin_description.specs.declared.description.Frame.{Frame}
+use Rattle.lin_description.specs.declared.description.Name.{Name}
 use denote.Ref.{Bor}
 
 -- whether a text is among those of a map

@@ -4,8 +4,8 @@ use Rattle.std.specs.BTreeMap.{BTreeMap}
 use Rattle.indexmap.specs.IndexMap.{IndexMap}
 use Rattle.lin_cluster.specs.FindingsMembers.{has_text}
 use Rattle.lin_cluster.specs.FindingsRanges.{Meets}
-use Rattle.lin_ldf.specs.declared.description.PlacedSignal.{PlacedSignal}
-use Rattle.lin_ldf.specs.declared.description.Signal.{Signal}
+use Rattle.lin_description.specs.declared.description.PlacedSignal.{PlacedSignal}
+use Rattle.lin_description.specs.declared.description.Signal.{Signal}
 use denote.Ref.{Bor}
 
 -- a signal of which the name is there, or a bit

@@ -6,15 +6,15 @@ use Rattle.std.specs.Option.{option_map_or}
 use Rattle.lin_cluster.specs.FindingsFrames.{is_frame_size}
 use Rattle.lin_cluster.specs.FindingsNames.{finding_at, at_name, at_number, when, same_name, is_node, signal_named, frame_named, sporadic_named, event_named, table_named, is_any_frame, knows, carries_frame, is_event_entry}
 use Rattle.lin_cluster.specs.declared.finding.Finding.{Finding}
-use Rattle.lin_ldf.specs.declared.description.Description.{Description}
-use Rattle.lin_ldf.specs.declared.description.EventFrame.{EventFrame}
-use Rattle.lin_ldf.specs.declared.description.Frame.{Frame}
-use Rattle.lin_ldf.specs.declared.description.Name.{Name}
-use Rattle.lin_ldf.specs.declared.description.Number.{Number}
-use Rattle.lin_ldf.specs.declared.description.PlacedSignal.{PlacedSignal}
-use Rattle.lin_ldf.specs.declared.description.Sporadic.{Sporadic}
-use Rattle.lin_ldf.specs.declared.description.Table.{Table}
-use Rattle.lin_ldf.specs.declared.description.TableEntry.{TableEntry}
+use Rattle.lin_description.specs.declared.description.Description.{Description}
+use Rattle.lin_description.specs.declared.description.EventFrame.{EventFrame}
+use Rattle.lin_description.specs.declared.description.Frame.{Frame}
+use Rattle.lin_description.specs.declared.description.Name.{Name}
+use Rattle.lin_description.specs.declared.description.Number.{Number}
+use Rattle.lin_description.specs.declared.description.PlacedSignal.{PlacedSignal}
+use Rattle.lin_description.specs.declared.description.Sporadic.{Sporadic}
+use Rattle.lin_description.specs.declared.description.Table.{Table}
+use Rattle.lin_description.specs.declared.description.TableEntry.{TableEntry}
 
 -- ---- 9 SlotTooShort
 

@@ -5,7 +5,7 @@ ghost use Rattle.std.specs.Prelude.{◌≡◌, IfOk, OnOk};
 ghost use Rattle.lin_cluster.specs.Described.{parts_of};
 ghost use Rattle.lin_cluster.specs.Fitting.{FitsParts, HasMembers};
 
-use lin_ldf::Description;
+use lin_description::Description;
 use lin_parts::Parts;
 use std::alloc::{AllocError, Global};
 

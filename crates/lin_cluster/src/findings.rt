@@ -26,7 +26,7 @@ ghost use Rattle.lin_cluster.specs.FindingsTables.{slots_too_short, zero_delays,
 use crate::finding::Finding;
 use judged::Judged;
 use known::Known;
-use lin_ldf::Description;
+use lin_description::Description;
 use std::alloc::{AllocError, Global};
 
 fn of_names_and_numbers(

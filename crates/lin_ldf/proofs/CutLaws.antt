@@ -4,7 +4,7 @@ use Rattle.std.proofs.lemmas.List.{append-nil, take-append-drop, length-take}
 use Rattle.lin_ldf.specs.Scanning.{front_piece}
 use Rattle.lin_ldf.specs.declared.token.TokenKind.{TokenKind}
 use Rattle.lin_ldf.specs.declared.token.Token.{Token}
-use Rattle.lin_ldf.specs.declared.place.Place.{Place}
+use Rattle.lin_description.specs.declared.place.Place.{Place}
 use Rattle.lin_ldf.specs.declared.scanner.Scanned.TheVariants as pieces
 use Rattle.lin_ldf.specs.declared.scanner.ScanFault.{ScanFault}
 use Rattle.lin_ldf.specs.declared.scanner.ScanFault.TheVariants.{BadByte, OpenComment, OpenText}

@@ -9,7 +9,7 @@ use Rattle.lin_ldf.specs.LoopLaws.{several_lawful, gathered_lawful}
 use Rattle.lin_ldf.specs.UpToLaws.{up_to_lawful}
 use Rattle.lin_ldf.specs.Grammar.{extra, extras, no_extra, title, version, speed, header, milliseconds, master_begin, master, slaves, nodes, nodes_of, array, array_of, scalar_of, init, signal, signal_of, with_signal, signals, placed, placed_of, frame, frame_of, with_frame, frames, sporadic_frame, sporadic_of, with_sporadic, sporadic, event_frame, event_of, with_event, event, protocol, configured_nad, general, with_protocol, with_nad, attr, no_settings, settings, attribute_block, attributes_of, with_block, attributes, has_group, entry, entry_of, table, table_of, with_table, tables, unused, with_signals, with_frames, with_sporadics, with_events, with_attributes, with_tables, section_of, front_section, section, is_end, node_names, no_sections, description_of, file}
 use Rattle.lin_ldf.specs.declared.token.TokenKind.TheVariants as kinds
-use Rattle.lin_ldf.specs.declared.description.Name.{Name}
+use Rattle.lin_description.specs.declared.description.Name.{Name}
 use Rattle.lin_ldf.specs.declared.node_attributes.Settings.{Settings}
 use Rattle.lin_ldf.specs.declared.node_attributes.NodeBlocks.{NodeBlocks}
 use Rattle.lin_ldf.specs.declared.section.SectionWord.{SectionWord}

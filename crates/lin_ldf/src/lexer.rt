@@ -8,9 +8,9 @@ ghost use Rattle.lin_ldf.specs.declared.fault.LdfFault.TheVariants.{OutOfMemory}
 ghost use Rattle.lin_ldf.specs.declared.token.Token.{Token};
 
 use crate::fault::LdfFault;
-use crate::place::Place;
 use crate::scanner::{ScanFault, Scanned, front_piece};
 use crate::token::Token;
+use lin_description::Place;
 use std::alloc::Global;
 
 /// How many bytes of a byte-order mark stand at the start: EF BB BF or none.

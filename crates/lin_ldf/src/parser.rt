@@ -10,16 +10,14 @@ ghost use Rattle.lin_ldf.specs.UpTo.{front_kind};
 ghost use Rattle.lin_ldf.specs.Words.{word, opening, declared, int, dec, is_word_next};
 ghost use Rattle.lin_ldf.specs.Grammar.{header_words, is_extra_word, no_extra, extra_word, without_quotes, protocol_text, with_node, front_section, is_end};
 
-use crate::description::{Name, Number};
 use crate::fault::LdfFault;
 use crate::lexeme::Lexeme;
-use crate::lists::Text;
 use crate::names::Names;
 use crate::node_attributes::NodeBlocks;
 use crate::number_values;
-use crate::place::Place;
 use crate::section::{SectionWord, section_word};
 use crate::token::TokenKind;
+use lin_description::{Name, Number, Place, Text};
 use std::alloc::Global;
 use std::marker::Model;
 

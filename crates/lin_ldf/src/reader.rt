@@ -4,16 +4,15 @@ ghost use Rattle.std.specs.Prelude.{◌≡◌, All, IfOk, IfErr, MatchResult};
 ghost use Rattle.lin_ldf.specs.Symbols.{symbol, symbols};
 ghost use Rattle.lin_ldf.specs.Tokens.{LiesIn, behind_mark, line_after, column_after};
 ghost use Rattle.lin_ldf.specs.Describes.{symbol_in, symbols_in, Spells, Describes};
-ghost use Rattle.lin_ldf.specs.declared.description.Description.{Description};
+ghost use Rattle.lin_description.specs.declared.description.Description.{Description};
 ghost use Rattle.lin_ldf.specs.declared.fault.LdfFault.TheVariants.{OutOfMemory};
 
-use crate::description::Description;
 use crate::fault::LdfFault;
 use crate::lexeme::Lexeme;
 use crate::lexer::{advanced, lex, mark_len};
 use crate::parser::Parser;
-use crate::place::Place;
 use crate::token::Token;
+use lin_description::{Description, Place};
 use std::alloc::Global;
 
 fn lexeme_of<'a>(source: &'a [u8], token: &Token) -> Lexeme<'a>

@@ -4,8 +4,8 @@ ghost use Rattle.std.specs.Prelude.{◌≡◌, ℕ, length, IfOk};
 ghost use Rattle.lin_schedule.specs.Walker.{Walks};
 
 use lin_cluster::{Cluster, Entry, EventFrame, Line, Node, Parts, SignalFrame, Table};
+use lin_description::{Many, Text};
 use lin_frame::{Layout, Places, SumKind};
-use lin_ldf::{Many, Text};
 use lin_rules::is_cluster;
 use lin_schedule::{Due, Walker, entries_in_turn, excursions_run_once};
 use std::alloc::{AllocError, Global};

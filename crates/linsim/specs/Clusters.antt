@@ -1,7 +1,7 @@
 -- The cluster of an LDF text.
 use Rattle.std.specs.Prelude.{◌≡◌, ℕ, List}
 use Rattle.lin_ldf.specs.Describes.{Describes}
-use Rattle.lin_ldf.specs.declared.description.Description.{Description}
+use Rattle.lin_description.specs.declared.description.Description.{Description}
 use Rattle.lin_cluster.specs.Described.{parts_of}
 use Rattle.lin_cluster.specs.Findings.{IsFree}
 use Rattle.lin_parts.specs.declared.parts.Parts.{Parts}

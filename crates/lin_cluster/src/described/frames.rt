@@ -7,8 +7,8 @@ ghost use Rattle.lin_cluster.specs.Described.{frame_number, signal_number, signa
 ghost use Rattle.lin_cluster.specs.Fitting.{FitsFrame, FitsNumbers};
 
 use super::numbers::{frame_number, node_number, signal_number, table_number};
+use lin_description::{Description, Frame, Many, Name, PlacedSignal, Sporadic};
 use lin_frame::{FrameId, Layout, Place, Places, SumKind, protected};
-use lin_ldf::{Description, Frame, Many, Name, PlacedSignal, Sporadic};
 use lin_parts::{EventFrame, Signal, SignalFrame};
 use std::alloc::{AllocError, Global};
 
@@ -31,7 +31,7 @@ fn lists(d: &Description, members: &[Name], frame: u16) -> bool
         .any(|member| frame_number(d, member) == frame)
 }
 
-fn is_member(d: &Description, events: &[lin_ldf::EventFrame], frame: u16) -> bool
+fn is_member(d: &Description, events: &[lin_description::EventFrame], frame: u16) -> bool
     requires few { length d.now.frames ≤ 60 }
     ensures { result ≡ list_any (λ e. list_any (λ m. frame_number d.now m == frame) e.members) events.now }
 {
@@ -200,7 +200,7 @@ pub(super) fn sporadic_frames_of(
 fn event_of(
     alloc: Global,
     d: &Description,
-    event: &lin_ldf::EventFrame,
+    event: &lin_description::EventFrame,
 ) -> Result<EventFrame, AllocError>
     requires few { FitsNumbers d.now }
     requires fits { event.now.id.value < 64 }
@@ -218,7 +218,7 @@ fn event_of(
 pub(super) fn events_of(
     alloc: Global,
     d: &Description,
-    events: &[lin_ldf::EventFrame],
+    events: &[lin_description::EventFrame],
 ) -> Result<Many<EventFrame>, AllocError>
     requires few { FitsNumbers d.now }
     requires fit { All (λ e. e.id.value < 64) events.now }

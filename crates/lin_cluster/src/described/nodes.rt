@@ -7,7 +7,7 @@ ghost use Rattle.lin_cluster.specs.Described.{is_block_of, described_nad, respon
 ghost use Rattle.lin_cluster.specs.Fitting.{FitsNad};
 
 use super::numbers::node_number;
-use lin_ldf::{Attributes, Description, Many, Name, Text};
+use lin_description::{Attributes, Description, Many, Name, Text};
 use lin_parts::Node;
 use std::alloc::{AllocError, Global};
 

@@ -5,7 +5,7 @@ ghost use Rattle.std.specs.List.{position_or_len};
 ghost use Rattle.std.specs.Str.{bytes_eq};
 ghost use Rattle.lin_cluster.specs.Described.{node_number, signal_number, frame_number, sporadic_number, event_number, table_number};
 
-use lin_ldf::{Description, Name};
+use lin_description::{Description, Name};
 
 fn is_name(name: &Name, text: &[u8]) -> bool
     ensures { result ≡ bytes_eq name.now.text text.now }

@@ -6,8 +6,8 @@ ghost use Rattle.lin_cluster.specs.Fitting.{FitsInitial, FitsSignal};
 
 use super::numbers::node_number;
 use arrayvec::ArrayVec;
+use lin_description::{Description, Init, Many, Number, Text};
 use lin_frame::{Value, ValueBytes};
-use lin_ldf::{Description, Init, Many, Number, Text};
 use lin_parts::Signal;
 use std::alloc::{AllocError, Global};
 
@@ -33,7 +33,11 @@ fn initial_of(init: &Init) -> Value
     }
 }
 
-fn signal_of(alloc: Global, d: &Description, signal: &lin_ldf::Signal) -> Result<Signal, AllocError>
+fn signal_of(
+    alloc: Global,
+    d: &Description,
+    signal: &lin_description::Signal,
+) -> Result<Signal, AllocError>
     requires few { length d.now.slaves ≤ 15 }
     requires fits { FitsSignal signal.now }
     ensures { IfOk result (λ made. made ≡ described_signal d.now signal.now) }
@@ -49,7 +53,7 @@ fn signal_of(alloc: Global, d: &Description, signal: &lin_ldf::Signal) -> Result
 pub(super) fn signals_of(
     alloc: Global,
     d: &Description,
-    signals: &[lin_ldf::Signal],
+    signals: &[lin_description::Signal],
 ) -> Result<Many<Signal>, AllocError>
     requires few { length d.now.slaves ≤ 15 }
     requires fits { All FitsSignal signals.now }

@@ -5,7 +5,7 @@ ghost use Rattle.lin_cluster.specs.Described.{frame_entry, described_entry, desc
 ghost use Rattle.lin_cluster.specs.Fitting.{FitsNumbers};
 
 use super::numbers::{event_number, frame_number, sporadic_number};
-use lin_ldf::{Description, Many, Name, TableEntry, Text};
+use lin_description::{Description, Many, Name, TableEntry, Text};
 use lin_parts::{Entry, Line, Table};
 use std::alloc::{AllocError, Global};
 
@@ -69,7 +69,11 @@ fn lines_of(
     Ok(Many::new(lines))
 }
 
-fn table_of(alloc: Global, d: &Description, table: &lin_ldf::Table) -> Result<Table, AllocError>
+fn table_of(
+    alloc: Global,
+    d: &Description,
+    table: &lin_description::Table,
+) -> Result<Table, AllocError>
     requires { FitsNumbers d.now }
     ensures { IfOk result (λ made. made ≡ described_table d.now table.now) }
 {
@@ -82,7 +86,7 @@ fn table_of(alloc: Global, d: &Description, table: &lin_ldf::Table) -> Result<Ta
 pub(super) fn tables_of(
     alloc: Global,
     d: &Description,
-    tables: &[lin_ldf::Table],
+    tables: &[lin_description::Table],
 ) -> Result<Many<Table>, AllocError>
     requires { FitsNumbers d.now }
     ensures { IfOk result (λ made. made ≡ map (described_table d.now) tables.now) }

@@ -10,7 +10,7 @@ use super::known::Known;
 use super::words::{at_number, push_when};
 use crate::finding::Finding;
 use indexmap::IndexSet;
-use lin_ldf::{Attributes, Number};
+use lin_description::{Attributes, Number};
 use std::alloc::{AllocError, Global};
 
 fn address(known: &Known, block: &Attributes) -> Option<Number>

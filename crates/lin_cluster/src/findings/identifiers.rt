@@ -8,7 +8,7 @@ use super::known::Known;
 use super::repeats::Repeats;
 use super::words::{at_number, push_when};
 use crate::finding::Finding;
-use lin_ldf::{EventFrame, Frame, Number};
+use lin_description::{EventFrame, Frame, Number};
 use std::alloc::{AllocError, Global};
 
 fn ids_of(alloc: Global, frames: &[Frame], events: &[EventFrame]) -> Result<Vec<Number>, AllocError>

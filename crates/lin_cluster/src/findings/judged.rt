@@ -14,7 +14,7 @@ use super::numbers::add;
 use super::slots::{first_size, greatest_size};
 use super::tables::has_event_entry;
 use indexmap::IndexMap;
-use lin_ldf::{EventFrame, Frame, Name, Signal, Sporadic, Table};
+use lin_description::{EventFrame, Frame, Name, Signal, Sporadic, Table};
 use std::alloc::{AllocError, Global};
 use std::marker::Model;
 
@@ -40,7 +40,7 @@ impl<'k, 'a> Model for Judged<'k, 'a> {
     ghost use Rattle.lin_cluster.specs.FindingsNames.{is_event_entry};
     ghost use Rattle.lin_cluster.specs.FindingsNodes.{node_of};
     ghost use Rattle.lin_cluster.specs.FindingsTables.{greatest_size, first_size, is_in_front};
-    ghost use Rattle.lin_ldf.specs.declared.description.Description.{Description};
+    ghost use Rattle.lin_description.specs.declared.description.Description.{Description};
 
     ghost Value = { Description };
 

@@ -10,7 +10,7 @@ use super::numbers::{
     tables_by_name,
 };
 use indexmap::IndexMap;
-use lin_ldf::{Description, EventFrame, Frame, Name, Signal, Sporadic, Table, TableEntry};
+use lin_description::{Description, EventFrame, Frame, Name, Signal, Sporadic, Table, TableEntry};
 use std::alloc::{AllocError, Global};
 use std::marker::Model;
 
@@ -54,7 +54,7 @@ impl<'a> Model for Known<'a> {
     ghost use Rattle.std.specs.List.{enumerate_from};
     ghost use Rattle.lin_cluster.specs.Described.{node_names};
     ghost use Rattle.lin_cluster.specs.FindingsMaps.{Finds, FindsFirst};
-    ghost use Rattle.lin_ldf.specs.declared.description.Description.{Description};
+    ghost use Rattle.lin_description.specs.declared.description.Description.{Description};
 
     ghost Value = { Description };
 

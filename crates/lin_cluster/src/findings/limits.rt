@@ -8,7 +8,7 @@ use super::known::Known;
 use super::slots::is_speed;
 use super::words::{at_name, at_number, push_when};
 use crate::finding::Finding;
-use lin_ldf::{EventFrame, Frame, Name, Number, Signal, Sporadic, Table, TableEntry};
+use lin_description::{EventFrame, Frame, Name, Number, Signal, Sporadic, Table, TableEntry};
 use std::alloc::AllocError;
 
 #[tactic(auto, using(crate::proofs::FindingsLists::past_none))]

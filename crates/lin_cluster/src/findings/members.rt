@@ -14,7 +14,7 @@ use super::known::{Known, is_behind_commander};
 use super::words::{at_name, push_when};
 use crate::finding::Finding;
 use indexmap::IndexSet;
-use lin_ldf::{EventFrame, Frame, Name, PlacedSignal, Sporadic};
+use lin_description::{EventFrame, Frame, Name, PlacedSignal, Sporadic};
 use std::alloc::{AllocError, Global};
 
 fn add_publisher(

@@ -7,7 +7,7 @@ ghost use Rattle.indexmap.specs.IndexMap.{get_by};
 ghost use Rattle.lin_cluster.specs.FindingsMaps.{or_else, Finds, FindsFirst};
 
 use indexmap::IndexMap;
-use lin_ldf::{EventFrame, Frame, Name, Signal, Sporadic, Table};
+use lin_description::{EventFrame, Frame, Name, Signal, Sporadic, Table};
 use std::alloc::{AllocError, Global};
 
 pub(super) type ByName<'a, T> = IndexMap<&'a [u8], &'a T>;

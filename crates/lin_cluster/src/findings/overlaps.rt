@@ -8,7 +8,7 @@ ghost use Rattle.lin_cluster.specs.FindingsMembers.{has_text};
 ghost use Rattle.lin_cluster.specs.FindingsNames.{at_number, knows, signal_named, when};
 ghost use Rattle.lin_cluster.specs.FindingsRanges.{Meets, AreApart};
 ghost use Rattle.lin_cluster.specs.FindingsPlaces.{IsTaken, lies_in};
-ghost use Rattle.lin_ldf.specs.declared.description.Signal.{Signal};
+ghost use Rattle.lin_description.specs.declared.description.Signal.{Signal};
 
 use super::known::Known;
 use super::numbers::add;
@@ -16,7 +16,7 @@ use super::ranges::{Ranges, add_range, is_met};
 use super::words::{at_number, push_when};
 use crate::finding::Finding;
 use indexmap::IndexMap;
-use lin_ldf::{Frame, PlacedSignal, Signal};
+use lin_description::{Frame, PlacedSignal, Signal};
 use std::alloc::{AllocError, Global};
 use std::collections::BTreeMap;
 

@@ -11,7 +11,7 @@ use super::known::Known;
 use super::sizes::is_array;
 use super::words::{at_name, at_number, push_when};
 use crate::finding::Finding;
-use lin_ldf::{Frame, PlacedSignal, Signal};
+use lin_description::{Frame, PlacedSignal, Signal};
 use std::alloc::AllocError;
 
 // A name that is no node's is no other node's.

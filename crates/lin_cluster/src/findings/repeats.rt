@@ -6,10 +6,10 @@ ghost use Rattle.indexmap.specs.IndexMap.{get};
 ghost use Rattle.lin_cluster.specs.FindingsFrames.{is_up_to, is_repeated};
 ghost use Rattle.lin_cluster.specs.FindingsRepeats.{has_one, has_two, is_use, CountsUses};
 ghost use Rattle.lin_cluster.specs.FindingsNames.{knows};
-ghost use Rattle.lin_ldf.specs.declared.description.Number.{Number};
+ghost use Rattle.lin_description.specs.declared.description.Number.{Number};
 
 use indexmap::IndexMap;
-use lin_ldf::Number;
+use lin_description::Number;
 use std::alloc::{AllocError, Global};
 use std::marker::Model;
 
@@ -30,7 +30,7 @@ pub(super) struct Repeats {
 impl Model for Repeats {
     ghost use Rattle.std.specs.Prelude.{List};
     ghost use Rattle.lin_cluster.specs.FindingsRepeats.{CountsUses};
-    ghost use Rattle.lin_ldf.specs.declared.description.Number.{Number};
+    ghost use Rattle.lin_description.specs.declared.description.Number.{Number};
 
     ghost Value = { List Number };
 

@@ -7,7 +7,7 @@ ghost use Rattle.lin_cluster.specs.FindingsFrames.{is_array, is_good_size, bad_s
 use super::known::Known;
 use super::words::{at_number, at_place, push_when};
 use crate::finding::Finding;
-use lin_ldf::{Frame, Init, Number, Place, Signal};
+use lin_description::{Frame, Init, Number, Place, Signal};
 use std::alloc::AllocError;
 
 pub(super) fn is_array(init: &Init) -> bool

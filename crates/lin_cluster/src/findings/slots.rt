@@ -10,7 +10,7 @@ use super::known::{Known, carries_frame};
 use super::sizes::is_frame_size;
 use super::words::{at_number, push_when};
 use crate::finding::Finding;
-use lin_ldf::{Frame, Name, Table, TableEntry};
+use lin_description::{Frame, Name, Table, TableEntry};
 use std::alloc::AllocError;
 
 fn needed_us(jitter: u32, speed: u32, size: u32) -> u64

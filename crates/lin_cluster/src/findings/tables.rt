@@ -9,7 +9,7 @@ use super::judged::Judged;
 use super::known::Known;
 use super::words::{at_name, finding_at, push_when};
 use crate::finding::Finding;
-use lin_ldf::{EventFrame, Table, TableEntry};
+use lin_description::{EventFrame, Table, TableEntry};
 use std::alloc::AllocError;
 
 /// Whether a table has an event-triggered entry.

@@ -7,7 +7,7 @@ ghost use Rattle.lin_cluster.specs.FindingsFrames.{unknown_node, unknown_member,
 use super::known::{Known, carries_frame};
 use super::words::{at_name, push_when};
 use crate::finding::Finding;
-use lin_ldf::{
+use lin_description::{
     Attributes, EventFrame, Frame, Name, PlacedSignal, Signal, Sporadic, Table, TableEntry,
 };
 use std::alloc::AllocError;

@@ -4,7 +4,7 @@ ghost use Rattle.std.specs.Prelude.{◌≡◌, ◌++◌, OnOk};
 ghost use Rattle.lin_cluster.specs.FindingsNames.{finding_at, at_name, at_number, at_place, when};
 
 use crate::finding::Finding;
-use lin_ldf::{Name, Number, Place};
+use lin_description::{Name, Number, Place};
 use std::alloc::AllocError;
 
 pub(super) fn finding_at(number: u8, line: u64, column: u64) -> Finding

@@ -2,8 +2,8 @@
 
 use arrayvec::ArrayVec;
 use lin_cluster::{Entry, EventFrame, Line, Node, Parts, Signal, SignalFrame, Table};
+use lin_description::{Many, Text};
 use lin_frame::{Layout, Place, Places, SumKind, Value, ValueBytes};
-use lin_ldf::{Many, Text};
 use std::alloc::{AllocError, Global};
 
 pub(super) type Made<T> = Result<Many<T>, AllocError>;

@@ -1,5 +1,5 @@
 use Rattle.std.proofs.Common.{◌≤◌, length, arith}
-use Rattle.lin_ldf.specs.declared.description.Sporadic.{Sporadic}
+use Rattle.lin_description.specs.declared.description.Sporadic.{Sporadic}
 use Rattle.lin_cluster.specs.Described.{members_of}
 use Rattle.lin_cluster.proofs.Enumerated.{both-pushed}
 use Rattle.lin_cluster.proofs.described.frames.sporadic_frames_of.Goals as goal

@@ -1,6 +1,6 @@
 use Rattle.std.proofs.Common.{◌≡◌, ◌≤◌, length, map, take}
 use Rattle.std.specs.Prelude.{All}
-use Rattle.lin_ldf.specs.declared.description.Sporadic.{Sporadic}
+use Rattle.lin_description.specs.declared.description.Sporadic.{Sporadic}
 use Rattle.lin_cluster.specs.Described.{members_of}
 use Rattle.lin_cluster.proofs.described.frames.sporadic_frames_of.Given as goal
 

@@ -3,7 +3,7 @@ use Rattle.std.specs.Prelude.{◌==◌, nat_eq}
 use Rattle.indexmap.specs.IndexSet.{contains}
 use Rattle.lin_cluster.specs.FindingsFrames.{nad_twice}
 use Rattle.lin_cluster.specs.FindingsNames.{when, at_number}
-use Rattle.lin_ldf.specs.declared.description.Number.{Number}
+use Rattle.lin_description.specs.declared.description.Number.{Number}
 use Rattle.lin_cluster.proofs.FindingsLists.{each_step}
 use Rattle.lin_cluster.proofs.FindingsMaps.{seen_more, or_by}
 use Rattle.lin_cluster.proofs.findings.addresses.nads_twice.Goals as goal

@@ -6,7 +6,7 @@ use Rattle.std.specs.Str.{bytes_eq}
 use Rattle.lin_cluster.specs.FindingsNames.{is_event_entry}
 use Rattle.lin_cluster.specs.FindingsNodes.{node_of}
 use Rattle.lin_cluster.specs.FindingsTables.{greatest_size, first_size, is_in_front}
-use Rattle.lin_ldf.specs.declared.description.Description.{Description}
+use Rattle.lin_description.specs.declared.description.Description.{Description}
 use Rattle.lin_cluster.proofs.findings.judged.Judged.new.Goals as goal
 
 pub invariant_of-result : goal.invariant_of-result

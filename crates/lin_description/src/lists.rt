@@ -73,8 +73,8 @@ impl<T> Many<T> {
         self.items.as_slice()
     }
 
-    /// These items behind a first one.
-    pub(crate) fn behind(self, first: T) -> Result<OneOrMore<T>, AllocError>
+    /// These items behind a first one; an error is want of memory.
+    pub fn behind(self, first: T) -> Result<OneOrMore<T>, AllocError>
     where
         T: Drop,
         ensures { IfOk result (λ m. m ≡ first ∷ self) }

@@ -96,15 +96,6 @@ pub struct Table {
     pub entries: Many<TableEntry>,
 }
 
-/// The nodes (LIN 2.2A, section 9.2.2): the times are in microseconds.
-#[derive(Drop)]
-pub struct Nodes {
-    pub master: Name,
-    pub time_base: Number,
-    pub jitter: Number,
-    pub slaves: OneOrMore<Name>,
-}
-
 /// What an LDF text describes: each declaration in file order, with the places of its names and numbers. The speed is in
 /// bits per second, the times are in microseconds; a section that is absent is empty.
 #[derive(Debug, Drop)]

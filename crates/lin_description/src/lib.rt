@@ -1,0 +1,13 @@
+//! What an LDF text describes, as its declarations in file order (LIN 2.2A, section 9).
+#![tactic(auto)]
+
+mod description;
+mod lists;
+mod place;
+
+pub use description::{
+    Attributes, Description, EventFrame, Frame, Init, Name, Number, PlacedSignal, Signal, Sporadic,
+    Table, TableEntry,
+};
+pub use lists::{Many, OneOrMore, Text};
+pub use place::Place;
