@@ -9,7 +9,8 @@ ghost use Rattle.lin_cluster.specs.declared.finding.CheckFault.TheVariants.{OutO
 use crate::described::parts_of;
 use crate::finding::{CheckFault, Finding};
 use crate::findings::findings;
-use lin_description::{Description, Many};
+use lin_description::Description;
+use lin_lists::Many;
 use lin_parts::Cluster;
 use std::alloc::{AllocError, Global};
 

@@ -1,6 +1,6 @@
 //! What is wrong with a description, and why there is no cluster.
 
-use lin_description::Many;
+use lin_lists::Many;
 
 /// What is wrong, and where: the finding's number (1 to 17), line and column, and for a slot that is too short (9) the time in
 /// microseconds that it needs; otherwise 0. Findings are ordered by place, then by number.

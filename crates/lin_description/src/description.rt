@@ -2,8 +2,8 @@
 
 ghost use Rattle.std.specs.Prelude.{◌≡◌, ◌≤◌, length};
 
-use crate::lists::{Many, OneOrMore, Text};
 use crate::place::Place;
+use lin_lists::{Many, OneOrMore, Text};
 
 /// A name and the place of its first byte.
 #[derive(Debug, Drop)]

@@ -2,12 +2,10 @@
 #![tactic(auto)]
 
 mod description;
-mod lists;
 mod place;
 
 pub use description::{
     Attributes, Description, EventFrame, Frame, Init, Name, Number, PlacedSignal, Signal, Sporadic,
     Table, TableEntry,
 };
-pub use lists::{Many, OneOrMore, Text};
 pub use place::Place;

@@ -14,7 +14,7 @@ mod value;
 pub use answering::answer;
 pub use identifier::{FrameId, protected, unprotect};
 pub use inverse::packing_is_inverse;
-pub use layout::{Layout, Place, Places};
+pub use layout::{Layout, Place};
 pub use packing::{pack, unpack};
 pub use response::Answer;
 pub use sums::{SumKind, checksum, passes};

@@ -1,10 +1,11 @@
 //! Outside vectors, and each public call once.
 
 use crate::{
-    Answer, FrameId, Layout, Place, Places, SumKind, Value, ValueBytes, answer, checksum, pack,
+    Answer, FrameId, Layout, Place, SumKind, Value, ValueBytes, answer, checksum, pack,
     packing_is_inverse, passes, protected, unpack, unprotect,
 };
 use arrayvec::ArrayVec;
+use lin_lists::Many;
 use std::alloc::Global;
 use std::process::Abort;
 use std::test::Fail;
@@ -125,7 +126,7 @@ fn one_place(alloc: Global, len: u8, pid: Option<u8>, place: Place) -> Result<La
     Ok(Layout {
         len,
         pid,
-        places: Places::new(Vec::from_array(alloc, [place])?),
+        places: Many::new(Vec::from_array(alloc, [place])?),
     })
 }
 
@@ -134,10 +135,7 @@ fn packed_frames(rt: HostRuntime) -> Result<(), Fail> {
     let light = Layout {
         len: 2,
         pid: None,
-        places: Places::new(Vec::from_array(
-            rt.alloc(),
-            [scalar_place(0, 4), scalar_place(4, 10)],
-        )?),
+        places: Many::new(Vec::from_array(rt.alloc(), [scalar_place(0, 4), scalar_place(4, 10)])?),
     };
     assert!(rt; light.is_good());
     for (level, byte) in [(2, 0x52), (3, 0x53)] {
@@ -230,7 +228,7 @@ fn layouts(rt: HostRuntime) -> Result<(), Fail> {
         !Layout {
             len: 1,
             pid: None,
-            places: Places::new(overlapping)
+            places: Many::new(overlapping)
         }
         .is_good()
     );

@@ -17,7 +17,8 @@ use crate::node_attributes::NodeBlocks;
 use crate::number_values;
 use crate::section::{SectionWord, section_word};
 use crate::token::TokenKind;
-use lin_description::{Name, Number, Place, Text};
+use lin_description::{Name, Number, Place};
+use lin_lists::Text;
 use std::alloc::Global;
 use std::marker::Model;
 

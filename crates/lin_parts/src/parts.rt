@@ -3,8 +3,8 @@
 ghost use Rattle.std.specs.Prelude.{◌≡◌};
 ghost use Rattle.lin_parts.specs.Rules.{is_array, place_at};
 
-use lin_description::{Many, Text};
 use lin_frame::{Layout, Place, SumKind, Value};
+use lin_lists::{Many, Text};
 
 /// A node: the commander (number 0) or a responder. `nad` is its diagnostic address (ISO 17987-2), where it has one.
 #[derive(Drop)]

@@ -3,7 +3,7 @@
 ghost use Rattle.std.specs.Prelude.{◌≡◌, ◌≤◌, ◌↔◌, All, IsTrue, length};
 ghost use Rattle.lin_parts.specs.Rules.{IsCommanders, AreSporadic};
 
-use lin_description::Many;
+use lin_lists::Many;
 use lin_parts::Parts;
 
 fn is_few(sporadic: &[Many<u16>]) -> bool

@@ -4,8 +4,8 @@ ghost use Rattle.std.specs.Prelude.{◌≡◌, ℕ, length, IfOk};
 ghost use Rattle.lin_schedule.specs.Walker.{Walks};
 
 use lin_cluster::{Cluster, Entry, EventFrame, Line, Node, Parts, SignalFrame, Table};
-use lin_description::{Many, Text};
-use lin_frame::{Layout, Places, SumKind};
+use lin_frame::{Layout, SumKind};
+use lin_lists::{Many, Text};
 use lin_rules::is_cluster;
 use lin_schedule::{Due, Walker, entries_in_turn, excursions_run_once};
 use std::alloc::{AllocError, Global};
@@ -39,7 +39,7 @@ fn frame(alloc: Global, pid: u8, publisher: u8) -> SignalFrame {
         layout: Layout {
             len: 2,
             pid: if publisher == 0 { None } else { Some(pid) },
-            places: Places::new(Vec::new(alloc)),
+            places: Many::new(Vec::new(alloc)),
         },
         signals: Many::new(Vec::new(alloc)),
     }

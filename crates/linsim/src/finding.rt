@@ -1,7 +1,7 @@
 //! The lines of findings.
 
 use lin_cluster::Finding;
-use lin_description::Many;
+use lin_lists::Many;
 use std::fmt;
 
 /// What a finding is called; the variant's number is the finding's.

@@ -7,8 +7,9 @@ ghost use Rattle.lin_cluster.specs.Described.{frame_number, signal_number, signa
 ghost use Rattle.lin_cluster.specs.Fitting.{FitsFrame, FitsNumbers};
 
 use super::numbers::{frame_number, node_number, signal_number, table_number};
-use lin_description::{Description, Frame, Many, Name, PlacedSignal, Sporadic};
-use lin_frame::{FrameId, Layout, Place, Places, SumKind, protected};
+use lin_description::{Description, Frame, Name, PlacedSignal, Sporadic};
+use lin_frame::{FrameId, Layout, Place, SumKind, protected};
+use lin_lists::Many;
 use lin_parts::{EventFrame, Signal, SignalFrame};
 use std::alloc::{AllocError, Global};
 
@@ -62,7 +63,7 @@ fn places_of(
     d: &Description,
     signals: &[Signal],
     placed: &[PlacedSignal],
-) -> Result<Places, AllocError>
+) -> Result<Many<Place>, AllocError>
     requires few { length d.now.signals ≤ 1024 }
     requires all { signals.now ≡ signals_of d.now }
     requires fit { All (λ p. p.offset.value < 2 ^ 8) placed.now }
@@ -72,7 +73,7 @@ fn places_of(
     for one in placed {
         places.push(place_of(d, signals, one))?;
     }
-    Ok(Places::new(places))
+    Ok(Many::new(places))
 }
 
 fn signals_in(

@@ -7,7 +7,8 @@ ghost use Rattle.lin_cluster.specs.Described.{is_block_of, described_nad, respon
 ghost use Rattle.lin_cluster.specs.Fitting.{FitsNad};
 
 use super::numbers::node_number;
-use lin_description::{Attributes, Description, Many, Name, Text};
+use lin_description::{Attributes, Description, Name};
+use lin_lists::{Many, Text};
 use lin_parts::Node;
 use std::alloc::{AllocError, Global};
 

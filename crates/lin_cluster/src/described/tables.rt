@@ -5,7 +5,8 @@ ghost use Rattle.lin_cluster.specs.Described.{frame_entry, described_entry, desc
 ghost use Rattle.lin_cluster.specs.Fitting.{FitsNumbers};
 
 use super::numbers::{event_number, frame_number, sporadic_number};
-use lin_description::{Description, Many, Name, TableEntry, Text};
+use lin_description::{Description, Name, TableEntry};
+use lin_lists::{Many, Text};
 use lin_parts::{Entry, Line, Table};
 use std::alloc::{AllocError, Global};
 

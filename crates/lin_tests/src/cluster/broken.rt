@@ -5,8 +5,8 @@ use super::building::{
     line, nodes, numbers, right_key, signals, sporadic, tables,
 };
 use lin_cluster::{Entry, Line, Node, Parts, Signal, Table};
-use lin_description::{Many, Text};
 use lin_frame::{Place, SumKind, Value};
+use lin_lists::{Many, Text};
 use lin_rules::is_cluster;
 use std::alloc::{AllocError, Global};
 use std::test::Fail;

@@ -2,8 +2,8 @@
 
 use arrayvec::ArrayVec;
 use lin_cluster::{Entry, EventFrame, Line, Node, Parts, Signal, SignalFrame, Table};
-use lin_description::{Many, Text};
-use lin_frame::{Layout, Place, Places, SumKind, Value, ValueBytes};
+use lin_frame::{Layout, Place, SumKind, Value, ValueBytes};
+use lin_lists::{Many, Text};
 use std::alloc::{AllocError, Global};
 
 pub(super) type Made<T> = Result<Many<T>, AllocError>;
@@ -76,7 +76,7 @@ pub(super) fn frames(alloc: Global, rows: &[FrameRow]) -> Made<SignalFrame> {
             layout: Layout {
                 len: row.len,
                 pid: row.own,
-                places: Places::new(Vec::from_slice(alloc, row.places)?),
+                places: Many::new(Vec::from_slice(alloc, row.places)?),
             },
             signals: numbers(alloc, row.signals)?,
         })?;

@@ -2,8 +2,8 @@
 
 use super::building::{b, events, frames, line, sporadic, tables};
 use lin_cluster::{Cluster, Entry, Parts, Table};
-use lin_description::Many;
 use lin_frame::{SumKind, Value};
+use lin_lists::Many;
 use lin_rules::is_cluster;
 use std::alloc::{AllocError, Global};
 use std::process::Abort;

@@ -5,7 +5,7 @@ ghost use Rattle.std.specs.Prelude.{◌≡◌, ◌≤◌, ◌∷◌, length, IfO
 use std::alloc::{AllocError, Global};
 use std::marker::Model;
 
-/// Bytes of an LDF text, as a name. Contracts see them as a list.
+/// Bytes of a text, as a name. Contracts see them as a list.
 #[derive(Debug, Drop)]
 pub struct Text {
     bytes: Vec<u8>,
