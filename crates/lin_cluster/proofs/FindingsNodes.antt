@@ -1,11 +1,10 @@
 -- Publishers that are compared by the numbers of their nodes.
-use Rattle.std.proofs.Common.{◌≡◌, ◌<◌, ℕ, suc, ◌+◌, Bool, true, false, cond, List, [], ◌∷◌, length, get_or, refl, sym, ap, ◌∙◌, arith, add-one, one-add}
-use Rattle.std.specs.Prelude.{Option, Some, None, is_some, find, not, ◌==◌, ◌&&◌, ◌||◌, nat_lt, slice_get, option_and_then}
-use Rattle.std.specs.List.{list_any, enumerate_from, position_or_len}
-use Rattle.std.specs.Option.{option_map, option_map_or}
+use Rattle.std.proofs.Common.{◌≡◌, ◌<◌, ◌≤◌, ℕ, ◌+◌, Bool, true, false, cond, List, length, refl, sym, ap, subst, ◌∙◌, arith, one-add}
+use Rattle.std.specs.Prelude.{Option, Some, None, is_some, not, ◌==◌, ◌&&◌, ◌||◌, nat_lt, slice_get, option_and_then}
+use Rattle.std.specs.List.{list_any, position_or_len}
+use Rattle.std.specs.Option.{option_map_or}
 use Rattle.std.specs.Str.{bytes_eq}
 use Rattle.std.proofs.lemmas.Bool.{eqb-true, eq-eqb, lt-ltb}
-use Rattle.std.proofs.lemmas.List.FromFn.{get_or-enumerate_from}
 use Rattle.std.proofs.Math.Dec.{eqb-suc-zero}
 use Rattle.lin_cluster.specs.Described.{node_names, node_number}
 use Rattle.lin_cluster.specs.FindingsFrames.{wrong_publisher_at}
@@ -14,33 +13,30 @@ use Rattle.lin_cluster.specs.FindingsNames.{at_name, when, same_name, is_node, i
 use Rattle.lin_cluster.specs.FindingsNodes.{node_of, is_number, is_behind_commander, are_two, wrong_publisher_by}
 use Rattle.lin_cluster.specs.FindingsTables.{has_publisher, differs_from_first, is_in_front, is_bad_member, is_wrong_member}
 use Rattle.lin_cluster.proofs.KnownNames.{node-same, same-node}
-use Rattle.lin_cluster.proofs.Named.{same-text, text-same}
+use Rattle.lin_cluster.proofs.Named.{same-text, text-same, within-any, past-any}
 use Rattle.lin_description.specs.declared.description.Description.{Description}
 use Rattle.lin_description.specs.declared.description.Frame.{Frame}
 use Rattle.lin_description.specs.declared.description.Name.{Name}
 
--- an item behind the first, with its number
-pub item-behind : {X : Type 0} (first : X) (xs : List X) (i : ℕ) (x : X) → i < length xs → get_or xs i x ≡ x → get_or (enumerate_from 0 (first ∷ xs)) (i + 1) (i + 1, x) ≡ (i + 1, x)
-item-behind first xs i x lt is =
-    let within : i + 1 < suc (length xs) = omega arith
-    in let place : 0 + (i + 1) ≡ i + 1 = omega arith
-    in let item : get_or (first ∷ xs) (i + 1) x ≡ x = rw add-one is
-    in get_or-enumerate_from 0 (first ∷ xs) (i + 1) (i + 1, x) within ∙ (λ j. (place j, item j))
+known-by : (b any : Bool) (k : ℕ) → b ≡ false → any ≡ true → Some (1 + k) ≡ cond (b || any) (Some (cond (not b) (1 + k) 0)) None
+known-by true any k e f = absurd (cc)
+known-by false true k e f = refl
+known-by false false k e f = absurd (cc)
 
--- the number of the first that passes, where one does
-pub numbered : {X : Type 0} (p : X → Bool) (k : ℕ) (xs : List X) → option_map (λ x. x.0) (find (λ x. p x.1) (enumerate_from k xs)) ≡ cond (list_any p xs) (Some (k + position_or_len p xs)) None
-numbered p k [] = refl
-numbered p k (x ∷ xs) =
-    elim (p x) as (λ b. option_map (λ y. y.0) (cond b (Some (k, x)) (find (λ y. p y.1) (enumerate_from (k + 1) xs))) ≡ cond (b || list_any p xs) (Some (k + cond (not b) (1 + position_or_len p xs) 0)) None) [
-      | true ↦ ap Some (omega arith)
-      | false ↦ numbered p (k + 1) xs ∙ ap (λ n. cond (list_any p xs) (Some n) None) (omega arith)
-    ]
+-- the number of a responder
+pub responder-numbered : (d : Description) (n : Name) (k : ℕ) → same_name d.master n ≡ false → k ≡ position_or_len (λ m. same_name m n) d.slaves → k < length d.slaves → Some (1 + k) ≡ node_of d n
+responder-numbered d n k other is lt =
+    ap (λ j. Some (1 + j)) is ∙ known-by (same_name d.master n) (list_any (λ m. same_name m n) d.slaves) (position_or_len (λ m. same_name m n) d.slaves) other (within-any (λ m. same_name m n) d.slaves (subst (λ j. j < length d.slaves) is lt))
 
-none-before : (k : ℕ) → 0 + k ≡ k
-none-before k = omega arith
+unknown-by : (b any : Bool) (k : ℕ) → b ≡ false → any ≡ false → None ≡ cond (b || any) (Some (cond (not b) (1 + k) 0)) None
+unknown-by true any k e f = absurd (cc)
+unknown-by false true k e f = absurd (cc)
+unknown-by false false k e f = refl
 
-pub node-numbered : (d : Description) (n : Name) → option_map (λ x. x.0) (find (λ x. bytes_eq x.1.text n.text) (enumerate_from 0 (node_names d))) ≡ node_of d n
-node-numbered d n = numbered (λ m. bytes_eq m.text n.text) 0 (node_names d) ∙ ap (λ k. cond (is_node d n) (Some k) None) (none-before (node_number d n))
+-- and where the name is no node's
+pub no-node : (d : Description) (n : Name) (k : ℕ) → same_name d.master n ≡ false → k ≡ position_or_len (λ m. same_name m n) d.slaves → length d.slaves ≤ k → None ≡ node_of d n
+no-node d n k other is past =
+    unknown-by (same_name d.master n) (list_any (λ m. same_name m n) d.slaves) (position_or_len (λ m. same_name m n) d.slaves) other (past-any (λ m. same_name m n) d.slaves (subst (λ j. length d.slaves ≤ j) is past))
 
 some-by : {A : Type 0} (b : Bool) (x : A) → is_some (cond b (Some x) None) ≡ b
 some-by true x = refl

@@ -3,11 +3,12 @@ pub mod Described
 pub mod FindingsNames
 pub mod FindingsFrames
 pub mod FindingsTables
-pub mod FindingsMaps
 pub mod FindingsMembers
 pub mod FindingsNodes
 pub mod FindingsRanges
 pub mod FindingsPlaces
 pub mod FindingsRepeats
 pub mod Findings
+pub mod Known
+pub mod Names
 pub mod Fitting

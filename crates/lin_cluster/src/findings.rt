@@ -6,7 +6,6 @@ mod judged;
 mod known;
 mod limits;
 mod members;
-mod numbers;
 mod overlaps;
 mod places;
 mod ranges;

@@ -5,6 +5,7 @@ mod checks;
 mod described;
 mod finding;
 mod findings;
+mod names;
 
 pub use checks::check;
 pub use finding::{CheckFault, Finding};

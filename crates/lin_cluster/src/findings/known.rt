@@ -2,14 +2,11 @@
 
 ghost use Rattle.std.specs.Prelude.{◌≡◌, IfOk};
 ghost use Rattle.std.specs.Option.{option_copied};
+ghost use Rattle.lin_cluster.specs.Described.{signal_number, frame_number, sporadic_number, event_number, table_number};
 ghost use Rattle.lin_cluster.specs.FindingsNames.{is_node, is_responder, signal_named, frame_named, sporadic_named, event_named, table_named, is_any_frame, is_diagnostic, carries_frame, is_event_entry};
 ghost use Rattle.lin_cluster.specs.FindingsNodes.{node_of, is_behind_commander};
 
-use super::numbers::{
-    ByName, events_by_name, frames_by_name, nodes_by_name, signals_by_name, sporadics_by_name,
-    tables_by_name,
-};
-use indexmap::IndexMap;
+use crate::names::ByName;
 use lin_description::{Description, EventFrame, Frame, Name, Signal, Sporadic, Table, TableEntry};
 use std::alloc::{AllocError, Global};
 use std::marker::Model;
@@ -38,29 +35,63 @@ pub(super) fn is_behind_commander(node: Option<usize>) -> bool
     }
 }
 
-/// A description and what its names name. Contracts see the description.
+/// The frames of the three kinds by their names.
 #[derive(Drop)]
+struct FrameNames<'a> {
+    frames: ByName<'a, Frame>,
+    sporadic: ByName<'a, Sporadic>,
+    events: ByName<'a, EventFrame>,
+}
+
+fn frame_names<'a>(
+    alloc: Global,
+    description: &'a Description,
+) -> Result<FrameNames<'a>, AllocError>
+    ensures frames { IfOk result (λ n. n.frames ≡ description.now.frames) }
+    ensures sporadic { IfOk result (λ n. n.sporadic ≡ description.now.sporadic) }
+    ensures events { IfOk result (λ n. n.events ≡ description.now.events) }
+{
+    let frames = ByName::new(alloc, description.frames())?;
+    let sporadic = ByName::new(alloc, description.sporadic())?;
+    let events = ByName::new(alloc, description.events())?;
+    Ok(FrameNames {
+        frames,
+        sporadic,
+        events,
+    })
+}
+
+/// A description and what its names name. Contracts see the description.
 pub(super) struct Known<'a> {
     description: &'a Description,
-    nodes: IndexMap<&'a [u8], usize>,
+    slaves: ByName<'a, Name>,
     signals: ByName<'a, Signal>,
-    frames: ByName<'a, Frame>,
-    sporadics: ByName<'a, Sporadic>,
-    events: ByName<'a, EventFrame>,
+    kinds: FrameNames<'a>,
     tables: ByName<'a, Table>,
 }
 
 impl<'a> Model for Known<'a> {
-    ghost use Rattle.std.specs.List.{enumerate_from};
-    ghost use Rattle.lin_cluster.specs.Described.{node_names};
-    ghost use Rattle.lin_cluster.specs.FindingsMaps.{Finds, FindsFirst};
+    ghost use Rattle.lin_cluster.specs.Known.{IsKnown};
     ghost use Rattle.lin_description.specs.declared.description.Description.{Description};
 
     ghost Value = { Description };
 
     ghost view = { λ k. k.description.now };
 
-    ghost invariant = { λ k. Finds (λ n. n.1.text) (λ n. n.0) (enumerate_from 0 (node_names k.description.now)) k.nodes × FindsFirst (λ s. s.name.text) k.description.now.signals k.signals × FindsFirst (λ s. s.name.text) k.description.now.frames k.frames × FindsFirst (λ s. s.name.text) k.description.now.sporadic k.sporadics × FindsFirst (λ s. s.name.text) k.description.now.events k.events × FindsFirst (λ s. s.name.text) k.description.now.tables k.tables };
+    ghost invariant = { λ k. IsKnown k.description.now k.slaves k.signals k.kinds.frames k.kinds.sporadic k.kinds.events k.tables };
+}
+
+// Written out, so that what owns one lets it go in one step.
+impl<'a> Drop for Known<'a> {
+    fn drop(self) {
+        let Known {
+            description: _,
+            slaves: _slaves,
+            signals: _signals,
+            kinds: _kinds,
+            tables: _tables,
+        } = self;
+    }
 }
 
 impl<'a> Known<'a> {
@@ -68,19 +99,15 @@ impl<'a> Known<'a> {
     pub(super) fn new(alloc: Global, description: &'a Description) -> Result<Known<'a>, AllocError>
         ensures { IfOk result (λ k. k ≡ description.now) }
     {
-        let nodes = nodes_by_name(alloc, description.master(), description.slaves())?;
-        let signals = signals_by_name(alloc, description.signals())?;
-        let frames = frames_by_name(alloc, description.frames())?;
-        let sporadics = sporadics_by_name(alloc, description.sporadic())?;
-        let events = events_by_name(alloc, description.events())?;
-        let tables = tables_by_name(alloc, description.tables())?;
+        let kinds = frame_names(alloc, description)?;
+        let slaves = ByName::new(alloc, description.slaves())?;
+        let signals = ByName::new(alloc, description.signals())?;
+        let tables = ByName::new(alloc, description.tables())?;
         Ok(Known {
             description,
-            nodes,
+            slaves,
             signals,
-            frames,
-            sporadics,
-            events,
+            kinds,
             tables,
         })
     }
@@ -95,9 +122,14 @@ impl<'a> Known<'a> {
     pub(super) fn node(&self, name: &Name) -> Option<usize>
         ensures { result ≡ node_of self.now name.now }
     {
-        match self.nodes.get(&name.text.as_slice()) {
-            Some(number) => Some(*number),
-            None => None,
+        if self.description.master.text.as_slice() == name.text.as_slice() {
+            return Some(0);
+        }
+        let number = self.slaves.number(name);
+        if number < self.description.slaves().len() {
+            Some(1 + number)
+        } else {
+            None
         }
     }
 
@@ -116,46 +148,61 @@ impl<'a> Known<'a> {
     pub(super) fn signal(&self, name: &Name) -> Option<&'a Signal>
         ensures { option_copied result ≡ signal_named self.now name.now }
     {
-        match self.signals.get(&name.text.as_slice()) {
-            Some(signal) => Some(*signal),
-            None => None,
-        }
+        self.signals.find(name)
     }
 
     pub(super) fn frame(&self, name: &Name) -> Option<&'a Frame>
         ensures { option_copied result ≡ frame_named self.now name.now }
     {
-        match self.frames.get(&name.text.as_slice()) {
-            Some(frame) => Some(*frame),
-            None => None,
-        }
+        self.kinds.frames.find(name)
     }
 
     pub(super) fn sporadic(&self, name: &Name) -> Option<&'a Sporadic>
         ensures { option_copied result ≡ sporadic_named self.now name.now }
     {
-        match self.sporadics.get(&name.text.as_slice()) {
-            Some(frame) => Some(*frame),
-            None => None,
-        }
+        self.kinds.sporadic.find(name)
     }
 
     pub(super) fn event(&self, name: &Name) -> Option<&'a EventFrame>
         ensures { option_copied result ≡ event_named self.now name.now }
     {
-        match self.events.get(&name.text.as_slice()) {
-            Some(event) => Some(*event),
-            None => None,
-        }
+        self.kinds.events.find(name)
     }
 
     pub(super) fn table(&self, name: &Name) -> Option<&'a Table>
         ensures { option_copied result ≡ table_named self.now name.now }
     {
-        match self.tables.get(&name.text.as_slice()) {
-            Some(table) => Some(*table),
-            None => None,
-        }
+        self.tables.find(name)
+    }
+
+    pub(super) fn signal_number(&self, name: &Name) -> usize
+        ensures { result ≡ signal_number self.now name.now }
+    {
+        self.signals.number(name)
+    }
+
+    pub(super) fn frame_number(&self, name: &Name) -> usize
+        ensures { result ≡ frame_number self.now name.now }
+    {
+        self.kinds.frames.number(name)
+    }
+
+    pub(super) fn sporadic_number(&self, name: &Name) -> usize
+        ensures { result ≡ sporadic_number self.now name.now }
+    {
+        self.kinds.sporadic.number(name)
+    }
+
+    pub(super) fn event_number(&self, name: &Name) -> usize
+        ensures { result ≡ event_number self.now name.now }
+    {
+        self.kinds.events.number(name)
+    }
+
+    pub(super) fn table_number(&self, name: &Name) -> usize
+        ensures { result ≡ table_number self.now name.now }
+    {
+        self.tables.number(name)
     }
 
     /// Whether the name is a frame's of any of the three kinds.

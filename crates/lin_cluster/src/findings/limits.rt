@@ -8,75 +8,16 @@ use super::known::Known;
 use super::slots::is_speed;
 use super::words::{at_name, at_number, push_when};
 use crate::finding::Finding;
-use lin_description::{EventFrame, Frame, Name, Number, Signal, Sporadic, Table, TableEntry};
+use crate::names::Named;
+use lin_description::{Number, Table, TableEntry};
 use std::alloc::AllocError;
 
 #[tactic(auto, using(crate::proofs::FindingsLists::past_none))]
-fn past_slave(found: &mut Vec<Finding>, slaves: &[Name]) -> Result<(), AllocError>
-    ensures { OnOk result (found.new.items ≡ found.old.items ++ past (λ n. n) (slice_get slaves.now 15)) }
+fn past<T: Named>(found: &mut Vec<Finding>, all: &[T], limit: usize) -> Result<(), AllocError>
+    ensures { OnOk result (found.new.items ≡ found.old.items ++ past T.name_of (slice_get all.now limit)) }
 {
-    match slaves.get(15) {
-        Some(slave) => Ok(found.push(at_name(17, slave))?),
-        None => Ok(()),
-    }
-}
-
-#[tactic(auto, using(crate::proofs::FindingsLists::past_none))]
-fn past_signal(found: &mut Vec<Finding>, signals: &[Signal]) -> Result<(), AllocError>
-    ensures { OnOk result (found.new.items ≡ found.old.items ++ past (λ s. s.name) (slice_get signals.now 1024)) }
-{
-    match signals.get(1024) {
-        Some(signal) => Ok(found.push(at_name(17, &signal.name))?),
-        None => Ok(()),
-    }
-}
-
-#[tactic(auto, using(crate::proofs::FindingsLists::past_none))]
-fn past_frame(found: &mut Vec<Finding>, frames: &[Frame]) -> Result<(), AllocError>
-    ensures { OnOk result (found.new.items ≡ found.old.items ++ past (λ f. f.name) (slice_get frames.now 60)) }
-{
-    match frames.get(60) {
-        Some(frame) => Ok(found.push(at_name(17, &frame.name))?),
-        None => Ok(()),
-    }
-}
-
-#[tactic(auto, using(crate::proofs::FindingsLists::past_none))]
-fn past_sporadic(found: &mut Vec<Finding>, frames: &[Sporadic]) -> Result<(), AllocError>
-    ensures { OnOk result (found.new.items ≡ found.old.items ++ past (λ f. f.name) (slice_get frames.now 256)) }
-{
-    match frames.get(256) {
-        Some(frame) => Ok(found.push(at_name(17, &frame.name))?),
-        None => Ok(()),
-    }
-}
-
-#[tactic(auto, using(crate::proofs::FindingsLists::past_none))]
-fn past_event(found: &mut Vec<Finding>, events: &[EventFrame]) -> Result<(), AllocError>
-    ensures { OnOk result (found.new.items ≡ found.old.items ++ past (λ e. e.name) (slice_get events.now 60)) }
-{
-    match events.get(60) {
-        Some(event) => Ok(found.push(at_name(17, &event.name))?),
-        None => Ok(()),
-    }
-}
-
-#[tactic(auto, using(crate::proofs::FindingsLists::past_none))]
-fn past_table(found: &mut Vec<Finding>, tables: &[Table]) -> Result<(), AllocError>
-    ensures { OnOk result (found.new.items ≡ found.old.items ++ past (λ t. t.name) (slice_get tables.now 256)) }
-{
-    match tables.get(256) {
-        Some(table) => Ok(found.push(at_name(17, &table.name))?),
-        None => Ok(()),
-    }
-}
-
-#[tactic(auto, using(crate::proofs::FindingsLists::past_none))]
-fn past_entry(found: &mut Vec<Finding>, entries: &[TableEntry]) -> Result<(), AllocError>
-    ensures { OnOk result (found.new.items ≡ found.old.items ++ past (λ e. e.name) (slice_get entries.now 1024)) }
-{
-    match entries.get(1024) {
-        Some(entry) => Ok(found.push(at_name(17, &entry.name))?),
+    match all.get(limit) {
+        Some(one) => Ok(found.push(at_name(17, one.name()))?),
         None => Ok(()),
     }
 }
@@ -106,7 +47,7 @@ fn limits_of_table(found: &mut Vec<Finding>, table: &Table) -> Result<(), AllocE
     ensures { OnOk result (found.new.items ≡ found.old.items ++ table_limits table.now) }
 {
     let entries = table.entries.as_slice();
-    past_entry(found, entries)?;
+    past(found, entries, 1024)?;
     long_delays(found, entries)
 }
 
@@ -125,17 +66,17 @@ fn responder_limits(found: &mut Vec<Finding>, known: &Known) -> Result<(), Alloc
     let description = known.description();
     let slaves = description.slaves();
     push_when(found, slaves.is_empty(), at_name(17, description.master()))?;
-    past_slave(found, slaves)
+    past(found, slaves, 15)
 }
 
 fn frame_limits(found: &mut Vec<Finding>, known: &Known) -> Result<(), AllocError>
     ensures { OnOk result (found.new.items ≡ found.old.items ++ frame_limits known.now) }
 {
     let description = known.description();
-    past_signal(found, description.signals())?;
-    past_frame(found, description.frames())?;
-    past_sporadic(found, description.sporadic())?;
-    past_event(found, description.events())
+    past(found, description.signals(), 1024)?;
+    past(found, description.frames(), 60)?;
+    past(found, description.sporadic(), 256)?;
+    past(found, description.events(), 60)
 }
 
 fn time_limits(found: &mut Vec<Finding>, known: &Known) -> Result<(), AllocError>
@@ -155,7 +96,7 @@ pub(super) fn limits_passed(found: &mut Vec<Finding>, known: &Known) -> Result<(
     let tables = known.description().tables();
     responder_limits(found, known)?;
     frame_limits(found, known)?;
-    past_table(found, tables)?;
+    past(found, tables, 256)?;
     table_limits(found, tables)?;
     time_limits(found, known)
 }

@@ -1,14 +1,21 @@
-use Rattle.std.proofs.Common.{ap, ◌∙◌}
-use Rattle.std.specs.Prelude.{find}
-use Rattle.std.specs.List.{enumerate_from}
-use Rattle.std.specs.Option.{option_map}
+use Rattle.std.proofs.Common.{◌≤◌, ◌<◌, List, length, subst, sym, ap, ◌∙◌}
+use Rattle.std.specs.List.{position_or_len}
 use Rattle.std.specs.Str.{bytes_eq}
-use Rattle.lin_cluster.specs.Described.{node_names}
-use Rattle.lin_cluster.proofs.FindingsNodes.{node-numbered}
+use Rattle.lin_cluster.specs.FindingsNames.{same_name}
+use Rattle.lin_cluster.proofs.FindingsNodes.{responder-numbered, no-node}
 use Rattle.lin_cluster.proofs.findings.known.Known.node.Goals as goal
+use Rattle.lin_description.specs.declared.description.Name.{Name}
 
-pub returns-in-Some : goal.returns-in-Some
-returns-in-Some c = rw (← c.self.view_is) (c.in-Some.ensures.value ∙ c.self.invariant.0 c.as_slice.result.now ∙ ap (λ q. option_map (λ n. n.0) (find (λ n. bytes_eq n.1.text q) (enumerate_from 0 (node_names c.self.inside.description.now)))) c.as_slice.ensures ∙ node-numbered c.self.inside.description.now c.args.name.now)
+pub returns-then-number-slaves : goal.returns-then-number-slaves
+returns-then-number-slaves c =
+    rw (← c.self.view_is) (responder-numbered c.self.inside.description.now c.args.name.now c.number-number.result
+    ((λ i. bytes_eq (sym c.as_slice.ensures i) (sym c.as_slice-2.ensures i)) ∙ sym c.eq.ensures ∙ c.if-eq.false)
+    (c.number-number.ensures ∙ ap (position_or_len (λ (x : Name). same_name x c.args.name.now)) c.self.invariant.0)
+    (subst (λ (xs : List Name). c.number-number.result < length xs) c.slaves.ensures.value c.if-number-slaves.true))
 
-pub returns-in-None : goal.returns-in-None
-returns-in-None c = rw (← c.self.view_is) (c.in-None.ensures.value ∙ c.self.invariant.0 c.as_slice.result.now ∙ ap (λ q. option_map (λ n. n.0) (find (λ n. bytes_eq n.1.text q) (enumerate_from 0 (node_names c.self.inside.description.now)))) c.as_slice.ensures ∙ node-numbered c.self.inside.description.now c.args.name.now)
+pub returns-else-number-slaves : goal.returns-else-number-slaves
+returns-else-number-slaves c =
+    rw (← c.self.view_is) (no-node c.self.inside.description.now c.args.name.now c.number-number.result
+    ((λ i. bytes_eq (sym c.as_slice.ensures i) (sym c.as_slice-2.ensures i)) ∙ sym c.eq.ensures ∙ c.if-eq.false)
+    (c.number-number.ensures ∙ ap (position_or_len (λ (x : Name). same_name x c.args.name.now)) c.self.invariant.0)
+    (subst (λ (xs : List Name). length xs ≤ c.number-number.result) c.slaves.ensures.value c.if-number-slaves.false))

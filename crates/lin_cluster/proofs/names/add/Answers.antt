@@ -3,7 +3,7 @@ use Rattle.std.specs.Str.{bytes_eq}
 use Rattle.indexmap.specs.IndexMap.{get_by}
 use Rattle.std.proofs.lemmas.Map.Text.{hash_map_updates_str}
 use Rattle.lin_cluster.proofs.FindingsMaps.{added, none_there}
-use Rattle.lin_cluster.proofs.findings.numbers.add.Goals as goal
+use Rattle.lin_cluster.proofs.names.add.Goals as goal
 
 pub returns-in_ok-insert : goal.returns-in_ok-insert
 returns-in_ok-insert g c =
