@@ -1,6 +1,6 @@
 //! Tokens that are left, and the steps over one of them.
 
-ghost use Rattle.std.specs.Prelude.{◌≡◌, ◌++◌, ◌∷◌, [], length, IfOk};
+ghost use Rattle.std.specs.Prelude.{◌≡◌, ◌||◌, ◌++◌, ◌∷◌, [], length, IfOk};
 ghost use Rattle.std.specs.Str.{bytes_eq};
 ghost use Rattle.std.specs.List.{list_any};
 ghost use Rattle.lin_ldf.specs.Symbols.{is_kind, symbol, symbols};
@@ -8,7 +8,8 @@ ghost use Rattle.lin_ldf.specs.Forms.{Gives, mark, keyword, token};
 ghost use Rattle.lin_ldf.specs.Loops.{is_next, tail};
 ghost use Rattle.lin_ldf.specs.UpTo.{front_kind};
 ghost use Rattle.lin_ldf.specs.Words.{word, opening, declared, int, dec, is_word_next};
-ghost use Rattle.lin_ldf.specs.Grammar.{header_words, is_extra_word, no_extra, extra_word, without_quotes, protocol_text, with_node, front_section, is_end};
+ghost use Rattle.lin_ldf.specs.declared.token.TokenKind.TheVariants as kinds;
+ghost use Rattle.lin_ldf.specs.Grammar.{header_words, is_extra_word, no_extra, extra_word, without_quotes, protocol_of, protocol_text, with_node, front_section, is_end};
 
 use crate::fault::LdfFault;
 use crate::lexeme::Lexeme;
@@ -57,6 +58,22 @@ fn without_quotes(text: &[u8]) -> &[u8]
         &[]
     } else {
         &text[1..text.len() - 1]
+    }
+}
+
+fn is_protocol_text(kind: TokenKind) -> bool
+    ensures { result ≡ (is_kind kinds.Text kind || is_kind kinds.Number kind) }
+{
+    same_kind(TokenKind::Text, kind) || same_kind(TokenKind::Number, kind)
+}
+
+fn protocol_of<'a>(t: &Lexeme<'a>) -> &'a [u8]
+    ensures { result.now ≡ protocol_of (symbol t.now) }
+{
+    if same_kind(TokenKind::Text, t.kind) {
+        without_quotes(t.text)
+    } else {
+        t.text
     }
 }
 
@@ -257,13 +274,8 @@ impl<'a> Parser<'a> {
         ensures { Gives result self.new (protocol_text.read self.old) }
     {
         match self.tokens {
-            [t, rest @ ..] if same_kind(TokenKind::Text, t.kind) => {
-                let text = Text::copied(alloc, without_quotes(t.text))?;
-                self.tokens = rest;
-                Ok(text)
-            }
-            [t, rest @ ..] if same_kind(TokenKind::Number, t.kind) => {
-                let text = Text::copied(alloc, t.text)?;
+            [t, rest @ ..] if is_protocol_text(t.kind) => {
+                let text = Text::copied(alloc, protocol_of(t))?;
                 self.tokens = rest;
                 Ok(text)
             }
