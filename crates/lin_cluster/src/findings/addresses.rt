@@ -2,7 +2,7 @@
 
 ghost use Rattle.std.specs.Prelude.{◌≡◌, ◌++◌, OnOk, IfOk, nat_eq};
 ghost use Rattle.std.specs.List.{flat_map, filter_map, enumerate_from};
-ghost use Rattle.indexmap.specs.IndexSet.{contains, IsEmpty};
+ghost use Rattle.indexmap.specs.IndexSet.{contains};
 ghost use Rattle.lin_cluster.specs.FindingsFrames.{address, addresses, bad_nad, bad_nads, nad_twice, nads_twice};
 ghost use Rattle.lin_cluster.specs.FindingsNames.{at_number, when};
 
@@ -55,16 +55,12 @@ fn twice(found: &mut Vec<Finding>, earlier: &IndexSet<u32>, nad: &Number) -> Res
 }
 
 #[tactic(auto, using(crate::proofs::FindingsLists::each_all))]
-fn nads_twice(
-    found: &mut Vec<Finding>,
-    earlier: &mut IndexSet<u32>,
-    nads: &[Number],
-) -> Result<(), AllocError>
-    requires { IsEmpty earlier.old }
+fn nads_twice(alloc: Global, found: &mut Vec<Finding>, nads: &[Number]) -> Result<(), AllocError>
     ensures { OnOk result (found.new.items ≡ found.old.items ++ flat_map (nad_twice nads.now) (enumerate_from 0 nads.now)) }
 {
+    let mut earlier = IndexSet::new(alloc);
     for nad in nads {
-        twice(found, earlier, nad)?;
+        twice(found, &earlier, nad)?;
         earlier.insert(nad.value)?;
     }
     Ok(())
@@ -80,6 +76,5 @@ pub(super) fn bad_addresses(
 {
     let nads = addresses(alloc, known, known.description().attributes())?;
     bad_nads(found, nads.as_slice())?;
-    let mut earlier = IndexSet::new(alloc);
-    nads_twice(found, &mut earlier, nads.as_slice())
+    nads_twice(alloc, found, nads.as_slice())
 }

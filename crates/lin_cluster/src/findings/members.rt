@@ -3,7 +3,7 @@
 ghost use Rattle.std.specs.Prelude.{◌≡◌, ◌++◌, ◌||◌, ℕ, OnOk, true, not, ◌==◌, nat_eq, nat_lt, slice_get, option_and_then};
 ghost use Rattle.std.specs.List.{flat_map, list_any, enumerate_from};
 ghost use Rattle.std.specs.Option.{option_copied, option_map_or};
-ghost use Rattle.indexmap.specs.IndexSet.{contains, IsEmpty};
+ghost use Rattle.indexmap.specs.IndexSet.{contains};
 ghost use Rattle.lin_cluster.specs.FindingsMembers.{is_bad_behind, is_wrong_behind};
 ghost use Rattle.lin_cluster.specs.FindingsNames.{at_name, when, frame_named, knows, signal_named};
 ghost use Rattle.lin_cluster.specs.FindingsNodes.{node_of, is_number};
@@ -139,18 +139,18 @@ fn bad_member(
 
 #[tactic(auto, using(crate::proofs::FindingsLists::each_all))]
 fn bad_members_among(
+    alloc: Global,
     found: &mut Vec<Finding>,
-    publishers: &mut IndexSet<usize>,
     judged: &Judged,
     members: &[Name],
 ) -> Result<(), AllocError>
-    requires { IsEmpty publishers.old }
     ensures { OnOk result (found.new.items ≡ found.old.items ++ flat_map (bad_member_at judged.now members.now) (enumerate_from 0 members.now)) }
 {
     let first = first_frame(judged, members);
+    let mut publishers = IndexSet::new(alloc);
     for member in members {
-        bad_member(found, judged, first, publishers, member)?;
-        add_publisher(publishers, judged, member)?;
+        bad_member(found, judged, first, &publishers, member)?;
+        add_publisher(&mut publishers, judged, member)?;
     }
     Ok(())
 }
@@ -165,8 +165,7 @@ fn bad_members_in(
 {
     let members = event.members.as_slice();
     push_when(found, members.is_empty(), at_name(13, &event.name))?;
-    let mut publishers = IndexSet::new(alloc);
-    bad_members_among(found, &mut publishers, judged, members)
+    bad_members_among(alloc, found, judged, members)
 }
 
 fn bad_members_in_each(

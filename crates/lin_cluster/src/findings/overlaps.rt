@@ -3,8 +3,6 @@
 ghost use Rattle.std.specs.Prelude.{◌≡◌, ◌++◌, ◌+◌, ◌<◌, ◌||◌, ◌↔◌, ◌⊎◌, ℕ, List, Bool, true, OnOk};
 ghost use Rattle.std.specs.List.{flat_map, enumerate_from};
 ghost use Rattle.std.specs.Str.{bytes_eq};
-ghost use Rattle.std.specs.BTreeMap.{IsEmpty as HasNoRanges};
-ghost use Rattle.indexmap.specs.IndexMap.{IsEmpty};
 ghost use Rattle.lin_cluster.specs.FindingsFrames.{overlap_at, overlaps_in, signals_overlap};
 ghost use Rattle.lin_cluster.specs.FindingsMembers.{has_text};
 ghost use Rattle.lin_cluster.specs.FindingsNames.{at_number, knows, signal_named, when};
@@ -70,21 +68,20 @@ fn add_bits(ranges: &mut Ranges, known: &Known, placed: &PlacedSignal) -> Result
 }
 
 #[tactic(auto, using(crate::proofs::FindingsLists::each_all))]
-fn overlaps_among<'a>(
+fn overlaps_among(
+    alloc: Global,
     found: &mut Vec<Finding>,
     known: &Known,
-    names: &mut Names<'a>,
-    ranges: &mut Ranges,
-    all_placed: &'a [PlacedSignal],
+    all_placed: &[PlacedSignal],
 ) -> Result<(), AllocError>
-    requires no_names { IsEmpty names.old }
-    requires no_ranges { HasNoRanges ranges.old }
     ensures { OnOk result (found.new.items ≡ found.old.items ++ flat_map (overlap_at known.now all_placed.now) (enumerate_from 0 all_placed.now)) }
 {
+    let mut names = IndexMap::new(alloc);
+    let mut ranges = BTreeMap::new(alloc);
     for placed in all_placed {
-        overlap(found, known, names, ranges, placed)?;
-        add(names, placed.signal.text.as_slice(), ())?;
-        add_bits(ranges, known, placed)?;
+        overlap(found, known, &names, &ranges, placed)?;
+        add(&mut names, placed.signal.text.as_slice(), ())?;
+        add_bits(&mut ranges, known, placed)?;
     }
     Ok(())
 }
@@ -97,15 +94,7 @@ fn overlaps_in(
 ) -> Result<(), AllocError>
     ensures { OnOk result (found.new.items ≡ found.old.items ++ overlaps_in known.now frame.now) }
 {
-    let mut names = IndexMap::new(alloc);
-    let mut ranges = BTreeMap::new(alloc);
-    overlaps_among(
-        found,
-        known,
-        &mut names,
-        &mut ranges,
-        frame.placed.as_slice(),
-    )
+    overlaps_among(alloc, found, known, frame.placed.as_slice())
 }
 
 fn overlaps_in_each(
