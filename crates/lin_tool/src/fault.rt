@@ -1,0 +1,93 @@
+//! Why the program ends early.
+
+ghost use Rattle.std.specs.Prelude.{◌≡◌};
+ghost use Rattle.lin_tool.specs.Statuses.{status_of};
+
+use crate::findings::Findings;
+use lin_ldf::LdfFault;
+use lin_log::{ReplayFault, ScriptFault};
+use std::alloc::{AllocError, AllocFailed};
+use thiserror::Error;
+
+/// Why the program ends early. What a fault displays is its line on standard error, or its lines.
+#[derive(Debug, Drop, Error)]
+pub enum Fault {
+    /// The script's first line that is in no form, counted from 1.
+    #[error("script {line} bad line")]
+    BadLine { line: u64 },
+    /// The LDF text has a fault.
+    #[error("ldf {0}")]
+    Ldf(LdfFault),
+    /// The LDF text describes no cluster: a line for each reason.
+    #[error("{0}")]
+    Findings(Findings),
+    /// The LDF text is longer than 4,194,304 bytes.
+    #[error("ldf too long")]
+    LdfTooLong,
+    /// The script is longer than 16,777,216 bytes.
+    #[error("script too long")]
+    ScriptTooLong,
+    /// The cluster has no schedule table of the name that the command line gives.
+    #[error("no such table")]
+    NoSuchTable,
+    #[error("out of memory")]
+    OutOfMemory,
+    /// Standard input couldn't be read.
+    #[error("read failed")]
+    ReadFailed,
+    /// Standard output didn't take what was written.
+    #[error("write failed")]
+    WriteFailed,
+}
+
+impl Fault {
+    /// The exit status: 1 for a fault of the input, 3 for want of memory, 4 for a failed read or write. (0 is for a run without a
+    /// fault, and 2 for a wrong command line.)
+    pub fn status(&self) -> u8
+        ensures { result ≡ status_of self.now }
+    {
+        match self {
+            Fault::Ldf(_)
+            | Fault::Findings(_)
+            | Fault::LdfTooLong
+            | Fault::BadLine { .. }
+            | Fault::ScriptTooLong
+            | Fault::NoSuchTable => 1,
+            Fault::OutOfMemory => 3,
+            Fault::ReadFailed | Fault::WriteFailed => 4,
+        }
+    }
+}
+
+impl From<ScriptFault> for Fault {
+    fn from(fault: ScriptFault) -> Fault {
+        match fault {
+            ScriptFault::BadLine { line } => Fault::BadLine { line },
+            ScriptFault::TooLong => Fault::ScriptTooLong,
+            ScriptFault::ReadFailed => Fault::ReadFailed,
+            ScriptFault::OutOfMemory => Fault::OutOfMemory,
+        }
+    }
+}
+
+impl From<ReplayFault> for Fault {
+    fn from(fault: ReplayFault) -> Fault {
+        match fault {
+            ReplayFault::Script(fault) => Fault::from(fault),
+            ReplayFault::OutOfMemory => Fault::OutOfMemory,
+            ReplayFault::WriteFailed => Fault::WriteFailed,
+        }
+    }
+}
+
+impl From<AllocError> for Fault {
+    fn from(_error: AllocError) -> Fault {
+        Fault::OutOfMemory
+    }
+}
+
+impl<T: Drop> From<AllocFailed<T>> for Fault {
+    fn from(_error: AllocFailed<T>) -> Fault {
+        Fault::OutOfMemory
+    }
+}
