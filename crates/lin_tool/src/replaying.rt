@@ -1,12 +1,37 @@
 //! `linsim replay`: makes the steps of a script and writes their log.
 
-ghost use Rattle.std.specs.Prelude.{◌≤◌};
+ghost use Rattle.std.specs.Prelude.{◌≤◌, ◌<◌, length};
 
 use crate::describing::cluster_of_file;
 use crate::fault::Fault;
 use crate::opening::opening_table;
+use lin_parts::Cluster;
 use std::fs::Files;
 use std::io;
+
+/// Replays standard input over a cluster. (The cluster and the core are owned in different functions, since letting either go is long
+/// to prove.)
+fn replay_over<R: AllocGlobal + Input + Print>(
+    rt: &R,
+    cluster: Cluster,
+    table: u16,
+    capacity: usize,
+) -> Result<(), Fault>
+    requires table { table < length cluster.tables }
+    requires capacity { (1 ≤ capacity) × (capacity ≤ 1024) }
+{
+    let mut reader = rt.reader();
+    let mut writer = io::writer(rt);
+    let _core = lin_log::replay(
+        rt.alloc(),
+        cluster,
+        table,
+        capacity,
+        &mut reader,
+        &mut writer,
+    )?;
+    Ok(())
+}
 
 /// Reads the script on standard input, makes its steps over the cluster that the LDF text in the file at `path` describes, or without
 /// a path over the built-in one, and writes the log on standard output.
@@ -27,15 +52,5 @@ pub fn replay<R: AllocGlobal + Files + Input + Print>(
 {
     let cluster = cluster_of_file(rt, path)?;
     let table = opening_table(&cluster, table)?;
-    let mut reader = rt.reader();
-    let mut writer = io::writer(rt);
-    let _core = lin_log::replay(
-        rt.alloc(),
-        cluster,
-        table,
-        capacity,
-        &mut reader,
-        &mut writer,
-    )?;
-    Ok(())
+    replay_over(rt, cluster, table, capacity)
 }
