@@ -1,10 +1,7 @@
 //! The command line.
 
-use crate::fault::Fault;
-use clap::{Arg, Command, value_parser};
+use clap::{Arg, ArgMatches, Command, value_parser};
 use std::alloc::{AllocError, Global};
-use std::io::{Error, ErrorKind};
-use std::process::ExitCode;
 
 const STATUS_NOTE: &str =
     "Exit status: 0 done; 1 a fault of the input; 2 a wrong command line; 3 out of memory;\n4 a read or a write failed. A fault is one line on standard error.";
@@ -57,7 +54,7 @@ fn check<'a>(alloc: Global) -> Result<Command<'a>, AllocError> {
 }
 
 /// What the program takes.
-pub(crate) fn command<'a>(alloc: Global) -> Result<Command<'a>, AllocError> {
+fn command<'a>(alloc: Global) -> Result<Command<'a>, AllocError> {
     Command::new(alloc, "linsim")
         .version("0.1.0")
         .about("Simulates a LIN cluster with its schedules and its diagnostic transport")
@@ -67,11 +64,49 @@ pub(crate) fn command<'a>(alloc: Global) -> Result<Command<'a>, AllocError> {
         .subcommand(replay(alloc)?)
 }
 
-/// The exit status where the words of the command line couldn't be read: for want of memory, or since one isn't UTF-8.
-pub(crate) fn unread<R: Eprint>(rt: &R, error: &Error) -> Result<ExitCode, Fault> {
-    if error.kind() == ErrorKind::OutOfMemory {
-        return Err(Fault::OutOfMemory);
+/// What the command line asks for.
+#[derive(Clone, Copy)]
+pub(crate) enum Request<'a> {
+    /// `linsim check FILE`
+    Check {
+        file: &'a str,
+    },
+    /// `linsim replay [FILE] [--table T] [--capacity N]`
+    Replay {
+        file: Option<&'a str>,
+        table: Option<&'a str>,
+        capacity: u16,
+    },
+}
+
+fn request_of<'a>(matches: &ArgMatches<'a>) -> Option<Request<'a>> {
+    match matches.subcommand() {
+        Some(("check", found)) => Some(Request::Check {
+            file: found.get_str("file").unwrap_or(""),
+        }),
+        Some(("replay", found)) => Some(Request::Replay {
+            file: found.get_str("file"),
+            table: found.get_str("table"),
+            capacity: found.get_one::<u16>("capacity").unwrap_or(16),
+        }),
+        _ => None,
     }
-    let _ = eprintln!(rt; "error: an argument isn't valid UTF-8");
-    Ok(ExitCode::from(Fault::COMMAND_LINE))
+}
+
+/// What these words ask for, of which the first is the program's name.
+///
+/// # Errors
+/// What clap answers in place of matches: a mistake in the words, a text that they ask for, or want of memory.
+pub(crate) fn asked<'a>(
+    alloc: Global,
+    words: &'a [String],
+) -> Result<Option<Request<'a>>, clap::Error> {
+    let command = match command(alloc) {
+        Ok(command) => command,
+        Err(error) => return Err(clap::Error::from(error)),
+    };
+    match command.try_get_matches_from(words) {
+        Ok(matches) => Ok(request_of(&matches)),
+        Err(error) => Err(error),
+    }
 }

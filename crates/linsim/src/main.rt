@@ -1,30 +1,31 @@
-//! `linsim` simulates a LIN cluster with its schedules and its diagnostic transport.
+//! `linsim` simulates a LIN cluster with its schedules and its diagnostic transport. Here is its command line; what it does is in
+//! `lin_tool`.
 #![tactic(auto)]
 
 mod arguments;
-mod checking;
-mod describing;
-mod fault;
-mod finding;
-mod listing;
-mod replaying;
 
-use crate::fault::Fault;
-use clap::ArgMatches;
+use crate::arguments::{Request, asked};
 use clap::error::ErrorKind;
-use std::alloc::AllocError;
+use lin_tool::Fault;
 use std::fs::Files;
+use std::io;
 use std::process::ExitCode;
 
-/// Runs the subcommand that the command line names.
-fn dispatch<R: AllocGlobal + Files + Input + Print>(
+/// The exit status of a wrong command line.
+const COMMAND_LINE: u8 = 2;
+
+/// Does what is asked for.
+fn perform<R: AllocGlobal + Files + Input + Print>(
     rt: &R,
-    matches: &ArgMatches<'_>,
+    request: Request<'_>,
 ) -> Result<(), Fault> {
-    match matches.subcommand() {
-        Some(("check", found)) => checking::run(rt, found),
-        Some(("replay", found)) => replaying::run(rt, found),
-        _ => Ok(()),
+    match request {
+        Request::Check { file } => lin_tool::check(rt, file),
+        Request::Replay {
+            file,
+            table,
+            capacity,
+        } => lin_tool::replay(rt, file, table, usize::from(capacity.clamp(1, 1024))),
     }
 }
 
@@ -35,7 +36,7 @@ fn refused<R: Print + Eprint>(rt: &R, error: &clap::Error) -> Result<ExitCode, F
     }
     let printed = error.print(rt);
     if error.use_stderr() {
-        return Ok(ExitCode::from(Fault::COMMAND_LINE));
+        return Ok(ExitCode::from(COMMAND_LINE));
     }
     match printed {
         Ok(()) => Ok(ExitCode::SUCCESS),
@@ -43,20 +44,27 @@ fn refused<R: Print + Eprint>(rt: &R, error: &clap::Error) -> Result<ExitCode, F
     }
 }
 
+/// The exit status where the words of the command line couldn't be read: for want of memory, or since one isn't UTF-8.
+fn unread<R: Eprint>(rt: &R, error: &io::Error) -> Result<ExitCode, Fault> {
+    if error.kind() == io::ErrorKind::OutOfMemory {
+        return Err(Fault::OutOfMemory);
+    }
+    let _ = eprintln!(rt; "error: an argument isn't valid UTF-8");
+    Ok(ExitCode::from(COMMAND_LINE))
+}
+
 fn run(rt: &HostRuntime) -> Result<ExitCode, Fault> {
     let alloc = rt.alloc();
     let words: Vec<String> = match std::env::args(rt) {
         Ok(all) => all.collect(alloc)?,
-        Err(error) => return arguments::unread(rt, &error),
+        Err(error) => return unread(rt, &error),
     };
-    let command = arguments::command(alloc)?;
-    match command.try_get_matches_from(words.as_slice()) {
-        Ok(matches) => {
-            dispatch(rt, &matches)?;
-            Ok(ExitCode::SUCCESS)
-        }
-        Err(error) => refused(rt, &error),
+    match asked(alloc, words.as_slice()) {
+        Ok(Some(request)) => perform(rt, request)?,
+        Ok(None) => {}
+        Err(error) => return refused(rt, &error),
     }
+    Ok(ExitCode::SUCCESS)
 }
 
 fn main(rt: HostRuntime) -> ExitCode {

@@ -1,7 +1,7 @@
 -- What reading the bytes of an LDF file answers.
 use Rattle.std.specs.Prelude.{◌≡◌, ℕ, ◌<◌, List, length, Result, Ok, Err}
-use Rattle.linsim.specs.declared.fault.Fault.{Fault}
-use Rattle.linsim.specs.declared.fault.Fault.TheVariants.{BadLine, Ldf, Findings, LdfTooLong, ScriptTooLong, NoSuchTable, OutOfMemory, ReadFailed, WriteFailed}
+use Rattle.lin_tool.specs.declared.fault.Fault.{Fault}
+use Rattle.lin_tool.specs.declared.fault.Fault.TheVariants.{BadLine, Ldf, Findings, LdfTooLong, ScriptTooLong, NoSuchTable, OutOfMemory, ReadFailed, WriteFailed}
 
 -- when the bytes of a reader have this fault
 abbrev pub ReadFaults : Fault → List ℕ → Type 0

@@ -3,8 +3,8 @@ use Rattle.std.specs.Prelude.{◌≡◌, ℕ, List, nat_lt, length, if◌then◌
 use Rattle.std.specs.Borrow.{Bor}
 use Rattle.lin_parts.specs.Cluster.{first_table}
 use Rattle.lin_parts.specs.declared.parts.Parts.{Parts}
-use Rattle.linsim.specs.declared.fault.Fault.{Fault}
-use Rattle.linsim.specs.declared.fault.Fault.TheVariants.{NoSuchTable}
+use Rattle.lin_tool.specs.declared.fault.Fault.{Fault}
+use Rattle.lin_tool.specs.declared.fault.Fault.TheVariants.{NoSuchTable}
 
 -- the table of this name; without a name the first one
 abbrev pub opening_of : Parts → Option (Bor (List ℕ)) → Option ℕ

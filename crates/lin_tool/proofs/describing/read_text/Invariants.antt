@@ -1,6 +1,6 @@
 use Rattle.std.proofs.Common.{◌≤◌, length}
 use Rattle.std.specs.Io.KnownBytes.{Consumes}
-use Rattle.linsim.proofs.describing.read_all.Given as goal
+use Rattle.lin_tool.proofs.describing.read_text.Given as goal
 
 abbrev pub invariant-loop : goal.invariant-loop
 invariant-loop g l = record {

@@ -1,6 +1,9 @@
 //! Why the program ends early.
 
-use crate::finding::Findings;
+ghost use Rattle.std.specs.Prelude.{◌≡◌};
+ghost use Rattle.lin_tool.specs.Statuses.{status_of};
+
+use crate::findings::Findings;
 use lin_ldf::LdfFault;
 use lin_log::{ReplayFault, ScriptFault};
 use std::alloc::{AllocError, AllocFailed};
@@ -8,7 +11,7 @@ use thiserror::Error;
 
 /// Why the program ends early. What a fault displays is its line on standard error, or its lines.
 #[derive(Debug, Drop, Error)]
-pub(crate) enum Fault {
+pub enum Fault {
     /// The script's first line that is in no form, counted from 1.
     #[error("script {line} bad line")]
     BadLine { line: u64 },
@@ -38,11 +41,11 @@ pub(crate) enum Fault {
 }
 
 impl Fault {
-    /// The exit status of a wrong command line, whose text is clap's.
-    pub(crate) const COMMAND_LINE: u8 = 2;
-
-    /// The exit status: 1 for a fault of the input, 3 for want of memory, 4 for a failed read or write.
-    pub(crate) fn status(&self) -> u8 {
+    /// The exit status: 1 for a fault of the input, 3 for want of memory, 4 for a failed read or write. (0 is for a run without a
+    /// fault, and 2 for a wrong command line.)
+    pub fn status(&self) -> u8
+        ensures { result ≡ status_of self.now }
+    {
         match self {
             Fault::Ldf(_)
             | Fault::Findings(_)

@@ -1,4 +1,4 @@
-//! The lines of findings.
+//! The findings of a description, as lines.
 
 use lin_cluster::Finding;
 use lin_lists::Many;
@@ -80,7 +80,7 @@ fn put_line<W: fmt::Write>(f: &mut fmt::Formatter<W>, finding: &Finding) -> fmt:
 
 /// All that is wrong with a description. It displays a line for each finding, with no end behind the last.
 #[derive(Debug, Drop)]
-pub(crate) struct Findings(pub(crate) Many<Finding>);
+pub struct Findings(pub(crate) Many<Finding>);
 
 impl fmt::Display for Findings {
     fn fmt<W: fmt::Write>(&self, f: &mut fmt::Formatter<W>) -> fmt::Result {

@@ -1,11 +1,11 @@
-//! Clusters from LDF texts.
+//! Clusters from LDF texts: that of a reader or a file is read, and that of the built-in cluster stands here.
 
-ghost use Rattle.std.specs.Prelude.{◌≤◌, length, IfOk, IfSome};
-ghost use Rattle.linsim.specs.Clusters.{IsClusterOf};
-ghost use Rattle.linsim.specs.Reading.{IsUnread, ReadsAll};
+ghost use Rattle.std.specs.Prelude.{◌≡◌, ◌≤◌, None, length, IfOk, IfSome};
+ghost use Rattle.lin_tool.specs.Clusters.{IsClusterOf};
+ghost use Rattle.lin_tool.specs.Reading.{IsUnread, ReadsAll};
 
 use crate::fault::Fault;
-use crate::finding::Findings;
+use crate::findings::Findings;
 use lin_cluster::{CheckFault, check};
 use lin_ldf::{LdfFault, parse};
 use lin_parts::Cluster;
@@ -16,8 +16,9 @@ use std::io::{Error, ErrorKind, Read};
 /// The most bytes that an LDF text may have.
 const LIMIT: usize = 4_194_304;
 
-/// The text of the built-in cluster.
-const BUILT_IN: &[u8] = b"LIN_description_file;
+/// The LDF text of the built-in cluster: the commander `cem`, the responder `door` with the diagnostic address 1, and the schedule table
+/// `diag` with a master request and a slave response, 10 ms each.
+pub const BUILT_IN: &[u8] = b"LIN_description_file;
 LIN_protocol_version = \"2.2\";
 LIN_language_version = \"2.2\";
 LIN_speed = 19.2 kbps;
@@ -37,9 +38,12 @@ fn unread(error: &Error) -> Fault
     }
 }
 
-/// The bytes that a reader gives up to its end. A fault is that they are more than the limit, want of memory, or an error of the reader,
-/// which is tried once.
-fn read_all<R: Read>(alloc: Global, reader: &mut R) -> Result<Vec<u8>, Fault>
+/// The bytes that a reader gives up to its end, at most 4,194,304.
+///
+/// # Errors
+/// `LdfTooLong` where there are more; `OutOfMemory`; `ReadFailed` where the reader answers an error, after which it is asked no second
+/// time.
+pub fn read_text<R: Read>(alloc: Global, reader: &mut R) -> Result<Vec<u8>, Fault>
     ensures bytes { IfSome (R.remaining reader.old) (λ bytes. ReadsAll (λ v. v.items) result bytes) }
     ensures short { IfOk result (λ v. length v.items ≤ 4194304) }
 {
@@ -69,11 +73,14 @@ fn read_file<R: AllocGlobal + Files>(rt: &R, path: &str) -> Result<Vec<u8>, Faul
         Ok(file) => file,
         Err(error) => return Err(unread(&error)),
     };
-    read_all(rt.alloc(), &mut file)
+    read_text(rt.alloc(), &mut file)
 }
 
 /// The cluster that an LDF text describes.
-fn described(alloc: Global, text: &[u8]) -> Result<Cluster, Fault>
+///
+/// # Errors
+/// `Ldf` for the first fault of the text; `Findings` for all the reasons why it describes no cluster; `OutOfMemory`.
+pub fn cluster_of_text(alloc: Global, text: &[u8]) -> Result<Cluster, Fault>
     ensures { IfOk result (IsClusterOf text.now) }
 {
     let description = match parse(alloc, text) {
@@ -88,16 +95,19 @@ fn described(alloc: Global, text: &[u8]) -> Result<Cluster, Fault>
     }
 }
 
-/// The cluster that the LDF text in a file describes; without a path the built-in one.
-pub(crate) fn described_by<R: AllocGlobal + Files>(
-    rt: &R,
-    path: Option<&str>,
-) -> Result<Cluster, Fault> {
+/// The cluster that the LDF text in the file at `path` describes; without a path the built-in one.
+///
+/// # Errors
+/// `ReadFailed` where the file can't be opened or read, `LdfTooLong` where it has more than 4,194,304 bytes, and those of
+/// `cluster_of_text`.
+pub fn cluster_of_file<R: AllocGlobal + Files>(rt: &R, path: Option<&str>) -> Result<Cluster, Fault>
+    ensures built_in { path.entry ≡ None → IfOk result (IsClusterOf BUILT_IN.now) }
+{
     match path {
-        None => described(rt.alloc(), BUILT_IN),
+        None => cluster_of_text(rt.alloc(), BUILT_IN),
         Some(path) => {
             let text = read_file(rt, path)?;
-            described(rt.alloc(), text.as_slice())
+            cluster_of_text(rt.alloc(), text.as_slice())
         }
     }
 }

@@ -1,0 +1,4 @@
+pub mod Clusters
+pub mod Opening
+pub mod Reading
+pub mod Statuses

@@ -1,0 +1,18 @@
+//! What the program `linsim` does, apart from its command line: clusters from LDF texts, what each subcommand does with one, and why
+//! it ends early.
+#![tactic(auto)]
+
+mod checking;
+mod describing;
+mod fault;
+mod findings;
+mod listing;
+mod opening;
+mod replaying;
+
+pub use checking::check;
+pub use describing::{BUILT_IN, cluster_of_file, cluster_of_text, read_text};
+pub use fault::Fault;
+pub use findings::Findings;
+pub use opening::opening_table;
+pub use replaying::replay;

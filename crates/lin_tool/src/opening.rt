@@ -1,0 +1,22 @@
+//! The schedule table that a replay begins with.
+
+ghost use Rattle.std.specs.Prelude.{◌<◌, length, IfOk};
+ghost use Rattle.lin_tool.specs.Opening.{Opens, opening_of};
+
+use crate::fault::Fault;
+use lin_parts::Cluster;
+
+/// The number of the cluster's schedule table of this name; of the first one, where no name is given.
+///
+/// # Errors
+/// `NoSuchTable` where no table has the name, or there is no table.
+pub fn opening_table(cluster: &Cluster, name: Option<&str>) -> Result<u16, Fault>
+    ensures table { Opens result (opening_of cluster.now name.entry) }
+    ensures range { IfOk result (λ table. table < length cluster.now.tables) }
+{
+    match name {
+        Some(name) => cluster.table_named(name).ok_or(Fault::NoSuchTable),
+        None if cluster.tables() > 0 => Ok(0),
+        None => Err(Fault::NoSuchTable),
+    }
+}
