@@ -36,7 +36,6 @@ use std::mem;
 
 /// The core: a cluster, and the log of the steps that were made on it. Contracts see the cluster, the table that the schedule opened
 /// with, the capacity of the queues, the log (the oldest entry first) and how much room was made.
-#[derive(Drop)]
 pub struct Core {
     alloc: Global,
     cluster: Cluster,
@@ -58,6 +57,21 @@ impl Model for Core {
     ghost view = { core_data };
 
     ghost invariant = { IsWhole };
+}
+
+// Written out, so that what owns a core lets it go in one step of its proof.
+impl Drop for Core {
+    fn drop(self) {
+        let Core {
+            alloc: _,
+            cluster: _cluster,
+            opening: _,
+            capacity: _,
+            log: _log,
+            room: _room,
+            state: _state,
+        } = self;
+    }
 }
 
 /// The one event of a step, in the room that was made for it.

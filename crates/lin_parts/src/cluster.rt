@@ -12,7 +12,6 @@ use std::marker::Model;
 
 /// A LIN cluster. Contracts see its parts. Nodes, signals, frames of each kind and tables are read by their numbers, which
 /// begin at 0; each read's condition is that the number is in range.
-#[derive(Drop)]
 pub struct Cluster {
     parts: Parts,
 }
@@ -27,6 +26,13 @@ impl Model for Cluster {
     ghost use Rattle.lin_parts.specs.Rules.{IsCluster};
 
     ghost invariant = { λ c. IsCluster c.parts };
+}
+
+// Written out, so that what owns a cluster lets it go in one step of its proof.
+impl Drop for Cluster {
+    fn drop(self) {
+        let Cluster { parts: _parts } = self;
+    }
 }
 
 // The place of the first of the tables with this name.
