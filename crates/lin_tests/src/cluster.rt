@@ -1,6 +1,4 @@
-//! Tests on a cluster with sporadic and event-triggered frames, and on the clusters of LDF texts.
+//! The clusters of LDF texts, and what `check` finds in texts that describe none.
 
-mod broken;
-mod building;
 mod checks;
-mod reads;
+mod findings;

@@ -1,10 +1,8 @@
 //! Logs that are made again from their own text, where a step that is held is made a second time. `bench/refused_memory` refuses each request
 //! for memory of these tests in turn: they then end for want of memory, or with the same text.
 
-use crate::samples::{DOOR_CLUSTER, KEYS_CLUSTER};
-use lin_cluster::{CheckFault, check};
+use crate::samples::{DOOR_CLUSTER, KEYS_CLUSTER, core_of, expect_text};
 use lin_core::{Core, Hold, PortId, Step};
-use lin_ldf::{LdfFault, parse};
 use lin_log::{read_script, write_log};
 use std::alloc::Global;
 use std::test::Fail;
@@ -88,51 +86,38 @@ bus finish
 > sent 1 1
 ";
 
-/// The step that is held for want of memory.
-fn held(hold: Hold) -> Result<Step, Fail> {
-    match hold {
-        Hold::OutOfMemory(step) => Ok(step),
-        Hold::LogFull(_) => Err(Fail::from("the log is full")),
+/// Makes a step, or hands it back where it is held.
+fn make_once(core: &mut Core, by: PortId, step: Step) -> Result<(), Step> {
+    match core.step(by, step) {
+        Ok(()) => Ok(()),
+        Err(Hold::OutOfMemory(step) | Hold::LogFull(step)) => Err(step),
     }
 }
 
-/// Makes a step that was held once.
-fn make_again(core: &mut Core, by: PortId, step: Step) -> Result<(), Fail> {
-    match core.step(by, step) {
+/// Makes a step, and where it is held makes it once more.
+fn make(core: &mut Core, by: PortId, step: Step) -> Result<(), Fail> {
+    let Err(step) = make_once(core, by, step) else {
+        return Ok(());
+    };
+    match make_once(core, by, step) {
         Ok(()) => Ok(()),
         Err(_) => Err(Fail::from("held twice")),
     }
 }
 
-/// Makes a step, and where it is held for want of memory makes it once more.
-fn make(core: &mut Core, by: PortId, step: Step) -> Result<(), Fail> {
-    match core.step(by, step) {
-        Ok(()) => Ok(()),
-        Err(hold) => make_again(core, by, held(hold)?),
+/// Makes the steps of a log.
+fn make_all(alloc: Global, core: &mut Core, log: &str) -> Result<(), Fail> {
+    let mut rest = log.as_bytes();
+    for (by, step) in read_script(alloc, &mut rest)? {
+        make(core, by, step)?;
     }
+    Ok(())
 }
 
 /// The log of a log's steps, in text.
 fn again(alloc: Global, cluster: &[u8], table: u16, log: &str) -> Result<Vec<u8>, Fail> {
-    let description = match parse(alloc, cluster) {
-        Ok(description) => description,
-        Err(LdfFault::OutOfMemory) => return Err(Fail::from("OutOfMemory")),
-        Err(_) => return Err(Fail::from("no description")),
-    };
-    let cluster = match check(alloc, description) {
-        Ok(cluster) => cluster,
-        Err(CheckFault::OutOfMemory) => return Err(Fail::from("OutOfMemory")),
-        Err(CheckFault::Findings(_)) => return Err(Fail::from("no cluster")),
-    };
-    if table as usize >= cluster.tables() {
-        return Err(Fail::from("no such table"));
-    }
-    let mut rest = log.as_bytes();
-    let steps = read_script(alloc, &mut rest)?;
-    let mut core = Core::new(alloc, cluster, table, 16)?;
-    for (by, step) in steps {
-        make(&mut core, by, step)?;
-    }
+    let mut core = core_of(alloc, cluster, table)?;
+    make_all(alloc, &mut core, log)?;
     let mut text = Vec::new(alloc);
     write_log(core.log(), &mut text)?;
     Ok(text)
@@ -141,13 +126,13 @@ fn again(alloc: Global, cluster: &[u8], table: u16, log: &str) -> Result<Vec<u8>
 #[test]
 fn three_byte_message(rt: HostRuntime) -> Result<(), Fail> {
     let text = again(rt.alloc(), DOOR_CLUSTER, 0, THREE_BYTES)?;
-    assert_eq!(rt; text.as_slice(), THREE_BYTES.as_bytes());
+    expect_text(&rt, &text, THREE_BYTES.as_bytes(), "log");
     Ok(())
 }
 
 #[test]
 fn two_responders_interleaved(rt: HostRuntime) -> Result<(), Fail> {
     let text = again(rt.alloc(), KEYS_CLUSTER, 2, TWO_RESPONDERS)?;
-    assert_eq!(rt; text.as_slice(), TWO_RESPONDERS.as_bytes());
+    expect_text(&rt, &text, TWO_RESPONDERS.as_bytes(), "log");
     Ok(())
 }

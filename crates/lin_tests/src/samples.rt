@@ -1,14 +1,87 @@
 //! LDF texts for tests, and the clusters that they describe.
 
 use lin_cluster::{Cluster, check};
+use lin_core::Core;
 use lin_ldf::parse;
 use std::alloc::Global;
+use std::process::Abort;
 use std::test::Fail;
 
 /// The cluster that a text describes.
 pub fn cluster_of(alloc: Global, text: &[u8]) -> Result<Cluster, Fail> {
     Ok(check(alloc, parse(alloc, text)?)?)
 }
+
+/// What holds of the cluster of a text.
+pub fn expect_cluster<F: FnOnce(&Cluster) -> bool>(
+    rt: &impl Abort,
+    alloc: Global,
+    text: &[u8],
+    holds: F,
+) -> Result<(), Fail>
+    requires { F.IsAlwaysCallable holds }
+{
+    assert!(rt; holds(&cluster_of(alloc, text)?));
+    Ok(())
+}
+
+/// A core on the cluster of a text.
+pub fn core_of(alloc: Global, cluster: &[u8], table: u16) -> Result<Core, Fail> {
+    let cluster = cluster_of(alloc, cluster)?;
+    if table as usize >= cluster.tables() {
+        return Err(Fail::from("no such table"));
+    }
+    Ok(Core::new(alloc, cluster, table, 16)?)
+}
+
+/// Adds several parts to a text.
+pub fn add(text: &mut Vec<u8>, parts: &[&[u8]]) -> Result<(), Fail> {
+    for part in parts {
+        text.extend_from_slice(part)?;
+    }
+    Ok(())
+}
+
+/// Adds a number in decimal to a text.
+pub fn add_number(alloc: Global, text: &mut Vec<u8>, number: u64) -> Result<(), Fail> {
+    text.extend_from_slice(number.to_string(alloc)?.as_bytes())?;
+    Ok(())
+}
+
+/// Adds a line and a column to a text.
+pub fn add_place(alloc: Global, text: &mut Vec<u8>, line: u64, column: u64) -> Result<(), Fail> {
+    add_number(alloc, text, line)?;
+    text.push(b':')?;
+    add_number(alloc, text, column)
+}
+
+/// A text of several parts.
+pub fn joined(alloc: Global, parts: &[&[u8]]) -> Result<Vec<u8>, Fail> {
+    let mut text = Vec::new(alloc);
+    add(&mut text, parts)?;
+    Ok(text)
+}
+
+/// A text is as it is wanted; the case says whose it is.
+pub fn expect_text(rt: &impl Abort, found: &[u8], want: &[u8], case: &str) {
+    let text = std::str::from_utf8(found).unwrap_or("no text");
+    assert!(rt; found == want, "{case}: {text}");
+}
+
+/// The first lines of a text.
+pub const FOUR_LINES: &[u8] = b"LIN_description_file;
+LIN_protocol_version = \"2.2\";
+LIN_language_version = \"2.2\";
+LIN_speed = 19.2 kbps;
+";
+
+/// The same, and nodes: five lines.
+pub const HEADER: &[u8] = b"LIN_description_file;
+LIN_protocol_version = \"2.2\";
+LIN_language_version = \"2.2\";
+LIN_speed = 19.2 kbps;
+Nodes { Master: m, 5 ms, 0.1 ms; Slaves: s, t; }
+";
 
 /// A commander and a door, with diagnostic frames alone.
 pub const DOOR_CLUSTER: &[u8] = b"LIN_description_file;

@@ -1,18 +1,33 @@
-//! Walks through the tables of a small cluster, with its places by hand.
+//! Walks through the tables of a small cluster.
 
-ghost use Rattle.std.specs.Prelude.{◌≡◌, ℕ, length, IfOk};
 ghost use Rattle.lin_schedule.specs.Walker.{Walks};
 
-use lin_cluster::{Cluster, Entry, EventFrame, Line, Node, Parts, SignalFrame, Table};
-use lin_frame::{Layout, SumKind};
-use lin_lists::{Many, Text};
-use lin_rules::is_cluster;
+use crate::samples::{cluster_of, expect_cluster};
+use lin_cluster::Cluster;
 use lin_schedule::{Due, Walker, entries_in_turn, excursions_run_once};
-use std::alloc::{AllocError, Global};
+use std::alloc::Global;
 use std::process::Abort;
+use std::test::Fail;
 
-// The tables' numbers: the main one, the one that resolves its collisions, the diagnostic one, one with its event-triggered entry
-// last, and the one of a single entry that resolves that one's.
+/// A commander that sends the first two frames, and two responders. The table `short` has its event-triggered entry last.
+const SMALL_CLUSTER: &[u8] = b"LIN_description_file;
+LIN_protocol_version = \"2.2\";
+LIN_language_version = \"2.2\";
+LIN_speed = 19.2 kbps;
+Nodes { Master: cem, 5 ms, 0.1 ms; Slaves: left, right; }
+Frames { A: 0, cem, 2 { } B: 1, cem, 2 { } C: 2, left, 2 { } D: 3, right, 2 { } }
+Sporadic_frames { S: B, A; }
+Event_triggered_frames { E: resolve, 4, C, D; F: resolve_short, 5, C; }
+Schedule_tables {
+  main { S delay 10 ms; E delay 20 ms; A delay 5 ms; }
+  resolve { C delay 10 ms; D delay 10 ms; }
+  diagnostic { MasterReq delay 10 ms; SlaveResp delay 10 ms; AssignNAD { } delay 10 ms; }
+  short { B delay 5 ms; F delay 10 ms; }
+  resolve_short { C delay 7.5 ms; }
+}
+";
+
+// The tables' numbers.
 const MAIN: u16 = 0;
 
 const RESOLVE: u16 = 1;
@@ -23,247 +38,174 @@ const SHORT: u16 = 3;
 
 const RESOLVE_SHORT: u16 = 4;
 
-fn node(alloc: Global, name: &[u8], nad: Option<u8>) -> Result<Node, AllocError> {
-    Ok(Node {
-        name: Text::copied(alloc, name)?,
-        nad,
-    })
+/// What a schedule goes on by: a slot, with a clash or without one, a switch to a table, or the start of the current one.
+#[derive(Clone, Copy)]
+enum Move {
+    Slot,
+    Clash,
+    Switch(u16),
+    Restart,
 }
 
-// A frame of two bytes without signals, with its protected identifier in the first where a responder sends it.
-fn frame(alloc: Global, pid: u8, publisher: u8) -> SignalFrame {
-    SignalFrame {
-        pid,
-        model: SumKind::Enhanced,
-        publisher,
-        layout: Layout {
-            len: 2,
-            pid: if publisher == 0 { None } else { Some(pid) },
-            places: Many::new(Vec::new(alloc)),
-        },
-        signals: Many::new(Vec::new(alloc)),
-    }
-}
+use Move::{Clash, Restart, Slot, Switch};
 
-fn event(alloc: Global, pid: u8, table: u16, frames: &[u16]) -> Result<EventFrame, AllocError> {
-    Ok(EventFrame {
-        pid,
-        model: SumKind::Enhanced,
-        table,
-        frames: Many::new(Vec::from_slice(alloc, frames)?),
-    })
-}
-
-fn table(alloc: Global, name: &[u8], entries: &[(Entry, u32)]) -> Result<Table, AllocError> {
-    let mut lines = Vec::new(alloc);
-    for (entry, delay_us) in entries {
-        lines.push(Line {
-            entry: *entry,
-            delay_us: *delay_us,
-        })?;
-    }
-    Ok(Table {
-        name: Text::copied(alloc, name)?,
-        lines: Many::new(lines),
-    })
-}
-
-fn nodes(alloc: Global) -> Result<Many<Node>, AllocError> {
-    let mut nodes = Vec::new(alloc);
-    nodes.push(node(alloc, b"cem", None)?)?;
-    nodes.push(node(alloc, b"left", Some(1))?)?;
-    nodes.push(node(alloc, b"right", Some(2))?)?;
-    Ok(Many::new(nodes))
-}
-
-// Of the identifiers 0 to 3; the commander sends the first two.
-fn frames(alloc: Global) -> Result<Many<SignalFrame>, AllocError> {
-    let mut frames = Vec::new(alloc);
-    frames.push(frame(alloc, 0x80, 0))?;
-    frames.push(frame(alloc, 0xC1, 0))?;
-    frames.push(frame(alloc, 0x42, 1))?;
-    frames.push(frame(alloc, 0x03, 2))?;
-    Ok(Many::new(frames))
-}
-
-fn sporadic(alloc: Global) -> Result<Many<Many<u16>>, AllocError> {
-    let mut sporadic = Vec::new(alloc);
-    sporadic.push(Many::new(Vec::from_slice(alloc, &[1, 0])?))?;
-    Ok(Many::new(sporadic))
-}
-
-// Of the identifiers 4 and 5.
-fn events(alloc: Global) -> Result<Many<EventFrame>, AllocError> {
-    let mut events = Vec::new(alloc);
-    events.push(event(alloc, 0xC4, RESOLVE, &[2, 3])?)?;
-    events.push(event(alloc, 0x85, RESOLVE_SHORT, &[2])?)?;
-    Ok(Many::new(events))
-}
-
-fn tables(alloc: Global) -> Result<Many<Table>, AllocError> {
-    let main = [
-        (Entry::Sporadic(0), 10_000),
-        (Entry::Event(0), 20_000),
-        (Entry::Frame(0), 5_000),
-    ];
-    let resolve = [(Entry::Frame(2), 10_000), (Entry::Frame(3), 10_000)];
-    let diagnostic = [
-        (Entry::MasterReq, 10_000),
-        (Entry::SlaveResp, 10_000),
-        (Entry::Quiet, 1),
-    ];
-    let short = [(Entry::Frame(1), 5_000), (Entry::Event(1), 10_000)];
-    let resolve_short = [(Entry::Frame(2), 7_500)];
-    let mut tables = Vec::new(alloc);
-    tables.push(table(alloc, b"main", &main)?)?;
-    tables.push(table(alloc, b"resolve", &resolve)?)?;
-    tables.push(table(alloc, b"diagnostic", &diagnostic)?)?;
-    tables.push(table(alloc, b"short", &short)?)?;
-    tables.push(table(alloc, b"resolve_short", &resolve_short)?)?;
-    Ok(Many::new(tables))
-}
-
-fn small_cluster(rt: &impl Abort, alloc: Global) -> Result<Cluster, AllocError>
-    ensures { IfOk result (λ cluster. length cluster.tables ≡ 5) }
-{
-    let parts = Parts {
-        nodes: nodes(alloc)?,
-        signals: Many::new(Vec::new(alloc)),
-        frames: frames(alloc)?,
-        sporadic: sporadic(alloc)?,
-        events: events(alloc)?,
-        tables: tables(alloc)?,
-    };
-    assert!(rt; is_cluster(&parts));
-    let cluster = Cluster::new(parts);
-    assert!(rt; cluster.tables() == 5);
-    Ok(cluster)
-}
-
-// Goes on behind a slot, and is then at the place.
-fn slot(rt: &impl Abort, cluster: &Cluster, walker: &mut Walker, clash: bool, place: (u16, u16))
+fn go_on(rt: &impl Abort, cluster: &Cluster, walker: &mut Walker, by: Move)
     requires { Walks cluster.now walker.old }
     ensures { Walks cluster.now walker.new }
 {
-    walker.advance(cluster, clash);
-    assert_eq!(rt; walker.place(), place);
+    cluster.sound();
+    match by {
+        Slot => walker.advance(cluster, false),
+        Clash => walker.advance(cluster, true),
+        Switch(table) => {
+            assert!(rt; usize::from(table) < cluster.tables());
+            walker.switch(table);
+        }
+        Restart => walker.restart(),
+    }
+}
+
+/// The places of a walk: each move, and the table and entry of the slot behind it.
+type Walk<'a> = &'a [(Move, (u16, u16))];
+
+fn expect_places(rt: &impl Abort, cluster: &Cluster, opening: u16, walk: Walk) {
+    assert!(rt; usize::from(opening) < cluster.tables());
+    cluster.sound();
+    let mut walker = Walker::new(opening);
+    assert!(rt; walker.place() == (opening, 0));
+    for (by, place) in walk {
+        go_on(rt, cluster, &mut walker, *by);
+        let (table, entry) = walker.place();
+        assert!(rt; (table, entry) == *place, "at {table} {entry}");
+    }
+}
+
+fn expect_walk(rt: &impl Abort, alloc: Global, opening: u16, walk: Walk) -> Result<(), Fail> {
+    expect_places(rt, &cluster_of(alloc, SMALL_CLUSTER)?, opening, walk);
+    Ok(())
 }
 
 #[test]
-fn three_entries_run_twice_round(rt: HostRuntime) -> Result<(), AllocError> {
-    let cluster = small_cluster(&rt, rt.alloc())?;
-    cluster.sound();
-    let mut walker = Walker::new(MAIN);
-    assert_eq!(rt; walker.place(), (MAIN, 0));
+fn three_entries_run_twice_round(rt: HostRuntime) -> Result<(), Fail> {
     // a clash in the slot of a sporadic frame starts nothing
-    slot(&rt, &cluster, &mut walker, true, (MAIN, 1));
-    slot(&rt, &cluster, &mut walker, false, (MAIN, 2));
-    slot(&rt, &cluster, &mut walker, false, (MAIN, 0));
-    slot(&rt, &cluster, &mut walker, false, (MAIN, 1));
-    slot(&rt, &cluster, &mut walker, false, (MAIN, 2));
-    slot(&rt, &cluster, &mut walker, true, (MAIN, 0));
-    Ok(())
+    let walk = [
+        (Clash, (MAIN, 1)),
+        (Slot, (MAIN, 2)),
+        (Slot, (MAIN, 0)),
+        (Slot, (MAIN, 1)),
+        (Slot, (MAIN, 2)),
+        (Clash, (MAIN, 0)),
+    ];
+    expect_walk(&rt, rt.alloc(), MAIN, &walk)
 }
 
 #[test]
-fn collision_and_resolution(rt: HostRuntime) -> Result<(), AllocError> {
-    let cluster = small_cluster(&rt, rt.alloc())?;
-    cluster.sound();
-    let mut walker = Walker::new(MAIN);
-    assert_eq!(rt; walker.place(), (MAIN, 0));
-    slot(&rt, &cluster, &mut walker, false, (MAIN, 1));
-    slot(&rt, &cluster, &mut walker, true, (RESOLVE, 0));
-    slot(&rt, &cluster, &mut walker, true, (RESOLVE, 1));
-    slot(&rt, &cluster, &mut walker, true, (MAIN, 2));
-    slot(&rt, &cluster, &mut walker, false, (MAIN, 0));
-    Ok(())
+fn collision_and_resolution(rt: HostRuntime) -> Result<(), Fail> {
+    let walk = [
+        (Slot, (MAIN, 1)),
+        (Clash, (RESOLVE, 0)),
+        (Clash, (RESOLVE, 1)),
+        (Clash, (MAIN, 2)),
+        (Slot, (MAIN, 0)),
+    ];
+    expect_walk(&rt, rt.alloc(), MAIN, &walk)
 }
 
 #[test]
-fn switch_behind_a_damaged_event_slot(rt: HostRuntime) -> Result<(), AllocError> {
-    let cluster = small_cluster(&rt, rt.alloc())?;
-    cluster.sound();
-    let mut walker = Walker::new(MAIN);
-    slot(&rt, &cluster, &mut walker, false, (MAIN, 1));
-    slot(&rt, &cluster, &mut walker, true, (RESOLVE, 0));
-    walker.switch(DIAGNOSTIC);
-    assert_eq!(rt; walker.place(), (DIAGNOSTIC, 0));
-    slot(&rt, &cluster, &mut walker, false, (DIAGNOSTIC, 1));
-    slot(&rt, &cluster, &mut walker, false, (DIAGNOSTIC, 2));
-    slot(&rt, &cluster, &mut walker, false, (DIAGNOSTIC, 0));
-    Ok(())
+fn switch_behind_a_damaged_event_slot(rt: HostRuntime) -> Result<(), Fail> {
+    let walk = [
+        (Slot, (MAIN, 1)),
+        (Clash, (RESOLVE, 0)),
+        (Switch(DIAGNOSTIC), (DIAGNOSTIC, 0)),
+        (Slot, (DIAGNOSTIC, 1)),
+        (Slot, (DIAGNOSTIC, 2)),
+        (Slot, (DIAGNOSTIC, 0)),
+    ];
+    expect_walk(&rt, rt.alloc(), MAIN, &walk)
 }
 
 #[test]
-fn excursion_of_one_slot_at_the_last_entry(rt: HostRuntime) -> Result<(), AllocError> {
-    let cluster = small_cluster(&rt, rt.alloc())?;
-    cluster.sound();
-    let mut walker = Walker::new(SHORT);
-    slot(&rt, &cluster, &mut walker, false, (SHORT, 1));
-    slot(&rt, &cluster, &mut walker, true, (RESOLVE_SHORT, 0));
-    slot(&rt, &cluster, &mut walker, false, (SHORT, 0));
-    slot(&rt, &cluster, &mut walker, false, (SHORT, 1));
-    Ok(())
+fn excursion_of_one_slot_at_the_last_entry(rt: HostRuntime) -> Result<(), Fail> {
+    let walk = [
+        (Slot, (SHORT, 1)),
+        (Clash, (RESOLVE_SHORT, 0)),
+        (Slot, (SHORT, 0)),
+        (Slot, (SHORT, 1)),
+    ];
+    expect_walk(&rt, rt.alloc(), SHORT, &walk)
 }
 
 #[test]
-fn resolving_table_is_a_main_table_too(rt: HostRuntime) -> Result<(), AllocError> {
-    let cluster = small_cluster(&rt, rt.alloc())?;
-    cluster.sound();
-    let mut walker = Walker::new(MAIN);
-    walker.switch(RESOLVE);
-    assert_eq!(rt; walker.place(), (RESOLVE, 0));
-    slot(&rt, &cluster, &mut walker, true, (RESOLVE, 1));
-    slot(&rt, &cluster, &mut walker, false, (RESOLVE, 0));
-    slot(&rt, &cluster, &mut walker, false, (RESOLVE, 1));
-    Ok(())
+fn resolving_table_is_a_main_table_too(rt: HostRuntime) -> Result<(), Fail> {
+    let walk = [
+        (Switch(RESOLVE), (RESOLVE, 0)),
+        (Clash, (RESOLVE, 1)),
+        (Slot, (RESOLVE, 0)),
+        (Slot, (RESOLVE, 1)),
+    ];
+    expect_walk(&rt, rt.alloc(), MAIN, &walk)
 }
 
 #[test]
-fn restart_starts_the_current_table(rt: HostRuntime) -> Result<(), AllocError> {
-    let cluster = small_cluster(&rt, rt.alloc())?;
+fn restart_starts_the_current_table(rt: HostRuntime) -> Result<(), Fail> {
+    let walk = [
+        (Switch(SHORT), (SHORT, 0)),
+        (Slot, (SHORT, 1)),
+        (Restart, (SHORT, 0)),
+        (Slot, (SHORT, 1)),
+        (Clash, (RESOLVE_SHORT, 0)),
+        (Restart, (SHORT, 0)),
+    ];
+    expect_walk(&rt, rt.alloc(), MAIN, &walk)
+}
+
+/// Whether this is due where a table opens the schedule and some slots are over.
+fn is_due(cluster: &Cluster, table: u16, slots: u16, pending: [bool; 4], due: Due) -> bool {
+    if usize::from(table) >= cluster.tables() || cluster.frames() != 4 {
+        return false;
+    }
     cluster.sound();
-    let mut walker = Walker::new(MAIN);
-    walker.switch(SHORT);
-    slot(&rt, &cluster, &mut walker, false, (SHORT, 1));
-    walker.restart();
-    assert_eq!(rt; walker.place(), (SHORT, 0));
-    slot(&rt, &cluster, &mut walker, false, (SHORT, 1));
-    slot(&rt, &cluster, &mut walker, true, (RESOLVE_SHORT, 0));
-    walker.restart();
-    assert_eq!(rt; walker.place(), (SHORT, 0));
-    Ok(())
+    let mut walker = Walker::new(table);
+    for _ in 0..slots {
+        walker.advance(cluster, false);
+    }
+    walker.due(cluster, &pending) == due
+}
+
+fn has_sporadic_due(cluster: &Cluster) -> bool {
+    is_due(
+        cluster,
+        MAIN,
+        0,
+        [false, false, true, true],
+        Due::Sporadic(None),
+    ) && is_due(
+        cluster,
+        MAIN,
+        0,
+        [true, false, false, false],
+        Due::Sporadic(Some(0)),
+    ) && is_due(
+        cluster,
+        MAIN,
+        0,
+        [true, true, false, false],
+        Due::Sporadic(Some(1)),
+    )
+}
+
+fn has_others_due(cluster: &Cluster) -> bool {
+    is_due(cluster, MAIN, 1, [true; 4], Due::Event(0))
+        && is_due(cluster, MAIN, 2, [false; 4], Due::Frame(0))
+        && is_due(cluster, DIAGNOSTIC, 0, [false; 4], Due::MasterReq)
+        && is_due(cluster, DIAGNOSTIC, 1, [false; 4], Due::SlaveResp)
+        && is_due(cluster, DIAGNOSTIC, 2, [false; 4], Due::Quiet)
 }
 
 #[test]
-fn due_by_the_kind_of_entry(rt: HostRuntime) -> Result<(), AllocError> {
-    let cluster = small_cluster(&rt, rt.alloc())?;
-    cluster.sound();
-    assert!(rt; cluster.frames() == 4);
-    let mut walker = Walker::new(MAIN);
-    assert_eq!(rt;
-        walker.due(&cluster, &[false, false, true, true]),
-        Due::Sporadic(None)
-    );
-    assert_eq!(rt;
-        walker.due(&cluster, &[true, false, false, false]),
-        Due::Sporadic(Some(0))
-    );
-    assert_eq!(rt;
-        walker.due(&cluster, &[true, true, false, false]),
-        Due::Sporadic(Some(1))
-    );
-    slot(&rt, &cluster, &mut walker, false, (MAIN, 1));
-    assert_eq!(rt; walker.due(&cluster, &[true; 4]), Due::Event(0));
-    slot(&rt, &cluster, &mut walker, false, (MAIN, 2));
-    assert_eq!(rt; walker.due(&cluster, &[false; 4]), Due::Frame(0));
-    walker.switch(DIAGNOSTIC);
-    assert_eq!(rt; walker.due(&cluster, &[false; 4]), Due::MasterReq);
-    slot(&rt, &cluster, &mut walker, false, (DIAGNOSTIC, 1));
-    assert_eq!(rt; walker.due(&cluster, &[false; 4]), Due::SlaveResp);
-    slot(&rt, &cluster, &mut walker, false, (DIAGNOSTIC, 2));
-    assert_eq!(rt; walker.due(&cluster, &[false; 4]), Due::Quiet);
-    Ok(())
+fn due_by_the_kind_of_entry(rt: HostRuntime) -> Result<(), Fail> {
+    expect_cluster(&rt, rt.alloc(), SMALL_CLUSTER, has_sporadic_due)?;
+    expect_cluster(&rt, rt.alloc(), SMALL_CLUSTER, has_others_due)
 }
 
 #[test]

@@ -1,7 +1,7 @@
 //! The fault of each text that isn't read, with its place; and texts beside them that are read.
 
-use super::outcomes::{HEADER, expect_outcomes, joined, outcome};
-use crate::samples::DOOR_CLUSTER;
+use super::outcomes::{expect_outcomes, outcome};
+use crate::samples::{DOOR_CLUSTER, FOUR_LINES, HEADER, expect_text, joined};
 use std::alloc::Global;
 use std::process::Abort;
 use std::test::Fail;
@@ -54,7 +54,7 @@ fn expect_changes(rt: &impl Abort, alloc: Global, cases: &str) -> Result<(), Fai
     for line in cases.lines() {
         let (change, want) = line.split_once(" => ").ok_or("no arrow")?;
         let found = outcome(alloc, &changed(alloc, change)?)?;
-        assert_eq!(rt; found.as_slice(), want.as_bytes(), "outcome of {change}");
+        expect_text(rt, found.as_bytes(), want.as_bytes(), change);
     }
     Ok(())
 }
@@ -132,13 +132,6 @@ LIN_description_file; LIN_protocol_version = \"2\"; LIN_language_version = \"\";
 fn header_lines(rt: HostRuntime) -> Result<(), Fail> {
     expect_outcomes(&rt, rt.alloc(), b"", HEADER_LINES)
 }
-
-/// The first lines of a text.
-const FOUR_LINES: &[u8] = b"LIN_description_file;
-LIN_protocol_version = \"2.2\";
-LIN_language_version = \"2.2\";
-LIN_speed = 19.2 kbps;
-";
 
 /// Nodes, from line 5 on: their names differ.
 const NODES: &str = "Nodes { Master: m, 5 ms, 0.1 ms; Slaves: s, m; } => 5:45 fault 7 NameTwice

@@ -1,7 +1,7 @@
 //! Texts that lack a token or their end.
 
-use super::outcomes::{HEADER, joined, outcome};
-use crate::samples::DOOR_CLUSTER;
+use super::outcomes::outcome;
+use crate::samples::{DOOR_CLUSTER, HEADER, add_place, joined};
 use lin_ldf::{Token, lex};
 use std::alloc::Global;
 use std::process::Abort;
@@ -10,13 +10,11 @@ use std::test::Fail;
 /// The text without one of its tokens: spaces stand in its place.
 fn without(alloc: Global, text: &[u8], token: &Token) -> Result<Vec<u8>, Fail> {
     let mut out = Vec::new(alloc);
-    for (i, c) in text.iter().enumerate() {
-        out.push(if token.start <= i && i < token.end {
-            b' '
-        } else {
-            *c
-        })?;
+    out.extend_from_slice(text.get(..token.start).unwrap_or(b""))?;
+    for _ in token.start..token.end {
+        out.push(b' ')?;
     }
+    out.extend_from_slice(text.get(token.end..).unwrap_or(b""))?;
     Ok(out)
 }
 
@@ -61,7 +59,8 @@ fn wanted(
         Some(token) => (token.line, token.column),
         None => end,
     };
-    out.extend_from_slice(format!(in alloc; "{line}:{column} fault 4 Unexpected")?.as_bytes())?;
+    add_place(alloc, &mut out, line, column)?;
+    out.extend_from_slice(b" fault 4 Unexpected")?;
     Ok(out)
 }
 
@@ -76,7 +75,7 @@ fn expect_gap(
     let token = tokens.get(gap).ok_or("no token")?;
     let found = outcome(alloc, &without(alloc, source, token)?)?;
     let want = wanted(alloc, tokens, gap, letter, end_of(source))?;
-    assert_eq!(rt; found.as_slice(), want.as_slice(), "without token {gap}");
+    assert!(rt; found.as_bytes() == want.as_slice(), "without token {gap}");
     Ok(())
 }
 
@@ -92,7 +91,7 @@ fn expect_gaps(
     let before = lex(alloc, front)?.len();
     let tokens = lex(alloc, &source)?;
     let tokens = tokens.get(before..).unwrap_or(&[]);
-    assert_eq!(rt; tokens.len(), letters.len());
+    assert!(rt; tokens.len() == letters.len());
     for (gap, letter) in letters.iter().enumerate() {
         expect_gap(rt, alloc, &source, tokens, gap, *letter)?;
     }
@@ -143,7 +142,7 @@ fn expect_end(rt: &impl Abort, alloc: Global, text: &[u8], is_open_text: bool) -
     let found = outcome(alloc, text)?;
     let length = text.len();
     assert!(rt;
-        found.ends_with(wanted_end(length, is_open_text)),
+        found.as_bytes().ends_with(wanted_end(length, is_open_text)),
         "of {length} bytes"
     );
     Ok(())

@@ -1,7 +1,10 @@
 //! Descriptions of whole texts.
 
-use super::outcomes::{HEADER, expect_outcomes, joined};
-use crate::samples::{BODY_CLUSTER, DOOR_CLUSTER, KEYS_CLUSTER, LIGHT_AND_FAN_CLUSTER};
+use super::outcomes::expect_outcomes;
+use crate::samples::{
+    BODY_CLUSTER, DOOR_CLUSTER, HEADER, KEYS_CLUSTER, LIGHT_AND_FAN_CLUSTER, add, add_number,
+    add_place, expect_text, joined,
+};
 use lin_ldf::{
     Attributes, Description, EventFrame, Frame, Init, Name, Number, Signal, Sporadic, Table, parse,
 };
@@ -43,37 +46,35 @@ fn faults_of_tokens(rt: HostRuntime) -> Result<(), Fail> {
     )
 }
 
-fn list_name(alloc: Global, out: &mut Vec<u8>, label: &str, name: &Name) -> Result<(), Fail> {
-    out.extend_from_slice(label.as_bytes())?;
-    out.push(b' ')?;
-    out.extend_from_slice(name.text.as_slice())?;
-    let line = name.line;
-    let column = name.column;
-    out.extend_from_slice(format!(in alloc; "@{line}:{column}\n")?.as_bytes())?;
+/// Ends a line by the place of what it names.
+fn list_place(alloc: Global, out: &mut Vec<u8>, line: u64, column: u64) -> Result<(), Fail> {
+    out.push(b'@')?;
+    add_place(alloc, out, line, column)?;
+    out.push(b'\n')?;
     Ok(())
 }
 
-fn list_number(alloc: Global, out: &mut Vec<u8>, label: &str, number: Number) -> Result<(), Fail> {
-    let Number {
-        value,
-        line,
-        column,
-    } = number;
-    out.extend_from_slice(format!(in alloc; "{label} {value}@{line}:{column}\n")?.as_bytes())?;
-    Ok(())
+fn list_name(alloc: Global, out: &mut Vec<u8>, label: &str, name: &Name) -> Result<(), Fail> {
+    add(out, &[label.as_bytes(), b" ", name.text.as_slice()])?;
+    list_place(alloc, out, name.line, name.column)
+}
+
+fn list_number(alloc: Global, out: &mut Vec<u8>, label: &str, number: &Number) -> Result<(), Fail> {
+    add(out, &[label.as_bytes(), b" "])?;
+    add_number(alloc, out, u64::from(number.value))?;
+    list_place(alloc, out, number.line, number.column)
 }
 
 fn list_signal(alloc: Global, out: &mut Vec<u8>, signal: &Signal) -> Result<(), Fail> {
     list_name(alloc, out, "signal", &signal.name)?;
-    list_number(alloc, out, "size", signal.size)?;
+    list_number(alloc, out, "size", &signal.size)?;
     match &signal.init {
-        Init::Scalar(number) => list_number(alloc, out, "init", *number)?,
+        Init::Scalar(number) => list_number(alloc, out, "init", number)?,
         Init::Array(place, items) => {
-            let line = place.line;
-            let column = place.column;
-            out.extend_from_slice(format!(in alloc; "array@{line}:{column}\n")?.as_bytes())?;
+            out.extend_from_slice(b"array")?;
+            list_place(alloc, out, place.line, place.column)?;
             for item in items.as_slice() {
-                list_number(alloc, out, "item", *item)?;
+                list_number(alloc, out, "item", item)?;
             }
         }
     }
@@ -86,12 +87,12 @@ fn list_signal(alloc: Global, out: &mut Vec<u8>, signal: &Signal) -> Result<(), 
 
 fn list_frame(alloc: Global, out: &mut Vec<u8>, frame: &Frame) -> Result<(), Fail> {
     list_name(alloc, out, "frame", &frame.name)?;
-    list_number(alloc, out, "id", frame.id)?;
+    list_number(alloc, out, "id", &frame.id)?;
     list_name(alloc, out, "publisher", &frame.publisher)?;
-    list_number(alloc, out, "size", frame.size)?;
+    list_number(alloc, out, "size", &frame.size)?;
     for placed in frame.placed.as_slice() {
         list_name(alloc, out, "placed", &placed.signal)?;
-        list_number(alloc, out, "offset", placed.offset)?;
+        list_number(alloc, out, "offset", &placed.offset)?;
     }
     Ok(())
 }
@@ -99,7 +100,7 @@ fn list_frame(alloc: Global, out: &mut Vec<u8>, frame: &Frame) -> Result<(), Fai
 fn list_event(alloc: Global, out: &mut Vec<u8>, event: &EventFrame) -> Result<(), Fail> {
     list_name(alloc, out, "event", &event.name)?;
     list_name(alloc, out, "table", &event.table)?;
-    list_number(alloc, out, "id", event.id)?;
+    list_number(alloc, out, "id", &event.id)?;
     for member in event.members.as_slice() {
         list_name(alloc, out, "member", member)?;
     }
@@ -109,11 +110,9 @@ fn list_event(alloc: Global, out: &mut Vec<u8>, event: &EventFrame) -> Result<()
 fn list_attributes(alloc: Global, out: &mut Vec<u8>, block: &Attributes) -> Result<(), Fail> {
     list_name(alloc, out, "block", &block.node)?;
     if let Some(protocol) = &block.protocol {
-        out.extend_from_slice(b"protocol ")?;
-        out.extend_from_slice(protocol.as_slice())?;
-        out.push(b'\n')?;
+        add(out, &[b"protocol ", protocol.as_slice(), b"\n"])?;
     }
-    if let Some(nad) = block.configured_nad {
+    if let Some(nad) = &block.configured_nad {
         list_number(alloc, out, "NAD", nad)?;
     }
     Ok(())
@@ -122,22 +121,18 @@ fn list_attributes(alloc: Global, out: &mut Vec<u8>, block: &Attributes) -> Resu
 fn list_table(alloc: Global, out: &mut Vec<u8>, table: &Table) -> Result<(), Fail> {
     list_name(alloc, out, "table", &table.name)?;
     for entry in table.entries.as_slice() {
-        list_name(
-            alloc,
-            out,
-            if entry.has_group { "group" } else { "entry" },
-            &entry.name,
-        )?;
-        list_number(alloc, out, "delay", entry.delay)?;
+        let label = if entry.has_group { "group" } else { "entry" };
+        list_name(alloc, out, label, &entry.name)?;
+        list_number(alloc, out, "delay", &entry.delay)?;
     }
     Ok(())
 }
 
 fn list_nodes(alloc: Global, out: &mut Vec<u8>, d: &Description) -> Result<(), Fail> {
-    list_number(alloc, out, "speed", d.speed())?;
+    list_number(alloc, out, "speed", &d.speed())?;
     list_name(alloc, out, "master", d.master())?;
-    list_number(alloc, out, "time base", d.time_base())?;
-    list_number(alloc, out, "jitter", d.jitter())?;
+    list_number(alloc, out, "time base", &d.time_base())?;
+    list_number(alloc, out, "jitter", &d.jitter())?;
     for slave in d.slaves() {
         list_name(alloc, out, "slave", slave)?;
     }
@@ -181,7 +176,7 @@ fn listing(alloc: Global, d: &Description) -> Result<Vec<u8>, Fail> {
 fn declarations(rt: HostRuntime) -> Result<(), Fail> {
     let source = joined(rt.alloc(), &[HEADER, DECLARATIONS])?;
     let d = parse(rt.alloc(), &source)?;
-    assert_eq!(rt; listing(rt.alloc(), &d)?.as_slice(), LISTING);
+    expect_text(&rt, &listing(rt.alloc(), &d)?, LISTING, "listing");
     Ok(())
 }
 

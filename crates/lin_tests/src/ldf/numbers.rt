@@ -1,6 +1,7 @@
 //! Each number at its limit and above, and numbers of a form that can't stand there.
 
-use super::outcomes::{HEADER, expect_outcomes};
+use super::outcomes::expect_outcomes;
+use crate::samples::HEADER;
 use std::test::Fail;
 
 /// Numbers without fraction; hexadecimal ones too.

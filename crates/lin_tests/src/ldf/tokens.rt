@@ -1,6 +1,9 @@
 //! Tokens of whole texts, and each form at its edges.
 
-use crate::samples::{BODY_CLUSTER, DOOR_CLUSTER, KEYS_CLUSTER, LIGHT_AND_FAN_CLUSTER};
+use crate::samples::{
+    BODY_CLUSTER, DOOR_CLUSTER, KEYS_CLUSTER, LIGHT_AND_FAN_CLUSTER, add, add_number, add_place,
+    expect_text,
+};
 use lin_ldf::{Token, TokenKind, lex};
 use std::alloc::Global;
 use std::process::Abort;
@@ -22,29 +25,32 @@ fn letter(kind: TokenKind) -> u8 {
     }
 }
 
-/// The tokens of a text, each as the letter of its kind and its bytes; or the fault.
-fn spelled(alloc: Global, source: &[u8]) -> Result<Vec<u8>, Fail> {
+/// Tokens, each as the letter of its kind and its bytes.
+fn spelled_tokens(alloc: Global, source: &[u8], tokens: &[Token]) -> Result<Vec<u8>, Fail> {
     let mut out = Vec::new(alloc);
-    match lex(alloc, source) {
-        Ok(tokens) => {
-            for token in &tokens {
-                if !out.is_empty() {
-                    out.push(b' ')?;
-                }
-                out.push(letter(token.kind))?;
-                out.extend_from_slice(source.get(token.start..token.end).unwrap_or(b""))?;
-            }
+    for token in tokens {
+        if !out.is_empty() {
+            out.push(b' ')?;
         }
-        Err(fault) => out.extend_from_slice(format!(in alloc; "{fault}")?.as_bytes())?,
+        out.push(letter(token.kind))?;
+        out.extend_from_slice(source.get(token.start..token.end).unwrap_or(b""))?;
     }
     Ok(out)
+}
+
+/// The tokens of a text, or the fault.
+fn spelled(alloc: Global, source: &[u8]) -> Result<Vec<u8>, Fail> {
+    match lex(alloc, source) {
+        Ok(tokens) => spelled_tokens(alloc, source, &tokens),
+        Err(fault) => Ok(fault.to_string(alloc)?.into_bytes()),
+    }
 }
 
 /// A case is a text and, behind an arrow, its tokens or its fault.
 fn expect_case(rt: &impl Abort, alloc: Global, case: &str) -> Result<(), Fail> {
     let (source, want) = case.split_once(" => ").ok_or("no arrow")?;
     let found = spelled(alloc, source.as_bytes())?;
-    assert_eq!(rt; found.as_slice(), want.as_bytes(), "tokens of {source}");
+    expect_text(rt, &found, want.as_bytes(), source);
     Ok(())
 }
 
@@ -130,24 +136,23 @@ const BUILT_IN: &str = "1:1 0..20 wLIN_description_file
 ";
 
 /// A token as a line of the list above.
-fn listed(alloc: Global, source: &[u8], token: &Token) -> Result<String, Fail> {
-    let Token {
-        kind,
-        start,
-        end,
-        line,
-        column,
-    } = token;
-    let text = std::str::from_utf8(source.get(*start..*end).unwrap_or(b"")).unwrap_or("");
-    let kind = letter(*kind) as char;
-    Ok(format!(in alloc; "{line}:{column} {start}..{end} {kind}{text}")?)
+fn listed(alloc: Global, source: &[u8], token: &Token) -> Result<Vec<u8>, Fail> {
+    let mut out = Vec::new(alloc);
+    add_place(alloc, &mut out, token.line, token.column)?;
+    out.push(b' ')?;
+    add_number(alloc, &mut out, token.start as u64)?;
+    out.extend_from_slice(b"..")?;
+    add_number(alloc, &mut out, token.end as u64)?;
+    let text = source.get(token.start..token.end).unwrap_or(b"");
+    add(&mut out, &[b" ", &[letter(token.kind)], text])?;
+    Ok(out)
 }
 
 fn expect_tokens(rt: &impl Abort, alloc: Global, source: &[u8], lines: &str) -> Result<(), Fail> {
     let tokens = lex(alloc, source)?;
-    assert_eq!(rt; tokens.len(), lines.lines().count());
+    assert!(rt; tokens.len() == lines.lines().count());
     for (token, line) in tokens.iter().zip(lines.lines()) {
-        assert_eq!(rt; listed(alloc, source, token)?.as_str(), line);
+        expect_text(rt, &listed(alloc, source, token)?, line.as_bytes(), "token");
     }
     Ok(())
 }
@@ -169,17 +174,21 @@ fn other_clusters(rt: HostRuntime) -> Result<(), Fail> {
     expect_some(&rt, rt.alloc(), BODY_CLUSTER)
 }
 
+fn is_moved(a: &Token, b: &Token) -> bool {
+    a.kind == b.kind
+        && a.line == b.line
+        && a.column == b.column
+        && b.start.checked_sub(3) == Some(a.start)
+        && b.end.checked_sub(3) == Some(a.end)
+}
+
 /// The same tokens, three bytes further on.
 fn expect_moved(rt: &impl Abort, alloc: Global, source: &[u8], marked: &[u8]) -> Result<(), Fail> {
     let tokens = lex(alloc, source)?;
     let moved = lex(alloc, marked)?;
-    assert_eq!(rt; moved.len(), tokens.len());
+    assert!(rt; moved.len() == tokens.len());
     for (a, b) in tokens.iter().zip(moved.iter()) {
-        assert_eq!(rt; (a.kind, a.line, a.column), (b.kind, b.line, b.column));
-        assert_eq!(rt;
-            (b.start.checked_sub(3), b.end.checked_sub(3)),
-            (Some(a.start), Some(a.end))
-        );
+        assert!(rt; is_moved(a, b), "token at {}:{}", a.line, a.column);
     }
     Ok(())
 }
@@ -201,7 +210,7 @@ fn byte_order_mark(rt: HostRuntime) -> Result<(), Fail> {
 
 fn expect_bad_byte(rt: &impl Abort, alloc: Global, source: &[u8]) -> Result<(), Fail> {
     let found = spelled(alloc, source)?;
-    assert_eq!(rt; found.as_slice(), b"1:1 fault 1 BadByte".as_slice());
+    expect_text(rt, &found, b"1:1 fault 1 BadByte", "bad byte");
     Ok(())
 }
 
@@ -358,7 +367,7 @@ fn expect_alone(rt: &impl Abort, alloc: Global, c: u8) -> Result<(), Fail> {
         _ if kind_alone(c) == b'?' => b"1:1 fault 1 BadByte",
         _ => &token,
     };
-    assert_eq!(rt; found.as_slice(), want, "tokens of byte {c}");
+    assert!(rt; found.as_slice() == want, "tokens of byte {c}");
     Ok(())
 }
 
@@ -373,11 +382,10 @@ fn every_byte_alone(rt: HostRuntime) -> Result<(), Fail> {
 fn expect_last(rt: &impl Abort, alloc: Global, source: &[u8], column: u64) -> Result<(), Fail> {
     let tokens = lex(alloc, source)?;
     let last = tokens.last().ok_or("no token")?;
-    assert_eq!(rt; tokens.len(), source.len());
-    assert_eq!(rt;
-        (last.end, last.line, last.column),
-        (source.len(), 1, column)
-    );
+    assert!(rt; tokens.len() == source.len());
+    assert!(rt; last.end == source.len());
+    assert!(rt; last.line == 1);
+    assert!(rt; last.column == column);
     Ok(())
 }
 

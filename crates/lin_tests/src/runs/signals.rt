@@ -1,7 +1,7 @@
 //! Runs of signals, sporadic and event-triggered frames.
 
-use super::{core_behind, joined, state};
-use crate::samples::cluster_of;
+use super::{core_behind, state};
+use crate::samples::joined;
 use lin_core::Core;
 use lin_frame::Value;
 use std::alloc::Global;
@@ -9,7 +9,7 @@ use std::process::Abort;
 use std::test::Fail;
 
 /// A commander and two responders, with a frame of an array.
-const BUILD: &str = "LIN_description_file;
+const BUILD: &[u8] = b"LIN_description_file;
 LIN_protocol_version = \"2.2\";
 LIN_language_version = \"2.2\";
 LIN_speed = 19.2 kbps;
@@ -36,7 +36,7 @@ Node_attributes {
 ";
 
 /// Two sporadic frames, and the event-triggered frame of the keys, whose collisions the second table resolves.
-const KEYED: &str = "Sporadic_frames { Spor: Light, Fan; Alone: Fan; }
+const KEYED: &[u8] = b"Sporadic_frames { Spor: Light, Fan; Alone: Fan; }
 Event_triggered_frames { Keys: Resolve, 0x04, LeftKey, RightKey; }
 Schedule_tables {
   Main { Spor delay 10 ms; Keys delay 10 ms; Light delay 10 ms; Alone delay 10 ms; }
@@ -46,29 +46,41 @@ Schedule_tables {
 ";
 
 /// Neither.
-const PLAIN: &str = "Schedule_tables {
+const PLAIN: &[u8] = b"Schedule_tables {
   Main { Light delay 10 ms; Fan delay 5 ms; Pair delay 5 ms; }
   Resolve { LeftKey delay 10 ms; RightKey delay 10 ms; }
   Diag { MasterReq delay 10 ms; SlaveResp delay 10 ms; }
 }
 ";
 
-fn run(rt: &impl Abort, alloc: Global, frames: &str, log: &str) -> Result<Core, Fail> {
+/// What holds of the core behind a run on the cluster with these frames.
+fn expect_core<F: FnOnce(&Core) -> bool>(
+    rt: &impl Abort,
+    alloc: Global,
+    frames: &[u8],
+    log: &[u8],
+    holds: F,
+) -> Result<(), Fail>
+    requires { F.IsAlwaysCallable holds }
+{
     let text = joined(alloc, &[BUILD, frames])?;
-    let cluster = cluster_of(alloc, &text)?;
-    core_behind(rt, alloc, cluster, 16, log.as_bytes())
+    assert!(rt; holds(&core_behind(rt, alloc, &text, 16, log)?));
+    Ok(())
 }
 
-fn scalar(rt: &impl Abort, core: &Core, node: u8, signal: u16) -> Option<u16> {
-    assert!(rt; usize::from(node) < core.cluster().nodes());
-    assert!(rt; usize::from(signal) < core.cluster().signals());
+/// Whether a node has this number of a signal; of an array none.
+fn has_scalar(core: &Core, node: u8, signal: u16, want: Option<u16>) -> bool {
+    let cluster = core.cluster();
+    if usize::from(node) >= cluster.nodes() || usize::from(signal) >= cluster.signals() {
+        return false;
+    }
     match core.signal(node, signal) {
-        Value::Scalar(number) => Some(number),
-        Value::Bytes(_) => None,
+        Value::Scalar(number) => want == Some(number),
+        Value::Bytes(_) => want.is_none(),
     }
 }
 
-const COLLISION: &str = "h1 write 1 3 17
+const COLLISION: &[u8] = b"h1 write 1 3 17
 h2 write 2 4 34
 bus open
 > slot 0 0 -
@@ -105,14 +117,13 @@ bus open
 
 #[test]
 fn collision_and_resolution(rt: HostRuntime) -> Result<(), Fail> {
-    let core = run(&rt, rt.alloc(), KEYED, COLLISION)?;
-    assert_eq!(rt; scalar(&rt, &core, 0, 3), Some(17));
-    assert_eq!(rt; scalar(&rt, &core, 1, 4), Some(34));
-    Ok(())
+    expect_core(&rt, rt.alloc(), KEYED, COLLISION, |core| {
+        has_scalar(core, 0, 3, Some(17)) && has_scalar(core, 1, 4, Some(34))
+    })
 }
 
 /// A frame that two sporadic frames list goes for each of them.
-const UPDATES: &str = "bus write 0 2 7
+const UPDATES: &[u8] = b"bus write 0 2 7
 bus write 0 0 3
 bus open
 > slot 0 0 80
@@ -161,7 +172,7 @@ bus open
 ";
 
 /// A switch leaves the table that resolves a collision.
-const SWITCH: &str = "bus write 1 3 17
+const SWITCH: &[u8] = b"bus write 1 3 17
 bus write 2 4 34
 bus open
 > slot 0 0 -
@@ -190,12 +201,12 @@ bus open
 #[test]
 fn sporadic_updates_and_a_switch(rt: HostRuntime) -> Result<(), Fail> {
     for log in [UPDATES, SWITCH] {
-        run(&rt, rt.alloc(), KEYED, log)?;
+        expect_core(&rt, rt.alloc(), KEYED, log, |_| true)?;
     }
     Ok(())
 }
 
-const REFUSED: &str = "h1 write 0 0 1
+const REFUSED: &[u8] = b"h1 write 0 0 1
 > refused 14
 h1 write 1 0 1
 > refused 4
@@ -214,13 +225,14 @@ bus finish
 #[test]
 fn refused_writes(rt: HostRuntime) -> Result<(), Fail> {
     for frames in [KEYED, PLAIN] {
-        let core = run(&rt, rt.alloc(), frames, REFUSED)?;
-        assert_eq!(rt; scalar(&rt, &core, 0, 0), Some(2));
+        expect_core(&rt, rt.alloc(), frames, REFUSED, |core| {
+            has_scalar(core, 0, 0, Some(2))
+        })?;
     }
     Ok(())
 }
 
-const TABLES: &str = "bus open
+const TABLES: &[u8] = b"bus open
 > slot 0 0 80
 > due 0
 bus answer 0
@@ -246,12 +258,12 @@ bus answer 1
 
 #[test]
 fn tables_without_sporadic_frames(rt: HostRuntime) -> Result<(), Fail> {
-    let core = run(&rt, rt.alloc(), PLAIN, TABLES)?;
-    assert_eq!(rt; state(&rt, &core), (15_000, 0, 0));
-    Ok(())
+    expect_core(&rt, rt.alloc(), PLAIN, TABLES, |core| {
+        state(core) == (15_000, 0, 0)
+    })
 }
 
-const LIMITS: &str = "h0 write 0 0 15
+const LIMITS: &[u8] = b"h0 write 0 0 15
 h0 write 0 1 1023
 h0 write 0 5 xFF01
 bus open
@@ -265,9 +277,9 @@ bus finish
 
 #[test]
 fn values_at_their_limits(rt: HostRuntime) -> Result<(), Fail> {
-    let core = run(&rt, rt.alloc(), PLAIN, LIMITS)?;
-    assert_eq!(rt; scalar(&rt, &core, 1, 0), Some(15));
-    assert_eq!(rt; scalar(&rt, &core, 2, 1), Some(0x3FF));
-    assert_eq!(rt; scalar(&rt, &core, 0, 5), None);
-    Ok(())
+    expect_core(&rt, rt.alloc(), PLAIN, LIMITS, |core| {
+        has_scalar(core, 1, 0, Some(15))
+            && has_scalar(core, 2, 1, Some(0x3FF))
+            && has_scalar(core, 0, 5, None)
+    })
 }
