@@ -1,0 +1,10 @@
+use Rattle.std.proofs.Common.{◌≡◌, vec_len}
+use Rattle.lin_ports.specs.Rounds.{KeepsPump}
+use Rattle.lin_ports.proofs.pump.Pump.round.Given as goal
+
+abbrev pub invariant-loop-i : goal.invariant-loop-i
+invariant-loop-i l = record {
+  pump : KeepsPump l.fn.self l.self;
+  count : l.count ≡ vec_len l.self.lanes;
+  core : l.self.core ≡ l.initial.self.core;
+}
