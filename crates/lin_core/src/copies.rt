@@ -1,5 +1,9 @@
-//! Copies of steps.
+//! Copies of steps and events.
 
+ghost use Rattle.std.specs.Prelude.{◌≡◌};
+
+use crate::event::{Event, Seen};
+use crate::heard::copied_answer;
 use crate::payload::Payload;
 use crate::signals::copied;
 use crate::step::Step;
@@ -54,6 +58,69 @@ impl Step {
             Step::AskSleep => Ok(Step::AskSleep),
             Step::Wake => Ok(Step::Wake),
             Step::Close { host } => Ok(Step::Close { host: *host }),
+        }
+    }
+}
+
+/// A slot seen alike.
+fn copied_seen(seen: &Seen) -> Seen
+    ensures { result ≡ seen.now }
+{
+    match seen {
+        Seen::Silent => Seen::Silent,
+        Seen::NoAnswer => Seen::NoAnswer,
+        Seen::Good(answer) => Seen::Good(copied_answer(answer)),
+        Seen::Damaged => Seen::Damaged,
+        Seen::Collided => Seen::Collided,
+    }
+}
+
+impl Event {
+    ghost use Rattle.std.specs.Prelude.{◌≡◌, IfOk};
+
+    /// An equal event; an error is want of memory.
+    pub fn copy(&self, alloc: Global) -> Result<Event, AllocError>
+        ensures { IfOk result (λ e. e ≡ self.now) }
+    {
+        match self {
+            Event::Accepted { host, number } => Ok(Event::Accepted {
+                host: *host,
+                number: *number,
+            }),
+            Event::Slot {
+                table,
+                entry,
+                header,
+            } => Ok(Event::Slot {
+                table: *table,
+                entry: *entry,
+                header: *header,
+            }),
+            Event::Due { node } => Ok(Event::Due { node: *node }),
+            Event::Put { node, answer } => Ok(Event::Put {
+                node: *node,
+                answer: copied_answer(answer),
+            }),
+            Event::Seen(seen) => Ok(Event::Seen(copied_seen(seen))),
+            Event::Message { from, to, bytes } => Ok(Event::Message {
+                from: *from,
+                to: *to,
+                bytes: bytes.copy(alloc)?,
+            }),
+            Event::Sent { host, number } => Ok(Event::Sent {
+                host: *host,
+                number: *number,
+            }),
+            Event::Lost {
+                host,
+                number,
+                cause,
+            } => Ok(Event::Lost {
+                host: *host,
+                number: *number,
+                cause: *cause,
+            }),
+            Event::Asleep => Ok(Event::Asleep),
         }
     }
 }
