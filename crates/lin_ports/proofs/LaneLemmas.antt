@@ -1,8 +1,9 @@
 -- Lanes, as the log grows and as one of them changes.
-use Rattle.std.proofs.Common.{◌≡◌, ◌≢◌, ◌≤◌, ◌⊎◌, ℕ, zero, suc, List, [], ◌∷◌, ◌++◌, length, drop, Some, slice_set, refl, sym, ap, length-append, ◌∙◌, inl, inr, arith, Bool, true, false, Result, Ok, Err}
+use Rattle.std.proofs.Common.{◌≡◌, ◌≢◌, ◌<◌, ◌≤◌, ◌+◌, ◌⊎◌, ℕ, zero, suc, List, [], ◌∷◌, ◌++◌, length, take, drop, map, Some, None, slice_set, slice_index_or, vec_len, refl, sym, ap, length-append, append-nil, ◌∙◌, inl, inr, arith, Bool, true, false, Result, Ok, Err}
 use Rattle.std.specs.List.{slice_get}
+use Rattle.std.proofs.lemmas.Option.{slice_get_read}
 use Rattle.std.proofs.lemmas.List.{length-set, drop-append-le}
-use Rattle.lin_core.specs.Core.{CoreData, answered, IsStepped}
+use Rattle.lin_core.specs.Core.{CoreData, answered, IsAlike, IsStepped}
 use Rattle.lin_core.specs.Replies.{may}
 use Rattle.lin_core.specs.declared.hold.Hold.{Hold}
 use Rattle.lin_core.specs.declared.port.PortId.TheVariants.{Bus}
@@ -12,8 +13,10 @@ use Rattle.lin_core.specs.declared.step.Step.{Step}
 use Rattle.lin_ports.specs.declared.incoming.Incoming.{Incoming}
 use Rattle.lin_ports.specs.declared.incoming.Incoming.TheVariants as into
 use Rattle.lin_ports.specs.declared.lane.Lane.{Lane}
+use Rattle.lin_ports.specs.declared.pump.Pump.{Pump}
+use mathlib.Core.List.{IsPrefix}
 use Rattle.rtrb.specs.Ring.{sent}
-use Rattle.lin_ports.specs.Lanes.{popped, port_in, port_of, SameIncoming, SameLane, Serves, AllServe, InOrder, OnlyOwn, Served, KeepsLanes}
+use Rattle.lin_ports.specs.Lanes.{popped, port_in, port_of, lane_wiring, SameIncoming, SameLane, Serves, AllServe, InOrder, OnlyOwn, Adds, Served}
 use Rattle.lin_ports.proofs.PortLemmas.{logged-own, logged-other, told_more, port_at-no_bus}
 
 -- what a list has after a write at one place
@@ -33,25 +36,18 @@ slice_get-set_same (a ∷ xs) zero x y e = refl
 slice_get-set_same (a ∷ xs) (suc i) x y e = slice_get-set_same xs i x y e
 
 -- either the place that was written, or another with what it had
-pub slice_get-kept : {X : Type 0} (xs : List X) (i : ℕ) (y : X) (j : ℕ) (z : X) → slice_get xs j ≡ Some z → (j ≡ i) ⊎ (slice_get (slice_set xs i y) j ≡ Some z)
+pub slice_get-kept : {X : Type 0} (xs : List X) (i : ℕ) (y : X) (j : ℕ) (z : X) → slice_get xs j ≡ Some z → (j ≡ i) ⊎ ((j ≢ i) × (slice_get (slice_set xs i y) j ≡ Some z))
 slice_get-kept [] i y j z e = absurd (cc)
 slice_get-kept (x ∷ xs) zero y zero z e = inl refl
-slice_get-kept (x ∷ xs) zero y (suc j) z e = inr e
-slice_get-kept (x ∷ xs) (suc i) y zero z e = inr e
+slice_get-kept (x ∷ xs) zero y (suc j) z e = inr ((λ q. absurd (omega (arith, q))), e)
+slice_get-kept (x ∷ xs) (suc i) y zero z e = inr ((λ q. absurd (omega (arith, q))), e)
 slice_get-kept (x ∷ xs) (suc i) y (suc j) z e = elim (slice_get-kept xs i y j z e) [
   | inl h ↦ inl (ap suc h)
-  | inr h ↦ inr h
+  | inr h ↦ inr ((λ q. h.0 (omega (arith, q))), h.1)
 ]
 
--- the end of a ring tells which kind of port it is
-pub port_in-same : (n : ℕ) (a b : Incoming) → SameIncoming a b → port_in n b ≡ port_in n a
-port_in-same n (into.Host a) (into.Host b) h = refl
-port_in-same n (into.Host a) (into.Node b) h = absurd h
-port_in-same n (into.Node a) (into.Host b) h = absurd h
-port_in-same n (into.Node a) (into.Node b) h = refl
-
 pub port_of-same : (a b : Lane) → SameLane a b → port_of b ≡ port_of a
-port_of-same a b h = rw h.number (port_in-same a.number a.steps b.steps h.steps)
+port_of-same a b h = ap (λ w. w.port) h.wiring
 
 -- what a lane keeps of the log, whatever it is that stands in front of `base`
 pub serves_own : (base : ℕ) (log : List LogEntry) (e : LogEntry) (a b : Lane) → Serves base log a → e.port ≡ port_of a → port_of b ≡ port_of a
@@ -91,22 +87,13 @@ all_serve base log new lanes i lane all here there j l at = elim (slice_get-set 
   | inr h ↦ there j l h.0 h.1 (all j l h.1)
 ]
 
-in_same : (a : Incoming) → SameIncoming a a
-in_same (into.Host a) = ((refl, refl, refl, refl), refl)
-in_same (into.Node a) = ((refl, refl, refl, refl), refl)
+pub map-set_at : {X Y : Type 0} (f : X → Y) (xs : List X) (i : ℕ) (x y : X) → slice_get xs i ≡ Some x → f y ≡ f x → map f (slice_set xs i y) ≡ map f xs
+map-set_at f [] i x y e h = absurd (cc)
+map-set_at f (a ∷ xs) zero x y e h = (let k : a ≡ x = cc in ap (λ z. z ∷ map f xs) (h ∙ ap f (sym k)))
+map-set_at f (a ∷ xs) (suc i) x y e h = ap (λ zs. f a ∷ zs) (map-set_at f xs i x y e h)
 
-pub same_refl : (a : Lane) → SameLane a a
-same_refl a = record { number = refl; steps = in_same a.steps; notes = ((refl, refl, refl, refl), refl); settled = λ s. s }
-
-pub keeps_lanes : (lanes : List Lane) (i : ℕ) (old lane : Lane) → slice_get lanes i ≡ Some old → SameLane old lane → KeepsLanes lanes (slice_set lanes i lane)
-keeps_lanes lanes i old lane at same = record {
-  count = length-set lanes i lane;
-  each = λ j x here. elim (slice_get-kept lanes i lane j x here) [
-    | inl h ↦ let e : Some x ≡ Some old = sym here ∙ ap (slice_get lanes) h ∙ at in
-        let f : x ≡ old = cc in (lane, rw h (slice_get-set_same lanes i old lane at), rw f same)
-    | inr h ↦ (x, h, same_refl x)
-  ];
-}
+pub same_wirings : (lanes : List Lane) (i : ℕ) (old lane : Lane) → slice_get lanes i ≡ Some old → lane_wiring lane ≡ lane_wiring old → map lane_wiring (slice_set lanes i lane) ≡ map lane_wiring lanes
+same_wirings lanes i old lane at same = map-set_at lane_wiring lanes i old lane at same
 
 pub in_order : (nodes : ℕ) (lanes : List Lane) (i : ℕ) (old lane : Lane) → slice_get lanes i ≡ Some old → SameLane old lane → InOrder nodes lanes → InOrder nodes (slice_set lanes i lane)
 in_order nodes lanes i old lane at same order j l here = elim (slice_get-set lanes i lane j l here) [
@@ -129,7 +116,7 @@ slice_get-end [] x (suc i) y h = absurd (cc)
 slice_get-end (a ∷ xs) x zero y h = inl h
 slice_get-end (a ∷ xs) x (suc i) y h = slice_get-end xs x i y h
 
-pub own_more : (base : ℕ) (log : List LogEntry) (e : LogEntry) → base ≤ length log → may e.port e.step ≡ true → OnlyOwn base log → OnlyOwn base (log ++ e ∷ [])
+pub own_more : (base : ℕ) (log : List LogEntry) (e : LogEntry) → base ≤ length log → may e.port e.step ≡ true → OnlyOwn (drop base log) → OnlyOwn (drop base (log ++ e ∷ []))
 own_more base log e h own all i x at =
     let at' : slice_get (drop base log ++ e ∷ []) i ≡ Some x = rw (drop-append-le base log (e ∷ []) h) at at in
     elim (slice_get-end (drop base log) e i x at') [
@@ -137,7 +124,7 @@ own_more base log e h own all i x at =
       | inr q ↦ rw q own
     ]
 
-pub served_own : {E : Type 0} (base : ℕ) (port : PortId) (old new : CoreData) (r : Result Bool E) → base ≤ length old.log → Served port old new r → OnlyOwn base old.log → OnlyOwn base new.log
+pub served_own : {E : Type 0} (base : ℕ) (port : PortId) (old new : CoreData) (r : Result Bool E) → base ≤ length old.log → Served port old new r → OnlyOwn (drop base old.log) → OnlyOwn (drop base new.log)
 served_own base port old new (Ok true) h s own = rw s.log (own_more base old.log (answered old port s.step) h s.own own)
 served_own base port old new (Ok false) h s own = rw s own
 served_own base port old new (Err e) h s own = rw s own
@@ -152,6 +139,18 @@ bus_serves base nodes lanes old new step (Ok u) order all s i l at =
     rw s.0 (serves_other base old.log (answered old Bus step) l (λ q. port_at-no_bus nodes i (sym (order i l at) ∙ sym q)) (all i l at))
 bus_serves base nodes lanes old new step (Err e) order all s i l at = rw s.0 (all i l at)
 
-pub bus_own : (base : ℕ) (old new : CoreData) (step : Step) (r : Result Unit Hold) → base ≤ length old.log → OnlyOwn base old.log → IsStepped old Bus step r new → OnlyOwn base new.log
+pub bus_own : (base : ℕ) (old new : CoreData) (step : Step) (r : Result Unit Hold) → base ≤ length old.log → OnlyOwn (drop base old.log) → IsStepped old Bus step r new → OnlyOwn (drop base new.log)
 bus_own base old new step (Ok u) h own s = rw s.0 (own_more base old.log (answered old Bus step) h refl own)
 bus_own base old new step (Err e) h own s = rw s.0 own
+
+pub bus_alike : (old new : CoreData) (step : Step) (r : Result Unit Hold) → IsStepped old Bus step r new → IsAlike old new
+bus_alike old new step (Ok u) s = s.1
+bus_alike old new step (Err e) s = s.2
+
+pub bus_prefix : (old new : CoreData) (step : Step) (r : Result Unit Hold) → IsStepped old Bus step r new → IsPrefix old.log new.log
+bus_prefix old new step (Ok u) s = (answered old Bus step ∷ [], sym s.0)
+bus_prefix old new step (Err e) s = ([], append-nil old.log ∙ sym s.0)
+
+-- the lane at a place
+pub at_lane : (p : Pump) (i : ℕ) (lane : Lane) → i < vec_len p.lanes → lane ≡ slice_index_or p.lanes.items i lane → slice_get p.lanes.items i ≡ Some lane
+at_lane p i lane h is = slice_get_read p.lanes.items _ i lane refl (let ok = p.lanes.ok in omega arith) is

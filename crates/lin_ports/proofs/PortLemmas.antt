@@ -9,7 +9,24 @@ use Rattle.lin_core.specs.declared.port.PortId.TheVariants.{Bus, Host, Node}
 use Rattle.lin_core.specs.declared.log.LogEntry.{LogEntry}
 use Rattle.lin_core.specs.declared.reply.Reply.{Reply}
 use Rattle.lin_core.specs.declared.reply.Reply.TheVariants.{Done, Refused}
+use Rattle.std.specs.declared.alloc.Global.{Global}
+use Rattle.rtrb.specs.Ring.{IsPair, SameProducer, SameConsumer}
+use Rattle.rtrb.specs.declared.producer.Producer.{Producer}
+use Rattle.rtrb.specs.declared.consumer.Consumer.{Consumer}
+use Rattle.lin_ports.specs.Ports.{Wiring, RingId, ring_into, ring_from, ring_out, port_out}
+use Rattle.lin_ports.specs.Lanes.{port_in}
+use Rattle.lin_ports.specs.declared.ports.Outgoing.{Outgoing}
+use Rattle.lin_ports.specs.declared.steps.Note.{Note}
+use Rattle.lin_ports.specs.declared.ports.Outgoing.TheVariants as out
+use Rattle.lin_ports.specs.declared.incoming.Incoming.{Incoming}
+use Rattle.lin_ports.specs.declared.incoming.Incoming.TheVariants as into
 use Rattle.lin_ports.specs.Steps.{port_at, same_port, step_by, logged, notes_in, notes, part_notes, first_notes, told}
+
+pub into_same : {T P : Type 0} (a b : Producer T Global P) → SameProducer a b → ring_into b ≡ ring_into a
+into_same a b h = rw (h.0.0, h.0.1, h.0.2, h.0.3) refl
+
+pub from_same : {T P : Type 0} (a b : Consumer T Global P) → SameConsumer a b → ring_from b ≡ ring_from a
+from_same a b h = rw (h.0.0, h.0.1, h.0.2, h.0.3) refl
 
 pub same_port-refl : (p : PortId) → same_port p p ≡ true
 same_port-refl Bus = refl
@@ -34,10 +51,10 @@ not_true p q false h n = refl
 pub same_port-false : (p q : PortId) → p ≢ q → same_port p q ≡ false
 same_port-false p q n = not_true p q (same_port p q) refl n
 
-abbrev host_number : PortId → ℕ
-host_number Bus = 0
-host_number (Host n) = n
-host_number (Node n) = n
+abbrev number_of : PortId → ℕ
+number_of Bus = 0
+number_of (Host n) = n
+number_of (Node n) = n
 
 abbrev is_host : PortId → Bool
 is_host Bus = false
@@ -49,10 +66,10 @@ abbrev port_of_bool : Bool → ℕ → ℕ → PortId
 port_of_bool b nodes i = if b then Host i else Node (i - nodes)
 
 apart : (b c : Bool) (nodes i j : ℕ) → nat_lt i nodes ≡ b → nat_lt j nodes ≡ c → port_of_bool b nodes i ≡ port_of_bool c nodes j → i ≡ j
-apart true true nodes i j p q e = ap host_number e
+apart true true nodes i j p q e = ap number_of e
 apart true false nodes i j p q e = (let f : true ≡ false = ap is_host e in absurd (cc))
 apart false true nodes i j p q e = (let f : false ≡ true = ap is_host e in absurd (cc))
-apart false false nodes i j p q e = (let f : i - nodes ≡ j - nodes = ap host_number e in grind (arith, common_steps))
+apart false false nodes i j p q e = (let f : i - nodes ≡ j - nodes = ap number_of e in grind (arith, common_steps))
 
 pub port_at-apart : (nodes i j : ℕ) → port_at nodes i ≡ port_at nodes j → i ≡ j
 port_at-apart nodes i j e = apart (nat_lt i nodes) (nat_lt j nodes) nodes i j refl refl e
@@ -94,3 +111,23 @@ pub told_more : (port : PortId) (base seen part : ℕ) (log : List LogEntry) (e 
 told_more port base seen part log e within whole =
     rw (take-append-le seen log (e ∷ []) within, drop-append-le seen log (e ∷ []) within)
     (ap (λ xs. notes (drop base (take seen log)) port ++ xs) (first_more port part (drop seen log) e (λ z. whole (let q = length-drop seen log in omega arith))))
+
+pub pair_of : {T P : Type 0} (p : Producer T Global P) (c : Consumer T Global P) → ring_from c ≡ ring_into p → IsPair p c
+pair_of p c h = (ap (λ r. r.words) h, ap (λ r. r.slots) h, ap (λ r. r.names) h, ap (λ r. r.heap) h)
+
+pub ring_of_pair : {T P : Type 0} (p : Producer T Global P) (c : Consumer T Global P) → IsPair p c → ring_from c ≡ ring_into p
+ring_of_pair p c h = rw (h.0, h.1, h.2, h.3) refl
+
+-- the two ends of one port's ring of steps have one kind and one number
+pub one_port : (m n : ℕ) (o : Outgoing) (i : Incoming) → port_out m o ≡ port_in n i → (m ≡ n) × (port_out 0 o ≡ port_in 0 i)
+one_port m n (out.Host a) (into.Host b) h = (ap number_of h, refl)
+one_port m n (out.Host a) (into.Node b) h = (let f : true ≡ false = ap is_host h in absurd (cc))
+one_port m n (out.Node a) (into.Host b) h = (let f : false ≡ true = ap is_host h in absurd (cc))
+one_port m n (out.Node a) (into.Node b) h = (ap number_of h, refl)
+
+abbrev wired : PortId → RingId → RingId → Wiring
+wired port steps notes = record { port = port; steps = steps; notes = notes }
+
+pub same_port_wiring : {P : Type 0} (n : ℕ) (o o' : Outgoing) (c c' : Consumer Note Global P) → port_out n o' ≡ port_out n o → ring_out o' ≡ ring_out o → ring_from c' ≡ ring_from c
+    → wired (port_out n o') (ring_out o') (ring_from c') ≡ wired (port_out n o) (ring_out o) (ring_from c)
+same_port_wiring n o o' c c' port steps notes = rw (port, steps, notes) refl

@@ -1,10 +1,12 @@
 -- What a port was told, as it is told more.
 use Rattle.std.proofs.Common.{◌≡◌, ◌≤◌, ◌+◌, ℕ, zero, suc, List, [], ◌∷◌, ◌++◌, length, take, drop, map, filter, Some, refl, sym, ap, ◌∙◌, append_assoc, append-nil, length-append, add-one, arith, Bool}
 use Rattle.std.specs.List.{slice_get}
-use Rattle.std.proofs.lemmas.List.{drop-append-le, map-append, length-take-le}
+use Rattle.std.proofs.lemmas.List.{drop-append-le, map-append, length-take-le, take-append-drop}
 use Rattle.std.proofs.lemmas.List.Elements.{filter-append}
 use Rattle.std.proofs.lemmas.Option.{slice_get_within}
 use Rattle.rtrb.specs.Ring.{sent, SameProducer}
+use mathlib.Core.List.{IsPrefix}
+use Rattle.lin_ports.specs.Ports.{ring_into}
 use Rattle.lin_core.specs.declared.log.LogEntry.{LogEntry}
 use Rattle.lin_core.specs.declared.event.Event.{Event}
 use Rattle.lin_core.specs.declared.port.PortId.{PortId}
@@ -16,8 +18,8 @@ use Rattle.lin_ports.specs.declared.steps.Note.{Note}
 use Rattle.lin_ports.specs.declared.steps.Note.TheVariants as note
 use Rattle.lin_ports.specs.Steps.{same_port, is_note_for, event_notes, reply_notes, notes_in, notes, part_notes, first_notes, told}
 use Rattle.lin_ports.specs.declared.incoming.Incoming.{Incoming}
-use Rattle.lin_ports.specs.Lanes.{Serves, Tells, SameLane, SameIncoming, port_of}
-use Rattle.lin_ports.proofs.PortLemmas.{notes-append}
+use Rattle.lin_ports.specs.Lanes.{Serves, Tells, SameLane, lane_wiring, port_of}
+use Rattle.lin_ports.proofs.PortLemmas.{into_same, notes-append}
 
 take_all : {X : Type 0} (k : ℕ) (xs : List X) → length xs ≤ k → take k xs ≡ xs
 take_all zero [] h = refl
@@ -70,6 +72,9 @@ all_events port base seen part log e events at is full = rw (drop-next log seen 
 no_events : (port : PortId) (base seen part : ℕ) (log : List LogEntry) (e : LogEntry) (r : Refusal) → slice_get log seen ≡ Some e → e.reply ≡ Refused r
     → told port base seen part log ≡ notes (drop base (take seen log)) port
 no_events port base seen part log e r at is = rw (drop-next log seen e at, is) (append-nil (notes (drop base (take seen log)) port))
+
+pub same_wiring : (a b : Lane) (xs : List Note) → Tells a b xs → lane_wiring b ≡ lane_wiring a
+same_wiring a b xs t = rw (t.number, t.steps, t.ring) refl
 
 -- a lane that has looked at one more event
 pub serves_event : (base : ℕ) (log : List LogEntry) (e : LogEntry) (events : List Event) (x : Event) (a b : Lane) → Serves base log a → slice_get log a.seen ≡ Some e → e.reply ≡ Done events → slice_get events a.part ≡ Some x
@@ -128,7 +133,7 @@ pub tells_none : (a b : Lane) → b.number ≡ a.number → b.steps ≡ a.steps 
 tells_none a b number steps notes_ given settled = record {
   number = number;
   steps = steps;
-  ring = rw notes_ ((refl, refl, refl, refl), refl);
+  ring = ap ring_into notes_;
   notes = rw notes_ (sym (append-nil (sent a.notes)));
   given = λ g. given ∙ g ∙ ap (λ p. length (sent p)) (sym notes_);
   settled = settled;
@@ -139,25 +144,32 @@ pub tells_more : (a b c : Lane) (x : Note) → Tells a b [] → c.number ≡ b.n
 tells_more a b c x t number steps ring more given settled = record {
   number = number ∙ t.number;
   steps = steps ∙ t.steps;
-  ring = (
-    (ring.0.0 ∙ t.ring.0.0, ring.0.1 ∙ t.ring.0.1, ring.0.2 ∙ t.ring.0.2, ring.0.3 ∙ t.ring.0.3),
-    ring.1 ∙ t.ring.1,
-  );
+  ring = into_same b.notes c.notes ring ∙ t.ring;
   notes = more ∙ ap (λ xs. xs ++ x ∷ []) (t.notes ∙ append-nil (sent a.notes));
   given = λ g. let h = t.given g in let q = length-append (sent b.notes) (x ∷ []) in rw more (omega arith);
   settled = settled ∙ t.settled;
 }
 
-in_trans : (i a b : Incoming) → SameIncoming i a → b ≡ a → SameIncoming i b
-in_trans i a b h e = rw e h
-
 pub same_tells : (i a b : Lane) (xs : List Note) → SameLane i a → Tells a b xs → SameLane i b
-same_tells i a b xs s t = record {
-  number = t.number ∙ s.number;
-  steps = in_trans i.steps a.steps b.steps s.steps t.steps;
-  notes = (
-    (t.ring.0.0 ∙ s.notes.0.0, t.ring.0.1 ∙ s.notes.0.1, t.ring.0.2 ∙ s.notes.0.2, t.ring.0.3 ∙ s.notes.0.3),
-    t.ring.1 ∙ s.notes.1,
-  );
-  settled = λ q. t.settled ∙ s.settled q;
-}
+same_tells i a b xs s t = record { wiring = same_wiring a b xs t ∙ s.wiring; settled = λ q. t.settled ∙ s.settled q }
+
+part_first : (port : PortId) (k : ℕ) (r : Reply) (own : Bool) → (rest : List Note) × (part_notes port k r ++ rest ≡ reply_notes port own r)
+part_first port k (Done events) own = (event_notes port (drop k events), sym (event_notes-append port (take k events) (drop k events)) ∙ ap (event_notes port) (take-append-drop k events))
+part_first port k (Refused r) own = (reply_notes port own (Refused r), refl)
+
+first_first : (port : PortId) (k : ℕ) (es : List LogEntry) → (rest : List Note) × (first_notes port k es ++ rest ≡ notes es port)
+first_first port k [] = ([], refl)
+first_first port k (e ∷ es) = let h = part_first port k e.reply (same_port e.port port) in
+    (h.0 ++ notes es port, sym (append_assoc (part_notes port k e.reply) h.0 (notes es port)) ∙ ap (λ xs. xs ++ notes es port) h.1)
+
+-- what was told of a log is the beginning of its notes
+pub told_first : (port : PortId) (base seen part : ℕ) (log : List LogEntry) → base ≤ seen → seen ≤ length log → IsPrefix (told port base seen part log) (notes (drop base log) port)
+told_first port base seen part log after within =
+    let h = first_first port part (drop seen log) in
+    let start : List LogEntry = drop base (take seen log) in
+    let whole : start ++ drop seen log ≡ drop base log = sym (drop-append-le base (take seen log) (drop seen log) (small base seen log after within)) ∙ ap (drop base) (take-append-drop seen log) in
+    (h.0, append_assoc (notes start port) (first_notes port part (drop seen log)) h.0 ∙ ap (λ xs. notes start port ++ xs) h.1 ∙ sym (notes-append start (drop seen log) port) ∙ ap (λ es. notes es port) whole)
+
+-- what was pushed to a lane is the beginning of its notes
+pub given_first : (base : ℕ) (log : List LogEntry) (lane : Lane) → Serves base log lane → IsPrefix (sent lane.notes) (notes (drop base log) (port_of lane))
+given_first base log lane s = rw s.notes (told_first (port_of lane) base lane.seen lane.part log s.after s.within)

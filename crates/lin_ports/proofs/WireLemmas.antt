@@ -1,6 +1,7 @@
 -- Lanes that were just made.
-use Rattle.std.proofs.Common.{◌≡◌, ◌<◌, ◌+◌, ℕ, zero, suc, List, [], ◌∷◌, ◌++◌, length, nat_lt, Some, refl, sym, ap, ◌∙◌, ◌⊎◌, inl, inr, arith, true, false}
+use Rattle.std.proofs.Common.{◌≡◌, ◌<◌, ◌≤◌, ◌+◌, ◌-◌, ℕ, zero, suc, List, [], ◌∷◌, ◌++◌, length, take, drop, append_assoc, map, nat_lt, Some, refl, sym, ap, ◌∙◌, ◌⊎◌, inl, inr, arith, Bool, true, false}
 use Rattle.std.specs.List.{slice_get}
+use Rattle.std.proofs.lemmas.List.{map-append}
 use Rattle.std.proofs.Math.Seq.{take-length, drop-length}
 use Rattle.std.proofs.lemmas.Grind.{common_steps}
 use Rattle.lin_core.specs.declared.log.LogEntry.{LogEntry}
@@ -8,7 +9,7 @@ use Rattle.lin_core.specs.declared.port.PortId.{PortId}
 use Rattle.lin_core.specs.declared.port.PortId.TheVariants.{Host, Node}
 use Rattle.lin_ports.specs.Steps.{port_at}
 use Rattle.lin_ports.specs.Lanes.{Serves, AllServe, InOrder, OnlyOwn}
-use Rattle.lin_ports.specs.Wired.{IsFresh, AreFresh}
+use Rattle.lin_ports.specs.Wired.{Each, IsNewLane, AreNewLanes}
 use Rattle.lin_ports.specs.declared.lane.Lane.{Lane}
 
 is_below : (i n : ℕ) → i < n → nat_lt i n ≡ true
@@ -33,36 +34,40 @@ slice_get-last (a ∷ xs) x (suc i) y h = elim (slice_get-last xs x i y h) [
   | inr p ↦ inr (ap suc p.0, p.1)
 ]
 
-pub fresh_none : (nodes seen : ℕ) → AreFresh nodes seen []
-fresh_none nodes seen i lane h = absurd (cc)
+pub each_none : {X : Type 0} (P : ℕ → X → Type 0) → Each P []
+each_none P i x h = absurd (cc)
 
-pub fresh_more : (nodes seen : ℕ) (lanes : List Lane) (lane : Lane) → AreFresh nodes seen lanes → IsFresh seen (port_at nodes (length lanes)) lane → AreFresh nodes seen (lanes ++ lane ∷ [])
-fresh_more nodes seen lanes lane all one i l h = elim (slice_get-last lanes lane i l h) [
-  | inl p ↦ all i l p
+pub each_more : {X : Type 0} (P : ℕ → X → Type 0) (xs : List X) (x : X) → Each P xs → P (length xs) x → Each P (xs ++ x ∷ [])
+each_more P xs x all one i y h = elim (slice_get-last xs x i y h) [
+  | inl p ↦ all i y p
   | inr p ↦ rw (p.0, p.1) one
 ]
 
-fresh_serves : (log : List LogEntry) (port : PortId) (lane : Lane) → IsFresh (length log) port lane → Serves (length log) log lane
-fresh_serves log port lane f = record {
-  steps = rw (drop-length log) (sym f.popped_);
+new_serves : (log : List LogEntry) (port : PortId) (lane : Lane) → IsNewLane (length log) port lane → Serves (length log) log lane
+new_serves log port lane f = record {
+  steps = rw (drop-length log) (sym f.steps);
   after = (let s = f.seen in omega arith);
   within = (let s = f.seen in omega arith);
   whole = λ z. f.part;
-  notes = f.told ∙ rw (f.seen, f.part, take-length log, drop-length log) refl;
-  given = f.given ∙ ap length (sym f.told);
+  notes = f.notes ∙ rw (f.seen, f.part, take-length log, drop-length log) refl;
+  given = f.given ∙ ap length (sym f.notes);
 }
 
-pub fresh_serve : (nodes : ℕ) (log : List LogEntry) (lanes : List Lane) → AreFresh nodes (length log) lanes → AllServe (length log) log lanes
-fresh_serve nodes log lanes all i lane at = fresh_serves log (port_at nodes i) lane (all i lane at)
+pub new_serve : (nodes : ℕ) (log : List LogEntry) (lanes : List Lane) → AreNewLanes nodes (length log) lanes → AllServe (length log) log lanes
+new_serve nodes log lanes all i lane at = new_serves log (port_at nodes i) lane (all i lane at)
 
-pub fresh_order : (nodes seen : ℕ) (lanes : List Lane) → AreFresh nodes seen lanes → InOrder nodes lanes
-fresh_order nodes seen lanes all i lane at = (all i lane at).port
+pub new_order : (nodes start : ℕ) (lanes : List Lane) → AreNewLanes nodes start lanes → InOrder nodes lanes
+new_order nodes start lanes all i lane at = (all i lane at).port
 
-pub own_none : (log : List LogEntry) → OnlyOwn (length log) log
+pub own_none : (log : List LogEntry) → OnlyOwn (drop (length log) log)
 own_none log i e at = let h : slice_get [] i ≡ Some e = rw (drop-length log) at at in absurd (cc)
 
-pub at_host : (nodes seen i k : ℕ) (lane : Lane) → i < nodes → k ≡ i → IsFresh seen (Host i) lane → IsFresh seen (port_at nodes k) lane
-at_host nodes seen i k lane h e f = rw (e, port_at-host nodes i h) f
+pub at_host : (nodes start i k : ℕ) (lane : Lane) → i < nodes → k ≡ i → IsNewLane start (Host i) lane → IsNewLane start (port_at nodes k) lane
+at_host nodes start i k lane h e f = rw (e, port_at-host nodes i h) f
 
-pub at_node : (nodes seen i k : ℕ) (lane : Lane) → k ≡ nodes + i → IsFresh seen (Node i) lane → IsFresh seen (port_at nodes k) lane
-at_node nodes seen i k lane e f = rw (e, port_at-node nodes i) f
+pub at_node : (nodes start i k : ℕ) (lane : Lane) → k ≡ nodes + i → IsNewLane start (Node i) lane → IsNewLane start (port_at nodes k) lane
+at_node nodes start i k lane e f = rw (e, port_at-node nodes i) f
+
+-- one more lane, with its port
+pub wired_more : {X Y W : Type 0} (f : X → W) (g : Y → W) (xs : List X) (ys : List Y) (ws : List W) (x : X) (y : Y) → map f xs ≡ ws ++ map g ys → f x ≡ g y → map f (xs ++ x ∷ []) ≡ ws ++ map g (ys ++ y ∷ [])
+wired_more f g xs ys ws x y h one = rw (map-append f xs (x ∷ []), map-append g ys (y ∷ []), h, one) (append_assoc ws (map g ys) (g y ∷ []))

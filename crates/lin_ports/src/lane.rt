@@ -11,7 +11,7 @@ use rtrb::Producer;
 /// The pump's side of a port: its ends of the two rings, and how far the port was told of the log: all events of the entries before `seen`, and
 /// the first `part` events of the entry there.
 #[derive(Drop)]
-pub struct Lane {
+pub(crate) struct Lane {
     pub(crate) number: u8,
     pub(crate) steps: Incoming,
     pub(crate) notes: Producer<Note>,

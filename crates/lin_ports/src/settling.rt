@@ -6,7 +6,7 @@ use crate::incoming::Incoming;
 use crate::lane::Lane;
 use crate::ports::{Outgoing, Receipt};
 
-/// What settling a receipt found: all of its steps in the log, or some still in the ring.
+/// What settling found: all steps of the port are logged and the pump passes it over from now on, or some still stand in its ring.
 #[derive(Drop)]
 pub enum Settled {
     Whole(Receipt),
@@ -16,15 +16,17 @@ pub enum Settled {
 impl Incoming {
     ghost use Rattle.std.specs.Prelude.{◌≡◌, ◌++◌, ℕ, List, length};
     ghost use Rattle.lin_core.specs.declared.step.Step.{Step};
-    ghost use Rattle.lin_ports.specs.Lanes.{SameIncoming, popped};
-    ghost use Rattle.lin_ports.specs.Ports.{SameOutgoing, ArePaired, puts};
+    ghost use Rattle.lin_ports.specs.Lanes.{SameIncoming, popped, port_in, ring_in};
+    ghost use Rattle.lin_ports.specs.Ports.{port_out, ring_out, puts};
 
     /// How many steps still stand in the ring, with both ends in one thread.
     pub(crate) fn left_beside(&mut self, put: &mut Outgoing) -> usize
-        requires { ArePaired put.old self.old }
+        requires kind { port_out 0 put.old ≡ port_in 0 self.old }
+        requires ring { ring_out put.old ≡ ring_in self.old }
         ensures same { SameIncoming self.old self.new }
         ensures popped { (n : ℕ) → popped n self.new ≡ popped n self.old }
-        ensures out { SameOutgoing put.old put.new }
+        ensures port { (n : ℕ) → port_out n put.new ≡ port_out n put.old }
+        ensures ring { ring_out put.new ≡ ring_out put.old }
         ensures puts { (n : ℕ) → puts n put.new ≡ puts n put.old }
         ensures fifo { (n : ℕ) → (rest : List Step) × (popped n self.new ++ rest ≡ puts n put.new) × (length rest ≡ result) }
     {
@@ -42,18 +44,15 @@ impl Incoming {
 }
 
 impl Lane {
-    ghost use Rattle.std.specs.Prelude.{◌≡◌, true};
-    ghost use Rattle.rtrb.specs.Ring.{IsPair};
-    ghost use Rattle.lin_ports.specs.Ports.{ArePaired};
-    ghost use Rattle.lin_ports.specs.Settled.{LaneSettles};
-    ghost use Rattle.lin_ports.specs.Lanes.{SameLane, Tells};
+    ghost use Rattle.std.specs.Prelude.{◌≡◌};
+    ghost use Rattle.lin_ports.specs.Ports.{receipt_wiring};
+    ghost use Rattle.lin_ports.specs.Settled.{KeptLane, LaneSettles};
+    ghost use Rattle.lin_ports.specs.Lanes.{lane_wiring};
 
     /// Compares what the port put with what came out of its ring.
     pub(crate) fn settle(&mut self, receipt: Receipt) -> Settled
-        requires number { receipt.number ≡ self.old.number }
-        requires steps { ArePaired receipt.steps self.old.steps }
-        requires notes { IsPair self.old.notes receipt.notes }
-        ensures same { SameLane self.old self.new }
+        requires { receipt_wiring receipt ≡ lane_wiring self.old }
+        ensures kept { KeptLane self.old self.new }
         ensures settles { LaneSettles self.old self.new receipt result }
     {
         let Receipt {
@@ -68,7 +67,8 @@ impl Lane {
             steps,
             notes,
         };
-        if left == 0 {
+        let is_whole = left == 0;
+        if is_whole {
             self.settled = true;
             Settled::Whole(receipt)
         } else {

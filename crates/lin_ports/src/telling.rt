@@ -1,51 +1,17 @@
 //! How a port is told of the log.
 
-ghost use Rattle.std.specs.Prelude.{◌≡◌, ◌<◌, ◌≤◌, ◌+◌, ◌-◌, ◌^◌, ◌∷◌, [], length, IfOk, MatchResult, MatchBool};
+ghost use Rattle.std.specs.Prelude.{◌≡◌, ◌<◌, ◌≤◌, ◌+◌, ◌-◌, ◌^◌, ◌∷◌, [], length, MatchResult, MatchBool};
 
 use crate::lane::Lane;
 use crate::steps::{Note, is_same, is_told};
-use lin_core::{Core, Event, LogEntry, Payload, PortId, Refusal, Reply};
+use lin_core::{Core, Event, LogEntry, PortId, Refusal, Reply};
 use std::alloc::{AllocError, Global};
 
-/// An equal event of those that ports are told. (To be `Event::copy` of `lin_core`.)
-fn copied(alloc: Global, event: &Event) -> Result<Event, AllocError>
-    ensures { IfOk result (λ e. e ≡ event.now) }
-{
-    match event {
-        Event::Accepted { host, number } => Ok(Event::Accepted {
-            host: *host,
-            number: *number,
-        }),
-        Event::Due { node } => Ok(Event::Due { node: *node }),
-        Event::Message { from, to, bytes } => Ok(Event::Message {
-            from: *from,
-            to: *to,
-            bytes: Payload::new(Vec::from_slice(alloc, bytes.as_slice())?),
-        }),
-        Event::Sent { host, number } => Ok(Event::Sent {
-            host: *host,
-            number: *number,
-        }),
-        Event::Lost {
-            host,
-            number,
-            cause,
-        } => Ok(Event::Lost {
-            host: *host,
-            number: *number,
-            cause: *cause,
-        }),
-        _ => Err(AllocError),
-    }
-}
-
 impl Lane {
-    ghost use Rattle.std.specs.Prelude.{◌≡◌, ◌<◌, ◌+◌, ◌-◌, ◌^◌, ◌∷◌, [], ℕ, ⊤, length, MatchResult, MatchBool};
-    ghost use Rattle.lin_core.specs.History.{events};
-    ghost use Rattle.lin_ports.specs.Lanes.{Tells, Serves, SameLane, port_of};
+    ghost use Rattle.std.specs.Prelude.{◌≡◌, ◌<◌, ◌+◌, ◌-◌, ◌^◌, ◌∷◌, [], ℕ, ⊤, List, Some, length, MatchResult, MatchBool};
+    ghost use Rattle.lin_ports.specs.Lanes.{GoesOn, Tells, TellsEvent, Serves, SameLane, port_of};
     ghost use Rattle.lin_ports.specs.Steps.{event_notes};
     ghost use Rattle.rtrb.specs.Ring.{known_free};
-    ghost use Rattle.std.specs.Prelude.{◌≤◌, List, Some};
     ghost use Rattle.std.specs.List.{slice_get};
     ghost use Rattle.lin_core.specs.declared.log.LogEntry.{LogEntry};
     ghost use Rattle.lin_core.specs.declared.reply.Reply.TheVariants.{Done, Refused};
@@ -64,7 +30,7 @@ impl Lane {
     fn tell_event(&mut self, alloc: Global, event: &Event) -> Result<bool, AllocError>
         requires { self.old.part < 2 ^ 64 - 1 }
         ensures seen { self.new.seen ≡ self.old.seen }
-        ensures told { MatchResult result (λ b. MatchBool b (Tells self.old self.new (event_notes (port_of self.old) (event.now ∷ [])) × (self.new.part ≡ self.old.part + 1)) (Tells self.old self.new [] × (self.new.part ≡ self.old.part))) (λ _. Tells self.old self.new [] × (self.new.part ≡ self.old.part)) }
+        ensures told { TellsEvent self.old self.new (event_notes (port_of self.old) (event.now ∷ [])) result }
     {
         if !is_told(self.port(), event) {
             self.part += 1;
@@ -73,7 +39,7 @@ impl Lane {
         if !self.has_room() {
             return Ok(false);
         }
-        let copy = match copied(alloc, event) {
+        let copy = match event.copy(alloc) {
             Ok(copy) => copy,
             Err(refused) => return Err(refused),
         };
@@ -83,12 +49,16 @@ impl Lane {
         Ok(true)
     }
 
-    /// Pushes the notes of an entry's events from `part` on. False where the ring has no room; otherwise the next entry comes.
+    /// Pushes the notes of an entry's events from `part` on, and goes on to the next entry. False where the ring has no room.
     fn tell_events(&mut self, alloc: Global, events: &[Event]) -> Result<bool, AllocError>
         requires { self.old.seen < 2 ^ 32 }
         ensures same { SameLane self.old self.new }
-        ensures serves { (base : ℕ) (log : List LogEntry) (e : LogEntry) → Serves base log self.old → slice_get log self.old.seen ≡ Some e → e.reply ≡ Done events.now → Serves base log self.new }
-        ensures next { MatchResult result (λ b. MatchBool b (self.new.seen ≡ self.old.seen + 1) (self.new.seen ≡ self.old.seen)) (λ _. self.new.seen ≡ self.old.seen) }
+        ensures serves { (base : ℕ) (log : List LogEntry) (e : LogEntry)
+            → Serves base log self.old
+            → slice_get log self.old.seen ≡ Some e
+            → e.reply ≡ Done events.now
+            → Serves base log self.new }
+        ensures next { GoesOn self.old self.new result }
         ensures settled { self.new.settled ≡ self.old.settled }
     {
         for at in self.part..events.len() {
@@ -103,11 +73,16 @@ impl Lane {
         Ok(true)
     }
 
-    /// Pushes the note of an entry that was refused, if it is the port's. False where the ring has no room; otherwise the next entry comes.
+    /// Pushes the note of an entry that was refused, if it is the port's, and goes on. False where the ring has no room.
     fn tell_refusal(&mut self, by: PortId, refusal: Refusal) -> bool
         requires seen { self.old.seen < 2 ^ 32 }
         ensures same { SameLane self.old self.new }
-        ensures serves { (base : ℕ) (log : List LogEntry) (e : LogEntry) → Serves base log self.old → slice_get log self.old.seen ≡ Some e → e.port ≡ by → e.reply ≡ Refused refusal → Serves base log self.new }
+        ensures serves { (base : ℕ) (log : List LogEntry) (e : LogEntry)
+            → Serves base log self.old
+            → slice_get log self.old.seen ≡ Some e
+            → e.port ≡ by
+            → e.reply ≡ Refused refusal
+            → Serves base log self.new }
         ensures next { MatchBool result (self.new.seen ≡ self.old.seen + 1) (self.new.seen ≡ self.old.seen) }
         ensures settled { self.new.settled ≡ self.old.settled }
     {
@@ -126,12 +101,12 @@ impl Lane {
         true
     }
 
-    /// Pushes the notes of an entry. False where the ring has no room; otherwise the next entry comes.
+    /// Pushes the notes of an entry, and goes on to the next one. False where the ring has no room.
     fn tell_entry(&mut self, alloc: Global, entry: &LogEntry) -> Result<bool, AllocError>
         requires { self.old.seen < 2 ^ 32 }
         ensures same { SameLane self.old self.new }
         ensures serves { (base : ℕ) (log : List LogEntry) → Serves base log self.old → slice_get log self.old.seen ≡ Some entry.now → Serves base log self.new }
-        ensures next { MatchResult result (λ b. MatchBool b (self.new.seen ≡ self.old.seen + 1) (self.new.seen ≡ self.old.seen)) (λ _. self.new.seen ≡ self.old.seen) }
+        ensures next { GoesOn self.old self.new result }
     {
         match &entry.reply {
             Reply::Done(told) => self.tell_events(alloc, told.as_slice()),

@@ -1,12 +1,17 @@
 //! Making a pump and its ports.
 
-ghost use Rattle.std.specs.Prelude.{◌≡◌, ◌≤◌, ◌<◌, ◌+◌, [], IfOk, OnOk, vec_len, length};
-ghost use Rattle.lin_ports.specs.Wired.{AreFresh, IsFresh};
+ghost use Rattle.std.specs.Prelude.{◌≡◌, ◌≤◌, ◌<◌, ◌+◌, ◌++◌, [], map, IfOk, length};
 ghost use Rattle.lin_core.specs.declared.port.PortId.TheVariants.{Host, Node};
+ghost use Rattle.lin_parts.specs.Cluster.{nodes};
+ghost use Rattle.lin_ports.specs.Lanes.{lane_wiring};
+ghost use Rattle.lin_ports.specs.Ports.{host_wiring, node_wiring};
+ghost use Rattle.lin_ports.specs.Pumps.{core_of, since, wirings};
+ghost use Rattle.lin_ports.specs.Wired.{AreHosts, AreNewLanes, AreNodes, IsNewHost, IsNewLane, IsNewNode};
 
+use crate::host_port::HostPort;
 use crate::incoming::Incoming;
 use crate::lane::Lane;
-use crate::ports::{HostPort, NodePort};
+use crate::node_port::NodePort;
 use crate::pump::Pump;
 use lin_core::Core;
 use rtrb::RingBuffer;
@@ -18,7 +23,9 @@ fn open_host(
     seen: usize,
     ring: usize,
 ) -> Result<(Lane, HostPort), AllocError>
-    ensures { IfOk result (λ r. IsFresh seen (Host number) r.0) }
+    ensures lane { IfOk result (λ r. IsNewLane seen (Host number) r.0) }
+    ensures port { IfOk result (λ r. IsNewHost ring number r.1) }
+    ensures wiring { IfOk result (λ r. lane_wiring r.0 ≡ host_wiring r.1) }
 {
     let (put, pop) = RingBuffer::new(alloc, ring)?;
     let (tell, take) = RingBuffer::new(alloc, ring)?;
@@ -46,7 +53,9 @@ fn open_node(
     seen: usize,
     ring: usize,
 ) -> Result<(Lane, NodePort), AllocError>
-    ensures { IfOk result (λ r. IsFresh seen (Node number) r.0) }
+    ensures lane { IfOk result (λ r. IsNewLane seen (Node number) r.0) }
+    ensures port { IfOk result (λ r. IsNewNode ring number r.1) }
+    ensures wiring { IfOk result (λ r. lane_wiring r.0 ≡ node_wiring r.1) }
 {
     let (put, pop) = RingBuffer::new(alloc, ring)?;
     let (tell, take) = RingBuffer::new(alloc, ring)?;
@@ -76,8 +85,10 @@ fn open_hosts(
     lanes: &mut Vec<Lane>,
 ) -> Result<Vec<HostPort>, AllocError>
     requires { lanes.old.items ≡ [] }
-    ensures lanes { OnOk result (AreFresh nodes seen lanes.new.items) }
-    ensures count { OnOk result (length lanes.new.items ≡ nodes) }
+    ensures lanes { IfOk result (λ ports. AreNewLanes nodes seen lanes.new.items) }
+    ensures count { IfOk result (λ ports. length lanes.new.items ≡ nodes) }
+    ensures ports { IfOk result (λ ports. AreHosts ring nodes ports.items) }
+    ensures wirings { IfOk result (λ ports. map lane_wiring lanes.new.items ≡ map host_wiring ports.items) }
 {
     let mut ports = Vec::new(alloc);
     for number in 0..nodes {
@@ -95,10 +106,12 @@ fn open_nodes(
     ring: usize,
     lanes: &mut Vec<Lane>,
 ) -> Result<Vec<NodePort>, AllocError>
-    requires hosts { AreFresh nodes seen lanes.old.items }
+    requires hosts { AreNewLanes nodes seen lanes.old.items }
     requires count { length lanes.old.items ≡ nodes }
-    ensures lanes { OnOk result (AreFresh nodes seen lanes.new.items) }
-    ensures count { OnOk result (length lanes.new.items ≡ nodes + nodes) }
+    ensures lanes { IfOk result (λ ports. AreNewLanes nodes seen lanes.new.items) }
+    ensures count { IfOk result (λ ports. length lanes.new.items ≡ nodes + nodes) }
+    ensures ports { IfOk result (λ ports. AreNodes ring nodes ports.items) }
+    ensures wirings { IfOk result (λ ports. map lane_wiring lanes.new.items ≡ map lane_wiring lanes.old.items ++ map node_wiring ports.items) }
 {
     let mut ports = Vec::new(alloc);
     for number in 0..nodes {
@@ -109,18 +122,22 @@ fn open_nodes(
     Ok(ports)
 }
 
-/// The ports of a core's nodes, and the pump that serves them. The core may have a log already; notes begin behind it. An error is want of memory, and
-/// the core is dropped.
+/// The ports of a core's nodes, one for the host and one for the node of each, and the pump that serves them; each ring takes `ring` items
+/// (1 to 1,024). The core may have a log already, and notes begin behind it. An error is want of memory, and the core is dropped.
 pub fn wire(
     alloc: Global,
     core: Core,
     ring: usize,
 ) -> Result<(Pump, Vec<HostPort>, Vec<NodePort>), AllocError>
-    ensures core { IfOk result (λ r. r.0.core ≡ core) }
-    ensures base { IfOk result (λ r. r.0.base ≡ length core.log) }
+    requires some { 1 ≤ ring }
+    requires few { ring ≤ 1024 }
+    ensures core { IfOk result (λ r. core_of r.0 ≡ core) }
+    ensures since { IfOk result (λ r. since r.0 ≡ []) }
+    ensures ports { IfOk result (λ r. wirings r.0 ≡ map host_wiring r.1.items ++ map node_wiring r.2.items) }
+    ensures hosts { IfOk result (λ r. AreHosts ring (nodes core.cluster) r.1.items) }
+    ensures nodes { IfOk result (λ r. AreNodes ring (nodes core.cluster) r.2.items) }
 {
-    let count = core.cluster().nodes();
-    let nodes = count as u8;
+    let nodes = core.cluster().nodes() as u8;
     let base = core.log().len();
     let mut lanes = Vec::new(alloc);
     let hosts = open_hosts(alloc, nodes, base, ring, &mut lanes)?;
@@ -130,7 +147,6 @@ pub fn wire(
             alloc,
             core,
             base,
-            nodes: count,
             lanes,
         },
         hosts,

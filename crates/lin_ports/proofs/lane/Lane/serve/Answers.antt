@@ -3,7 +3,7 @@ use Rattle.lin_core.specs.Core.{answered}
 use Rattle.lin_core.specs.declared.log.LogEntry.{LogEntry}
 use Rattle.lin_ports.specs.Lanes.{Serves}
 use Rattle.lin_ports.specs.declared.lane.Lane.{Lane}
-use Rattle.lin_ports.proofs.LaneLemmas.{serves_own, port_in-same}
+use Rattle.lin_ports.proofs.LaneLemmas.{serves_own}
 use Rattle.lin_ports.proofs.lane.Lane.serve.Goals as goal
 
 pub returns-clause-serves : goal.returns-clause-serves
@@ -13,4 +13,4 @@ returns-clause-serves c base s =
     let log : c.step.new.self.log ≡ c.args.core.now.log ++ e ∷ [] = c.in-Ok.ensures.stepped.0 ∙ ap (λ (xs : List LogEntry). xs ++ e ∷ []) c.make_room.ensures.log in
     subst (λ (l : List LogEntry). Serves base l lane) (sym log)
     (serves_own base c.args.core.now.log e c.args.self.now lane s c.port-port.ensures
-    (port_in-same c.args.self.now.number c.args.self.now.steps c.pop.new.self c.in-Some.ensures.same) c.in-Some.ensures.some refl refl refl refl)
+    (c.in-Some.ensures.same.0 c.args.self.now.number) c.in-Some.ensures.some refl refl refl refl)
