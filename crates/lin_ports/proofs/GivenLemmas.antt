@@ -1,5 +1,5 @@
 -- The notes that were pushed to a port.
-use Rattle.std.proofs.Common.{◌≡◌, ◌≢◌, ◌<◌, ◌≤◌, ◌+◌, ℕ, zero, suc, List, [], ◌∷◌, length, Some, Bool, true, false, if◌then◌else◌, refl, sym, ap, subst, ◌∙◌, arith, vec_len, slice_index_or}
+use Rattle.std.proofs.Common.{◌≡◌, ◌≢◌, ◌<◌, ℕ, zero, suc, List, [], ◌∷◌, length, Some, if◌then◌else◌, refl, sym, ap, subst, ◌∙◌, arith, vec_len, slice_index_or, slice_set, ◌⊎◌, inl, inr}
 use Rattle.std.specs.List.{slice_get}
 use Rattle.rtrb.specs.Ring.{sent}
 use Rattle.lin_core.specs.declared.port.PortId.{PortId}
@@ -29,6 +29,18 @@ given_at (l ∷ lanes) (suc i) lane port at is alone =
 pub given_none : (lanes : List Lane) (port : PortId) → ((j : ℕ) (l : Lane) → slice_get lanes j ≡ Some l → port_of l ≢ port) → given_in port lanes ≡ []
 given_none [] port none = refl
 given_none (l ∷ lanes) port none = rw (same_port-false (port_of l) port (none 0 l refl)) (given_none lanes port (λ j k here. none (suc j) k here))
+
+-- a lane of another port changes, or its notes don't
+pub given_set : (lanes : List Lane) (i : ℕ) (old lane : Lane) (port : PortId) → slice_get lanes i ≡ Some old → port_of lane ≡ port_of old → (port_of old ≢ port) ⊎ (sent lane.notes ≡ sent old.notes)
+    → given_in port (slice_set lanes i lane) ≡ given_in port lanes
+given_set [] i old lane port at same h = absurd (cc)
+given_set (l ∷ lanes) zero old lane port at same (inl other) =
+    let e : l ≡ old = cc in
+    rw (e, same_port-false (port_of lane) port (λ q. other (sym same ∙ q)), same_port-false (port_of old) port other) refl
+given_set (l ∷ lanes) zero old lane port at same (inr h) =
+    let e : l ≡ old = cc in
+    rw (e, same, h) refl
+given_set (l ∷ lanes) (suc i) old lane port at same h = ap (λ ns. if same_port (port_of l) port then sent l.notes else ns) (given_set lanes i old lane port at same h)
 
 -- no other lane has this lane's port
 pub gave_lane : (p : Pump) (i : ℕ) (lane : Lane) → slice_get p.lanes.items i ≡ Some lane → given_to p (port_of lane) ≡ sent lane.notes

@@ -1,8 +1,8 @@
 -- Lanes, as the log grows and as one of them changes.
-use Rattle.std.proofs.Common.{◌≡◌, ◌≢◌, ◌<◌, ◌≤◌, ◌+◌, ◌⊎◌, ℕ, zero, suc, List, [], ◌∷◌, ◌++◌, length, take, drop, map, Some, None, slice_set, slice_index_or, vec_len, refl, sym, ap, length-append, append-nil, ◌∙◌, inl, inr, arith, Bool, true, false, Result, Ok, Err}
+use Rattle.std.proofs.Common.{◌≡◌, ◌≢◌, ◌<◌, ◌≤◌, ◌⊎◌, ℕ, zero, suc, List, [], ◌∷◌, ◌++◌, length, drop, map, Some, slice_set, slice_index_or, vec_len, refl, sym, ap, length-append, append-nil, ◌∙◌, inl, inr, arith, Bool, true, false, Result, Ok, Err}
 use Rattle.std.specs.List.{slice_get}
 use Rattle.std.proofs.lemmas.Option.{slice_get_read}
-use Rattle.std.proofs.lemmas.List.{length-set, drop-append-le}
+use Rattle.std.proofs.lemmas.List.{drop-append-le}
 use Rattle.lin_core.specs.Core.{CoreData, answered, IsAlike, IsStepped}
 use Rattle.lin_core.specs.Replies.{may}
 use Rattle.lin_core.specs.declared.hold.Hold.{Hold}
@@ -10,13 +10,11 @@ use Rattle.lin_core.specs.declared.port.PortId.TheVariants.{Bus}
 use Rattle.lin_core.specs.declared.log.LogEntry.{LogEntry}
 use Rattle.lin_core.specs.declared.port.PortId.{PortId}
 use Rattle.lin_core.specs.declared.step.Step.{Step}
-use Rattle.lin_ports.specs.declared.incoming.Incoming.{Incoming}
-use Rattle.lin_ports.specs.declared.incoming.Incoming.TheVariants as into
 use Rattle.lin_ports.specs.declared.lane.Lane.{Lane}
 use Rattle.lin_ports.specs.declared.pump.Pump.{Pump}
 use mathlib.Core.List.{IsPrefix}
 use Rattle.rtrb.specs.Ring.{sent}
-use Rattle.lin_ports.specs.Lanes.{popped, port_in, port_of, lane_wiring, SameIncoming, SameLane, Serves, AllServe, InOrder, OnlyOwn, Adds, Served}
+use Rattle.lin_ports.specs.Lanes.{popped, port_of, lane_wiring, SameLane, Serves, AllServe, InOrder, OnlyOwn, Served}
 use Rattle.lin_ports.proofs.PortLemmas.{logged-own, logged-other, told_more, port_at-no_bus}
 
 -- what a list has after a write at one place

@@ -1,5 +1,5 @@
 -- What both ends of a ring say of its lists, and what settled ports keep.
-use Rattle.std.proofs.Common.{◌≡◌, ◌≢◌, ◌<◌, ◌≤◌, ◌+◌, ◌⊎◌, inl, inr, ℕ, List, [], ◌∷◌, ◌++◌, length, map, drop, Some, slice_set, refl, sym, ap, ◌∙◌, arith, append-nil, append_assoc, length-append, true, false, Bool, Result, Ok, Err, zero, suc, vec_len}
+use Rattle.std.proofs.Common.{◌≡◌, ◌≢◌, ◌<◌, ◌≤◌, inl, inr, ℕ, List, [], ◌∷◌, ◌++◌, length, map, drop, Some, slice_set, refl, sym, ap, ◌∙◌, arith, append-nil, length-append, true, false, Bool, Result, Ok, Err, zero, suc, vec_len}
 use Rattle.std.specs.List.{slice_get}
 use Rattle.std.proofs.lemmas.List.{map-append, length-map, drop-append-le}
 use mathlib.Core.List.{IsPrefix}
@@ -14,20 +14,20 @@ use Rattle.lin_core.specs.declared.port.PortId.TheVariants.{Bus}
 use Rattle.lin_core.specs.declared.step.Step.{Step}
 use Rattle.lin_ports.specs.declared.lane.Lane.{Lane}
 use Rattle.lin_ports.specs.declared.ports.Receipt.{Receipt}
-use Rattle.lin_ports.specs.Steps.{logged, notes, port_at}
+use Rattle.lin_ports.specs.Steps.{notes, port_at}
 use Rattle.lin_ports.specs.Ports.{Wiring, receipt_wiring, receipt_id, receipt_took}
-use Rattle.lin_ports.specs.Lanes.{SameLane, InOrder, Serves, Served, lane_wiring, port_of}
-use Rattle.lin_ports.specs.Settled.{IsPassedOver, IsSettledIn, KeptLane, LaneSettles, Settles, TookOnlyNotes}
+use Rattle.lin_ports.specs.Lanes.{given_in, SameLane, InOrder, Serves, Served, lane_wiring, port_of}
+use Rattle.lin_ports.specs.Settled.{IsPassedOver, IsSettledIn, KeptLane, LaneSettles, Settles, StaysSettled, TookOnlyNotes}
 use Rattle.lin_ports.specs.declared.settling.Settled.{Settled}
 use Rattle.lin_ports.specs.declared.settling.Settled.TheVariants.{Whole, Left}
 use Rattle.lin_ports.specs.declared.pump.Pump.{Pump}
 use Rattle.lin_ports.specs.Pumps.{since, IsWired}
 use Rattle.rtrb.specs.Ring.{sent}
 use Rattle.lin_ports.proofs.PortLemmas.{logged-other, notes-append, port_at-apart, port_at-no_bus}
-use Rattle.lin_ports.proofs.LaneLemmas.{slice_get-kept, slice_get-set_same}
+use Rattle.lin_ports.proofs.LaneLemmas.{port_of-same, slice_get-kept, slice_get-set_same}
 use Rattle.lin_ports.proofs.RoundLemmas.{prefix_trans}
 use Rattle.lin_ports.proofs.TellLemmas.{given_first}
-use Rattle.lin_ports.proofs.GivenLemmas.{gave_lane}
+use Rattle.lin_ports.proofs.GivenLemmas.{gave_lane, given_set}
 use Rattle.lin_ports.proofs.MessageLemmas.{begins-growths}
 
 pub fifo_of : {X Y : Type 0} (f : X → Y) (xs ys zs : List X) (k : ℕ) → xs ++ ys ≡ zs → k ≡ length ys → (rest : List Y) × (map f xs ++ rest ≡ map f zs) × (length rest ≡ k)
@@ -87,6 +87,20 @@ served_settled base nodes i lanes old lane core core' res r h order at same k st
       | inr e ↦ served_other base (port_of old) core core' res lanes (slice_set lanes i lane) r h k
           (λ q. e.0 (port_at-apart nodes p.0 i (sym (order p.0 p.1 p.2) ∙ ap (λ w. w.port) p.3 ∙ sym q ∙ order i old at))) passed s
     ]
+
+-- a port that is passed over is told nothing more, whichever lane is told
+pub settled_given : (nodes i : ℕ) (lanes : List Lane) (old lane : Lane) (w : Wiring) → InOrder nodes lanes → slice_get lanes i ≡ Some old → SameLane old lane → (old.settled ≡ true → sent lane.notes ≡ sent old.notes)
+    → IsPassedOver lanes w → given_in w.port (slice_set lanes i lane) ≡ given_in w.port lanes
+settled_given nodes i lanes old lane w order at same still h = elim (slice_get-kept lanes i lane h.0 h.1 h.2) [
+  | inl e ↦ let found : Some h.1 ≡ Some old = sym h.2 ∙ ap (slice_get lanes) e ∙ at in
+      let is : h.1 ≡ old = cc in
+      given_set lanes i old lane w.port at (port_of-same old lane same) (inr (still (ap (λ l. l.settled) (sym is) ∙ h.4)))
+  | inr k ↦ given_set lanes i old lane w.port at (port_of-same old lane same)
+      (inl (λ q. k.0 (port_at-apart nodes h.0 i (sym (order h.0 h.1 h.2) ∙ ap (λ v. v.port) h.3 ∙ sym q ∙ order i old at))))
+]
+
+pub stays_trans : (a b c : Pump) → StaysSettled a b → StaysSettled b c → StaysSettled a c
+stays_trans a b c h k r s = let p = h r s in let q = k r p.0 in (q.0, q.1 ∙ p.1)
 
 -- a step of the bus
 pub bus_settled : (base nodes : ℕ) (lanes : List Lane) (old new : CoreData) (step : Step) (res : Result Unit Hold) (r : Receipt) → base ≤ length old.log → InOrder nodes lanes → IsStepped old Bus step res new

@@ -17,7 +17,6 @@ use Rattle.lin_ports.specs.declared.lane.Lane.{Lane}
 use Rattle.lin_ports.specs.declared.steps.Note.{Note}
 use Rattle.lin_ports.specs.declared.steps.Note.TheVariants as note
 use Rattle.lin_ports.specs.Steps.{same_port, is_note_for, event_notes, reply_notes, notes_in, notes, part_notes, first_notes, told}
-use Rattle.lin_ports.specs.declared.incoming.Incoming.{Incoming}
 use Rattle.lin_ports.specs.Lanes.{Serves, Tells, SameLane, lane_wiring, port_of}
 use Rattle.lin_ports.proofs.PortLemmas.{into_same, notes-append}
 

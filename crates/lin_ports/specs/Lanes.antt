@@ -1,5 +1,5 @@
 -- What the pump keeps for each port.
-use Rattle.std.specs.Prelude.{◌≡◌, ℕ, ◌≤◌, ◌<◌, ◌+◌, ⊤, List, ◌++◌, ◌∷◌, [], map, length, drop, Bool, true, false, if◌then◌else◌, Some, MatchBool, Result, Ok, Err}
+use Rattle.std.specs.Prelude.{◌≡◌, ℕ, ◌≤◌, ◌+◌, ⊤, List, ◌++◌, ◌∷◌, [], map, length, drop, Bool, true, false, if◌then◌else◌, Some, MatchBool, Result, Ok, Err}
 use Rattle.std.specs.List.{slice_get}
 use Rattle.rtrb.specs.Ring.{sent, received}
 use Rattle.lin_core.specs.Core.{CoreData, answered}
@@ -45,7 +45,8 @@ pub record SameLane (a b : Lane) : Type 0 where
   pub wiring : lane_wiring b ≡ lane_wiring a
   pub settled : a.settled ≡ true → b.settled ≡ true
 
--- what came out of the ring of steps is what was logged, and what went into the ring of notes is the notes of what the lane has seen
+-- what came out of the ring of steps is what was logged, and what went into the ring of notes is the notes of what the
+-- lane has seen
 pub record Serves (base : ℕ) (log : List LogEntry) (lane : Lane) : Type 0 where
   pub steps : logged (drop base log) (port_of lane) ≡ popped lane.number lane.steps
   pub after : base ≤ lane.seen
@@ -76,7 +77,8 @@ AllServe base log lanes = (i : ℕ) (lane : Lane) → slice_get lanes i ≡ Some
 abbrev pub InOrder : ℕ → List Lane → Type 0
 InOrder nodes lanes = (i : ℕ) (lane : Lane) → slice_get lanes i ≡ Some lane → port_of lane ≡ port_at nodes i
 
--- each of these entries is a step that its port may give: a host's own Sends, Writes and Closes, and a node's own Answers and Leaves
+-- each of these entries is a step that its port may give: a host's own Sends, Writes and Closes, and a node's own
+-- Answers and Leaves
 abbrev pub OnlyOwn : List LogEntry → Type 0
 OnlyOwn es = (i : ℕ) (e : LogEntry) → slice_get es i ≡ Some e → may e.port e.step ≡ true
 

@@ -28,14 +28,14 @@ messages_from host ns = filter_map (message_from host) ns
 abbrev pub port_on : Link → PortId
 port_on l = Host (receiver_of l.dir l.node)
 
--- what the reading of a link grew by since a place of the log is the messages of the link's sender among the notes of the
--- receiver's port since then
+-- what the reading of a link grew by since a place of the log is the messages of the link's sender among the notes of
+-- the receiver's port since then
 abbrev pub TellsGrowth : Parts → List LogEntry → ℕ → Link → Type 0
 TellsGrowth c log base l =
     reading c (reverse log) l ≡ reading c (reverse (take base log)) l ++ messages_from (host_of l) (notes (drop base log) (port_on l))
 
--- the messages of the link's sender among these notes are, in order, the first of those by which the reading of the link grew
--- since a place of the log
+-- the messages of the link's sender among these notes are, in order, the first of those by which the reading of the
+-- link grew since a place of the log
 abbrev pub BeginsGrowth : Parts → List LogEntry → ℕ → Link → List Note → Type 0
 BeginsGrowth c log base l taken =
     (grown : List (List ℕ)) × (reading c (reverse log) l ≡ reading c (reverse (take base log)) l ++ grown) × IsPrefix (messages_from (host_of l) taken) grown

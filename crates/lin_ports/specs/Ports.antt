@@ -1,5 +1,5 @@
 -- What contracts see of ports and receipts.
-use Rattle.std.specs.Prelude.{◌≡◌, ℕ, ◌≤◌, List, ◌++◌, [], map, length}
+use Rattle.std.specs.Prelude.{◌≡◌, ℕ, List, map}
 use mathlib.Core.List.{IsPrefix}
 use denote.RawPtr.{Ptr}
 use Rattle.std.specs.declared.alloc.Global.{Global}
@@ -43,8 +43,8 @@ pub record Wiring : Type 0 where
   pub steps : RingId
   pub notes : RingId
 
--- of a host's port: which it is, how many items its ring of steps takes, the step that it puts with its number, the steps that it has put,
--- and the notes that it has taken
+-- of a host's port: which it is, how many items its ring of steps takes, the step that it puts with its number, the
+-- steps that it has put, and the notes that it has taken
 abbrev pub host_wiring : HostPort → Wiring
 host_wiring p = record { port = Host p.number; steps = ring_into p.steps; notes = ring_from p.notes }
 

@@ -10,8 +10,8 @@ use Rattle.lin_ports.specs.Steps.{port_at}
 abbrev pub longer_by : CoreData → LogEntry → CoreData
 longer_by core e = record core { log = core.log ++ e ∷ [] }
 
--- each entry is the core's answer to a step that a port of its own put, and the ports stand in their order (hosts by number, then nodes), each
--- once, from one place on and below another
+-- each entry is the core's answer to a step that a port of its own put, and the ports stand in their order (hosts by
+-- number, then nodes), each once, from one place on and below another
 abbrev pub Rising : CoreData → ℕ → ℕ → List LogEntry → Type 0
 Rising core from to [] = from ≤ to
 Rising core from to (e ∷ es) =

@@ -1,5 +1,5 @@
 -- What settling finds.
-use Rattle.std.specs.Prelude.{◌≡◌, ℕ, ◌<◌, ◌≤◌, true, List, length, Some}
+use Rattle.std.specs.Prelude.{◌≡◌, ℕ, ◌<◌, true, List, length, Some}
 use Rattle.std.specs.List.{slice_get}
 use mathlib.Core.List.{IsPrefix}
 use Rattle.rtrb.specs.Ring.{sent}
@@ -40,8 +40,8 @@ LaneSettles old new r (Left s) =
 abbrev pub IsPassedOver : List Lane → Wiring → Type 0
 IsPassedOver lanes port = (i : ℕ) × (lane : Lane) × (slice_get lanes i ≡ Some lane) × (lane_wiring lane ≡ port) × (lane.settled ≡ true)
 
--- the notes that a port took are the first ones of those that the log names, and of those that were pushed to it; and its messages from each
--- sender are the first ones of those by which the reading of their link grew
+-- the notes that a port took are the first ones of those that the log names, and of those that were pushed to it; and
+-- its messages from each sender are the first ones of those by which the reading of their link grew
 pub record TookOnlyNotes (pump : Pump) (r : Receipt) : Type 0 where
   pub named : IsPrefix (receipt_took r) (notes (since pump) (receipt_id r))
   pub given : IsPrefix (receipt_took r) (given_to pump (receipt_id r))
@@ -65,6 +65,6 @@ abbrev pub Settles : Pump → Receipt → Settled → Type 0
 Settles pump r (Whole s) = SameReceipt r s × TookOnlyNotes pump s × IsSettled pump s
 Settles pump r (Left s) = SameReceipt r s × TookOnlyNotes pump s × IsLeft pump s
 
--- a port that is settled stays so: all that it put stays all that is logged
+-- a port that is settled stays so: all that it put stays all that is logged of it, and no more notes are pushed to it
 abbrev pub StaysSettled : Pump → Pump → Type 0
-StaysSettled a b = (r : Receipt) → IsSettled a r → IsSettled b r
+StaysSettled a b = (r : Receipt) → IsSettled a r → IsSettled b r × (given_to b (receipt_id r) ≡ given_to a (receipt_id r))

@@ -7,7 +7,8 @@ use crate::steps::{HostStep, Note};
 use lin_core::PortId;
 use rtrb::{Consumer, Producer, PushError};
 
-/// A host's port. Contracts see which port it is, the steps that it put, with its number filled in, and the notes that it took.
+/// A host's port. Contracts see which port it is, the steps that it put, with its number filled in, and the notes that
+/// it took.
 #[derive(Drop)]
 pub struct HostPort {
     pub(crate) number: u8,

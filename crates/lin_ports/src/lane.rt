@@ -8,8 +8,8 @@ use crate::steps::Note;
 use lin_core::{Core, Hold, PortId};
 use rtrb::Producer;
 
-/// The pump's side of a port: its ends of the two rings, and how far the port was told of the log: all events of the entries before `seen`, and
-/// the first `part` events of the entry there.
+/// The pump's side of a port: its ends of the two rings, and how far the port was told of the log: all events of the
+/// entries before `seen`, and the first `part` events of the entry there.
 #[derive(Drop)]
 pub(crate) struct Lane {
     pub(crate) number: u8,
@@ -23,6 +23,7 @@ pub(crate) struct Lane {
 
 impl Lane {
     ghost use Rattle.std.specs.Prelude.{◌≡◌, ◌-◌, ◌^◌, ℕ, true, length, IfErr};
+    ghost use Rattle.rtrb.specs.Ring.{sent};
     ghost use Rattle.lin_core.specs.Core.{IsAlike};
     ghost use Rattle.lin_ports.specs.Lanes.{Served, Serves, SameLane, IsFullLog, port_of};
 
@@ -44,6 +45,7 @@ impl Lane {
         ensures alike { IsAlike core.old core.new }
         ensures full { IfErr result (λ fault. IsFullLog fault → length core.old.log ≡ 2 ^ 32 - 1) }
         ensures settled { self.old.settled ≡ true → core.new.log ≡ core.old.log }
+        ensures notes { sent self.new.notes ≡ sent self.old.notes }
     {
         if self.settled {
             return Ok(false);

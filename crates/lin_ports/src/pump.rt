@@ -16,7 +16,8 @@ pub struct Taken {
     pub steps: u32,
 }
 
-/// Why a round ended early. What it added to the log stays, and each note that wasn't pushed is held for the next round.
+/// Why a round ended early. What it added to the log stays, and each note that wasn't pushed is held for the next
+/// round.
 #[derive(Clone, Copy, Debug, PartialEq, Eq)]
 pub enum RoundFault {
     /// The log has 4,294,967,295 entries.
@@ -24,8 +25,8 @@ pub enum RoundFault {
     OutOfMemory,
 }
 
-/// The pump: it owns the core, makes the steps of all ports on it, and tells each port its notes. Contracts see its core, the entries that
-/// the log got since `wire`, which ports it serves, and the notes that were pushed to each.
+/// The pump: it owns the core, makes the steps of all ports on it, and tells each port its notes. Contracts see its
+/// core, the entries that the log got since `wire`, which ports it serves, and the notes that were pushed to each.
 #[derive(Drop)]
 pub struct Pump {
     pub(crate) alloc: Global,
@@ -97,8 +98,9 @@ impl Pump {
         lane.tell(self.alloc, &self.core)
     }
 
-    /// Takes at most one step of each port, hosts by number and then nodes, and then tells the ports their notes while their rings have
-    /// room. `LogFull` comes only where the log is full. A step is taken only after room was made for its entry, so that none is lost.
+    /// Takes at most one step of each port, hosts by number and then nodes, and then tells the ports their notes while
+    /// their rings have room. `LogFull` comes only where the log is full. A step is taken only after room was made for
+    /// its entry, so that none is lost.
     pub fn round(&mut self) -> Result<Taken, RoundFault>
         ensures pump { KeepsPump self.old self.new }
         ensures adds { (n : ℕ) × RoundAdds (core_of self.old) (core_of self.new) n × IfOk result (λ taken. taken.steps ≡ n) }
@@ -128,8 +130,8 @@ impl Pump {
         self.core.step(PortId::Bus, step)
     }
 
-    /// The core. Since `wire`, its log has of each host only its own Sends, Writes and Closes, and of each node only its own Answers and
-    /// Leaves.
+    /// The core. Since `wire`, its log has of each host only its own Sends, Writes and Closes, and of each node only
+    /// its own Answers and Leaves.
     pub fn core(&self) -> &Core
         ensures core { result.now ≡ core_of self.now }
         ensures own { OnlyOwn (since self.now) }
@@ -158,8 +160,8 @@ impl Pump {
         }
     }
 
-    /// How many notes were pushed to a port so far; 0 for the bus and for a number that is no node. They are the first ones of those that
-    /// the log names for it since `wire`.
+    /// How many notes were pushed to a port so far; 0 for the bus and for a number that is no node. They are the first
+    /// ones of those that the log names for it since `wire`.
     pub fn given(&self, port: PortId) -> u64
         ensures count { result ≡ length (given_to self.now port) }
         ensures first { IsPrefix (given_to self.now port) (notes (since self.now) port) }
@@ -170,7 +172,8 @@ impl Pump {
         }
     }
 
-    /// Compares what a port of this pump put with what is logged. After `Whole` no step of it is taken and no note is pushed to it any more.
+    /// Compares what a port of this pump put with what is logged. After `Whole` no step of it is taken and no note is
+    /// pushed to it any more.
     pub fn settle(&mut self, receipt: Receipt) -> Settled
         requires { IsWired self.old (receipt_wiring receipt) }
         ensures settles { Settles self.new receipt result }

@@ -6,7 +6,8 @@ use crate::incoming::Incoming;
 use crate::lane::Lane;
 use crate::ports::{Outgoing, Receipt};
 
-/// What settling found: all steps of the port are logged and the pump passes it over from now on, or some still stand in its ring.
+/// What settling found: all steps of the port are logged and the pump passes it over from now on, or some still stand
+/// in its ring.
 #[derive(Drop)]
 pub enum Settled {
     Whole(Receipt),

@@ -8,10 +8,10 @@ use lin_core::{Core, Event, LogEntry, PortId, Refusal, Reply};
 use std::alloc::{AllocError, Global};
 
 impl Lane {
-    ghost use Rattle.std.specs.Prelude.{◌≡◌, ◌<◌, ◌+◌, ◌-◌, ◌^◌, ◌∷◌, [], ℕ, ⊤, List, Some, length, MatchResult, MatchBool};
+    ghost use Rattle.std.specs.Prelude.{◌≡◌, ◌<◌, ◌+◌, ◌-◌, ◌^◌, ◌∷◌, [], ℕ, ⊤, List, Some, true, length, MatchResult, MatchBool};
     ghost use Rattle.lin_ports.specs.Lanes.{GoesOn, Tells, TellsEvent, Serves, SameLane, port_of};
     ghost use Rattle.lin_ports.specs.Steps.{event_notes};
-    ghost use Rattle.rtrb.specs.Ring.{known_free};
+    ghost use Rattle.rtrb.specs.Ring.{known_free, sent};
     ghost use Rattle.std.specs.List.{slice_get};
     ghost use Rattle.lin_core.specs.declared.log.LogEntry.{LogEntry};
     ghost use Rattle.lin_core.specs.declared.reply.Reply.TheVariants.{Done, Refused};
@@ -49,7 +49,8 @@ impl Lane {
         Ok(true)
     }
 
-    /// Pushes the notes of an entry's events from `part` on, and goes on to the next entry. False where the ring has no room.
+    /// Pushes the notes of an entry's events from `part` on, and goes on to the next entry. False where the ring has no
+    /// room.
     fn tell_events(&mut self, alloc: Global, events: &[Event]) -> Result<bool, AllocError>
         requires { self.old.seen < 2 ^ 32 }
         ensures same { SameLane self.old self.new }
@@ -73,7 +74,8 @@ impl Lane {
         Ok(true)
     }
 
-    /// Pushes the note of an entry that was refused, if it is the port's, and goes on. False where the ring has no room.
+    /// Pushes the note of an entry that was refused, if it is the port's, and goes on. False where the ring has no
+    /// room.
     fn tell_refusal(&mut self, by: PortId, refusal: Refusal) -> bool
         requires seen { self.old.seen < 2 ^ 32 }
         ensures same { SameLane self.old self.new }
@@ -118,6 +120,7 @@ impl Lane {
     pub(crate) fn tell(&mut self, alloc: Global, core: &Core) -> Result<(), AllocError>
         ensures same { SameLane self.old self.new }
         ensures serves { (base : ℕ) → Serves base core.now.log self.old → Serves base core.now.log self.new }
+        ensures settled { self.old.settled ≡ true → sent self.new.notes ≡ sent self.old.notes }
     {
         if self.settled {
             return Ok(());

@@ -122,8 +122,9 @@ fn open_nodes(
     Ok(ports)
 }
 
-/// The ports of a core's nodes, one for the host and one for the node of each, and the pump that serves them; each ring takes `ring` items
-/// (1 to 1,024). The core may have a log already, and notes begin behind it. An error is want of memory, and the core is dropped.
+/// The ports of a core's nodes, one for the host and one for the node of each, and the pump that serves them; each ring
+/// takes `ring` items (1 to 1,024). The core may have a log already, and notes begin behind it. An error is want of
+/// memory, and the core is dropped.
 pub fn wire(
     alloc: Global,
     core: Core,

@@ -1,5 +1,4 @@
-use Rattle.std.proofs.Common.{◌≡◌, ◌+◌, arith, length, length-append, [], ◌∷◌, refl, sym, ◌∙◌}
-use Rattle.lin_core.specs.declared.port.PortId.TheVariants.{Host}
+use Rattle.std.proofs.Common.{arith, length, length-append, [], ◌∷◌}
 use Rattle.lin_ports.specs.Lanes.{lane_wiring}
 use Rattle.lin_ports.specs.Ports.{host_wiring}
 use Rattle.lin_ports.specs.Steps.{port_at}

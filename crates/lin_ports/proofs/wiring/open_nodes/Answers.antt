@@ -1,5 +1,4 @@
-use Rattle.std.proofs.Common.{◌≡◌, ◌+◌, arith, length, length-append, map, [], ◌∷◌, refl, sym, ◌∙◌}
-use Rattle.lin_core.specs.declared.port.PortId.TheVariants.{Node}
+use Rattle.std.proofs.Common.{arith, length, length-append, map, [], ◌∷◌}
 use Rattle.lin_ports.specs.Lanes.{lane_wiring}
 use Rattle.lin_ports.specs.Ports.{node_wiring}
 use Rattle.lin_ports.specs.Steps.{port_at}

@@ -1,6 +1,5 @@
-use Rattle.std.proofs.Common.{◌≡◌, ◌<◌, ◌++◌, ℕ, List, length, refl, ap, subst, arith}
+use Rattle.std.proofs.Common.{◌≡◌, ◌<◌, ℕ, length, refl, ap, subst, arith}
 use mathlib.Core.List.{IsPrefix}
-use Rattle.lin_core.specs.declared.step.Step.{Step}
 use Rattle.lin_ports.specs.Lanes.{popped}
 use Rattle.lin_ports.specs.Ports.{puts}
 use Rattle.lin_ports.proofs.PortLemmas.{from_same, one_port, same_port_wiring}

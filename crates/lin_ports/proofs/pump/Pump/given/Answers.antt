@@ -1,4 +1,4 @@
-use Rattle.std.proofs.Common.{◌≡◌, ℕ, refl, sym, ap, ◌∙◌, length, []}
+use Rattle.std.proofs.Common.{refl, sym, ap, length}
 use Rattle.lin_ports.proofs.GivenLemmas.{given_by, given_out}
 use Rattle.lin_ports.proofs.pump.Pump.given.Goals as goal
 

@@ -29,4 +29,4 @@ returns-clause-pump c =
 pub returns-clause-stays : goal.returns-clause-stays
 returns-clause-stays c r s =
     let p = c.args.self.now in
-    bus_settled p.base (nodes p.core.cluster) p.lanes.items p.core c.step.new.self c.args.step c.step.result r p.begun p.order c.step.ensures.stepped s
+    (bus_settled p.base (nodes p.core.cluster) p.lanes.items p.core c.step.new.self c.args.step c.step.result r p.begun p.order c.step.ensures.stepped s, refl)

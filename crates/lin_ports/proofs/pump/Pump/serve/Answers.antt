@@ -1,14 +1,13 @@
-use Rattle.std.proofs.Common.{◌≡◌, ◌<◌, ℕ, Some, refl, sym, ◌∙◌, subst, arith, vec_len, slice_index_or}
-use Rattle.std.specs.List.{slice_get}
+use Rattle.std.proofs.Common.{inr, refl, sym, ◌∙◌, subst}
 use Rattle.lin_core.specs.declared.port.PortId.{PortId}
 use Rattle.lin_parts.specs.Cluster.{nodes}
-use Rattle.lin_ports.specs.Lanes.{Served, port_of, lane_wiring}
-use Rattle.lin_ports.specs.declared.lane.Lane.{Lane}
-use Rattle.lin_ports.specs.declared.pump.Pump.{Pump}
+use Rattle.lin_ports.specs.Lanes.{Served, port_of}
 use Rattle.lin_ports.proofs.PortLemmas.{port_at-apart}
-use Rattle.lin_ports.proofs.LaneLemmas.{at_lane, all_serve, served_others, served_longer, served_own, same_wirings, in_order}
+use Rattle.lin_ports.proofs.LaneLemmas.{at_lane, port_of-same, all_serve, served_others, served_longer, served_own, same_wirings, in_order}
 use Rattle.lin_ports.proofs.RoundLemmas.{served_prefix}
 use Rattle.lin_ports.proofs.SettleLemmas.{served_settled}
+use Rattle.lin_ports.proofs.GivenLemmas.{given_set}
+use Rattle.lin_ports.specs.Ports.{receipt_id}
 use Rattle.lin_ports.proofs.pump.Pump.serve.Goals as goal
 
 pub invariant_of-self : goal.invariant_of-self
@@ -51,6 +50,8 @@ pub returns-clause-stays : goal.returns-clause-stays
 returns-clause-stays c r s =
     let p = c.args.self.now in
     let lane = c.index_mut-lane.result.now in
-    let at = at_lane p c.args.i lane c.requires c.index_mut-lane.ensures.value in
-    served_settled p.base (nodes p.core.cluster) c.args.i p.lanes.items lane c.serve.new.self p.core c.serve.new.core c.serve.result r p.begun p.order at c.serve.ensures.same
-    c.serve.ensures.adds c.serve.ensures.settled s
+    let at = at_lane p c.args.i lane c.requires c.index_mut-lane.ensures.value in (
+      served_settled p.base (nodes p.core.cluster) c.args.i p.lanes.items lane c.serve.new.self p.core c.serve.new.core c.serve.result r p.begun p.order at c.serve.ensures.same
+          c.serve.ensures.adds c.serve.ensures.settled s,
+      given_set p.lanes.items c.args.i lane c.serve.new.self (receipt_id r) at (port_of-same lane c.serve.new.self c.serve.ensures.same) (inr c.serve.ensures.notes),
+    )

@@ -1,9 +1,9 @@
-use Rattle.std.proofs.Common.{◌≡◌, ◌<◌, ℕ, Some, refl, sym, ap, subst, ◌∙◌, arith, vec_len}
-use Rattle.std.specs.List.{slice_get}
+use Rattle.std.proofs.Common.{inr, refl, subst, ◌∙◌}
 use Rattle.lin_parts.specs.Cluster.{nodes}
 use Rattle.lin_parts.specs.Sound.{IsSound}
-use Rattle.lin_ports.specs.Ports.{receipt_wiring}
-use Rattle.lin_ports.proofs.LaneLemmas.{at_lane, all_serve, same_wirings, in_order, slice_get-set_same}
+use Rattle.lin_ports.specs.Ports.{receipt_id, receipt_wiring}
+use Rattle.lin_ports.proofs.GivenLemmas.{given_set}
+use Rattle.lin_ports.proofs.LaneLemmas.{at_lane, port_of-same, all_serve, same_wirings, in_order, slice_get-set_same}
 use Rattle.lin_ports.proofs.RoundLemmas.{prefix_same}
 use Rattle.lin_ports.proofs.SettleLemmas.{wired_at, wired_none, kept_same, kept_serves, passed_set, settled_lanes, settles_at}
 use Rattle.lin_ports.proofs.pump.Pump.settle.Goals as goal
@@ -55,5 +55,7 @@ returns-clause-stays c r s =
     let p = c.args.self.now in
     let lane = c.index_mut-lane.result.now in
     let i = c.in-Some.i in
-    let at = at_lane p i lane c.in-Some.ensures.some.0 c.index_mut-lane.ensures.value in
-    settled_lanes _ p.lanes.items _ r (passed_set p.lanes.items i lane c.settle.new.self (receipt_wiring r) at (kept_same lane c.settle.new.self c.settle.ensures.kept) s.passed) s
+    let at = at_lane p i lane c.in-Some.ensures.some.0 c.index_mut-lane.ensures.value in (
+      settled_lanes _ p.lanes.items _ r (passed_set p.lanes.items i lane c.settle.new.self (receipt_wiring r) at (kept_same lane c.settle.new.self c.settle.ensures.kept) s.passed) s,
+      given_set p.lanes.items i lane c.settle.new.self (receipt_id r) at (port_of-same lane c.settle.new.self (kept_same lane c.settle.new.self c.settle.ensures.kept)) (inr c.settle.ensures.kept.notes),
+    )

@@ -2,7 +2,7 @@ use Rattle.std.proofs.Common.{refl}
 use Rattle.lin_parts.specs.Cluster.{nodes}
 use Rattle.lin_ports.proofs.LaneLemmas.{at_lane, all_serve, same_wirings, in_order}
 use Rattle.lin_ports.proofs.RoundLemmas.{prefix_same}
-use Rattle.lin_ports.proofs.SettleLemmas.{passed_set, settled_lanes}
+use Rattle.lin_ports.proofs.SettleLemmas.{passed_set, settled_given, settled_lanes}
 use Rattle.lin_ports.specs.Ports.{receipt_wiring}
 use Rattle.lin_ports.proofs.pump.Pump.tell.Goals as goal
 
@@ -29,5 +29,9 @@ returns-clause-pump c =
 pub returns-clause-stays : goal.returns-clause-stays
 returns-clause-stays c r s =
     let p = c.args.self.now in
-    let at = at_lane p c.args.i c.index_mut-lane.result.now c.requires c.index_mut-lane.ensures.value in
-    settled_lanes _ p.lanes.items _ r (passed_set p.lanes.items c.args.i c.index_mut-lane.result.now c.tell.new.self (receipt_wiring r) at c.tell.ensures.same s.passed) s
+    let lane = c.index_mut-lane.result.now in
+    let at = at_lane p c.args.i lane c.requires c.index_mut-lane.ensures.value in
+    let same = c.tell.ensures.same in (
+      settled_lanes _ p.lanes.items _ r (passed_set p.lanes.items c.args.i lane c.tell.new.self (receipt_wiring r) at same s.passed) s,
+      settled_given (nodes p.core.cluster) c.args.i p.lanes.items lane c.tell.new.self (receipt_wiring r) p.order at same c.tell.ensures.settled s.passed,
+    )
