@@ -1,0 +1,12 @@
+use Rattle.std.proofs.Common.{◌≡◌, vec_len}
+use Rattle.lin_ports.specs.Pumps.{KeepsPump}
+use Rattle.lin_ports.specs.Settled.{StaysSettled}
+use Rattle.lin_ports.proofs.pump.Pump.round.Given as goal
+
+abbrev pub invariant-loop-i : goal.invariant-loop-i
+invariant-loop-i l = record {
+  pump : KeepsPump l.fn.self l.self;
+  count : l.count ≡ vec_len l.self.lanes;
+  core : l.self.core ≡ l.initial.self.core;
+  stays : StaysSettled l.fn.self l.self;
+}
