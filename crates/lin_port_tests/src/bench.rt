@@ -1,6 +1,6 @@
 //! A pump with its ports, and what is done with them.
 
-ghost use Rattle.std.specs.Prelude.{◌≡◌, ◌<◌, ◌≤◌};
+ghost use Rattle.std.specs.Prelude.{◌≡◌};
 ghost use Rattle.lin_ports.specs.Pumps.{wirings};
 
 use crate::samples::core_on;
@@ -80,7 +80,12 @@ pub fn send(alloc: Global, to: u8, bytes: &[u8]) -> Result<HostStep, Fail> {
 }
 
 /// A note that was taken is the one that is wanted.
-pub fn is_taken(rt: &impl Abort, alloc: Global, taken: Option<Note>, wanted: &str) -> Result<(), Fail> {
+pub fn is_taken(
+    rt: &impl Abort,
+    alloc: Global,
+    taken: Option<Note>,
+    wanted: &str,
+) -> Result<(), Fail> {
     match taken {
         Some(note) => {
             let text = line(alloc, &note)?;
