@@ -1,12 +1,14 @@
 -- The sporadic and event-triggered frames of a description without findings keep the rules of clusters.
 use Rattle.std.proofs.Common.{◌≡◌, ◌<◌, ◌≤◌, ◌==◌, nat_lt, ℕ, Bool, true, false, not, ◌&&◌, ◌||◌, if◌then◌else◌, List, [], ◌∷◌, length, get_or, take, map, refl, sym, subst, ap, ◌∙◌, inl, inr, arith}
-use Rattle.std.specs.Prelude.{All, AllPairs, codes, find, is_some}
+use Rattle.std.specs.Prelude.{All, AllPairs, codes, find, is_some, Some}
+use Rattle.std.specs.Option.{option_map, option_map_or}
 use Rattle.std.specs.List.{list_any, position_or_len}
 use Rattle.std.specs.Str.{bytes_eq}
 use Rattle.std.proofs.lemmas.Bool.{or_parts, both_ways, eqb-true, not-false, lt-ltb, le-ltb, cases_lt}
 use Rattle.std.proofs.lemmas.List.{length-map, get_or-take, length-take-le, get_or-map}
 use Rattle.std.proofs.lemmas.List.Elements.{All-map}
-use Rattle.lin_frame.specs.declared.sums.SumKind.TheVariants.{Enhanced}
+use Rattle.lin_frame.specs.declared.sums.SumKind.{SumKind}
+use Rattle.lin_frame.specs.declared.sums.SumKind.TheVariants.{Classic, Enhanced}
 use Rattle.lin_description.specs.declared.description.Description.{Description}
 use Rattle.lin_description.specs.declared.description.EventFrame as declared_event
 use Rattle.lin_description.specs.declared.description.Name.{Name}
@@ -15,8 +17,9 @@ use Rattle.lin_description.specs.declared.description.TableEntry.{TableEntry}
 use Rattle.lin_parts.specs.Cluster.{frame_of, table_of}
 use Rattle.lin_cluster.specs.Described.{node_number, frame_number, sporadic_number, event_number, table_number, members_of, described_event, described_entry, described_line, described_table, parts_of}
 use Rattle.lin_cluster.specs.FindingsNames.{is_node, same_name, sporadic_named, event_named, is_event_entry}
-use Rattle.lin_cluster.specs.FindingsTables.{is_responders, is_bad_member, has_publisher, differs_from_first, is_in_front}
+use Rattle.lin_cluster.specs.FindingsTables.{is_responders, is_bad_member, has_publisher, differs_from_first, is_in_front, is_mixed}
 use Rattle.lin_cluster.specs.Fitting.{HasMembers}
+use Rattle.lin_cluster.specs.Models.{frame_model, model_named, first_model, differ}
 use Rattle.lin_parts.specs.Rules.{AreSporadic, AreEvents, IsCommanders, IsResponders, HaveOwnPublishers, HaveOneSize, is_event}
 use Rattle.lin_parts.specs.declared.parts.Entry.TheVariants.{Frame, Sporadic as SporadicEntry, Event, MasterReq, SlaveResp, Quiet}
 use Rattle.lin_parts.specs.declared.parts.EventFrame.{EventFrame}
@@ -38,6 +41,9 @@ part-publisher d m lt = ap (λ (f : SignalFrame). f.publisher) (frame-part d (fr
 
 part-size : (d : Description) (m : Name) → frame_number d m < length d.frames → (frame_of (parts_of d) (frame_number d m)).layout.len ≡ (the_frame d m).size.value
 part-size d m lt = ap (λ (f : SignalFrame). f.layout.len) (frame-part d (frame_number d m) lt)
+
+part-model : (d : Description) (m : Name) → frame_number d m < length d.frames → (frame_of (parts_of d) (frame_number d m)).model ≡ frame_model d (the_frame d m)
+part-model d m lt = ap (λ (f : SignalFrame). f.model) (frame-part d (frame_number d m) lt)
 
 member-there : (d : Description) (m : Name) → frame_number d m < length d.frames → frame_number d m < length (parts_of d).frames
 member-there d m lt = omega (arith, frames-count d)
@@ -131,6 +137,33 @@ one-size d (first ∷ rest) each i j x lt in' =
     in let there = (each 0 x (omega arith)).within
     in part-size d m before.within ∙ (sym (first-size d first rest m there before.size) ∙ (first-size d first rest n there here.size ∙ sym (part-size d n here.within)))
 
+-- checksum models that don't differ
+one-model : (a b : SumKind) → differ a b ≡ false → a ≡ b
+one-model Classic Classic e = refl
+one-model Classic Enhanced e = absurd (cc)
+one-model Enhanced Classic e = absurd (cc)
+one-model Enhanced Enhanced e = refl
+
+model-found : (d : Description) (m : Name) → frame_number d m < length d.frames → model_named d m ≡ Some (frame_model d (the_frame d m))
+model-found d m lt = ap (option_map (frame_model d)) (frame-found d m lt)
+
+-- the model that is described, by the first member
+first-is : (d : Description) (first : Name) (rest : List Name) → frame_number d first < length d.frames → option_map_or (λ model. model) (first_model d (first ∷ rest)) Enhanced ≡ frame_model d (the_frame d first)
+first-is d first rest lt = ap (λ o. option_map_or (λ model. model) o Enhanced) (model-found d first lt)
+
+same-model : (d : Description) (first : Name) (rest : List Name) (m : Name) → frame_number d first < length d.frames → frame_number d m < length d.frames → is_mixed d (first ∷ rest) m ≡ false → frame_model d (the_frame d m) ≡ frame_model d (the_frame d first)
+same-model d first rest m there lt e =
+    let apart : differ (frame_model d (the_frame d m)) (frame_model d (the_frame d first)) ≡ false = rw (model-found d m lt, model-found d first there) at e
+    in one-model (frame_model d (the_frame d m)) (frame_model d (the_frame d first)) apart
+
+all-models : (d : Description) (members : List Name) → EachMember d members → All (λ m. is_mixed d members m ≡ false) members → All (λ m. (frame_of (parts_of d) (frame_number d m)).model ≡ option_map_or (λ model. model) (first_model d members) Enhanced) members
+all-models d [] each models i x in' = absurd (omega arith)
+all-models d (first ∷ rest) each models i x in' =
+    let m = get_or (first ∷ rest) i x
+    in let here = (each i x in').within
+    in let there = (each 0 x (omega arith)).within
+    in part-model d m here ∙ (same-model d first rest m there here (models i x in') ∙ sym (first-is d first rest there))
+
 publishers-apart : (d : Description) → NothingFound d → (members : List Name) → EachMember d members → AllPairs (λ m n. HaveOwnPublishers (parts_of d) (frame_number d m) (frame_number d n)) members
 publishers-apart d none members each i j x lt in' =
     let m = get_or members i x
@@ -195,7 +228,9 @@ described-events d none members =
     in let each : (k : ℕ) (e : declared_event.EventFrame) → k < length d.events → EachMember d (get_or d.events k e).members =
     λ k e lt i m in'. let names = (get_or d.events k e).members in event-member d none names (take i names) (get_or names i m) ((good k e lt).members i m in')
     in record {
-      models = All-map (λ (e : EventFrame). e.model ≡ Enhanced) (described_event d) d.events (λ k e lt. refl);
+      models = All-map (λ (e : EventFrame). All (λ f. (frame_of c f).model ≡ e.model) e.frames) (described_event d) d.events (λ k e lt.
+          let names = (get_or d.events k e).members
+          in All-map (λ f. (frame_of c f).model ≡ option_map_or (λ model. model) (first_model d names) Enhanced) (frame_number d) names (all-models d names (each k e lt) (good k e lt).models));
       members = All-map (λ (e : EventFrame). 1 ≤ length e.frames) (described_event d) d.events (λ k e lt. omega (arith, members.events k e lt, length-map (get_or d.events k e).members (frame_number d)));
       frames = All-map (λ (e : EventFrame). All (IsResponders c) e.frames) (described_event d) d.events (λ k e lt.
           let names = (get_or d.events k e).members

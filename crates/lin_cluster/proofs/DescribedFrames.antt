@@ -13,7 +13,6 @@ use Rattle.lin_frame.specs.Frame.{pid}
 use Rattle.lin_frame.specs.Words.{choose}
 use Rattle.lin_frame.specs.declared.layout.Layout.{Layout}
 use Rattle.lin_frame.specs.declared.layout.Place.{Place}
-use Rattle.lin_frame.specs.declared.sums.SumKind.TheVariants.{Enhanced}
 use Rattle.lin_description.specs.declared.description.Description.{Description}
 use Rattle.lin_description.specs.declared.description.EventFrame.{EventFrame}
 use Rattle.lin_description.specs.declared.description.Frame.{Frame}
@@ -193,7 +192,6 @@ described-frames d none =
     let good = good-frames d none
     in record {
       publishers = each-frame d (λ f. f.publisher < nodes (parts_of d)) (λ k f lt. rw (nodes-count d) (node-within d (get_or d.frames k f).publisher (good k f lt).publisher));
-      models = each-frame d (λ f. f.model ≡ Enhanced) (λ k f lt. refl);
       layouts = each-frame d (λ f. IsTrue (good_layout f.layout)) (λ k f lt. layout-good d none k (get_or d.frames k f) (good k f lt) (λ listed. subst (λ (g : Frame). All (λ p. is_in_front d p ≡ false) g.placed) (get_or_default d.frames k no_frame f lt) (none-in-front d none k listed)));
       signals = each-frame d (λ f. AllZip (IsSignalAt (parts_of d) f.publisher) f.layout.places f.signals) (λ k f lt.
           let here = get_or d.frames k f

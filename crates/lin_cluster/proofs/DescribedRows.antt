@@ -1,8 +1,9 @@
 -- Worked examples of the cluster that a description says: lights of the commander, and keys of two responders that share an
 -- event-triggered frame.
-use Rattle.std.proofs.Common.{◌≡◌, ℕ, List, [], ◌∷◌, true, false, refl}
-use Rattle.std.specs.Prelude.{codes, Some, None, slice_index_or}
-use Rattle.lin_frame.specs.declared.sums.SumKind.TheVariants.{Enhanced}
+use Rattle.std.proofs.Common.{◌≡◌, ℕ, List, [], ◌∷◌, ◌++◌, true, false, refl}
+use Rattle.std.specs.Prelude.{codes, Some, None, map, slice_index_or}
+use Rattle.lin_frame.specs.declared.sums.SumKind.{SumKind}
+use Rattle.lin_frame.specs.declared.sums.SumKind.TheVariants.{Classic, Enhanced}
 use Rattle.lin_frame.specs.declared.value.Value.TheVariants as values
 use Rattle.lin_description.specs.declared.description.Attributes.{Attributes}
 use Rattle.lin_description.specs.declared.description.Description.{Description}
@@ -17,7 +18,8 @@ use Rattle.lin_description.specs.declared.description.Signal as declared_signal
 use Rattle.lin_description.specs.declared.description.Table as declared_table
 use Rattle.lin_description.specs.declared.description.TableEntry.{TableEntry}
 use Rattle.lin_parts.specs.Cluster.{frame_of, line_of}
-use Rattle.lin_cluster.specs.Described.{parts_of, nodes_of, signals_of, sporadic_frames_of, events_of, frame_number, node_number}
+use Rattle.lin_cluster.specs.Described.{parts_of, nodes_of, signals_of, frames_of, sporadic_frames_of, events_of, frame_number, node_number}
+use Rattle.lin_cluster.specs.Models.{is_version_1}
 use Rattle.lin_parts.specs.declared.parts.Entry.TheVariants.{Frame, Sporadic as SporadicEntry, Event, SlaveResp, Quiet}
 use Rattle.lin_parts.specs.declared.parts.SignalFrame.{SignalFrame}
 
@@ -129,3 +131,24 @@ unknown-frame-row = refl
 
 unknown-node-row : node_number body (name (codes "ghost")) ≡ 3
 unknown-node-row = refl
+
+-- ---- checksum models: those of the frames, and behind them those of the event-triggered ones
+
+abbrev of_version : List ℕ → List ℕ → Attributes
+of_version node version = record { node = name node; protocol = Some version; configured_nad = None }
+
+abbrev models : List Attributes → List declared_signal.Signal → List SumKind
+models blocks signals =
+    let d = record body { attributes = blocks; signals = signals }
+    in map (λ f. f.model) (frames_of d) ++ map (λ e. e.model) (events_of d)
+
+-- the first block with a node's name tells its version, and one of a name that is no node's tells nothing
+publisher-of-lin-1-row : models (of_version (codes "ghost") (codes "1.3") ∷ of_version (codes "lsm") (codes "1.3") ∷ of_version (codes "lsm") (codes "2.2") ∷ []) body.signals ≡ Enhanced ∷ Classic ∷ Enhanced ∷ Classic ∷ []
+publisher-of-lin-1-row = refl
+
+-- a node that subscribes a signal of the commander's frame
+subscriber-of-lin-1-row : models (of_version (codes "rsm") (codes "1.2") ∷ []) ((record (signal (codes "mode") 10 (inits.Scalar (number 0x155)) (codes "cem")) { subscribers = name (codes "lsm") ∷ name (codes "rsm") ∷ [] }) ∷ []) ≡ Classic ∷ Enhanced ∷ Classic ∷ Enhanced ∷ []
+subscriber-of-lin-1-row = refl
+
+versions-row : map is_version_1 (codes "1.3" ∷ codes "1.0" ∷ codes "1." ∷ codes "1.x" ∷ codes "1" ∷ codes " 1.3" ∷ codes "01.3" ∷ codes "0x1" ∷ codes "2.2" ∷ codes "11.3" ∷ codes "" ∷ []) ≡ true ∷ true ∷ true ∷ true ∷ false ∷ false ∷ false ∷ false ∷ false ∷ false ∷ false ∷ []
+versions-row = refl

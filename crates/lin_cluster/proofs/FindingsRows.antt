@@ -174,3 +174,26 @@ limits = refl
 
 pub limits-passed : candidates (record body { speed = number 20001 4 1; time_base = number 1000000001 5 10 }) ≡ finding_at 17 4 1 ∷ finding_at 17 5 10 ∷ []
 limits-passed = refl
+
+-- two responders of these versions, each with a frame, and an event-triggered frame that lists both
+abbrev of_version : ℕ → List ℕ → List ℕ → Attributes
+of_version line node version = record { node = name node line 1; protocol = Some version; configured_nad = None }
+
+abbrev two_keys : List Attributes → Description
+two_keys blocks = record body {
+  slaves = name (codes "lsm") 5 30 ∷ name (codes "rsm") 5 40 ∷ [];
+  signals = level ∷ lkey ∷ signal 8 (codes "rkey") 8 0 (codes "rsm") ∷ [];
+  frames = light ∷ left ∷ frame 13 (codes "RightKey") 3 (codes "rsm") (placed 13 40 (codes "rkey") 8 ∷ []) ∷ [];
+  events = (record keys { members = name (codes "LeftKey") 21 30 ∷ name (codes "RightKey") 21 40 ∷ [] }) ∷ [];
+  attributes = blocks;
+}
+
+pub mixed-checksum : candidates (two_keys (of_version 26 (codes "lsm") (codes "1.3") ∷ of_version 27 (codes "rsm") (codes "2.2") ∷ [])) ≡ finding_at 18 21 40 ∷ []
+mixed-checksum = refl
+
+pub one-checksum : candidates (two_keys (of_version 26 (codes "lsm") (codes "1.3") ∷ of_version 27 (codes "rsm") (codes "1.2") ∷ [])) ≡ []
+one-checksum = refl
+
+-- the commander reads both keys
+pub commander-of-lin-1 : candidates (two_keys (of_version 26 (codes "lsm") (codes "1.3") ∷ of_version 27 (codes "cem") (codes "1.3") ∷ [])) ≡ []
+commander-of-lin-1 = refl

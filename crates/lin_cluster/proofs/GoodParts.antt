@@ -17,7 +17,7 @@ use Rattle.std.specs.Option.{option_map_or}
 use Rattle.lin_cluster.specs.Described.{signal_number, frame_number, table_number}
 use Rattle.lin_cluster.specs.FindingsFrames.{unknown_in_signal, unknown_node, unknown_in_frame, unknown_signal, unknown_in_sporadic, unknown_member, unknown_in_event, unknown_in_block, unknown_in_table, wrong_publishers_in, wrong_publisher_at, is_published_elsewhere, ids, bad_id, bad_signal_size, bad_frame_size, is_good_size, is_frame_size, outside_in, outside_at, is_outside, overlaps_in, overlap_at, is_overlapping, bad_init, init_place, is_good_init}
 use Rattle.lin_cluster.specs.FindingsNames.{is_node, signal_named, frame_named, table_named, is_any_frame, is_event_entry, knows, at_name, at_number, at_place}
-use Rattle.lin_cluster.specs.FindingsTables.{responder_limits, frame_limits, table_limits, time_limits, past, long_delay, zero_delays_in, zero_delay, empty_table, bad_members_in, bad_member_at, bad_sporadics_in, bad_sporadic_at, is_responders, is_bad_member, nested_at}
+use Rattle.lin_cluster.specs.FindingsTables.{responder_limits, frame_limits, table_limits, time_limits, past, long_delay, zero_delays_in, zero_delay, empty_table, bad_members_in, bad_member_at, bad_sporadics_in, bad_sporadic_at, is_responders, is_bad_member, nested_at, is_mixed, mixed_at, mixed_in}
 use Rattle.lin_cluster.specs.declared.finding.Finding.{Finding}
 use Rattle.lin_cluster.proofs.KnownNames.{no_frame, no_table, the_signal, signal-within, signal-at, frame-found, table-within, table-found}
 use Rattle.lin_cluster.proofs.Named.{found-within}
@@ -66,10 +66,9 @@ limit-parts d none = five (responder_limits d) (frame_limits d) (past (λ t. t.n
 pub within-limits : (d : Description) → NothingFound d → WithinLimits d
 within-limits d none =
     let parts = limit-parts d none
-    in let slaves = nil-parts _ (past (λ (n : Name). n) (slice_get d.slaves 15)) parts.0
     in let kinds = four (past (λ (s : Signal). s.name) (slice_get d.signals 1024)) (past (λ (f : Frame). f.name) (slice_get d.frames 60)) (past (λ (f : Sporadic). f.name) (slice_get d.sporadic 256)) (past (λ (e : EventFrame). e.name) (slice_get d.events 60)) parts.1
     in record {
-      slaves = within-limit (λ n. n) d.slaves 15 slaves.1;
+      slaves = within-limit (λ n. n) d.slaves 15 parts.0;
       signals = within-limit (λ s. s.name) d.signals 1024 kinds.0;
       frames = within-limit (λ f. f.name) d.frames 60 kinds.1;
       sporadic = within-limit (λ f. f.name) d.sporadic 256 kinds.2;
@@ -195,20 +194,20 @@ pub record GoodSporadic (d : Description) (s : Sporadic) : Type 0 where
 pub good-sporadics : (d : Description) → NothingFound d → All (GoodSporadic d) d.sporadic
 good-sporadics d none k s lt =
     let here = get_or d.sporadic k s
-    in let parts = nil-parts _ (flat_map (bad_sporadic_at d) here.members) (each-nil (bad_sporadics_in d) d.sporadic none.sporadic k s lt)
     in let names = each-nil (unknown_in_sporadic d) d.sporadic (unknown-parts d none).2 k s lt
     in record {
       members = λ i m in'.
           let member = get_or here.members i m
           in good-member d (is_responders d) member
           (not-false (is_any_frame d member) (when-nil _ (at_name 1 member) (each-nil (unknown_member d) here.members names i m in')))
-          (when-nil _ (at_name 14 member) (each-nil (bad_sporadic_at d) here.members parts.1 i m in'));
+          (when-nil _ (at_name 14 member) (each-nil (bad_sporadic_at d) here.members (each-nil (bad_sporadics_in d) d.sporadic none.sporadic k s lt) i m in'));
     }
 
 pub record GoodEvent (d : Description) (e : EventFrame) : Type 0 where
   pub id : e.id.value < 60
   pub table : table_number d e.table < length d.tables
   pub members : (i : ℕ) (m : Name) → i < length e.members → GoodMember d (is_bad_member d e.members (take i e.members)) (get_or e.members i m)
+  pub models : All (λ m. is_mixed d e.members m ≡ false) e.members
   pub resolving : All (λ x. is_event_entry d x ≡ false) (get_or d.tables (table_number d e.table) no_table).entries
 
 good-resolving : (d : Description) (e : EventFrame) → table_number d e.table < length d.tables → nested_at d e ≡ [] → All (λ x. is_event_entry d x ≡ false) (get_or d.tables (table_number d e.table) no_table).entries
@@ -221,7 +220,6 @@ pub good-events : (d : Description) → NothingFound d → All (GoodEvent d) d.e
 good-events d none k e lt =
     let here = get_or d.events k e
     in let names = nil-parts _ (flat_map (unknown_member d) here.members) (each-nil (unknown_in_event d) d.events (unknown-parts d none).3 k e lt)
-    in let parts = nil-parts _ (flat_map (bad_member_at d here.members) (enumerate_from 0 here.members)) (each-nil (bad_members_in d) d.events none.events k e lt)
     in let table : table_number d here.table < length d.tables = table-within d here.table (when-nil _ (at_name 1 here.table) names.0)
     in record {
       id = back-ids d none.ids k e lt;
@@ -230,7 +228,8 @@ good-events d none k e lt =
           let member = get_or here.members i m
           in good-member d (is_bad_member d here.members (take i here.members)) member
           (not-false (is_any_frame d member) (when-nil _ (at_name 1 member) (each-nil (unknown_member d) here.members names.1 i m in')))
-          (when-nil _ (at_name 13 member) (of-each (λ im. bad_member_at d here.members im ≡ []) here.members (each-nil (bad_member_at d here.members) (enumerate_from 0 here.members) parts.1) i m in'));
+          (when-nil _ (at_name 13 member) (of-each (λ im. bad_member_at d here.members im ≡ []) here.members (each-nil (bad_member_at d here.members) (enumerate_from 0 here.members) (each-nil (bad_members_in d) d.events none.events k e lt)) i m in'));
+      models = λ i m in'. when-nil _ (at_name 18 (get_or here.members i m)) (each-nil (mixed_at d here.members) here.members (each-nil (mixed_in d) d.events none.mixed k e lt) i m in');
       resolving = good-resolving d here table (each-nil (nested_at d) d.events none.nested k e lt);
     }
 

@@ -2,7 +2,7 @@
 -- means the first that has it. A name that nothing has means the number behind the last; such a description has a finding.
 use Rattle.std.specs.Prelude.{ℕ, Bool, List, [], ◌∷◌, length, map, find, slice_index_or, Option, Some, None, option_and_then, ◌==◌, nat_lt, if◌then◌else◌, codes}
 use Rattle.std.specs.List.{list_any, enumerate_from, position_or_len}
-use Rattle.std.specs.Option.{option_map}
+use Rattle.std.specs.Option.{option_map, option_map_or}
 use Rattle.std.specs.Str.{bytes_eq}
 use Rattle.lin_frame.specs.Frame.{pid}
 use Rattle.lin_frame.specs.declared.layout.Layout.{Layout}
@@ -21,6 +21,7 @@ use Rattle.lin_description.specs.declared.description.PlacedSignal.{PlacedSignal
 use Rattle.lin_description.specs.declared.description.Signal as declared_signal
 use Rattle.lin_description.specs.declared.description.Table as declared_table
 use Rattle.lin_description.specs.declared.description.TableEntry.{TableEntry}
+use Rattle.lin_cluster.specs.Models.{frame_model, first_model}
 use Rattle.lin_parts.specs.Rules.{place_at}
 use Rattle.lin_parts.specs.declared.parts.Entry.{Entry}
 use Rattle.lin_parts.specs.declared.parts.Entry.TheVariants as entries
@@ -108,7 +109,7 @@ described_layout d frame = record { len = frame.1.size.value; pid = own_pid d fr
 abbrev pub described_frame : Description → ℕ × declared_frame.Frame → SignalFrame
 described_frame d frame = record {
   pid = pid frame.1.id.value;
-  model = Enhanced;
+  model = frame_model d frame.1;
   publisher = node_number d frame.1.publisher;
   layout = described_layout d frame;
   signals = map (λ p. signal_number d p.signal) frame.1.placed;
@@ -124,8 +125,9 @@ members_of d names = map (frame_number d) names
 abbrev pub sporadic_frames_of : Description → List (List ℕ)
 sporadic_frames_of d = map (λ s. members_of d s.members) d.sporadic
 
+-- its answers have the checksum model of the first member
 abbrev pub described_event : Description → declared_event.EventFrame → EventFrame
-described_event d e = record { pid = pid e.id.value; model = Enhanced; table = table_number d e.table; frames = members_of d e.members }
+described_event d e = record { pid = pid e.id.value; model = option_map_or (λ model. model) (first_model d e.members) Enhanced; table = table_number d e.table; frames = members_of d e.members }
 
 abbrev pub events_of : Description → List EventFrame
 events_of d = map (described_event d) d.events

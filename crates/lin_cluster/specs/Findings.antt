@@ -3,7 +3,7 @@ use Rattle.std.specs.Prelude.{◌≡◌, List, [], ◌++◌, IsPermutation, IsSo
 use Rattle.std.specs.declared.cmp.Ordering.{Ordering}
 use Rattle.std.specs.Ordering.{nat_cmp, ordering_then}
 use Rattle.lin_cluster.specs.FindingsFrames.{unknown_names, wrong_publishers, bad_ids, ids_twice, bad_sizes, signals_outside, signals_overlap, bad_inits, bad_nads, nads_twice}
-use Rattle.lin_cluster.specs.FindingsTables.{slots_too_short, zero_delays, bad_event_frames, bad_sporadics, nested_collisions, empty_tables, limits_passed}
+use Rattle.lin_cluster.specs.FindingsTables.{slots_too_short, zero_delays, bad_event_frames, bad_sporadics, nested_collisions, empty_tables, limits_passed, mixed_checksums}
 use Rattle.lin_cluster.specs.declared.finding.Finding.{Finding}
 use Rattle.lin_description.specs.declared.description.Description.{Description}
 
@@ -12,7 +12,7 @@ abbrev pub candidates : Description → List Finding
 candidates d =
     unknown_names d ++ wrong_publishers d ++ bad_ids d ++ ids_twice d ++ bad_sizes d ++ signals_outside d ++ signals_overlap d ++ bad_inits d
     ++ slots_too_short d ++ zero_delays d ++ bad_nads d ++ nads_twice d ++ bad_event_frames d ++ bad_sporadics d ++ nested_collisions d
-    ++ empty_tables d ++ limits_passed d
+    ++ empty_tables d ++ limits_passed d ++ mixed_checksums d
 
 -- a description in which nothing is found
 abbrev pub IsFree : Description → Type 0

@@ -5,6 +5,7 @@ use Rattle.std.specs.List.{list_any, list_all, enumerate_from}
 use Rattle.std.specs.Option.{option_map_or}
 use Rattle.lin_cluster.specs.FindingsFrames.{is_frame_size}
 use Rattle.lin_cluster.specs.FindingsNames.{finding_at, at_name, at_number, when, same_name, is_node, signal_named, frame_named, sporadic_named, event_named, table_named, is_any_frame, knows, carries_frame, is_event_entry}
+use Rattle.lin_cluster.specs.Models.{model_named, first_model, differ}
 use Rattle.lin_cluster.specs.declared.finding.Finding.{Finding}
 use Rattle.lin_description.specs.declared.description.Description.{Description}
 use Rattle.lin_description.specs.declared.description.EventFrame.{EventFrame}
@@ -108,9 +109,8 @@ is_wrong_member d members earlier m = is_any_frame d m && option_map_or (is_bad_
 abbrev pub bad_member_at : Description → List Name → ℕ × Name → List Finding
 bad_member_at d members im = when (is_wrong_member d members (take im.0 members) im.1) (at_name 13 im.1)
 
--- an event-triggered frame without members, which no text describes, is found at its name
 abbrev pub bad_members_in : Description → EventFrame → List Finding
-bad_members_in d e = when (length e.members == 0) (at_name 13 e.name) ++ flat_map (bad_member_at d e.members) (enumerate_from 0 e.members)
+bad_members_in d e = flat_map (bad_member_at d e.members) (enumerate_from 0 e.members)
 
 abbrev pub bad_event_frames : Description → List Finding
 bad_event_frames d = flat_map (bad_members_in d) d.events
@@ -124,9 +124,8 @@ is_responders d f = is_node d f.publisher && not (same_name f.publisher d.master
 abbrev pub bad_sporadic_at : Description → Name → List Finding
 bad_sporadic_at d m = when (is_any_frame d m && option_map_or (is_responders d) (frame_named d m) true) (at_name 14 m)
 
--- a sporadic frame without members, which no text describes, is found at its name
 abbrev pub bad_sporadics_in : Description → Sporadic → List Finding
-bad_sporadics_in d f = when (length f.members == 0) (at_name 14 f.name) ++ flat_map (bad_sporadic_at d) f.members
+bad_sporadics_in d f = flat_map (bad_sporadic_at d) f.members
 
 abbrev pub bad_sporadics : Description → List Finding
 bad_sporadics d = flat_map (bad_sporadics_in d) d.sporadic
@@ -164,9 +163,8 @@ long_delay e = too_long e.delay
 abbrev pub table_limits : Table → List Finding
 table_limits t = past (λ e. e.name) (slice_get t.entries 1024) ++ flat_map long_delay t.entries
 
--- 1 to 15 responders; that there are none, as in no text, is found at the commander's name
 abbrev pub responder_limits : Description → List Finding
-responder_limits d = when (length d.slaves == 0) (at_name 17 d.master) ++ past (λ n. n) (slice_get d.slaves 15)
+responder_limits d = past (λ n. n) (slice_get d.slaves 15)
 
 abbrev pub frame_limits : Description → List Finding
 frame_limits d =
@@ -178,3 +176,17 @@ time_limits d = when (not (is_speed d.speed.value)) (at_number 17 d.speed) ++ to
 
 abbrev pub limits_passed : Description → List Finding
 limits_passed d = responder_limits d ++ frame_limits d ++ past (λ t. t.name) (slice_get d.tables 256) ++ flat_map table_limits d.tables ++ time_limits d
+
+-- ---- 18 MixedChecksum: a member that is a frame and has another checksum model than the first member, where that is a frame
+
+abbrev pub is_mixed : Description → List Name → Name → Bool
+is_mixed d members m = knows (model_named d m) (λ model. knows (first_model d members) (differ model))
+
+abbrev pub mixed_at : Description → List Name → Name → List Finding
+mixed_at d members m = when (is_mixed d members m) (at_name 18 m)
+
+abbrev pub mixed_in : Description → EventFrame → List Finding
+mixed_in d e = flat_map (mixed_at d e.members) e.members
+
+abbrev pub mixed_checksums : Description → List Finding
+mixed_checksums d = flat_map (mixed_in d) d.events

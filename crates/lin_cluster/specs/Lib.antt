@@ -10,5 +10,6 @@ pub mod FindingsPlaces
 pub mod FindingsRepeats
 pub mod Findings
 pub mod Known
+pub mod Models
 pub mod Names
 pub mod Fitting

@@ -5,6 +5,7 @@ ghost use Rattle.std.specs.Prelude.{◌≡◌, IfOk, OnOk};
 ghost use Rattle.lin_cluster.specs.Described.{parts_of};
 ghost use Rattle.lin_cluster.specs.Fitting.{FitsParts, HasMembers};
 
+use crate::findings::models_of;
 use lin_description::Description;
 use lin_parts::Parts;
 use std::alloc::{AllocError, Global};
@@ -23,13 +24,14 @@ pub(crate) fn parts_of(alloc: Global, d: &Description) -> Result<Parts, AllocErr
     ensures members { OnOk result (HasMembers d.now) }
 {
     let signals = signals::signals_of(alloc, d, d.signals())?;
-    let frames = frames::frames_of(alloc, d, signals.as_slice(), d.frames())?;
+    let models = models_of(alloc, d)?;
+    let frames = frames::frames_of(alloc, d, signals.as_slice(), models.as_slice(), d.frames())?;
     Ok(Parts {
         nodes: nodes::nodes_of(alloc, d, d.slaves())?,
         signals,
         frames,
         sporadic: frames::sporadic_frames_of(alloc, d, d.sporadic())?,
-        events: frames::events_of(alloc, d, d.events())?,
+        events: frames::events_of(alloc, d, models.as_slice(), d.events())?,
         tables: tables::tables_of(alloc, d, d.tables())?,
     })
 }

@@ -2,7 +2,7 @@
 
 use lin_lists::Many;
 
-/// What is wrong, and where: the finding's number (1 to 17), line and column, and for a slot that is too short (9) the time in
+/// What is wrong, and where: the finding's number (1 to 18), line and column, and for a slot that is too short (9) the time in
 /// microseconds that it needs; otherwise 0. Findings are ordered by place, then by number.
 #[derive(Clone, Copy, Debug, PartialEq, Eq, PartialOrd, Ord)]
 pub struct Finding {

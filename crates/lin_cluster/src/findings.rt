@@ -6,6 +6,7 @@ mod judged;
 mod known;
 mod limits;
 mod members;
+mod models;
 mod overlaps;
 mod places;
 mod ranges;
@@ -16,16 +17,18 @@ mod tables;
 mod unknown_names;
 mod words;
 
-ghost use Rattle.std.specs.Prelude.{◌≡◌, ◌++◌, OnOk, IfOk, List, IsSorted, IsPermutation};
+ghost use Rattle.std.specs.Prelude.{◌≡◌, ◌++◌, OnOk, IfOk, List, map, IsSorted, IsPermutation};
 ghost use Rattle.lin_cluster.specs.Findings.{candidates, finding_cmp, AreFindings};
 ghost use Rattle.lin_cluster.specs.declared.finding.Finding.{Finding};
 ghost use Rattle.lin_cluster.specs.FindingsFrames.{unknown_names, wrong_publishers, bad_ids, ids_twice, bad_sizes, signals_outside, signals_overlap, bad_inits, bad_nads, nads_twice};
-ghost use Rattle.lin_cluster.specs.FindingsTables.{slots_too_short, zero_delays, bad_event_frames, bad_sporadics, nested_collisions, empty_tables, limits_passed};
+ghost use Rattle.lin_cluster.specs.FindingsTables.{slots_too_short, zero_delays, bad_event_frames, bad_sporadics, nested_collisions, empty_tables, limits_passed, mixed_checksums};
+ghost use Rattle.lin_cluster.specs.Models.{frame_model};
 
 use crate::finding::Finding;
 use judged::Judged;
 use known::Known;
 use lin_description::Description;
+use lin_frame::SumKind;
 use std::alloc::{AllocError, Global};
 
 fn of_names_and_numbers(
@@ -64,14 +67,15 @@ fn of_slots_and_addresses(
 }
 
 fn of_tables(alloc: Global, found: &mut Vec<Finding>, judged: &Judged) -> Result<(), AllocError>
-    ensures { OnOk result (found.new.items ≡ found.old.items ++ bad_event_frames judged.now ++ bad_sporadics judged.now ++ nested_collisions judged.now ++ empty_tables judged.now ++ limits_passed judged.now) }
+    ensures { OnOk result (found.new.items ≡ found.old.items ++ bad_event_frames judged.now ++ bad_sporadics judged.now ++ nested_collisions judged.now ++ empty_tables judged.now ++ limits_passed judged.now ++ mixed_checksums judged.now) }
 {
     let known = judged.known();
     members::bad_event_frames(alloc, found, judged)?;
     members::bad_sporadics(found, judged)?;
     tables::nested_collisions(found, judged)?;
     tables::empty_tables(found, known)?;
-    limits::limits_passed(found, known)
+    limits::limits_passed(found, known)?;
+    models::mixed_checksums(found, judged)
 }
 
 fn gathered(alloc: Global, judged: &Judged) -> Result<Vec<Finding>, AllocError>
@@ -114,6 +118,18 @@ fn ordered(alloc: Global, description: &Description) -> Result<Vec<Finding>, All
     let mut found = unordered(alloc, description)?;
     sort(&mut found)?;
     Ok(found)
+}
+
+/// The checksum model of each frame; an error is want of memory.
+pub(crate) fn models_of(
+    alloc: Global,
+    description: &Description,
+) -> Result<Vec<SumKind>, AllocError>
+    ensures { IfOk result (λ v. v.items ≡ map (frame_model description.now) description.now.frames) }
+{
+    let known = Known::new(alloc, description)?;
+    let models = models::frame_models(alloc, &known)?;
+    Ok(models)
 }
 
 /// All that is wrong with a description, by place and number, and no other list is that; an error is want of memory.

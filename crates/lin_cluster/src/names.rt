@@ -9,7 +9,7 @@ ghost use Rattle.lin_cluster.specs.FindingsNames.{same_name};
 ghost use Rattle.lin_cluster.specs.Names.{or_else, NumbersFirst};
 
 use indexmap::IndexMap;
-use lin_description::{EventFrame, Frame, Name, Signal, Sporadic, Table, TableEntry};
+use lin_description::{Attributes, EventFrame, Frame, Name, Signal, Sporadic, Table, TableEntry};
 use std::alloc::{AllocError, Global};
 use std::marker::Model;
 
@@ -76,6 +76,14 @@ impl Named for TableEntry {
 
     fn name(&self) -> &Name {
         &self.name
+    }
+}
+
+impl Named for Attributes {
+    ghost name_of = { λ a. a.node };
+
+    fn name(&self) -> &Name {
+        &self.node
     }
 }
 

@@ -19,11 +19,9 @@ use Rattle.lin_core.specs.Kept.{CanAnswer, IsOpen, IsThere, KeepsSignals, put_in
 use Rattle.lin_core.specs.Replies.{put_event}
 use Rattle.lin_core.specs.Signals.{carried, signal_bytes}
 use Rattle.lin_core.specs.Slots.{put}
-use Rattle.lin_core.specs.Core.{CoreData, past_of}
-use Rattle.lin_core.specs.Whole.{IsWhole, core_data}
+use Rattle.lin_core.specs.Stages.{IsKept, Stage}
 use Rattle.lin_core.specs.declared.event.Event.TheVariants.{Put as PutEvent}
 use Rattle.lin_core.specs.declared.log.LogEntry.{LogEntry}
-use Rattle.lin_core.specs.declared.machine.Core.TheInside.{Inside}
 use Rattle.lin_core.specs.declared.port.PortId.{PortId}
 use Rattle.lin_core.specs.declared.signals.Signals.{Signals}
 use Rattle.lin_core.specs.declared.slot.OpenSlot.{OpenSlot}
@@ -40,7 +38,7 @@ in-some : (o : Option Slot) (test : Slot → Bool) → choose o false test ≡ t
 in-some None test h = cc
 in-some (Some s) test h = refl
 
-pub record AnswerSlot (a : Inside) (node : ℕ) : Type 0 where
+pub record AnswerSlot (a : Stage) (node : ℕ) : Type 0 where
   pub slot : OpenSlot
   pub at : a.state.slot ≡ Some slot
   pub is : open_slot (past_in a) ≡ Some (slot_in slot)
@@ -48,7 +46,7 @@ pub record AnswerSlot (a : Inside) (node : ℕ) : Type 0 where
   pub can : CanAnswer a.cluster (line_of a.cluster slot.table slot.entry).entry slot.header node
   pub free : Free slot node
 
-pub answer-slot : (a : Inside) (by : PortId) (node : ℕ) → IsWhole a → Allowed a by (Answer node) → AnswerSlot a node
+pub answer-slot : (a : Stage) (by : PortId) (node : ℕ) → IsKept a → Allowed a by (Answer node) → AnswerSlot a node
 answer-slot a by node w s =
     let both = answer-allowed a.cluster a.capacity (past_in a) by node s.allowed
     in let k = open-some a.state.slot (open_slot (past_in a)) w.kept.slot_is (in-some (open_slot (past_in a)) (λ o. is_in o.due node) both.0)
@@ -71,14 +69,8 @@ transport-by c past node slot is can none = elim can.2 [
   ]
 ]
 
-pub transport-head : (a : Inside) (node : ℕ) → (s : AnswerSlot a node) → frame_answered a.cluster (past_in a) node ≡ None → (header_is 0x3C s.slot.header || header_is 0x7D s.slot.header) ≡ true
+pub transport-head : (a : Stage) (node : ℕ) → (s : AnswerSlot a node) → frame_answered a.cluster (past_in a) node ≡ None → (header_is 0x3C s.slot.header || header_is 0x7D s.slot.header) ≡ true
 transport-head a node s none = transport-by a.cluster (past_in a) node s.slot s.is s.can none
-
-pub none-inside : (a : Inside) (d : CoreData) (node : ℕ) → core_data a ≡ d → frame_answered d.cluster (past_of d) node ≡ None → frame_answered a.cluster (past_in a) node ≡ None
-none-inside a d node is none = subst (λ (x : CoreData). frame_answered x.cluster (past_of x) node ≡ None) (sym is) none
-
-pub some-inside : (a : Inside) (d : CoreData) (node frame : ℕ) → core_data a ≡ d → frame_answered d.cluster (past_of d) node ≡ Some frame → frame_answered a.cluster (past_in a) node ≡ Some frame
-some-inside a d node frame is some = subst (λ (x : CoreData). frame_answered x.cluster (past_of x) node ≡ Some frame) (sym is) some
 
 -- == its bytes
 pub put-is : (c : Parts) (past : List LogEntry) (entry : Entry) (h n frame : ℕ) → frame_by c entry h n ≡ Some frame → put c past entry h n ≡ answer_of (model_by c entry frame) h (signal_bytes c past frame)

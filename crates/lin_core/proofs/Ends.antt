@@ -1,6 +1,6 @@
 -- The laws of the headline, from what is known of each history.
 use Rattle.std.proofs.Common.{◌≡◌, ℕ, zero, suc, ◌<◌, Bool, true, false, List, [], ◌∷◌, ◌++◌, length, map, refl, ap, sym, ◌∙◌, subst, arith, inl, inr}
-use Rattle.std.specs.Prelude.{Option, Some, None, cond, ◌&&◌, ◌==◌, if◌then◌else◌, is_some, option_map, filter}
+use Rattle.std.specs.Prelude.{Option, Some, None, cond, ◌&&◌, ◌==◌, if◌then◌else◌, is_some, filter, reverse}
 use Rattle.std.proofs.lemmas.Bool.Decides.{eqb_tells, nat_tests}
 use Rattle.std.proofs.lemmas.List.{append-nil}
 use Rattle.lin_frame.specs.Words.{numbers}
@@ -29,7 +29,7 @@ use Rattle.lin_core.specs.Runs.{history}
 use Rattle.lin_core.specs.Law.{ReadsSent, InOrder, IsPrefix}
 use Rattle.lin_transport.proofs.Frames.{first-cons, frame-begins, frame-continues}
 use Rattle.lin_core.proofs.Fates.{good_sign, goods, goods-wait, goods-prefix, goods-unknown, more-prefix}
-use Rattle.lin_core.proofs.Tracks.{with_last-append}
+use Rattle.lin_core.proofs.Tracks.{in_last-append}
 use Rattle.lin_core.proofs.Hosts.{on, plain, HasBlocks, tail_of, track-blocks, Track}
 use Rattle.lin_core.proofs.Moves.{count-less, part-busy, busy_if}
 use Rattle.lin_core.proofs.Finishes.{IsFrameOf, other-nad, zero-not, nad-is}
@@ -83,7 +83,7 @@ plain-held c h blocks accepted heard signs s e i = record {
 
 -- what is put on the links in the slot of a frame
 pub put-frame-by : (c : Parts) (table entry : ℕ) (due left : List ℕ) (hurt : Bool) (a b : ℕ) (d e : Direction) (f : List ℕ) (n k : ℕ) → IsSound c → nad c a ≡ Some n → nad c b ≡ Some k → IsFrameOf n f
-    → put_on c (record_of b e) (frame_slot table entry due left hurt (record_of a d) f) ≡ (if a == b && same_dir d e then Some f else None)
+    → put_on c (record_of b e) (frame_slot table entry due left hurt (record_of a d) f) ≡ (if a == b && same_dir d e then f ∷ [] else [])
 put-frame-by c table entry due left hurt a b Down Down f n k sound p q i = elim (eqb_tells a b) [
   | inl same ↦ let nk : (n == k) ≡ true = let z : Some n ≡ Some k = sym p ∙ ap (nad c) same.1 ∙ q in let y : n ≡ k = cc in grind (arith, nat_tests, y) in rw (q, i.address, nk, same.0, i.data_is)
   | inr differ ↦ rw (q, i.address, other-nad c a b n k sound p q differ.1, differ.0)
@@ -96,14 +96,14 @@ put-frame-by c table entry due left hurt a b Down Up f n k sound p q i = rw (and
 put-frame-by c table entry due left hurt a b Up Down f n k sound p q i = rw (and-false (a == b))
 
 pub put-frame : (c : Parts) (table entry : ℕ) (due left : List ℕ) (hurt : Bool) (m l : Link) (f : List ℕ) → IsSound c → HasNad c m.node → HasNad c l.node → IsFrameOf (nad_on c m) f
-    → put_on c l (frame_slot table entry due left hurt m f) ≡ (if same_link m l then Some f else None)
+    → put_on c l (frame_slot table entry due left hurt m f) ≡ (if same_link m l then f ∷ [] else [])
 put-frame c table entry due left hurt m l f sound p q i = put-frame-by c table entry due left hurt m.node l.node m.dir l.dir f p.n q.n sound p.is q.is (rw (nad-is c m p.n p.is) at i)
 
-pub put-sleep : (c : Parts) (table entry : ℕ) (due left : List ℕ) (hurt : Bool) (node : ℕ) (dir : Direction) → IsSound c → HasNad c node → put_on c (record_of node dir) (sleep_slot table entry due left hurt) ≡ None
+pub put-sleep : (c : Parts) (table entry : ℕ) (due left : List ℕ) (hurt : Bool) (node : ℕ) (dir : Direction) → IsSound c → HasNad c node → put_on c (record_of node dir) (sleep_slot table entry due left hurt) ≡ []
 put-sleep c table entry due left hurt node Down sound a = rw (a.is, zero-not a.n (sound.some node a.n a.is))
 put-sleep c table entry due left hurt node Up sound a = refl
 
-pub put-other : (c : Parts) (s : Slot) (node : ℕ) (dir : Direction) → header_is 0x3C s.header ≡ false → header_is 0x7D s.header ≡ false → put_on c (record_of node dir) s ≡ None
+pub put-other : (c : Parts) (s : Slot) (node : ℕ) (dir : Direction) → header_is 0x3C s.header ≡ false → header_is 0x7D s.header ≡ false → put_on c (record_of node dir) s ≡ []
 put-other c s node Down p q = rw p
 put-other c s node Up p q = rw q
 
@@ -111,7 +111,7 @@ put-other c s node Up p q = rw q
 abbrev pub sign_if : Bool → List ℕ → List Sign → List Sign
 sign_if q f signs = cons_option (if q then Some (PutSign f None) else None) signs
 
-pub if-map : (q : Bool) (f : List ℕ) (signs : List Sign) → blocks_of (cons_option (option_map (λ g. PutSign g None) (if q then Some f else None)) signs) ≡ blocks_of (sign_if q f signs)
+pub if-map : (q : Bool) (f : List ℕ) (signs : List Sign) → blocks_of (reverse (map (λ g. PutSign g None) (if q then f ∷ [] else [])) ++ signs) ≡ blocks_of (sign_if q f signs)
 if-map true f signs = refl
 if-map false f signs = refl
 
@@ -130,7 +130,7 @@ put-cons c m (suc j) = (_, _, ap (λ (x : List Sign). x ++ PutSign (frame (nad_o
 pub link-carried : (n : ℕ) (signs : List Sign) (ps : List (List ℕ × Fate)) (m : List ℕ) (k : ℕ) (q : Bool) → CanSend m → Track n signs ps (busy_if q m k)
     → HasBlocks n ps (blocks_of (sign_if q (frame n m k) signs)) (if q then (goods n m k ++ PutSign (frame n m k) None ∷ []) ∷ [] else [])
 link-carried n signs ps m zero true can t = record { front = blocks_of signs; is = rw (frame-begins n m can); settled = t.settled }
-link-carried n signs ps m (suc j) true can t = record { front = t.earlier; is = rw (frame-continues n m j, t.blocks) (with_last-append (λ b. b ++ PutSign (frame n m (suc j)) None ∷ []) t.earlier (goods n m (suc j))); settled = t.settled }
+link-carried n signs ps m (suc j) true can t = record { front = t.earlier; is = rw (frame-continues n m j, t.blocks) (in_last-append t.earlier (goods n m (suc j)) (PutSign (frame n m (suc j)) None)); settled = t.settled }
 link-carried n signs ps m zero false can t = record { front = blocks_of signs; is = sym (append-nil (blocks_of signs)); settled = t.settled }
 link-carried n signs ps m (suc j) false can t = record { front = blocks_of signs; is = sym (append-nil (blocks_of signs)); settled = t.settled }
 
@@ -175,7 +175,7 @@ pub record Held (c : Parts) (past : List LogEntry) (h : ℕ) (done : List (Messa
 pub plainly : (c : Parts) (past : List LogEntry) (h : ℕ) (k : Known c past) → ((l : Link) → IsLink c h l → blocks c past l ≡ blocks_of (signs c past l)) → Held c past h (k.states h).done
 plainly c past h k e = record { rest = (k.states h).rest; block = begun_block c (k.states h).rest (k.states h).count; holds = plain-held c h (blocks c past) (accepted_from past h) (heard_on c past) (signs c past) (k.states h) e (k.hosts h) }
 
-pub put-no : (c : Parts) (past : List LogEntry) (l : Link) (s : Slot) → open_slot past ≡ Some s → put_on c l s ≡ None → blocks c past l ≡ blocks_of (signs c past l)
+pub put-no : (c : Parts) (past : List LogEntry) (l : Link) (s : Slot) → open_slot past ≡ Some s → put_on c l s ≡ [] → blocks c past l ≡ blocks_of (signs c past l)
 put-no c past l s is none = rw (is, none)
 
 pub sign-none : (q : Bool) (f : List ℕ) (signs : List Sign) → q ≡ false → sign_if q f signs ≡ signs

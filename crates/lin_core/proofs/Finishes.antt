@@ -1,6 +1,6 @@
 -- What the finish of a slot leaves on each link.
 use Rattle.std.proofs.Common.{◌≡◌, ◌≢◌, ℕ, ◌≤◌, Bool, true, false, List, [], ◌∷◌, ◌++◌, length, take, refl, ap, ◌∙◌, subst, arith, inl, inr}
-use Rattle.std.specs.Prelude.{Option, Some, None, cond, ◌&&◌, ◌==◌, if◌then◌else◌, is_some, option_map, slice_index}
+use Rattle.std.specs.Prelude.{Option, Some, None, cond, ◌&&◌, ◌==◌, if◌then◌else◌, is_some, slice_index}
 use Rattle.std.specs.List.{cons_option}
 use Rattle.std.proofs.lemmas.Bool.Decides.{eqb_tells, nat_tests}
 use Rattle.std.proofs.lemmas.Bool.{ne_eqb}
@@ -12,8 +12,8 @@ use Rattle.lin_transport.specs.Transport.Heard.{Reset}
 use Rattle.lin_parts.specs.declared.parts.Parts.{Parts}
 use Rattle.lin_parts.specs.Cluster.{nad}
 use Rattle.lin_core.specs.History.{Slot, open_slot, seen, header_is, good_under, is_sleep_slot}
-use Rattle.lin_core.specs.Links.{Link, same_dir, same_link, host_of, Sign, nad_on, put_on, signs, heard_on, heard_good, header_for}
-use Rattle.lin_core.specs.Links.Sign.{Put, Mark}
+use Rattle.lin_core.specs.Links.{Link, same_dir, same_link, host_of, Sign, nad_on, put_signs, signs, heard_on, heard_good, header_for}
+use Rattle.lin_core.specs.Links.Sign.{Mark}
 use Rattle.lin_core.specs.Slots.{with_classic, sleep_frame}
 use Rattle.lin_parts.specs.Sound.{IsSound}
 use Rattle.lin_core.specs.declared.log.LogEntry.{LogEntry}
@@ -33,7 +33,7 @@ finish_entry port es = record { port = port; step = Finish; reply = Done es }
 
 -- what a finished slot adds to a link
 abbrev pub slot_signs : Parts → Slot → Link → List Sign
-slot_signs c s l = cons_option (if is_sleep_slot s then Some (Mark Slept) else None) (cons_option (option_map (λ f. Put f (Some (seen s))) (put_on c l s)) [])
+slot_signs c s l = cons_option (if is_sleep_slot s then Some (Mark Slept) else None) (put_signs c l (Some (seen s)) s)
 
 abbrev pub slot_heard : Parts → Slot → Link → List Heard
 slot_heard c s l = (if is_sleep_slot s then Reset ∷ [] else []) ++ choose (good_under (header_for l.dir) s) [] (heard_good (nad_on c l))
@@ -69,7 +69,7 @@ slot_of table entry header due puts left hurt = record { table = table; entry = 
 pub empty-quiet : (c : Parts) (table entry : ℕ) (header : Option ℕ) (due left : List ℕ) (hurt : Bool) (node : ℕ) (dir : Direction) → IsQuiet c (slot_of table entry header due [] left hurt) (record_of node dir)
 empty-quiet c table entry None due left hurt node Down = record { signs = refl; heard = refl }
 empty-quiet c table entry None due left hurt node Up = record { signs = refl; heard = refl }
-empty-quiet c table entry (Some h) due left hurt node Down = record { signs = rw (same-cond (h == 0x3C)); heard = rw (same-cond (h == 0x3C)) }
+empty-quiet c table entry (Some h) due left hurt node Down = record { signs = rw (same-cond (h == 0x3C), same-cond (h == 0x3C)); heard = rw (same-cond (h == 0x3C)) }
 empty-quiet c table entry (Some h) due left hurt node Up = record { signs = rw (same-cond (h == 0x3C), same-cond (h == 0x7D)); heard = rw (same-cond (h == 0x3C), same-cond (h == 0x7D)) }
 
 -- the address of a node

@@ -6,18 +6,16 @@ use Rattle.lin_transport.specs.Transport.{frame_count}
 use Rattle.lin_transport.specs.Sender.{Sending as Sender}
 use Rattle.lin_parts.specs.Cluster.{nodes}
 use Rattle.lin_parts.specs.declared.parts.Parts.{Parts}
-use Rattle.lin_core.specs.Core.{CoreData, past_of}
 use Rattle.lin_core.specs.History.{Slot, open_slot}
 use Rattle.lin_core.specs.Hosts.{sent_of, size_of}
 use Rattle.lin_core.specs.Kept.{message_at}
 use Rattle.lin_core.specs.KeptLate.{is_last_next}
 use Rattle.lin_core.specs.Links.{Message}
 use Rattle.lin_core.specs.Loads.{IsCarried, load_of}
-use Rattle.lin_core.specs.Whole.{IsWhole, core_data}
+use Rattle.lin_core.specs.Stages.{IsKept, Stage}
 use Rattle.lin_core.specs.declared.host.Host.{Host}
 use Rattle.lin_core.specs.declared.load.Load.TheVariants.{Carried}
 use Rattle.lin_core.specs.declared.log.LogEntry.{LogEntry}
-use Rattle.lin_core.specs.declared.machine.Core.TheInside.{Inside}
 use Rattle.lin_core.specs.declared.port.PortId.TheVariants.{Bus}
 use Rattle.lin_core.proofs.FinishCases.{HostCarried, host-carried}
 use Rattle.lin_core.proofs.Known.{Known}
@@ -29,28 +27,28 @@ use Rattle.lin_core.proofs.Nexts.{IsNext, next-inside}
 use Rattle.lin_core.proofs.Senders.{sender_for}
 
 -- the message that the slot carries a frame of: it is the first of its host's, and stands at this place in the log
-pub record GoodIs (a : Inside) (k : Known a.cluster (past_in a)) (h : ℕ) (host : Host) (place : ℕ) : Type 0 where
+pub record GoodIs (a : Stage) (k : Known a.cluster (past_in a)) (h : ℕ) (host : Host) (place : ℕ) : Type 0 where
   pub message : Message
   pub later : List Message
   pub first : (k.states h).rest ≡ message ∷ later
   pub below : h < nodes a.cluster
   pub here : slice_get a.state.hosts.items h ≡ Some host
-  pub at : message_at a.log.entries place ≡ Some message
+  pub at : message_at a.log place ≡ Some message
   pub some : 1 ≤ length message.bytes
   pub few : length message.bytes ≤ 4095
   pub node : message.link.node < nodes a.cluster
   pub more : (k.states h).count < frame_count (length message.bytes)
   pub sender_is : host.sender ≡ sender_for a.cluster (message ∷ later) (k.states h).count
 
-pub host-there : (a : Inside) (h : ℕ) (hurt : Bool) (w : IsWhole a) (k : Known a.cluster (past_in a)) → IsCarried (past_in a) h hurt → HostCarried a.cluster k.states h
+pub host-there : (a : Stage) (h : ℕ) (hurt : Bool) (w : IsKept a) (k : Known a.cluster (past_in a)) → IsCarried (past_in a) h hurt → HostCarried a.cluster k.states h
 host-there a h hurt w k carried = host-carried a.cluster (past_in a) Bus carried.0 w.sound k h carried.1 carried.2
 
-pub good-inside : (a : Inside) (h : ℕ) (hurt : Bool) (host : Host) (place : ℕ) (w : IsWhole a) (k : Known a.cluster (past_in a)) → IsCarried (past_in a) h hurt → host ≡ slice_index_or a.state.hosts.items h host
+pub good-inside : (a : Stage) (h : ℕ) (hurt : Bool) (host : Host) (place : ℕ) (w : IsKept a) (k : Known a.cluster (past_in a)) → IsCarried (past_in a) h hurt → host ≡ slice_index_or a.state.hosts.items h host
     → ((p : ℕ) → slice_get host.queue.items 0 ≡ Some p → place ≡ p) → GoodIs a k h host place
 good-inside a h hurt host place w k carried e at =
     let i : HostCarried a.cluster k.states h = host-there a h hurt w k carried
     in let here : slice_get a.state.hosts.items h ≡ Some host = host-of a h host w i.below e
-    in let n : IsNext a.cluster (message_at a.log.entries place) host.sender (k.states h).rest (k.states h).count = next-inside a h host place w k here at
+    in let n : IsNext a.cluster (message_at a.log place) host.sender (k.states h).rest (k.states h).count = next-inside a h host place w k here at
     in let can = n.can i.message i.later i.first
     in record {
       message = i.message;
@@ -67,14 +65,10 @@ good-inside a h hurt host place w k carried e at =
     }
 
 -- two looks at a host's place find the same host
-pub same-host : (a : Inside) (h : ℕ) (host other : Host) → IsWhole a → h < nodes a.cluster → host ≡ slice_index_or a.state.hosts.items h host → other ≡ slice_index_or a.state.hosts.items h other → host ≡ other
+pub same-host : (a : Stage) (h : ℕ) (host other : Host) → IsKept a → h < nodes a.cluster → host ≡ slice_index_or a.state.hosts.items h host → other ≡ slice_index_or a.state.hosts.items h other → host ≡ other
 same-host a h host other w below e o =
     let both : Some host ≡ Some other = sym (host-of a h host w below e) ∙ host-of a h other w below o
     in cc
-
--- what is asked of a core's data is known inside
-pub carried-inside : (a : Inside) (d : CoreData) (h : ℕ) (hurt : Bool) → core_data a ≡ d → IsCarried (past_of d) h hurt → IsCarried (past_in a) h hurt
-carried-inside a d h hurt is carried = subst (λ (x : CoreData). IsCarried (past_of x) h hurt) (sym is) carried
 
 pub carried-slot : (past : List LogEntry) (h : ℕ) (hurt : Bool) (s : Slot) → open_slot past ≡ Some s → IsCarried past h hurt → (load_of s ≡ Carried h) × (s.hurt ≡ hurt)
 carried-slot past h hurt s is carried =
@@ -108,7 +102,7 @@ tells-by false n f h = by-test (suc n == f) refl
     by-test false e = refl
     by-test true e = absurd (let same : suc n ≡ f = grind (arith, nat_tests, e) in let bad : false ≡ true = h.1 (omega arith) in cc)
 
-pub last-inside : (a : Inside) (h : ℕ) (host : Host) (place len : ℕ) (b : Bool) (w : IsWhole a) (k : Known a.cluster (past_in a)) (g : GoodIs a k h host place) → len ≡ length g.message.bytes
+pub last-inside : (a : Stage) (h : ℕ) (host : Host) (place len : ℕ) (b : Bool) (w : IsKept a) (k : Known a.cluster (past_in a)) (g : GoodIs a k h host place) → len ≡ length g.message.bytes
     → (IsTrue b ↔ (sent_of host + 1 ≡ frame_count (size_of host len))) → b ≡ is_last_next a.cluster (past_in a) h
 last-inside a h host place len b w k g l tells =
     let c : Parts = a.cluster
@@ -117,8 +111,7 @@ last-inside a h host place len b w k g l tells =
     in tells-by b (k.states h).count (frame_count (length g.message.bytes)) (rw (l, sent, size) at tells)
     ∙ sym (last-is c (past_in a) h g.message g.later w.sound k g.first)
 
--- the test of a core's data, by the message
-pub last-by : (a : Inside) (d : CoreData) (h : ℕ) (host : Host) (place : ℕ) (b : Bool) (w : IsWhole a) (k : Known a.cluster (past_in a)) (g : GoodIs a k h host place) → core_data a ≡ d → is_last_next d.cluster (past_of d) h ≡ b
+-- the test, by the message
+pub last-by : (a : Stage) (h : ℕ) (host : Host) (place : ℕ) (b : Bool) (w : IsKept a) (k : Known a.cluster (past_in a)) (g : GoodIs a k h host place) → is_last_next a.cluster (past_in a) h ≡ b
     → is_last g.message.bytes (k.states h).count ≡ b
-last-by a d h host place b w k g is last =
-    sym (last-is a.cluster (past_in a) h g.message g.later w.sound k g.first) ∙ subst (λ (x : CoreData). is_last_next x.cluster (past_of x) h ≡ b) (sym is) last
+last-by a h host place b w k g last = sym (last-is a.cluster (past_in a) h g.message g.later w.sound k g.first) ∙ last

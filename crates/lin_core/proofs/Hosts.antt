@@ -297,16 +297,19 @@ ones-fresh c h blocks accepted done m ms k t = all-fresh c h blocks (map message
 pub part-there : (m : Message) (ms : List Message) (j : ℕ) → part (m ∷ ms) (suc j) m.link ≡ Some (m.bytes, j)
 part-there m ms j = rw (same-self m.link)
 
+pub first-begun : (c : Parts) (h : ℕ) (blocks : Link → List (List Sign)) (accepted : List Message) (done : List (Message × Fate)) (m : Message) (ms : List Message) (j : ℕ)
+    → Stands c h blocks accepted (record { done = done; rest = m ∷ ms; count = suc j }) → is_begun c (sending_of c (map message_of done) m (suc j)) ≡ true
+first-begun c h blocks accepted done m ms j t =
+    let more : suc j < frame_count (length m.bytes) = t.more m.link (m.bytes, j) t.can_go.0.link (part-there m ms j)
+    in rw (goods-wait (nad_on c m.link) m.bytes (suc j) more) (goods-begin (nad_on c m.link) m.bytes j)
+
 pub begun-first : (c : Parts) (h : ℕ) (blocks : Link → List (List Sign)) (accepted : List Message) (done : List (Message × Fate)) (m : Message) (ms : List Message) (j : ℕ)
     → Stands c h blocks accepted (record { done = done; rest = m ∷ ms; count = suc j })
     → find (is_begun c) (sendings_from blocks [] accepted) ≡ Some (sending_of c (map message_of done) m (suc j))
 begun-first c h blocks accepted done m ms j t =
-    let more : suc j < frame_count (length m.bytes) = t.more m.link (m.bytes, j) t.can_go.0.link (part-there m ms j)
-    in let begun : is_begun c (sending_of c (map message_of done) m (suc j)) ≡ true
-    = rw (goods-wait (nad_on c m.link) m.bytes (suc j) more) (goods-begin (nad_on c m.link) m.bytes j)
-    in rw (sendings-split c h blocks accepted done m ms (suc j) t)
+    rw (sendings-split c h blocks accepted done m ms (suc j) t)
     (find-append c h (settled_ones blocks done) (sending_of c (map message_of done) m (suc j)) (sendings_from blocks (map message_of done ++ m ∷ []) ms)
-    (ones-done c h blocks accepted (record { done = done; rest = m ∷ ms; count = suc j }) t) begun)
+    (ones-done c h blocks accepted (record { done = done; rest = m ∷ ms; count = suc j }) t) (first-begun c h blocks accepted done m ms j t))
 
 pub begun-fresh : (c : Parts) (h : ℕ) (blocks : Link → List (List Sign)) (accepted : List Message) (done : List (Message × Fate)) (m : Message) (ms : List Message)
     → Stands c h blocks accepted (record { done = done; rest = m ∷ ms; count = 0 })

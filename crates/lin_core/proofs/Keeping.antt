@@ -112,11 +112,6 @@ accepted-few (e ∷ past) h = accepted-by (length past) (accepted_from past h) (
 abbrev pub send_entry : PortId → ℕ → ℕ → List ℕ → ℕ → LogEntry
 send_entry by from to message number = record { port = by; step = Send from to message; reply = Done (Accepted from number ∷ []) }
 
-pub send-answered : (core : CoreData) (by : PortId) (from to : ℕ) (message : List ℕ) (number : ℕ) → IsAllowed core by (Send from to message) → number ≡ suc (length (accepted_from (past_of core) from))
-    → send_entry by from to message number ≡ answered core by (Send from to message)
-unfolding reply
-send-answered core by from to message number h n = rw (h, n)
-
 -- the sender is a node, and there is room in its queue
 pub send-room : (c : Parts) (capacity : ℕ) (past : List LogEntry) (by : PortId) (from to : ℕ) (message : List ℕ) → refusal c capacity past by (Send from to message) ≡ None
     → (from < nodes c) × (length (waiting c past from) < capacity)

@@ -9,7 +9,7 @@ use Rattle.lin_core.specs.declared.log.LogEntry.{LogEntry}
 use Rattle.lin_core.specs.declared.port.PortId.{PortId}
 use Rattle.lin_core.specs.declared.step.Step.{Step}
 use Rattle.lin_core.proofs.Calm.{none-lost, reads-all}
-use Rattle.lin_core.proofs.Defined.{slots-defined}
+use Rattle.lin_core.proofs.Defined.{dues-told, slots-defined}
 use Rattle.lin_core.proofs.Ends.{blocks-order, reads-sent}
 use Rattle.lin_core.proofs.Fixed.{fates-stay, no-send}
 use Rattle.lin_core.proofs.Readings.{tells-reading}
@@ -30,7 +30,7 @@ history-final c opening capacity steps sound = λ h. (all-stay c opening capacit
 
 pub history-carries : (c : Parts) (opening capacity : ℕ) (steps : List (PortId × Step)) → CarriesFrames c opening (history c opening capacity steps)
 history-carries c opening capacity [] = tt
-history-carries c opening capacity (s ∷ earlier) = (slots-defined c opening capacity s earlier, history-carries c opening capacity earlier)
+history-carries c opening capacity (s ∷ earlier) = (slots-defined c opening capacity s earlier, dues-told c opening capacity s earlier, history-carries c opening capacity earlier)
 
 pub history-closed : (c : Parts) (opening capacity : ℕ) (steps : List (PortId × Step)) → StaysClosed (history c opening capacity steps)
 history-closed c opening capacity [] = tt

@@ -1,85 +1,65 @@
 -- What stands inside a core as it makes a step.
 use Rattle.std.proofs.Common.{◌≡◌, ℕ, zero, suc, ◌+◌, ◌-◌, ◌^◌, ◌<◌, ◌≤◌, List, [], reverse, length, refl, ap, sym, ◌∙◌, subst, arith}
-use Rattle.std.specs.Prelude.{Some, None, slice_get, slice_index_or}
-use Rattle.lin_parts.specs.Cluster.{nodes}
-use Rattle.lin_core.specs.History.{asked}
+use Rattle.std.specs.Prelude.{Some, None, slice_get, slice_index_or, Bool, not, ◌==◌, nat_lt, Option, option_map, true, false, is_some, filter, ◌||◌}
+use Rattle.lin_parts.specs.Cluster.{nodes, line_of}
+use Rattle.lin_core.specs.History.{asked, Slot, open_slot}
 use Rattle.lin_core.specs.KeptLate.{responder_now}
-use Rattle.lin_core.specs.Core.{CoreData, IsAllowed}
-use Rattle.lin_core.specs.Kept.{KeepsHost}
+use Rattle.lin_core.specs.Kept.{KeepsHost, slot_in, begun, cleared_in}
 use Rattle.lin_core.specs.Links.{waiting}
-use Rattle.lin_core.specs.Replies.{refusal}
+use Rattle.lin_core.specs.Replies.{refusal, refusals}
 use Rattle.lin_core.specs.Runs.{steps_of}
-use Rattle.lin_core.specs.Whole.{core_data, IsWhole}
+use Rattle.lin_core.specs.Stages.{IsKept, IsReady, Stage}
 use Rattle.lin_core.specs.declared.host.Host.{Host}
 use Rattle.lin_core.specs.declared.log.LogEntry.{LogEntry}
-use Rattle.lin_core.specs.declared.machine.Core.TheInside.{Inside}
 use Rattle.lin_core.specs.declared.port.PortId.{PortId}
 use Rattle.lin_core.specs.declared.step.Step.{Step}
-use Rattle.lin_core.specs.declared.step.Step.TheVariants.{Send}
-use Rattle.lin_core.proofs.Keeping.{host-few, host-at, send-room, queue-length}
-use Rattle.std.specs.Prelude.{Bool, not, ◌==◌, nat_lt, Option, option_map}
+use Rattle.lin_core.specs.declared.step.Step.TheVariants.{Send, Finish, Open}
+use Rattle.lin_core.proofs.Keeping.{host-few, host-at, send-room, queue-length, Opens, shut-slot}
 use Rattle.std.proofs.lemmas.Bool.Decides.{nat_tests}
 use Rattle.std.proofs.lemmas.Option.{slice_get_read}
-use Rattle.lin_parts.specs.Cluster.{line_of}
 use Rattle.lin_parts.specs.declared.parts.Entry.{Entry}
-use Rattle.lin_core.specs.History.{Slot, open_slot}
-use Rattle.lin_core.specs.Kept.{slot_in, begun}
-use Rattle.lin_core.specs.Slots.{header}
+use Rattle.lin_core.specs.Slots.{header, due_nodes}
 use Rattle.lin_core.specs.declared.slot.OpenSlot.{OpenSlot}
-use Rattle.lin_core.specs.declared.step.Step.TheVariants.{Finish}
-use Rattle.lin_core.proofs.Keeping.{Opens}
 use Rattle.lin_core.proofs.Known.{Known}
-use Rattle.std.specs.Prelude.{true, false, is_some}
-use Rattle.lin_core.specs.Kept.{cleared_in}
 use Rattle.lin_core.proofs.OpenSlots.{or-false}
 use Rattle.lin_core.proofs.Opening.{header-due, nodes-due, new-open}
-use Rattle.lin_core.proofs.Keeping.{shut-slot}
 use Rattle.lin_core.specs.Dues.{header_of, is_due_of}
 use Rattle.lin_core.specs.Signals.{pending}
-use Rattle.lin_core.specs.Slots.{due_nodes}
 use Rattle.lin_frame.specs.Words.{numbers}
 use Rattle.lin_schedule.specs.Due.{due_for}
 use Rattle.lin_schedule.specs.Walker.{HasEntry, Position}
 use Rattle.lin_schedule.specs.declared.due.Due.{Due}
-use Rattle.lin_core.specs.declared.step.Step.TheVariants.{Open}
-use Rattle.std.specs.Prelude.{filter, ◌||◌}
-use Rattle.lin_core.specs.Replies.{refusals}
 use Rattle.lin_core.proofs.Places.{get-there}
-use Rattle.lin_core.proofs.Steps.{not-false, none-of}
-use Rattle.lin_core.proofs.Steps.{history-known}
+use Rattle.lin_core.proofs.Steps.{not-false, none-of, history-known}
 
-abbrev pub past_in : Inside → List LogEntry
-past_in a = reverse a.log.entries
+abbrev pub past_in : Stage → List LogEntry
+past_in a = reverse a.log
 
-pub known-inside : (a : Inside) → IsWhole a → Known a.cluster (past_in a)
+pub known-inside : (a : Stage) → IsKept a → Known a.cluster (past_in a)
 known-inside a w = subst (λ (past : List LogEntry). Known a.cluster past) (sym w.history) (history-known a.cluster a.opening a.capacity (steps_of (past_in a)) w.sound)
 
 -- what is known inside, of a step that is allowed
-pub record Allowed (a : Inside) (by : PortId) (step : Step) : Type 0 where
+pub record Allowed (a : Stage) (by : PortId) (step : Step) : Type 0 where
   pub known : Known a.cluster (past_in a)
   pub allowed : refusal a.cluster a.capacity (past_in a) by step ≡ None
-  pub few : length a.log.entries < 2 ^ 32 - 1
+  pub few : length a.log < 2 ^ 32 - 1
 
-pub allowed-inside : (a : Inside) (d : CoreData) (by : PortId) (step : Step) → core_data a ≡ d → IsWhole a → IsAllowed d by step → length d.log < 2 ^ 32 - 1 → Allowed a by step
-allowed-inside a d by step is w allowed few = record {
-  known = known-inside a w;
-  allowed = subst (λ (x : CoreData). IsAllowed x by step) (sym is) allowed;
-  few = subst (λ (x : CoreData). length x.log < 2 ^ 32 - 1) (sym is) few;
-}
+pub allowed-ready : (a : Stage) (by : PortId) (step : Step) → IsReady a by step → Allowed a by step
+allowed-ready a by step r = record { known = known-inside a r.whole; allowed = r.allowed; few = r.few }
 
 -- the sender of a send that is allowed
-pub record Sender (a : Inside) (from : ℕ) (host : Host) : Type 0 where
+pub record Sender (a : Stage) (from : ℕ) (host : Host) : Type 0 where
   pub at : slice_get a.state.hosts.items from ≡ Some host
   pub number : host.settled + length host.queue.items + 1 < 2 ^ 32
   pub room : length host.queue.items < host.queue.capacity
 
-pub sender-inside : (a : Inside) (by : PortId) (from to : ℕ) (message : List ℕ) (host : Host) → IsWhole a → Allowed a by (Send from to message) → host ≡ slice_index_or a.state.hosts.items from host → Sender a from host
+pub sender-inside : (a : Stage) (by : PortId) (from to : ℕ) (message : List ℕ) (host : Host) → IsKept a → Allowed a by (Send from to message) → host ≡ slice_index_or a.state.hosts.items from host → Sender a from host
 sender-inside a by from to message host w s e =
     let at : slice_get a.state.hosts.items from ≡ Some host = host-at a.cluster a.capacity (past_in a) a.state.hosts.items host by from to message s.allowed w.kept.hosts_count e
-    in let k : KeepsHost a.cluster a.capacity a.log.entries (past_in a) from host = w.kept.each_host from host at
-    in let few : host.settled + length host.queue.items ≤ length a.log.entries = host-few a.cluster a.capacity a.log.entries from host k
+    in let k : KeepsHost a.cluster a.capacity a.log (past_in a) from host = w.kept.each_host from host at
+    in let few : host.settled + length host.queue.items ≤ length a.log = host-few a.cluster a.capacity a.log from host k
     in let small = s.few
-    in let waits = queue-length a.cluster a.capacity a.log.entries (past_in a) from host k
+    in let waits = queue-length a.cluster a.capacity a.log (past_in a) from host k
     in let free = (send-room a.cluster a.capacity (past_in a) by from to message s.allowed).1
     in let full = k.capacity_is
     in record { at = at; number = omega arith; room = omega arith }
@@ -89,23 +69,23 @@ waits-by : (n k : ℕ) → n ≡ k → nat_lt 0 k ≡ not (n == 0)
 waits-by zero k e = rw (← e) refl
 waits-by (suc n) k e = rw (← e) (grind (arith, nat_tests))
 
-pub commander-at : (a : Inside) (host : Host) → IsWhole a → host ≡ slice_index_or a.state.hosts.items 0 host → slice_get a.state.hosts.items 0 ≡ Some host
+pub commander-at : (a : Stage) (host : Host) → IsKept a → host ≡ slice_index_or a.state.hosts.items 0 host → slice_get a.state.hosts.items 0 ≡ Some host
 commander-at a host w e = let n = w.rules.nodes.number.0 in slice_get_read a.state.hosts.items (nodes a.cluster) 0 host (sym w.kept.hosts_count) (omega arith) e
 
 -- where no slot is open, the frames that are kept as pending are those that are
-pub flags-inside : (a : Inside) → IsWhole a → a.state.slot ≡ None → (f : ℕ) → slice_index_or a.state.signals.pending.items f false ≡ pending a.cluster (past_in a) f
+pub flags-inside : (a : Stage) → IsKept a → a.state.slot ≡ None → (f : ℕ) → slice_index_or a.state.signals.pending.items f false ≡ pending a.cluster (past_in a) f
 flags-inside a w shut f =
     sym (or-false (slice_index_or a.state.signals.pending.items f false))
     ∙ (let t : (slice_index_or a.state.signals.pending.items f false || cleared_in None f) ≡ pending a.cluster (past_in a) f = subst (λ (o : Option OpenSlot). (slice_index_or a.state.signals.pending.items f false || cleared_in o f) ≡ pending a.cluster (past_in a) f) shut (w.kept.signals_are.each_pending f) in t)
 
-pub opens-inside : (a : Inside) (by : PortId) (host : Host) (slot : OpenSlot) (waits : Bool) (responder : Option ℕ) (place : ℕ × ℕ) (due : Due) → IsWhole a → Allowed a by Open → host ≡ slice_index_or a.state.hosts.items 0 host
+pub opens-inside : (a : Stage) (by : PortId) (host : Host) (slot : OpenSlot) (waits : Bool) (responder : Option ℕ) (place : ℕ × ℕ) (due : Due) → IsKept a → Allowed a by Open → host ≡ slice_index_or a.state.hosts.items 0 host
     → waits ≡ (not (length host.queue.items == 0) || a.state.mode.asked) → responder ≡ responder_now a.cluster (past_in a) → place ≡ a.state.walker.place → due ≡ due_for a.cluster a.state.signals.pending.items (line_of a.cluster a.state.walker.place.0 a.state.walker.place.1).entry
     → slot_in slot ≡ begun place.0 place.1 (header_of a.cluster waits due) (filter (is_due_of a.cluster a.state.signals.pending.items waits responder due) (numbers (nodes a.cluster)))
     → length slot.due.items ≤ 16 → slot.puts.items ≡ [] → slot.left.items ≡ [] → slot.hurt ≡ false → Opens a.cluster a.opening (past_in a) slot
 opens-inside a by host slot waits responder place due w s e b r at d is few empty none calm =
     let past : List LogEntry = past_in a
-    in let kept : KeepsHost a.cluster a.capacity a.log.entries past 0 host = w.kept.each_host 0 host (commander-at a host w e)
-    in let n = queue-length a.cluster a.capacity a.log.entries past 0 host kept
+    in let kept : KeepsHost a.cluster a.capacity a.log past 0 host = w.kept.each_host 0 host (commander-at a host w e)
+    in let n = queue-length a.cluster a.capacity a.log past 0 host kept
     in let waiting_is : (nat_lt 0 (length (waiting a.cluster past 0)) || asked past) ≡ waits
     = ap (λ (x : Bool). x || asked past) (waits-by (length host.queue.items) (length (waiting a.cluster past 0)) n) ∙ ap (λ (x : Bool). not (length host.queue.items == 0) || x) (sym w.late.mode_is.asked_is) ∙ sym b
     in let shut : a.state.slot ≡ None = shut-slot a.cluster a.capacity past by a.state.slot s.allowed w.kept.slot_is
@@ -134,23 +114,23 @@ pub open-some : (o : Option OpenSlot) (p : Option Slot) → option_map slot_in o
 open-some None p e h = absurd (let bad : false ≡ true = rw (← e) at h in cc)
 open-some (Some k) p e h = (k, refl, sym e)
 
-pub record OpenIs (a : Inside) (by : PortId) : Type 0 where
+pub record OpenIs (a : Stage) (by : PortId) : Type 0 where
   pub step : Allowed a by Finish
   pub slot : OpenSlot
   pub at : a.state.slot ≡ Some slot
   pub is : open_slot (past_in a) ≡ Some (slot_in slot)
 
-pub open-inside : (a : Inside) (d : CoreData) (by : PortId) → core_data a ≡ d → IsWhole a → IsAllowed d by Finish → length d.log < 2 ^ 32 - 1 → OpenIs a by
-open-inside a d by is w allowed few =
-    let s : Allowed a by Finish = allowed-inside a d by Finish is w allowed few
+pub open-ready : (a : Stage) (by : PortId) → IsReady a by Finish → OpenIs a by
+open-ready a by r =
+    let s : Allowed a by Finish = allowed-ready a by Finish r
     in let open_is : is_some (open_slot (past_in a)) ≡ true = not-false (is_some (open_slot (past_in a))) (none-of (refusals a.cluster a.capacity (past_in a) by Finish) s.allowed).0
-    in let k = open-some a.state.slot (open_slot (past_in a)) w.kept.slot_is open_is
+    in let k = open-some a.state.slot (open_slot (past_in a)) r.whole.kept.slot_is open_is
     in record { step = s; slot = k.0; at = k.1; is = k.2 }
 
 -- == a refusal
-pub queued-inside : (a : Inside) (hosts : List Host) (from n : ℕ) → IsWhole a → hosts ≡ a.state.hosts.items → ((host : Host) → slice_get hosts from ≡ Some host → n ≡ length host.queue.items) → from < nodes a.cluster → length (waiting a.cluster (past_in a) from) ≡ n
+pub queued-inside : (a : Stage) (hosts : List Host) (from n : ℕ) → IsKept a → hosts ≡ a.state.hosts.items → ((host : Host) → slice_get hosts from ≡ Some host → n ≡ length host.queue.items) → from < nodes a.cluster → length (waiting a.cluster (past_in a) from) ≡ n
 queued-inside a hosts from n w e counts below =
     let count = w.kept.hosts_count
     in let x = get-there a.state.hosts.items from (omega arith)
     in let at : slice_get hosts from ≡ Some x.0 = rw e x.1
-    in sym (counts x.0 at ∙ queue-length a.cluster a.capacity a.log.entries (past_in a) from x.0 (w.kept.each_host from x.0 x.1))
+    in sym (counts x.0 at ∙ queue-length a.cluster a.capacity a.log (past_in a) from x.0 (w.kept.each_host from x.0 x.1))

@@ -8,10 +8,9 @@ use Rattle.lin_parts.specs.declared.parts.Parts.{Parts}
 use Rattle.lin_core.specs.Kept.{KeepsHost, message_at}
 use Rattle.lin_core.specs.KeptLate.{HasNext, KeepsSender, bytes_next}
 use Rattle.lin_core.specs.Links.{Message, accepted_from, heard_on, signs}
-use Rattle.lin_core.specs.Whole.{IsWhole}
+use Rattle.lin_core.specs.Stages.{IsKept, Stage}
 use Rattle.lin_core.specs.declared.host.Host.{Host}
 use Rattle.lin_core.specs.declared.log.LogEntry.{LogEntry}
-use Rattle.lin_core.specs.declared.machine.Core.TheInside.{Inside}
 use Rattle.lin_core.proofs.Hosts.{CanGo, HostIs, IsCount}
 use Rattle.lin_core.proofs.Known.{Known, as-state, has_rest}
 use Rattle.lin_core.proofs.Making.{past_in}
@@ -53,17 +52,17 @@ next-has c o sender (m ∷ ms) zero false i n h = let g = n.can m ms refl in rw 
 next-has c o sender (m ∷ ms) (suc j) sleeping i n h = let g = n.can m ms refl in rw n.sender_is (m, n.message_is m ms refl, refl, g.3)
 
 -- so it is inside, of a host of this number
-pub next-inside : (a : Inside) (h : ℕ) (host : Host) (place : ℕ) → IsWhole a → (k : Known a.cluster (past_in a)) → slice_get a.state.hosts.items h ≡ Some host → ((p : ℕ) → slice_get host.queue.items 0 ≡ Some p → place ≡ p)
-    → IsNext a.cluster (message_at a.log.entries place) host.sender (k.states h).rest (k.states h).count
+pub next-inside : (a : Stage) (h : ℕ) (host : Host) (place : ℕ) → IsKept a → (k : Known a.cluster (past_in a)) → slice_get a.state.hosts.items h ≡ Some host → ((p : ℕ) → slice_get host.queue.items 0 ≡ Some p → place ≡ p)
+    → IsNext a.cluster (message_at a.log place) host.sender (k.states h).rest (k.states h).count
 next-inside a h host place w k here at =
     let c : Parts = a.cluster
     in let past : List LogEntry = past_in a
-    in let kept : KeepsHost c a.capacity a.log.entries past h host = w.kept.each_host h host here
+    in let kept : KeepsHost c a.capacity a.log past h host = w.kept.each_host h host here
     in let late : KeepsSender c past h host = w.late.each_sender h host here
     in record {
       sender_is = late.sender_is ∙ sender-is c past h w.sound k;
       message_is = λ m ms first.
-          let q = next-of a.log.entries host.queue.items m ms (kept.queue ∙ ap (map Some) (waiting-are c past h w.sound k ∙ first))
+          let q = next-of a.log host.queue.items m ms (kept.queue ∙ ap (map Some) (waiting-are c past h w.sound k ∙ first))
           in rw (at q.0 q.1) q.2;
       can = λ m ms first.
           let go : CanGo c h m = first-go c h (accepted_from past h) (heard_on c past) (signs c past) (k.states h) m ms first (k.hosts h)

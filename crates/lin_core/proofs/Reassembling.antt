@@ -1,7 +1,7 @@
 -- What the receiver of a link hears, as a core finishes the slot of a good frame.
 use Rattle.std.proofs.Common.{◌≡◌, ◌≤◌, ◌+◌, ℕ, true, List, [], ◌∷◌, map, length, take, refl, ap, sym, ◌∙◌, subst, arith, length-append}
 use Rattle.std.specs.Global.{Vec}
-use Rattle.std.specs.Prelude.{IfOk, IsSome, Option, Result, Ok, Err, None, Some, false, is_err, option_map}
+use Rattle.std.specs.Prelude.{IsSome, Option, None, Some, false, option_map}
 use Rattle.lin_frame.specs.Frame.{classic}
 use Rattle.lin_transport.specs.Transport.{frame}
 use Rattle.lin_transport.proofs.Frames.{length-frame}
@@ -9,7 +9,7 @@ use Rattle.lin_parts.specs.declared.parts.Parts.{Parts}
 use Rattle.lin_core.specs.Kept.{put_in, slot_in}
 use Rattle.lin_core.specs.KeptHeard.{HearsOn}
 use Rattle.lin_core.specs.Links.{Link, Message, nad_on}
-use Rattle.lin_core.specs.Replies.{link_at}
+use Rattle.lin_core.specs.Replies.{link_at, finish_events}
 use Rattle.lin_core.specs.Slots.{with_classic}
 use Rattle.lin_core.specs.declared.link.Direction.{Direction}
 use Rattle.lin_core.specs.declared.log.LogEntry.{LogEntry}
@@ -20,10 +20,8 @@ use Rattle.lin_core.specs.declared.slot.Put.{Put}
 use Rattle.lin_core.proofs.Finishes.{frame-is}
 use Rattle.lin_core.proofs.Known.{Known}
 use Rattle.lin_core.specs.Loads.{IsCarried}
-use Rattle.lin_core.specs.Replies.{finish_events}
-use Rattle.lin_core.specs.Whole.{IsWhole}
+use Rattle.lin_core.specs.Stages.{IsKept, Stage}
 use Rattle.lin_core.specs.declared.host.Host.{Host}
-use Rattle.lin_core.specs.declared.machine.Core.TheInside.{Inside}
 use Rattle.lin_core.proofs.FinishCases.{whole-gains}
 use Rattle.lin_core.proofs.Goods.{GoodIs, carried-slot}
 use Rattle.lin_core.proofs.Making.{OpenIs, past_in}
@@ -59,13 +57,8 @@ hears-message m m' n d f f' given old new p q e g on =
     (subst (λ (x : Message). HearsOn x.link f given old new) e
     (subst (λ (l : Link). HearsOn l f given old new) (link-is m.link n d p q) on))
 
--- what is so where there is an answer
-pub if-ok : {X Y : Type 0} {P : X → Type 0} → (r : Result X Y) → is_err r ≡ false → IfOk r P → (x : X) × P x
-if-ok (Ok x) e p = (x, p)
-if-ok (Err y) e p = cc
-
 -- a good frame of a host's message, inside a core: the receiver of its link hears it
-pub heard-inside : (a : Inside) (by : PortId) (o : OpenIs a by) (h : ℕ) (host : Host) (place : ℕ) (w : IsWhole a) (g : GoodIs a o.step.known h host place) → IsCarried (past_in a) h false
+pub heard-inside : (a : Stage) (by : PortId) (o : OpenIs a by) (h : ℕ) (host : Host) (place : ℕ) (w : IsKept a) (g : GoodIs a o.step.known h host place) → IsCarried (past_in a) h false
     → (n : ℕ) (d : Direction) (f : List ℕ) (given : Option (List ℕ)) (rs : List Receivers) → n ≡ g.message.link.node → d ≡ g.message.link.dir
     → ((kept : OpenSlot) (put : Put) → a.state.slot ≡ Some kept → kept.puts.items ≡ put ∷ [] → 8 ≤ length put.answer → f ≡ take 8 put.answer)
     → HearsOn (link_at n d) f given a.state.receivers.items rs → HeardFrame a.cluster (past_in a) (finish_of a by ∷ past_in a) g.message.link given rs
@@ -84,7 +77,7 @@ heard-inside a by o h host place w g carried n d f given rs node dir frame_is on
     (heard-frame c past by (finish_events c by past) k (slot_in o.slot) h i given a.state.receivers.items rs q.1 hears w.heard)
 
 -- with the last one, it gives the message
-pub given-inside : (a : Inside) (by : PortId) (o : OpenIs a by) (h : ℕ) (host : Host) (place : ℕ) (w : IsWhole a) (g : GoodIs a o.step.known h host place) → IsCarried (past_in a) h false → is_last g.message.bytes (o.step.known.states h).count ≡ true
+pub given-inside : (a : Stage) (by : PortId) (o : OpenIs a by) (h : ℕ) (host : Host) (place : ℕ) (w : IsKept a) (g : GoodIs a o.step.known h host place) → IsCarried (past_in a) h false → is_last g.message.bytes (o.step.known.states h).count ≡ true
     → (given : Option (List ℕ)) (rs : List Receivers) → HeardFrame a.cluster (past_in a) (finish_of a by ∷ past_in a) g.message.link given rs → given ≡ Some g.message.bytes
 given-inside a by o h host place w g carried last given rs heard =
     let q = carried-slot (past_in a) h false (slot_in o.slot) o.is carried

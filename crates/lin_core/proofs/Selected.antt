@@ -8,10 +8,9 @@ use Rattle.lin_core.specs.History.{Slot, finished, good_under, is_sleep_mark}
 use Rattle.lin_core.specs.KeptLate.{responder_now}
 use Rattle.lin_core.specs.Links.{waiting}
 use Rattle.lin_core.specs.Slots.{addressed, node_with, selected}
-use Rattle.lin_core.specs.Whole.{IsWhole}
+use Rattle.lin_core.specs.Stages.{IsKept, Stage}
 use Rattle.lin_core.specs.declared.host.Host.{Host}
 use Rattle.lin_core.specs.declared.log.LogEntry.{LogEntry}
-use Rattle.lin_core.specs.declared.machine.Core.TheInside.{Inside}
 use Rattle.lin_core.proofs.Keeping.{queue-length}
 use Rattle.lin_core.proofs.Places.{get-there}
 use Rattle.lin_core.proofs.Making.{past_in}
@@ -50,7 +49,7 @@ selected-below c [] k e = cc
 selected-below c (e ∷ past) k h =
     chosen-below c (is_sleep_mark e past) (choose (finished e past) None (addressed c)) (selected c past) k (λ x. slot-below c (finished e past) k x) (selected-below c past k) h
 
-responder-by : (a : Inside) (hosts : List Host) (result o : Option ℕ) → IsWhole a → hosts ≡ a.state.hosts.items → a.state.mode.selected ≡ o → ((k : ℕ) → o ≡ Some k → k < nodes a.cluster)
+responder-by : (a : Stage) (hosts : List Host) (result o : Option ℕ) → IsKept a → hosts ≡ a.state.hosts.items → a.state.mode.selected ≡ o → ((k : ℕ) → o ≡ Some k → k < nodes a.cluster)
     → (a.state.mode.selected ≡ None → result ≡ None) → ((node : ℕ) (kept : Host) → a.state.mode.selected ≡ Some node → slice_get hosts node ≡ Some kept → result ≡ (if nat_lt 0 (length kept.queue.items) then Some node else None))
     → result ≡ choose o None (λ k. if nat_lt 0 (length (waiting a.cluster (past_in a) k)) then Some k else None)
 responder-by a hosts result None w e is below none some = none is
@@ -59,9 +58,9 @@ responder-by a hosts result (Some k) w e is below none some =
     in let l = below k refl
     in let x = get-there a.state.hosts.items k (omega arith)
     in let at : slice_get hosts k ≡ Some x.0 = rw e x.1
-    in some k x.0 is at ∙ ap (λ (n : ℕ). if nat_lt 0 n then Some k else None) (queue-length a.cluster a.capacity a.log.entries (past_in a) k x.0 (w.kept.each_host k x.0 x.1))
+    in some k x.0 is at ∙ ap (λ (n : ℕ). if nat_lt 0 n then Some k else None) (queue-length a.cluster a.capacity a.log (past_in a) k x.0 (w.kept.each_host k x.0 x.1))
 
-pub responder-inside : (a : Inside) (hosts : List Host) (result : Option ℕ) → IsWhole a → hosts ≡ a.state.hosts.items
+pub responder-inside : (a : Stage) (hosts : List Host) (result : Option ℕ) → IsKept a → hosts ≡ a.state.hosts.items
     → (a.state.mode.selected ≡ None → result ≡ None) → ((node : ℕ) (kept : Host) → a.state.mode.selected ≡ Some node → slice_get hosts node ≡ Some kept → result ≡ (if nat_lt 0 (length kept.queue.items) then Some node else None))
     → result ≡ responder_now a.cluster (past_in a)
 responder-inside a hosts result w e none some =

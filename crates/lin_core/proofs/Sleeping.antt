@@ -12,12 +12,11 @@ use Rattle.lin_core.specs.Hosts.{losses, losses_of, lost_of, settled, slept}
 use Rattle.lin_core.specs.Kept.{KeepsHost, message_of}
 use Rattle.lin_core.specs.KeptLate.{KeepsLate, KeepsMode, KeepsSender, sender_now}
 use Rattle.lin_core.specs.Links.{Link, Message, accepted_from, waiting}
-use Rattle.lin_core.specs.Whole.{IsWhole}
+use Rattle.lin_core.specs.Stages.{IsKept, Stage}
 use Rattle.lin_core.specs.declared.event.Event.TheVariants.{Lost as LostEvent}
 use Rattle.lin_core.specs.declared.host.Host.{Host}
 use Rattle.lin_core.specs.declared.link.Cause.TheVariants.{Slept}
 use Rattle.lin_core.specs.declared.log.LogEntry.{LogEntry}
-use Rattle.lin_core.specs.declared.machine.Core.TheInside.{Inside}
 use Rattle.lin_core.specs.declared.mode.Mode.{Mode}
 use Rattle.lin_core.proofs.FinishEvents.{lost_by}
 use Rattle.lin_core.proofs.Hosts.{HostState, IsCount}
@@ -128,20 +127,20 @@ flat-below f g (suc n) each =
     ∙ rw (flat-below f g n (λ x l. each x (omega arith)), each n (omega arith)) refl
     ∙ sym (flat-append g (numbers n) (n ∷ []))
 
-pub losses-are : (a : Inside) (w : IsWhole a) (k : Known a.cluster (past_in a)) → losses a.state.hosts.items ≡ flat_map (lost_by k.states all_links Slept) (numbers (nodes a.cluster))
+pub losses-are : (a : Stage) (w : IsKept a) (k : Known a.cluster (past_in a)) → losses a.state.hosts.items ≡ flat_map (lost_by k.states all_links Slept) (numbers (nodes a.cluster))
 losses-are a w k =
     let hosts : List Host = a.state.hosts.items
     in flat-below (losses_of hosts) (lost_by k.states all_links Slept) (length hosts)
     (λ x l.
     let y = get-there hosts x l
-    in let own : KeepsHost a.cluster a.capacity a.log.entries (past_in a) x y.0 = w.kept.each_host x y.0 y.1
+    in let own : KeepsHost a.cluster a.capacity a.log (past_in a) x y.0 = w.kept.each_host x y.0 y.1
     in let s = w.late.each_sender x y.0 y.1
     in let at : losses_of hosts x ≡ lost_of x y.0 = rw y.1 refl
-    in at ∙ lost-by a.cluster k.states x y.0 (k.states x).rest (k.states x).count refl refl (k.hosts x).counts (s.sender_is ∙ sender-is a.cluster (past_in a) x w.sound k) (settled-are a.cluster a.capacity a.log.entries (past_in a) x y.0 w.sound k own))
+    in at ∙ lost-by a.cluster k.states x y.0 (k.states x).rest (k.states x).count refl refl (k.hosts x).counts (s.sender_is ∙ sender-is a.cluster (past_in a) x w.sound k) (settled-are a.cluster a.capacity a.log (past_in a) x y.0 w.sound k own))
     ∙ ap (λ (n : ℕ). flat_map (lost_by k.states all_links Slept) (numbers n)) w.kept.hosts_count
 
 -- fewer messages are settled than the log has entries
-pub settled-small : (a : Inside) (w : IsWhole a) → length a.log.entries < 2 ^ 32 - 1 → (x : ℕ) (host : Host) → slice_get a.state.hosts.items x ≡ Some host → host.settled + 1 < 2 ^ 32
+pub settled-small : (a : Stage) (w : IsKept a) → length a.log < 2 ^ 32 - 1 → (x : ℕ) (host : Host) → slice_get a.state.hosts.items x ≡ Some host → host.settled + 1 < 2 ^ 32
 settled-small a w few x host at =
-    let n = host-few a.cluster a.capacity a.log.entries x host (w.kept.each_host x host at)
+    let n = host-few a.cluster a.capacity a.log x host (w.kept.each_host x host at)
     in omega arith

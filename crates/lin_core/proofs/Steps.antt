@@ -183,9 +183,9 @@ send-known c capacity past port from to message es h k =
     }
 
 -- while nothing is put in the open slot, the blocks are those of the finished slots
-pub no-put : (c : Parts) (table entry : ℕ) (header : Option ℕ) (due left : List ℕ) (hurt : Bool) (node : ℕ) (dir : Direction) → put_on c (record_of node dir) (slot_of table entry header due [] left hurt) ≡ None
-no-put c table entry header due left hurt node Down = same-cond (header_is 0x3C header) None
-no-put c table entry header due left hurt node Up = same-cond (header_is 0x7D header) None
+pub no-put : (c : Parts) (table entry : ℕ) (header : Option ℕ) (due left : List ℕ) (hurt : Bool) (node : ℕ) (dir : Direction) → put_on c (record_of node dir) (slot_of table entry header due [] left hurt) ≡ []
+no-put c table entry header due left hurt node Down = same-cond (header_is 0x3C header) []
+no-put c table entry header due left hurt node Up = same-cond (header_is 0x7D header) []
 
 pub blocks-closed : (c : Parts) (past : List LogEntry) (l : Link) → open_slot past ≡ None → blocks c past l ≡ blocks_of (signs c past l)
 blocks-closed c past l is = rw is

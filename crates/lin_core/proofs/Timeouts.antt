@@ -1,6 +1,6 @@
 -- What a timeout finds, and what it leaves.
 use Rattle.std.proofs.Common.{◌≡◌, ℕ, zero, suc, ◌+◌, ◌^◌, ◌<◌, ◌≤◌, Bool, true, false, List, [], ◌∷◌, ◌++◌, length, map, refl, ap, sym, ◌∙◌, subst, arith}
-use Rattle.std.specs.Prelude.{Option, Some, None, is_none, is_some, ◌&&◌, nat_le, slice_get, slice_index_or}
+use Rattle.std.specs.Prelude.{Option, Some, None, is_none, is_some, ◌&&◌, nat_le, slice_get, slice_index_or, slice_set}
 use Rattle.std.proofs.lemmas.Bool.Decides.{nat_tests}
 use Rattle.std.proofs.lemmas.List.{length-map}
 use Rattle.lin_transport.specs.Sender.{Sending as Sender}
@@ -11,14 +11,13 @@ use Rattle.lin_core.specs.Kept.{Keeps, KeepsHost, message_at, message_of}
 use Rattle.lin_core.specs.KeptLate.{KeepsLate}
 use Rattle.lin_core.specs.Links.{Link, Message, accepted_from, heard_on, host_of, same_link, signs, waiting}
 use Rattle.lin_core.specs.Replies.{all_reports, begun_on, link_at, quiet_entry, refusals}
-use Rattle.lin_core.specs.Whole.{IsWhole}
+use Rattle.lin_core.specs.Stages.{IsKept, Stage}
 use Rattle.lin_core.specs.declared.event.Event.{Event}
 use Rattle.lin_core.specs.declared.event.Event.TheVariants.{Lost as LostEvent}
 use Rattle.lin_core.specs.declared.host.Host.{Host}
 use Rattle.lin_core.specs.declared.link.Cause.TheVariants.{TimedOut}
 use Rattle.lin_core.specs.declared.link.Direction.{Direction}
 use Rattle.lin_core.specs.declared.log.LogEntry.{LogEntry}
-use Rattle.lin_core.specs.declared.machine.Core.TheInside.{Inside}
 use Rattle.lin_core.specs.declared.port.PortId.{PortId}
 use Rattle.lin_core.specs.declared.step.Step.TheVariants.{Timeout}
 use Rattle.lin_core.proofs.FinishEvents.{lost-one, timeout-told}
@@ -33,7 +32,6 @@ use Rattle.lin_core.proofs.Senders.{sender-is, sender_for}
 use Rattle.lin_core.proofs.Settling.{Settles, marked-other, marked-own, settled-hosts, settled-late}
 use Rattle.lin_core.proofs.SignalKeeping.{signals-same}
 use Rattle.std.proofs.Math.ListN.{length-set}
-use Rattle.std.specs.Prelude.{slice_set}
 use Rattle.lin_parts.specs.Sound.{IsSound}
 use Rattle.lin_schedule.specs.Walker.{Position}
 use Rattle.lin_core.specs.Hosts.{settled}
@@ -56,20 +54,20 @@ begun-by c rest zero sender l over s at = rw s refl
 begun-by c [] (suc j) sender l over s at = rw s refl
 begun-by c (m ∷ ms) (suc j) sender l over s at = rw (s, at m ms refl) refl
 
-pub begun-inside : (a : Inside) (node : ℕ) (dir : Direction) (host : Host) (place : ℕ) (over : Bool) → IsWhole a → open_slot (past_in a) ≡ None → slice_get a.state.hosts.items (host_of (link_at node dir)) ≡ Some host
-    → ((p : ℕ) → slice_get host.queue.items 0 ≡ Some p → place ≡ p) → ((m : Message) → message_at a.log.entries place ≡ Some m → over ≡ same_link m.link (link_at node dir))
+pub begun-inside : (a : Stage) (node : ℕ) (dir : Direction) (host : Host) (place : ℕ) (over : Bool) → IsKept a → open_slot (past_in a) ≡ None → slice_get a.state.hosts.items (host_of (link_at node dir)) ≡ Some host
+    → ((p : ℕ) → slice_get host.queue.items 0 ≡ Some p → place ≡ p) → ((m : Message) → message_at a.log place ≡ Some m → over ≡ same_link m.link (link_at node dir))
     → is_some (begun_on a.cluster (past_in a) node dir) ≡ (is_some host.sender && over)
 begun-inside a node dir host place over w none here at goes =
     let c : Parts = a.cluster
     in let past : List LogEntry = past_in a
     in let h : ℕ = host_of (link_at node dir)
     in let k : Known c past = known-inside a w
-    in let kept : KeepsHost c a.capacity a.log.entries past h host = w.kept.each_host h host here
+    in let kept : KeepsHost c a.capacity a.log past h host = w.kept.each_host h host here
     in let late = w.late.each_sender h host here
     in begun-is c past node dir none k
     ∙ begun-by c (k.states h).rest (k.states h).count host.sender (link_at node dir) over (late.sender_is ∙ sender-is c past h w.sound k)
     (λ m ms first.
-    let q = next-of a.log.entries host.queue.items m ms (kept.queue ∙ ap (map Some) (waiting-are c past h w.sound k ∙ first))
+    let q = next-of a.log host.queue.items m ms (kept.queue ∙ ap (map Some) (waiting-are c past h w.sound k ∙ first))
     in goes m (rw (at q.0 q.1) q.2))
 
 -- nothing is begun where the host has no sender
@@ -78,7 +76,7 @@ not-begun c rest zero sender l s e = refl
 not-begun c [] (suc j) sender l s e = refl
 not-begun c (m ∷ ms) (suc j) sender l s e = absurd (let bad : true ≡ false = rw s at e in cc)
 
-pub none-inside : (a : Inside) (node : ℕ) (dir : Direction) (host : Host) → IsWhole a → open_slot (past_in a) ≡ None → slice_get a.state.hosts.items (host_of (link_at node dir)) ≡ Some host → is_some host.sender ≡ false
+pub none-inside : (a : Stage) (node : ℕ) (dir : Direction) (host : Host) → IsKept a → open_slot (past_in a) ≡ None → slice_get a.state.hosts.items (host_of (link_at node dir)) ≡ Some host → is_some host.sender ≡ false
     → is_some (begun_on a.cluster (past_in a) node dir) ≡ false
 none-inside a node dir host w none here e =
     let c : Parts = a.cluster
@@ -106,7 +104,7 @@ not-none : {X : Type 0} (o : Option X) → is_none o ≡ false → is_some o ≡
 not-none None e = cc
 not-none (Some x) e = refl
 
-pub record TimesOut (a : Inside) (by : PortId) (node : ℕ) (dir : Direction) (host : Host) : Type 0 where
+pub record TimesOut (a : Stage) (by : PortId) (node : ℕ) (dir : Direction) (host : Host) : Type 0 where
   pub known : Known a.cluster (past_in a)
   pub none : open_slot (past_in a) ≡ None
   pub there : node < nodes a.cluster
@@ -121,7 +119,7 @@ pub over-node : (c : Parts) (node : ℕ) (dir : Direction) → node < nodes c �
 over-node c node Down l = omega arith
 over-node c node Up l = l
 
-pub times-out : (a : Inside) (by : PortId) (node : ℕ) (dir : Direction) (host : Host) → IsWhole a → Allowed a by (Timeout node dir) → host ≡ slice_index_or a.state.hosts.items (host_of (link_at node dir)) host → TimesOut a by node dir host
+pub times-out : (a : Stage) (by : PortId) (node : ℕ) (dir : Direction) (host : Host) → IsKept a → Allowed a by (Timeout node dir) → host ≡ slice_index_or a.state.hosts.items (host_of (link_at node dir)) host → TimesOut a by node dir host
 times-out a by node dir host w n e =
     let c : Parts = a.cluster
     in let past : List LogEntry = past_in a
@@ -138,10 +136,10 @@ times-out a by node dir host w n e =
     in let f : FirstIs (k.states h).rest (k.states h).count l = first-is (k.states h).rest (k.states h).count l begun
     in let go : CanGo c h f.message = first-go c h (accepted_from past h) (heard_on c past) (signs c past) (k.states h) f.message f.later f.first (k.hosts h)
     in let own : (x : Link) → t x ≡ true → host_of x ≡ h = λ x s. ap host_of (same-is x l s)
-    in let kept : KeepsHost c a.capacity a.log.entries past h host = w.kept.each_host h host here
-    in let few : host.settled + length host.queue.items ≤ length a.log.entries = host-few c a.capacity a.log.entries h host kept
+    in let kept : KeepsHost c a.capacity a.log past h host = w.kept.each_host h host here
+    in let few : host.settled + length host.queue.items ≤ length a.log = host-few c a.capacity a.log h host kept
     in let small = n.few
-    in let q = queue-length c a.capacity a.log.entries past h host kept
+    in let q = queue-length c a.capacity a.log past h host kept
     in let rest : length (waiting c past h) ≡ length (k.states h).rest = sym (length-map (waiting c past h) message_of) ∙ ap length (waiting-are c past h w.sound k)
     in let more = ap length f.first
     in let accepted = accepted-count c past h k

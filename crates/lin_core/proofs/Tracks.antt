@@ -7,7 +7,7 @@ use Rattle.std.proofs.lemmas.List.Elements.{filter_map-append}
 use Rattle.lin_transport.specs.Words.{with_last}
 use Rattle.lin_transport.specs.Transport.{frame, frames, frame_count, pieces, message_in, messages_in, Heard}
 use Rattle.lin_transport.specs.Transport.Heard.{Frame, Reset}
-use Rattle.lin_core.specs.Links.{Sign, Fate, fate, is_waiting, frames_of, blocks_of}
+use Rattle.lin_core.specs.Links.{Sign, Fate, fate, is_waiting, frames_of, in_last, blocks_of}
 use Rattle.lin_core.specs.Links.Sign.{Put, Mark}
 use Rattle.lin_core.specs.Links.Fate.{Waiting, Sent, Lost}
 use Rattle.lin_core.specs.Law.{IsPrefix}
@@ -65,6 +65,11 @@ pub with_last-append : {X : Type 0} (f : X → X) (xs : List X) (x : X) → with
 with_last-append f [] x = refl
 with_last-append f (a ∷ []) x = refl
 with_last-append f (a ∷ b ∷ xs) x = ap (λ (ys : List _). a ∷ ys) (with_last-append f (b ∷ xs) x)
+
+pub in_last-append : (bs : List (List Sign)) (b : List Sign) (s : Sign) → in_last s (bs ++ b ∷ []) ≡ bs ++ (b ++ s ∷ []) ∷ []
+in_last-append [] b s = refl
+in_last-append (a ∷ []) b s = refl
+in_last-append (a ∷ d ∷ bs) b s = ap (λ (ys : List (List Sign)). a ∷ ys) (in_last-append (d ∷ bs) b s)
 
 pub settled-more : (n : ℕ) (ps : List (List ℕ × Fate)) (bs : List (List Sign)) (p : List ℕ × Fate) (b : List Sign) → AreSettled n ps bs → IsSettled n p b → AreSettled n (ps ++ p ∷ []) (bs ++ b ∷ [])
 settled-more n [] [] p b s h = (h, tt)
@@ -138,7 +143,7 @@ idle-hurt n signs ps m can t = record {
 -- a later one
 pub busy-hurt : (n : ℕ) (signs : List Sign) (ps : List (List ℕ × Fate)) (m : List ℕ) (k : ℕ) → Busy n signs ps m k → Idle n (hurt_sign (frame n m (suc k)) ∷ signs) (ps ++ (m, Lost Damaged) ∷ [])
 busy-hurt n signs ps m k t = record {
-  settled = rw (frame-continues n m k, t.blocks, with_last-append (λ (b : List Sign). b ++ hurt_sign (frame n m (suc k)) ∷ []) t.earlier (goods n m (suc k)))
+  settled = rw (frame-continues n m k, t.blocks, in_last-append t.earlier (goods n m (suc k)) (hurt_sign (frame n m (suc k))))
       (settled-more n ps t.earlier (m, Lost Damaged) (goods n m (suc k) ++ hurt_sign (frame n m (suc k)) ∷ []) t.settled (hurt-settled n m (suc k) t.more));
   reads = ap (filter_map (message_in n)) t.pieces ∙ reads-nothing n t.cut (first n m (suc k)) (reads-none n m k t.can t.more) ∙ t.reads ∙ sym (sent-lost ps m Damaged);
 }
@@ -173,7 +178,7 @@ busy-part n signs ps m k more t = record {
   can = t.can;
   more = more;
   earlier = t.earlier;
-  blocks = rw (frame-continues n m k, t.blocks, with_last-append (λ (b : List Sign). b ++ good_sign (frame n m (suc k)) ∷ []) t.earlier (goods n m (suc k)), goods-more n m (suc k));
+  blocks = rw (frame-continues n m k, t.blocks, in_last-append t.earlier (goods n m (suc k)) (good_sign (frame n m (suc k))), goods-more n m (suc k));
   settled = t.settled;
   cut = t.cut;
   pieces = rw (frame-continues n m k, t.pieces, with_last-append (λ (p : List (List ℕ)). p ++ frame n m (suc k) ∷ []) t.cut (first n m (suc k)), first-more n m (suc k));
@@ -185,7 +190,7 @@ busy-whole n signs ps m k last t =
     let all : IsSettled n (m, Sent) (goods n m (suc (suc k))) = rw last at (sent-settled n m)
     in let read : message_in n (first n m (suc (suc k))) ≡ Some m = rw last at (reads-all n m t.can)
     in record {
-      settled = rw (frame-continues n m k, t.blocks, with_last-append (λ (b : List Sign). b ++ good_sign (frame n m (suc k)) ∷ []) t.earlier (goods n m (suc k)), ← goods-more n m (suc k)) (settled-more n ps t.earlier (m, Sent) (goods n m (suc (suc k))) t.settled all);
+      settled = rw (frame-continues n m k, t.blocks, in_last-append t.earlier (goods n m (suc k)) (good_sign (frame n m (suc k))), ← goods-more n m (suc k)) (settled-more n ps t.earlier (m, Sent) (goods n m (suc (suc k))) t.settled all);
       reads = rw (frame-continues n m k, t.pieces, with_last-append (λ (p : List (List ℕ)). p ++ frame n m (suc k) ∷ []) t.cut (first n m (suc k)), ← first-more n m (suc k))
           (reads-more n t.cut (first n m (suc (suc k))) (Some m) read ∙ ap (λ (x : List (List ℕ)). x ++ m ∷ []) t.reads ∙ sym (sent-sent ps m));
     }

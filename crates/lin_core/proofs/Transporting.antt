@@ -1,34 +1,28 @@
 -- An answer with a frame of a message, or with the sleep frame.
-use Rattle.std.proofs.Common.{◌≡◌, ℕ, ◌-◌, ◌^◌, ◌<◌, Bool, true, false, List, [], ◌∷◌, length, refl, ap, sym, ◌∙◌, subst}
-use Rattle.std.specs.Prelude.{Some, None, ◌==◌, ◌&&◌, ◌||◌, slice_get, slice_index_or}
+use Rattle.std.proofs.Common.{◌≡◌, ℕ, ◌-◌, ◌<◌, Bool, true, false, List, [], ◌∷◌, refl, ap, sym, ◌∙◌, subst, arith}
+use Rattle.std.specs.Prelude.{Some, None, ◌==◌, ◌&&◌, ◌||◌, slice_get, slice_index_or, nat_le}
 use Rattle.lin_frame.specs.Words.{choose}
-use Rattle.lin_core.specs.Core.{CoreData, IsAllowed, past_of}
 use Rattle.lin_core.specs.Dues.{frame_answered}
 use Rattle.lin_core.specs.History.{Slot, asked, header_is, open_slot}
 use Rattle.lin_core.specs.Kept.{message_at, slot_in}
 use Rattle.lin_core.specs.KeptLate.{HasNext, bytes_next}
-use Rattle.lin_core.specs.Replies.{put_event}
+use Rattle.lin_core.specs.Replies.{put_event, refusals}
 use Rattle.lin_core.specs.Slots.{put, with_classic}
-use Rattle.lin_parts.specs.Cluster.{line_of}
-use Rattle.lin_core.specs.Whole.{IsWhole, core_data}
+use Rattle.lin_parts.specs.Cluster.{line_of, nodes}
+use Rattle.lin_core.specs.Stages.{IsKept, IsReady, Stage}
 use Rattle.lin_core.specs.declared.event.Event.TheVariants.{Put as PutEvent}
 use Rattle.lin_core.specs.declared.host.Host.{Host}
-use Rattle.lin_core.specs.declared.machine.Core.TheInside.{Inside}
 use Rattle.lin_core.specs.declared.port.PortId.{PortId}
 use Rattle.lin_core.specs.declared.step.Step.TheVariants.{Answer}
-use Rattle.lin_core.proofs.Answering.{AnswerSlot, answer-slot, none-inside, transport-head}
+use Rattle.lin_core.proofs.Answering.{AnswerSlot, answer-slot, transport-head}
 use Rattle.lin_core.proofs.Hosts.{HostState}
 use Rattle.lin_core.proofs.Known.{has_rest}
 use Rattle.lin_core.proofs.LateMaking.{host-of}
-use Rattle.lin_core.proofs.Making.{Allowed, allowed-inside, past_in}
+use Rattle.lin_core.proofs.Making.{Allowed, allowed-ready, past_in}
 use Rattle.lin_core.proofs.Nexts.{next-has, next-inside, next-same}
 use Rattle.lin_core.proofs.Turns.{AnswerIs, answer-is, next_of}
 use Rattle.lin_core.proofs.Turns.AnswerIs.{request, response, signals}
-use Rattle.lin_parts.specs.Cluster.{nodes}
-use Rattle.std.specs.Prelude.{nat_le}
-use Rattle.std.proofs.Common.{arith}
 use Rattle.std.proofs.lemmas.Bool.Decides.{nat_tests}
-use Rattle.lin_core.specs.Replies.{refusals}
 use Rattle.lin_core.proofs.Steps.{none-of}
 use Rattle.lin_core.specs.declared.slot.OpenSlot.{OpenSlot}
 use Rattle.lin_core.specs.declared.log.LogEntry.{LogEntry}
@@ -56,25 +50,26 @@ turn-is c past states node s (request t h empty z some bytes) head = record {
 turn-is c past states node s (response t h empty some rest bytes) head = record { header = 0x7D; header_is = h; some = or-more (has_rest (states node).rest) false rest; bytes = bytes }
 
 -- an answer without a frame of signals, of a node whose host is kept so
-pub record AnswersNext (a : Inside) (by : PortId) (node : ℕ) (host : Host) (place : ℕ) (header : ℕ) (sleeping : Bool) : Type 0 where
+pub record AnswersNext (a : Stage) (by : PortId) (node : ℕ) (host : Host) (place : ℕ) (header : ℕ) (sleeping : Bool) : Type 0 where
   pub step : Allowed a by (Answer node)
   pub slot : AnswerSlot a node
-  pub has : HasNext a.cluster (message_at a.log.entries place) host.sender sleeping
-  pub told : PutEvent node (with_classic (bytes_next a.cluster (message_at a.log.entries place) host.sender sleeping)) ∷ [] ≡ choose (open_slot (past_in a)) [] (put_event a.cluster (past_in a) node)
+  pub has : HasNext a.cluster (message_at a.log place) host.sender sleeping
+  pub told : PutEvent node (with_classic (bytes_next a.cluster (message_at a.log place) host.sender sleeping)) ∷ [] ≡ choose (open_slot (past_in a)) [] (put_event a.cluster (past_in a) node)
 
-pub answers-next : (a : Inside) (d : CoreData) (by : PortId) (node : ℕ) (host : Host) (place header : ℕ) (sleeping : Bool) → core_data a ≡ d → IsWhole a → IsAllowed d by (Answer node) → length d.log < 2 ^ 32 - 1
-    → frame_answered d.cluster (past_of d) node ≡ None → host ≡ slice_index_or a.state.hosts.items node host → ((p : ℕ) → slice_get host.queue.items 0 ≡ Some p → place ≡ p)
+pub answers-next : (a : Stage) (by : PortId) (node : ℕ) (host : Host) (place header : ℕ) (sleeping : Bool) → IsReady a by (Answer node)
+    → frame_answered a.cluster (past_in a) node ≡ None → host ≡ slice_index_or a.state.hosts.items node host → ((p : ℕ) → slice_get host.queue.items 0 ≡ Some p → place ≡ p)
     → ((kept : OpenSlot) (h : ℕ) → a.state.slot ≡ Some kept → kept.header ≡ Some h → header ≡ h) → sleeping ≡ (header == 0x3C && a.state.mode.asked) → AnswersNext a by node host place header sleeping
-answers-next a d by node host place header sleeping is w allowed few none e at head sleeps =
+answers-next a by node host place header sleeping r none e at head sleeps =
     let c : Parts = a.cluster
     in let past : List LogEntry = past_in a
-    in let s : Allowed a by (Answer node) = allowed-inside a d by (Answer node) is w allowed few
+    in let s : Allowed a by (Answer node) = allowed-ready a by (Answer node) r
+    in let w : IsKept a = r.whole
     in let o : AnswerSlot a node = answer-slot a by node w s
     in let there = (none-of (refusals c a.capacity past by (Answer node)) s.allowed).0
     in let below : node < nodes c = (let far : nat_le (nodes c) node ≡ false = there in grind (arith, nat_tests, far))
     in let here : slice_get a.state.hosts.items node ≡ Some host = host-of a node host w below e
     in let x : AnswerIs c past s.known.states node (slot_in o.slot) = answer-is c a.capacity past by node s.known s.allowed (slot_in o.slot) o.is
-    in let t : TurnIs c past s.known.states node (slot_in o.slot) = turn-is c past s.known.states node (slot_in o.slot) x (transport-head a node o (none-inside a d node is none))
+    in let t : TurnIs c past s.known.states node (slot_in o.slot) = turn-is c past s.known.states node (slot_in o.slot) x (transport-head a node o none)
     in let same : header ≡ t.header = head o.slot t.header o.at t.header_is
     in let asleep_is : sleeping ≡ (t.header == 0x3C && asked past) = sleeps ∙ ap (λ (x : ℕ). x == 0x3C && a.state.mode.asked) same ∙ ap (λ (b : Bool). t.header == 0x3C && b) w.late.mode_is.asked_is
     in let next = next-inside a node host place w s.known here at
@@ -82,9 +77,9 @@ answers-next a d by node host place header sleeping is w allowed few none e at h
     in record {
       step = s;
       slot = o;
-      has = next-has c (message_at a.log.entries place) host.sender (s.known.states node).rest (s.known.states node).count sleeping (s.known.hosts node).counts next some;
+      has = next-has c (message_at a.log place) host.sender (s.known.states node).rest (s.known.states node).count sleeping (s.known.hosts node).counts next some;
       told = sym (rw (o.is, t.header_is)
           (ap (λ (bytes : List ℕ). PutEvent node bytes ∷ [])
           (t.bytes ∙ ap (λ (b : Bool). with_classic (next_of c (s.known.states node).rest (s.known.states node).count b)) (sym asleep_is)
-          ∙ ap with_classic (sym (next-same c (message_at a.log.entries place) host.sender (s.known.states node).rest (s.known.states node).count sleeping (s.known.hosts node).counts next some)))));
+          ∙ ap with_classic (sym (next-same c (message_at a.log place) host.sender (s.known.states node).rest (s.known.states node).count sleeping (s.known.hosts node).counts next some)))));
     }

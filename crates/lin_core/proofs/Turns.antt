@@ -1,14 +1,16 @@
 -- What an answer puts, and what a finish and a timeout make of the messages that wait, by the open slot.
-use Rattle.std.proofs.Common.{◌≡◌, ◌≢◌, ℕ, zero, suc, ◌≤◌, Bool, true, false, List, [], ◌∷◌, refl, ap, sym, ◌∙◌, subst, arith}
-use Rattle.std.specs.Prelude.{Option, Some, None, ◌==◌, ◌||◌, if◌then◌else◌, is_some}
+use Rattle.std.proofs.Common.{◌≡◌, ◌≢◌, ℕ, zero, suc, ◌≤◌, Bool, true, false, List, [], ◌∷◌, ◌++◌, map, refl, ap, sym, ◌∙◌, subst, arith}
+use Rattle.std.specs.Prelude.{Option, Some, None, ◌==◌, ◌||◌, ◌&&◌, if◌then◌else◌, find, is_some}
 use Rattle.std.specs.List.{list_any}
 use Rattle.std.proofs.lemmas.Bool.{ne_eqb}
+use Rattle.std.proofs.lemmas.List.{append-nil}
 use Rattle.lin_transport.specs.Transport.{frame}
+use Rattle.lin_transport.proofs.Frames.{and-false}
 use Rattle.lin_parts.specs.Cluster.{line_of}
 use Rattle.lin_parts.specs.Sound.{IsSound}
 use Rattle.lin_parts.specs.declared.parts.Parts.{Parts}
 use Rattle.lin_core.specs.History.{Slot, asked, has_decided, header_is, is_in, is_sleep_slot, open_slot}
-use Rattle.lin_core.specs.Links.{Fate, Link, Message, accepted_from, begun, blocks, heard_on, header_for, host_of, nad_on, same_link, signs, waiting}
+use Rattle.lin_core.specs.Links.{Fate, Link, Message, Sending, Sign, accepted_from, begun, blocks, heard_on, header_for, host_of, is_begun, nad_on, same_link, sendings, sendings_from, signs, waiting}
 use Rattle.lin_core.specs.Replies.{begun_on, in_slot, link_at, refusal}
 use Rattle.lin_core.specs.Slots.{next_frame, put, sleep_frame, with_classic}
 use Rattle.lin_core.specs.Loads.{load_of}
@@ -22,7 +24,7 @@ use Rattle.lin_core.specs.declared.port.PortId.{PortId}
 use Rattle.lin_core.specs.declared.step.Step.TheVariants.{Answer}
 use Rattle.lin_core.proofs.FinishEvents.{empty-awake, frame-awake, other-awake}
 use Rattle.lin_core.proofs.Finishes.{HasNad, IsFrameOf, frame-is, frame_slot, nad-is, slot_of}
-use Rattle.lin_core.proofs.Hosts.{CanGo, HostIs, HostState, IsLink, Stands, begun-first, begun-fresh, begun-none, next-begun, waiting-fresh, waiting-none}
+use Rattle.lin_core.proofs.Hosts.{CanGo, HostIs, HostState, IsLink, Stands, begun-fresh, begun-none, first-begun, fresh-begun, message_of, next-begun, none-begun, ones-done, ones-fresh, sending_of, sendings-split, settled_ones, waiting-fresh, waiting-none}
 use Rattle.lin_core.proofs.Known.{Known, SlotIs, finish-known, has-nad, has_rest}
 use Rattle.lin_core.proofs.Known.SlotIs.{carries, closed, master, other, slave, sleep}
 use Rattle.lin_core.proofs.Moves.{advanced, is_last, marked, record_of}
@@ -58,9 +60,27 @@ begun_at rest zero l = false
 begun_at [] (suc j) l = false
 begun_at (m ∷ ms) (suc j) l = same_link m.link l
 
-some-if : {X : Type 0} (b : Bool) (x : X) → is_some (if b then Some x else None) ≡ b
-some-if true x = refl
-some-if false x = refl
+-- where none is found, neither the first passes the test nor another one
+none-by : (p : Sending → Bool) (xs : List Sending) (x : Sending) (b : Bool) → p x ≡ b → find p (x ∷ xs) ≡ None → (p x ≡ false) × (find p xs ≡ None)
+none-by p xs x true e none = absurd (let bad : Some x ≡ None = rw e at none in cc)
+none-by p xs x false e none = (e, rw e at none)
+
+none-both : (p : Sending → Bool) (xs : List Sending) (x : Sending) → find p (x ∷ xs) ≡ None → (p x ≡ false) × (find p xs ≡ None)
+none-both p xs x none = none-by p xs x (p x) refl none
+
+-- where only one of them passes a test, it is found where it passes another one too
+find-no : (p t : Sending → Bool) (xs : List Sending) → find p xs ≡ None → find (λ s. t s && p s) xs ≡ None
+find-no p t [] none = refl
+find-no p t (x ∷ xs) none = let s = none-both p xs x none in rw (s.0, and-false (t x)) (find-no p t xs s.1)
+
+find-first : (p t : Sending → Bool) (y : Sending) (ys : List Sending) (b : Bool) → t y ≡ b → p y ≡ true → find p ys ≡ None → is_some (find (λ s. t s && p s) (y ∷ ys)) ≡ b
+find-first p t y ys true e own later = rw (e, own)
+find-first p t y ys false e own later = rw (e, find-no p t ys later)
+
+find-one : (p t : Sending → Bool) (xs : List Sending) (y : Sending) (ys : List Sending) → find p xs ≡ None → p y ≡ true → find p ys ≡ None
+    → is_some (find (λ s. t s && p s) (xs ++ y ∷ ys)) ≡ t y
+find-one p t [] y ys none own later = find-first p t y ys (t y) refl own later
+find-one p t (x ∷ xs) y ys none own later = let s = none-both p xs x none in rw (s.0, and-false (t x)) (find-one p t xs y ys s.1 own later)
 
 begun-by : (c : Parts) (past : List LogEntry) (n : ℕ) (d : Direction) (done : List (Message × Fate)) (rest : List Message) (k : ℕ) → IsQuietNow c past
     → HostIs c (host_of (link_at n d)) (accepted_from past (host_of (link_at n d))) (heard_on c past) (signs c past) (record { done = done; rest = rest; count = k })
@@ -68,16 +88,22 @@ begun-by : (c : Parts) (past : List LogEntry) (n : ℕ) (d : Direction) (done : 
 begun-by c past n d done [] zero q i =
     let h : ℕ = host_of (link_at n d)
     in let e : begun c past h ≡ None = begun-none c h (blocks c past) (accepted_from past h) done 0 (stands c past h (record { done = done; rest = []; count = 0 }) q i)
-    in rw e
+    in rw (find-no (is_begun c) (λ s. same_link s.message.link (link_at n d)) (sendings c past h) e)
 begun-by c past n d done [] (suc j) q i = absurd i.counts
 begun-by c past n d done (m ∷ ms) zero q i =
     let h : ℕ = host_of (link_at n d)
     in let e : begun c past h ≡ None = begun-fresh c h (blocks c past) (accepted_from past h) done m ms (stands c past h (record { done = done; rest = m ∷ ms; count = 0 }) q i)
-    in rw e
+    in rw (find-no (is_begun c) (λ s. same_link s.message.link (link_at n d)) (sendings c past h) e)
 begun-by c past n d done (m ∷ ms) (suc j) q i =
     let h : ℕ = host_of (link_at n d)
-    in rw (begun-first c h (blocks c past) (accepted_from past h) done m ms j (stands c past h (record { done = done; rest = m ∷ ms; count = suc j }) q i))
-    (some-if (same_link m.link (link_at n d)) _)
+    in let bs : Link → List (List Sign) = blocks c past
+    in let st : Stands c h bs (accepted_from past h) (record { done = done; rest = m ∷ ms; count = suc j }) = stands c past h (record { done = done; rest = m ∷ ms; count = suc j }) q i
+    in let older : find (is_begun c) (settled_ones bs done) ≡ None
+    = rw (append-nil (settled_ones bs done)) at (none-begun c h (settled_ones bs done) [] (ones-done c h bs (accepted_from past h) (record { done = done; rest = m ∷ ms; count = suc j }) st))
+    in let later : List Sending = sendings_from bs (map message_of done ++ m ∷ []) ms
+    in let newer : find (is_begun c) later ≡ None = fresh-begun c later (ones-fresh c h bs (accepted_from past h) done m ms (suc j) st)
+    in rw (sendings-split c h bs (accepted_from past h) done m ms (suc j) st)
+    (find-one (is_begun c) (λ s. same_link s.message.link (link_at n d)) (settled_ones bs done) (sending_of c (map message_of done) m (suc j)) later older (first-begun c h bs (accepted_from past h) done m ms j st) newer)
 
 -- what a timeout finds
 pub begun-is : (c : Parts) (past : List LogEntry) (n : ℕ) (d : Direction) → open_slot past ≡ None → (k : Known c past)

@@ -1,5 +1,5 @@
 -- Messages on their links: what was accepted, what was put, and what became of it (ISO 17987-2, transport layer).
-use Rattle.std.specs.Prelude.{ℕ, suc, ◌==◌, Bool, true, false, ◌&&◌, if◌then◌else◌, List, [], ◌∷◌, ◌++◌, map, find, filter, length, take, slice_index, slice_index_or, Option, Some, None, is_some, option_map}
+use Rattle.std.specs.Prelude.{ℕ, suc, ◌==◌, Bool, true, false, ◌&&◌, if◌then◌else◌, List, [], ◌∷◌, ◌++◌, map, find, filter, length, reverse, take, slice_index, slice_index_or, Option, Some, None, is_some}
 use Rattle.std.specs.List.{list_any, list_all, cons_option}
 use Rattle.lin_frame.specs.Words.{choose}
 use Rattle.lin_transport.specs.Words.{with_last}
@@ -67,18 +67,18 @@ pub data Sign : Type 0 where
   Put : (frame : List ℕ) → (how : Option Seen) → Sign
   Mark : (cause : Cause) → Sign
 
--- the frame that a slot puts on a link: data bytes alone
-abbrev pub put_by : Direction → ℕ → Option ℕ → Slot → Option (List ℕ)
+-- the frames that a slot puts on a link, in order: data bytes alone
+abbrev pub put_by : Direction → ℕ → Option ℕ → Slot → List (List ℕ)
 put_by Down node k s =
     if header_is 0x3C s.header
-    then option_map (λ (p : ℕ × List ℕ). take 8 p.1) (find (λ (p : ℕ × List ℕ). choose k false (λ n. slice_index p.1 0 == n)) s.puts)
-    else None
+    then map (λ (p : ℕ × List ℕ). take 8 p.1) (filter (λ (p : ℕ × List ℕ). choose k false (λ n. slice_index p.1 0 == n)) s.puts)
+    else []
 put_by Up node k s =
     if header_is 0x7D s.header
-    then option_map (λ (p : ℕ × List ℕ). take 8 p.1) (find (λ (p : ℕ × List ℕ). p.0 == node) s.puts)
-    else None
+    then map (λ (p : ℕ × List ℕ). take 8 p.1) (filter (λ (p : ℕ × List ℕ). p.0 == node) s.puts)
+    else []
 
-abbrev pub put_on : Parts → Link → Slot → Option (List ℕ)
+abbrev pub put_on : Parts → Link → Slot → List (List ℕ)
 put_on c l s = put_by l.dir l.node (nad c l.node) s
 
 abbrev pub is_timeout_of : Link → Step → Bool
@@ -89,26 +89,34 @@ is_timeout_of l step = false
 abbrev pub mark : Link → LogEntry → List LogEntry → Option Sign
 mark l e past = if is_sleep_mark e past then Some (Mark Slept) else if did (is_timeout_of l) e then Some (Mark TimedOut) else None
 
--- what an entry adds to a link: the frame of the slot that it finishes, and then its mark
+-- the frames that a slot puts on a link, with how they are seen, the newest first
+abbrev pub put_signs : Parts → Link → Option Seen → Slot → List Sign
+put_signs c l how s = reverse (map (λ f. Put f how) (put_on c l s))
+
+-- what an entry adds to a link: the frames of the slot that it finishes, and then its mark
 abbrev pub signs_at : Parts → Link → LogEntry → List LogEntry → List Sign
-signs_at c l e past =
-    cons_option (mark l e past)
-    (cons_option (choose (finished e past) None (λ s. option_map (λ f. Put f (Some (seen s))) (put_on c l s))) [])
+signs_at c l e past = cons_option (mark l e past) (choose (finished e past) [] (λ s. put_signs c l (Some (seen s)) s))
 
 -- what happened on a link in finished slots, the newest first
 abbrev pub signs : Parts → List LogEntry → Link → List Sign
 signs c [] l = []
 signs c (e ∷ past) l = signs_at c l e past ++ signs c past l
 
--- and with the frame of the open slot
+-- and with the frames of the open slot
 abbrev pub all_signs : Parts → List LogEntry → Link → List Sign
-all_signs c past l =
-    cons_option (choose (open_slot past) None (λ s. option_map (λ f. Put f None) (put_on c l s))) (signs c past l)
+all_signs c past l = choose (open_slot past) [] (put_signs c l None) ++ signs c past l
 
--- the blocks: the frames that were put, cut before each that begins a message, with the marks that stand behind them
+-- one more sign in the last block; where there is none yet, a block of its own
+abbrev pub in_last : Sign → List (List Sign) → List (List Sign)
+in_last s [] = (s ∷ []) ∷ []
+in_last s (b ∷ []) = (b ++ s ∷ []) ∷ []
+in_last s (b ∷ d ∷ bs) = b ∷ in_last s (d ∷ bs)
+
+-- the blocks: the frames that were put, cut before each that begins a message, with the marks that stand behind them. A frame before
+-- the first that begins a message starts a block too
 abbrev pub blocks_of : List Sign → List (List Sign)
 blocks_of [] = []
-blocks_of (Put f how ∷ earlier) = if begins f then blocks_of earlier ++ (Put f how ∷ []) ∷ [] else with_last (λ b. b ++ Put f how ∷ []) (blocks_of earlier)
+blocks_of (Put f how ∷ earlier) = if begins f then blocks_of earlier ++ (Put f how ∷ []) ∷ [] else in_last (Put f how) (blocks_of earlier)
 blocks_of (Mark cause ∷ earlier) = with_last (λ b. b ++ Mark cause ∷ []) (blocks_of earlier)
 
 abbrev pub blocks : Parts → List LogEntry → Link → List (List Sign)

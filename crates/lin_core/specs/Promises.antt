@@ -2,8 +2,8 @@
 use Rattle.std.specs.Prelude.{◌≡◌, ℕ, ⊤, true, List, [], ◌∷◌, is_some}
 use Rattle.lin_parts.specs.Cluster.{nad}
 use Rattle.lin_parts.specs.declared.parts.Parts.{Parts}
-use Rattle.lin_core.specs.Defined.{AreDefined}
-use Rattle.lin_core.specs.History.{events}
+use Rattle.lin_core.specs.Defined.{AreDefined, TellsDue}
+use Rattle.lin_core.specs.History.{done, events}
 use Rattle.lin_core.specs.Law.{InOrder, NoneLost, NoSendAfterClose, ReadsAll, ReadsSent, Stays, is_calm, outcomes_of}
 use Rattle.lin_core.specs.Links.{Link, accepted, blocks, nad_on}
 use Rattle.lin_core.specs.Reports.{ReportsFates, TellsReading}
@@ -29,10 +29,11 @@ AllStay c (e ∷ past) h = Stays (outcomes_of c past h) (outcomes_of c (e ∷ pa
 abbrev pub FatesAreFinal : Parts → List LogEntry → Type 0
 FatesAreFinal c past = (h : ℕ) → AllStay c past h × ReportsFates c past h
 
--- every slot carries its frame: each slot event has the due entry and its header, each put the bytes of the slot's entry
+-- every slot carries its frame: each slot event has the due entry and its header, and behind it stands a due event for each node
+-- that is due, in order; each put has the bytes of the slot's entry
 abbrev pub CarriesFrames : Parts → ℕ → List LogEntry → Type 0
 CarriesFrames c opening [] = ⊤
-CarriesFrames c opening (e ∷ past) = AreDefined c opening past (events e) × CarriesFrames c opening past
+CarriesFrames c opening (e ∷ past) = AreDefined c opening (done e) past (events e) × TellsDue c e past × CarriesFrames c opening past
 
 -- nothing accepted after close: where a send of a host is done, no close of it was done before
 abbrev pub StaysClosed : List LogEntry → Type 0

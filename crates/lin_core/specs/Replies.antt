@@ -1,5 +1,5 @@
 -- What each step is answered.
-use Rattle.std.specs.Prelude.{ℕ, suc, ◌-◌, ◌==◌, nat_le, nat_lt, Bool, true, false, ◌&&◌, ◌||◌, not, if◌then◌else◌, List, [], ◌∷◌, ◌++◌, map, find, flat_map, zip, length, drop, Option, Some, None, is_some, is_none, option_map, filter}
+use Rattle.std.specs.Prelude.{ℕ, suc, ◌-◌, ◌==◌, nat_le, nat_lt, Bool, true, false, ◌&&◌, ◌||◌, not, if◌then◌else◌, List, [], ◌∷◌, ◌++◌, map, find, flat_map, zip, length, drop, Option, is_some, is_none, option_map, filter}
 use Rattle.std.specs.List.{list_any}
 use Rattle.lin_frame.specs.Words.{numbers, choose}
 use Rattle.lin_frame.specs.Frame.{is_answer}
@@ -8,7 +8,7 @@ use Rattle.lin_parts.specs.Cluster.{nodes, nad, line_of, signal_of}
 use Rattle.lin_parts.specs.Rules.{place_at}
 use Rattle.lin_parts.specs.declared.parts.Parts.{Parts}
 use Rattle.lin_core.specs.History.{Slot as OpenSlot, open_slot, asleep, closed, seen, is_in, is_sleep_slot, has_decided}
-use Rattle.lin_core.specs.Links.{Link, Sending, Fate, accepted_from, host_of, same_link, waiting, begun, sendings, fate_of, waits, reading}
+use Rattle.lin_core.specs.Links.{Link, Sending, Fate, accepted_from, host_of, same_link, waiting, is_begun, sendings, fate_of, waits, reading}
 use Rattle.lin_core.specs.Links.Fate.{Waiting, Sent as IsSent, Lost as IsLost}
 use Rattle.lin_core.specs.Slots.{next_due, header, due_nodes, put, model_of}
 use Rattle.lin_core.specs.declared.log.LogEntry.{LogEntry}
@@ -56,8 +56,7 @@ passes_in c s answer bytes = choose s.header false (λ h. is_answer (model_of c 
 
 -- the message that is begun on a link
 abbrev pub begun_on : Parts → List LogEntry → ℕ → Direction → Option Sending
-begun_on c past n d =
-    choose (begun c past (host_of (link_at n d))) None (λ s. if same_link s.message.link (link_at n d) then Some s else None)
+begun_on c past n d = find (λ s. same_link s.message.link (link_at n d) && is_begun c s) (sendings c past (host_of (link_at n d)))
 
 -- the conditions under which a step is refused, in the order of their numbers
 abbrev pub refusals : Parts → ℕ → List LogEntry → PortId → Step → List (Refusal × Bool)

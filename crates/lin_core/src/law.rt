@@ -24,7 +24,7 @@ pub fn fates_are_final()
     ensures { (c : Parts) (opening capacity : ℕ) (steps : List (PortId × Step)) → IsSound c → FatesAreFinal c (history c opening capacity steps) }
 {}
 
-/// Each slot has the due entry and its header, and each put the bytes of its entry.
+/// Each slot has the due entry, its header and its due nodes, and each put the bytes of its entry.
 pub fn carries_frames()
     ensures { (c : Parts) (opening capacity : ℕ) (steps : List (PortId × Step)) → CarriesFrames c opening (history c opening capacity steps) }
 {}

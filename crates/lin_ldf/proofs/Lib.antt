@@ -1,4 +1,6 @@
 pub mod Scan
+pub mod Lines
+pub mod Stream
 pub mod Runs
 pub mod TokenForms
 pub mod Numbers
@@ -8,10 +10,12 @@ pub mod CutLaws
 pub mod Pieces
 pub mod Ranges
 pub mod Unique
+pub mod Outcomes
 pub mod AnyName
 pub mod SeveralSteps
 pub mod GatherSteps
 pub mod Capped
 pub mod Ending
 pub mod Described
-pub mod LexemeLists
+pub mod Stops
+pub mod Parsed

@@ -1,8 +1,8 @@
 //! The tokens of an LDF text.
 
-ghost use Rattle.std.specs.Prelude.{◌≡◌, ◌+◌, ◌<◌, ◌≤◌, ◌^◌, length, List, All, IfOk, IfErr, IsErrAnd, MatchResult, ◌≢◌, ◌⊎◌};
+ghost use Rattle.std.specs.Prelude.{◌≡◌, ◌+◌, ◌<◌, ◌≤◌, ◌^◌, length, List, All, IfOk, IfErr, IsErrAnd, MatchResult, ◌≢◌, ◌⊎◌, IfSome, Option, None};
 ghost use Rattle.lin_ldf.specs.Tokens.{mark_len, AreTokens, AreTokensIn, LiesIn, IsLexFault, IsFaultIn};
-ghost use Rattle.lin_ldf.specs.Advance.{fault_at, place_behind};
+ghost use Rattle.lin_ldf.specs.Advance.{fault_at};
 ghost use Rattle.lin_ldf.specs.declared.fault.LdfFault.{LdfFault};
 ghost use Rattle.lin_ldf.specs.declared.fault.LdfFault.TheVariants.{OutOfMemory};
 ghost use Rattle.lin_ldf.specs.declared.token.Token.{Token};
@@ -10,6 +10,7 @@ ghost use Rattle.lin_ldf.specs.declared.token.Token.{Token};
 use crate::fault::LdfFault;
 use crate::scanner::{ScanFault, Scanned, front_piece};
 use crate::token::Token;
+use crate::unread::advanced;
 use lin_description::Place;
 use std::alloc::Global;
 
@@ -34,31 +35,6 @@ fn fault_at(fault: ScanFault, place: Place) -> LdfFault
         ScanFault::OpenComment => LdfFault::OpenComment { line, column },
         ScanFault::OpenText => LdfFault::OpenText { line, column },
     }
-}
-
-/// The place behind a piece that begins at this place.
-pub fn advanced(from: Place, piece: &[u8]) -> Place
-    requires line_fits { from.line + length piece.now < 2 ^ 64 }
-    requires column_fits { from.column + length piece.now < 2 ^ 64 }
-    ensures place { result ≡ place_behind from piece.now }
-    ensures line { result.line ≤ from.line + length piece.now }
-    ensures column { result.column ≤ from.column + length piece.now }
-{
-    let mut place = from;
-    for c in piece {
-        place = if *c == b'\n' {
-            Place {
-                line: place.line + 1,
-                column: 1,
-            }
-        } else {
-            Place {
-                line: place.line,
-                column: place.column + 1,
-            }
-        };
-    }
-    place
 }
 
 /// The tokens of a text whose first byte stands at this offset of the source, and at line 1, column 1.
@@ -92,6 +68,27 @@ fn tokens_of(alloc: Global, start: usize, text: &[u8]) -> Result<Vec<Token>, Ldf
         rest = behind;
     }
     Ok(tokens)
+}
+
+/// The first fault of a text, which stands at line 1, column 1.
+pub fn first_fault(text: &[u8]) -> Option<LdfFault>
+    ensures fault { IfSome result (λ e. IsFaultIn text.now e) }
+    ensures other { IfSome result (λ e. e ≢ OutOfMemory) }
+    ensures none { result ≡ None → (ts : List Token) × AreTokensIn 0 text.now ts }
+{
+    let mut rest = text;
+    let mut place = Place { line: 1, column: 1 };
+    while !rest.is_empty() {
+        let size = match front_piece(rest) {
+            Scanned::Gap(size) => size,
+            Scanned::Token(_, size) => size,
+            Scanned::Fault(fault) => return Some(fault_at(fault, place)),
+        };
+        let (piece, behind) = rest.split_at(size);
+        place = advanced(place, piece);
+        rest = behind;
+    }
+    None
 }
 
 /// The tokens of an LDF text (LIN 2.2A, section 9, lexical rules), in order, without separators and comments.

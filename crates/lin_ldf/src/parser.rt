@@ -1,9 +1,11 @@
 //! Tokens that are left, and the steps over one of them.
 
-ghost use Rattle.std.specs.Prelude.{◌≡◌, ◌||◌, ◌++◌, ◌∷◌, [], length, IfOk};
+ghost use Rattle.std.specs.Prelude.{◌≡◌, ◌||◌, ◌++◌, ◌∷◌, ◌≤◌, [], length, IfOk};
 ghost use Rattle.std.specs.Str.{bytes_eq};
 ghost use Rattle.std.specs.List.{list_any};
-ghost use Rattle.lin_ldf.specs.Symbols.{is_kind, symbol, symbols};
+ghost use Rattle.lin_ldf.specs.Symbols.{is_kind, symbol};
+ghost use Rattle.lin_ldf.specs.Stream.{symbols_at, Fronts};
+ghost use Rattle.lin_ldf.specs.Advance.{first_place};
 ghost use Rattle.lin_ldf.specs.Forms.{Gives, mark, keyword, token};
 ghost use Rattle.lin_ldf.specs.Loops.{is_next, tail};
 ghost use Rattle.lin_ldf.specs.UpTo.{front_kind};
@@ -18,25 +20,31 @@ use crate::node_attributes::NodeBlocks;
 use crate::number_values;
 use crate::section::{SectionWord, section_word};
 use crate::token::TokenKind;
+use crate::unread::Unread;
 use lin_description::{Name, Number, Place};
 use lin_lists::Text;
 use std::alloc::Global;
 use std::marker::Model;
 
-/// The tokens that are left, and the place behind the text.
+/// The tokens that are left: the next one's kind, text and place, and what isn't read yet behind it.
 #[derive(Drop)]
 pub struct Parser<'a> {
-    tokens: &'a [Lexeme<'a>],
-    end: Place,
+    kind: Option<TokenKind>,
+    text: &'a [u8],
+    start: Place,
+    unread: Unread<'a>,
 }
 
 impl<'a> Model for Parser<'a> {
-    ghost use Rattle.std.specs.Prelude.{List};
-    ghost use Rattle.lin_ldf.specs.Symbols.{Symbol, symbols};
+    ghost use Rattle.std.specs.Prelude.{List, ◌+◌, ◌<◌, ◌^◌, length};
+    ghost use Rattle.lin_ldf.specs.Symbols.{Symbol};
+    ghost use Rattle.lin_ldf.specs.Stream.{ahead};
 
     ghost Value = { List Symbol };
 
-    ghost view = { λ p. symbols p.tokens.now };
+    ghost view = { λ p. ahead p.kind p.text.now p.start p.unread };
+
+    ghost invariant = { λ p. (p.unread.at.line + length p.unread.text.now < 2 ^ 64) × (p.unread.at.column + length p.unread.text.now < 2 ^ 64) };
 }
 
 pub fn same_kind(a: TokenKind, b: TokenKind) -> bool
@@ -94,71 +102,114 @@ fn is_extra_word(t: &Lexeme) -> bool
 }
 
 impl<'a> Parser<'a> {
-    pub fn new(tokens: &'a [Lexeme<'a>], end: Place) -> Parser<'a>
-        ensures { result ≡ symbols tokens.now }
+    pub fn new(text: &'a [u8]) -> Parser<'a>
+        ensures { result ≡ symbols_at 0 first_place text.now }
     {
-        Parser { tokens, end }
+        let unread = Unread::new(text);
+        // (it stands before the first token)
+        let nothing = Some(TokenKind::Other);
+        let mut parser = Parser {
+            kind: nothing,
+            text: &[],
+            start: unread.at,
+            unread,
+        };
+        parser.skip();
+        parser
+    }
+
+    /// The next token.
+    #[inline(always)]
+    fn front(&self) -> Option<Lexeme<'a>>
+        ensures { Fronts result self.now }
+    {
+        match self.kind {
+            Some(kind) => Some(Lexeme {
+                kind,
+                text: self.text,
+                line: self.start.line,
+                column: self.start.column,
+            }),
+            None => None,
+        }
     }
 
     /// The place of the next token, or behind the text.
     pub fn place(&self) -> Place {
-        match self.tokens {
-            [t, ..] => Place {
-                line: t.line,
-                column: t.column,
-            },
-            [] => self.end,
+        match self.front() {
+            Some(t) => t.place(),
+            None => self.unread.at,
         }
     }
 
-    /// How many tokens are left.
+    /// As many tokens as can be left, or more.
+    #[tactic(auto, using(crate::proofs::Stream::symbols_fit))]
     pub fn left(&self) -> usize
-        ensures { result ≡ length self.now }
+        ensures { length self.now ≤ result }
     {
-        self.tokens.len()
+        self.unread.text.len() + 1
     }
 
     pub fn is_at(&self, kind: TokenKind) -> bool
         ensures { result ≡ is_next kind self.now }
     {
-        match self.tokens {
-            [t, ..] => same_kind(kind, t.kind),
-            [] => false,
+        match self.front() {
+            Some(t) => same_kind(kind, t.kind),
+            None => false,
         }
     }
 
     pub fn is_at_word(&self, word: &[u8]) -> bool
         ensures { result ≡ is_word_next word.now self.now }
     {
-        match self.tokens {
-            [t, ..] => same_kind(TokenKind::Word, t.kind) && t.text == word,
-            [] => false,
+        match self.front() {
+            Some(t) => same_kind(TokenKind::Word, t.kind) && t.text == word,
+            None => false,
         }
     }
 
     pub fn front_kind(&self) -> Option<TokenKind>
         ensures { result ≡ front_kind self.now }
     {
-        match self.tokens {
-            [t, ..] => Some(t.kind),
-            [] => None,
+        match self.front() {
+            Some(t) => Some(t.kind),
+            None => None,
         }
     }
 
+    /// The next token is passed over.
+    #[inline(always)]
+    pub fn advance(&mut self)
+        ensures { self.new ≡ tail self.old }
+    {
+        if self.kind.is_some() {
+            match self.unread.next() {
+                Some(t) => {
+                    self.kind = Some(t.kind);
+                    self.text = t.text;
+                    self.start = Place {
+                        line: t.line,
+                        column: t.column,
+                    };
+                }
+                None => self.kind = None,
+            }
+        }
+    }
+
+    /// The same as a call, which keeps the code small.
     pub fn skip(&mut self)
         ensures { self.new ≡ tail self.old }
     {
-        if let [_, rest @ ..] = self.tokens {
-            self.tokens = rest;
-        }
+        self.advance();
     }
 
     pub fn mark(&mut self, kind: TokenKind) -> Result<(), LdfFault>
         ensures { Gives result self.new ((mark kind).read self.old) }
     {
-        match self.tokens {
-            [t, rest @ ..] if same_kind(kind, t.kind) => {
-                self.tokens = rest;
+        match self.front() {
+            Some(t) if same_kind(kind, t.kind) => {
+                self.skip();
                 Ok(())
             }
             _ => Err(LdfFault::unexpected(self.place())),
@@ -169,9 +220,9 @@ impl<'a> Parser<'a> {
     pub fn opening(&mut self) -> Result<Place, LdfFault>
         ensures { Gives result self.new (opening.read self.old) }
     {
-        match self.tokens {
-            [t, rest @ ..] if same_kind(TokenKind::OpenBrace, t.kind) => {
-                self.tokens = rest;
+        match self.front() {
+            Some(t) if same_kind(TokenKind::OpenBrace, t.kind) => {
+                self.skip();
                 Ok(Place {
                     line: t.line,
                     column: t.column,
@@ -184,9 +235,9 @@ impl<'a> Parser<'a> {
     pub fn keyword(&mut self, word: &[u8]) -> Result<(), LdfFault>
         ensures { Gives result self.new ((keyword word.now).read self.old) }
     {
-        match self.tokens {
-            [t, rest @ ..] if same_kind(TokenKind::Word, t.kind) && t.text == word => {
-                self.tokens = rest;
+        match self.front() {
+            Some(t) if same_kind(TokenKind::Word, t.kind) && t.text == word => {
+                self.skip();
                 Ok(())
             }
             _ => Err(LdfFault::unexpected(self.place())),
@@ -196,10 +247,10 @@ impl<'a> Parser<'a> {
     pub fn word(&mut self, alloc: Global) -> Result<Name, LdfFault>
         ensures { Gives result self.new (word.read self.old) }
     {
-        match self.tokens {
-            [t, rest @ ..] if same_kind(TokenKind::Word, t.kind) => {
+        match self.front() {
+            Some(t) if same_kind(TokenKind::Word, t.kind) => {
                 let name = t.to_name(alloc)?;
-                self.tokens = rest;
+                self.skip();
                 Ok(name)
             }
             _ => Err(LdfFault::unexpected(self.place())),
@@ -211,13 +262,13 @@ impl<'a> Parser<'a> {
         ensures read { Gives result self.new ((declared seen.old).read self.old) }
         ensures seen { IfOk result (λ n. seen.new ≡ seen.old ++ n.text ∷ []) }
     {
-        match self.tokens {
-            [t, rest @ ..] if same_kind(TokenKind::Word, t.kind) => {
+        match self.front() {
+            Some(t) if same_kind(TokenKind::Word, t.kind) => {
                 if !seen.insert(t.text)? {
                     return Err(LdfFault::name_twice(t.place()));
                 }
                 let name = t.to_name(alloc)?;
-                self.tokens = rest;
+                self.skip();
                 Ok(name)
             }
             _ => Err(LdfFault::unexpected(self.place())),
@@ -227,12 +278,11 @@ impl<'a> Parser<'a> {
     pub fn int(&mut self) -> Result<Number, LdfFault>
         ensures { Gives result self.new (int.read self.old) }
     {
-        match self.tokens {
-            [t, rest @ ..]
-                if same_kind(TokenKind::Number, t.kind) && number_values::is_whole(t.text) => {
+        match self.front() {
+            Some(t) if same_kind(TokenKind::Number, t.kind) && number_values::is_whole(t.text) => {
                 match number_values::int_value(t.text) {
                     Some(value) => {
-                        self.tokens = rest;
+                        self.skip();
                         Ok(Number {
                             value,
                             line: t.line,
@@ -249,13 +299,13 @@ impl<'a> Parser<'a> {
     pub fn dec(&mut self) -> Result<Number, LdfFault>
         ensures { Gives result self.new (dec.read self.old) }
     {
-        match self.tokens {
-            [t, rest @ ..]
+        match self.front() {
+            Some(t)
                 if same_kind(TokenKind::Number, t.kind)
                     && number_values::has_three_decimals(t.text) => {
                 match number_values::thousandths(t.text) {
                     Some(value) => {
-                        self.tokens = rest;
+                        self.skip();
                         Ok(Number {
                             value,
                             line: t.line,
@@ -273,10 +323,10 @@ impl<'a> Parser<'a> {
     pub fn protocol_text(&mut self, alloc: Global) -> Result<Text, LdfFault>
         ensures { Gives result self.new (protocol_text.read self.old) }
     {
-        match self.tokens {
-            [t, rest @ ..] if is_protocol_text(t.kind) => {
-                let text = Text::copied(alloc, protocol_of(t))?;
-                self.tokens = rest;
+        match self.front() {
+            Some(t) if is_protocol_text(t.kind) => {
+                let text = Text::copied(alloc, protocol_of(&t))?;
+                self.skip();
                 Ok(text)
             }
             _ => Err(LdfFault::unexpected(self.place())),
@@ -292,14 +342,14 @@ impl<'a> Parser<'a> {
         ensures read { Gives result self.new ((declared blocks.old.seen).read self.old) }
         ensures blocks { IfOk result (λ n. blocks.new ≡ with_node blocks.old n.text) }
     {
-        match self.tokens {
-            [t, rest @ ..] if same_kind(TokenKind::Word, t.kind) => {
+        match self.front() {
+            Some(t) if same_kind(TokenKind::Word, t.kind) => {
                 if blocks.seen.contains(t.text) {
                     return Err(LdfFault::name_twice(t.place()));
                 }
                 blocks.add(t.text)?;
                 let name = t.to_name(alloc)?;
-                self.tokens = rest;
+                self.skip();
                 Ok(name)
             }
             _ => Err(LdfFault::unexpected(self.place())),
@@ -310,9 +360,9 @@ impl<'a> Parser<'a> {
     pub fn is_at_end(&self) -> bool
         ensures { result ≡ is_end self.now }
     {
-        match self.tokens {
-            [] => true,
-            [_, ..] => false,
+        match self.front() {
+            None => true,
+            Some(_) => false,
         }
     }
 
@@ -320,9 +370,9 @@ impl<'a> Parser<'a> {
     pub fn section_word(&self) -> SectionWord
         ensures { result ≡ front_section self.now }
     {
-        match self.tokens {
-            [t, ..] => section_word(t.text),
-            [] => SectionWord::Unused,
+        match self.front() {
+            Some(t) => section_word(t.text),
+            None => SectionWord::Unused,
         }
     }
 
@@ -330,9 +380,9 @@ impl<'a> Parser<'a> {
     pub fn is_past_extras(&self) -> bool
         ensures { result ≡ no_extra self.now }
     {
-        match self.tokens {
-            [t, ..] => !is_extra_word(t),
-            [] => true,
+        match self.front() {
+            Some(t) => !is_extra_word(&t),
+            None => true,
         }
     }
 
@@ -340,9 +390,9 @@ impl<'a> Parser<'a> {
     pub fn extra_word(&mut self) -> Result<(), LdfFault>
         ensures { Gives result self.new (extra_word.read self.old) }
     {
-        match self.tokens {
-            [t, rest @ ..] if is_extra_word(t) => {
-                self.tokens = rest;
+        match self.front() {
+            Some(t) if is_extra_word(&t) => {
+                self.skip();
                 Ok(())
             }
             _ => Err(LdfFault::unexpected(self.place())),

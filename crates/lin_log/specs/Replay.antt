@@ -1,5 +1,5 @@
 -- What reading a script, replaying it and listing a log's steps answer.
-use Rattle.std.specs.Prelude.{◌≡◌, ℕ, ◌<◌, ◌≤◌, List, ◌++◌, reverse, Option, Some, Result, Ok, Err, length}
+use Rattle.std.specs.Prelude.{◌≡◌, ℕ, ◌<◌, ◌≤◌, List, ◌++◌, reverse, Option, Some, Result, Ok, Err, IfSome, length}
 use Rattle.std.specs.Io.KnownBytes.{Appends, Keeps}
 use Rattle.lin_parts.specs.declared.parts.Parts.{Parts}
 use Rattle.lin_core.specs.Runs.{history, steps_of}
@@ -24,23 +24,30 @@ ScriptFaults TooLong bytes = 16777216 < length bytes
 ScriptFaults ReadFailed bytes = Unit {0}
 ScriptFaults NoMemory bytes = Unit {0}
 
+-- these bytes are a script of these steps
+abbrev pub IsScriptOf : List ℕ → List (PortId × Step) → Type 0
+IsScriptOf bytes said = IsShort bytes × (steps bytes ≡ Some said)
+
 -- what reading a script of these bytes answers
 abbrev pub ReadsScript : {X : Type 0} → (X → List (PortId × Step)) → Result X ScriptFault → List ℕ → Type 0
-ReadsScript view (Ok x) bytes = IsShort bytes × (steps bytes ≡ Some (view x))
+ReadsScript view (Ok x) bytes = IsScriptOf bytes (view x)
 ReadsScript view (Err e) bytes = ScriptFaults e bytes
 
 -- the log of these steps, both the oldest first
 abbrev pub log_of : Parts → ℕ → ℕ → List (PortId × Step) → List LogEntry
 log_of c opening capacity said = reverse (history c opening capacity (reverse said))
 
--- what a replay of a script of these bytes answers, and what of the writer's content is new
-abbrev pub IsReplay : {X : Type 0} → Parts → ℕ → ℕ → (X → List LogEntry) → Result X ReplayFault → List ℕ → Option (List ℕ) → Option (List ℕ) → Type 0
-IsReplay c opening capacity view (Ok x) bytes old new =
-    (said : List (PortId × Step)) × (steps bytes ≡ Some said) × (view x ≡ log_of c opening capacity said) × Appends old new (text (log_of c opening capacity said))
-IsReplay c opening capacity view (Err (Script fault)) bytes old new = ScriptFaults fault bytes × Keeps old new
-IsReplay c opening capacity view (Err OutOfMemory) bytes old new = Keeps old new
-IsReplay c opening capacity view (Err WriteFailed) bytes old new =
-    (said : List (PortId × Step)) × (steps bytes ≡ Some said) × (part rest : List ℕ) × (text (log_of c opening capacity said) ≡ part ++ rest) × Appends old new part
+-- what a replay answers, and what the writer took: of the script's bytes where the reader tells them, and of some steps in any case
+abbrev pub IsReplay : {X : Type 0} → Parts → ℕ → ℕ → (X → List LogEntry) → Result X ReplayFault
+    → Option (List ℕ) → Option (List ℕ) → Option (List ℕ) → Type 0
+IsReplay c opening capacity view (Ok x) told old new =
+    (said : List (PortId × Step)) × IfSome told (λ bytes. IsScriptOf bytes said)
+    × (view x ≡ log_of c opening capacity said) × Appends old new (text (view x))
+IsReplay c opening capacity view (Err (Script fault)) told old new = IfSome told (ScriptFaults fault) × Keeps old new
+IsReplay c opening capacity view (Err OutOfMemory) told old new = Keeps old new
+IsReplay c opening capacity view (Err WriteFailed) told old new =
+    (said : List (PortId × Step)) × IfSome told (λ bytes. IsScriptOf bytes said)
+    × (part rest : List ℕ) × (text (log_of c opening capacity said) ≡ part ++ rest) × Appends old new part
 
 -- the text of these entries is a script of these steps
 abbrev pub ReadsAgain : List LogEntry → List (PortId × Step) → Type 0

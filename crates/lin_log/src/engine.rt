@@ -1,6 +1,6 @@
 //! A script, made and written.
 
-ghost use Rattle.std.specs.Prelude.{◌≡◌, ◌≤◌, ◌<◌, ◌^◌, ◌-◌, ◌++◌, ◌∷◌, [], length, IfOk, IfSome, OnOk};
+ghost use Rattle.std.specs.Prelude.{◌≡◌, ◌≤◌, ◌<◌, ◌^◌, ◌-◌, ◌++◌, ◌∷◌, [], length, IfOk, OnOk};
 ghost use Rattle.lin_core.specs.Core.{IsAlike, answered};
 ghost use Rattle.lin_log.specs.Replay.{IsReplay, log_of};
 
@@ -41,6 +41,8 @@ fn make_steps(core: &mut Core, steps: Vec<(PortId, Step)>) -> Result<(), AllocEr
 /// Reads a script, makes each of its steps on a new core, and writes the core's log.
 ///
 /// The core begins with schedule table `table` of the cluster; each host may have `capacity` messages waiting, 1 to 1,024.
+/// What is written is the text of the log of the core that is answered, whatever the reader gave; where the reader tells
+/// its bytes, the log is that of the steps that these say.
 ///
 /// # Errors
 /// The cluster is dropped after each of them.
@@ -57,7 +59,7 @@ pub fn replay<R: Read, W: Write>(
 ) -> Result<Core, ReplayFault>
     requires table { table < length cluster.tables }
     requires capacity { (1 ≤ capacity) × (capacity ≤ 1024) }
-    ensures text { IfSome (R.remaining reader.old) (λ bytes. IsReplay cluster table capacity (λ core. core.log) result bytes (W.contents writer.old) (W.contents writer.new)) }
+    ensures text { IsReplay cluster table capacity (λ core. core.log) result (R.remaining reader.old) (W.contents writer.old) (W.contents writer.new) }
     ensures core { IfOk result (λ core. (core.cluster ≡ cluster) × (core.opening ≡ table) × (core.capacity ≡ capacity)) }
 {
     let steps = match read_script(alloc, reader) {

@@ -16,3 +16,4 @@ pub use entries::write_log;
 pub use fault::{ReplayFault, ScriptFault, WriteFailed};
 pub use listing::steps_of;
 pub use script::read_script;
+pub use sink::write_out;

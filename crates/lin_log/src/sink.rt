@@ -12,8 +12,12 @@ use std::io::Write;
 /// What waits to be written.
 pub(crate) type Buffer = ArrayVec<u8, 4096>;
 
-/// Writes the bytes. A library loop would ask an interrupted writer again.
-fn write_out<W: Write>(writer: &mut W, bytes: &[u8]) -> Result<(), WriteFailed>
+/// Writes all of these bytes. (A library loop would ask an interrupted writer again.) The writer isn't flushed.
+///
+/// # Errors
+/// `WriteFailed` at the first error of the writer, an interrupted write too, and at the first write of 0 bytes.
+/// What was written then is the beginning of the bytes.
+pub fn write_out<W: Write>(writer: &mut W, bytes: &[u8]) -> Result<(), WriteFailed>
     ensures { WritesText (W.contents writer.old) (W.contents writer.new) result bytes.now }
 {
     let mut rest = bytes;

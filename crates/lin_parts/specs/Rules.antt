@@ -4,7 +4,6 @@ use Rattle.std.specs.List.{AllZip, list_any}
 use Rattle.lin_frame.specs.Bits.{fits_place, good_layout, has_good_size}
 use Rattle.lin_frame.specs.Frame.{pid}
 use Rattle.lin_frame.specs.declared.layout.Place.{Place}
-use Rattle.lin_frame.specs.declared.sums.SumKind.TheVariants.{Enhanced}
 use Rattle.lin_frame.specs.declared.value.Value.{Value}
 use Rattle.lin_frame.specs.declared.value.Value.TheVariants.{Scalar, Bytes}
 use Rattle.lin_parts.specs.Cluster.{nodes, nad, signal_of, frame_of, table_of}
@@ -72,7 +71,6 @@ pub record CarriesSignals (p : ℕ) : Type 0 where
 -- each frame has a publisher, a layout, one signal of its publisher for each place, and no signal twice
 pub record AreFrames (c : Parts) : Type 0 where
   pub publishers : All (λ f. f.publisher < nodes c) c.frames
-  pub models : All (λ f. f.model ≡ Enhanced) c.frames
   pub layouts : All (λ f. IsTrue (good_layout f.layout)) c.frames
   pub signals : All (λ f. AllZip (IsSignalAt c f.publisher) f.layout.places f.signals) c.frames
   pub signals_once : All (λ f. AllPairs ◌≢◌ f.signals) c.frames
@@ -109,10 +107,10 @@ abbrev pub is_event : Entry → Bool
 is_event (Event e) = true
 is_event entry = false
 
--- each event-triggered frame has at least one frame, they are of different responders and of one size, and a table
--- without event-triggered entries resolves their collisions
+-- each event-triggered frame has at least one frame, they are of different responders, of one size and of one checksum model,
+-- which is the event-triggered frame's, and a table without event-triggered entries resolves their collisions
 pub record AreEvents (c : Parts) : Type 0 where
-  pub models : All (λ e. e.model ≡ Enhanced) c.events
+  pub models : All (λ e. All (λ f. (frame_of c f).model ≡ e.model) e.frames) c.events
   pub members : All (λ e. 1 ≤ length e.frames) c.events
   pub frames : All (λ e. All (IsResponders c) e.frames) c.events
   pub own_publishers : All (λ e. AllPairs (HaveOwnPublishers c) e.frames) c.events

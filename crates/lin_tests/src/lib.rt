@@ -10,6 +10,8 @@ mod ldf;
 #[cfg(test)]
 mod log;
 #[cfg(test)]
+mod program;
+#[cfg(test)]
 mod runs;
 #[cfg(test)]
 mod samples;

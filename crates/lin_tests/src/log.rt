@@ -1,6 +1,6 @@
 //! Rows of scripts and logs over a cluster with diagnostic frames, and readers and writers that fail.
 
-mod fakes;
+pub mod fakes;
 
 ghost use Rattle.std.specs.Prelude.{◌≤◌};
 

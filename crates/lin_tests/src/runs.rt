@@ -2,6 +2,7 @@
 
 mod messages;
 mod refused;
+mod room;
 mod signals;
 
 use crate::samples::{DOOR_CLUSTER, cluster_of, expect_text};

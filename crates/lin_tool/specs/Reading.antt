@@ -1,25 +1,29 @@
--- What reading the bytes of an LDF file answers.
-use Rattle.std.specs.Prelude.{◌≡◌, ℕ, ◌<◌, List, length, Result, Ok, Err}
+-- What reading an LDF text answers, and the cluster of what was read.
+use Rattle.std.specs.Prelude.{◌≡◌, ℕ, ◌<◌, ◌≤◌, List, length, Option, IfSome, Result, Ok, Err}
+use Rattle.lin_parts.specs.declared.parts.Parts.{Parts}
+use Rattle.lin_tool.specs.Clusters.{AnswersText}
 use Rattle.lin_tool.specs.declared.fault.Fault.{Fault}
-use Rattle.lin_tool.specs.declared.fault.Fault.TheVariants.{BadLine, Ldf, Findings, LdfTooLong, ScriptTooLong, NoSuchTable, OutOfMemory, ReadFailed, WriteFailed}
+use Rattle.lin_tool.specs.declared.fault.Fault.TheVariants.{Ldf, Findings, LdfTooLong, OutOfMemory, ReadFailed}
 
--- when the bytes of a reader have this fault
-abbrev pub ReadFaults : Fault → List ℕ → Type 0
-ReadFaults (BadLine n) bytes = ⊥
-ReadFaults (Ldf f) bytes = ⊥
-ReadFaults (Findings f) bytes = ⊥
-ReadFaults LdfTooLong bytes = 4194304 < length bytes
-ReadFaults ScriptTooLong bytes = ⊥
-ReadFaults NoSuchTable bytes = ⊥
-ReadFaults OutOfMemory bytes = Unit {0}
-ReadFaults ReadFailed bytes = Unit {0}
-ReadFaults WriteFailed bytes = ⊥
+-- when a reader has this fault: what it has is told, or it isn't
+abbrev pub ReadFaults : Fault → Option (List ℕ) → Type 0
+ReadFaults LdfTooLong told = IfSome told (λ bytes. 4194304 < length bytes)
+ReadFaults OutOfMemory told = Unit {0}
+ReadFaults ReadFailed told = Unit {0}
+ReadFaults _ told = ⊥
 
--- a fault of a reader, not of its bytes
-abbrev pub IsUnread : Fault → Type 0
-IsUnread fault = (bytes : List ℕ) → ReadFaults fault bytes
+-- what reading all the bytes of a reader answers
+abbrev pub ReadsAll : {X : Type 0} → (X → List ℕ) → Result X Fault → Option (List ℕ) → Type 0
+ReadsAll view (Ok x) told = IfSome told (λ bytes. view x ≡ bytes) × (length (view x) ≤ 4194304)
+ReadsAll view (Err fault) told = ReadFaults fault told
 
--- what reading all these bytes answers
-abbrev pub ReadsAll : {X : Type 0} → (X → List ℕ) → Result X Fault → List ℕ → Type 0
-ReadsAll view (Ok x) bytes = view x ≡ bytes
-ReadsAll view (Err fault) bytes = ReadFaults fault bytes
+-- this is answered to a text that isn't too long: to what the reader has, where that is told
+abbrev pub AnswersRead : Result Parts Fault → Option (List ℕ) → Type 0
+AnswersRead result told = (text : List ℕ) × IfSome told (λ bytes. text ≡ bytes) × (length text ≤ 4194304) × AnswersText result text
+
+-- what is answered to a reader of an LDF text
+abbrev pub AnswersLdf : Result Parts Fault → Option (List ℕ) → Type 0
+AnswersLdf (Ok parts) told = AnswersRead (Ok parts) told
+AnswersLdf (Err (Ldf f)) told = AnswersRead (Err (Ldf f)) told
+AnswersLdf (Err (Findings found)) told = AnswersRead (Err (Findings found)) told
+AnswersLdf (Err fault) told = ReadFaults fault told

@@ -1,16 +1,21 @@
 -- The exit status that the program ends with.
 use Rattle.std.specs.Prelude.{ℕ}
 use Rattle.lin_tool.specs.declared.fault.Fault.{Fault}
-use Rattle.lin_tool.specs.declared.fault.Fault.TheVariants.{BadLine, Ldf, Findings, LdfTooLong, ScriptTooLong, NoSuchTable, OutOfMemory, ReadFailed, WriteFailed}
+use Rattle.lin_tool.specs.declared.fault.Fault.TheVariants.{BadLine, Ldf, Findings, LdfTooLong, ScriptTooLong, NotHostStep, NoSuchTable, OutOfMemory, ReadFailed, WriteFailed, TaskLimit, NoThread, LogFull}
 
--- 1 for a fault of the input, 3 for want of memory, 4 where standard input, a file or standard output failed
+-- 1 for a fault of the input, 3 for want of memory, 4 where standard input, a file or standard output failed, 5 where a
+-- run met a limit
 abbrev pub status_of : Fault → ℕ
 status_of (BadLine n) = 1
 status_of (Ldf f) = 1
 status_of (Findings f) = 1
 status_of LdfTooLong = 1
 status_of ScriptTooLong = 1
+status_of (NotHostStep n) = 1
 status_of NoSuchTable = 1
 status_of OutOfMemory = 3
 status_of ReadFailed = 4
 status_of WriteFailed = 4
+status_of TaskLimit = 5
+status_of NoThread = 5
+status_of LogFull = 5

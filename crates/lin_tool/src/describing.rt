@@ -1,8 +1,8 @@
 //! Clusters from LDF texts: that of a reader or a file is read, and that of the built-in cluster stands here.
 
-ghost use Rattle.std.specs.Prelude.{◌≡◌, ◌≤◌, None, length, IfOk, IfSome};
-ghost use Rattle.lin_tool.specs.Clusters.{IsClusterOf};
-ghost use Rattle.lin_tool.specs.Reading.{IsUnread, ReadsAll};
+ghost use Rattle.std.specs.Prelude.{◌≡◌, IsSome};
+ghost use Rattle.lin_tool.specs.Clusters.{AnswersText, Tells};
+ghost use Rattle.lin_tool.specs.Reading.{AnswersLdf, ReadsAll};
 
 use crate::fault::Fault;
 use crate::findings::Findings;
@@ -11,7 +11,7 @@ use lin_ldf::{LdfFault, parse};
 use lin_parts::Cluster;
 use std::alloc::Global;
 use std::fs::{self, Files};
-use std::io::{Error, ErrorKind, Read};
+use std::io::Read;
 
 /// The most bytes that an LDF text may have.
 const LIMIT: usize = 4_194_304;
@@ -27,32 +27,19 @@ Node_attributes { door { LIN_protocol = \"2.2\"; configured_NAD = 0x01; } }
 Schedule_tables { diag { MasterReq delay 10 ms; SlaveResp delay 10 ms; } }
 ";
 
-/// What a failed open or read is to the user.
-fn unread(error: &Error) -> Fault
-    ensures { IsUnread result }
-{
-    if error.kind() == ErrorKind::OutOfMemory {
-        Fault::OutOfMemory
-    } else {
-        Fault::ReadFailed
-    }
-}
-
 /// The bytes that a reader gives up to its end, at most 4,194,304.
 ///
 /// # Errors
-/// `LdfTooLong` where there are more; `OutOfMemory`; `ReadFailed` where the reader answers an error, after which it is asked no second
-/// time.
+/// `LdfTooLong` where there are more; `OutOfMemory` where the program's own request for memory is refused; `ReadFailed` where the reader
+/// answers an error, whatever its kind, after which it is asked no second time.
 pub fn read_text<R: Read>(alloc: Global, reader: &mut R) -> Result<Vec<u8>, Fault>
-    ensures bytes { IfSome (R.remaining reader.old) (λ bytes. ReadsAll (λ v. v.items) result bytes) }
-    ensures short { IfOk result (λ v. length v.items ≤ 4194304) }
+    ensures { ReadsAll (λ v. v.items) result (R.remaining reader.old) }
 {
     let mut bytes = Vec::new(alloc);
     let mut buffer = [0u8; 65536];
     for _ in 0..=LIMIT {
-        let count = match reader.read(&mut buffer) {
-            Ok(count) => count,
-            Err(error) => return Err(unread(&error)),
+        let Ok(count) = reader.read(&mut buffer) else {
+            return Err(Fault::ReadFailed);
         };
         if count == 0 {
             return Ok(bytes);
@@ -67,13 +54,14 @@ pub fn read_text<R: Read>(alloc: Global, reader: &mut R) -> Result<Vec<u8>, Faul
     Err(Fault::LdfTooLong)
 }
 
-/// The bytes of a file.
-fn read_file<R: AllocGlobal + Files>(rt: &R, path: &str) -> Result<Vec<u8>, Fault> {
-    let mut file = match fs::open(rt, path) {
-        Ok(file) => file,
-        Err(error) => return Err(unread(&error)),
-    };
-    read_text(rt.alloc(), &mut file)
+/// What a fault of `parse` is to the program.
+fn fault_of(fault: LdfFault) -> Fault
+    ensures { Tells result fault }
+{
+    match fault {
+        LdfFault::OutOfMemory => Fault::OutOfMemory,
+        fault => Fault::Ldf(fault),
+    }
 }
 
 /// The cluster that an LDF text describes.
@@ -81,12 +69,11 @@ fn read_file<R: AllocGlobal + Files>(rt: &R, path: &str) -> Result<Vec<u8>, Faul
 /// # Errors
 /// `Ldf` for the first fault of the text; `Findings` for all the reasons why it describes no cluster; `OutOfMemory`.
 pub fn cluster_of_text(alloc: Global, text: &[u8]) -> Result<Cluster, Fault>
-    ensures { IfOk result (IsClusterOf text.now) }
+    ensures { AnswersText result text.now }
 {
     let description = match parse(alloc, text) {
         Ok(description) => description,
-        Err(LdfFault::OutOfMemory) => return Err(Fault::OutOfMemory),
-        Err(fault) => return Err(Fault::Ldf(fault)),
+        Err(fault) => return Err(fault_of(fault)),
     };
     match check(alloc, description) {
         Ok(cluster) => Ok(cluster),
@@ -95,19 +82,34 @@ pub fn cluster_of_text(alloc: Global, text: &[u8]) -> Result<Cluster, Fault>
     }
 }
 
+/// The cluster that the LDF text of a reader describes.
+///
+/// # Errors
+/// Those of `read_text`, and of what was read those of `cluster_of_text`.
+#[tactic(auto, using(crate::proofs::Texts::answers_read, crate::proofs::Texts::answers_unread))]
+pub fn cluster_of_reader<R: Read>(alloc: Global, reader: &mut R) -> Result<Cluster, Fault>
+    ensures { AnswersLdf result (R.remaining reader.old) }
+{
+    let text = read_text(alloc, reader)?;
+    cluster_of_text(alloc, text.as_slice())
+}
+
 /// The cluster that the LDF text in the file at `path` describes; without a path the built-in one.
 ///
 /// # Errors
-/// `ReadFailed` where the file can't be opened or read, `LdfTooLong` where it has more than 4,194,304 bytes, and those of
-/// `cluster_of_text`.
+/// `ReadFailed` where the file can't be opened, and those of `cluster_of_reader`.
+#[tactic(auto, using(crate::proofs::Texts::answers_untold))]
 pub fn cluster_of_file<R: AllocGlobal + Files>(rt: &R, path: Option<&str>) -> Result<Cluster, Fault>
-    ensures built_in { path.entry ≡ None → IfOk result (IsClusterOf BUILT_IN.now) }
+    ensures built_in { path.entry ≡ None → AnswersText result BUILT_IN.now }
+    ensures file { IsSome path.entry → AnswersLdf result None }
 {
     match path {
         None => cluster_of_text(rt.alloc(), BUILT_IN),
         Some(path) => {
-            let text = read_file(rt, path)?;
-            cluster_of_text(rt.alloc(), text.as_slice())
+            let Ok(mut file) = fs::open(rt, path) else {
+                return Err(Fault::ReadFailed);
+            };
+            cluster_of_reader(rt.alloc(), &mut file)
         }
     }
 }

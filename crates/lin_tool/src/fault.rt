@@ -1,11 +1,14 @@
 //! Why the program ends early.
 
 ghost use Rattle.std.specs.Prelude.{◌≡◌};
+ghost use Rattle.lin_tool.specs.Replaying.{replay_fault, script_fault};
+ghost use Rattle.lin_tool.specs.Running.{split_fault};
 ghost use Rattle.lin_tool.specs.Statuses.{status_of};
 
 use crate::findings::Findings;
 use lin_ldf::LdfFault;
 use lin_log::{ReplayFault, ScriptFault};
+use lin_threads::{RunFault, SplitFault};
 use std::alloc::{AllocError, AllocFailed};
 use thiserror::Error;
 
@@ -27,22 +30,34 @@ pub enum Fault {
     /// The script is longer than 16,777,216 bytes.
     #[error("script too long")]
     ScriptTooLong,
+    /// The script's first step, counted from 0, that is none of a host of the cluster by its own port.
+    #[error("script step {index} not a host step")]
+    NotHostStep { index: usize },
     /// The cluster has no schedule table of the name that the command line gives.
     #[error("no such table")]
     NoSuchTable,
     #[error("out of memory")]
     OutOfMemory,
-    /// Standard input couldn't be read.
+    /// Standard input or the LDF file couldn't be read.
     #[error("read failed")]
     ReadFailed,
     /// Standard output didn't take what was written.
     #[error("write failed")]
     WriteFailed,
+    /// A host's task had all its turns before it was done. The log was written.
+    #[error("task limit")]
+    TaskLimit,
+    /// A thread couldn't be started.
+    #[error("no thread")]
+    NoThread,
+    /// The log has 4,294,967,295 entries, and takes no more.
+    #[error("log full")]
+    LogFull,
 }
 
 impl Fault {
-    /// The exit status: 1 for a fault of the input, 3 for want of memory, 4 for a failed read or write. (0 is for a run without a
-    /// fault, and 2 for a wrong command line.)
+    /// The exit status: 1 for a fault of the input, 3 for want of memory, 4 for a failed read or write, 5 where a run met a limit. (0 is
+    /// for a run without a fault, and 2 for a wrong command line.)
     pub fn status(&self) -> u8
         ensures { result ≡ status_of self.now }
     {
@@ -52,14 +67,18 @@ impl Fault {
             | Fault::LdfTooLong
             | Fault::BadLine { .. }
             | Fault::ScriptTooLong
+            | Fault::NotHostStep { .. }
             | Fault::NoSuchTable => 1,
             Fault::OutOfMemory => 3,
             Fault::ReadFailed | Fault::WriteFailed => 4,
+            Fault::TaskLimit | Fault::NoThread | Fault::LogFull => 5,
         }
     }
 }
 
 impl From<ScriptFault> for Fault {
+    ghost from_gives = { λ x y. y ≡ script_fault x };
+
     fn from(fault: ScriptFault) -> Fault {
         match fault {
             ScriptFault::BadLine { line } => Fault::BadLine { line },
@@ -70,7 +89,30 @@ impl From<ScriptFault> for Fault {
     }
 }
 
+impl From<SplitFault> for Fault {
+    ghost from_gives = { λ x y. y ≡ split_fault x };
+
+    fn from(fault: SplitFault) -> Fault {
+        match fault {
+            SplitFault::NotHost { index } => Fault::NotHostStep { index },
+            SplitFault::OutOfMemory => Fault::OutOfMemory,
+        }
+    }
+}
+
+impl From<RunFault> for Fault {
+    fn from(fault: RunFault) -> Fault {
+        match fault {
+            RunFault::LogFull => Fault::LogFull,
+            RunFault::OutOfMemory => Fault::OutOfMemory,
+            RunFault::NoThread => Fault::NoThread,
+        }
+    }
+}
+
 impl From<ReplayFault> for Fault {
+    ghost from_gives = { λ x y. y ≡ replay_fault x };
+
     fn from(fault: ReplayFault) -> Fault {
         match fault {
             ReplayFault::Script(fault) => Fault::from(fault),

@@ -24,6 +24,7 @@ pub(crate) enum FindingName {
     NestedCollision = 15,
     EmptyTable = 16,
     LimitPassed = 17,
+    MixedChecksum = 18,
 }
 
 impl FindingName {
@@ -47,6 +48,7 @@ impl FindingName {
             15 => FindingName::NestedCollision,
             16 => FindingName::EmptyTable,
             17 => FindingName::LimitPassed,
+            18 => FindingName::MixedChecksum,
             _ => return None,
         };
         Some(name)
@@ -80,7 +82,7 @@ fn put_line<W: fmt::Write>(f: &mut fmt::Formatter<W>, finding: &Finding) -> fmt:
 
 /// All that is wrong with a description. It displays a line for each finding, with no end behind the last.
 #[derive(Debug, Drop)]
-pub struct Findings(pub(crate) Many<Finding>);
+pub struct Findings(pub Many<Finding>);
 
 impl fmt::Display for Findings {
     fn fmt<W: fmt::Write>(&self, f: &mut fmt::Formatter<W>) -> fmt::Result {

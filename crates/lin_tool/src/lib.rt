@@ -9,10 +9,13 @@ mod findings;
 mod listing;
 mod opening;
 mod replaying;
+mod running;
 
 pub use checking::check;
-pub use describing::{BUILT_IN, cluster_of_file, cluster_of_text, read_text};
+pub use describing::{BUILT_IN, cluster_of_file, cluster_of_reader, cluster_of_text, read_text};
 pub use fault::Fault;
 pub use findings::Findings;
+pub use listing::write_list;
 pub use opening::opening_table;
-pub use replaying::replay;
+pub use replaying::{replay, replay_script};
+pub use running::run;

@@ -1,36 +1,40 @@
 //! `linsim replay`: makes the steps of a script and writes their log.
 
 ghost use Rattle.std.specs.Prelude.{◌≤◌, ◌<◌, length};
+ghost use Rattle.lin_tool.specs.Replaying.{Replays};
 
 use crate::describing::cluster_of_file;
 use crate::fault::Fault;
 use crate::opening::opening_table;
 use lin_parts::Cluster;
+use std::alloc::Global;
 use std::fs::Files;
-use std::io;
+use std::io::{self, Read, Write};
 
-/// Replays standard input over a cluster. (The cluster and the core are owned in different functions, since letting either go is long
-/// to prove.)
-fn replay_over<R: AllocGlobal + Input + Print>(
-    rt: &R,
+/// Reads a script, makes its steps over a cluster, and writes their log.
+///
+/// It begins with the schedule table `table`; each host may have `capacity` messages waiting, 1 to 1,024. (The cluster and the core are
+/// owned in different functions, since letting either go is long to prove.)
+///
+/// # Errors
+/// `BadLine` and `ScriptTooLong` for a fault of the script; `ReadFailed` where the reader answers an error; `OutOfMemory`. Nothing was
+/// written then. `WriteFailed`, where what was written is the beginning of the log.
+pub fn replay_script<R: Read, W: Write>(
+    alloc: Global,
     cluster: Cluster,
     table: u16,
     capacity: usize,
+    reader: &mut R,
+    writer: &mut W,
 ) -> Result<(), Fault>
     requires table { table < length cluster.tables }
     requires capacity { (1 ≤ capacity) × (capacity ≤ 1024) }
+    ensures { Replays cluster table capacity result (R.remaining reader.old) (W.contents writer.old) (W.contents writer.new) }
 {
-    let mut reader = rt.reader();
-    let mut writer = io::writer(rt);
-    let _core = lin_log::replay(
-        rt.alloc(),
-        cluster,
-        table,
-        capacity,
-        &mut reader,
-        &mut writer,
-    )?;
-    Ok(())
+    match lin_log::replay(alloc, cluster, table, capacity, reader, writer) {
+        Ok(_core) => Ok(()),
+        Err(fault) => Err(Fault::from(fault)),
+    }
 }
 
 /// Reads the script on standard input, makes its steps over the cluster that the LDF text in the file at `path` describes, or without
@@ -40,8 +44,7 @@ fn replay_over<R: AllocGlobal + Input + Print>(
 /// waiting, 1 to 1,024.
 ///
 /// # Errors
-/// Those of `cluster_of_file`; `NoSuchTable`; `BadLine` and `ScriptTooLong` for a fault of the script; `ReadFailed` where standard input
-/// couldn't be read; `OutOfMemory`. Nothing was written then. `WriteFailed`, where what was written is the beginning of the log.
+/// Those of `cluster_of_file`, and `NoSuchTable`, after which nothing was written; those of `replay_script`.
 pub fn replay<R: AllocGlobal + Files + Input + Print>(
     rt: &R,
     path: Option<&str>,
@@ -52,5 +55,14 @@ pub fn replay<R: AllocGlobal + Files + Input + Print>(
 {
     let cluster = cluster_of_file(rt, path)?;
     let table = opening_table(&cluster, table)?;
-    replay_over(rt, cluster, table, capacity)
+    let mut reader = rt.reader();
+    let mut writer = io::writer(rt);
+    replay_script(
+        rt.alloc(),
+        cluster,
+        table,
+        capacity,
+        &mut reader,
+        &mut writer,
+    )
 }

@@ -6,3 +6,4 @@ pub mod Continues
 pub mod Hears
 pub mod Readings
 pub mod Parts
+pub mod FirstFrames

@@ -18,7 +18,7 @@ use Rattle.lin_transport.proofs.Frames.{eqb-self, numbers-suc, first-more, first
 pub is-long : (m : List ℕ) → 7 ≤ length m → nat_le (length m) 6 ≡ false
 is-long m l = grind (arith, nat_tests)
 
-sixth : (n : ℕ) → 6 * suc n ≡ suc (suc (suc (suc (suc (suc (6 * n))))))
+pub sixth : (n : ℕ) → 6 * suc n ≡ suc (suc (suc (suc (suc (suc (6 * n))))))
 sixth n = omega arith
 
 -- as many consecutive frames as are full have the bytes behind the first frame
@@ -48,7 +48,7 @@ bytes_in-first n m k more s l full =
     in ap (λ (fs : List (List ℕ)). bytes_in (fs ++ more)) (first-cons n m k)
     ∙ rw (h, big, first-five m l, all, behind, ← append_assoc, ← take-add 5 (6 * k) m) refl
 
-map-suc : (g : ℕ → List ℕ) (ks : List ℕ) → map g (map suc ks) ≡ map (λ k. g (suc k)) ks
+pub map-suc : (g : ℕ → List ℕ) (ks : List ℕ) → map g (map suc ks) ≡ map (λ k. g (suc k)) ks
 map-suc g [] = refl
 map-suc g (k ∷ ks) = ap (λ (xs : List (List ℕ)). g (suc k) ∷ xs) (map-suc g ks)
 

@@ -1,7 +1,21 @@
--- What is read of messages that are sent whole, and of one that a reset cuts.
-use Rattle.std.specs.Prelude.{◌≡◌, ℕ, ◌≤◌, ◌<◌, List, [], ◌∷◌, ◌++◌, All, length, take, drop}
-use Rattle.lin_transport.specs.Transport.{first, frames, frame_count, CanSend, Heard, messages_in, addressed, messages_for}
+-- What is read of one piece, of messages that are sent whole, and of one that a reset cuts.
+use Rattle.std.specs.Prelude.{◌≡◌, ◌↔◌, ℕ, ◌≤◌, ◌<◌, List, [], ◌∷◌, ◌++◌, All, length, take, drop, slice_index_or, Some}
+use Rattle.lin_transport.specs.Transport.{needed, first, frames, frame_count, CanSend, Heard, message_in, messages_in, addressed, messages_for}
 use Rattle.lin_transport.specs.Transport.Heard.{Frame, Reset}
+
+-- a frame has these bytes first; those behind them are unused and have any value
+abbrev pub HasFirst : List ℕ → List ℕ → Type 0
+HasFirst bytes frame = (unused : List ℕ) × (frame ≡ bytes ++ unused)
+
+-- the first frames of a piece are those of a message to an address, unused bytes apart
+pub record BeginsWith (nad : ℕ) (m : List ℕ) (piece : List (List ℕ)) : Type 0 where
+  pub can : CanSend m
+  pub enough : frame_count (length m) ≤ length piece
+  pub frames : (k : ℕ) → k < frame_count (length m) → HasFirst (needed nad m k) (slice_index_or piece k [])
+
+-- frames of 8 bytes are read as a message exactly where they begin with its own
+abbrev pub ReadsFirstFrames : ℕ → List ℕ → List (List ℕ) → Type 0
+ReadsFirstFrames nad m piece = All (λ f. length f ≡ 8) piece → (message_in nad piece ≡ Some m) ↔ BeginsWith nad m piece
 
 -- what was heard, the newest first, once these frames follow, the oldest first
 abbrev pub followed : List Heard → List (List ℕ) → List Heard

@@ -1,8 +1,14 @@
-//! What is read of the frames of whole messages, and of cut ones.
+//! What is read of a piece, of the frames of whole messages, and of cut ones.
 
 ghost use Rattle.std.specs.Prelude.{ℕ, List};
 ghost use Rattle.lin_transport.specs.Transport.{Heard};
-ghost use Rattle.lin_transport.specs.Law.{ReadsBack, ReadsAcross, LacksCut, AddsMessage, AddsNothing, ResetAddsNothing};
+ghost use Rattle.lin_transport.specs.Law.{ReadsFirstFrames, ReadsBack, ReadsAcross, LacksCut, AddsMessage, AddsNothing, ResetAddsNothing};
+
+/// The law of one piece: what is read of frames between two cuts is the message whose frames stand first, with unused bytes of any
+/// value, and nothing where there is no such message.
+pub fn reads_first_frames()
+    ensures { (nad : ℕ) (message : List ℕ) (piece : List (List ℕ)) → ReadsFirstFrames nad message piece }
+{}
 
 /// The law of segmentation and reassembly: the reading of the frames of messages to an address is these messages,
 /// whatever frames of other addresses stand between them. Where a reset cuts a message, exactly that one isn't read.

@@ -6,7 +6,7 @@ mod pci;
 mod receiver;
 mod sender;
 
-pub use law::reads_what_is_sent;
+pub use law::{reads_first_frames, reads_what_is_sent};
 pub use receiver::Receiver;
 pub use sender::Sender;
 

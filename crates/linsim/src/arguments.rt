@@ -4,10 +4,13 @@ use clap::{Arg, ArgMatches, Command, value_parser};
 use std::alloc::{AllocError, Global};
 
 const STATUS_NOTE: &str =
-    "Exit status: 0 done; 1 a fault of the input; 2 a wrong command line; 3 out of memory;\n4 a read or a write failed. A fault is one line on standard error.";
+    "Exit status: 0 done; 1 a fault of the input; 2 a wrong command line; 3 out of memory;\n4 a read or a write failed; 5 the run met a limit. A fault is one line on standard error.";
 
 const REPLAY_NOTE: &str =
     "Without FILE the cluster is the built-in one: the commander cem, the responder door with the diagnostic\naddress 1, and the schedule table diag with a master request and a slave response, 10 ms each.";
+
+const RUN_NOTE: &str =
+    "The script's steps are the hosts' own: sends, writes and closes, each by its host's port. They are put while the slots run,\nso where a step stands among the slots isn't fixed; the log, read by replay, is written again.";
 
 const CHECK_NOTE: &str =
     "On standard output: node NUMBER NAME NAD (- for none), signal NUMBER NAME, table NUMBER NAME ENTRIES, one a line.\nOn standard error: ldf LINE:COLUMN fault NUMBER NAME for the first fault of the text, or ldf too long above 4,194,304 bytes;\notherwise a line LINE:COLUMN finding NUMBER NAME for each reason why it describes no cluster.";
@@ -33,6 +36,15 @@ fn capacity<'a>(alloc: Global) -> Arg<'a> {
         .help("How many messages of a host may wait, 1 to 1024")
 }
 
+fn slots<'a>(alloc: Global) -> Arg<'a> {
+    Arg::new(alloc, "slots")
+        .long("slots")
+        .value_name("N")
+        .value_parser(value_parser!(u32).range(1..=1_000_000))
+        .required(true)
+        .help("How many slots of the schedule run, 1 to 1000000")
+}
+
 fn replay<'a>(alloc: Global) -> Result<Command<'a>, AllocError> {
     Command::new(alloc, "replay")
         .about(
@@ -53,6 +65,18 @@ fn check<'a>(alloc: Global) -> Result<Command<'a>, AllocError> {
         .arg(file(alloc).required(true))
 }
 
+fn run<'a>(alloc: Global) -> Result<Command<'a>, AllocError> {
+    Command::new(alloc, "run")
+        .about(
+            "Runs slots whose hosts put the steps of a script from standard input, and writes the log on standard output",
+        )
+        .after_help(RUN_NOTE)
+        .arg(file(alloc).required(true))?
+        .arg(slots(alloc))?
+        .arg(table(alloc))?
+        .arg(capacity(alloc))
+}
+
 /// What the program takes.
 fn command<'a>(alloc: Global) -> Result<Command<'a>, AllocError> {
     Command::new(alloc, "linsim")
@@ -61,7 +85,8 @@ fn command<'a>(alloc: Global) -> Result<Command<'a>, AllocError> {
         .after_help(STATUS_NOTE)
         .subcommand_required(true)
         .subcommand(check(alloc)?)?
-        .subcommand(replay(alloc)?)
+        .subcommand(replay(alloc)?)?
+        .subcommand(run(alloc)?)
 }
 
 /// What the command line asks for.
@@ -77,6 +102,13 @@ pub(crate) enum Request<'a> {
         table: Option<&'a str>,
         capacity: u16,
     },
+    /// `linsim run FILE --slots N [--table T] [--capacity N]`
+    Run {
+        file: &'a str,
+        slots: u32,
+        table: Option<&'a str>,
+        capacity: u16,
+    },
 }
 
 fn request_of<'a>(matches: &ArgMatches<'a>) -> Option<Request<'a>> {
@@ -86,6 +118,12 @@ fn request_of<'a>(matches: &ArgMatches<'a>) -> Option<Request<'a>> {
         }),
         Some(("replay", found)) => Some(Request::Replay {
             file: found.get_str("file"),
+            table: found.get_str("table"),
+            capacity: found.get_one::<u16>("capacity").unwrap_or(16),
+        }),
+        Some(("run", found)) => Some(Request::Run {
+            file: found.get_str("file").unwrap_or(""),
+            slots: found.get_one::<u32>("slots").unwrap_or(1),
             table: found.get_str("table"),
             capacity: found.get_one::<u16>("capacity").unwrap_or(16),
         }),

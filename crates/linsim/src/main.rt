@@ -7,17 +7,21 @@ mod arguments;
 use crate::arguments::{Request, asked};
 use clap::error::ErrorKind;
 use lin_tool::Fault;
+use std::env::Env;
 use std::fs::Files;
-use std::io;
+use std::io::{self, IsTerminal};
 use std::process::ExitCode;
+use std::sync::Wait;
+use std::thread::Threads;
 
 /// The exit status of a wrong command line.
 const COMMAND_LINE: u8 = 2;
 
-/// Does what is asked for.
-fn perform<R: AllocGlobal + Files + Input + Print>(
+/// Does what is asked for; where standard error is watched, a run says there that it begins.
+fn perform<R: AllocGlobal + Files + Input + Print + Eprint + Threads + Wait>(
     rt: &R,
     request: Request<'_>,
+    is_watched: bool,
 ) -> Result<(), Fault> {
     match request {
         Request::Check { file } => lin_tool::check(rt, file),
@@ -26,6 +30,19 @@ fn perform<R: AllocGlobal + Files + Input + Print>(
             table,
             capacity,
         } => lin_tool::replay(rt, file, table, usize::from(capacity.clamp(1, 1024))),
+        Request::Run {
+            file,
+            slots,
+            table,
+            capacity,
+        } => lin_tool::run(
+            rt,
+            file,
+            slots,
+            table,
+            usize::from(capacity.clamp(1, 1024)),
+            is_watched,
+        ),
     }
 }
 
@@ -53,14 +70,17 @@ fn unread<R: Eprint>(rt: &R, error: &io::Error) -> Result<ExitCode, Fault> {
     Ok(ExitCode::from(COMMAND_LINE))
 }
 
-fn run(rt: &HostRuntime) -> Result<ExitCode, Fault> {
+fn run<R: AllocGlobal + Env + Files + Input + Print + Eprint + Threads + Wait>(
+    rt: &R,
+    is_watched: bool,
+) -> Result<ExitCode, Fault> {
     let alloc = rt.alloc();
     let words: Vec<String> = match std::env::args(rt) {
         Ok(all) => all.collect(alloc)?,
         Err(error) => return unread(rt, &error),
     };
     match asked(alloc, words.as_slice()) {
-        Ok(Some(request)) => perform(rt, request)?,
+        Ok(Some(request)) => perform(rt, request, is_watched)?,
         Ok(None) => {}
         Err(error) => return refused(rt, &error),
     }
@@ -68,7 +88,7 @@ fn run(rt: &HostRuntime) -> Result<ExitCode, Fault> {
 }
 
 fn main(rt: HostRuntime) -> ExitCode {
-    match run(&rt) {
+    match run(&rt, rt.stderr().is_terminal()) {
         Ok(status) => status,
         Err(fault) => {
             let _ = eprintln!(rt; "{fault}");

@@ -5,6 +5,7 @@ ghost use Rattle.std.specs.List.{enumerate_from, list_any};
 ghost use Rattle.lin_frame.specs.Frame.{pid};
 ghost use Rattle.lin_cluster.specs.Described.{frame_number, signal_number, signals_of, own_pid, described_place, described_layout, described_frame, frames_of, members_of, sporadic_frames_of, described_event, events_of};
 ghost use Rattle.lin_cluster.specs.Fitting.{FitsFrame, FitsNumbers};
+ghost use Rattle.lin_cluster.specs.Models.{frame_model, model_named, first_model};
 
 use super::numbers::{frame_number, node_number, signal_number, table_number};
 use lin_description::{Description, Frame, Name, PlacedSignal, Sporadic};
@@ -127,17 +128,19 @@ fn frame_of(
     alloc: Global,
     d: &Description,
     signals: &[Signal],
+    model: SumKind,
     number: u16,
     frame: &Frame,
 ) -> Result<SignalFrame, AllocError>
     requires few { FitsNumbers d.now }
     requires all { signals.now ≡ signals_of d.now }
+    requires model { model ≡ frame_model d.now frame.now }
     requires fits { FitsFrame frame.now }
     ensures { IfOk result (λ made. made ≡ described_frame d.now (number, frame.now)) }
 {
     Ok(SignalFrame {
         pid: pid_of(frame.id.value),
-        model: SumKind::Enhanced,
+        model,
         publisher: node_number(d, &frame.publisher),
         layout: layout_of(alloc, d, signals, number, frame)?,
         signals: signals_in(alloc, d, frame.placed.as_slice())?,
@@ -148,17 +151,20 @@ pub(super) fn frames_of(
     alloc: Global,
     d: &Description,
     signals: &[Signal],
+    models: &[SumKind],
     frames: &[Frame],
 ) -> Result<Many<SignalFrame>, AllocError>
     requires few { FitsNumbers d.now }
     requires few_frames { length frames.now ≤ 60 }
     requires all { signals.now ≡ signals_of d.now }
     requires fit { All FitsFrame frames.now }
+    requires models { models.now ≡ map (frame_model d.now) frames.now }
     ensures { IfOk result (λ made. made ≡ map (described_frame d.now) (enumerate_from 0 frames.now)) }
 {
     let mut made = Vec::new(alloc);
     for (number, frame) in frames.iter().enumerate() {
-        made.push(frame_of(alloc, d, signals, number as u16, frame)?)?;
+        let model = models[number];
+        made.push(frame_of(alloc, d, signals, model, number as u16, frame)?)?;
     }
     Ok(Many::new(made))
 }
@@ -198,19 +204,42 @@ pub(super) fn sporadic_frames_of(
     Ok(Many::new(made))
 }
 
+// The checksum model of a frame, where the name is one's.
+fn model_named(d: &Description, models: &[SumKind], name: &Name) -> Option<SumKind>
+    requires few { length d.now.frames ≤ 60 }
+    requires models { models.now ≡ map (frame_model d.now) d.now.frames }
+    ensures { result ≡ model_named d.now name.now }
+{
+    models.get(usize::from(frame_number(d, name))).copied()
+}
+
+// The checksum model of the first member, where that is a frame.
+fn first_model(d: &Description, models: &[SumKind], members: &[Name]) -> Option<SumKind>
+    requires few { length d.now.frames ≤ 60 }
+    requires models { models.now ≡ map (frame_model d.now) d.now.frames }
+    ensures { result ≡ first_model d.now members.now }
+{
+    match members.first() {
+        Some(member) => model_named(d, models, member),
+        None => None,
+    }
+}
+
 fn event_of(
     alloc: Global,
     d: &Description,
+    models: &[SumKind],
     event: &lin_description::EventFrame,
 ) -> Result<EventFrame, AllocError>
     requires few { FitsNumbers d.now }
     requires fits { event.now.id.value < 64 }
+    requires models { models.now ≡ map (frame_model d.now) d.now.frames }
     ensures made { IfOk result (λ made. made ≡ described_event d.now event.now) }
     ensures some { OnOk result (1 ≤ length event.now.members) }
 {
     Ok(EventFrame {
         pid: pid_of(event.id.value),
-        model: SumKind::Enhanced,
+        model: first_model(d, models, event.members.as_slice()).unwrap_or(SumKind::Enhanced),
         table: table_number(d, &event.table),
         frames: members_of(alloc, d, event.members.as_slice())?,
     })
@@ -219,16 +248,18 @@ fn event_of(
 pub(super) fn events_of(
     alloc: Global,
     d: &Description,
+    models: &[SumKind],
     events: &[lin_description::EventFrame],
 ) -> Result<Many<EventFrame>, AllocError>
     requires few { FitsNumbers d.now }
     requires fit { All (λ e. e.id.value < 64) events.now }
+    requires models { models.now ≡ map (frame_model d.now) d.now.frames }
     ensures made { IfOk result (λ made. made ≡ map (described_event d.now) events.now) }
     ensures some { OnOk result (All (λ e. 1 ≤ length e.members) events.now) }
 {
     let mut made = Vec::new(alloc);
     for event in events {
-        made.push(event_of(alloc, d, event)?)?;
+        made.push(event_of(alloc, d, models, event)?)?;
     }
     Ok(Many::new(made))
 }

@@ -6,12 +6,15 @@ ghost use Rattle.std.specs.Option.{option_map};
 ghost use Rattle.lin_cluster.specs.FindingsNames.{signal_named, frame_named, sporadic_named, event_named, table_named, is_event_entry, knows};
 ghost use Rattle.lin_cluster.specs.FindingsNodes.{node_of};
 ghost use Rattle.lin_cluster.specs.FindingsTables.{greatest_size, first_size, is_in_front};
+ghost use Rattle.lin_cluster.specs.Models.{frame_model, model_named};
 
 use super::known::Known;
 use super::members::has_signal_in_front;
+use super::models::frame_models;
 use super::slots::{first_size, greatest_size};
 use super::tables::has_event_entry;
 use lin_description::{EventFrame, Frame, Name, Signal, Sporadic, Table};
+use lin_frame::SumKind;
 use std::alloc::{AllocError, Global};
 use std::marker::Model;
 
@@ -143,8 +146,8 @@ fn nested(alloc: Global, known: &Known, tables: &[Table]) -> Result<Vec<bool>, A
     Ok(nested)
 }
 
-// What a list has at a number, where it has that.
-fn at<V: Copy>(values: &[V], number: usize) -> Option<V>
+/// What a list has at a number, where it has that.
+pub(super) fn at<V: Copy>(values: &[V], number: usize) -> Option<V>
     ensures { result ≡ slice_get values.now number }
 {
     match values.get(number) {
@@ -159,17 +162,18 @@ pub(super) struct Judged<'k, 'a> {
     nodes: Nodes,
     sizes: Sizes,
     marks: Marks,
+    models: Vec<SumKind>,
 }
 
 impl<'k, 'a> Model for Judged<'k, 'a> {
-    ghost use Rattle.lin_cluster.specs.Known.{AreNodes, AreSizes, AreMarks};
+    ghost use Rattle.lin_cluster.specs.Known.{AreNodes, AreSizes, AreMarks, AreModels};
     ghost use Rattle.lin_description.specs.declared.description.Description.{Description};
 
     ghost Value = { Description };
 
     ghost view = { λ j. j.known.now };
 
-    ghost invariant = { λ j. AreNodes j.known.now j.nodes.signals.items j.nodes.frames.items × AreSizes j.known.now j.sizes.sporadic.items j.sizes.events.items × AreMarks j.known.now j.marks.fronts.items j.marks.nested.items };
+    ghost invariant = { λ j. AreNodes j.known.now j.nodes.signals.items j.nodes.frames.items × AreSizes j.known.now j.sizes.sporadic.items j.sizes.events.items × AreMarks j.known.now j.marks.fronts.items j.marks.nested.items × AreModels j.known.now j.models.items };
 }
 
 // Written out, so that what owns one lets it go in one step.
@@ -180,6 +184,7 @@ impl<'k, 'a> Drop for Judged<'k, 'a> {
             nodes: _nodes,
             sizes: _sizes,
             marks: _marks,
+            models: _models,
         } = self;
     }
 }
@@ -192,11 +197,13 @@ impl<'k, 'a> Judged<'k, 'a> {
         let nodes = nodes_of(alloc, known)?;
         let sizes = sizes_of(alloc, known)?;
         let marks = marks_of(alloc, known)?;
+        let models = frame_models(alloc, known)?;
         Ok(Judged {
             known,
             nodes,
             sizes,
             marks,
+            models,
         })
     }
 
@@ -254,6 +261,13 @@ impl<'k, 'a> Judged<'k, 'a> {
             Some(is_used) => is_used,
             None => false,
         }
+    }
+
+    /// The checksum model of a frame, where the name is one's.
+    pub(super) fn model(&self, name: &Name) -> Option<SumKind>
+        ensures { result ≡ model_named self.now name.now }
+    {
+        at(self.models.as_slice(), self.known.frame_number(name))
     }
 
     /// Whether the name is a table's that has an event-triggered entry.

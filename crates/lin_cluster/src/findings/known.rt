@@ -5,9 +5,12 @@ ghost use Rattle.std.specs.Option.{option_copied};
 ghost use Rattle.lin_cluster.specs.Described.{signal_number, frame_number, sporadic_number, event_number, table_number};
 ghost use Rattle.lin_cluster.specs.FindingsNames.{is_node, is_responder, signal_named, frame_named, sporadic_named, event_named, table_named, is_any_frame, is_diagnostic, carries_frame, is_event_entry};
 ghost use Rattle.lin_cluster.specs.FindingsNodes.{node_of, is_behind_commander};
+ghost use Rattle.lin_cluster.specs.Models.{tells_version_1, block_named, is_lin_1};
 
 use crate::names::ByName;
-use lin_description::{Description, EventFrame, Frame, Name, Signal, Sporadic, Table, TableEntry};
+use lin_description::{
+    Attributes, Description, EventFrame, Frame, Name, Signal, Sporadic, Table, TableEntry,
+};
 use std::alloc::{AllocError, Global};
 use std::marker::Model;
 
@@ -31,6 +34,16 @@ pub(super) fn is_behind_commander(node: Option<usize>) -> bool
 {
     match node {
         Some(number) => 0 < number,
+        None => false,
+    }
+}
+
+// Whether a node's attributes tell a version of LIN 1.x.
+fn tells_version_1(block: &Attributes) -> bool
+    ensures { result ≡ tells_version_1 block.now }
+{
+    match &block.protocol {
+        Some(version) => version.as_slice().starts_with(b"1.".as_slice()),
         None => false,
     }
 }
@@ -61,10 +74,26 @@ fn frame_names<'a>(
     })
 }
 
+/// The responders, and the blocks of attributes, by the names of nodes.
+#[derive(Drop)]
+struct NodeNames<'a> {
+    slaves: ByName<'a, Name>,
+    blocks: ByName<'a, Attributes>,
+}
+
+fn node_names<'a>(alloc: Global, description: &'a Description) -> Result<NodeNames<'a>, AllocError>
+    ensures slaves { IfOk result (λ n. n.slaves ≡ description.now.slaves) }
+    ensures blocks { IfOk result (λ n. n.blocks ≡ description.now.attributes) }
+{
+    let slaves = ByName::new(alloc, description.slaves())?;
+    let blocks = ByName::new(alloc, description.attributes())?;
+    Ok(NodeNames { slaves, blocks })
+}
+
 /// A description and what its names name. Contracts see the description.
 pub(super) struct Known<'a> {
     description: &'a Description,
-    slaves: ByName<'a, Name>,
+    nodes: NodeNames<'a>,
     signals: ByName<'a, Signal>,
     kinds: FrameNames<'a>,
     tables: ByName<'a, Table>,
@@ -78,7 +107,7 @@ impl<'a> Model for Known<'a> {
 
     ghost view = { λ k. k.description.now };
 
-    ghost invariant = { λ k. IsKnown k.description.now k.slaves k.signals k.kinds.frames k.kinds.sporadic k.kinds.events k.tables };
+    ghost invariant = { λ k. IsKnown k.description.now k.nodes.slaves k.signals k.kinds.frames k.kinds.sporadic k.kinds.events k.tables k.nodes.blocks };
 }
 
 // Written out, so that what owns one lets it go in one step.
@@ -86,7 +115,7 @@ impl<'a> Drop for Known<'a> {
     fn drop(self) {
         let Known {
             description: _,
-            slaves: _slaves,
+            nodes: _nodes,
             signals: _signals,
             kinds: _kinds,
             tables: _tables,
@@ -100,12 +129,12 @@ impl<'a> Known<'a> {
         ensures { IfOk result (λ k. k ≡ description.now) }
     {
         let kinds = frame_names(alloc, description)?;
-        let slaves = ByName::new(alloc, description.slaves())?;
+        let nodes = node_names(alloc, description)?;
         let signals = ByName::new(alloc, description.signals())?;
         let tables = ByName::new(alloc, description.tables())?;
         Ok(Known {
             description,
-            slaves,
+            nodes,
             signals,
             kinds,
             tables,
@@ -125,7 +154,7 @@ impl<'a> Known<'a> {
         if self.description.master.text.as_slice() == name.text.as_slice() {
             return Some(0);
         }
-        let number = self.slaves.number(name);
+        let number = self.nodes.slaves.number(name);
         if number < self.description.slaves().len() {
             Some(1 + number)
         } else {
@@ -143,6 +172,22 @@ impl<'a> Known<'a> {
         ensures { result ≡ is_responder self.now name.now }
     {
         is_behind_commander(self.node(name))
+    }
+
+    fn block(&self, name: &Name) -> Option<&'a Attributes>
+        ensures { option_copied result ≡ block_named self.now name.now }
+    {
+        self.nodes.blocks.find(name)
+    }
+
+    /// Whether there is a node with this name, and it is of LIN 1.x.
+    pub(super) fn is_lin_1(&self, name: &Name) -> bool
+        ensures { result ≡ is_lin_1 self.now name.now }
+    {
+        match self.block(name) {
+            Some(block) => tells_version_1(block) && self.is_node(name),
+            None => false,
+        }
     }
 
     pub(super) fn signal(&self, name: &Name) -> Option<&'a Signal>

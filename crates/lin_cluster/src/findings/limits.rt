@@ -63,10 +63,7 @@ fn table_limits(found: &mut Vec<Finding>, tables: &[Table]) -> Result<(), AllocE
 fn responder_limits(found: &mut Vec<Finding>, known: &Known) -> Result<(), AllocError>
     ensures { OnOk result (found.new.items ≡ found.old.items ++ responder_limits known.now) }
 {
-    let description = known.description();
-    let slaves = description.slaves();
-    push_when(found, slaves.is_empty(), at_name(17, description.master()))?;
-    past(found, slaves, 15)
+    past(found, known.description().slaves(), 15)
 }
 
 fn frame_limits(found: &mut Vec<Finding>, known: &Known) -> Result<(), AllocError>

@@ -163,9 +163,7 @@ fn bad_members_in(
 ) -> Result<(), AllocError>
     ensures { OnOk result (found.new.items ≡ found.old.items ++ bad_members_in judged.now event.now) }
 {
-    let members = event.members.as_slice();
-    push_when(found, members.is_empty(), at_name(13, &event.name))?;
-    bad_members_among(alloc, found, judged, members)
+    bad_members_among(alloc, found, judged, event.members.as_slice())
 }
 
 fn bad_members_in_each(
@@ -231,9 +229,7 @@ fn bad_sporadics_of(
 ) -> Result<(), AllocError>
     ensures { OnOk result (found.new.items ≡ found.old.items ++ bad_sporadics_in judged.now frame.now) }
 {
-    let members = frame.members.as_slice();
-    push_when(found, members.is_empty(), at_name(14, &frame.name))?;
-    bad_sporadics_at(found, judged, members)
+    bad_sporadics_at(found, judged, frame.members.as_slice())
 }
 
 fn bad_sporadics_in(

@@ -144,3 +144,28 @@ fn commander_has_no_address(rt: HostRuntime) -> Result<(), Fail> {
     let text = joined(rt.alloc(), &[HEADER, COMMANDERS_ADDRESS])?;
     expect_cluster(&rt, rt.alloc(), &text, has_address_of_responder)
 }
+
+/// Frames that the responder s, of LIN 1.3, sends or reads, and others.
+const FRAMES_OF_LIN_1: &[u8] = b"Signals { a: 8, 0, m, t, s; b: 8, 0, m, t; }
+Frames { A: 1, m, 1 { a, 0; } B: 2, m, 1 { b, 0; } F: 3, s, 2 { } G: 4, t, 2 { } }
+Event_triggered_frames { E: T, 5, F; K: T, 6, G; }
+Node_attributes { s { LIN_protocol = \"1.3\"; } }
+Schedule_tables { T { MasterReq delay 10 ms; } }
+";
+
+fn has_models(cluster: &Cluster) -> bool {
+    cluster.frames() == 4
+        && cluster.events() == 2
+        && cluster.model(0) == SumKind::Classic
+        && cluster.model(1) == SumKind::Enhanced
+        && cluster.model(2) == SumKind::Classic
+        && cluster.model(3) == SumKind::Enhanced
+        && cluster.event_model(0) == SumKind::Classic
+        && cluster.event_model(1) == SumKind::Enhanced
+}
+
+#[test]
+fn checksum_models(rt: HostRuntime) -> Result<(), Fail> {
+    let text = joined(rt.alloc(), &[HEADER, FRAMES_OF_LIN_1])?;
+    expect_cluster(&rt, rt.alloc(), &text, has_models)
+}

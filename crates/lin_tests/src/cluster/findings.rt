@@ -55,6 +55,7 @@ Frames { F: 1, x, 1 { } } => 7:16 1
 Frames { F: 1, m, 1 { a, 0; } } => 7:23 1
 Signals { a: 8, 0, m, s; } Frames { F: 1, m, 2 { a, 0; a, 8; } } => 7:59 7
 Frames { F: 1, s, 2 { } G: 2, m, 2 { } } Event_triggered_frames { E: T, 6, F, G; } => 7:79 13
+Frames { F: 1, s, 2 { } G: 2, t, 2 { } } Node_attributes { s { LIN_protocol = 1.3; } } Event_triggered_frames { E: T, 6, F, G; } => 7:125 18
 Frames { F: 1, s, 2 { } } Event_triggered_frames { E: T, 6, x; } => 7:61 1
 Frames { F: 1, s, 2 { } } Event_triggered_frames { E: R, 6, F; } => 7:55 1
 Frames { F: 1, m, 2 { } } Sporadic_frames { S: F, x; } => 7:51 1

@@ -1,5 +1,5 @@
 use Rattle.std.proofs.Common.{◌≡◌, ℕ, List, ap, sym, ◌∙◌, subst}
-use Rattle.std.specs.Prelude.{Option, Some, slice_get}
+use Rattle.std.specs.Prelude.{Option, Some, None, slice_get}
 use Rattle.std.specs.Option.{option_copied}
 use Rattle.lin_frame.specs.Words.{choose}
 use Rattle.lin_frame.specs.Bits.{unpacked}
@@ -10,7 +10,7 @@ use Rattle.lin_core.specs.Dues.{frame_by}
 use Rattle.lin_core.specs.Kept.{slot_in}
 use Rattle.lin_core.specs.Signals.{place_in, value_in}
 use Rattle.lin_core.specs.declared.slot.Put.{Put}
-use Rattle.lin_core.proofs.Hearing.{heard-is}
+use Rattle.lin_core.proofs.Hearing.{heard-is, unheard-is}
 use Rattle.lin_core.proofs.heard.hear_slot.Goals as goal
 
 pub returns-in-Some-frame_by-clause-heard : goal.returns-in-Some-frame_by-clause-heard
@@ -27,3 +27,14 @@ returns-in-Some-frame_by-clause-heard c = λ g p s v at.
     c.hear.ensures.heard g p s v at
     ∙ ap (λ (bytes : List ℕ). choose (option_map (λ q. unpacked q (take 8 bytes)) (place_in (frame_of x c.in-Some-frame_by.frame) s)) (g s) (λ y. y)) c.as_slice-in-Some-frame_by.ensures.items
     ∙ ap (λ (o : Option Value). choose o (g s) (λ y. y)) (sym is)
+
+pub returns-in_default-frame_by-clause-heard : goal.returns-in_default-frame_by-clause-heard
+returns-in_default-frame_by-clause-heard c = λ g p s v at.
+    let x = c.args.cluster.now in
+    let slot = c.args.slot.now in
+    let put : Put = c.in-Some-first.put.now in
+    let first : slice_get slot.puts.items 0 ≡ Some put
+    = subst (λ (ps : List Put). slice_get ps 0 ≡ Some put) c.as_slice.ensures.value (sym c.first.ensures.value ∙ ap option_copied c.in-Some-first.is) in
+    let by : frame_by x (line_of x slot.table slot.entry).entry c.in-Some.header put.node ≡ None
+    = rw (← c.entry-entry.ensures) (sym c.frame_by.ensures.frame ∙ c.in_default-frame_by.is) in
+    p s v at ∙ ap (λ (o : Option Value). choose o (g s) (λ y. y)) (sym (unheard-is x slot c.in-Some.header put s c.requires.good c.in-Some.is first by))

@@ -1,0 +1,113 @@
+use Rattle.std.proofs.Common.{refl, ◌≡◌, ◌+◌, [], ◌∷◌, ◌++◌, ap, sym, ◌∙◌, arith}
+use Rattle.lin_core.specs.History.{seen}
+use Rattle.lin_core.specs.Kept.{Keeps, slot_in}
+use Rattle.lin_core.specs.Replies.{finish_events}
+use Rattle.lin_core.specs.Stages.{Stage, stage}
+use Rattle.lin_core.specs.declared.event.Event.TheVariants.{Seen, Lost}
+use Rattle.lin_core.specs.declared.log.LogEntry.{LogEntry}
+use Rattle.std.specs.Prelude.{slice_set, true}
+use Rattle.std.proofs.Math.ListN.{length-set}
+use Rattle.lin_core.specs.Hosts.{settled}
+use Rattle.lin_core.specs.declared.link.Cause.TheVariants.{Damaged}
+use Rattle.lin_core.specs.declared.load.Load.TheVariants.{Carried}
+use Rattle.lin_core.proofs.Settled.{DamagedIs, damaged-inside}
+use Rattle.lin_core.proofs.Settling.{settled-hosts, settled-late}
+use Rattle.lin_core.proofs.FinishCases.{host-carried, known_behind}
+use Rattle.lin_core.specs.KeptLate.{KeepsLate, KeepsMode}
+use Rattle.lin_core.specs.Loads.{load_of}
+use Rattle.lin_core.specs.Passes.{Passes}
+use Rattle.lin_core.proofs.Passing.{finish_of, passed-keeps, passed-mode, passes-as}
+use Rattle.lin_core.proofs.Making.{OpenIs, open-ready, past_in}
+use Rattle.lin_core.specs.KeptHeard.{KeepsHeard}
+use Rattle.lin_core.proofs.Receiving.{carries-frame, heard-same, hurt-heard}
+use Rattle.lin_core.proofs.state.State.finish_damaged.Goals.{After-two_events}
+use Rattle.lin_core.proofs.state.State.finish_damaged.Goals as goal
+
+abbrev here : After-two_events → Stage
+here c = stage c.args.setup.now c.args.log.now c.args.self.now
+
+pub index_mut-host-requires : goal.index_mut-host-requires
+index_mut-host-requires c =
+    let a = stage c.args.setup.now c.args.log.now c.args.self.now in
+    let w = c.requires.ready.whole in
+    let o = open-ready a c.args.by c.requires.ready in
+    let carries = c.requires.carried (slot_in o.slot) o.is in
+    let i = host-carried a.cluster (past_in a) c.args.by (slot_in o.slot) w.sound o.step.known c.args.sender o.is carries.0 in
+    let count = w.kept.hosts_count in
+    let below = i.below in
+    rw c.pass_slot-seen.ensures.hosts (omega arith)
+
+pub overflow_add-number : goal.overflow_add-number
+overflow_add-number c =
+    let a = stage c.args.setup.now c.args.log.now c.args.self.now in
+    let o = open-ready a c.args.by c.requires.ready in
+    let carries = c.requires.carried (slot_in o.slot) o.is in
+    let x = damaged-inside a c.args.by o c.args.sender c.index_mut-host.result.now c.requires.ready.whole carries.0 carries.1 (rw c.pass_slot-seen.ensures.hosts at c.index_mut-host.ensures.value) in
+    let small = x.own.small in
+    omega arith
+
+pub settle-requires : goal.settle-requires
+settle-requires c =
+    let a = stage c.args.setup.now c.args.log.now c.args.self.now in
+    let o = open-ready a c.args.by c.requires.ready in
+    let carries = c.requires.carried (slot_in o.slot) o.is in
+    let x = damaged-inside a c.args.by o c.args.sender c.index_mut-host.result.now c.requires.ready.whole carries.0 carries.1 (rw c.pass_slot-seen.ensures.hosts at c.index_mut-host.ensures.value) in
+    let small = x.own.small in
+    omega arith
+
+opened : (c : After-two_events) → OpenIs (here c) c.args.by
+opened c = open-ready (here c) c.args.by c.requires.ready
+
+carries : (c : After-two_events) → (load_of (slot_in (opened c).slot) ≡ Carried c.args.sender) × ((slot_in (opened c).slot).hurt ≡ true)
+carries c =
+    let o = opened c in
+    c.requires.carried (slot_in o.slot) o.is
+
+damaged : (c : After-two_events) → DamagedIs (here c) c.args.by (opened c) c.requires.ready.whole c.args.sender c.index_mut-host.result.now
+damaged c = damaged-inside (here c) c.args.by (opened c) c.args.sender c.index_mut-host.result.now c.requires.ready.whole (carries c).0 (carries c).1 (rw c.pass_slot-seen.ensures.hosts at c.index_mut-host.ensures.value)
+
+abbrev entry : (c : After-two_events) → LogEntry
+entry c = finish_of (here c) c.args.by
+
+passes : (c : After-two_events) → Passes (here c).cluster (opened c).slot (here c).state c.pass_slot-seen.new.self
+passes c = passes-as (here c).cluster (opened c).slot (here c).state c.pass_slot-seen.new.self (here c).state.receivers c.try_reserve_exact.new.self (c.pass_slot-seen.ensures.passes (opened c).slot (opened c).at)
+
+kept : (c : After-two_events) → Keeps (here c).cluster (here c).opening (here c).capacity ((here c).log ++ entry c ∷ []) (entry c ∷ past_in (here c)) c.pass_slot-seen.new.self.slot c.pass_slot-seen.new.self.time c.pass_slot-seen.new.self.walker (slice_set c.pass_slot-seen.new.self.hosts.items c.args.sender c.settle.new.self) c.pass_slot-seen.new.self.signals
+kept c =
+    let a = here c in
+    let w = c.requires.ready.whole in
+    let o = opened c in
+    let host = c.index_mut-host.result.now in
+    let x = damaged c in
+    let es = finish_events a.cluster c.args.by (past_in a) in
+    rw (c.pass_slot-seen.ensures.hosts, c.settle.ensures)
+    (passed-keeps a c.args.by o c.pass_slot-seen.new.self (slice_set a.state.hosts.items c.args.sender (settled host)) w (passes c)
+    (length-set a.state.hosts.items c.args.sender (settled host))
+    (settled-hosts a.cluster a.capacity a.log (past_in a) (entry c) c.args.sender host a.state.hosts.items w.sound o.step.known (known_behind a.cluster (past_in a) c.args.by es w.sound o.step.known) (x.done.settles es) x.own.here w.kept.each_host))
+
+mode_is : (c : After-two_events) → KeepsMode (here c).cluster (entry c ∷ past_in (here c)) c.pass_slot-seen.new.self.mode
+mode_is c = passed-mode (here c) c.args.by (opened c) c.pass_slot-seen.new.self c.requires.ready.whole (passes c)
+
+late : (c : After-two_events) → KeepsLate (here c).cluster (entry c ∷ past_in (here c)) c.pass_slot-seen.new.self.mode (slice_set c.pass_slot-seen.new.self.hosts.items c.args.sender c.settle.new.self)
+late c =
+    let a = here c in
+    let w = c.requires.ready.whole in
+    let o = opened c in
+    let host = c.index_mut-host.result.now in
+    let x = damaged c in
+    let es = finish_events a.cluster c.args.by (past_in a) in
+    rw (c.pass_slot-seen.ensures.hosts, c.settle.ensures)
+    (settled-late a.cluster (past_in a) (entry c) c.args.sender host a.state.mode c.pass_slot-seen.new.self.mode a.state.hosts.items w.sound o.step.known (known_behind a.cluster (past_in a) c.args.by es w.sound o.step.known) (x.done.settles es) x.own.here (λ y. refl) (mode_is c) w.late)
+
+heard : (c : After-two_events) → KeepsHeard (here c).cluster (entry c ∷ past_in (here c)) c.pass_slot-seen.new.self.receivers.items
+heard c =
+    let a = here c in
+    let w = c.requires.ready.whole in
+    let o = opened c in
+    let past = past_in a in
+    let i = carries-frame a.cluster past c.args.by w.sound o.step.known (slot_in o.slot) c.args.sender o.is (carries c).0 in
+    rw c.pass_slot-seen.ensures.receivers
+    (heard-same a.cluster past (entry c ∷ past) a.state.receivers.items (hurt-heard a.cluster past c.args.by o.step.known (slot_in o.slot) c.args.sender i (carries c).1 (finish_events a.cluster c.args.by past)) w.heard)
+
+pub returns : goal.returns
+returns c = record { told = c.two_events.ensures ∙ ap (λ (s : _). Seen s ∷ Lost c.args.sender (c.index_mut-host.result.now.settled + 1) Damaged ∷ []) (c.pass_slot-seen.ensures.seen (opened c).slot (opened c).at) ∙ sym (damaged c).done.told; empty = rw c.replace-room.ensures.after c.new.ensures.items; kept = kept c; late = late c; heard = heard c }

@@ -1,0 +1,100 @@
+-- No file ends in a stop: its last token is a closing brace.
+use Rattle.std.proofs.Common.{◌≡◌, ℕ, zero, suc, true, false, List, [], ◌∷◌, ◌++◌, Option, Some, None, reverse, sym, ap, subst, ◌∙◌, append_assoc}
+use Rattle.std.proofs.lemmas.List.{reverse-append}
+use Rattle.lin_ldf.specs.Symbols.{Symbol, is_kind}
+use Rattle.lin_ldf.specs.Stream.{stop}
+use Rattle.lin_ldf.specs.Forms.{Form, never, as_value, ◌&>◌, ◌<&◌, ◌&=◌}
+use Rattle.lin_ldf.specs.Loops.{Steps, is_next}
+use Rattle.lin_ldf.specs.Words.{block, group, once, close_brace, consed_of}
+use Rattle.lin_ldf.specs.Laws.{Behind, Lawful, Taking, mark_takes, keyword_takes, value_lawful, then_lawful, left_lawful}
+use Rattle.lin_ldf.specs.LoopLaws.{several_lawful}
+use Rattle.lin_ldf.specs.UpToLaws.{up_to_lawful}
+use Rattle.lin_ldf.specs.Grammar.{signal, with_signal, frame, with_frame, sporadic_frame, with_sporadic, event_frame, with_event, attribute_block, with_block, table, with_table, with_signals, with_frames, with_sporadics, with_events, with_attributes, with_tables, section_of, front_section, section, is_end, slaves, nodes, nodes_of, node_names, no_sections}
+use Rattle.lin_ldf.specs.GrammarLaws.{word_takes, declared_takes, other_declared_lawful, header_takes, master_takes, signal_takes, frame_takes, sporadic_frame_takes, event_frame_takes, attribute_block_takes, table_takes}
+use Rattle.lin_ldf.specs.Describes.{Spells}
+use Rattle.lin_ldf.specs.declared.token.TokenKind.TheVariants as kinds
+use Rattle.lin_ldf.specs.declared.section.SectionWord.{SectionWord}
+use Rattle.lin_ldf.specs.declared.section.SectionWord.TheVariants as words_of
+use Rattle.lin_ldf.specs.declared.section.Sections.{Sections}
+use Rattle.lin_description.specs.declared.place.Place.{Place}
+use Rattle.lin_description.specs.declared.description.Name.{Name}
+use Rattle.lin_description.specs.declared.description.Description.{Description}
+
+-- some symbols, the last of them a closing brace, and then the rest
+abbrev Closed : List Symbol → List Symbol → Type 0
+Closed ts rest = (w : List Symbol) × (t : Symbol) × (ts ≡ w ++ t ∷ rest) × (is_kind kinds.CloseBrace t.kind ≡ true)
+
+record Closes {A : Type 0} (f : Form A) : Type 0 where
+  closed : (ts : List Symbol) (a : A) (rest : List Symbol) → f.spells ts a rest → Closed ts rest
+
+after : (ts mid rest : List Symbol) → Behind ts mid → Closed mid rest → Closed ts rest
+after ts mid rest (v, e) (w, t, f, k) = (v ++ w, t, e ∙ ap (λ (x : List Symbol). v ++ x) f ∙ sym (append_assoc v w (t ∷ rest)), k)
+
+as_behind : (ts rest : List Symbol) → Closed ts rest → Behind ts rest
+as_behind ts rest (w, t, e, k) = (w ++ t ∷ [], e ∙ sym (append_assoc w (t ∷ []) rest))
+
+closes_left : {A : Type 0} {f : Form A} → Lawful f → Closes (f <& close_brace)
+closes_left {f = f} p = record { closed = λ ts a rest h. after ts h.0 rest (p.behind ts a h.0 h.2) ([], h.3.0, h.3.1, h.3.2) }
+
+closes_right : {A B : Type 0} {f : Form A} {g : Form B} → Lawful f → Closes g → Closes (f &> g)
+closes_right {f = f} {g = g} p q = record { closed = λ ts b rest h. after ts h.1 rest (p.behind ts h.0 h.1 h.2) (q.closed h.1 b rest h.3) }
+
+closes_then : {A B : Type 0} {f : Form A} {g : A → Form B} → Lawful f → ((a : A) → Closes (g a)) → Closes (f &= g)
+closes_then {f = f} {g = g} p q = record { closed = λ ts ab rest h. after ts h.0 rest (p.behind ts ab.0 h.0 h.1) ((q ab.0).closed h.0 ab.1 rest h.2) }
+
+closes_value : {A B : Type 0} {f : Form A} (make : A → B) → Closes f → Closes (as_value make f)
+closes_value {f = f} make q = record { closed = λ ts b rest h. q.closed ts h.0 rest h.1 }
+
+never_closes : {A : Type 0} → Closes (never {A = A})
+never_closes {A} = record { closed = λ ts a rest h. absurd h }
+
+closes_once : {A B : Type 0} (o : Option A) {f : Form B} → Closes f → Closes (once o f)
+closes_once None q = q
+closes_once (Some x) q = never_closes
+
+block_closes : {A S : Type 0} (next : S → A → S) (f : S → Form A) → ((s : S) → Taking (f s)) → (s : S) → Closes (block next f s)
+block_closes next f p s = closes_right (mark_takes kinds.OpenBrace).lawful (closes_left (several_lawful (is_next kinds.CloseBrace) next f p s))
+
+group_closes : Closes group
+group_closes = closes_right (mark_takes kinds.OpenBrace).lawful (closes_left (up_to_lawful kinds.CloseBrace))
+
+slaves_close : (m : Name) → Closes (slaves m)
+slaves_close m = closes_right (keyword_takes _).lawful (closes_right (mark_takes kinds.Colon).lawful
+    (closes_left (left_lawful (value_lawful consed_of (then_lawful (declared_takes (m.text ∷ [])).lawful (λ n. other_declared_lawful (m.text ∷ n.text ∷ [])))) (mark_takes kinds.Semicolon).lawful)))
+
+nodes_close : Closes nodes
+nodes_close = closes_value nodes_of (closes_then master_takes.lawful (λ m. slaves_close m.0))
+
+section_closes : (s : Sections) (w : SectionWord) → Closes (section_of w s)
+section_closes s words_of.Signals = closes_once s.signals (closes_value (with_signals s) (closes_right (keyword_takes _).lawful (block_closes with_signal signal signal_takes [])))
+section_closes s words_of.Frames = closes_once s.frames (closes_value (with_frames s) (closes_right (keyword_takes _).lawful (block_closes with_frame frame frame_takes s.frame_names)))
+section_closes s words_of.Sporadic = closes_once s.sporadic (closes_value (with_sporadics s) (closes_right (keyword_takes _).lawful (block_closes with_sporadic sporadic_frame sporadic_frame_takes s.frame_names)))
+section_closes s words_of.Event = closes_once s.events (closes_value (with_events s) (closes_right (keyword_takes _).lawful (block_closes with_event event_frame event_frame_takes s.frame_names)))
+section_closes s words_of.Attributes = closes_once s.attributes (closes_value (with_attributes s) (closes_right (keyword_takes _).lawful (block_closes with_block attribute_block attribute_block_takes s.blocks)))
+section_closes s words_of.Tables = closes_once s.tables (closes_value (with_tables s) (closes_right (keyword_takes _).lawful (block_closes with_table table table_takes [])))
+section_closes s words_of.Nodes = never_closes
+section_closes s words_of.Unused = closes_value (λ u. s) (closes_right word_takes.lawful group_closes)
+
+steps_close : (n : ℕ) (whole : List Symbol) (s : Sections) (ts : List Symbol) (last : Sections) (rest : List Symbol) → Closed whole ts → Steps is_end (λ x. (section x).spells) n s ts last rest → Closed whole rest
+steps_close zero whole s ts last rest c h = subst (Closed whole) (sym h.2) c
+steps_close (suc n) whole s ts last rest c h =
+    steps_close n whole h.1 h.2 last rest (after whole ts h.2 (as_behind whole ts c) ((section_closes s (front_section ts)).closed ts h.1 h.2 h.3)) h.4
+
+file_closes : (ss : List Symbol) (d : Description) → Spells ss d → Closed ss []
+unfolding Spells
+file_closes ss d h =
+    let first = h.1.1 in
+    let begun : Closed ss h.1.0 = after ss first.0 h.1.0 (header_takes.lawful.behind ss h.0.0.0 first.0 first.1) (nodes_close.closed first.0 h.0.0.1 h.1.0 first.2) in
+    steps_close h.1.2.0 ss (no_sections (node_names h.0.0.1)) h.1.0 h.0.1 [] begun h.1.2.1
+
+same_last : (xs ys : List Symbol) (s t : Symbol) → xs ++ s ∷ [] ≡ ys ++ t ∷ [] → s ≡ t
+same_last xs ys s t e =
+    let turned : s ∷ reverse xs ≡ t ∷ reverse ys = sym (reverse-append xs (s ∷ [])) ∙ ap (λ (x : List Symbol). reverse x) e ∙ reverse-append ys (t ∷ []) in
+    cc
+
+pub never_stops : (ss xs : List Symbol) (p : Place) (d : Description) → Spells ss d → ss ≡ xs ++ stop p ∷ [] → ⊥
+never_stops ss xs p d h e =
+    let c = file_closes ss d h in
+    let same : c.1 ≡ stop p = same_last c.0 xs c.1 (stop p) (sym c.2 ∙ e) in
+    let bad : false ≡ true = sym (ap (λ (t : Symbol). is_kind kinds.CloseBrace t.kind) same) ∙ c.3 in
+    absurd cc

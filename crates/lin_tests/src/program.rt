@@ -1,0 +1,73 @@
+//! What the program does with readers and writers that tell their bytes, and with such as fail.
+
+use crate::log::fakes::Broken;
+use crate::samples::{BODY_CLUSTER, DOOR_CLUSTER, cluster_of, expect_text};
+use lin_tool::{Fault, cluster_of_reader, opening_table, read_text, replay_script, write_list};
+use std::alloc::Global;
+use std::io::ErrorKind;
+use std::process::Abort;
+use std::test::Fail;
+
+fn cluster_text(alloc: Global, mut rest: &[u8]) -> Result<Vec<u8>, Fault> {
+    let cluster = cluster_of_reader(alloc, &mut rest)?;
+    let mut text = Vec::new(alloc);
+    write_list(alloc, &cluster, &mut text)?;
+    Ok(text)
+}
+
+#[test]
+fn body_cluster_is_listed(rt: HostRuntime) {
+    let listed = match cluster_text(rt.alloc(), BODY_CLUSTER) {
+        Ok(text) => text,
+        Err(_) => Vec::new(rt.alloc()),
+    };
+    let wanted = b"node 0 cem -\nnode 1 door 1\nsignal 0 pos\ntable 0 T 2\n";
+    expect_text(&rt, &listed, wanted, "the list");
+}
+
+fn replayed(alloc: Global, script: &[u8]) -> Result<Vec<u8>, Fault> {
+    let mut rest = DOOR_CLUSTER;
+    let mut reader = script;
+    let mut text = Vec::new(alloc);
+    let cluster = cluster_of_reader(alloc, &mut rest)?;
+    let table = opening_table(&cluster, None)?;
+    replay_script(alloc, cluster, table, 16, &mut reader, &mut text)?;
+    Ok(text)
+}
+
+#[test]
+fn script_is_replayed(rt: HostRuntime) {
+    let log = match replayed(rt.alloc(), b"bus open\nbus finish\n") {
+        Ok(text) => text,
+        Err(_) => Vec::new(rt.alloc()),
+    };
+    let wanted = b"bus open\n> slot 0 0 -\nbus finish\n> seen silent\n";
+    expect_text(&rt, &log, wanted, "the log");
+    let bad = replayed(rt.alloc(), b"bus open\nbus shut\n");
+    assert!(rt; matches!(bad, Err(Fault::BadLine { line: 2 })));
+}
+
+#[test]
+fn file_is_read_once_where_that_fails(rt: HostRuntime) {
+    for kind in [ErrorKind::OutOfMemory, ErrorKind::Interrupted] {
+        let mut reader = Broken {
+            kind: Some(kind),
+            calls: 0,
+        };
+        let text = read_text(rt.alloc(), &mut reader);
+        assert!(rt; matches!(text, Err(Fault::ReadFailed)));
+        assert!(rt; reader.calls == 1);
+    }
+}
+
+#[test]
+fn list_is_written_once_where_that_fails(rt: HostRuntime) -> Result<(), Fail> {
+    let cluster = cluster_of(rt.alloc(), BODY_CLUSTER)?;
+    for kind in [Some(ErrorKind::Interrupted), None] {
+        let mut writer = Broken { kind, calls: 0 };
+        let listed = write_list(rt.alloc(), &cluster, &mut writer);
+        assert!(rt; matches!(listed, Err(Fault::WriteFailed)));
+        assert!(rt; writer.calls == 1);
+    }
+    Ok(())
+}

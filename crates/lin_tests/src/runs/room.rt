@@ -1,0 +1,41 @@
+//! Room for a step behind a long log.
+
+use super::state;
+use crate::samples::{DOOR_CLUSTER, core_of};
+use lin_core::{Core, Payload, PortId, Step};
+use std::alloc::Global;
+use std::process::Abort;
+use std::test::Fail;
+
+/// Makes room for a step, and makes it.
+fn expect_step(rt: &impl Abort, core: &mut Core, by: PortId, step: Step) -> Result<(), Fail> {
+    core.make_room()?;
+    assert!(rt; core.step(by, step).is_ok());
+    Ok(())
+}
+
+/// A message of one byte: its send, its slot, and the schedule from its first entry again.
+fn expect_message(rt: &impl Abort, alloc: Global, core: &mut Core) -> Result<(), Fail> {
+    let message = Payload::new([1].to_vec(alloc)?);
+    let send = Step::Send {
+        from: 0,
+        to: 1,
+        message,
+    };
+    expect_step(rt, core, PortId::Host(0), send)?;
+    expect_step(rt, core, PortId::Bus, Step::Open)?;
+    expect_step(rt, core, PortId::Node(0), Step::Answer { node: 0 })?;
+    expect_step(rt, core, PortId::Bus, Step::Finish)?;
+    expect_step(rt, core, PortId::Bus, Step::Switch { table: 0 })
+}
+
+#[test]
+fn room_behind_a_long_log(rt: HostRuntime) -> Result<(), Fail> {
+    let mut core = core_of(rt.alloc(), DOOR_CLUSTER, 0)?;
+    for _ in 0..20_000 {
+        expect_message(&rt, rt.alloc(), &mut core)?;
+    }
+    assert!(rt; core.log().len() == 100_000);
+    assert!(rt; state(&core) == (200_000_000, 0, 0));
+    Ok(())
+}

@@ -1,0 +1,11 @@
+//! Tests of whole runs, with threads.
+#![tactic(auto)]
+
+#[cfg(test)]
+mod bench;
+#[cfg(test)]
+mod meeting;
+#[cfg(test)]
+mod rows;
+#[cfg(test)]
+mod split;

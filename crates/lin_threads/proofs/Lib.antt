@@ -1,0 +1,4 @@
+pub mod StateLemmas
+pub mod RunLemmas
+pub mod ScriptLemmas
+pub mod SplitLemmas

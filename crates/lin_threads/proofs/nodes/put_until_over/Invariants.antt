@@ -1,0 +1,5 @@
+use Rattle.lin_threads.specs.States.{IsFurther, node_state}
+use Rattle.lin_threads.proofs.nodes.put_until_over.Given as goal
+
+abbrev pub invariant-loop : goal.invariant-loop
+invariant-loop l = IsFurther (node_state l.initial.port) (node_state l.port)

@@ -1,0 +1,35 @@
+use Rattle.std.proofs.Common.{List, subst, ◌∙◌, arith}
+use Rattle.std.specs.List.{AllZip}
+use Rattle.lin_ports.specs.Pumps.{since}
+use Rattle.lin_threads.specs.Runs.{IsSettledAs, bus_steps}
+use Rattle.lin_threads.specs.States.{IsReceiptFrom, IsSettledReceipt, PortState, handed_in}
+use Rattle.lin_threads.proofs.RunLemmas.{advances_quiet}
+use Rattle.lin_threads.proofs.StateLemmas.{lent_count, receipts_wired, settled_receipt, zip_join}
+use Rattle.lin_threads.proofs.runs.run.Goals as goal
+
+pub settle_all-requires-clause-wired : goal.settle_all-requires-clause-wired
+settle_all-requires-clause-wired g c =
+    let p = c.args.players in
+    let driven = c.in_default-drive.ensures in
+    receipts_wired c.drive.new.pump p.hosts.items p.nodes.items c.join_all.new.receipts.items (driven.advances.pump.ports ∙ c.requires.ports)
+    (subst (λ (ports : List PortState). AllZip IsReceiptFrom ports c.join_all.new.receipts.items) driven.lent c.join_all.ensures.receipts)
+
+pub returns-clause-advances : goal.returns-clause-advances
+returns-clause-advances g c =
+    advances_quiet c.args.pump.now c.drive.new.pump c.settle_all.new.pump (bus_steps c.args.plan.hurt.items c.args.plan.slots) c.in_default-drive.ensures.advances c.in_ok-settle_all.ensures.advances
+
+pub returns-clause-receipts : goal.returns-clause-receipts
+returns-clause-receipts g c =
+    let p = c.args.players in
+    let pump = c.settle_all.new.pump in
+    zip_join IsReceiptFrom (IsSettledAs pump) (IsSettledReceipt (since pump)) (handed_in p.hosts.items p.nodes.items) c.join_all.new.receipts.items c.settle_all.new.settled.items (settled_receipt pump)
+    (subst (λ (ports : List PortState). AllZip IsReceiptFrom ports c.join_all.new.receipts.items) c.in_default-drive.ensures.lent c.join_all.ensures.receipts) c.in_ok-settle_all.ensures.settled
+
+pub returns-clause-ended : goal.returns-clause-ended
+returns-clause-ended g c =
+    let p = c.args.players in
+    let threads = c.drive.new.threads in
+    let count = lent_count threads.items p.hosts.items p.nodes.items c.in_default-drive.ensures.lent in
+    let a = threads.ok in
+    let b = p.hosts.ok in
+    omega (arith, c.truncate.ensures.len, c.join_all.ensures.ended, c.requires.tasks)

@@ -1,0 +1,49 @@
+//! The threads of hosts.
+
+ghost use Rattle.lin_threads.specs.States.{IsFurther, host_state, receipt_state};
+
+use crate::runs::Ended;
+use crate::shared::Shared;
+use crate::starting::Finished;
+use crate::tasks::{HostTask, Turn};
+use lin_ports::HostPort;
+use std::alloc::Global;
+use std::sync::Arc;
+use std::thread;
+
+/// Gives a task its turns on its port: until it is done, or had as many as it may take, or the run ends early.
+fn take_turns(
+    mut task: Box<dyn HostTask + Send>,
+    port: &mut HostPort,
+    shared: &Shared,
+    turns: u32,
+) -> Ended
+    ensures { IsFurther (host_state port.old) (host_state port.new) }
+{
+    for _ in 0..turns {
+        if shared.is_stopped() {
+            return Ended::Limit;
+        }
+        let over = shared.is_over();
+        match task.turn(port, over) {
+            Turn::Done => return Ended::Done,
+            Turn::Again => thread::yield_now(),
+        }
+    }
+    Ended::Limit
+}
+
+/// The whole of a host's thread.
+pub(crate) fn run_task(
+    task: Box<dyn HostTask + Send>,
+    mut port: HostPort,
+    shared: Arc<Shared, Global>,
+    turns: u32,
+) -> Finished
+    ensures { IsFurther (host_state port) (receipt_state result.receipt) }
+{
+    let ended = take_turns(task, &mut port, &shared, turns);
+    let receipt = port.end();
+    shared.end();
+    Finished { receipt, ended }
+}

@@ -1,0 +1,84 @@
+//! The slots of a run.
+
+ghost use Rattle.std.specs.Prelude.{◌∷◌, [], OnOk};
+ghost use Rattle.lin_threads.specs.Runs.{Advances, bus_steps, damage, slot_steps};
+
+use crate::runs::RunFault;
+use lin_core::{Payload, Step};
+use lin_ports::Pump;
+use std::alloc::Global;
+use std::thread;
+
+/// Makes a step of the bus.
+fn own(pump: &mut Pump, step: Step) -> Result<(), RunFault>
+    ensures { OnOk result (Advances pump.old pump.new (step ∷ [])) }
+{
+    match pump.own(step) {
+        Ok(()) => Ok(()),
+        Err(hold) => Err(RunFault::from(hold)),
+    }
+}
+
+/// Makes rounds until one was made and each node that is due has answered or left its response out, or until so many
+/// were made.
+fn make_rounds(pump: &mut Pump, rounds: u32) -> Result<(), RunFault>
+    ensures { OnOk result (Advances pump.old pump.new []) }
+{
+    for _ in 0..rounds {
+        if let Err(fault) = pump.round() {
+            return Err(RunFault::from(fault));
+        }
+        if pump.core().undecided() == 0 {
+            return Ok(());
+        }
+        thread::yield_now();
+    }
+    Ok(())
+}
+
+/// Damages the response of the slot with this number, where the plan names it.
+fn hurt_slot(alloc: Global, pump: &mut Pump, number: u32, hurt: &[u32]) -> Result<(), RunFault>
+    ensures { OnOk result (Advances pump.old pump.new (damage hurt.now number)) }
+{
+    if !hurt.contains(&number) {
+        return Ok(());
+    }
+    own(
+        pump,
+        Step::Hurt {
+            bytes: Payload::new(Vec::new(alloc)),
+        },
+    )
+}
+
+/// Makes the slot with this number.
+fn one_slot(
+    alloc: Global,
+    pump: &mut Pump,
+    number: u32,
+    rounds: u32,
+    hurt: &[u32],
+) -> Result<(), RunFault>
+    ensures { OnOk result (Advances pump.old pump.new (slot_steps hurt.now number)) }
+{
+    own(pump, Step::Open)?;
+    make_rounds(pump, rounds)?;
+    hurt_slot(alloc, pump, number, hurt)?;
+    own(pump, Step::Finish)
+}
+
+/// Makes so many slots, of which each has at most so many rounds.
+pub(crate) fn all_slots(
+    alloc: Global,
+    pump: &mut Pump,
+    slots: u32,
+    rounds: u32,
+    hurt: &[u32],
+) -> Result<(), RunFault>
+    ensures { OnOk result (Advances pump.old pump.new (bus_steps hurt.now slots)) }
+{
+    for number in 0..slots {
+        one_slot(alloc, pump, number, rounds, hurt)?;
+    }
+    Ok(())
+}

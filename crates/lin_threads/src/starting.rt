@@ -1,0 +1,175 @@
+//! Starting the threads of a run, and joining them.
+
+ghost use Rattle.std.specs.Prelude.{◌≡◌, ◌≤◌, ◌+◌, ◌++◌, [], map, IfOk, OnOk, vec_len};
+ghost use Rattle.std.specs.List.{AllZip};
+ghost use Rattle.std.specs.Vec.{vec_capacity};
+ghost use Rattle.lin_threads.specs.States.{IsFurther, IsReceiptFrom, handed_in, host_state, node_state, receipt_state};
+ghost use Rattle.lin_threads.specs.Started.{lent, all_lent};
+
+use crate::hosts::run_task;
+use crate::nodes::run_node;
+use crate::runs::{Ended, RunFault};
+use crate::shared::Shared;
+use crate::tasks::HostTask;
+use lin_ports::{HostPort, NodePort, Receipt};
+use std::alloc::Global;
+use std::snapshot::Snapshot;
+use std::sync::Arc;
+use std::thread;
+use std::thread::{Promise, PromisedHandle, Threads};
+
+/// What the thread of a port hands back.
+#[derive(Drop)]
+pub(crate) struct Finished {
+    pub(crate) receipt: Receipt,
+    pub(crate) ended: Ended,
+}
+
+/// The promise of a port's thread: the receipt that it hands back is that of the port that it was lent, further on.
+#[derive(Drop)]
+pub(crate) enum Keeps {
+    Host(Snapshot<HostPort>),
+    Node(Snapshot<NodePort>),
+}
+
+impl Promise<Finished> for Keeps {
+    ghost use Rattle.lin_threads.specs.States.{IsFurther, receipt_state};
+    ghost use Rattle.lin_threads.specs.Started.{lent};
+
+    ghost kept_by = { λ p f. IsFurther (lent p) (receipt_state f.receipt) };
+}
+
+/// The threads that were started, and what they share.
+pub(crate) type Handle = PromisedHandle<Finished, Keeps>;
+
+/// Starts the thread of a host.
+fn start_host(
+    rt: &impl Threads,
+    port: HostPort,
+    task: Box<dyn HostTask + Send>,
+    turns: u32,
+    shared: Arc<Shared, Global>,
+) -> Result<Handle, RunFault>
+    ensures { IfOk result (λ h. lent h.promise ≡ host_state port) }
+{
+    let promise = Keeps::Host(Snapshot::of(&port));
+    let started = thread::spawn_with(
+        rt,
+        promise,
+        move || -> Finished
+            ensures { IsFurther (host_state port) (receipt_state result.receipt) }
+        { run_task(task, port, shared, turns) },
+    );
+    match started {
+        Ok(handle) => Ok(handle),
+        Err(_) => Err(RunFault::NoThread),
+    }
+}
+
+/// Starts the thread of a node.
+fn start_node(
+    rt: &impl Threads,
+    port: NodePort,
+    leave: Vec<u32>,
+    shared: Arc<Shared, Global>,
+) -> Result<Handle, RunFault>
+    ensures { IfOk result (λ h. lent h.promise ≡ node_state port) }
+{
+    let promise = Keeps::Node(Snapshot::of(&port));
+    let started = thread::spawn_with(
+        rt,
+        promise,
+        move || -> Finished
+            ensures { IsFurther (node_state port) (receipt_state result.receipt) }
+        { run_node(port, leave, shared) },
+    );
+    match started {
+        Ok(handle) => Ok(handle),
+        Err(_) => Err(RunFault::NoThread),
+    }
+}
+
+/// Another owner of what the threads share.
+fn another(shared: &Arc<Shared, Global>) -> Result<Arc<Shared, Global>, RunFault> {
+    match Arc::try_clone(shared) {
+        Ok(own) => Ok(own),
+        Err(_) => Err(RunFault::NoThread),
+    }
+}
+
+/// Starts the threads of hosts.
+pub(crate) fn start_hosts(
+    rt: &impl Threads,
+    started: &mut Vec<Handle>,
+    ports: Vec<HostPort>,
+    tasks: Vec<Box<dyn HostTask + Send>>,
+    turns: u32,
+    shared: &Arc<Shared, Global>,
+) -> Result<(), RunFault>
+    requires tasks { vec_len tasks ≡ vec_len ports }
+    requires room { vec_len started.old + vec_len ports ≤ vec_capacity started.old }
+    ensures lent { OnOk result
+        (all_lent started.new.items ≡ all_lent started.old.items ++ map host_state ports.items) }
+    ensures room { OnOk result (vec_capacity started.new ≡ vec_capacity started.old) }
+{
+    let mut tasks = tasks.into_iter();
+    for port in ports {
+        let Some(task) = tasks.next() else {
+            unreachable!()
+        };
+        let handle = start_host(rt, port, task, turns, another(shared)?)?;
+        started.push_reserved(handle);
+    }
+    Ok(())
+}
+
+/// Starts the threads of nodes.
+pub(crate) fn start_nodes(
+    rt: &impl Threads,
+    started: &mut Vec<Handle>,
+    ports: Vec<NodePort>,
+    leave: Vec<Vec<u32>>,
+    shared: &Arc<Shared, Global>,
+) -> Result<(), RunFault>
+    requires leave { vec_len leave ≡ vec_len ports }
+    requires room { vec_len started.old + vec_len ports ≤ vec_capacity started.old }
+    ensures lent { OnOk result
+        (all_lent started.new.items ≡ all_lent started.old.items ++ map node_state ports.items) }
+{
+    let mut leave = leave.into_iter();
+    for port in ports {
+        let Some(list) = leave.next() else {
+            unreachable!()
+        };
+        let handle = start_node(rt, port, list, another(shared)?)?;
+        started.push_reserved(handle);
+    }
+    Ok(())
+}
+
+/// Joins the threads in order.
+pub(crate) fn join_all(
+    rt: &impl Threads,
+    started: Vec<Handle>,
+    receipts: &mut Vec<Receipt>,
+    ended: &mut Vec<Ended>,
+)
+    requires none { (receipts.old.items ≡ []) × (ended.old.items ≡ []) }
+    requires room { (vec_len started ≤ vec_capacity receipts.old) × (vec_len started ≤ vec_capacity ended.old) }
+    ensures receipts { AllZip IsReceiptFrom (all_lent started.items) receipts.new.items }
+    ensures count { vec_len receipts.new ≡ vec_len started }
+    ensures ended { vec_len ended.new ≡ vec_len started }
+{
+    for handle in started {
+        let finished = handle.join(rt);
+        receipts.push_reserved(finished.receipt);
+        ended.push_reserved(finished.ended);
+    }
+}
+
+/// Joins the threads of a run that ended early.
+pub(crate) fn give_up(rt: &impl Threads, started: Vec<Handle>) {
+    for handle in started {
+        handle.join(rt);
+    }
+}

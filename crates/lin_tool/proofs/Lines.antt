@@ -1,0 +1,27 @@
+-- Lines of numbered things, one more at a time.
+use Rattle.std.proofs.Common.{◌≡◌, ℕ, zero, suc, ◌+◌, ◌<◌, List, [], ◌∷◌, ◌++◌, length, take, get_or, sym, ap, ◌∙◌, append_assoc, append-nil, add-one, arith}
+use Rattle.lin_tool.specs.Listing.{numbered}
+
+numbered-next_suc : {X : Type 0} (f : ℕ → X → List ℕ) (n : ℕ) (xs : List X) (i : ℕ) (d : X) → i < length xs
+    → numbered f n (take (suc i) xs) ≡ numbered f n (take i xs) ++ f (n + i) (get_or xs i d)
+numbered-next_suc f n [] i d h = absurd (omega arith)
+numbered-next_suc f n (x ∷ xs) zero d h =
+    let same : n ≡ n + 0 = omega arith in
+    append-nil (f n x) ∙ ap (λ k. f k x) same
+numbered-next_suc f n (x ∷ xs) (suc i) d h =
+    ap (λ l. f n x ++ l) (numbered-next_suc f (n + 1) xs i d (omega arith))
+    ∙ sym (append_assoc (f n x) (numbered f (n + 1) (take i xs)) (f (n + 1 + i) (get_or xs i d)))
+    ∙ ap (λ k. (f n x ++ numbered f (n + 1) (take i xs)) ++ f k (get_or xs i d)) (omega arith)
+
+numbered-next : {X : Type 0} (f : ℕ → X → List ℕ) (xs : List X) (i : ℕ) (d : X) → i < length xs
+    → numbered f 0 (take (i + 1) xs) ≡ numbered f 0 (take i xs) ++ f i (get_or xs i d)
+numbered-next f xs i d h =
+    let same : 0 + i ≡ i = omega arith in
+    rw (add-one) (numbered-next_suc f 0 xs i d h ∙ ap (λ k. numbered f 0 (take i xs) ++ f k (get_or xs i d)) same)
+
+-- what stands behind a text, and one line more
+pub lines-next : {X : Type 0} (f : ℕ → X → List ℕ) (xs : List X) (i : ℕ) (d : X) (old text more : List ℕ) → i < length xs
+    → text ≡ old ++ numbered f 0 (take i xs) → more ≡ text ++ f i (get_or xs i d) → more ≡ old ++ numbered f 0 (take (i + 1) xs)
+lines-next f xs i d old text more h e g =
+    g ∙ ap (λ l. l ++ f i (get_or xs i d)) e ∙ append_assoc old (numbered f 0 (take i xs)) (f i (get_or xs i d))
+    ∙ ap (λ l. old ++ l) (sym (numbered-next f xs i d h))

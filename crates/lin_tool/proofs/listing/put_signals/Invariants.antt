@@ -1,0 +1,6 @@
+use Rattle.std.proofs.Common.{◌≡◌, ◌++◌, take}
+use Rattle.lin_tool.specs.Listing.{signal_line, numbered}
+use Rattle.lin_tool.proofs.listing.put_signals.Given as goal
+
+abbrev pub invariant-loop-signal : goal.invariant-loop-signal
+invariant-loop-signal l = l.text.items ≡ l.initial.text.items ++ numbered signal_line 0 (take l.signal l.fn.cluster.signals)

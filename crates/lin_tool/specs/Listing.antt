@@ -1,0 +1,41 @@
+-- What a cluster has, as lines.
+use Rattle.std.specs.Prelude.{◌≡◌, ℕ, ◌+◌, List, [], ◌∷◌, ◌++◌, length, Option, Some, None, Result, Ok, Err, codes}
+use Rattle.std.specs.Fmt.{decimal}
+use Rattle.std.specs.Io.KnownBytes.{Appends, Keeps}
+use Rattle.lin_parts.specs.declared.parts.Node.{Node}
+use Rattle.lin_parts.specs.declared.parts.Parts.{Parts}
+use Rattle.lin_parts.specs.declared.parts.Signal.{Signal}
+use Rattle.lin_parts.specs.declared.parts.Table.{Table}
+use Rattle.lin_log.specs.Words.{line}
+use Rattle.lin_tool.specs.declared.fault.Fault.{Fault}
+use Rattle.lin_tool.specs.declared.fault.Fault.TheVariants.{OutOfMemory, WriteFailed}
+
+-- a diagnostic address, and `-` for none
+abbrev pub address_word : Option ℕ → List ℕ
+address_word None = codes "-"
+address_word (Some nad) = decimal nad
+
+abbrev pub node_line : ℕ → Node → List ℕ
+node_line n node = line (codes "node" ∷ decimal n ∷ node.name ∷ address_word node.nad ∷ [])
+
+abbrev pub signal_line : ℕ → Signal → List ℕ
+signal_line n signal = line (codes "signal" ∷ decimal n ∷ signal.name ∷ [])
+
+abbrev pub table_line : ℕ → Table → List ℕ
+table_line n table = line (codes "table" ∷ decimal n ∷ table.name ∷ decimal (length table.lines) ∷ [])
+
+-- the lines of things that are numbered from n on
+abbrev pub numbered : {X : Type 0} → (ℕ → X → List ℕ) → ℕ → List X → List ℕ
+numbered f n [] = []
+numbered f n (x ∷ xs) = f n x ++ numbered f (n + 1) xs
+
+-- a line for each node, for each signal and for each schedule table
+abbrev pub listing : Parts → List ℕ
+listing c = numbered node_line 0 c.nodes ++ numbered signal_line 0 c.signals ++ numbered table_line 0 c.tables
+
+-- what writing that list answers, and what the writer took
+abbrev pub Lists : Parts → Result Unit Fault → Option (List ℕ) → Option (List ℕ) → Type 0
+Lists c (Ok done) old new = Appends old new (listing c)
+Lists c (Err OutOfMemory) old new = Keeps old new
+Lists c (Err WriteFailed) old new = (part rest : List ℕ) × (listing c ≡ part ++ rest) × Appends old new part
+Lists c (Err _) old new = ⊥

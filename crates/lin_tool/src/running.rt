@@ -1,0 +1,174 @@
+//! `linsim run`: runs slots of a cluster whose hosts put the steps of a script, with hosts and nodes in threads of their
+//! own, and writes the log.
+
+ghost use Rattle.std.specs.Prelude.{◌≡◌, ◌≤◌, ◌<◌, [], length, vec_len, IfOk, IfSome};
+ghost use Rattle.lin_parts.specs.Cluster.{nodes};
+ghost use Rattle.lin_tool.specs.Running.{ReadsHosts, WritesRun};
+
+use crate::describing::cluster_of_file;
+use crate::fault::Fault;
+use crate::opening::opening_table;
+use lin_core::Core;
+use lin_log::{read_script, write_log};
+use lin_parts::Cluster;
+use lin_threads::{
+    Ended, HostStep, HostTask, Plan, RunReport, ScriptTask, run_cluster, split, wire,
+};
+use std::alloc::{AllocError, Global};
+use std::fs::Files;
+use std::io::{self, Read, Write};
+use std::sync::Wait;
+use std::thread::Threads;
+
+/// How many items each ring of a port takes.
+const RING: usize = 64;
+
+/// How many turns a host's task gets at most.
+const TURNS: u32 = 4_000_000_000;
+
+/// How many rounds a slot has at most.
+const ROUNDS: u32 = 1_000_000;
+
+/// The steps of each host, from the script that a reader gives.
+///
+/// # Errors
+/// `BadLine` and `ScriptTooLong`; `NotHostStep` for the first step that is no send, write or close of a host of the
+/// cluster by its own port; `ReadFailed`; `OutOfMemory`.
+fn host_steps<R: Read>(
+    alloc: Global,
+    reader: &mut R,
+    hosts: usize,
+) -> Result<Vec<Vec<HostStep>>, Fault>
+    ensures lists { IfSome (R.remaining reader.old) (λ bytes. ReadsHosts hosts result bytes) }
+    ensures count { IfOk result (λ lists. vec_len lists ≡ hosts) }
+{
+    let steps = read_script(alloc, reader)?;
+    Ok(split(alloc, steps, hosts)?)
+}
+
+/// A plan of so many slots, in which no response is damaged and no node leaves its response out.
+fn undisturbed(alloc: Global, slots: u32, nodes: usize) -> Result<Plan, AllocError>
+    ensures slots { IfOk result (λ plan. plan.slots ≡ slots) }
+    ensures hurt { IfOk result (λ plan. plan.hurt.items ≡ []) }
+    ensures leave { IfOk result (λ plan. vec_len plan.leave ≡ nodes) }
+{
+    let mut leave = Vec::with_capacity(alloc, nodes)?;
+    for _ in 0..nodes {
+        leave.push_reserved(Vec::new(alloc));
+    }
+    Ok(Plan {
+        slots,
+        turns: TURNS,
+        rounds: ROUNDS,
+        hurt: Vec::new(alloc),
+        leave,
+    })
+}
+
+/// Runs the tasks, one for each host, as planned. (The core is owned here alone, since letting one go is long to prove.)
+fn run_tasks<R: AllocGlobal + Threads + Wait>(
+    rt: &R,
+    cluster: Cluster,
+    table: u16,
+    capacity: usize,
+    tasks: Vec<Box<dyn HostTask + Send>>,
+    plan: Plan,
+) -> Result<RunReport, Fault>
+    requires table { table < length cluster.tables }
+    requires capacity { (1 ≤ capacity) × (capacity ≤ 1024) }
+    requires tasks { vec_len tasks ≡ nodes cluster }
+    requires leave { vec_len plan.leave ≡ nodes cluster }
+{
+    let alloc = rt.alloc();
+    let core = Core::new(alloc, cluster, table, capacity)?;
+    let (pump, hosts, others) = wire(alloc, core, RING)?;
+    Ok(run_cluster(rt, alloc, pump, hosts, others, tasks, plan)?)
+}
+
+/// Runs a task for the steps of each host.
+fn run_steps<R: AllocGlobal + Threads + Wait>(
+    rt: &R,
+    cluster: Cluster,
+    table: u16,
+    capacity: usize,
+    slots: u32,
+    lists: Vec<Vec<HostStep>>,
+) -> Result<RunReport, Fault>
+    requires table { table < length cluster.tables }
+    requires capacity { (1 ≤ capacity) × (capacity ≤ 1024) }
+    requires lists { vec_len lists ≡ nodes cluster }
+{
+    let alloc = rt.alloc();
+    let plan = undisturbed(alloc, slots, lists.len())?;
+    let mut tasks: Vec<Box<dyn HostTask + Send>> = Vec::new(alloc);
+    for steps in lists {
+        tasks.push(Box::new(alloc, ScriptTask::new(steps))?)?;
+    }
+    run_tasks(rt, cluster, table, capacity, tasks, plan)
+}
+
+/// Writes the log of a run.
+///
+/// # Errors
+/// `WriteFailed`, where what was written is the beginning of the log; `TaskLimit` after the whole log was written, where
+/// a task had all its turns before it was done.
+fn put_report<W: Write>(report: &RunReport, writer: &mut W) -> Result<(), Fault>
+    ensures { WritesRun (W.contents writer.old) (W.contents writer.new) result report.now.core.log report.now.ended.items }
+{
+    if write_log(report.core.log(), writer).is_err() {
+        return Err(Fault::WriteFailed);
+    }
+    if report.ended.contains(&Ended::Limit) {
+        return Err(Fault::TaskLimit);
+    }
+    Ok(())
+}
+
+/// Runs the steps on standard input over a cluster. (The cluster is owned here, and the core above.)
+fn run_over<R: AllocGlobal + Input + Print + Eprint + Threads + Wait>(
+    rt: &R,
+    cluster: Cluster,
+    table: u16,
+    capacity: usize,
+    slots: u32,
+    is_watched: bool,
+) -> Result<(), Fault>
+    requires table { table < length cluster.tables }
+    requires capacity { (1 ≤ capacity) × (capacity ≤ 1024) }
+{
+    let hosts = cluster.nodes();
+    let mut reader = rt.reader();
+    let lists = host_steps(rt.alloc(), &mut reader, hosts)?;
+    if is_watched {
+        let _ = eprintln!(rt; "linsim: {slots} slots, {hosts} hosts");
+    }
+    let report = run_steps(rt, cluster, table, capacity, slots, lists)?;
+    put_report(&report, &mut io::writer(rt))
+}
+
+/// Reads a script of hosts' steps on standard input, runs so many slots of the cluster that the LDF text in the file at
+/// `path` describes, while each host puts its steps and each node answers in a thread of its own, and writes the log on
+/// standard output.
+///
+/// It begins with the schedule table of the name `table`, or without a name with the first one; each host may have
+/// `capacity` messages waiting, 1 to 1,024. Where standard error is watched, a line there says at the start how many
+/// slots and hosts run.
+///
+/// # Errors
+/// Those of `cluster_of_file`; `NoSuchTable`; `BadLine`, `ScriptTooLong` and `NotHostStep` for a fault of the script;
+/// `ReadFailed` where standard input couldn't be read; `OutOfMemory`; `NoThread`; `LogFull`. Nothing was written then.
+/// `WriteFailed`, where what was written is the beginning of the log. `TaskLimit`, after the log was written.
+pub fn run<R: AllocGlobal + Files + Input + Print + Eprint + Threads + Wait>(
+    rt: &R,
+    path: &str,
+    slots: u32,
+    table: Option<&str>,
+    capacity: usize,
+    is_watched: bool,
+) -> Result<(), Fault>
+    requires { (1 ≤ capacity) × (capacity ≤ 1024) }
+{
+    let cluster = cluster_of_file(rt, Some(path))?;
+    let table = opening_table(&cluster, table)?;
+    run_over(rt, cluster, table, capacity, slots, is_watched)
+}
