@@ -138,6 +138,7 @@ fn task_that_never_ends(rt: HostRuntime) -> Result<(), Fail> {
     };
     let core = door_core(&rt, alloc)?;
     let report = run_restless(&rt, alloc, core, 4, &few_turns)?;
+    assert_eq!(rt; report.ended.len(), 2);
     assert_eq!(rt; report.ended[1], Ended::Limit);
     Ok(())
 }
