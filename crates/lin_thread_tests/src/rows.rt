@@ -28,7 +28,9 @@ fn faulty_run_replays(rt: HostRuntime) -> Result<(), Fail> {
     assert_eq!(rt; lines(alloc, &report.core, "bus finish")?, 40);
     assert_eq!(rt; lines(alloc, &report.core, "h0 send")?, 3);
     assert_eq!(rt; lines(alloc, &report.core, "h1 send")?, 1);
-    assert_eq!(rt; lines(alloc, &report.core, "n1 leave 1")?, 1);
+    // (the slots may be over before host 1 has put its message)
+    let left = lines(alloc, &report.core, "n1 leave 1")?;
+    assert!(rt; left <= 1);
     expect_replay(&rt, alloc, &report.core)
 }
 
