@@ -1,5 +1,5 @@
 -- An answer with a frame of a message, or with the sleep frame.
-use Rattle.std.proofs.Common.{◌≡◌, ℕ, ◌-◌, ◌<◌, Bool, true, false, List, [], ◌∷◌, refl, ap, sym, ◌∙◌, subst, arith}
+use Rattle.std.proofs.Common.{◌≡◌, ℕ, ◌<◌, Bool, true, false, List, [], ◌∷◌, refl, ap, sym, ◌∙◌, subst, arith}
 use Rattle.std.specs.Prelude.{Some, None, ◌==◌, ◌&&◌, ◌||◌, slice_get, slice_index_or, nat_le}
 use Rattle.lin_frame.specs.Words.{choose}
 use Rattle.lin_core.specs.Dues.{frame_answered}

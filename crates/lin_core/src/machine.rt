@@ -61,17 +61,6 @@ impl Drop for Core {
     }
 }
 
-/// The one event of a step, in the room that was made for it.
-fn one_event(room: Vec<Event>, event: Event) -> Events
-    requires empty { room.items ≡ [] }
-    requires room { 1 ≤ vec_capacity room }
-    ensures { result ≡ event ∷ [] }
-{
-    let mut events = room;
-    events.push(event).unwrap();
-    Events::new(events)
-}
-
 /// The two events of a step, in the room that was made for them.
 fn two_events(room: Vec<Event>, first: Event, second: Event) -> Events
     requires empty { room.items ≡ [] }
@@ -145,7 +134,6 @@ impl Core {
                 receivers,
                 signals,
                 mode: Mode::new(),
-                room: Vec::new(alloc),
             },
         })
     }
@@ -221,15 +209,14 @@ impl Core {
         }
     }
 
-    /// Makes room, so that a send, a write, an answer, a leave or a close isn't held for want of memory if it is the next step. It changes nothing else; an
-    /// error is want of memory.
+    /// Makes room, so that the next step isn't held for want of memory, unless it is an open or a finish. It changes nothing
+    /// else; an error is want of memory.
     pub fn make_room(&mut self) -> Result<(), AllocError>
         ensures alike { IsAlike self.old self.new }
         ensures log { self.new.log ≡ self.old.log }
         ensures spare { OnOk result (1 ≤ self.new.spare) }
     {
         self.log.make_room()?;
-        self.state.room.try_reserve_exact(1)?;
         Ok(())
     }
 

@@ -1,7 +1,7 @@
 //! The open slot, as the core keeps it.
 
 ghost use Rattle.std.specs.Prelude.{◌≡◌, ◌<◌, ◌++◌, ◌∷◌, [], Bool, ◌==◌, ◌&&◌, not, true, false, length, filter};
-ghost use Rattle.std.specs.Prelude.{◌+◌, ◌≤◌, ℕ, List, Some, None, is_some, option_map, map, take, vec_capacity};
+ghost use Rattle.std.specs.Prelude.{◌+◌, ◌≤◌, ℕ, List, IfOk, Some, None, is_some, option_map, map, take};
 ghost use Rattle.std.specs.List.{list_any};
 ghost use Rattle.lin_frame.specs.Words.{choose, numbers};
 ghost use Rattle.lin_parts.specs.Cluster.{line_of, nodes};
@@ -19,6 +19,7 @@ use arrayvec::ArrayVec;
 use lin_frame::Answer;
 use lin_parts::Cluster;
 use lin_schedule::Due;
+use std::alloc::{AllocError, Global};
 
 /// The protected identifiers of the diagnostic frames (ISO 17987-3: 60, master request, and 61, slave response).
 pub(crate) const MASTER_REQUEST: u8 = 0x3C;
@@ -101,24 +102,25 @@ impl OpenSlot {
         }
     }
 
-    /// The events of its open, in the room that was made for them.
-    pub(crate) fn opening_events(&self, room: Vec<Event>) -> Events
-        requires empty { room.items ≡ [] }
-        requires room { 1 + length self.now.due.items ≤ vec_capacity room }
-        ensures { result ≡ Event.Slot self.now.table self.now.entry self.now.header ∷ map Event.Due self.now.due.items }
+    /// The events of its open. An error is want of memory.
+    pub(crate) fn opening_events(&self, alloc: Global) -> Result<Events, AllocError>
+        ensures { IfOk result (λ events. events ≡ Event.Slot self.now.table self.now.entry self.now.header ∷ map Event.Due self.now.due.items) }
     {
-        let mut events = room;
         let opened = Event::Slot {
             table: self.table,
             entry: self.entry,
             header: self.header,
         };
-        events.push(opened).unwrap();
         let due = self.due.as_slice();
-        for node in due {
-            events.push(Event::Due { node: *node }).unwrap();
+        if due.is_empty() {
+            return Ok(Events::one(opened));
         }
-        Events::new(events)
+        let mut events = Vec::with_capacity(alloc, 1 + due.len())?;
+        events.push(opened)?;
+        for node in due {
+            events.push(Event::Due { node: *node })?;
+        }
+        Ok(Events::new(events))
     }
 
     /// Whether a node is due in the slot.

@@ -7,7 +7,6 @@ use Rattle.lin_core.proofs.machine.Core.new.Goals as goal
 pub invariant_of-result : goal.invariant_of-result
 invariant_of-result c = record {
   few = rw c.new-2.ensures (omega arith);
-  empty = c.new-5.ensures.items;
   rules = c.sound.ensures.rules;
   sound = c.sound.ensures.sound;
   opening = c.requires.table;

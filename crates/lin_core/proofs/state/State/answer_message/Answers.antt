@@ -19,13 +19,13 @@ use Rattle.lin_core.proofs.Making.{allowed-ready, past_in}
 use Rattle.lin_core.proofs.Opening.{put-room, with_put}
 use Rattle.lin_core.proofs.Transporting.{AnswersNext, answers-next}
 use Rattle.lin_core.proofs.Receiving.{heard-same}
-use Rattle.lin_core.proofs.state.State.answer_message.Goals.{After-one_event}
+use Rattle.lin_core.proofs.state.State.answer_message.Goals.{After-one}
 use Rattle.lin_core.proofs.state.State.answer_message.Goals as goal
 
-abbrev here : After-one_event → Stage
+abbrev here : After-one → Stage
 here c = stage c.args.setup.now c.args.log.now c.args.self.now
 
-next : (c : After-one_event) → AnswersNext (here c) c.args.by c.args.node c.index-host.result.now c.next-place.result c.header_of-header.result c.is_sleep_asked-sleeping.result
+next : (c : After-one) → AnswersNext (here c) c.args.by c.args.node c.index-host.result.now c.next-place.result c.header_of-header.result c.is_sleep_asked-sleeping.result
 next c =
     answers-next (here c) c.args.by c.args.node c.index-host.result.now c.next-place.result c.header_of-header.result c.is_sleep_asked-sleeping.result c.requires.ready c.requires.none
     c.index-host.ensures c.next-place.ensures c.header_of-header.ensures c.is_sleep_asked-sleeping.ensures
@@ -37,19 +37,19 @@ next_bytes-data-requires c =
     c.index-host.ensures c.next-place.ensures c.header_of-header.ensures c.is_sleep_asked-sleeping.ensures in
     x.has
 
-abbrev events : (c : After-one_event) → List Event
+abbrev events : (c : After-one) → List Event
 events c = choose (open_slot (past_in (here c))) [] (put_event (here c).cluster (past_in (here c)) c.args.node)
 
-abbrev entry : (c : After-one_event) → LogEntry
+abbrev entry : (c : After-one) → LogEntry
 entry c = done_entry c.args.by (Answer c.args.node) (events c)
 
-abbrev put_of : (c : After-one_event) → KeptPut
+abbrev put_of : (c : After-one) → KeptPut
 put_of c = record { node = c.args.node; answer = c.answer-answer.result; cleared = None }
 
-told : (c : After-one_event) → Put c.args.node c.answer-answer.result ∷ [] ≡ events c
+told : (c : After-one) → Put c.args.node c.answer-answer.result ∷ [] ≡ events c
 told c = ap (λ (bytes : List ℕ). Put c.args.node bytes ∷ []) (c.answer-answer.ensures ∙ ap with_classic (c.next_bytes-data.ensures)) ∙ (next c).told
 
-kept : (c : After-one_event) → Keeps (here c).cluster (here c).opening (here c).capacity ((here c).log ++ entry c ∷ []) (entry c ∷ past_in (here c)) c.put_in.new.slot (here c).state.time (here c).state.walker (here c).state.hosts.items (here c).state.signals
+kept : (c : After-one) → Keeps (here c).cluster (here c).opening (here c).capacity ((here c).log ++ entry c ∷ []) (entry c ∷ past_in (here c)) c.put_in.new.slot (here c).state.time (here c).state.walker (here c).state.hosts.items (here c).state.signals
 kept c =
     let a = here c in
     let w = c.requires.ready.whole in
@@ -69,14 +69,13 @@ put_in-requires c = λ kept is.
     let same : s.slot ≡ kept = (let t : Some s.slot ≡ Some kept = sym s.at ∙ is in cc) in
     subst (λ (k : OpenSlot). length k.puts.items < 16) same (put-room a.cluster s.slot (record { node = c.args.node; answer = []; cleared = None }) s.is_open s.free)
 
-pub returns-clause-makes : goal.returns-clause-makes
-returns-clause-makes c =
+pub returns : goal.returns
+returns c =
     let a = here c in
     let w = c.requires.ready.whole in
     let s = (next c).step in
     record {
-      told = c.one_event.ensures ∙ ap (λ (bytes : List ℕ). Put c.args.node bytes ∷ []) c.copied_answer-told.ensures ∙ told c;
-      empty = rw c.replace-room.ensures.after c.new.ensures.items;
+      told = c.one.ensures ∙ ap (λ (bytes : List ℕ). Put c.args.node bytes ∷ []) c.copied_answer-told.ensures ∙ told c;
       kept = kept c;
       late = answer-late a.cluster a.capacity (past_in a) c.args.by c.args.node a.state.mode a.state.hosts.items w.sound s.known s.allowed w.late;
       heard = heard-same a.cluster (past_in a) (entry c ∷ past_in a) a.state.receivers.items (λ l i. refl) w.heard;

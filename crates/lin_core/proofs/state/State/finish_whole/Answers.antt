@@ -112,7 +112,7 @@ abbrev entry : (c : After-three_events) → LogEntry
 entry c = finish_of (here c) c.args.by
 
 passes : (c : After-three_events) → Passes (here c).cluster (opened c).slot (here c).state c.pass_slot-seen.new.self
-passes c = passes-as (here c).cluster (opened c).slot (here c).state c.pass_slot-seen.new.self c.hear.new.receivers c.try_reserve_exact.new.self (c.pass_slot-seen.ensures.passes (opened c).slot (opened c).at)
+passes c = passes-as (here c).cluster (opened c).slot (here c).state c.pass_slot-seen.new.self c.hear.new.receivers (c.pass_slot-seen.ensures.passes (opened c).slot (opened c).at)
 
 heard_frame : (c : After-three_events) → HeardFrame (here c).cluster (past_in (here c)) (entry c ∷ past_in (here c)) (good c).message.link (option_map (λ v. v.items) c.in_ok-message.message) c.hear.new.receivers.items
 heard_frame c =
@@ -135,12 +135,12 @@ bytes_are c =
 three-events : (h : ℕ) (s s' : HowSeen) (to to' : ℕ) (bytes bytes' : List ℕ) (n n' : ℕ) → s ≡ s' → to ≡ to' → bytes ≡ bytes' → n ≡ n' → Seen s ∷ MessageEvent h to bytes ∷ Sent h n ∷ [] ≡ Seen s' ∷ MessageEvent h to' bytes' ∷ Sent h n' ∷ []
 three-events h s s' to to' bytes bytes' n n' p q r t = rw (p, q, r, t) refl
 
-told : (c : After-three_events) → Seen c.pass_slot-seen.result ∷ MessageEvent c.args.sender c.receiver_at-to.result c.new-2.result ∷ Sent c.args.sender (c.index_mut-host.result.now.settled + 1) ∷ [] ≡ finish_events (here c).cluster c.args.by (past_in (here c))
+told : (c : After-three_events) → Seen c.pass_slot-seen.result ∷ MessageEvent c.args.sender c.receiver_at-to.result c.new.result ∷ Sent c.args.sender (c.index_mut-host.result.now.settled + 1) ∷ [] ≡ finish_events (here c).cluster c.args.by (past_in (here c))
 told c =
     let a = here c in
     let g = good c in
     let there : message_at a.log c.next-place.result ≡ Some g.message = g.at in
-    three-events _ _ _ _ _ _ _ _ _ (c.pass_slot-seen.ensures.seen (opened c).slot (opened c).at) (c.receiver_at-to.ensures g.message there) (c.new-2.ensures ∙ bytes_are c) (own c).number
+    three-events _ _ _ _ _ _ _ _ _ (c.pass_slot-seen.ensures.seen (opened c).slot (opened c).at) (c.receiver_at-to.ensures g.message there) (c.new.ensures ∙ bytes_are c) (own c).number
     ∙ sym (whole c).told
 
 kept : (c : After-three_events) → Keeps (here c).cluster (here c).opening (here c).capacity ((here c).log ++ entry c ∷ []) (entry c ∷ past_in (here c)) c.pass_slot-seen.new.self.slot c.pass_slot-seen.new.self.time c.pass_slot-seen.new.self.walker (slice_set c.pass_slot-seen.new.self.hosts.items c.args.sender c.settle.new.self) c.pass_slot-seen.new.self.signals
@@ -172,4 +172,4 @@ heard : (c : After-three_events) → KeepsHeard (here c).cluster (entry c ∷ pa
 heard c = rw c.pass_slot-seen.ensures.receivers (heard_frame c).keeps
 
 pub returns : goal.returns
-returns c = record { told = c.three_events.ensures ∙ told c; empty = rw c.replace-room.ensures.after c.new.ensures.items; kept = kept c; late = late c; heard = heard c }
+returns c = record { told = c.three_events.ensures ∙ told c; kept = kept c; late = late c; heard = heard c }

@@ -15,7 +15,6 @@ returns c =
     let o = hurt-inside a c.args.by c.args.bytes.now w (allowed-ready a c.args.by (Hurt c.args.bytes.now) c.requires) in
     record {
       told = c.no_events.ensures;
-      empty = w.empty;
       kept = rw (c.hurt_in.ensures.some o.slot o.at)
           (hurt-keeps a.cluster a.opening a.capacity a.log (past_in a) o.slot a.state.time a.state.walker a.state.hosts.items a.state.signals c.args.by c.args.bytes.now w.sound k o.kept);
       late = hurt-late a.cluster (past_in a) c.args.by c.args.bytes.now a.state.mode a.state.hosts.items w.sound k w.late;

@@ -23,7 +23,6 @@ returns c =
     let o = leave-inside a c.args.by c.args.node w (allowed-ready a c.args.by (Leave c.args.node) c.requires) in
     record {
       told = c.no_events.ensures;
-      empty = w.empty;
       kept = rw (c.leave_in.ensures.some o.slot o.at)
           (leave-keeps a.cluster a.opening a.capacity a.log (past_in a) o.slot a.state.time a.state.walker a.state.hosts.items a.state.signals c.args.by c.args.node w.sound k c.requires.allowed o.is o.kept);
       late = leave-late a.cluster (past_in a) c.args.by c.args.node a.state.mode a.state.hosts.items w.sound k w.late;

@@ -39,8 +39,7 @@ returns c =
     ∙ ap (λ (bs : List Bool). begun c.place-place.result.0 c.place-place.result.1 (header_of a.cluster c.has_request-requests.result c.due-due.result) (filter (is_due_of a.cluster bs c.has_request-requests.result c.responder-responder.result c.due-due.result) (numbers (nodes a.cluster)))) flags)
     c.begin-slot.ensures.few c.begin-slot.ensures.empty c.begin-slot.ensures.none_left c.begin-slot.ensures.calm in
     record {
-      told = c.opening_events-events.ensures ∙ opening-is a.cluster a.opening (past_in a) c.begin-slot.result opens;
-      empty = rw c.replace-room.ensures.after c.new.ensures.items;
+      told = c.in_ok-events.ensures ∙ opening-is a.cluster a.opening (past_in a) c.begin-slot.result opens;
       kept = open-keeps a.cluster a.opening a.capacity a.log (past_in a) a.state.slot c.begin-slot.result a.state.time a.state.walker a.state.hosts.items a.state.signals c.args.by w.sound s.known s.allowed opens w.kept;
       late = open-late a.cluster a.opening a.capacity (past_in a) c.args.by a.state.mode a.state.hosts.items w.sound s.known s.allowed w.late;
       heard = heard-same a.cluster (past_in a) (done_of a c.args.by Open ∷ past_in a) a.state.receivers.items (λ l i. refl) w.heard;
