@@ -21,6 +21,7 @@ use crate::receivers::fresh_receivers;
 use crate::reply::Reply;
 use crate::setup::Setup;
 use crate::signals::{Signals, copied};
+use crate::slot::Slot;
 use crate::state::State;
 use crate::step::Step;
 use lin_frame::Value;
@@ -127,7 +128,7 @@ impl Core {
             },
             log: Log::new(alloc),
             state: State {
-                slot: None,
+                slot: Slot::new(),
                 time: 0,
                 walker: Walker::new(table),
                 hosts,
@@ -203,10 +204,11 @@ impl Core {
     pub fn undecided(&self) -> usize
         ensures { result ≡ undecided (past_of self.now) }
     {
-        match &self.state.slot {
-            Some(slot) => slot.undecided(),
-            None => 0,
+        let slot = &self.state.slot;
+        if slot.is_open() {
+            return slot.open().undecided();
         }
+        0
     }
 
     /// Makes room, so that the next step isn't held for want of memory, unless it is an open or a finish. It changes nothing

@@ -4,7 +4,7 @@ ghost use Rattle.std.specs.Prelude.{◌≡◌, Some, true, false, reverse};
 
 use crate::event::Event;
 use crate::link::Cause;
-use crate::load::{Load, is_hurt, load_in};
+use crate::load::Load;
 use crate::log::Log;
 use crate::losses::sleep_events;
 use crate::machine::{three_events, two_events};
@@ -13,7 +13,6 @@ use crate::payload::{Events, Payload};
 use crate::port::PortId;
 use crate::receivers::{hear, reset_all};
 use crate::setup::Setup;
-use crate::slot::frame_in;
 use crate::state::State;
 use crate::step::Step;
 use std::alloc::AllocError;
@@ -90,7 +89,7 @@ impl State {
         let len = message_at(log, place).len();
         let node = responder_at(log, place);
         let dir = direction_at(log, place);
-        let frame = frame_in(&self.slot);
+        let frame = self.slot.open().data();
         hear(&mut self.receivers, node, dir, &frame)?;
         let seen = self.pass_slot(&setup.cluster);
         self.hosts[sender as usize].go_on(address, len);
@@ -115,7 +114,7 @@ impl State {
         let to = receiver_at(log, place);
         let node = responder_at(log, place);
         let dir = direction_at(log, place);
-        let frame = frame_in(&self.slot);
+        let frame = self.slot.open().data();
         let message = hear(&mut self.receivers, node, dir, &frame)?;
         let bytes = message.unwrap();
         let seen = self.pass_slot(&setup.cluster);
@@ -180,8 +179,9 @@ impl State {
         requires ready { IsReady (stage setup.now log.now self.old) by Step.Finish }
         ensures { Makes (stage setup.now log.now self.old) by Step.Finish result self.new }
     {
-        let hurt = is_hurt(&self.slot);
-        match load_in(&self.slot) {
+        let slot = self.slot.open();
+        let hurt = slot.hurt;
+        match slot.load() {
             Load::Carried { host } => {
                 if hurt {
                     self.finish_damaged(setup, log, by, host)

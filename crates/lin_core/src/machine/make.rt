@@ -2,19 +2,19 @@
 
 ghost use Rattle.std.specs.Prelude.{◌≡◌, ◌≤◌, ◌<◌, reverse, length, Some, None, IsOk};
 
-use crate::carried::{frame_answered, model_of};
-use crate::due::has_request;
+use crate::due::{due_nodes, has_request, header_for};
 use crate::event::Event;
-use crate::heard::{copied_answer, frame_answer};
+use crate::heard::frame_answer;
 use crate::host::responder;
 use crate::log::Log;
 use crate::machine::no_events;
 use crate::messages::next_bytes;
 use crate::payload::{Events, Payload};
 use crate::port::PortId;
+use crate::response::Response;
 use crate::setup::Setup;
 use crate::signals::copied;
-use crate::slot::{OpenSlot, Put, header_of, is_sleep_asked, put_in};
+use crate::slot::{Put, is_sleep_asked, opening_events};
 use crate::state::State;
 use crate::step::Step;
 use lin_frame::{SumKind, Value, answer};
@@ -83,9 +83,10 @@ impl State {
         let responder = responder(self.hosts.as_slice(), self.mode.selected);
         let pending = self.signals.pending.as_slice();
         let due = self.walker.due(&setup.cluster, pending);
-        let slot = OpenSlot::begin(&setup.cluster, place, due, requests, responder, pending);
-        let events = slot.opening_events(setup.alloc)?;
-        self.slot = Some(slot);
+        let header = header_for(&setup.cluster, due, requests);
+        let nodes = due_nodes(&setup.cluster, due, requests, responder, pending);
+        let events = opening_events(setup.alloc, place, header, nodes.as_slice())?;
+        self.slot.begin(&setup.cluster, place, header, nodes);
         Ok(events)
     }
 
@@ -94,7 +95,7 @@ impl State {
         requires ready { IsReady (stage setup.now log.now self.old) by (Step.Answer node) }
         ensures { IsMade (stage setup.now log.now self.old) by (Step.Answer node) result self.new }
     {
-        match frame_answered(&setup.cluster, &self.slot, node) {
+        match self.slot.open().frame_answered(&setup.cluster, node) {
             Some(frame) => self.answer_frame(setup, log, by, node, frame),
             None => self.answer_message(setup, log, by, node),
         }
@@ -108,8 +109,9 @@ impl State {
         requires frame { frame < length setup.now.cluster.frames }
         ensures { IsMade (stage setup.now log.now self.old) by (Step.Answer node) result self.new }
     {
-        let header = header_of(&self.slot);
-        let model = model_of(&setup.cluster, &self.slot, frame);
+        let slot = self.slot.open();
+        let header = slot.header();
+        let model = slot.model_of(&setup.cluster, frame);
         let answer = frame_answer(
             &setup.cluster,
             self.signals.values.as_slice(),
@@ -118,15 +120,12 @@ impl State {
             model,
             header,
         );
-        let told = copied_answer(&answer);
-        let cleared = self.signals.clear(frame);
-        let put = Put {
+        self.slot.put(Put {
             node,
-            answer,
-            cleared,
-        };
-        put_in(&mut self.slot, put);
-        Events::one(Event::Put { node, answer: told })
+            answer: Response::of(&answer),
+            cleared: self.signals.clear(frame),
+        });
+        Events::one(Event::Put { node, answer })
     }
 
     /// An answer in a diagnostic slot: the node puts what comes next of its host's messages, or the commander the sleep frame.
@@ -135,20 +134,18 @@ impl State {
         requires none { frame_answered setup.now.cluster (reverse log.now.entries) node ≡ None }
         ensures { IsMade (stage setup.now log.now self.old) by (Step.Answer node) result self.new }
     {
-        let header = header_of(&self.slot);
+        let header = self.slot.open().header();
         let sleeping = is_sleep_asked(header, self.mode.asked);
         let host = &self.hosts[node as usize];
         let place = host.next() as usize;
         let data = next_bytes(&setup.cluster, log, host, place, sleeping);
         let answer = answer(SumKind::Classic, header, &data);
-        let told = copied_answer(&answer);
-        let put = Put {
+        self.slot.put(Put {
             node,
-            answer,
+            answer: Response::of(&answer),
             cleared: None,
-        };
-        put_in(&mut self.slot, put);
-        Events::one(Event::Put { node, answer: told })
+        });
+        Events::one(Event::Put { node, answer })
     }
 
     /// Makes a step that isn't refused: the events of it. An error is want of memory, and nothing is changed.

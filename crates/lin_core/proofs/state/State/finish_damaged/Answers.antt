@@ -4,7 +4,7 @@ use Rattle.lin_core.specs.Replies.{finish_events}
 use Rattle.lin_core.specs.Stages.{Stage, stage}
 use Rattle.lin_core.specs.declared.event.Event.TheVariants.{Seen, Lost}
 use Rattle.lin_core.specs.declared.log.LogEntry.{LogEntry}
-use Rattle.std.specs.Prelude.{slice_set, true}
+use Rattle.std.specs.Prelude.{slice_set, true, is_some}
 use Rattle.std.proofs.Math.ListN.{length-set}
 use Rattle.lin_core.specs.Hosts.{settled}
 use Rattle.lin_core.specs.declared.link.Cause.TheVariants.{Damaged}
@@ -53,6 +53,9 @@ settle-requires c =
     let x = damaged-inside a c.args.by o c.args.sender c.index_mut-host.result.now c.requires.ready.whole carries.0 carries.1 (rw c.pass_slot-seen.ensures.hosts at c.index_mut-host.ensures.value) in
     let small = x.own.small in
     omega arith
+
+pub pass_slot-seen-requires-clause-open : goal.pass_slot-seen-requires-clause-open
+pass_slot-seen-requires-clause-open c = ap is_some (open-ready (stage c.args.setup.now c.args.log.now c.args.self.now) c.args.by c.requires.ready).at
 
 opened : (c : After-two_events) → OpenIs (here c) c.args.by
 opened c = open-ready (here c) c.args.by c.requires.ready

@@ -1,5 +1,5 @@
 use Rattle.std.proofs.Common.{refl, ◌≡◌, ℕ, length, [], ◌∷◌, ◌++◌, ap, sym, ◌∙◌, arith}
-use Rattle.std.specs.Prelude.{option_map, slice_set, false}
+use Rattle.std.specs.Prelude.{option_map, slice_set, false, is_some}
 use Rattle.lin_core.specs.Kept.{Keeps, slot_in}
 use Rattle.lin_core.specs.Replies.{finish_events}
 use Rattle.lin_core.specs.Stages.{Stage, stage}
@@ -76,6 +76,12 @@ hear-requires c =
     let count = w.heard.count in
     omega arith
 
+pub open-requires : goal.open-requires
+open-requires c = ap is_some (open-ready (stage c.args.setup.now c.args.log.now c.args.self.now) c.args.by c.requires.ready).at
+
+pub pass_slot-seen-requires-clause-open : goal.pass_slot-seen-requires-clause-open
+pass_slot-seen-requires-clause-open c = ap is_some (open-ready (stage c.args.setup.now c.args.log.now c.args.self.now) c.args.by c.requires.ready).at
+
 opened : (c : After-one) → OpenIs (here c) c.args.by
 opened c = open-ready (here c) c.args.by c.requires.ready
 
@@ -148,8 +154,8 @@ heard_frame : (c : After-one) → HeardFrame (here c).cluster (past_in (here c))
 heard_frame c =
     let a = here c in
     let g = good c in
-    heard-inside a c.args.by (opened c) c.args.sender c.index.result.now c.next-place.result c.requires.ready.whole g c.requires.carried c.responder_at-node.result c.direction_at-dir.result c.frame_in-frame.result
-    (option_map (λ v. v.items) c.in_ok-hear.field-0) c.hear.new.receivers.items (c.responder_at-node.ensures g.message g.at) (c.direction_at-dir.ensures g.message g.at) c.frame_in-frame.ensures c.in_ok-hear.ensures.hears
+    heard-inside a c.args.by (opened c) c.args.sender c.index.result.now c.next-place.result c.requires.ready.whole g c.requires.carried c.responder_at-node.result c.direction_at-dir.result c.data-frame.result
+    (option_map (λ v. v.items) c.in_ok-hear.field-0) c.hear.new.receivers.items (c.responder_at-node.ensures g.message g.at) (c.direction_at-dir.ensures g.message g.at) c.open.result.now c.open.ensures c.data-frame.ensures c.in_ok-hear.ensures.hears
 
 heard : (c : After-one) → KeepsHeard (here c).cluster (entry c ∷ past_in (here c)) c.pass_slot-seen.new.self.receivers.items
 heard c = rw c.pass_slot-seen.ensures.receivers (heard_frame c).keeps

@@ -9,7 +9,7 @@ use Rattle.lin_core.proofs.Keeping.{same-hosts}
 use Rattle.lin_core.proofs.LateKeeping.{still-late}
 use Rattle.lin_core.specs.KeptLate.{KeepsLate, KeepsMode}
 use Rattle.lin_core.specs.Loads.{is_still, load_of}
-use Rattle.std.specs.Prelude.{true}
+use Rattle.std.specs.Prelude.{true, is_some}
 use Rattle.lin_core.proofs.Hosts.{HostState}
 use Rattle.lin_core.specs.Passes.{Passes}
 use Rattle.lin_core.proofs.Passing.{finish_of, passed-keeps, passed-mode}
@@ -21,6 +21,9 @@ use Rattle.lin_core.proofs.state.State.finish_plain.Goals as goal
 
 abbrev here : After-one → Stage
 here c = stage c.args.setup.now c.args.log.now c.args.self.now
+
+pub pass_slot-seen-requires-clause-open : goal.pass_slot-seen-requires-clause-open
+pass_slot-seen-requires-clause-open c = ap is_some (open-ready (stage c.args.setup.now c.args.log.now c.args.self.now) c.args.by c.requires.ready).at
 
 opened : (c : After-one) → OpenIs (here c) c.args.by
 opened c = open-ready (here c) c.args.by c.requires.ready

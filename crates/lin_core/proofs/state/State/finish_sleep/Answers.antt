@@ -6,7 +6,7 @@ use Rattle.lin_core.specs.Stages.{Stage, stage}
 use Rattle.lin_core.specs.declared.event.Event.{Event}
 use Rattle.lin_core.specs.declared.event.Event.TheVariants.{Asleep as SleepEvent, Seen}
 use Rattle.lin_core.specs.declared.log.LogEntry.{LogEntry}
-use Rattle.std.specs.Prelude.{false}
+use Rattle.std.specs.Prelude.{false, is_some}
 use Rattle.lin_core.specs.Hosts.{losses}
 use Rattle.lin_core.specs.Loads.{load_of}
 use Rattle.lin_core.specs.declared.load.Load.TheVariants.{Sleep}
@@ -29,6 +29,9 @@ sleep_events-requires-clause-small c =
     let a = stage c.args.setup.now c.args.log.now c.args.self.now in
     let o = open-ready a c.args.by c.requires.ready in
     λ h kept there. settled-small a c.requires.ready.whole o.step.few h kept (rw c.pass_slot-seen.ensures.hosts at there)
+
+pub pass_slot-seen-requires-clause-open : goal.pass_slot-seen-requires-clause-open
+pass_slot-seen-requires-clause-open c = ap is_some (open-ready (stage c.args.setup.now c.args.log.now c.args.self.now) c.args.by c.requires.ready).at
 
 opened : (c : After-sleep_events) → OpenIs (here c) c.args.by
 opened c = open-ready (here c) c.args.by c.requires.ready

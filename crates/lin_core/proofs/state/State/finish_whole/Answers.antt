@@ -1,11 +1,11 @@
-use Rattle.std.proofs.Common.{refl, ◌≡◌, ◌+◌, ℕ, suc, length, List, [], ◌∷◌, ◌++◌, sym, ◌∙◌, arith}
+use Rattle.std.proofs.Common.{refl, ◌≡◌, ◌+◌, ℕ, suc, length, List, [], ◌∷◌, ◌++◌, sym, ◌∙◌, arith, ap}
 use Rattle.lin_core.specs.Kept.{Keeps, slot_in, message_at}
 use Rattle.lin_core.specs.Replies.{finish_events, receiver_of}
 use Rattle.lin_core.specs.Stages.{Stage, stage}
 use Rattle.lin_core.specs.declared.event.Seen.{Seen as HowSeen}
 use Rattle.lin_core.specs.declared.event.Event.TheVariants.{Message as MessageEvent, Seen, Sent}
 use Rattle.lin_core.specs.declared.log.LogEntry.{LogEntry}
-use Rattle.std.specs.Prelude.{slice_set, Some, false, true, option_map}
+use Rattle.std.specs.Prelude.{slice_set, Some, false, true, option_map, is_some}
 use Rattle.std.proofs.Math.ListN.{length-set}
 use Rattle.lin_core.specs.Hosts.{settled}
 use Rattle.lin_core.proofs.FinishCases.{Done, finishes-whole, known_behind}
@@ -82,10 +82,16 @@ unwrap-bytes-requires c =
     let g = good-inside a c.args.sender false c.index.result.now c.next-place.result w o.step.known carried c.index.ensures c.next-place.ensures in
     let there : message_at a.log c.next-place.result ≡ Some g.message = g.at in
     let given = option_map (λ v. v.items) c.in_ok-message.message in
-    let heard = heard-inside a c.args.by o c.args.sender c.index.result.now c.next-place.result w g carried c.responder_at-node.result c.direction_at-dir.result c.frame_in-frame.result
-    given c.hear.new.receivers.items (c.responder_at-node.ensures g.message there) (c.direction_at-dir.ensures g.message there) c.frame_in-frame.ensures c.in_ok-message.ensures.hears in
+    let heard = heard-inside a c.args.by o c.args.sender c.index.result.now c.next-place.result w g carried c.responder_at-node.result c.direction_at-dir.result c.data-frame.result
+    given c.hear.new.receivers.items (c.responder_at-node.ensures g.message there) (c.direction_at-dir.ensures g.message there) c.open.result.now c.open.ensures c.data-frame.ensures c.in_ok-message.ensures.hears in
     some-given c.in_ok-message.message g.message.bytes
     (given-inside a c.args.by o c.args.sender c.index.result.now c.next-place.result w g carried (last-by a c.args.sender c.index.result.now c.next-place.result true w o.step.known g c.requires.last) given c.hear.new.receivers.items heard)
+
+pub open-requires : goal.open-requires
+open-requires c = ap is_some (open-ready (stage c.args.setup.now c.args.log.now c.args.self.now) c.args.by c.requires.ready).at
+
+pub pass_slot-seen-requires-clause-open : goal.pass_slot-seen-requires-clause-open
+pass_slot-seen-requires-clause-open c = ap is_some (open-ready (stage c.args.setup.now c.args.log.now c.args.self.now) c.args.by c.requires.ready).at
 
 opened : (c : After-three_events) → OpenIs (here c) c.args.by
 opened c = open-ready (here c) c.args.by c.requires.ready
@@ -119,8 +125,8 @@ heard_frame c =
     let a = here c in
     let g = good c in
     let there : message_at a.log c.next-place.result ≡ Some g.message = g.at in
-    heard-inside a c.args.by (opened c) c.args.sender c.index.result.now c.next-place.result c.requires.ready.whole g c.requires.carried c.responder_at-node.result c.direction_at-dir.result c.frame_in-frame.result
-    (option_map (λ v. v.items) c.in_ok-message.message) c.hear.new.receivers.items (c.responder_at-node.ensures g.message there) (c.direction_at-dir.ensures g.message there) c.frame_in-frame.ensures c.in_ok-message.ensures.hears
+    heard-inside a c.args.by (opened c) c.args.sender c.index.result.now c.next-place.result c.requires.ready.whole g c.requires.carried c.responder_at-node.result c.direction_at-dir.result c.data-frame.result
+    (option_map (λ v. v.items) c.in_ok-message.message) c.hear.new.receivers.items (c.responder_at-node.ensures g.message there) (c.direction_at-dir.ensures g.message there) c.open.result.now c.open.ensures c.data-frame.ensures c.in_ok-message.ensures.hears
 
 -- the receiver gives the message
 bytes_are : (c : After-three_events) → c.unwrap-bytes.result.items ≡ (good c).message.bytes
