@@ -55,6 +55,23 @@ answer-slot a by node w s =
     in let undecided : has_decided (slot_in k.0) node ≡ false = rw k.2 at both.1
     in record { slot = k.0; at = k.1; is = k.2; is_open = there; can = there.answers node due; free = record { due = due; undecided = undecided } }
 
+-- the slot that is read is that one
+pub same-slot : (a : Stage) (node : ℕ) (s : AnswerSlot a node) (o : OpenSlot) → a.state.slot ≡ Some o → o ≡ s.slot
+same-slot a node s o at = let both : Some o ≡ Some s.slot = sym at ∙ s.at in cc
+
+pub same-header : (a : Stage) (node : ℕ) (s : AnswerSlot a node) (o : OpenSlot) (h : ℕ) → a.state.slot ≡ Some o → Some h ≡ o.header → h ≡ s.can.0
+same-header a node s o h at e = let both : Some h ≡ Some s.can.0 = e ∙ ap (λ (x : OpenSlot). x.header) (same-slot a node s o at) ∙ s.can.1 in cc
+
+pub same-model : (a : Stage) (node : ℕ) (s : AnswerSlot a node) (o : OpenSlot) (frame : ℕ) → a.state.slot ≡ Some o → model_by a.cluster o.kind frame ≡ model_by a.cluster (line_of a.cluster s.slot.table s.slot.entry).entry frame
+same-model a node s o frame at = ap (λ (x : OpenSlot). model_by a.cluster x.kind frame) (same-slot a node s o at) ∙ ap (λ (k : Entry). model_by a.cluster k frame) s.is_open.kind_is
+
+-- it is open, and has a header
+pub header-there : (a : Stage) (node : ℕ) (s : AnswerSlot a node) (o : OpenSlot) → a.state.slot ≡ Some o → is_some o.header ≡ true
+header-there a node s o at = ap is_some (ap (λ (x : OpenSlot). x.header) (same-slot a node s o at) ∙ s.can.1)
+
+pub open-there : (a : Stage) (node : ℕ) (s : AnswerSlot a node) (o : OpenSlot) → a.state.slot ≡ Some o → IsOpen a.cluster o
+open-there a node s o at = subst (IsOpen a.cluster) (sym (same-slot a node s o at)) s.is_open
+
 pub answered-by : (c : Parts) (past : List LogEntry) (node h : ℕ) (slot : OpenSlot) → open_slot past ≡ Some (slot_in slot) → slot.header ≡ Some h → frame_answered c past node ≡ frame_by c (line_of c slot.table slot.entry).entry h node
 answered-by c past node h slot is e = rw (is, e) refl
 

@@ -340,7 +340,7 @@ leave-keeps c opening capacity log past slot clock walker hosts signals by node 
     in let r = k.slot_there.room
     in record {
       slot_is = rw (← k.slot_is) refl;
-      slot_there = record { there = k.slot_there.there; request = k.slot_there.request; answers = k.slot_there.answers; room = simp length-append (omega arith) };
+      slot_there = record { there = k.slot_there.there; kind_is = k.slot_there.kind_is; known = k.slot_there.known; request = k.slot_there.request; answers = k.slot_there.answers; room = simp length-append (omega arith) };
       clock_is = k.clock_is;
       clock_few = let t = k.clock_few in omega arith;
       stands = k.stands;
@@ -358,7 +358,7 @@ hurt-keeps c opening capacity log past slot clock walker hosts signals by bytes 
     in let known' : Known c (e ∷ past) = hurt-known c past by bytes [] known
     in record {
       slot_is = rw (← k.slot_is) refl;
-      slot_there = record { there = k.slot_there.there; request = k.slot_there.request; answers = k.slot_there.answers; room = k.slot_there.room };
+      slot_there = record { there = k.slot_there.there; kind_is = k.slot_there.kind_is; known = k.slot_there.known; request = k.slot_there.request; answers = k.slot_there.answers; room = k.slot_there.room };
       clock_is = k.clock_is;
       clock_few = let t = k.clock_few in omega arith;
       stands = k.stands;

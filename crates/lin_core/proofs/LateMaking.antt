@@ -39,7 +39,6 @@ pub made-kept : (a : Stage) (by : PortId) (step : Step) (es : List Event) (new :
 made-kept a by step es new log r m e =
     let whole : IsKept (record a { log = a.log ++ done_of a by step ∷ []; state = new }) = record {
       few = let few = r.few in rw length-append (omega arith);
-      empty = m.empty;
       rules = r.whole.rules;
       sound = r.whole.sound;
       opening = r.whole.opening;

@@ -28,6 +28,7 @@ use Rattle.lin_core.specs.Signals.{pending}
 use Rattle.lin_frame.specs.Words.{numbers}
 use Rattle.lin_schedule.specs.Due.{due_for}
 use Rattle.lin_schedule.specs.Walker.{HasEntry, Position}
+use Rattle.lin_schedule.proofs.Clusters.{line-entry}
 use Rattle.lin_schedule.specs.declared.due.Due.{Due}
 use Rattle.lin_core.proofs.Places.{get-there}
 use Rattle.lin_core.proofs.Steps.{not-false, none-of, history-known}
@@ -81,8 +82,8 @@ flags-inside a w shut f =
 pub opens-inside : (a : Stage) (by : PortId) (host : Host) (slot : OpenSlot) (waits : Bool) (responder : Option ℕ) (place : ℕ × ℕ) (due : Due) → IsKept a → Allowed a by Open → host ≡ slice_index_or a.state.hosts.items 0 host
     → waits ≡ (not (length host.queue.items == 0) || a.state.mode.asked) → responder ≡ responder_now a.cluster (past_in a) → place ≡ a.state.walker.place → due ≡ due_for a.cluster a.state.signals.pending.items (line_of a.cluster a.state.walker.place.0 a.state.walker.place.1).entry
     → slot_in slot ≡ begun place.0 place.1 (header_of a.cluster waits due) (filter (is_due_of a.cluster a.state.signals.pending.items waits responder due) (numbers (nodes a.cluster)))
-    → length slot.due.items ≤ 16 → slot.puts.items ≡ [] → slot.left.items ≡ [] → slot.hurt ≡ false → Opens a.cluster a.opening (past_in a) slot
-opens-inside a by host slot waits responder place due w s e b r at d is few empty none calm =
+    → slot.kind ≡ (line_of a.cluster slot.table slot.entry).entry → length slot.due.items ≤ 16 → slot.puts.items ≡ [] → slot.left.items ≡ [] → slot.hurt ≡ false → Opens a.cluster a.opening (past_in a) slot
+opens-inside a by host slot waits responder place due w s e b r at d is own few empty none calm =
     let past : List LogEntry = past_in a
     in let kept : KeepsHost a.cluster a.capacity a.log past 0 host = w.kept.each_host 0 host (commander-at a host w e)
     in let n = queue-length a.cluster a.capacity a.log past 0 host kept
@@ -101,7 +102,7 @@ opens-inside a by host slot waits responder place due w s e b r at d is few empt
     in let there : HasEntry a.cluster (slot.table, slot.entry) = subst (HasEntry a.cluster) (sym pair) w.kept.walks.place
     in record {
       at = pair ∙ ap (λ (p : Position). p.place) w.kept.stands;
-      is_open = new-open a.cluster past slot kind w.sound there line head dues empty none few;
+      is_open = new-open a.cluster past slot kind w.sound there own (rw own (line-entry a.cluster w.rules (slot.table, slot.entry) there)) line head dues empty none few;
       header_is = rw line head;
       due_is = rw line dues;
       empty = empty;

@@ -239,16 +239,20 @@ put-room c s p o free = let f = fewer s p free in let r = o.room in omega arith
 pub put-open : (c : Parts) (s : OpenSlot) (p : Put) → IsOpen c s → Free s p.node → IsOpen c (with_put s p)
 put-open c s p o free = record {
   there = o.there;
+  kind_is = o.kind_is;
+  known = o.known;
   request = o.request;
   answers = o.answers;
   room = let f = fewer s p free in let r = o.room in let n = length-append s.puts.items (p ∷ []) in omega arith;
 }
 
 -- a slot that has just opened
-pub new-open : (c : Parts) (past : List LogEntry) (s : OpenSlot) (kind : Entry) → IsSound c → HasEntry c (s.table, s.entry) → (line_of c s.table s.entry).entry ≡ kind → s.header ≡ header c past kind → s.due.items ≡ due_nodes c past kind
+pub new-open : (c : Parts) (past : List LogEntry) (s : OpenSlot) (kind : Entry) → IsSound c → HasEntry c (s.table, s.entry) → s.kind ≡ (line_of c s.table s.entry).entry → IsEntry c s.kind → (line_of c s.table s.entry).entry ≡ kind → s.header ≡ header c past kind → s.due.items ≡ due_nodes c past kind
     → s.puts.items ≡ [] → s.left.items ≡ [] → length s.due.items ≤ 16 → IsOpen c s
-new-open c past s kind sound there line h d e l few = record {
+new-open c past s kind sound there own known line h d e l few = record {
   there = there;
+  kind_is = own;
+  known = known;
   request = λ t. line ∙ request-is c past kind sound (ap (header_is 0x3C) (sym h) ∙ t);
   answers = λ n i. rw (line, h) (can-answer c past kind n (in-filter (is_due c past kind) (numbers (nodes c)) n (ap (λ (ns : List ℕ). is_in ns n) (sym d) ∙ i)));
   room = let none : length s.puts.items ≡ 0 = ap length e in let no : length s.left.items ≡ 0 = ap length l in let f = filter-all (λ n. not (has_decided (slot_in s) n)) s.due.items in omega arith;

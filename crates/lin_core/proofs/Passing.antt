@@ -10,7 +10,6 @@ use Rattle.lin_core.specs.Passes.{Passes}
 use Rattle.lin_core.specs.Replies.{finish_events}
 use Rattle.lin_core.specs.Slots.{moves}
 use Rattle.lin_core.specs.Stages.{IsKept, Stage}
-use Rattle.lin_core.specs.declared.event.Event.{Event}
 use Rattle.lin_core.specs.declared.host.Host.{Host}
 use Rattle.lin_core.specs.declared.log.LogEntry.{LogEntry}
 use Rattle.lin_core.specs.declared.port.PortId.{PortId}
@@ -24,9 +23,9 @@ use Rattle.lin_core.proofs.ModeKeeping.{finish-mode}
 abbrev pub finish_of : Stage → PortId → LogEntry
 finish_of a by = finished_entry a.cluster (past_in a) by
 
--- what the receivers and the room are doesn't matter
-pub passes-as : (c : Parts) (slot : OpenSlot) (old new : State) (rs : Vec Receivers) (room : Vec Event) → Passes c slot (record old { receivers = rs; room = room }) new → Passes c slot old new
-passes-as c slot old new rs room p = record { shut = p.shut; clock = p.clock; few = p.few; stands = p.stands; walks = p.walks; signals = p.signals; mode = p.mode }
+-- what the receivers are doesn't matter
+pub passes-as : (c : Parts) (slot : OpenSlot) (old new : State) (rs : Vec Receivers) → Passes c slot (record old { receivers = rs }) new → Passes c slot old new
+passes-as c slot old new rs p = record { shut = p.shut; clock = p.clock; few = p.few; stands = p.stands; walks = p.walks; signals = p.signals; mode = p.mode }
 
 pub passed-keeps : (a : Stage) (by : PortId) (o : OpenIs a by) (new : State) (hosts : List Host) → IsKept a → Passes a.cluster o.slot a.state new → length hosts ≡ length a.state.hosts.items
     → ((h : ℕ) (host : Host) → slice_get hosts h ≡ Some host → KeepsHost a.cluster a.capacity (a.log ++ finish_of a by ∷ []) (finish_of a by ∷ past_in a) h host)

@@ -36,8 +36,8 @@ one-put (p ∷ []) h bytes e = (p, refl, (let same : put_in p ≡ (h, bytes) = c
 one-put (p ∷ q ∷ ps) h bytes e = cc
 
 -- the frame that is looked for in the slot is the message's
-pub frame-there : (c : Parts) (past : List LogEntry) (by : PortId) (k : Known c past) (slot : OpenSlot) (h : ℕ) (i : CarriesFrame c past by k (slot_in slot) h) (o : Option OpenSlot) (f : List ℕ) → o ≡ Some slot
-    → ((kept : OpenSlot) (put : Put) → o ≡ Some kept → kept.puts.items ≡ put ∷ [] → 8 ≤ length put.answer → f ≡ take 8 put.answer) → f ≡ frame (nad_on c i.message.link) i.message.bytes (k.states h).count
+pub frame-there : (c : Parts) (past : List LogEntry) (by : PortId) (k : Known c past) (slot : OpenSlot) (h : ℕ) (i : CarriesFrame c past by k (slot_in slot) h) (o : OpenSlot) (f : List ℕ) → o ≡ slot
+    → ((put : Put) → o.puts.items ≡ put ∷ [] → 8 ≤ length put.answer → f ≡ take 8 put.answer) → f ≡ frame (nad_on c i.message.link) i.message.bytes (k.states h).count
 frame-there c past by k slot h i o f at is =
     let n : ℕ = nad_on c i.message.link
     in let g : List ℕ = frame n i.message.bytes (k.states h).count
@@ -45,7 +45,7 @@ frame-there c past by k slot h i o f at is =
     in let eight : length g ≡ 8 = length-frame n i.message.bytes (k.states h).count
     in let nine : length (with_classic g) ≡ length g + 1 = length-append g (classic g ∷ [])
     in let long : 8 ≤ length one.0.answer = rw one.2 (omega arith)
-    in is slot one.0 at one.1 long ∙ ap (take 8) one.2 ∙ (frame-is n i.message.bytes (k.states h).count).data_is
+    in is one.0 (rw at one.1) long ∙ ap (take 8) one.2 ∙ (frame-is n i.message.bytes (k.states h).count).data_is
 
 link-is : (l : Link) (n : ℕ) (d : Direction) → n ≡ l.node → d ≡ l.dir → link_at n d ≡ l
 link-is l n d p q = rw (p, q) refl
@@ -60,9 +60,9 @@ hears-message m m' n d f f' given old new p q e g on =
 -- a good frame of a host's message, inside a core: the receiver of its link hears it
 pub heard-inside : (a : Stage) (by : PortId) (o : OpenIs a by) (h : ℕ) (host : Host) (place : ℕ) (w : IsKept a) (g : GoodIs a o.step.known h host place) → IsCarried (past_in a) h false
     → (n : ℕ) (d : Direction) (f : List ℕ) (given : Option (List ℕ)) (rs : List Receivers) → n ≡ g.message.link.node → d ≡ g.message.link.dir
-    → ((kept : OpenSlot) (put : Put) → a.state.slot ≡ Some kept → kept.puts.items ≡ put ∷ [] → 8 ≤ length put.answer → f ≡ take 8 put.answer)
+    → (own : OpenSlot) → a.state.slot ≡ Some own → ((put : Put) → own.puts.items ≡ put ∷ [] → 8 ≤ length put.answer → f ≡ take 8 put.answer)
     → HearsOn (link_at n d) f given a.state.receivers.items rs → HeardFrame a.cluster (past_in a) (finish_of a by ∷ past_in a) g.message.link given rs
-heard-inside a by o h host place w g carried n d f given rs node dir frame_is on =
+heard-inside a by o h host place w g carried n d f given rs node dir own at frame_is on =
     let c : Parts = a.cluster
     in let past : List LogEntry = past_in a
     in let k : Known c past = o.step.known
@@ -70,7 +70,8 @@ heard-inside a by o h host place w g carried n d f given rs node dir frame_is on
     in let i : CarriesFrame c past by k (slot_in o.slot) h = carries-frame c past by w.sound k (slot_in o.slot) h o.is q.0
     in let both : g.message ∷ g.later ≡ i.message ∷ i.later = sym g.first ∙ i.first
     in let one : g.message ≡ i.message = cc
-    in let there : f ≡ frame (nad_on c i.message.link) i.message.bytes (k.states h).count = frame-there c past by k o.slot h i a.state.slot f o.at frame_is
+    in let same : own ≡ o.slot = (let two : Some own ≡ Some o.slot = sym at ∙ o.at in cc)
+    in let there : f ≡ frame (nad_on c i.message.link) i.message.bytes (k.states h).count = frame-there c past by k o.slot h i own f same frame_is
     in let hears : HearsOn i.message.link (frame (nad_on c i.message.link) i.message.bytes (k.states h).count) given a.state.receivers.items rs
     = hears-message g.message i.message n d f _ given a.state.receivers.items rs node dir one there on
     in subst (λ (m : Message). HeardFrame c past (finish_of a by ∷ past) m.link given rs) (sym one)

@@ -1,5 +1,5 @@
 -- An answer with a frame of a message, or with the sleep frame.
-use Rattle.std.proofs.Common.{◌≡◌, ℕ, ◌-◌, ◌<◌, Bool, true, false, List, [], ◌∷◌, refl, ap, sym, ◌∙◌, subst, arith}
+use Rattle.std.proofs.Common.{◌≡◌, ℕ, ◌<◌, Bool, true, false, List, [], ◌∷◌, refl, ap, sym, ◌∙◌, subst, arith}
 use Rattle.std.specs.Prelude.{Some, None, ◌==◌, ◌&&◌, ◌||◌, slice_get, slice_index_or, nat_le}
 use Rattle.lin_frame.specs.Words.{choose}
 use Rattle.lin_core.specs.Dues.{frame_answered}
@@ -14,7 +14,7 @@ use Rattle.lin_core.specs.declared.event.Event.TheVariants.{Put as PutEvent}
 use Rattle.lin_core.specs.declared.host.Host.{Host}
 use Rattle.lin_core.specs.declared.port.PortId.{PortId}
 use Rattle.lin_core.specs.declared.step.Step.TheVariants.{Answer}
-use Rattle.lin_core.proofs.Answering.{AnswerSlot, answer-slot, transport-head}
+use Rattle.lin_core.proofs.Answering.{AnswerSlot, answer-slot, same-slot, transport-head}
 use Rattle.lin_core.proofs.Hosts.{HostState}
 use Rattle.lin_core.proofs.Known.{has_rest}
 use Rattle.lin_core.proofs.LateMaking.{host-of}
@@ -58,8 +58,8 @@ pub record AnswersNext (a : Stage) (by : PortId) (node : ℕ) (host : Host) (pla
 
 pub answers-next : (a : Stage) (by : PortId) (node : ℕ) (host : Host) (place header : ℕ) (sleeping : Bool) → IsReady a by (Answer node)
     → frame_answered a.cluster (past_in a) node ≡ None → host ≡ slice_index_or a.state.hosts.items node host → ((p : ℕ) → slice_get host.queue.items 0 ≡ Some p → place ≡ p)
-    → ((kept : OpenSlot) (h : ℕ) → a.state.slot ≡ Some kept → kept.header ≡ Some h → header ≡ h) → sleeping ≡ (header == 0x3C && a.state.mode.asked) → AnswersNext a by node host place header sleeping
-answers-next a by node host place header sleeping r none e at head sleeps =
+    → (own : OpenSlot) → a.state.slot ≡ Some own → Some header ≡ own.header → sleeping ≡ (header == 0x3C && a.state.mode.asked) → AnswersNext a by node host place header sleeping
+answers-next a by node host place header sleeping r none e at own is head sleeps =
     let c : Parts = a.cluster
     in let past : List LogEntry = past_in a
     in let s : Allowed a by (Answer node) = allowed-ready a by (Answer node) r
@@ -70,7 +70,7 @@ answers-next a by node host place header sleeping r none e at head sleeps =
     in let here : slice_get a.state.hosts.items node ≡ Some host = host-of a node host w below e
     in let x : AnswerIs c past s.known.states node (slot_in o.slot) = answer-is c a.capacity past by node s.known s.allowed (slot_in o.slot) o.is
     in let t : TurnIs c past s.known.states node (slot_in o.slot) = turn-is c past s.known.states node (slot_in o.slot) x (transport-head a node o none)
-    in let same : header ≡ t.header = head o.slot t.header o.at t.header_is
+    in let same : header ≡ t.header = (let both : Some header ≡ Some t.header = head ∙ ap (λ (x : OpenSlot). x.header) (same-slot a node o own is) ∙ t.header_is in cc)
     in let asleep_is : sleeping ≡ (t.header == 0x3C && asked past) = sleeps ∙ ap (λ (x : ℕ). x == 0x3C && a.state.mode.asked) same ∙ ap (λ (b : Bool). t.header == 0x3C && b) w.late.mode_is.asked_is
     in let next = next-inside a node host place w s.known here at
     in let some : (has_rest (s.known.states node).rest || sleeping) ≡ true = rw asleep_is t.some

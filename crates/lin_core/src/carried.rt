@@ -1,14 +1,13 @@
 //! Which frame a response carries.
 
-ghost use Rattle.std.specs.Prelude.{◌≡◌, ◌==◌, ◌<◌, ℕ, List, All, find, length, option_map, IfSome, Some};
-ghost use Rattle.lin_parts.specs.Cluster.{frame_of, line_of};
+ghost use Rattle.std.specs.Prelude.{◌≡◌, ◌==◌, ◌<◌, List, All, find, length, IfSome, Some};
+ghost use Rattle.lin_parts.specs.Cluster.{frame_of};
 ghost use Rattle.lin_parts.specs.Rules.{IsEntry};
 ghost use Rattle.lin_core.specs.Dues.{frame_by, frame_answered, model_by};
 ghost use Rattle.lin_core.specs.History.{open_slot};
 ghost use Rattle.lin_core.specs.Slots.{model_of};
-ghost use Rattle.lin_core.specs.Kept.{slot_in, IsThere};
+ghost use Rattle.lin_core.specs.Kept.{slot_in, IsOpen};
 ghost use Rattle.lin_core.specs.declared.log.LogEntry.{LogEntry};
-ghost use Rattle.lin_core.specs.declared.slot.OpenSlot.{OpenSlot};
 
 use crate::slot::OpenSlot;
 use lin_frame::SumKind;
@@ -51,35 +50,29 @@ pub(crate) fn frame_by(cluster: &Cluster, entry: Entry, header: u8, node: u8) ->
     }
 }
 
-/// The frame that a node's response carries in the open slot.
-pub(crate) fn frame_answered(cluster: &Cluster, slot: &Option<OpenSlot>, node: u8) -> Option<u16>
-    requires { IsThere cluster.now slot.now }
-    ensures frame { (past : List LogEntry) → option_map slot_in slot.now ≡ open_slot past → result ≡ frame_answered cluster.now past node }
-    ensures there { IfSome result (λ f. f < length cluster.now.frames) }
-{
-    let Some(open) = slot else {
-        return None;
-    };
-    let Some(header) = open.header else {
-        return None;
-    };
-    cluster.sound();
-    frame_by(cluster, cluster.entry(open.table, open.entry), header, node)
-}
+impl OpenSlot {
+    /// The frame that a node's response carries in the slot.
+    pub(crate) fn frame_answered(&self, cluster: &Cluster, node: u8) -> Option<u16>
+        requires { IsOpen cluster.now self.now }
+        ensures frame { (past : List LogEntry) → open_slot past ≡ Some (slot_in self.now) → result ≡ frame_answered cluster.now past node }
+        ensures there { IfSome result (λ f. f < length cluster.now.frames) }
+    {
+        match self.header {
+            Some(header) => frame_by(cluster, self.kind, header, node),
+            None => None,
+        }
+    }
 
-/// The checksum model of a response with a frame in the open slot.
-pub(crate) fn model_of(cluster: &Cluster, slot: &Option<OpenSlot>, frame: u16) -> SumKind
-    requires slot { IsThere cluster.now slot.now }
-    requires frame { frame < length cluster.now.frames }
-    ensures { (kept : OpenSlot) → slot.now ≡ Some kept → result ≡ model_by cluster.now (line_of cluster.now kept.table kept.entry).entry frame }
-{
-    let Some(open) = slot else {
-        return SumKind::Enhanced;
-    };
-    cluster.sound();
-    match cluster.entry(open.table, open.entry) {
-        Entry::Event(event) => cluster.event_model(event),
-        _ => cluster.model(frame),
+    /// The checksum model of a response with a frame in the slot.
+    pub(crate) fn model_of(&self, cluster: &Cluster, frame: u16) -> SumKind
+        requires slot { IsOpen cluster.now self.now }
+        requires frame { frame < length cluster.now.frames }
+        ensures { result ≡ model_by cluster.now self.now.kind frame }
+    {
+        match self.kind {
+            Entry::Event(event) => cluster.event_model(event),
+            _ => cluster.model(frame),
+        }
     }
 }
 

@@ -3,8 +3,8 @@
 ghost use Rattle.std.specs.Prelude.{◌≡◌};
 
 use crate::event::{Event, Seen};
-use crate::heard::copied_answer;
 use crate::payload::Payload;
+use crate::response::answer_with;
 use crate::signals::copied;
 use crate::step::Step;
 use std::alloc::{AllocError, Global};
@@ -69,7 +69,7 @@ fn copied_seen(seen: &Seen) -> Seen
     match seen {
         Seen::Silent => Seen::Silent,
         Seen::NoAnswer => Seen::NoAnswer,
-        Seen::Good(answer) => Seen::Good(copied_answer(answer)),
+        Seen::Good(answer) => Seen::Good(answer_with(answer.as_slice())),
         Seen::Damaged => Seen::Damaged,
         Seen::Collided => Seen::Collided,
     }
@@ -99,7 +99,7 @@ impl Event {
             Event::Due { node } => Ok(Event::Due { node: *node }),
             Event::Put { node, answer } => Ok(Event::Put {
                 node: *node,
-                answer: copied_answer(answer),
+                answer: answer_with(answer.as_slice()),
             }),
             Event::Seen(seen) => Ok(Event::Seen(copied_seen(seen))),
             Event::Message { from, to, bytes } => Ok(Event::Message {

@@ -7,13 +7,12 @@ ghost use Rattle.lin_frame.specs.Words.{choose};
 ghost use Rattle.lin_parts.specs.Cluster.{frame_of, signal_of};
 ghost use Rattle.lin_parts.specs.Rules.{place_at};
 ghost use Rattle.lin_core.specs.History.{good};
-ghost use Rattle.lin_core.specs.Kept.{ArePointwise, slot_in, IsThere};
+ghost use Rattle.lin_core.specs.Kept.{ArePointwise, slot_in, IsOpen};
 ghost use Rattle.lin_core.specs.Signals.{place_in, value_in};
 
 use crate::carried::frame_by;
 use crate::signals::copied;
 use crate::slot::OpenSlot;
-use arrayvec::ArrayVec;
 use lin_frame::{Answer, SumKind, Value, answer, pack, unpack};
 use lin_parts::Cluster;
 
@@ -28,15 +27,6 @@ fn gather(room: &mut Vec<Value>, values: &[Value], signals: &[u16])
     for signal in signals {
         room.push(copied(&values[*signal as usize])).unwrap();
     }
-}
-
-/// An equal response.
-pub(crate) fn copied_answer(answer: &Answer) -> Answer
-    ensures { result ≡ answer.now }
-{
-    let mut copy = ArrayVec::new();
-    copy.try_extend_from_slice(answer.as_slice()).unwrap();
-    Answer::new(copy)
 }
 
 /// The response with a frame under a header, as these values stand.
@@ -106,7 +96,7 @@ fn hear(heard: &mut Vec<Value>, cluster: &Cluster, frame: u16, bytes: &[u8])
 
 /// The other nodes hear what a slot carries that was seen good.
 pub(crate) fn hear_slot(heard: &mut Vec<Value>, cluster: &Cluster, slot: &OpenSlot)
-    requires there { IsThere cluster.now (Some slot.now) }
+    requires there { IsOpen cluster.now slot.now }
     requires count { length heard.old.items ≡ length cluster.now.signals }
     requires good { is_some (good (slot_in slot.now)) ≡ true }
     ensures count { length heard.new.items ≡ length heard.old.items }
@@ -118,9 +108,7 @@ pub(crate) fn hear_slot(heard: &mut Vec<Value>, cluster: &Cluster, slot: &OpenSl
     let Some(put) = slot.puts.as_slice().first() else {
         return;
     };
-    cluster.sound();
-    let entry = cluster.entry(slot.table, slot.entry);
-    if let Some(frame) = frame_by(cluster, entry, header, put.node) {
+    if let Some(frame) = frame_by(cluster, slot.kind, header, put.node) {
         hear(heard, cluster, frame, put.answer.as_slice());
     }
 }

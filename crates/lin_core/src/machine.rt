@@ -21,6 +21,7 @@ use crate::receivers::fresh_receivers;
 use crate::reply::Reply;
 use crate::setup::Setup;
 use crate::signals::{Signals, copied};
+use crate::slot::Slot;
 use crate::state::State;
 use crate::step::Step;
 use lin_frame::Value;
@@ -59,17 +60,6 @@ impl Drop for Core {
             state: _state,
         } = self;
     }
-}
-
-/// The one event of a step, in the room that was made for it.
-fn one_event(room: Vec<Event>, event: Event) -> Events
-    requires empty { room.items ≡ [] }
-    requires room { 1 ≤ vec_capacity room }
-    ensures { result ≡ event ∷ [] }
-{
-    let mut events = room;
-    events.push(event).unwrap();
-    Events::new(events)
 }
 
 /// The two events of a step, in the room that was made for them.
@@ -138,14 +128,13 @@ impl Core {
             },
             log: Log::new(alloc),
             state: State {
-                slot: None,
+                slot: Slot::new(),
                 time: 0,
                 walker: Walker::new(table),
                 hosts,
                 receivers,
                 signals,
                 mode: Mode::new(),
-                room: Vec::new(alloc),
             },
         })
     }
@@ -215,21 +204,21 @@ impl Core {
     pub fn undecided(&self) -> usize
         ensures { result ≡ undecided (past_of self.now) }
     {
-        match &self.state.slot {
-            Some(slot) => slot.undecided(),
-            None => 0,
+        let slot = &self.state.slot;
+        if slot.is_open() {
+            return slot.open().undecided();
         }
+        0
     }
 
-    /// Makes room, so that a send, a write, an answer, a leave or a close isn't held for want of memory if it is the next step. It changes nothing else; an
-    /// error is want of memory.
+    /// Makes room, so that the next step isn't held for want of memory, unless it is an open or a finish. It changes nothing
+    /// else; an error is want of memory.
     pub fn make_room(&mut self) -> Result<(), AllocError>
         ensures alike { IsAlike self.old self.new }
         ensures log { self.new.log ≡ self.old.log }
         ensures spare { OnOk result (1 ≤ self.new.spare) }
     {
         self.log.make_room()?;
-        self.state.room.try_reserve_exact(1)?;
         Ok(())
     }
 

@@ -7,7 +7,6 @@ ghost use Rattle.lin_core.specs.History.{good_under};
 ghost use Rattle.lin_core.specs.Kept.{slot_in};
 ghost use Rattle.lin_core.specs.KeptLate.{mode_after};
 ghost use Rattle.lin_core.specs.Slots.{node_with};
-ghost use Rattle.lin_core.specs.declared.slot.OpenSlot.{OpenSlot};
 
 use crate::slot::{MASTER_REQUEST, OpenSlot};
 use lin_parts::Cluster;
@@ -79,13 +78,10 @@ impl Mode {
     }
 
     /// A slot ends: a good master request selects a responder by its address, and the sleep frame puts the cluster to sleep.
-    pub(crate) fn finish(&mut self, cluster: &Cluster, slot: &Option<OpenSlot>)
-        ensures { (kept : OpenSlot) → slot.now ≡ Some kept → self.new ≡ mode_after cluster.now (slot_in kept) self.old }
+    pub(crate) fn finish(&mut self, cluster: &Cluster, slot: &OpenSlot)
+        ensures { self.new ≡ mode_after cluster.now (slot_in slot.now) self.old }
     {
-        let Some(open) = slot else {
-            return;
-        };
-        match request_byte(open) {
+        match request_byte(slot) {
             Some(0) => {
                 self.asleep = true;
                 self.asked = false;

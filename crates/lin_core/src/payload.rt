@@ -1,9 +1,10 @@
 //! Bytes of messages, and lists of events.
 
-ghost use Rattle.std.specs.Prelude.{◌≡◌, ℕ, List};
+ghost use Rattle.std.specs.Prelude.{◌≡◌, ◌∷◌, [], ℕ, List};
 
 use crate::event::Event;
 use std::marker::Model;
+use std::slice;
 
 /// The bytes of a message. Contracts see them as a list.
 #[derive(Drop)]
@@ -35,10 +36,17 @@ impl Payload {
     }
 }
 
+/// One event in its place, or a list of none or several.
+#[derive(Drop)]
+pub(crate) enum Held {
+    One(Event),
+    Listed(Vec<Event>),
+}
+
 /// The events of a step. Contracts see them as a list.
 #[derive(Drop)]
 pub struct Events {
-    events: Vec<Event>,
+    held: Held,
 }
 
 impl Model for Events {
@@ -47,7 +55,9 @@ impl Model for Events {
 
     ghost Value = { List Event };
 
-    ghost view = { λ e. e.events.items };
+    ghost use Rattle.lin_core.specs.Held.{events_in};
+
+    ghost view = { λ e. events_in e.held };
 }
 
 impl Events {
@@ -55,13 +65,27 @@ impl Events {
     pub fn new(events: Vec<Event>) -> Events
         ensures { result ≡ events.items }
     {
-        Events { events }
+        Events {
+            held: Held::Listed(events),
+        }
+    }
+
+    /// This event alone, which takes no memory.
+    pub(crate) fn one(event: Event) -> Events
+        ensures { result ≡ event ∷ [] }
+    {
+        Events {
+            held: Held::One(event),
+        }
     }
 
     /// The events, in order.
     pub fn as_slice(&self) -> &[Event]
         ensures { result.now ≡ self.now }
     {
-        self.events.as_slice()
+        match &self.held {
+            Held::One(event) => slice::from_ref(event),
+            Held::Listed(events) => events.as_slice(),
+        }
     }
 }

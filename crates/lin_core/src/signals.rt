@@ -5,9 +5,8 @@ ghost use Rattle.lin_parts.specs.Cluster.{frame_of, signal_of};
 ghost use Rattle.lin_core.specs.Fits.{AreBytes, FitsValue};
 ghost use Rattle.lin_frame.specs.Words.{choose};
 ghost use Rattle.lin_core.specs.History.{good, is_in};
-ghost use Rattle.lin_core.specs.Kept.{ArePointwise, is_cleared, slot_in, IsThere};
+ghost use Rattle.lin_core.specs.Kept.{ArePointwise, is_cleared, slot_in, IsOpen};
 ghost use Rattle.lin_core.specs.Signals.{value_in};
-ghost use Rattle.lin_core.specs.declared.slot.OpenSlot.{OpenSlot};
 
 use crate::heard::hear_slot;
 use crate::slot::{OpenSlot, Put};
@@ -129,24 +128,21 @@ impl Signals {
     }
 
     /// The slot ends: its values are heard where it was seen good, and otherwise the frames that it carried are pending again.
-    pub(crate) fn finish(&mut self, cluster: &Cluster, slot: &Option<OpenSlot>)
-        requires slot { IsThere cluster.now slot.now }
+    pub(crate) fn finish(&mut self, cluster: &Cluster, slot: &OpenSlot)
+        requires slot { IsOpen cluster.now slot.now }
         requires heard { length self.old.heard.items ≡ length cluster.now.signals }
-        requires cleared { (kept : OpenSlot) → slot.now ≡ Some kept → All (λ put. IfSome put.cleared (λ f. f < length self.old.pending.items)) kept.puts.items }
+        requires cleared { All (λ put. IfSome put.cleared (λ f. f < length self.old.pending.items)) slot.now.puts.items }
         ensures values { self.new.values ≡ self.old.values }
         ensures room { self.new.room ≡ self.old.room }
         ensures signals { length self.new.heard.items ≡ length self.old.heard.items }
         ensures frames { length self.new.pending.items ≡ length self.old.pending.items }
-        ensures heard { (kept : OpenSlot) → slot.now ≡ Some kept → (g : ℕ → Value) → ArePointwise g self.old.heard.items → ArePointwise (λ s. choose (value_in cluster.now (slot_in kept) s) (g s) (λ v. v)) self.new.heard.items }
-        ensures pending { (kept : OpenSlot) → slot.now ≡ Some kept → (f : ℕ) → slice_index_or self.new.pending.items f false ≡ (if is_some (good (slot_in kept)) then slice_index_or self.old.pending.items f false else (slice_index_or self.old.pending.items f false || is_cleared kept.puts.items f)) }
+        ensures heard { (g : ℕ → Value) → ArePointwise g self.old.heard.items → ArePointwise (λ s. choose (value_in cluster.now (slot_in slot.now) s) (g s) (λ v. v)) self.new.heard.items }
+        ensures pending { (f : ℕ) → slice_index_or self.new.pending.items f false ≡ (if is_some (good (slot_in slot.now)) then slice_index_or self.old.pending.items f false else (slice_index_or self.old.pending.items f false || is_cleared slot.now.puts.items f)) }
     {
-        let Some(open) = slot else {
-            return;
-        };
-        if open.is_good() {
-            hear_slot(&mut self.heard, cluster, open);
+        if slot.is_good() {
+            hear_slot(&mut self.heard, cluster, slot);
         } else {
-            restore(&mut self.pending, open.puts.as_slice());
+            restore(&mut self.pending, slot.puts.as_slice());
         }
     }
 }

@@ -1,24 +1,21 @@
 //! The open slot, as the core keeps it.
 
-ghost use Rattle.std.specs.Prelude.{◌≡◌, ◌<◌, ◌++◌, ◌∷◌, [], Bool, ◌==◌, ◌&&◌, not, true, false, length, filter};
-ghost use Rattle.std.specs.Prelude.{◌+◌, ◌≤◌, ℕ, List, Some, None, is_some, option_map, map, take, vec_capacity};
+ghost use Rattle.std.specs.Prelude.{◌≡◌, ◌<◌, ◌≤◌, ◌++◌, ◌∷◌, [], Bool, ◌==◌, ◌&&◌, not, true, false, length, filter};
+ghost use Rattle.std.specs.Prelude.{ℕ, List, IfOk, Some, None, is_some, map, take};
 ghost use Rattle.std.specs.List.{list_any};
-ghost use Rattle.lin_frame.specs.Words.{choose, numbers};
-ghost use Rattle.lin_parts.specs.Cluster.{line_of, nodes};
-ghost use Rattle.lin_core.specs.Dues.{header_of, is_due_of, HasDue};
-ghost use Rattle.lin_core.specs.History.{good, has_decided, header_is, is_clash_seen, is_in, open_slot, seen};
-ghost use Rattle.lin_core.specs.Kept.{begun, slot_in, IsThere};
-ghost use Rattle.lin_core.specs.declared.log.LogEntry.{LogEntry};
+ghost use Rattle.lin_schedule.specs.Walker.{HasEntry};
+ghost use Rattle.lin_core.specs.History.{good, has_decided, header_is, is_clash_seen, is_in, seen};
+ghost use Rattle.lin_core.specs.Kept.{opened, slot_in};
 ghost use Rattle.lin_core.specs.declared.slot.OpenSlot.{OpenSlot};
 ghost use Rattle.lin_core.specs.declared.slot.Put.{Put};
 
-use crate::due::{due_nodes, header_for};
 use crate::event::{Event, Seen};
 use crate::payload::Events;
+use crate::response::Response;
 use arrayvec::ArrayVec;
-use lin_frame::Answer;
-use lin_parts::Cluster;
-use lin_schedule::Due;
+use lin_parts::{Cluster, Entry};
+use std::alloc::{AllocError, Global};
+use std::marker::Model;
 
 /// The protected identifiers of the diagnostic frames (ISO 17987-3: 60, master request, and 61, slave response).
 pub(crate) const MASTER_REQUEST: u8 = 0x3C;
@@ -29,7 +26,7 @@ pub(crate) const SLAVE_RESPONSE: u8 = 0x7D;
 #[derive(Drop)]
 pub(crate) struct Put {
     pub(crate) node: u8,
-    pub(crate) answer: Answer,
+    pub(crate) answer: Response,
     pub(crate) cleared: Option<u16>,
 }
 
@@ -38,18 +35,20 @@ impl Default for Put {
     fn default() -> Put {
         Put {
             node: 0,
-            answer: Answer::new(ArrayVec::new()),
+            answer: Response::empty(),
             cleared: None,
         }
     }
 }
 
-/// The open slot: its entry, its header, who is due, who put what, in the order of the responses, who left its response out, and whether the
-/// response was disturbed. A cluster has at most 16 nodes, and each decides at most once.
+/// The open slot: its place in the schedule and what that entry is for, its header, who is due, who put what, in the
+/// order of the responses, who left its response out, and whether the response was disturbed. A cluster has at most 16
+/// nodes, and each decides at most once.
 #[derive(Drop)]
 pub(crate) struct OpenSlot {
     pub(crate) table: u16,
     pub(crate) entry: u16,
+    pub(crate) kind: Entry,
     pub(crate) header: Option<u8>,
     pub(crate) due: ArrayVec<u8, 16>,
     pub(crate) puts: ArrayVec<Put, 16>,
@@ -71,56 +70,33 @@ fn has_left(left: &[u8], node: u8) -> bool
     left.iter().any(|other| *other == node)
 }
 
+/// The events of an open of a slot for an entry of a table, under a header, in which these nodes are due. An error is want
+/// of memory.
+pub(crate) fn opening_events(
+    alloc: Global,
+    place: (u16, u16),
+    header: Option<u8>,
+    due: &[u8],
+) -> Result<Events, AllocError>
+    ensures { IfOk result (λ events. events ≡ Event.Slot place.0 place.1 header ∷ map Event.Due due.now) }
+{
+    let opened = Event::Slot {
+        table: place.0,
+        entry: place.1,
+        header,
+    };
+    if due.is_empty() {
+        return Ok(Events::one(opened));
+    }
+    let mut events = Vec::with_capacity(alloc, 1 + due.len())?;
+    events.push(opened)?;
+    for node in due {
+        events.push(Event::Due { node: *node })?;
+    }
+    Ok(Events::new(events))
+}
+
 impl OpenSlot {
-    /// The slot that opens for an entry of a table, with what is due in it, where the commander has something to request or
-    /// doesn't, where this responder is due in a slave response, and where these frames are pending.
-    pub(crate) fn begin(
-        cluster: &Cluster,
-        place: (u16, u16),
-        due: Due,
-        waits: bool,
-        responder: Option<u8>,
-        pending: &[bool],
-    ) -> OpenSlot
-        requires there { HasDue cluster.now due }
-        requires count { length pending.now ≡ length cluster.now.frames }
-        ensures opened { slot_in result ≡ begun place.0 place.1 (header_of cluster.now waits due) (filter (is_due_of cluster.now pending.now waits responder due) (numbers (nodes cluster.now))) }
-        ensures few { length result.due.items ≤ 16 }
-        ensures empty { result.puts.items ≡ [] }
-        ensures calm { result.hurt ≡ false }
-        ensures none_left { result.left.items ≡ [] }
-    {
-        OpenSlot {
-            table: place.0,
-            entry: place.1,
-            header: header_for(cluster, due, waits),
-            due: due_nodes(cluster, due, waits, responder, pending),
-            puts: ArrayVec::new(),
-            left: ArrayVec::new(),
-            hurt: false,
-        }
-    }
-
-    /// The events of its open, in the room that was made for them.
-    pub(crate) fn opening_events(&self, room: Vec<Event>) -> Events
-        requires empty { room.items ≡ [] }
-        requires room { 1 + length self.now.due.items ≤ vec_capacity room }
-        ensures { result ≡ Event.Slot self.now.table self.now.entry self.now.header ∷ map Event.Due self.now.due.items }
-    {
-        let mut events = room;
-        let opened = Event::Slot {
-            table: self.table,
-            entry: self.entry,
-            header: self.header,
-        };
-        events.push(opened).unwrap();
-        let due = self.due.as_slice();
-        for node in due {
-            events.push(Event::Due { node: *node }).unwrap();
-        }
-        Events::new(events)
-    }
-
     /// Whether a node is due in the slot.
     pub(crate) fn is_due(&self, node: u8) -> bool
         ensures { result ≡ is_in (slot_in self.now).due node }
@@ -156,66 +132,40 @@ impl OpenSlot {
         self.header.is_some() && self.puts.len() == 1 && !self.hurt
     }
 
+    /// Its header, which it has.
+    pub(crate) fn header(&self) -> u8
+        requires { is_some self.now.header ≡ true }
+        ensures { Some result ≡ self.now.header }
+    {
+        self.header.unwrap()
+    }
+
+    /// The data bytes of its only response; zeros where that has fewer than eight.
+    pub(crate) fn data(&self) -> [u8; 8]
+        ensures { (put : Put) → self.now.puts.items ≡ put ∷ [] → 8 ≤ length put.answer → result ≡ take 8 put.answer }
+    {
+        let mut data = [0; 8];
+        if let Some(put) = self.puts.as_slice().first()
+            && put.answer.as_slice().len() >= 8
+        {
+            data.copy_from_slice(&put.answer.as_slice()[..8]);
+        }
+        data
+    }
+
     /// How the slot is seen when it ends.
-    fn seen(self) -> Seen
-        ensures { result ≡ seen (slot_in self) }
+    pub(crate) fn seen(&self) -> Seen
+        ensures { result ≡ seen (slot_in self.now) }
     {
         if self.header.is_none() {
             return Seen::Silent;
         }
-        let mut puts = self.puts;
-        if puts.len() > 1 {
-            return Seen::Collided;
+        match self.puts.as_slice() {
+            [] => Seen::NoAnswer,
+            [_] if self.hurt => Seen::Damaged,
+            [put] => Seen::Good(put.answer.answer()),
+            _ => Seen::Collided,
         }
-        match puts.pop() {
-            Some(_) if self.hurt => Seen::Damaged,
-            Some(put) => Seen::Good(put.answer),
-            None => Seen::NoAnswer,
-        }
-    }
-}
-
-/// A node puts its response in the slot, where one is open.
-pub(crate) fn put_in(slot: &mut Option<OpenSlot>, put: Put)
-    requires { (kept : OpenSlot) → slot.old ≡ Some kept → length kept.puts.items < 16 }
-    ensures { (kept : OpenSlot) → slot.old ≡ Some kept → slot.new ≡ Some (record kept { puts = record { items = kept.puts.items ++ put ∷ [] } }) }
-{
-    if let Some(open) = slot {
-        open.puts.push(put);
-    }
-}
-
-/// The data bytes of the slot's only response; zeros where it has another number of them, or none is open.
-pub(crate) fn frame_in(slot: &Option<OpenSlot>) -> [u8; 8]
-    ensures { (kept : OpenSlot) (put : Put) → slot.now ≡ Some kept → kept.puts.items ≡ put ∷ [] → 8 ≤ length put.answer → result ≡ take 8 put.answer }
-{
-    let mut frame = [0; 8];
-    if let Some(open) = slot
-        && let Some(put) = open.puts.as_slice().first()
-        && put.answer.as_slice().len() >= 8
-    {
-        frame.copy_from_slice(&put.answer.as_slice()[..8]);
-    }
-    frame
-}
-
-/// The slot's header; 0 where it has none, or none is open.
-pub(crate) fn header_of(slot: &Option<OpenSlot>) -> u8
-    ensures { (kept : OpenSlot) (header : ℕ) → slot.now ≡ Some kept → kept.header ≡ Some header → result ≡ header }
-{
-    match slot {
-        Some(open) => open.header.unwrap_or(0),
-        None => 0,
-    }
-}
-
-/// How the slot is seen when it ends; silent where none is open.
-pub(crate) fn seen_in(slot: Option<OpenSlot>) -> Seen
-    ensures { (kept : OpenSlot) → slot ≡ Some kept → result ≡ seen (slot_in kept) }
-{
-    match slot {
-        Some(open) => open.seen(),
-        None => Seen::Silent,
     }
 }
 
@@ -226,43 +176,119 @@ pub(crate) fn is_clash(seen: &Seen) -> bool
     matches!(seen, Seen::Damaged | Seen::Collided)
 }
 
-/// The delay of the slot's entry in microseconds; 0 where no slot is open.
-pub(crate) fn delay_of(cluster: &Cluster, slot: &Option<OpenSlot>) -> u32
-    requires { IsThere cluster.now slot.now }
-    ensures value { (kept : OpenSlot) → slot.now ≡ Some kept → result ≡ (line_of cluster.now kept.table kept.entry).delay_us }
-    ensures few { result ≤ 1000000000 }
-{
-    match slot {
-        Some(open) => cluster.delay_us(open.table, open.entry),
-        None => 0,
-    }
-}
-
-/// A node leaves its response out, where a slot is open.
-pub(crate) fn leave_in(slot: &mut Option<OpenSlot>, node: u8)
-    requires { (kept : OpenSlot) → slot.old ≡ Some kept → length kept.left.items < 16 }
-    ensures none { slot.old ≡ None → slot.new ≡ None }
-    ensures some { (kept : OpenSlot) → slot.old ≡ Some kept → slot.new ≡ Some (record kept { left = record { items = kept.left.items ++ node ∷ [] } }) }
-{
-    if let Some(open) = slot {
-        open.left.push(node);
-    }
-}
-
-/// The response is disturbed, where a slot is open.
-pub(crate) fn hurt_in(slot: &mut Option<OpenSlot>)
-    ensures none { slot.old ≡ None → slot.new ≡ None }
-    ensures some { (kept : OpenSlot) → slot.old ≡ Some kept → slot.new ≡ Some (record kept { hurt = true }) }
-{
-    if let Some(open) = slot {
-        open.hurt = true;
-    }
-}
-
 /// Whether the commander puts the sleep frame in a slot with this header, unless a message is begun: sleep is asked for, and the header is the
 /// master request's.
 pub(crate) fn is_sleep_asked(header: u8, asked: bool) -> bool
     ensures { result ≡ (header == 0x3C && asked) }
 {
     header == MASTER_REQUEST && asked
+}
+
+/// The place of a slot, which is open or not: what a closed one keeps counts for nothing. Contracts see the slot, if it is
+/// open.
+#[derive(Drop)]
+pub(crate) struct Slot {
+    is_open: bool,
+    kept: OpenSlot,
+}
+
+impl Model for Slot {
+    ghost use Rattle.std.specs.Prelude.{Option, Some, None, if◌then◌else◌};
+    ghost use Rattle.lin_core.specs.declared.slot.OpenSlot.{OpenSlot};
+
+    ghost Value = { Option OpenSlot };
+
+    ghost view = { λ s. if s.is_open then Some s.kept else None };
+}
+
+impl Slot {
+    /// A closed one.
+    pub(crate) fn new() -> Slot
+        ensures { result ≡ None }
+    {
+        Slot {
+            is_open: false,
+            kept: OpenSlot {
+                table: 0,
+                entry: 0,
+                kind: Entry::Quiet,
+                header: None,
+                due: ArrayVec::new(),
+                puts: ArrayVec::new(),
+                left: ArrayVec::new(),
+                hurt: false,
+            },
+        }
+    }
+
+    /// Whether it is open.
+    pub(crate) fn is_open(&self) -> bool
+        ensures { result ≡ is_some self.now }
+    {
+        self.is_open
+    }
+
+    /// The slot, which is open.
+    pub(crate) fn open(&self) -> &OpenSlot
+        requires { is_some self.now ≡ true }
+        ensures { self.now ≡ Some result.now }
+    {
+        &self.kept
+    }
+
+    /// It opens for an entry of a schedule table, under a header, with these nodes due.
+    pub(crate) fn begin(
+        &mut self,
+        cluster: &Cluster,
+        place: (u16, u16),
+        header: Option<u8>,
+        due: ArrayVec<u8, 16>,
+    )
+        requires { HasEntry cluster.now place }
+        ensures { self.new ≡ Some (opened cluster.now place header due.items) }
+    {
+        self.is_open = true;
+        let slot = &mut self.kept;
+        slot.table = place.0;
+        slot.entry = place.1;
+        slot.kind = cluster.entry(place.0, place.1);
+        slot.header = header;
+        slot.due = due;
+        slot.puts.clear();
+        slot.left.clear();
+        slot.hurt = false;
+    }
+
+    /// A node puts its response in it.
+    pub(crate) fn put(&mut self, put: Put)
+        requires open { is_some self.old ≡ true }
+        requires room { (kept : OpenSlot) → self.old ≡ Some kept → length kept.puts.items < 16 }
+        ensures { (kept : OpenSlot) → self.old ≡ Some kept → self.new ≡ Some (record kept { puts = record { items = kept.puts.items ++ put ∷ [] } }) }
+    {
+        self.kept.puts.push(put);
+    }
+
+    /// A node leaves its response out.
+    pub(crate) fn leave(&mut self, node: u8)
+        requires open { is_some self.old ≡ true }
+        requires room { (kept : OpenSlot) → self.old ≡ Some kept → length kept.left.items < 16 }
+        ensures { (kept : OpenSlot) → self.old ≡ Some kept → self.new ≡ Some (record kept { left = record { items = kept.left.items ++ node ∷ [] } }) }
+    {
+        self.kept.left.push(node);
+    }
+
+    /// The response in it is disturbed.
+    pub(crate) fn hurt(&mut self)
+        requires { is_some self.old ≡ true }
+        ensures { (kept : OpenSlot) → self.old ≡ Some kept → self.new ≡ Some (record kept { hurt = true }) }
+    {
+        self.kept.hurt = true;
+    }
+
+    /// It ends.
+    pub(crate) fn close(&mut self)
+        ensures { self.new ≡ None }
+    {
+        self.is_open = false;
+    }
 }

@@ -4,44 +4,35 @@ ghost use Rattle.std.specs.Prelude.{◌≡◌, Some, true, false, reverse};
 
 use crate::event::Event;
 use crate::link::Cause;
-use crate::load::{Load, is_hurt, load_in};
+use crate::load::Load;
 use crate::log::Log;
 use crate::losses::sleep_events;
-use crate::machine::{one_event, three_events, two_events};
+use crate::machine::{three_events, two_events};
 use crate::messages::{address_at, direction_at, message_at, receiver_at, responder_at};
 use crate::payload::{Events, Payload};
 use crate::port::PortId;
 use crate::receivers::{hear, reset_all};
 use crate::setup::Setup;
-use crate::slot::frame_in;
 use crate::state::State;
 use crate::step::Step;
 use std::alloc::AllocError;
-use std::mem;
 
 impl State {
     ghost use Rattle.std.specs.Prelude.{◌≡◌, Some, true, false, reverse};
-    ghost use Rattle.lin_core.specs.Stages.{stage, IsKept, IsReady, Makes};
+    ghost use Rattle.lin_core.specs.Stages.{stage, IsKept, IsMade, IsReady, Makes};
     ghost use Rattle.lin_core.specs.History.{open_slot, Slot as OpenedSlot};
     ghost use Rattle.lin_core.specs.KeptLate.{is_last_next};
     ghost use Rattle.lin_core.specs.Loads.{is_still, load_of, IsCarried};
     ghost use Rattle.lin_core.specs.declared.load.Load.TheVariants.{Carried, Sleep};
 
     /// A finish of a slot by which no message moves on, and the cluster stays awake.
-    pub(super) fn finish_plain(
-        &mut self,
-        setup: &Setup,
-        log: &Log,
-        by: PortId,
-    ) -> Result<Events, AllocError>
+    pub(super) fn finish_plain(&mut self, setup: &Setup, log: &Log, by: PortId) -> Events
         requires ready { IsReady (stage setup.now log.now self.old) by Step.Finish }
         requires still { (s : OpenedSlot) → open_slot (reverse log.now.entries) ≡ Some s → is_still (load_of s) s.hurt ≡ true }
-        ensures { Makes (stage setup.now log.now self.old) by Step.Finish result self.new }
+        ensures { IsMade (stage setup.now log.now self.old) by Step.Finish result self.new }
     {
-        self.room.try_reserve_exact(1)?;
         let seen = self.pass_slot(&setup.cluster);
-        let room = mem::replace(&mut self.room, Vec::new(setup.alloc));
-        Ok(one_event(room, Event::Seen(seen)))
+        Events::one(Event::Seen(seen))
     }
 
     /// A finish of a slot with a damaged frame of a host's message, which is lost.
@@ -56,12 +47,11 @@ impl State {
         requires carried { (s : OpenedSlot) → open_slot (reverse log.now.entries) ≡ Some s → (load_of s ≡ Carried sender) × (s.hurt ≡ true) }
         ensures { Makes (stage setup.now log.now self.old) by Step.Finish result self.new }
     {
-        self.room.try_reserve_exact(2)?;
+        let room = Vec::with_capacity(setup.alloc, 2)?;
         let seen = self.pass_slot(&setup.cluster);
         let host = &mut self.hosts[sender as usize];
         let number = host.settled + 1;
         host.settle();
-        let room = mem::replace(&mut self.room, Vec::new(setup.alloc));
         let lost = Event::Lost {
             host: sender,
             number,
@@ -94,18 +84,16 @@ impl State {
         requires more { is_last_next setup.now.cluster (reverse log.now.entries) sender ≡ false }
         ensures { Makes (stage setup.now log.now self.old) by Step.Finish result self.new }
     {
-        self.room.try_reserve_exact(1)?;
         let place = self.hosts[sender as usize].next() as usize;
         let address = address_at(&setup.cluster, log, place);
         let len = message_at(log, place).len();
         let node = responder_at(log, place);
         let dir = direction_at(log, place);
-        let frame = frame_in(&self.slot);
+        let frame = self.slot.open().data();
         hear(&mut self.receivers, node, dir, &frame)?;
         let seen = self.pass_slot(&setup.cluster);
         self.hosts[sender as usize].go_on(address, len);
-        let room = mem::replace(&mut self.room, Vec::new(setup.alloc));
-        Ok(one_event(room, Event::Seen(seen)))
+        Ok(Events::one(Event::Seen(seen)))
     }
 
     /// A finish of a slot with the last frame of a host's message, seen good: the message is whole, and its receiver is told of it.
@@ -121,19 +109,18 @@ impl State {
         requires last { is_last_next setup.now.cluster (reverse log.now.entries) sender ≡ true }
         ensures { Makes (stage setup.now log.now self.old) by Step.Finish result self.new }
     {
-        self.room.try_reserve_exact(3)?;
+        let room = Vec::with_capacity(setup.alloc, 3)?;
         let place = self.hosts[sender as usize].next() as usize;
         let to = receiver_at(log, place);
         let node = responder_at(log, place);
         let dir = direction_at(log, place);
-        let frame = frame_in(&self.slot);
+        let frame = self.slot.open().data();
         let message = hear(&mut self.receivers, node, dir, &frame)?;
         let bytes = message.unwrap();
         let seen = self.pass_slot(&setup.cluster);
         let host = &mut self.hosts[sender as usize];
         let number = host.settled + 1;
         host.settle();
-        let room = mem::replace(&mut self.room, Vec::new(setup.alloc));
         let whole = Event::Message {
             from: sender,
             to,
@@ -157,11 +144,9 @@ impl State {
         requires asleep { (s : OpenedSlot) → open_slot (reverse log.now.entries) ≡ Some s → (load_of s ≡ Sleep) × (s.hurt ≡ false) }
         ensures { Makes (stage setup.now log.now self.old) by Step.Finish result self.new }
     {
-        let count = 2 + self.hosts.len();
-        self.room.try_reserve_exact(count)?;
+        let room = Vec::with_capacity(setup.alloc, 2 + self.hosts.len())?;
         let seen = self.pass_slot(&setup.cluster);
         reset_all(&mut self.receivers);
-        let room = mem::replace(&mut self.room, Vec::new(setup.alloc));
         Ok(sleep_events(room, seen, &mut self.hosts))
     }
 
@@ -194,8 +179,9 @@ impl State {
         requires ready { IsReady (stage setup.now log.now self.old) by Step.Finish }
         ensures { Makes (stage setup.now log.now self.old) by Step.Finish result self.new }
     {
-        let hurt = is_hurt(&self.slot);
-        match load_in(&self.slot) {
+        let slot = self.slot.open();
+        let hurt = slot.hurt;
+        match slot.load() {
             Load::Carried { host } => {
                 if hurt {
                     self.finish_damaged(setup, log, by, host)
@@ -205,12 +191,12 @@ impl State {
             }
             Load::Sleep => {
                 if hurt {
-                    self.finish_plain(setup, log, by)
+                    Ok(self.finish_plain(setup, log, by))
                 } else {
                     self.finish_sleep(setup, log, by)
                 }
             }
-            Load::Nothing => self.finish_plain(setup, log, by),
+            Load::Nothing => Ok(self.finish_plain(setup, log, by)),
         }
     }
 }

@@ -1,28 +1,27 @@
 //! Steps as they are made on what the core keeps.
 
-ghost use Rattle.std.specs.Prelude.{◌≡◌, ◌≤◌, ◌<◌, reverse, length, Some, None, IsOk, vec_capacity};
+ghost use Rattle.std.specs.Prelude.{◌≡◌, ◌≤◌, ◌<◌, reverse, length, Some, None, IsOk};
 
-use crate::carried::{frame_answered, model_of};
-use crate::due::has_request;
+use crate::due::{due_nodes, has_request, header_for};
 use crate::event::Event;
-use crate::heard::{copied_answer, frame_answer};
+use crate::heard::frame_answer;
 use crate::host::responder;
 use crate::log::Log;
-use crate::machine::{no_events, one_event};
+use crate::machine::no_events;
 use crate::messages::next_bytes;
 use crate::payload::{Events, Payload};
 use crate::port::PortId;
+use crate::response::Response;
 use crate::setup::Setup;
 use crate::signals::copied;
-use crate::slot::{OpenSlot, Put, header_of, is_sleep_asked, put_in};
+use crate::slot::{Put, is_sleep_asked, opening_events};
 use crate::state::State;
 use crate::step::Step;
 use lin_frame::{SumKind, Value, answer};
 use std::alloc::AllocError;
-use std::mem;
 
 impl State {
-    ghost use Rattle.std.specs.Prelude.{◌≡◌, ◌≤◌, ◌<◌, reverse, length, Some, None, IsOk, vec_capacity};
+    ghost use Rattle.std.specs.Prelude.{◌≡◌, ◌≤◌, ◌<◌, reverse, length, Some, None, IsOk};
     ghost use Rattle.lin_core.specs.Dues.{frame_answered};
     ghost use Rattle.lin_core.specs.Core.{IsSmall};
     ghost use Rattle.lin_core.specs.Stages.{stage, IsMade, IsReady, Makes};
@@ -36,18 +35,15 @@ impl State {
         from: u8,
         to: u8,
         message: &Payload,
-    ) -> Result<Events, AllocError>
-        requires ready { IsReady (stage setup.now log.now self.old) by (Step.Send from to message.now) }
-        ensures makes { Makes (stage setup.now log.now self.old) by (Step.Send from to message.now) result self.new }
-        ensures spare { 1 ≤ vec_capacity self.old.room → IsOk result }
+    ) -> Events
+        requires { IsReady (stage setup.now log.now self.old) by (Step.Send from to message.now) }
+        ensures { IsMade (stage setup.now log.now self.old) by (Step.Send from to message.now) result self.new }
     {
-        self.room.try_reserve_exact(1)?;
         let place = log.len() as u32;
         let host = &mut self.hosts[from as usize];
         let number = host.settled + host.queue.len() as u32 + 1;
         host.accept(place);
-        let room = mem::replace(&mut self.room, Vec::new(setup.alloc));
-        Ok(one_event(room, Event::Accepted { host: from, number }))
+        Events::one(Event::Accepted { host: from, number })
     }
 
     /// A write: the signal has the value, and its frames are pending.
@@ -87,27 +83,19 @@ impl State {
         let responder = responder(self.hosts.as_slice(), self.mode.selected);
         let pending = self.signals.pending.as_slice();
         let due = self.walker.due(&setup.cluster, pending);
-        let slot = OpenSlot::begin(&setup.cluster, place, due, requests, responder, pending);
-        self.room.try_reserve_exact(1 + slot.due.len())?;
-        let room = mem::replace(&mut self.room, Vec::new(setup.alloc));
-        let events = slot.opening_events(room);
-        self.slot = Some(slot);
+        let header = header_for(&setup.cluster, due, requests);
+        let nodes = due_nodes(&setup.cluster, due, requests, responder, pending);
+        let events = opening_events(setup.alloc, place, header, nodes.as_slice())?;
+        self.slot.begin(&setup.cluster, place, header, nodes);
         Ok(events)
     }
 
     /// An answer.
-    fn answer(
-        &mut self,
-        setup: &Setup,
-        log: &Log,
-        by: PortId,
-        node: u8,
-    ) -> Result<Events, AllocError>
+    fn answer(&mut self, setup: &Setup, log: &Log, by: PortId, node: u8) -> Events
         requires ready { IsReady (stage setup.now log.now self.old) by (Step.Answer node) }
-        ensures makes { Makes (stage setup.now log.now self.old) by (Step.Answer node) result self.new }
-        ensures spare { 1 ≤ vec_capacity self.old.room → IsOk result }
+        ensures { IsMade (stage setup.now log.now self.old) by (Step.Answer node) result self.new }
     {
-        match frame_answered(&setup.cluster, &self.slot, node) {
+        match self.slot.open().frame_answered(&setup.cluster, node) {
             Some(frame) => self.answer_frame(setup, log, by, node, frame),
             None => self.answer_message(setup, log, by, node),
         }
@@ -115,23 +103,15 @@ impl State {
 
     /// An answer with a frame of signals: the node puts it as the values stand, and the frame is pending no longer, unless the slot is
     /// then seen otherwise than good.
-    fn answer_frame(
-        &mut self,
-        setup: &Setup,
-        log: &Log,
-        by: PortId,
-        node: u8,
-        frame: u16,
-    ) -> Result<Events, AllocError>
+    fn answer_frame(&mut self, setup: &Setup, log: &Log, by: PortId, node: u8, frame: u16) -> Events
         requires ready { IsReady (stage setup.now log.now self.old) by (Step.Answer node) }
         requires carried { frame_answered setup.now.cluster (reverse log.now.entries) node ≡ Some frame }
         requires frame { frame < length setup.now.cluster.frames }
-        ensures makes { Makes (stage setup.now log.now self.old) by (Step.Answer node) result self.new }
-        ensures spare { 1 ≤ vec_capacity self.old.room → IsOk result }
+        ensures { IsMade (stage setup.now log.now self.old) by (Step.Answer node) result self.new }
     {
-        self.room.try_reserve_exact(1)?;
-        let header = header_of(&self.slot);
-        let model = model_of(&setup.cluster, &self.slot, frame);
+        let slot = self.slot.open();
+        let header = slot.header();
+        let model = slot.model_of(&setup.cluster, frame);
         let answer = frame_answer(
             &setup.cluster,
             self.signals.values.as_slice(),
@@ -140,47 +120,32 @@ impl State {
             model,
             header,
         );
-        let told = copied_answer(&answer);
-        let cleared = self.signals.clear(frame);
-        let put = Put {
+        self.slot.put(Put {
             node,
-            answer,
-            cleared,
-        };
-        put_in(&mut self.slot, put);
-        let room = mem::replace(&mut self.room, Vec::new(setup.alloc));
-        Ok(one_event(room, Event::Put { node, answer: told }))
+            answer: Response::of(&answer),
+            cleared: self.signals.clear(frame),
+        });
+        Events::one(Event::Put { node, answer })
     }
 
     /// An answer in a diagnostic slot: the node puts what comes next of its host's messages, or the commander the sleep frame.
-    fn answer_message(
-        &mut self,
-        setup: &Setup,
-        log: &Log,
-        by: PortId,
-        node: u8,
-    ) -> Result<Events, AllocError>
+    fn answer_message(&mut self, setup: &Setup, log: &Log, by: PortId, node: u8) -> Events
         requires ready { IsReady (stage setup.now log.now self.old) by (Step.Answer node) }
         requires none { frame_answered setup.now.cluster (reverse log.now.entries) node ≡ None }
-        ensures makes { Makes (stage setup.now log.now self.old) by (Step.Answer node) result self.new }
-        ensures spare { 1 ≤ vec_capacity self.old.room → IsOk result }
+        ensures { IsMade (stage setup.now log.now self.old) by (Step.Answer node) result self.new }
     {
-        self.room.try_reserve_exact(1)?;
-        let header = header_of(&self.slot);
+        let header = self.slot.open().header();
         let sleeping = is_sleep_asked(header, self.mode.asked);
         let host = &self.hosts[node as usize];
         let place = host.next() as usize;
         let data = next_bytes(&setup.cluster, log, host, place, sleeping);
         let answer = answer(SumKind::Classic, header, &data);
-        let told = copied_answer(&answer);
-        let put = Put {
+        self.slot.put(Put {
             node,
-            answer,
+            answer: Response::of(&answer),
             cleared: None,
-        };
-        put_in(&mut self.slot, put);
-        let room = mem::replace(&mut self.room, Vec::new(setup.alloc));
-        Ok(one_event(room, Event::Put { node, answer: told }))
+        });
+        Events::one(Event::Put { node, answer })
     }
 
     /// Makes a step that isn't refused: the events of it. An error is want of memory, and nothing is changed.
@@ -193,21 +158,21 @@ impl State {
     ) -> Result<Events, AllocError>
         requires ready { IsReady (stage setup.now log.now self.old) by step.now }
         ensures makes { Makes (stage setup.now log.now self.old) by step.now result self.new }
-        ensures spare { 1 ≤ vec_capacity self.old.room → IsSmall step.now → IsOk result }
+        ensures small { IsSmall step.now → IsOk result }
     {
         match step {
-            Step::Send { from, to, message } => self.send(setup, log, by, *from, *to, message),
+            Step::Send { from, to, message } => Ok(self.send(setup, log, by, *from, *to, message)),
             Step::Write {
                 by: node,
                 signal,
                 value,
             } => Ok(self.write(setup, log, by, *node, *signal, value)),
             Step::Open => self.open(setup, log, by),
-            Step::Answer { node } => self.answer(setup, log, by, *node),
+            Step::Answer { node } => Ok(self.answer(setup, log, by, *node)),
             Step::Leave { node } => Ok(self.leave(setup, log, by, *node)),
             Step::Hurt { bytes } => Ok(self.hurt(setup, log, by, bytes)),
             Step::Finish => self.finish(setup, log, by),
-            Step::Timeout { node, dir } => self.time_out(setup, log, by, *node, *dir),
+            Step::Timeout { node, dir } => Ok(self.time_out(setup, log, by, *node, *dir)),
             Step::Switch { table } => Ok(self.switch(setup, log, by, *table)),
             Step::AskSleep => Ok(self.ask_sleep(setup, log, by)),
             Step::Wake => Ok(self.wake(setup, log, by)),

@@ -6,15 +6,13 @@ use crate::event::Event;
 use crate::host::{begun_by, next_by};
 use crate::link::{Cause, Direction};
 use crate::log::Log;
-use crate::machine::{Core, one_event};
+use crate::machine::Core;
 use crate::messages::{goes_over, sender_over};
 use crate::payload::Events;
 use crate::port::PortId;
 use crate::setup::Setup;
 use crate::state::State;
 use crate::step::Step;
-use std::alloc::AllocError;
-use std::mem;
 
 impl Core {
     ghost use Rattle.std.specs.Prelude.{◌≡◌, ◌<◌, None, is_some};
@@ -34,7 +32,7 @@ impl Core {
 }
 
 impl State {
-    ghost use Rattle.lin_core.specs.Stages.{stage, IsReady, Makes};
+    ghost use Rattle.lin_core.specs.Stages.{stage, IsMade, IsReady};
 
     /// A timeout: the message that is begun there is lost, and its receiver forgets what it heard of it.
     pub(super) fn time_out(
@@ -44,22 +42,19 @@ impl State {
         by: PortId,
         node: u8,
         dir: Direction,
-    ) -> Result<Events, AllocError>
+    ) -> Events
         requires { IsReady (stage setup.now log.now self.old) by (Step.Timeout node dir) }
-        ensures { Makes (stage setup.now log.now self.old) by (Step.Timeout node dir) result self.new }
+        ensures { IsMade (stage setup.now log.now self.old) by (Step.Timeout node dir) result self.new }
     {
-        self.room.try_reserve_exact(1)?;
         let host = sender_over(node, dir);
         let kept = &mut self.hosts[host as usize];
         let number = kept.settled + 1;
         kept.settle();
         self.receivers[node as usize].reset(dir);
-        let room = mem::replace(&mut self.room, Vec::new(setup.alloc));
-        let lost = Event::Lost {
+        Events::one(Event::Lost {
             host,
             number,
             cause: Cause::TimedOut,
-        };
-        Ok(one_event(room, lost))
+        })
     }
 }

@@ -12,7 +12,7 @@ ghost use Rattle.lin_core.specs.declared.log.LogEntry.{LogEntry};
 
 use crate::port::PortId;
 use crate::reply::Refusal;
-use crate::slot::OpenSlot;
+use crate::slot::Slot;
 use crate::step::Step;
 use lin_frame::{Place, Value};
 use lin_parts::Cluster;
@@ -72,7 +72,7 @@ pub(crate) fn refuse_write(
 /// Why a switch is refused.
 pub(crate) fn refuse_switch(
     cluster: &Cluster,
-    slot: &Option<OpenSlot>,
+    slot: &Slot,
     by: PortId,
     table: u16,
 ) -> Option<Refusal>
@@ -81,7 +81,7 @@ pub(crate) fn refuse_switch(
     if table as usize >= cluster.tables() {
         return Some(Refusal::NoSuchTable);
     }
-    if slot.is_some() {
+    if slot.is_open() {
         return Some(Refusal::SlotOpen);
     }
     match by {

@@ -12,7 +12,7 @@ use crate::link::Direction;
 use crate::payload::Payload;
 use crate::port::PortId;
 use crate::reply::Refusal;
-use crate::slot::OpenSlot;
+use crate::slot::Slot;
 use crate::step::Step;
 use lin_parts::Cluster;
 
@@ -90,7 +90,7 @@ pub(crate) fn refuse_send(
 /// Why a timeout is refused, where a message is begun there or not.
 pub(crate) fn refuse_timeout(
     cluster: &Cluster,
-    slot: &Option<OpenSlot>,
+    slot: &Slot,
     begun: bool,
     by: PortId,
     node: u8,
@@ -101,7 +101,7 @@ pub(crate) fn refuse_timeout(
     if node as usize >= cluster.nodes() {
         return Some(Refusal::NoSuchNode);
     }
-    if slot.is_some() {
+    if slot.is_open() {
         return Some(Refusal::SlotOpen);
     }
     if !matches!(by, PortId::Bus) {

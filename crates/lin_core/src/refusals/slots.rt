@@ -2,16 +2,15 @@
 
 ghost use Rattle.std.specs.Prelude.{◌≡◌, ℕ, ◌<◌, ◌≤◌, List, length, option_map};
 ghost use Rattle.lin_core.specs.History.{asleep, open_slot};
-ghost use Rattle.lin_core.specs.Kept.{slot_in, IsThere};
+ghost use Rattle.lin_core.specs.Kept.{slot_in, IsOpen, IsThere};
 ghost use Rattle.lin_core.specs.Replies.{refusal, may, passes_in};
-ghost use Rattle.lin_schedule.specs.Walker.{HasEntry};
 ghost use Rattle.lin_parts.specs.declared.parts.Parts.{Parts};
 ghost use Rattle.lin_core.specs.declared.log.LogEntry.{LogEntry};
 
 use crate::carried::model_under;
 use crate::port::PortId;
 use crate::reply::Refusal;
-use crate::slot::OpenSlot;
+use crate::slot::{OpenSlot, Slot};
 use crate::step::Step;
 use lin_frame::passes;
 use lin_parts::Cluster;
@@ -29,13 +28,13 @@ fn may_answer(by: PortId, node: u8) -> bool
 }
 
 /// Why an open is refused, where the cluster is asleep or not.
-pub(crate) fn refuse_open(slot: &Option<OpenSlot>, sleeping: bool, by: PortId) -> Option<Refusal>
+pub(crate) fn refuse_open(slot: &Slot, sleeping: bool, by: PortId) -> Option<Refusal>
     ensures { (c : Parts) (capacity : ℕ) (past : List LogEntry) → option_map slot_in slot.now ≡ open_slot past → sleeping ≡ asleep past → result ≡ refusal c capacity past by Step.Open }
 {
     if sleeping {
         return Some(Refusal::Asleep);
     }
-    if slot.is_some() {
+    if slot.is_open() {
         return Some(Refusal::SlotOpen);
     }
     match by {
@@ -45,21 +44,17 @@ pub(crate) fn refuse_open(slot: &Option<OpenSlot>, sleeping: bool, by: PortId) -
 }
 
 /// Why an answer, or a response left out, is refused.
-pub(crate) fn refuse_answer(
-    cluster: &Cluster,
-    slot: &Option<OpenSlot>,
-    by: PortId,
-    node: u8,
-) -> Option<Refusal>
+pub(crate) fn refuse_answer(cluster: &Cluster, slot: &Slot, by: PortId, node: u8) -> Option<Refusal>
     ensures answer { (capacity : ℕ) (past : List LogEntry) → option_map slot_in slot.now ≡ open_slot past → result ≡ refusal cluster.now capacity past by (Step.Answer node) }
     ensures leave { (capacity : ℕ) (past : List LogEntry) → option_map slot_in slot.now ≡ open_slot past → result ≡ refusal cluster.now capacity past by (Step.Leave node) }
 {
     if node as usize >= cluster.nodes() {
         return Some(Refusal::NoSuchNode);
     }
-    let Some(slot) = slot else {
+    if !slot.is_open() {
         return Some(Refusal::NoSlot);
-    };
+    }
+    let slot = slot.open();
     if !may_answer(by, node) || !slot.is_due(node) {
         return Some(Refusal::NotYours);
     }
@@ -72,13 +67,12 @@ pub(crate) fn refuse_answer(
 /// Whether bytes pass the check of an answer in a slot: its length, and its checksum by the model of the slot's entry over the slot's header
 /// (ISO 17987-3, checksum).
 fn passes_in(cluster: &Cluster, slot: &OpenSlot, answer: &[u8], bytes: &[u8]) -> bool
-    requires there { HasEntry cluster.now (slot.now.table, slot.now.entry) }
+    requires there { IsOpen cluster.now slot.now }
     ensures { result ≡ passes_in cluster.now (slot_in slot.now) answer.now bytes.now }
 {
-    cluster.sound();
     match slot.header {
         Some(header) => {
-            let model = model_under(cluster, cluster.entry(slot.table, slot.entry), header);
+            let model = model_under(cluster, slot.kind, header);
             passes(model, header, answer.len().saturating_sub(1), bytes)
         }
         None => false,
@@ -88,16 +82,17 @@ fn passes_in(cluster: &Cluster, slot: &OpenSlot, answer: &[u8], bytes: &[u8]) ->
 /// Why a disturbance is refused.
 pub(crate) fn refuse_hurt(
     cluster: &Cluster,
-    slot: &Option<OpenSlot>,
+    slot: &Slot,
     by: PortId,
     bytes: &[u8],
 ) -> Option<Refusal>
     requires { IsThere cluster.now slot.now }
     ensures { (capacity : ℕ) (past : List LogEntry) → option_map slot_in slot.now ≡ open_slot past → result ≡ refusal cluster.now capacity past by (Step.Hurt bytes.now) }
 {
-    let Some(slot) = slot else {
+    if !slot.is_open() {
         return Some(Refusal::NoSlot);
-    };
+    }
+    let slot = slot.open();
     if !matches!(by, PortId::Bus) {
         return Some(Refusal::NotYours);
     }
@@ -114,10 +109,10 @@ pub(crate) fn refuse_hurt(
 }
 
 /// Why a finish is refused.
-pub(crate) fn refuse_finish(slot: &Option<OpenSlot>, by: PortId) -> Option<Refusal>
+pub(crate) fn refuse_finish(slot: &Slot, by: PortId) -> Option<Refusal>
     ensures { (c : Parts) (capacity : ℕ) (past : List LogEntry) → option_map slot_in slot.now ≡ open_slot past → result ≡ refusal c capacity past by Step.Finish }
 {
-    if slot.is_none() {
+    if !slot.is_open() {
         return Some(Refusal::NoSlot);
     }
     match by {

@@ -21,7 +21,7 @@ returns-in-Some-frame_by-clause-heard c = λ g p s v at.
     let first : slice_get slot.puts.items 0 ≡ Some put
     = subst (λ (ps : List Put). slice_get ps 0 ≡ Some put) c.as_slice.ensures.value (sym c.first.ensures.value ∙ ap option_copied c.in-Some-first.is) in
     let by : frame_by x (line_of x slot.table slot.entry).entry c.in-Some.header put.node ≡ Some c.in-Some-frame_by.frame
-    = rw (← c.entry-entry.ensures) (sym c.frame_by.ensures.frame ∙ c.in-Some-frame_by.is) in
+    = rw (← c.requires.there.kind_is) (sym c.frame_by.ensures.frame ∙ c.in-Some-frame_by.is) in
     let is : value_in x (slot_in slot) s ≡ option_map (λ q. unpacked q (take 8 put.answer)) (place_in (frame_of x c.in-Some-frame_by.frame) s)
     = heard-is x slot c.in-Some.header put c.in-Some-frame_by.frame s c.requires.good c.in-Some.is first by in
     c.hear.ensures.heard g p s v at
@@ -36,5 +36,5 @@ returns-in_default-frame_by-clause-heard c = λ g p s v at.
     let first : slice_get slot.puts.items 0 ≡ Some put
     = subst (λ (ps : List Put). slice_get ps 0 ≡ Some put) c.as_slice.ensures.value (sym c.first.ensures.value ∙ ap option_copied c.in-Some-first.is) in
     let by : frame_by x (line_of x slot.table slot.entry).entry c.in-Some.header put.node ≡ None
-    = rw (← c.entry-entry.ensures) (sym c.frame_by.ensures.frame ∙ c.in_default-frame_by.is) in
+    = rw (← c.requires.there.kind_is) (sym c.frame_by.ensures.frame ∙ c.in_default-frame_by.is) in
     p s v at ∙ ap (λ (o : Option Value). choose o (g s) (λ y. y)) (sym (unheard-is x slot c.in-Some.header put s c.requires.good c.in-Some.is first by))

@@ -20,7 +20,6 @@ refused-kept a by step r log w small is e =
     let x : LogEntry = refused_entry by step r
     in rw e (record {
       few = rw length-append (omega arith);
-      empty = w.empty;
       rules = w.rules;
       sound = w.sound;
       opening = w.opening;

@@ -1,11 +1,10 @@
 use Rattle.std.proofs.Common.{refl, ◌≡◌, ◌+◌, [], ◌∷◌, ◌++◌, ap, sym, ◌∙◌, arith}
-use Rattle.lin_core.specs.History.{seen}
 use Rattle.lin_core.specs.Kept.{Keeps, slot_in}
 use Rattle.lin_core.specs.Replies.{finish_events}
 use Rattle.lin_core.specs.Stages.{Stage, stage}
 use Rattle.lin_core.specs.declared.event.Event.TheVariants.{Seen, Lost}
 use Rattle.lin_core.specs.declared.log.LogEntry.{LogEntry}
-use Rattle.std.specs.Prelude.{slice_set, true}
+use Rattle.std.specs.Prelude.{slice_set, true, is_some}
 use Rattle.std.proofs.Math.ListN.{length-set}
 use Rattle.lin_core.specs.Hosts.{settled}
 use Rattle.lin_core.specs.declared.link.Cause.TheVariants.{Damaged}
@@ -16,7 +15,7 @@ use Rattle.lin_core.proofs.FinishCases.{host-carried, known_behind}
 use Rattle.lin_core.specs.KeptLate.{KeepsLate, KeepsMode}
 use Rattle.lin_core.specs.Loads.{load_of}
 use Rattle.lin_core.specs.Passes.{Passes}
-use Rattle.lin_core.proofs.Passing.{finish_of, passed-keeps, passed-mode, passes-as}
+use Rattle.lin_core.proofs.Passing.{finish_of, passed-keeps, passed-mode}
 use Rattle.lin_core.proofs.Making.{OpenIs, open-ready, past_in}
 use Rattle.lin_core.specs.KeptHeard.{KeepsHeard}
 use Rattle.lin_core.proofs.Receiving.{carries-frame, heard-same, hurt-heard}
@@ -55,6 +54,9 @@ settle-requires c =
     let small = x.own.small in
     omega arith
 
+pub pass_slot-seen-requires-clause-open : goal.pass_slot-seen-requires-clause-open
+pass_slot-seen-requires-clause-open c = ap is_some (open-ready (stage c.args.setup.now c.args.log.now c.args.self.now) c.args.by c.requires.ready).at
+
 opened : (c : After-two_events) → OpenIs (here c) c.args.by
 opened c = open-ready (here c) c.args.by c.requires.ready
 
@@ -70,7 +72,7 @@ abbrev entry : (c : After-two_events) → LogEntry
 entry c = finish_of (here c) c.args.by
 
 passes : (c : After-two_events) → Passes (here c).cluster (opened c).slot (here c).state c.pass_slot-seen.new.self
-passes c = passes-as (here c).cluster (opened c).slot (here c).state c.pass_slot-seen.new.self (here c).state.receivers c.try_reserve_exact.new.self (c.pass_slot-seen.ensures.passes (opened c).slot (opened c).at)
+passes c = c.pass_slot-seen.ensures.passes (opened c).slot (opened c).at
 
 kept : (c : After-two_events) → Keeps (here c).cluster (here c).opening (here c).capacity ((here c).log ++ entry c ∷ []) (entry c ∷ past_in (here c)) c.pass_slot-seen.new.self.slot c.pass_slot-seen.new.self.time c.pass_slot-seen.new.self.walker (slice_set c.pass_slot-seen.new.self.hosts.items c.args.sender c.settle.new.self) c.pass_slot-seen.new.self.signals
 kept c =
@@ -110,4 +112,4 @@ heard c =
     (heard-same a.cluster past (entry c ∷ past) a.state.receivers.items (hurt-heard a.cluster past c.args.by o.step.known (slot_in o.slot) c.args.sender i (carries c).1 (finish_events a.cluster c.args.by past)) w.heard)
 
 pub returns : goal.returns
-returns c = record { told = c.two_events.ensures ∙ ap (λ (s : _). Seen s ∷ Lost c.args.sender (c.index_mut-host.result.now.settled + 1) Damaged ∷ []) (c.pass_slot-seen.ensures.seen (opened c).slot (opened c).at) ∙ sym (damaged c).done.told; empty = rw c.replace-room.ensures.after c.new.ensures.items; kept = kept c; late = late c; heard = heard c }
+returns c = record { told = c.two_events.ensures ∙ ap (λ (s : _). Seen s ∷ Lost c.args.sender (c.index_mut-host.result.now.settled + 1) Damaged ∷ []) (c.pass_slot-seen.ensures.seen (opened c).slot (opened c).at) ∙ sym (damaged c).done.told; kept = kept c; late = late c; heard = heard c }

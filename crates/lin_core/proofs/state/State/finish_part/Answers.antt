@@ -1,6 +1,5 @@
 use Rattle.std.proofs.Common.{refl, ◌≡◌, ℕ, length, [], ◌∷◌, ◌++◌, ap, sym, ◌∙◌, arith}
-use Rattle.std.specs.Prelude.{option_map, slice_set, false}
-use Rattle.lin_core.specs.History.{seen}
+use Rattle.std.specs.Prelude.{option_map, slice_set, false, is_some}
 use Rattle.lin_core.specs.Kept.{Keeps, slot_in}
 use Rattle.lin_core.specs.Replies.{finish_events}
 use Rattle.lin_core.specs.Stages.{Stage, stage}
@@ -20,10 +19,10 @@ use Rattle.lin_core.proofs.Passing.{finish_of, passed-keeps, passed-mode, passes
 use Rattle.lin_core.specs.KeptHeard.{KeepsHeard}
 use Rattle.lin_core.proofs.Reassembling.{heard-inside}
 use Rattle.lin_core.proofs.Receiving.{HeardFrame}
-use Rattle.lin_core.proofs.state.State.finish_part.Goals.{After-one_event}
+use Rattle.lin_core.proofs.state.State.finish_part.Goals.{After-one}
 use Rattle.lin_core.proofs.state.State.finish_part.Goals as goal
 
-abbrev here : After-one_event → Stage
+abbrev here : After-one → Stage
 here c = stage c.args.setup.now c.args.log.now c.args.self.now
 
 pub index-requires : goal.index-requires
@@ -77,18 +76,24 @@ hear-requires c =
     let count = w.heard.count in
     omega arith
 
-opened : (c : After-one_event) → OpenIs (here c) c.args.by
+pub open-requires : goal.open-requires
+open-requires c = ap is_some (open-ready (stage c.args.setup.now c.args.log.now c.args.self.now) c.args.by c.requires.ready).at
+
+pub pass_slot-seen-requires-clause-open : goal.pass_slot-seen-requires-clause-open
+pass_slot-seen-requires-clause-open c = ap is_some (open-ready (stage c.args.setup.now c.args.log.now c.args.self.now) c.args.by c.requires.ready).at
+
+opened : (c : After-one) → OpenIs (here c) c.args.by
 opened c = open-ready (here c) c.args.by c.requires.ready
 
-good : (c : After-one_event) → GoodIs (here c) (opened c).step.known c.args.sender c.index.result.now c.next-place.result
+good : (c : After-one) → GoodIs (here c) (opened c).step.known c.args.sender c.index.result.now c.next-place.result
 good c =
     let a = here c in
     good-inside a c.args.sender false c.index.result.now c.next-place.result c.requires.ready.whole (opened c).step.known c.requires.carried c.index.ensures c.next-place.ensures
 
-same : (c : After-one_event) → c.index_mut.result.now ≡ c.index.result.now
+same : (c : After-one) → c.index_mut.result.now ≡ c.index.result.now
 same c = same-host (here c) c.args.sender c.index_mut.result.now c.index.result.now c.requires.ready.whole (good c).below (rw c.pass_slot-seen.ensures.hosts at c.index_mut.ensures.value) c.index.ensures
 
-part : (c : After-one_event) → Part (here c).cluster (past_in (here c)) c.args.by (slot_in (opened c).slot) c.requires.ready.whole.sound (opened c).step.known c.args.sender
+part : (c : After-one) → Part (here c).cluster (past_in (here c)) c.args.by (slot_in (opened c).slot) c.requires.ready.whole.sound (opened c).step.known c.args.sender
 part c =
     let a = here c in
     let o = opened c in
@@ -97,19 +102,19 @@ part c =
     finishes-part a.cluster (past_in a) c.args.by (slot_in o.slot) c.requires.ready.whole.sound o.step.known c.args.sender g.message g.later o.is s.0 s.1 g.first
     (last-by a c.args.sender c.index.result.now c.next-place.result false c.requires.ready.whole o.step.known g c.requires.more)
 
-abbrev entry : (c : After-one_event) → LogEntry
+abbrev entry : (c : After-one) → LogEntry
 entry c = finish_of (here c) c.args.by
 
-passes : (c : After-one_event) → Passes (here c).cluster (opened c).slot (here c).state c.pass_slot-seen.new.self
-passes c = passes-as (here c).cluster (opened c).slot (here c).state c.pass_slot-seen.new.self c.hear.new.receivers c.try_reserve_exact.new.self (c.pass_slot-seen.ensures.passes (opened c).slot (opened c).at)
+passes : (c : After-one) → Passes (here c).cluster (opened c).slot (here c).state c.pass_slot-seen.new.self
+passes c = passes-as (here c).cluster (opened c).slot (here c).state c.pass_slot-seen.new.self c.hear.new.receivers (c.pass_slot-seen.ensures.passes (opened c).slot (opened c).at)
 
-goes : (c : After-one_event) → GoesOn (here c).cluster (past_in (here c)) (entry c) (opened c).step.known (known_behind (here c).cluster (past_in (here c)) c.args.by (finish_events (here c).cluster c.args.by (past_in (here c))) c.requires.ready.whole.sound (opened c).step.known) c.args.sender
+goes : (c : After-one) → GoesOn (here c).cluster (past_in (here c)) (entry c) (opened c).step.known (known_behind (here c).cluster (past_in (here c)) c.args.by (finish_events (here c).cluster c.args.by (past_in (here c))) c.requires.ready.whole.sound (opened c).step.known) c.args.sender
 goes c = (part c).goes (finish_events (here c).cluster c.args.by (past_in (here c)))
 
 gone-same : (host other : Host) (n k len size : ℕ) → host ≡ other → n ≡ k → len ≡ size → gone_on host n len ≡ gone_on other k size
 gone-same host other n k len size p q r = rw (p, q, r) refl
 
-after : (c : After-one_event) → c.go_on.new.self ≡ gone_on c.index.result.now (nad_on (here c).cluster (goes c).message.link) (length (goes c).message.bytes)
+after : (c : After-one) → c.go_on.new.self ≡ gone_on c.index.result.now (nad_on (here c).cluster (goes c).message.link) (length (goes c).message.bytes)
 after c =
     let g = good c in
     let both : g.message ∷ g.later ≡ (goes c).message ∷ (goes c).later = sym g.first ∙ (goes c).first in
@@ -119,7 +124,7 @@ after c =
     (c.address_at-address.ensures g.message g.at g.node ∙ ap (λ (m : Message). nad_on (here c).cluster m.link) one)
     (ap length (c.message_at-len.ensures g.message g.at) ∙ ap (λ (m : Message). length m.bytes) one)
 
-kept : (c : After-one_event) → Keeps (here c).cluster (here c).opening (here c).capacity ((here c).log ++ entry c ∷ []) (entry c ∷ past_in (here c)) c.pass_slot-seen.new.self.slot c.pass_slot-seen.new.self.time c.pass_slot-seen.new.self.walker (slice_set c.pass_slot-seen.new.self.hosts.items c.args.sender c.go_on.new.self) c.pass_slot-seen.new.self.signals
+kept : (c : After-one) → Keeps (here c).cluster (here c).opening (here c).capacity ((here c).log ++ entry c ∷ []) (entry c ∷ past_in (here c)) c.pass_slot-seen.new.self.slot c.pass_slot-seen.new.self.time c.pass_slot-seen.new.self.walker (slice_set c.pass_slot-seen.new.self.hosts.items c.args.sender c.go_on.new.self) c.pass_slot-seen.new.self.signals
 kept c =
     let a = here c in
     let w = c.requires.ready.whole in
@@ -133,10 +138,10 @@ kept c =
     (length-set a.state.hosts.items c.args.sender new)
     (going-hosts a.cluster a.capacity a.log (past_in a) (entry c) c.args.sender host a.state.hosts.items new.sender w.sound o.step.known (known_behind a.cluster (past_in a) c.args.by es w.sound o.step.known) (goes c) (good c).here w.kept.each_host))
 
-mode_is : (c : After-one_event) → KeepsMode (here c).cluster (entry c ∷ past_in (here c)) c.pass_slot-seen.new.self.mode
+mode_is : (c : After-one) → KeepsMode (here c).cluster (entry c ∷ past_in (here c)) c.pass_slot-seen.new.self.mode
 mode_is c = passed-mode (here c) c.args.by (opened c) c.pass_slot-seen.new.self c.requires.ready.whole (passes c)
 
-late : (c : After-one_event) → KeepsLate (here c).cluster (entry c ∷ past_in (here c)) c.pass_slot-seen.new.self.mode (slice_set c.pass_slot-seen.new.self.hosts.items c.args.sender c.go_on.new.self)
+late : (c : After-one) → KeepsLate (here c).cluster (entry c ∷ past_in (here c)) c.pass_slot-seen.new.self.mode (slice_set c.pass_slot-seen.new.self.hosts.items c.args.sender c.go_on.new.self)
 late c =
     let a = here c in
     let w = c.requires.ready.whole in
@@ -145,15 +150,15 @@ late c =
     rw (c.pass_slot-seen.ensures.hosts, after c)
     (going-late a.cluster (past_in a) (entry c) c.args.sender c.index.result.now a.state.mode c.pass_slot-seen.new.self.mode a.state.hosts.items w.sound o.step.known (known_behind a.cluster (past_in a) c.args.by es w.sound o.step.known) (goes c) (good c).here (λ y. refl) (mode_is c) w.late)
 
-heard_frame : (c : After-one_event) → HeardFrame (here c).cluster (past_in (here c)) (entry c ∷ past_in (here c)) (good c).message.link (option_map (λ v. v.items) c.in_ok-hear.field-0) c.hear.new.receivers.items
+heard_frame : (c : After-one) → HeardFrame (here c).cluster (past_in (here c)) (entry c ∷ past_in (here c)) (good c).message.link (option_map (λ v. v.items) c.in_ok-hear.field-0) c.hear.new.receivers.items
 heard_frame c =
     let a = here c in
     let g = good c in
-    heard-inside a c.args.by (opened c) c.args.sender c.index.result.now c.next-place.result c.requires.ready.whole g c.requires.carried c.responder_at-node.result c.direction_at-dir.result c.frame_in-frame.result
-    (option_map (λ v. v.items) c.in_ok-hear.field-0) c.hear.new.receivers.items (c.responder_at-node.ensures g.message g.at) (c.direction_at-dir.ensures g.message g.at) c.frame_in-frame.ensures c.in_ok-hear.ensures.hears
+    heard-inside a c.args.by (opened c) c.args.sender c.index.result.now c.next-place.result c.requires.ready.whole g c.requires.carried c.responder_at-node.result c.direction_at-dir.result c.data-frame.result
+    (option_map (λ v. v.items) c.in_ok-hear.field-0) c.hear.new.receivers.items (c.responder_at-node.ensures g.message g.at) (c.direction_at-dir.ensures g.message g.at) c.open.result.now c.open.ensures c.data-frame.ensures c.in_ok-hear.ensures.hears
 
-heard : (c : After-one_event) → KeepsHeard (here c).cluster (entry c ∷ past_in (here c)) c.pass_slot-seen.new.self.receivers.items
+heard : (c : After-one) → KeepsHeard (here c).cluster (entry c ∷ past_in (here c)) c.pass_slot-seen.new.self.receivers.items
 heard c = rw c.pass_slot-seen.ensures.receivers (heard_frame c).keeps
 
 pub returns : goal.returns
-returns c = record { told = c.one_event.ensures ∙ ap (λ (s : _). Seen s ∷ []) (c.pass_slot-seen.ensures.seen (opened c).slot (opened c).at) ∙ sym (part c).told; empty = rw c.replace-room.ensures.after c.new.ensures.items; kept = kept c; late = late c; heard = heard c }
+returns c = record { told = c.one.ensures ∙ ap (λ (s : _). Seen s ∷ []) (c.pass_slot-seen.ensures.seen (opened c).slot (opened c).at) ∙ sym (part c).told; kept = kept c; late = late c; heard = heard c }

@@ -1,5 +1,4 @@
 use Rattle.std.proofs.Common.{refl, ◌≡◌, [], ◌∷◌, ◌++◌, ap, sym, ◌∙◌}
-use Rattle.lin_core.specs.History.{seen}
 use Rattle.lin_core.specs.Kept.{Keeps, slot_in}
 use Rattle.lin_core.specs.Replies.{finish_events}
 use Rattle.lin_core.specs.Stages.{Stage, stage}
@@ -10,39 +9,42 @@ use Rattle.lin_core.proofs.Keeping.{same-hosts}
 use Rattle.lin_core.proofs.LateKeeping.{still-late}
 use Rattle.lin_core.specs.KeptLate.{KeepsLate, KeepsMode}
 use Rattle.lin_core.specs.Loads.{is_still, load_of}
-use Rattle.std.specs.Prelude.{true}
+use Rattle.std.specs.Prelude.{true, is_some}
 use Rattle.lin_core.proofs.Hosts.{HostState}
 use Rattle.lin_core.specs.Passes.{Passes}
-use Rattle.lin_core.proofs.Passing.{finish_of, passed-keeps, passed-mode, passes-as}
+use Rattle.lin_core.proofs.Passing.{finish_of, passed-keeps, passed-mode}
 use Rattle.lin_core.proofs.Making.{OpenIs, open-ready, past_in}
 use Rattle.lin_core.specs.KeptHeard.{KeepsHeard}
 use Rattle.lin_core.proofs.Receiving.{heard-same, still-heard}
-use Rattle.lin_core.proofs.state.State.finish_plain.Goals.{After-one_event}
+use Rattle.lin_core.proofs.state.State.finish_plain.Goals.{After-one}
 use Rattle.lin_core.proofs.state.State.finish_plain.Goals as goal
 
-abbrev here : After-one_event → Stage
+abbrev here : After-one → Stage
 here c = stage c.args.setup.now c.args.log.now c.args.self.now
 
-opened : (c : After-one_event) → OpenIs (here c) c.args.by
+pub pass_slot-seen-requires-clause-open : goal.pass_slot-seen-requires-clause-open
+pass_slot-seen-requires-clause-open c = ap is_some (open-ready (stage c.args.setup.now c.args.log.now c.args.self.now) c.args.by c.requires.ready).at
+
+opened : (c : After-one) → OpenIs (here c) c.args.by
 opened c = open-ready (here c) c.args.by c.requires.ready
 
-still : (c : After-one_event) → is_still (load_of (slot_in (opened c).slot)) (opened c).slot.hurt ≡ true
+still : (c : After-one) → is_still (load_of (slot_in (opened c).slot)) (opened c).slot.hurt ≡ true
 still c =
     let o = opened c in
     c.requires.still (slot_in o.slot) o.is
 
-quiet : (c : After-one_event) → Still (here c).cluster (past_in (here c)) c.args.by (slot_in (opened c).slot) c.requires.ready.whole.sound (opened c).step.known
+quiet : (c : After-one) → Still (here c).cluster (past_in (here c)) c.args.by (slot_in (opened c).slot) c.requires.ready.whole.sound (opened c).step.known
 quiet c =
     let o = opened c in
     finishes-quiet (here c).cluster (past_in (here c)) c.args.by (slot_in o.slot) c.requires.ready.whole.sound o.step.known o.is (still c)
 
-abbrev entry : (c : After-one_event) → LogEntry
+abbrev entry : (c : After-one) → LogEntry
 entry c = finish_of (here c) c.args.by
 
-passes : (c : After-one_event) → Passes (here c).cluster (opened c).slot (here c).state c.pass_slot-seen.new.self
-passes c = passes-as (here c).cluster (opened c).slot (here c).state c.pass_slot-seen.new.self (here c).state.receivers c.try_reserve_exact.new.self (c.pass_slot-seen.ensures.passes (opened c).slot (opened c).at)
+passes : (c : After-one) → Passes (here c).cluster (opened c).slot (here c).state c.pass_slot-seen.new.self
+passes c = c.pass_slot-seen.ensures.passes (opened c).slot (opened c).at
 
-kept : (c : After-one_event) → Keeps (here c).cluster (here c).opening (here c).capacity ((here c).log ++ entry c ∷ []) (entry c ∷ past_in (here c)) c.pass_slot-seen.new.self.slot c.pass_slot-seen.new.self.time c.pass_slot-seen.new.self.walker c.pass_slot-seen.new.self.hosts.items c.pass_slot-seen.new.self.signals
+kept : (c : After-one) → Keeps (here c).cluster (here c).opening (here c).capacity ((here c).log ++ entry c ∷ []) (entry c ∷ past_in (here c)) c.pass_slot-seen.new.self.slot c.pass_slot-seen.new.self.time c.pass_slot-seen.new.self.walker c.pass_slot-seen.new.self.hosts.items c.pass_slot-seen.new.self.signals
 kept c =
     let a = here c in
     let w = c.requires.ready.whole in
@@ -52,10 +54,10 @@ kept c =
     (λ h host there. same-hosts a.cluster a.capacity a.log (past_in a) (entry c) w.sound o.step.known (known_behind a.cluster (past_in a) c.args.by (finish_events a.cluster c.args.by (past_in a)) w.sound o.step.known)
     (λ x. ap (λ (s : HostState). s.rest) ((quiet c).same (finish_events a.cluster c.args.by (past_in a)) x)) (λ x. refl) h host (w.kept.each_host h host there)))
 
-mode_is : (c : After-one_event) → KeepsMode (here c).cluster (entry c ∷ past_in (here c)) c.pass_slot-seen.new.self.mode
+mode_is : (c : After-one) → KeepsMode (here c).cluster (entry c ∷ past_in (here c)) c.pass_slot-seen.new.self.mode
 mode_is c = passed-mode (here c) c.args.by (opened c) c.pass_slot-seen.new.self c.requires.ready.whole (passes c)
 
-late : (c : After-one_event) → KeepsLate (here c).cluster (entry c ∷ past_in (here c)) c.pass_slot-seen.new.self.mode c.pass_slot-seen.new.self.hosts.items
+late : (c : After-one) → KeepsLate (here c).cluster (entry c ∷ past_in (here c)) c.pass_slot-seen.new.self.mode c.pass_slot-seen.new.self.hosts.items
 late c =
     let a = here c in
     let w = c.requires.ready.whole in
@@ -64,7 +66,7 @@ late c =
     rw c.pass_slot-seen.ensures.hosts
     (still-late a.cluster (past_in a) (entry c) a.state.mode c.pass_slot-seen.new.self.mode a.state.hosts.items w.sound o.step.known (known_behind a.cluster (past_in a) c.args.by es w.sound o.step.known) ((quiet c).same es) (λ x. refl) (mode_is c) w.late)
 
-heard : (c : After-one_event) → KeepsHeard (here c).cluster (entry c ∷ past_in (here c)) c.pass_slot-seen.new.self.receivers.items
+heard : (c : After-one) → KeepsHeard (here c).cluster (entry c ∷ past_in (here c)) c.pass_slot-seen.new.self.receivers.items
 heard c =
     let a = here c in
     let w = c.requires.ready.whole in
@@ -74,4 +76,4 @@ heard c =
     (still-heard a.cluster (past_in a) c.args.by (finish_events a.cluster c.args.by (past_in a)) w.sound o.step.known (slot_in o.slot) o.is (still c)) w.heard)
 
 pub returns : goal.returns
-returns c = record { told = c.one_event.ensures ∙ ap (λ (s : _). Seen s ∷ []) (c.pass_slot-seen.ensures.seen (opened c).slot (opened c).at) ∙ sym (quiet c).told; empty = rw c.replace-room.ensures.after c.new.ensures.items; kept = kept c; late = late c; heard = heard c }
+returns c = record { told = c.one.ensures ∙ ap (λ (s : _). Seen s ∷ []) (c.pass_slot-seen.ensures.seen (opened c).slot (opened c).at) ∙ sym (quiet c).told; kept = kept c; late = late c; heard = heard c }

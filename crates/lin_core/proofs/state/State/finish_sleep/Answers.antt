@@ -6,7 +6,7 @@ use Rattle.lin_core.specs.Stages.{Stage, stage}
 use Rattle.lin_core.specs.declared.event.Event.{Event}
 use Rattle.lin_core.specs.declared.event.Event.TheVariants.{Asleep as SleepEvent, Seen}
 use Rattle.lin_core.specs.declared.log.LogEntry.{LogEntry}
-use Rattle.std.specs.Prelude.{false}
+use Rattle.std.specs.Prelude.{false, is_some}
 use Rattle.lin_core.specs.Hosts.{losses}
 use Rattle.lin_core.specs.Loads.{load_of}
 use Rattle.lin_core.specs.declared.load.Load.TheVariants.{Sleep}
@@ -14,7 +14,7 @@ use Rattle.lin_core.proofs.FinishCases.{Sleeps, finishes-asleep, known_behind}
 use Rattle.lin_core.proofs.Sleeping.{losses-are, settled-small, sleeping-hosts, sleeping-late}
 use Rattle.lin_core.specs.KeptLate.{KeepsLate, KeepsMode}
 use Rattle.lin_core.specs.Passes.{Passes}
-use Rattle.lin_core.proofs.Passing.{finish_of, passed-keeps, passed-mode, passes-as}
+use Rattle.lin_core.proofs.Passing.{finish_of, passed-keeps, passed-mode}
 use Rattle.lin_core.proofs.Making.{OpenIs, open-ready, past_in}
 use Rattle.lin_core.specs.KeptHeard.{KeepsHeard}
 use Rattle.lin_core.proofs.Receiving.{heard-reset, sleep-heard}
@@ -29,6 +29,9 @@ sleep_events-requires-clause-small c =
     let a = stage c.args.setup.now c.args.log.now c.args.self.now in
     let o = open-ready a c.args.by c.requires.ready in
     λ h kept there. settled-small a c.requires.ready.whole o.step.few h kept (rw c.pass_slot-seen.ensures.hosts at there)
+
+pub pass_slot-seen-requires-clause-open : goal.pass_slot-seen-requires-clause-open
+pass_slot-seen-requires-clause-open c = ap is_some (open-ready (stage c.args.setup.now c.args.log.now c.args.self.now) c.args.by c.requires.ready).at
 
 opened : (c : After-sleep_events) → OpenIs (here c) c.args.by
 opened c = open-ready (here c) c.args.by c.requires.ready
@@ -49,7 +52,7 @@ abbrev entry : (c : After-sleep_events) → LogEntry
 entry c = finish_of (here c) c.args.by
 
 passes : (c : After-sleep_events) → Passes (here c).cluster (opened c).slot (here c).state c.pass_slot-seen.new.self
-passes c = passes-as (here c).cluster (opened c).slot (here c).state c.pass_slot-seen.new.self (here c).state.receivers c.try_reserve_exact.new.self (c.pass_slot-seen.ensures.passes (opened c).slot (opened c).at)
+passes c = c.pass_slot-seen.ensures.passes (opened c).slot (opened c).at
 
 kept : (c : After-sleep_events) → Keeps (here c).cluster (here c).opening (here c).capacity ((here c).log ++ entry c ∷ []) (entry c ∷ past_in (here c)) c.pass_slot-seen.new.self.slot c.pass_slot-seen.new.self.time c.pass_slot-seen.new.self.walker c.sleep_events.new.hosts.items c.pass_slot-seen.new.self.signals
 kept c =
@@ -89,4 +92,4 @@ told c =
     ∙ ap (λ (es : List Event). Seen (seen (slot_in s)) ∷ SleepEvent ∷ es) (losses-are a c.requires.ready.whole (opened c).step.known) ∙ sym (sleeps c).told
 
 pub returns : goal.returns
-returns c = record { told = told c; empty = rw c.replace-room.ensures.after c.new.ensures.items; kept = kept c; late = late c; heard = heard c }
+returns c = record { told = told c; kept = kept c; late = late c; heard = heard c }

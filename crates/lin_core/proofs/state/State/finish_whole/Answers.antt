@@ -1,11 +1,11 @@
-use Rattle.std.proofs.Common.{refl, ◌≡◌, ◌+◌, ℕ, suc, length, List, [], ◌∷◌, ◌++◌, sym, ◌∙◌, arith}
+use Rattle.std.proofs.Common.{refl, ◌≡◌, ◌+◌, ℕ, suc, length, List, [], ◌∷◌, ◌++◌, sym, ◌∙◌, arith, ap}
 use Rattle.lin_core.specs.Kept.{Keeps, slot_in, message_at}
 use Rattle.lin_core.specs.Replies.{finish_events, receiver_of}
 use Rattle.lin_core.specs.Stages.{Stage, stage}
 use Rattle.lin_core.specs.declared.event.Seen.{Seen as HowSeen}
 use Rattle.lin_core.specs.declared.event.Event.TheVariants.{Message as MessageEvent, Seen, Sent}
 use Rattle.lin_core.specs.declared.log.LogEntry.{LogEntry}
-use Rattle.std.specs.Prelude.{slice_set, Some, false, true, option_map}
+use Rattle.std.specs.Prelude.{slice_set, Some, false, true, option_map, is_some}
 use Rattle.std.proofs.Math.ListN.{length-set}
 use Rattle.lin_core.specs.Hosts.{settled}
 use Rattle.lin_core.proofs.FinishCases.{Done, finishes-whole, known_behind}
@@ -82,10 +82,16 @@ unwrap-bytes-requires c =
     let g = good-inside a c.args.sender false c.index.result.now c.next-place.result w o.step.known carried c.index.ensures c.next-place.ensures in
     let there : message_at a.log c.next-place.result ≡ Some g.message = g.at in
     let given = option_map (λ v. v.items) c.in_ok-message.message in
-    let heard = heard-inside a c.args.by o c.args.sender c.index.result.now c.next-place.result w g carried c.responder_at-node.result c.direction_at-dir.result c.frame_in-frame.result
-    given c.hear.new.receivers.items (c.responder_at-node.ensures g.message there) (c.direction_at-dir.ensures g.message there) c.frame_in-frame.ensures c.in_ok-message.ensures.hears in
+    let heard = heard-inside a c.args.by o c.args.sender c.index.result.now c.next-place.result w g carried c.responder_at-node.result c.direction_at-dir.result c.data-frame.result
+    given c.hear.new.receivers.items (c.responder_at-node.ensures g.message there) (c.direction_at-dir.ensures g.message there) c.open.result.now c.open.ensures c.data-frame.ensures c.in_ok-message.ensures.hears in
     some-given c.in_ok-message.message g.message.bytes
     (given-inside a c.args.by o c.args.sender c.index.result.now c.next-place.result w g carried (last-by a c.args.sender c.index.result.now c.next-place.result true w o.step.known g c.requires.last) given c.hear.new.receivers.items heard)
+
+pub open-requires : goal.open-requires
+open-requires c = ap is_some (open-ready (stage c.args.setup.now c.args.log.now c.args.self.now) c.args.by c.requires.ready).at
+
+pub pass_slot-seen-requires-clause-open : goal.pass_slot-seen-requires-clause-open
+pass_slot-seen-requires-clause-open c = ap is_some (open-ready (stage c.args.setup.now c.args.log.now c.args.self.now) c.args.by c.requires.ready).at
 
 opened : (c : After-three_events) → OpenIs (here c) c.args.by
 opened c = open-ready (here c) c.args.by c.requires.ready
@@ -112,15 +118,15 @@ abbrev entry : (c : After-three_events) → LogEntry
 entry c = finish_of (here c) c.args.by
 
 passes : (c : After-three_events) → Passes (here c).cluster (opened c).slot (here c).state c.pass_slot-seen.new.self
-passes c = passes-as (here c).cluster (opened c).slot (here c).state c.pass_slot-seen.new.self c.hear.new.receivers c.try_reserve_exact.new.self (c.pass_slot-seen.ensures.passes (opened c).slot (opened c).at)
+passes c = passes-as (here c).cluster (opened c).slot (here c).state c.pass_slot-seen.new.self c.hear.new.receivers (c.pass_slot-seen.ensures.passes (opened c).slot (opened c).at)
 
 heard_frame : (c : After-three_events) → HeardFrame (here c).cluster (past_in (here c)) (entry c ∷ past_in (here c)) (good c).message.link (option_map (λ v. v.items) c.in_ok-message.message) c.hear.new.receivers.items
 heard_frame c =
     let a = here c in
     let g = good c in
     let there : message_at a.log c.next-place.result ≡ Some g.message = g.at in
-    heard-inside a c.args.by (opened c) c.args.sender c.index.result.now c.next-place.result c.requires.ready.whole g c.requires.carried c.responder_at-node.result c.direction_at-dir.result c.frame_in-frame.result
-    (option_map (λ v. v.items) c.in_ok-message.message) c.hear.new.receivers.items (c.responder_at-node.ensures g.message there) (c.direction_at-dir.ensures g.message there) c.frame_in-frame.ensures c.in_ok-message.ensures.hears
+    heard-inside a c.args.by (opened c) c.args.sender c.index.result.now c.next-place.result c.requires.ready.whole g c.requires.carried c.responder_at-node.result c.direction_at-dir.result c.data-frame.result
+    (option_map (λ v. v.items) c.in_ok-message.message) c.hear.new.receivers.items (c.responder_at-node.ensures g.message there) (c.direction_at-dir.ensures g.message there) c.open.result.now c.open.ensures c.data-frame.ensures c.in_ok-message.ensures.hears
 
 -- the receiver gives the message
 bytes_are : (c : After-three_events) → c.unwrap-bytes.result.items ≡ (good c).message.bytes
@@ -135,12 +141,12 @@ bytes_are c =
 three-events : (h : ℕ) (s s' : HowSeen) (to to' : ℕ) (bytes bytes' : List ℕ) (n n' : ℕ) → s ≡ s' → to ≡ to' → bytes ≡ bytes' → n ≡ n' → Seen s ∷ MessageEvent h to bytes ∷ Sent h n ∷ [] ≡ Seen s' ∷ MessageEvent h to' bytes' ∷ Sent h n' ∷ []
 three-events h s s' to to' bytes bytes' n n' p q r t = rw (p, q, r, t) refl
 
-told : (c : After-three_events) → Seen c.pass_slot-seen.result ∷ MessageEvent c.args.sender c.receiver_at-to.result c.new-2.result ∷ Sent c.args.sender (c.index_mut-host.result.now.settled + 1) ∷ [] ≡ finish_events (here c).cluster c.args.by (past_in (here c))
+told : (c : After-three_events) → Seen c.pass_slot-seen.result ∷ MessageEvent c.args.sender c.receiver_at-to.result c.new.result ∷ Sent c.args.sender (c.index_mut-host.result.now.settled + 1) ∷ [] ≡ finish_events (here c).cluster c.args.by (past_in (here c))
 told c =
     let a = here c in
     let g = good c in
     let there : message_at a.log c.next-place.result ≡ Some g.message = g.at in
-    three-events _ _ _ _ _ _ _ _ _ (c.pass_slot-seen.ensures.seen (opened c).slot (opened c).at) (c.receiver_at-to.ensures g.message there) (c.new-2.ensures ∙ bytes_are c) (own c).number
+    three-events _ _ _ _ _ _ _ _ _ (c.pass_slot-seen.ensures.seen (opened c).slot (opened c).at) (c.receiver_at-to.ensures g.message there) (c.new.ensures ∙ bytes_are c) (own c).number
     ∙ sym (whole c).told
 
 kept : (c : After-three_events) → Keeps (here c).cluster (here c).opening (here c).capacity ((here c).log ++ entry c ∷ []) (entry c ∷ past_in (here c)) c.pass_slot-seen.new.self.slot c.pass_slot-seen.new.self.time c.pass_slot-seen.new.self.walker (slice_set c.pass_slot-seen.new.self.hosts.items c.args.sender c.settle.new.self) c.pass_slot-seen.new.self.signals
@@ -172,4 +178,4 @@ heard : (c : After-three_events) → KeepsHeard (here c).cluster (entry c ∷ pa
 heard c = rw c.pass_slot-seen.ensures.receivers (heard_frame c).keeps
 
 pub returns : goal.returns
-returns c = record { told = c.three_events.ensures ∙ told c; empty = rw c.replace-room.ensures.after c.new.ensures.items; kept = kept c; late = late c; heard = heard c }
+returns c = record { told = c.three_events.ensures ∙ told c; kept = kept c; late = late c; heard = heard c }

@@ -1,5 +1,5 @@
-use Rattle.std.proofs.Common.{◌≡◌, refl, ◌∷◌, ◌∙◌, sym}
-use Rattle.std.specs.Prelude.{Some}
+use Rattle.std.proofs.Common.{◌≡◌, refl, ◌∷◌, ◌∙◌, ap, sym}
+use Rattle.std.specs.Prelude.{Some, is_some}
 use Rattle.lin_core.specs.Stages.{done_of, stage}
 use Rattle.lin_core.specs.declared.step.Step.TheVariants.{Leave}
 use Rattle.lin_core.proofs.LateKeeping.{leave-keeps, leave-late}
@@ -8,8 +8,13 @@ use Rattle.lin_core.proofs.Making.{allowed-ready, known-inside, past_in}
 use Rattle.lin_core.proofs.Receiving.{heard-same}
 use Rattle.lin_core.proofs.state.State.leave.Goals as goal
 
-pub leave_in-requires : goal.leave_in-requires
-leave_in-requires c =
+pub leave-requires-clause-open : goal.leave-requires-clause-open
+leave-requires-clause-open c =
+    let a = stage c.args.setup.now c.args.log.now c.args.self.now in
+    ap is_some (leave-inside a c.args.by c.args.node c.requires.whole (allowed-ready a c.args.by (Leave c.args.node) c.requires)).at
+
+pub leave-requires-clause-room : goal.leave-requires-clause-room
+leave-requires-clause-room c =
     let a = stage c.args.setup.now c.args.log.now c.args.self.now in
     let n = allowed-ready a c.args.by (Leave c.args.node) c.requires in
     let o = leave-inside a c.args.by c.args.node c.requires.whole n in
@@ -23,8 +28,7 @@ returns c =
     let o = leave-inside a c.args.by c.args.node w (allowed-ready a c.args.by (Leave c.args.node) c.requires) in
     record {
       told = c.no_events.ensures;
-      empty = w.empty;
-      kept = rw (c.leave_in.ensures.some o.slot o.at)
+      kept = rw (c.leave.ensures o.slot o.at)
           (leave-keeps a.cluster a.opening a.capacity a.log (past_in a) o.slot a.state.time a.state.walker a.state.hosts.items a.state.signals c.args.by c.args.node w.sound k c.requires.allowed o.is o.kept);
       late = leave-late a.cluster (past_in a) c.args.by c.args.node a.state.mode a.state.hosts.items w.sound k w.late;
       heard = heard-same a.cluster (past_in a) (done_of a c.args.by (Leave c.args.node) ∷ past_in a) a.state.receivers.items (λ l i. refl) w.heard;

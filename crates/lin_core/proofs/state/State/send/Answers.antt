@@ -9,17 +9,17 @@ use Rattle.lin_core.proofs.Keeping.{send-keeps}
 use Rattle.lin_core.proofs.LateKeeping.{send-late}
 use Rattle.lin_core.proofs.Making.{Allowed, allowed-ready, Sender, sender-inside, past_in}
 use Rattle.lin_core.proofs.Receiving.{heard-same}
-use Rattle.lin_core.proofs.state.State.send.Goals.{After-len, After-one_event}
+use Rattle.lin_core.proofs.state.State.send.Goals.{After-len, After-one}
 use Rattle.lin_core.proofs.state.State.send.Goals as goal
 
-abbrev here : After-one_event → Stage
+abbrev here : After-one → Stage
 here c = stage c.args.setup.now c.args.log.now c.args.self.now
 
 sender-at : (c : After-len) → Sender (stage c.args.setup.now c.args.log.now c.args.self.now) c.args.from c.index_mut-host.result.now
 sender-at c =
     let a = stage c.args.setup.now c.args.log.now c.args.self.now in
-    let s = allowed-ready a c.args.by (Send c.args.from c.args.to c.args.message.now) c.requires.ready in
-    sender-inside a c.args.by c.args.from c.args.to c.args.message.now c.index_mut-host.result.now c.requires.ready.whole s c.index_mut-host.ensures.value
+    let s = allowed-ready a c.args.by (Send c.args.from c.args.to c.args.message.now) c.requires in
+    sender-inside a c.args.by c.args.from c.args.to c.args.message.now c.index_mut-host.result.now c.requires.whole s c.index_mut-host.ensures.value
 
 pub overflow_cast-number : goal.overflow_cast-number
 overflow_cast-number c = let s = (sender-at c).number in let l = c.len.ensures.len in omega arith
@@ -33,16 +33,16 @@ overflow_add-number-2 c = let s = (sender-at c).number in let l = c.len.ensures.
 pub accept-requires : goal.accept-requires
 accept-requires c = (sender-at c).room
 
-allowed : (c : After-one_event) → Allowed (here c) c.args.by (Send c.args.from c.args.to c.args.message.now)
-allowed c = allowed-ready (here c) c.args.by (Send c.args.from c.args.to c.args.message.now) c.requires.ready
+allowed : (c : After-one) → Allowed (here c) c.args.by (Send c.args.from c.args.to c.args.message.now)
+allowed c = allowed-ready (here c) c.args.by (Send c.args.from c.args.to c.args.message.now) c.requires
 
-sender : (c : After-one_event) → Sender (here c) c.args.from c.index_mut-host.result.now
-sender c = sender-inside (here c) c.args.by c.args.from c.args.to c.args.message.now c.index_mut-host.result.now c.requires.ready.whole (allowed c) c.index_mut-host.ensures.value
+sender : (c : After-one) → Sender (here c) c.args.from c.index_mut-host.result.now
+sender c = sender-inside (here c) c.args.by c.args.from c.args.to c.args.message.now c.index_mut-host.result.now c.requires.whole (allowed c) c.index_mut-host.ensures.value
 
-pub returns-clause-makes : goal.returns-clause-makes
-returns-clause-makes c =
+pub returns : goal.returns
+returns c =
     let a = here c in
-    let w = c.requires.ready.whole in
+    let w = c.requires.whole in
     let host = c.index_mut-host.result.now in
     let s = sender c in
     let k = w.kept.each_host c.args.from host s.at in
@@ -51,8 +51,7 @@ returns-clause-makes c =
     let number : host.settled + c.len.result + 1 ≡ suc (length (accepted_from (past_in a) c.args.from)) = omega arith in
     let queue : c.accept.new.self ≡ queued host (length a.log) = c.accept.ensures ∙ ap (queued host) c.len-place.ensures.len in
     record {
-      told = c.one_event.ensures ∙ ap (λ (n : ℕ). Accepted c.args.from n ∷ []) number;
-      empty = rw c.replace-room.ensures.after c.new.ensures.items;
+      told = c.one.ensures ∙ ap (λ (n : ℕ). Accepted c.args.from n ∷ []) number;
       kept = send-keeps a.cluster a.opening a.capacity a.log (past_in a) a.state.slot a.state.time a.state.walker a.state.hosts.items _ a.state.signals host c.args.by c.args.from c.args.to c.args.message.now (suc (length (accepted_from (past_in a) c.args.from)))
           w.sound (allowed c).known (allowed c).allowed s.at (ap (slice_set a.state.hosts.items c.args.from) queue) w.kept;
       late = send-late a.cluster a.capacity (past_in a) c.args.by c.args.from c.args.to c.args.message.now _ (length a.log) host a.state.mode a.state.hosts.items _ w.sound (allowed c).known (allowed c).allowed s.at

@@ -12,10 +12,10 @@ use Rattle.lin_core.specs.declared.step.Step.TheVariants.{Timeout}
 use Rattle.lin_core.proofs.Keeping.{done_entry}
 use Rattle.lin_core.proofs.Making.{Allowed, allowed-ready, past_in}
 use Rattle.lin_core.proofs.Timeouts.{TimesOut, times-out, timeout-keeps, timeout-late}
-use Rattle.lin_core.proofs.state.State.time_out.Goals.{After-one_event}
+use Rattle.lin_core.proofs.state.State.time_out.Goals.{After-one}
 use Rattle.lin_core.proofs.state.State.time_out.Goals as goal
 
-abbrev here : After-one_event → Stage
+abbrev here : After-one → Stage
 here c = stage c.args.setup.now c.args.log.now c.args.self.now
 
 pub overflow_add-number : goal.overflow_add-number
@@ -44,22 +44,22 @@ index_mut-requires c =
     let count = w.heard.count in
     omega arith
 
-allowed : (c : After-one_event) → Allowed (here c) c.args.by (Timeout c.args.node c.args.dir)
+allowed : (c : After-one) → Allowed (here c) c.args.by (Timeout c.args.node c.args.dir)
 allowed c = allowed-ready (here c) c.args.by (Timeout c.args.node c.args.dir) c.requires
 
-out : (c : After-one_event) → TimesOut (here c) c.args.by c.args.node c.args.dir c.index_mut-kept.result.now
+out : (c : After-one) → TimesOut (here c) c.args.by c.args.node c.args.dir c.index_mut-kept.result.now
 out c = times-out (here c) c.args.by c.args.node c.args.dir c.index_mut-kept.result.now c.requires.whole (allowed c) (rw (← c.sender_over-host.ensures) c.index_mut-kept.ensures.value)
 
-abbrev events : (c : After-one_event) → List Event
+abbrev events : (c : After-one) → List Event
 events c = all_reports (here c).cluster (quiet_entry c.args.by (Timeout c.args.node c.args.dir)) (past_in (here c))
 
-abbrev entry : (c : After-one_event) → LogEntry
+abbrev entry : (c : After-one) → LogEntry
 entry c = done_entry c.args.by (Timeout c.args.node c.args.dir) (events c)
 
-told : (c : After-one_event) → c.one_event.result ≡ events c
-told c = c.one_event.ensures ∙ rw c.sender_over-host.ensures (out c).told
+told : (c : After-one) → c.one.result ≡ events c
+told c = c.one.ensures ∙ rw c.sender_over-host.ensures (out c).told
 
-heard : (c : After-one_event) → KeepsHeard (here c).cluster (entry c ∷ past_in (here c)) (slice_set (here c).state.receivers.items c.args.node c.reset.new.self)
+heard : (c : After-one) → KeepsHeard (here c).cluster (entry c ∷ past_in (here c)) (slice_set (here c).state.receivers.items c.args.node c.reset.new.self)
 heard c =
     let a = here c in
     let w = c.requires.whole in
@@ -77,7 +77,6 @@ returns c =
     let o = out c in
     record {
       told = told c;
-      empty = rw c.replace-room.ensures.after c.new.ensures.items;
       kept = rw (c.sender_over-host.ensures, c.settle.ensures)
           (timeout-keeps a.cluster a.opening a.capacity a.log (past_in a) a.state.slot a.state.time a.state.walker a.state.hosts.items a.state.signals c.index_mut-kept.result.now c.args.by c.args.node c.args.dir (events c)
           w.sound o.known o.none o.here (o.settles (events c)) w.kept);

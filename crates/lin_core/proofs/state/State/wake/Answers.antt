@@ -14,7 +14,6 @@ returns c =
     let k = known-inside a w in
     record {
       told = c.no_events.ensures;
-      empty = w.empty;
       kept = wake-keeps a.cluster a.opening a.capacity a.log (past_in a) a.state.slot a.state.time a.state.walker c.restart.new.self a.state.hosts.items a.state.signals c.args.by w.sound k
           (c.restart.ensures.stands a.cluster a.opening (moves (past_in a)) w.kept.stands) (c.restart.ensures.walks a.cluster w.kept.walks) w.kept;
       late = wake-late a.cluster (past_in a) c.args.by a.state.mode a.state.hosts.items w.sound k w.late;

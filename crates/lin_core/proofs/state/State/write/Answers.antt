@@ -14,7 +14,6 @@ returns c =
     let k = known-inside a w in
     record {
       told = c.no_events.ensures;
-      empty = w.empty;
       kept = write-keeps a.cluster a.opening a.capacity a.log (past_in a) a.state.slot a.state.time a.state.walker a.state.hosts.items a.state.signals c.write.new.self c.args.by c.args.node c.args.signal c.args.value.now
           w.sound k c.requires.allowed
           (record { values = rw c.copied.ensures.same at c.write.ensures.values; heard = c.write.ensures.heard; room = c.write.ensures.room; count = c.write.ensures.frames; pending = c.write.ensures.pending }) w.kept;
