@@ -1,0 +1,4 @@
+pub mod Tellings
+pub mod Slots
+pub mod Puttings
+pub mod Rows

@@ -1,0 +1,156 @@
+-- What a slot says, and what the nodes hear of it.
+use Rattle.std.proofs.Common.{◌≡◌, ℕ, List, [], ◌∷◌, ◌++◌, refl, sym, ap, ◌∙◌, append_assoc, length, take, drop, flat_map, map, ◌-◌, zero, suc, ◌+◌, ◌<◌, ◌≤◌, get_or, arith}
+use Rattle.std.proofs.Math.Seq.{take-suc}
+use Rattle.std.proofs.lemmas.List.{append-nil, map-append, take_all, take_more}
+use Rattle.std.proofs.lemmas.Option.{slice_get-get_or}
+use Rattle.std.specs.Prelude.{Option, Some, None, option_map, slice_get, find, true, false}
+use Rattle.lin_frame.specs.Words.{choose, numbers}
+use Rattle.lin_frame.specs.Bits.{unpacked}
+use Rattle.lin_frame.specs.declared.value.Value.{Value}
+use Rattle.lin_frame.specs.declared.value.Value.TheVariants.{Scalar}
+use Rattle.lin_parts.specs.Cluster.{frame_of, line_of}
+use Rattle.lin_parts.specs.declared.parts.Parts.{Parts}
+use Rattle.lin_parts.specs.declared.parts.Signal.{Signal}
+use Rattle.lin_parts.specs.declared.parts.Entry.{Entry}
+use Rattle.lin_parts.specs.declared.parts.Entry.TheVariants as entries
+use Rattle.lin_names.specs.Names.{NamesData}
+use Rattle.lin_core.specs.History.{Slot, done_step, good, is_sleep_slot, open_slot, time}
+use Rattle.lin_core.specs.Kept.{ArePointwise}
+use Rattle.lin_core.specs.Signals.{carried, carried_by, heard, place_in, value_in}
+use Rattle.lin_core.specs.declared.event.Event.{Event}
+use Rattle.lin_core.specs.declared.log.LogEntry.{LogEntry}
+use Rattle.lin_core.specs.declared.reply.Reply.{Reply}
+use Rattle.lin_core.specs.declared.reply.Reply.TheVariants.{Done}
+use Rattle.lin_core.specs.declared.step.Step.{Step}
+use Rattle.lin_core.specs.declared.step.Step.TheVariants.{Finish}
+use Rattle.lin_export.specs.Csv.{comma, csv_line, node_name, nodes_cell, row, slot_line, spaced_name, step_row, value_cell}
+use Rattle.lin_export.specs.Pcap.{bus_event, finish_packets, goes_to_sleep, packet, slot_packet}
+use Rattle.lin_export.specs.Shown.{entry_name, frame_name, slot_frame}
+use Rattle.lin_export.specs.Track.{shown, slots_in}
+use Rattle.lin_export.proofs.Slots.{some-same}
+
+-- the slot that is kept shows the open one
+pub record Shows (o : Option Slot) (t : Slot) : Type 0 where
+  pub slot : Slot
+  pub is_open : o ≡ Some slot
+  pub same : t ≡ shown slot
+
+pub shows : (o : Option Slot) (t : Slot) → Some t ≡ option_map shown o → Shows o t
+shows None t e = absurd (cc)
+shows (Some s) t e = record { slot = s; is_open = refl; same = some-same t (shown s) e }
+
+carried-shown : (c : Parts) (entry : Entry) (s : Slot) → carried_by c entry (shown s) ≡ carried_by c entry s
+carried-shown c (entries.Frame f) s = refl
+carried-shown c (entries.Sporadic k) s = refl
+carried-shown c (entries.Event e) s = refl
+carried-shown c entries.MasterReq s = refl
+carried-shown c entries.SlaveResp s = refl
+carried-shown c entries.Quiet s = refl
+
+frame-shown : (c : Parts) (entry : Entry) (s : Slot) → slot_frame c entry (shown s) ≡ slot_frame c entry s
+frame-shown c (entries.Frame f) s = refl
+frame-shown c (entries.Sporadic k) s = refl
+frame-shown c (entries.Event e) s = refl
+frame-shown c entries.MasterReq s = refl
+frame-shown c entries.SlaveResp s = refl
+frame-shown c entries.Quiet s = refl
+
+pub value-shown : (c : Parts) (s : Slot) (k : ℕ) → value_in c (shown s) k ≡ value_in c s k
+value-shown c s k =
+    ap (λ (o : Option ℕ). choose (good s) None (λ bytes. choose o None (λ f. option_map (λ p. unpacked p (take 8 bytes)) (place_in (frame_of c f) k))))
+    (carried-shown c (line_of c s.table s.entry).entry s)
+
+-- what a node hears of a slot
+pub hears-value : (c : Parts) (o : Slot) (k : ℕ) (bytes : List ℕ) (f : ℕ) → good o ≡ Some bytes → carried c o ≡ Some f
+    → value_in c o k ≡ option_map (λ p. unpacked p (take 8 bytes)) (place_in (frame_of c f) k)
+hears-value c o k bytes f g e = rw (g, e) refl
+
+pub hears-none : (c : Parts) (o : Slot) (k : ℕ) (bytes : List ℕ) → good o ≡ Some bytes → carried c o ≡ None → value_in c o k ≡ None
+hears-none c o k bytes g e = rw (g, e) refl
+
+pub not-good : (c : Parts) (o : Slot) (k : ℕ) → good o ≡ None → value_in c o k ≡ None
+not-good c o k g = rw g refl
+
+flat-append : {X : Type 0} (f : X → List ℕ) (xs ys : List X) → flat_map f (xs ++ ys) ≡ flat_map f xs ++ flat_map f ys
+flat-append f [] ys = refl
+flat-append f (x ∷ xs) ys = ap (λ l. f x ++ l) (flat-append f xs ys) ∙ sym (append_assoc (f x) (flat_map f xs) (flat_map f ys))
+
+-- the parts of a line
+pub line-parts : (first middle : List ℕ) (xs ys zs : List (List ℕ))
+    → first ++ (flat_map comma xs ++ (comma middle ++ (flat_map comma ys ++ (flat_map comma zs ++ 10 ∷ [])))) ≡ csv_line (first ∷ (xs ++ middle ∷ (ys ++ zs)))
+line-parts first middle xs ys zs =
+    ap (λ l. first ++ l)
+    (ap (λ l. flat_map comma xs ++ (comma middle ++ l)) (sym (append_assoc (flat_map comma ys) (flat_map comma zs) (10 ∷ [])) ∙ ap (λ l. l ++ 10 ∷ []) (sym (flat-append comma ys zs)))
+    ∙ ap (λ l. flat_map comma xs ++ l) (sym (append_assoc (comma middle) (flat_map comma (ys ++ zs)) (10 ∷ [])))
+    ∙ sym (append_assoc (flat_map comma xs) (flat_map comma (middle ∷ (ys ++ zs))) (10 ∷ []))
+    ∙ ap (λ l. l ++ 10 ∷ []) (sym (flat-append comma xs (middle ∷ (ys ++ zs)))))
+
+-- the values of a list are those that a function says of its places
+values-some : (g : ℕ → Value) (vs : List Value) → ArePointwise g vs → (n : ℕ) → n ≤ length vs
+    → flat_map (λ v. comma (value_cell v)) (take n vs) ≡ flat_map comma (map (λ k. value_cell (g k)) (numbers n))
+values-some g vs p zero h = refl
+values-some g vs p (suc n) h =
+    let says : Value → List ℕ = λ v. comma (value_cell v) in
+    let cell : ℕ → List ℕ = λ k. value_cell (g k) in
+    ap (flat_map says) (take-suc vs n (Scalar 0) (omega arith)) ∙ flat-append says (take n vs) (get_or vs n (Scalar 0) ∷ [])
+    ∙ ap (λ l. l ++ (says (get_or vs n (Scalar 0)) ++ [])) (values-some g vs p n (omega arith))
+    ∙ ap (λ (v : Value). flat_map comma (map cell (numbers n)) ++ (says v ++ [])) (p n (get_or vs n (Scalar 0)) (slice_get-get_or vs n (Scalar 0) (omega arith)))
+    ∙ sym (ap (flat_map comma) (map-append cell (numbers n) (n ∷ [])) ∙ flat-append comma (map cell (numbers n)) (cell n ∷ []))
+
+pub values-all : (g : ℕ → Value) (vs : List Value) (n : ℕ) → ArePointwise g vs → length vs ≡ n
+    → flat_map (λ v. comma (value_cell v)) vs ≡ flat_map comma (map (λ k. value_cell (g k)) (numbers n))
+values-all g vs n p e = ap (flat_map (λ v. comma (value_cell v))) (sym (take_all n vs (omega arith))) ∙ values-some g vs p n (omega arith)
+
+row-of : (c : Parts) (names : NamesData) (e : LogEntry) (past : List LogEntry) (reply : Reply) (step : Step) (events : List Event) (s : Slot)
+    → reply ≡ Done events → step ≡ Finish → open_slot past ≡ Some s
+    → choose (done_step reply step) [] (step_row c names e past) ≡ slot_line c names (slots_in past) (time c past) s (heard c (e ∷ past))
+row-of c names e past reply step events s r f o = rw (r, f, o) refl
+
+pub row-finish : (c : Parts) (names : NamesData) (e : LogEntry) (past : List LogEntry) (events : List Event) (s : Slot)
+    → e.reply ≡ Done events → e.step ≡ Finish → open_slot past ≡ Some s
+    → row c names e past ≡ slot_line c names (slots_in past) (time c past) s (heard c (e ∷ past))
+row-finish c names e past events s r f o = row-of c names e past e.reply e.step events s r f o
+
+-- a slot that puts the cluster to sleep
+pub finish-asleep : (c : Parts) (at end : ℕ) (s : Slot) → is_sleep_slot s ≡ true → end ≡ at + (line_of c s.table s.entry).delay_us
+    → slot_packet c at s ++ packet end (bus_event goes_to_sleep) ≡ finish_packets c at s
+finish-asleep c at end s h e = rw (h, e) refl
+
+-- a search that nothing passes
+pub find-nothing : (xs : List ℕ) → find (λ x. false) xs ≡ None
+find-nothing [] = refl
+find-nothing (x ∷ xs) = find-nothing xs
+
+-- the texts of a list's items, one more at a time
+pub texts-more : {X : Type 0} (f : X → List ℕ) (xs : List X) (i : ℕ) (d : X) → i < length xs
+    → flat_map f (take (i + 1) xs) ≡ flat_map f (take i xs) ++ f (get_or xs i d)
+texts-more f xs i d h =
+    ap (flat_map f) (take_more xs i d h) ∙ flat-append f (take i xs) (get_or xs i d ∷ []) ∙ ap (λ l. flat_map f (take i xs) ++ l) (append-nil (f (get_or xs i d)))
+
+pub mapped-more : {X Y : Type 0} (f : Y → List ℕ) (g : X → Y) (xs : List X) (i : ℕ) (d : X) → i < length xs
+    → flat_map f (map g (take (i + 1) xs)) ≡ flat_map f (map g (take i xs)) ++ f (g (get_or xs i d))
+mapped-more f g xs i d h =
+    ap (λ l. flat_map f (map g l)) (take_more xs i d h) ∙ ap (flat_map f) (map-append g (take i xs) (get_or xs i d ∷ []))
+    ∙ flat-append f (map g (take i xs)) (g (get_or xs i d) ∷ []) ∙ ap (λ l. flat_map f (map g (take i xs)) ++ l) (append-nil (f (g (get_or xs i d))))
+
+-- the first name, and those behind it
+pub nodes-first : (c : Parts) (puts : List (ℕ × List ℕ)) (first : ℕ × List ℕ) → 1 ≤ length puts → first ≡ get_or puts 0 first
+    → node_name c first ++ flat_map (spaced_name c) (take (length puts - 1) (drop 1 puts)) ≡ nodes_cell c puts
+nodes-first c [] first h is = absurd (omega arith)
+nodes-first c (p ∷ ps) first h is =
+    ap (λ (l : List (ℕ × List ℕ)). node_name c first ++ flat_map (spaced_name c) l) (take_all (length (p ∷ ps) - 1) ps (omega arith))
+    ∙ ap (λ (x : ℕ × List ℕ). node_name c x ++ flat_map (spaced_name c) ps) is
+
+pub line-shown : (c : Parts) (names : NamesData) (n t : ℕ) (s : Slot) (g : ℕ → Value) → slot_line c names n t (shown s) g ≡ slot_line c names n t s g
+line-shown c names n t s g = rw (frame-shown c (line_of c s.table s.entry).entry s) refl
+
+pub heard-finish : (c : Parts) (e : LogEntry) (past : List LogEntry) (events : List Event) (s t : Slot) (k : ℕ)
+    → e.reply ≡ Done events → e.step ≡ Finish → open_slot past ≡ Some s → t ≡ shown s
+    → choose (value_in c t k) (heard c past k) (λ v. v) ≡ heard c (e ∷ past) k
+heard-finish c e past events s t k r f o is =
+    rw (is, r, f, o) (ap (λ (v : Option Value). choose v (heard c past k) (λ x. x)) (value-shown c s k))
+
+pub initial-at : (xs : List Signal) (i : ℕ) (v : Value) (d : Signal) → slice_get (map (λ (s : Signal). s.initial) xs) i ≡ Some v → v ≡ (get_or xs i d).initial
+initial-at [] i v d h = absurd (cc)
+initial-at (x ∷ xs) zero v d h = let e : x.initial ≡ v = cc in sym e
+initial-at (x ∷ xs) (suc i) v d h = initial-at xs i v d h

@@ -1,0 +1,9 @@
+pub mod Track
+pub mod Look
+pub mod Open
+pub mod Shown
+pub mod Telling
+pub mod Putting
+pub mod Pcap
+pub mod Csv
+pub mod Cells

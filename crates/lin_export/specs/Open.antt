@@ -1,0 +1,7 @@
+-- The slot that the code keeps.
+use Rattle.std.specs.Prelude.{[]}
+use Rattle.lin_core.specs.History.{Slot}
+use Rattle.lin_export.specs.declared.slot.OpenSlot.{OpenSlot}
+
+abbrev pub slot_in : OpenSlot → Slot
+slot_in s = record { table = s.table; entry = s.entry; header = s.header; due = []; puts = s.puts.items; left = []; hurt = s.hurt }

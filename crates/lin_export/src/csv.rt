@@ -1,0 +1,299 @@
+//! Logs as lines of values between commas.
+
+ghost use Rattle.std.specs.Prelude.{◌≡◌, ◌∷◌, ℕ, [], List, length, flat_map, map};
+ghost use Rattle.lin_core.specs.Kept.{ArePointwise};
+ghost use Rattle.lin_core.specs.Signals.{heard};
+ghost use Rattle.lin_frame.specs.declared.value.Value.{Value};
+ghost use Rattle.lin_core.specs.declared.log.LogEntry.{LogEntry};
+ghost use Rattle.lin_text.specs.Written.{Grows, WritesText};
+ghost use Rattle.lin_export.specs.Cells.{shown};
+ghost use Rattle.lin_export.specs.Csv.{comma, csv, head_line, hex_cell, kind_cell, node_name, nodes_cell, response_cells, row, schedule_cells, seen_cell, slot_line, spaced_name, value_cell};
+ghost use Rattle.lin_export.specs.Look.{looks};
+ghost use Rattle.lin_export.specs.Open.{slot_in};
+ghost use Rattle.lin_export.specs.Putting.{PutsAll};
+ghost use Rattle.lin_export.specs.Telling.{each_entry};
+ghost use Rattle.lin_export.specs.Track.{track_of};
+
+use crate::fault::ExportFault;
+use crate::hearing::{hear_slot, initial_values};
+use crate::named::{node_name, slot_name, table_name};
+use crate::slot::{Look, OpenSlot, byte_at};
+use crate::track::Track;
+use lin_core::{Log, LogEntry, Reply, Step};
+use lin_frame::{Answer, Value};
+use lin_names::Names;
+use lin_parts::{Cluster, Entry};
+use lin_text::TextWriter;
+use std::alloc::{AllocError, Global};
+use std::io::Write;
+
+/// A cell of a line.
+#[derive(Clone, Copy)]
+enum Cell<'a> {
+    Text(&'a [u8]),
+    Number(u64),
+    Byte(Option<u8>),
+    Hex(&'a [u8]),
+}
+
+/// Puts two digits for each byte, behind `0x`.
+fn put_hex<W: Write>(out: &mut TextWriter<'_, W>, bytes: &[u8])
+    ensures { Grows W.contents out.old out.new (hex_cell bytes.now) }
+{
+    out.put(b"0x");
+    out.put_hex(bytes);
+}
+
+fn put_cell<W: Write>(out: &mut TextWriter<'_, W>, cell: Cell<'_>)
+    ensures { Grows W.contents out.old out.new (shown cell.entry) }
+{
+    match cell {
+        Cell::Text(text) => out.put(text),
+        Cell::Number(number) => out.put_number(number),
+        Cell::Byte(None) => {}
+        Cell::Byte(Some(byte)) => put_hex(out, &[byte]),
+        Cell::Hex(bytes) => put_hex(out, bytes),
+    }
+}
+
+fn put_next<W: Write>(out: &mut TextWriter<'_, W>, cell: Cell<'_>)
+    ensures { Grows W.contents out.old out.new (comma (shown cell.entry)) }
+{
+    out.put_byte(b',');
+    put_cell(out, cell);
+}
+
+fn put_cells<W: Write>(out: &mut TextWriter<'_, W>, cells: &[Cell<'_>])
+    ensures { Grows W.contents out.old out.new (flat_map comma (map shown cells.now)) }
+{
+    for cell in cells {
+        put_next(out, *cell);
+    }
+}
+
+fn put_value<W: Write>(out: &mut TextWriter<'_, W>, value: &Value)
+    ensures { Grows W.contents out.old out.new (comma (value_cell value.now)) }
+{
+    match value {
+        Value::Scalar(number) => put_next(out, Cell::Number(u64::from(*number))),
+        Value::Bytes(bytes) => put_next(out, Cell::Hex(bytes.as_slice())),
+    }
+}
+
+fn put_values<W: Write>(out: &mut TextWriter<'_, W>, values: &[Value])
+    ensures { Grows W.contents out.old out.new (flat_map (λ value. comma (value_cell value)) values.now) }
+{
+    for value in values {
+        put_value(out, value);
+    }
+}
+
+fn put_signal_names<W: Write>(out: &mut TextWriter<'_, W>, cluster: &Cluster)
+    ensures { Grows W.contents out.old out.new (flat_map comma (map (λ s. s.name) cluster.now.signals)) }
+{
+    for signal in 0..cluster.signals() as u16 {
+        put_next(out, Cell::Text(cluster.signal_name(signal)));
+    }
+}
+
+/// The names of the columns.
+fn put_head<W: Write>(out: &mut TextWriter<'_, W>, cluster: &Cluster)
+    ensures { Grows W.contents out.old out.new (head_line cluster.now) }
+{
+    out.put(b"slot,time_us,delay_us,table,entry,kind,frame,header,nodes,seen,data,checksum");
+    put_signal_names(out, cluster);
+    out.put_byte(b'\n');
+}
+
+fn kind_of(entry: Entry) -> &'static str
+    ensures { result.now ≡ kind_cell entry }
+{
+    match entry {
+        Entry::Frame(_) => "unconditional",
+        Entry::Sporadic(_) => "sporadic",
+        Entry::Event(_) => "event",
+        Entry::MasterReq => "request",
+        Entry::SlaveResp => "response",
+        Entry::Quiet => "configuration",
+    }
+}
+
+fn seen_of(look: Look<'_>) -> &'static str
+    ensures { result.now ≡ seen_cell (looks look.entry) }
+{
+    match look {
+        Look::Silent => "silent",
+        Look::NoAnswer => "none",
+        Look::Good(_) => "good",
+        Look::Damaged => "damaged",
+        Look::Collided => "collided",
+    }
+}
+
+/// Where a slot stands in the schedule, and what it is for.
+fn put_schedule<'a, W: Write>(
+    out: &mut TextWriter<'_, W>,
+    cluster: &'a Cluster,
+    names: &'a Names,
+    at: u64,
+    slot: &OpenSlot,
+)
+    ensures { Grows W.contents out.old out.new (flat_map comma (schedule_cells cluster.now names.now at (slot_in slot.now))) }
+{
+    let line = slot.line(cluster);
+    put_cells(
+        out,
+        &[
+            Cell::Number(at),
+            Cell::Number(u64::from(line.delay_us)),
+            Cell::Text(table_name(cluster, slot.table())),
+            Cell::Number(u64::from(slot.entry())),
+            Cell::Text(kind_of(line.entry).as_bytes()),
+            Cell::Text(slot_name(cluster, names, slot)),
+            Cell::Byte(slot.header()),
+        ],
+    );
+}
+
+fn put_node<W: Write>(out: &mut TextWriter<'_, W>, cluster: &Cluster, put: &(u8, Answer))
+    ensures { Grows W.contents out.old out.new (node_name cluster.now put.now) }
+{
+    out.put(node_name(cluster, put.0));
+}
+
+fn put_spaced_node<W: Write>(out: &mut TextWriter<'_, W>, cluster: &Cluster, put: &(u8, Answer))
+    ensures { Grows W.contents out.old out.new (spaced_name cluster.now put.now) }
+{
+    out.put_byte(b' ');
+    put_node(out, cluster, put);
+}
+
+fn put_more_nodes<W: Write>(out: &mut TextWriter<'_, W>, cluster: &Cluster, puts: &[(u8, Answer)])
+    ensures { Grows W.contents out.old out.new (flat_map (spaced_name cluster.now) puts.now) }
+{
+    for put in puts {
+        put_spaced_node(out, cluster, put);
+    }
+}
+
+/// The nodes that put responses.
+fn put_nodes<W: Write>(out: &mut TextWriter<'_, W>, cluster: &Cluster, puts: &[(u8, Answer)])
+    ensures { Grows W.contents out.old out.new (comma (nodes_cell cluster.now puts.now)) }
+{
+    out.put_byte(b',');
+    if let [first, rest @ ..] = puts {
+        put_node(out, cluster, first);
+        put_more_nodes(out, cluster, rest);
+    }
+}
+
+/// How a slot was seen, with the response of a good one.
+fn put_response<W: Write>(out: &mut TextWriter<'_, W>, look: Look<'_>)
+    ensures { Grows W.contents out.old out.new (flat_map comma (response_cells (looks look.entry))) }
+{
+    let seen = Cell::Text(seen_of(look).as_bytes());
+    match look {
+        Look::Good(answer) => {
+            let bytes = answer.as_slice();
+            let count = bytes.len().saturating_sub(1);
+            let checksum = Some(byte_at(bytes, count));
+            put_cells(
+                out,
+                &[seen, Cell::Hex(&bytes[..count]), Cell::Byte(checksum)],
+            );
+        }
+        _ => put_cells(out, &[seen, Cell::Byte(None), Cell::Byte(None)]),
+    }
+}
+
+/// The line of a slot.
+fn put_line<'a, W: Write>(
+    out: &mut TextWriter<'_, W>,
+    cluster: &'a Cluster,
+    names: &'a Names,
+    track: &Track,
+    slot: &OpenSlot,
+    values: &[Value],
+)
+    requires { length values.now ≡ length cluster.now.signals }
+    ensures { (g : ℕ → Value) → ArePointwise g values.now → Grows W.contents out.old out.new (slot_line cluster.now names.now track.now.slots track.now.time (slot_in slot.now) g) }
+{
+    put_cell(out, Cell::Number(track.slots()));
+    put_schedule(out, cluster, names, track.time(), slot);
+    put_nodes(out, cluster, slot.puts());
+    put_response(out, slot.look());
+    put_values(out, values);
+    out.put_byte(b'\n');
+}
+
+/// An entry, where it finishes a slot; the values of the signals are those that are heard behind it.
+fn put_entry<W: Write>(
+    out: &mut TextWriter<'_, W>,
+    cluster: &Cluster,
+    names: &Names,
+    track: &Track,
+    entry: &LogEntry,
+    values: &mut Vec<Value>,
+)
+    requires { length values.old.items ≡ length cluster.now.signals }
+    ensures count { length values.new.items ≡ length values.old.items }
+    ensures heard { (past : List LogEntry) → track.now ≡ track_of cluster.now past → ArePointwise (heard cluster.now past) values.old.items → ArePointwise (heard cluster.now (entry.now ∷ past)) values.new.items }
+    ensures text { (past : List LogEntry) → track.now ≡ track_of cluster.now past → ArePointwise (heard cluster.now past) values.old.items → Grows W.contents out.old out.new (row cluster.now names.now entry.now past) }
+{
+    let Reply::Done(_) = &entry.reply else {
+        return;
+    };
+    let Step::Finish = &entry.step else {
+        return;
+    };
+    if let Some(slot) = track.slot() {
+        hear_slot(values, cluster, slot);
+        put_line(out, cluster, names, track, slot, values.as_slice());
+    }
+}
+
+fn put_entries<W: Write>(
+    out: &mut TextWriter<'_, W>,
+    alloc: Global,
+    cluster: &Cluster,
+    names: &Names,
+    log: &Log,
+) -> Result<(), AllocError>
+    ensures { PutsAll W.contents out.old out.new result (each_entry (row cluster.now names.now) [] log.now.entries) }
+{
+    let mut values = initial_values(alloc, cluster)?;
+    let mut track = Track::new(alloc);
+    for index in 0..log.len() {
+        let entry = log.entry(index);
+        put_entry(out, cluster, names, &track, entry, &mut values);
+        track.follow(cluster, entry)?;
+    }
+    Ok(())
+}
+
+/// Writes the table of a log: a line with the names of the columns, and one per finished slot, with its number from 0, its times in
+/// microseconds, its entry, its response, and the values of all signals that are heard behind it (RFC 4180, with LF alone).
+///
+/// It goes through a buffer of fixed size, and takes memory for a value of each signal and for the responses of one slot. The writer isn't
+/// flushed.
+///
+/// # Errors
+/// What was written then is the beginning of the table.
+/// - `OutOfMemory`;
+/// - `WriteFailed` at the first error of the writer, an interrupted write too, and at the first write of 0 bytes.
+pub fn write_csv<W: Write>(
+    alloc: Global,
+    cluster: &Cluster,
+    names: &Names,
+    log: &Log,
+    writer: &mut W,
+) -> Result<(), ExportFault>
+    ensures { WritesText (W.contents writer.old) (W.contents writer.new) result (csv cluster.now names.now log.now.entries) }
+{
+    let mut out = TextWriter::new(writer);
+    put_head(&mut out, cluster);
+    let followed = put_entries(&mut out, alloc, cluster, names, log);
+    out.finish()?;
+    followed?;
+    Ok(())
+}

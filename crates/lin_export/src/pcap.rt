@@ -1,0 +1,225 @@
+//! Logs as captures of LIN packets (pcap, link type 212).
+
+ghost use Rattle.std.specs.Prelude.{◌≡◌, ◌≤◌, ◌<◌, ◌^◌, [], length, List};
+ghost use Rattle.lin_core.specs.declared.log.LogEntry.{LogEntry};
+ghost use Rattle.lin_text.specs.Written.{Grows, WritesText};
+ghost use Rattle.lin_export.specs.Putting.{PutsAll};
+ghost use Rattle.lin_export.specs.Look.{looks};
+ghost use Rattle.lin_export.specs.Open.{slot_in};
+ghost use Rattle.lin_export.specs.Pcap.{bus_event, file_header, finish_packets, frame_body, model_number, packet, packets, pcap, seen_packet, slot_packet, word};
+ghost use Rattle.lin_export.specs.Telling.{each_entry};
+ghost use Rattle.lin_export.specs.Track.{track_of};
+
+use crate::carried::model_under;
+use crate::fault::ExportFault;
+use crate::slot::{Look, OpenSlot, byte_at};
+use crate::track::Track;
+use arrayvec::ArrayVec;
+use lin_core::{Log, LogEntry, Reply, Step};
+use lin_frame::SumKind;
+use lin_parts::Cluster;
+use lin_text::TextWriter;
+use std::alloc::{AllocError, Global};
+use std::io::Write;
+
+/// The errors of a frame's packet.
+const NO_RESPONSE: u8 = 1;
+
+const FRAMING: u8 = 2;
+
+const BAD_CHECKSUM: u8 = 8;
+
+/// The kinds of events of the bus.
+const GOES_TO_SLEEP: u8 = 1;
+
+const WAKES: u8 = 4;
+
+/// The low 32 bits of a number, the lowest byte first.
+fn word(number: u64) -> [u8; 4]
+    ensures { result ≡ word number }
+{
+    [
+        (number % 256) as u8,
+        (number / 256 % 256) as u8,
+        (number / 65_536 % 256) as u8,
+        (number / 16_777_216 % 256) as u8,
+    ]
+}
+
+fn file_header() -> ArrayVec<u8, 24>
+    ensures { result.items ≡ file_header }
+{
+    let mut header = ArrayVec::new();
+    header.try_extend_from_slice(&word(0xA1B2_C3D4)).unwrap();
+    header.try_extend_from_slice(&[2, 0, 4, 0]).unwrap();
+    header.try_extend_from_slice(&word(0)).unwrap();
+    header.try_extend_from_slice(&word(0)).unwrap();
+    header.try_extend_from_slice(&word(65_535)).unwrap();
+    header.try_extend_from_slice(&word(212)).unwrap();
+    header
+}
+
+/// A packet at a time in microseconds.
+fn packet(at: u64, body: &[u8]) -> ArrayVec<u8, 32>
+    requires { length body.now ≤ 16 }
+    ensures { result.items ≡ packet at body.now }
+{
+    let length = body.len() as u64;
+    let mut bytes = ArrayVec::new();
+    bytes.try_extend_from_slice(&word(at / 1_000_000)).unwrap();
+    bytes.try_extend_from_slice(&word(at % 1_000_000)).unwrap();
+    bytes.try_extend_from_slice(&word(length)).unwrap();
+    bytes.try_extend_from_slice(&word(length)).unwrap();
+    bytes.try_extend_from_slice(body).unwrap();
+    bytes
+}
+
+fn model_number(model: SumKind) -> u8
+    ensures { result ≡ model_number model }
+{
+    match model {
+        SumKind::Classic => 1,
+        SumKind::Enhanced => 2,
+    }
+}
+
+/// A frame with a response, or with no bytes where none is shown.
+fn frame_body(model: SumKind, header: u8, answer: &[u8], errors: u8) -> ArrayVec<u8, 16>
+    requires { length answer.now ≤ 9 }
+    ensures { result.items ≡ frame_body model header answer.now errors }
+{
+    let count = answer.len().saturating_sub(1);
+    let room = if count == 0 {
+        0
+    } else if count <= 4 {
+        4
+    } else {
+        8
+    };
+    let lengths = 16 * count as u8 + model_number(model);
+    let mut body = ArrayVec::new();
+    body.try_extend_from_slice(&[1, 0, 0, 0, lengths, header, byte_at(answer, count), errors])
+        .unwrap();
+    body.try_extend_from_slice(&answer[..count]).unwrap();
+    body.try_extend_from_slice(&[0; 8][..room - count]).unwrap();
+    body
+}
+
+fn put_packet<W: Write>(out: &mut TextWriter<'_, W>, at: u64, body: &[u8])
+    requires { length body.now ≤ 16 }
+    ensures { Grows W.contents out.old out.new (packet at body.now) }
+{
+    out.put(packet(at, body).as_slice());
+}
+
+fn put_bus_event<W: Write>(out: &mut TextWriter<'_, W>, at: u64, kind: u8)
+    ensures { Grows W.contents out.old out.new (packet at (bus_event kind)) }
+{
+    put_packet(out, at, &[1, 0, 0, 0, 0x4C, 0, 0, 0, 0xB0, 0xB0, 0, kind]);
+}
+
+fn put_seen<W: Write>(
+    out: &mut TextWriter<'_, W>,
+    at: u64,
+    model: SumKind,
+    header: u8,
+    look: Look<'_>,
+)
+    ensures { Grows W.contents out.old out.new (seen_packet at model header (looks look.entry)) }
+{
+    let body = match look {
+        Look::Silent => return,
+        Look::NoAnswer => frame_body(model, header, &[], NO_RESPONSE),
+        Look::Good(answer) => frame_body(model, header, answer.as_slice(), 0),
+        Look::Damaged => frame_body(model, header, &[], BAD_CHECKSUM),
+        Look::Collided => frame_body(model, header, &[], FRAMING),
+    };
+    put_packet(out, at, body.as_slice());
+}
+
+fn put_slot<W: Write>(out: &mut TextWriter<'_, W>, at: u64, cluster: &Cluster, slot: &OpenSlot)
+    ensures { Grows W.contents out.old out.new (slot_packet cluster.now at (slot_in slot.now)) }
+{
+    let Some(header) = slot.header() else {
+        return;
+    };
+    let model = model_under(cluster, slot.line(cluster).entry, header);
+    put_seen(out, at, model, header, slot.look());
+}
+
+/// A slot that begins at a time, and its end where it puts the cluster to sleep.
+fn put_finish<W: Write>(out: &mut TextWriter<'_, W>, at: u64, cluster: &Cluster, slot: &OpenSlot)
+    requires { at < 2 ^ 63 }
+    ensures { Grows W.contents out.old out.new (finish_packets cluster.now at (slot_in slot.now)) }
+{
+    put_slot(out, at, cluster, slot);
+    if !slot.is_sleep() {
+        return;
+    }
+    let end = at + u64::from(slot.line(cluster).delay_us);
+    put_bus_event(out, end, GOES_TO_SLEEP);
+}
+
+fn put_entry<W: Write>(
+    out: &mut TextWriter<'_, W>,
+    cluster: &Cluster,
+    track: &Track,
+    entry: &LogEntry,
+)
+    requires { track.now.time < 2 ^ 63 }
+    ensures { (past : List LogEntry) → track.now ≡ track_of cluster.now past → Grows W.contents out.old out.new (packets cluster.now entry.now past) }
+{
+    let Reply::Done(_) = &entry.reply else {
+        return;
+    };
+    match &entry.step {
+        Step::Wake => put_bus_event(out, track.time(), WAKES),
+        Step::Finish => match track.slot() {
+            Some(slot) => put_finish(out, track.time(), cluster, slot),
+            None => {}
+        },
+        _ => {}
+    }
+}
+
+fn put_entries<W: Write>(
+    out: &mut TextWriter<'_, W>,
+    alloc: Global,
+    cluster: &Cluster,
+    log: &Log,
+) -> Result<(), AllocError>
+    ensures { PutsAll W.contents out.old out.new result (each_entry (packets cluster.now) [] log.now.entries) }
+{
+    let mut track = Track::new(alloc);
+    for index in 0..log.len() {
+        let entry = log.entry(index);
+        put_entry(out, cluster, &track, entry);
+        track.follow(cluster, entry)?;
+    }
+    Ok(())
+}
+
+/// Writes the capture of a log: per finished slot with a header a packet at its start, with the response where it was seen good; one at the
+/// end of a slot that puts the cluster to sleep; and one per wake-up (pcap, link type 212, LINKTYPE_LIN).
+///
+/// It goes through a buffer of fixed size, and takes memory for the responses of one slot. The writer isn't flushed.
+///
+/// # Errors
+/// What was written then is the beginning of the capture.
+/// - `OutOfMemory`;
+/// - `WriteFailed` at the first error of the writer, an interrupted write too, and at the first write of 0 bytes.
+pub fn write_pcap<W: Write>(
+    alloc: Global,
+    cluster: &Cluster,
+    log: &Log,
+    writer: &mut W,
+) -> Result<(), ExportFault>
+    ensures { WritesText (W.contents writer.old) (W.contents writer.new) result (pcap cluster.now log.now.entries) }
+{
+    let mut out = TextWriter::new(writer);
+    out.put(file_header().as_slice());
+    let followed = put_entries(&mut out, alloc, cluster, log);
+    out.finish()?;
+    followed?;
+    Ok(())
+}

@@ -1,0 +1,205 @@
+//! The slot that is open at a place in a log.
+
+ghost use Rattle.std.specs.Prelude.{◌≡◌, ◌≤◌, ◌<◌, is_some, length, slice_index, IfSome, OnOk};
+ghost use Rattle.lin_parts.specs.Cluster.{line_of};
+ghost use Rattle.lin_parts.specs.Rules.{IsEntry};
+ghost use Rattle.lin_core.specs.History.{good, hurt, is_sleep_slot, no_slot, seen, told, told_all};
+ghost use Rattle.lin_core.specs.Signals.{carried};
+ghost use Rattle.lin_export.specs.Look.{looks};
+ghost use Rattle.lin_export.specs.Open.{slot_in};
+ghost use Rattle.lin_export.specs.Shown.{slot_frame};
+ghost use Rattle.lin_export.specs.Track.{shown};
+
+use crate::carried::{frame_put, frame_under, line_at};
+use arrayvec::ArrayVec;
+use lin_core::Event;
+use lin_frame::Answer;
+use lin_parts::{Cluster, Entry, Line};
+use std::alloc::{AllocError, Global};
+
+/// What of a slot is shown: its entry, its header, the nodes that put responses with these, in order, and whether the response was disturbed.
+#[derive(Drop)]
+pub(crate) struct OpenSlot {
+    table: u16,
+    entry: u16,
+    header: Option<u8>,
+    puts: Vec<(u8, Answer)>,
+    hurt: bool,
+}
+
+/// An equal response.
+fn copied(answer: &Answer) -> Answer
+    ensures { result ≡ answer.now }
+{
+    let mut copy = ArrayVec::new();
+    copy.try_extend_from_slice(answer.as_slice()).unwrap();
+    Answer::new(copy)
+}
+
+/// The byte at an index; 0 behind the last.
+pub(crate) fn byte_at(bytes: &[u8], index: usize) -> u8
+    ensures { result ≡ slice_index bytes.now index }
+{
+    if index < bytes.len() {
+        return bytes[index];
+    }
+    0
+}
+
+/// How the nodes see a slot when it ends.
+#[derive(Clone, Copy)]
+pub(crate) enum Look<'a> {
+    Silent,
+    NoAnswer,
+    Good(&'a Answer),
+    Damaged,
+    Collided,
+}
+
+impl OpenSlot {
+    /// A slot of which nothing is told yet.
+    pub(crate) fn new(alloc: Global) -> OpenSlot
+        ensures { slot_in result ≡ no_slot }
+    {
+        OpenSlot {
+            table: 0,
+            entry: 0,
+            header: None,
+            puts: Vec::new(alloc),
+            hurt: false,
+        }
+    }
+
+    /// An event tells something of the slot. An error is want of memory.
+    fn tell(&mut self, event: &Event) -> Result<(), AllocError>
+        ensures { OnOk result (slot_in self.new ≡ shown (told event.now (slot_in self.old))) }
+    {
+        match event {
+            Event::Slot {
+                table,
+                entry,
+                header,
+            } => {
+                self.table = *table;
+                self.entry = *entry;
+                self.header = *header;
+            }
+            Event::Put { node, answer } => self.puts.push((*node, copied(answer)))?,
+            _ => {}
+        }
+        Ok(())
+    }
+
+    /// The events of a step tell something of the slot. An error is want of memory.
+    pub(crate) fn tell_all(&mut self, events: &[Event]) -> Result<(), AllocError>
+        ensures { OnOk result (slot_in self.new ≡ shown (told_all events.now (slot_in self.old))) }
+    {
+        for event in events {
+            self.tell(event)?;
+        }
+        Ok(())
+    }
+
+    /// The response is disturbed.
+    pub(crate) fn hurt(&mut self)
+        ensures { slot_in self.new ≡ hurt (slot_in self.old) }
+    {
+        self.hurt = true;
+    }
+
+    /// Its header, a protected identifier, where it has one.
+    pub(crate) fn header(&self) -> Option<u8>
+        ensures { result ≡ self.now.header }
+    {
+        self.header
+    }
+
+    /// The number of its table.
+    pub(crate) fn table(&self) -> u16
+        ensures { result ≡ self.now.table }
+    {
+        self.table
+    }
+
+    /// The number of its entry.
+    pub(crate) fn entry(&self) -> u16
+        ensures { result ≡ self.now.entry }
+    {
+        self.entry
+    }
+
+    /// The nodes that put responses, with these, in order.
+    pub(crate) fn puts(&self) -> &[(u8, Answer)]
+        ensures { result.now ≡ (slot_in self.now).puts }
+    {
+        self.puts.as_slice()
+    }
+
+    /// What it is for, with its delay.
+    pub(crate) fn line(&self, cluster: &Cluster) -> Line
+        ensures line { result ≡ line_of cluster.now self.now.table self.now.entry }
+        ensures there { IsEntry cluster.now result.entry }
+        ensures delay { result.delay_us ≤ 1000000000 }
+    {
+        line_at(cluster, self.table, self.entry)
+    }
+
+    /// The frame that it carries (ISO 17987-3, unconditional, sporadic and event-triggered frames).
+    pub(crate) fn carried(&self, cluster: &Cluster) -> Option<u16>
+        ensures frame { result ≡ carried cluster.now (slot_in self.now) }
+        ensures there { IfSome result (λ f. f < length cluster.now.frames) }
+    {
+        cluster.sound();
+        match self.line(cluster).entry {
+            Entry::Frame(frame) => Some(frame),
+            Entry::Sporadic(sporadic) => match self.header {
+                Some(header) => frame_under(cluster, cluster.sporadic(sporadic), header),
+                None => None,
+            },
+            Entry::Event(event) => frame_put(cluster, cluster.event_frames(event), self.puts()),
+            Entry::MasterReq | Entry::SlaveResp | Entry::Quiet => None,
+        }
+    }
+
+    /// Whether it is seen good when it ends.
+    fn is_good(&self) -> bool
+        ensures { result ≡ is_some (good (slot_in self.now)) }
+    {
+        matches!(self.look(), Look::Good(_))
+    }
+
+    /// The frame that is shown: an event-triggered slot has one only where it is seen good.
+    pub(crate) fn frame(&self, cluster: &Cluster) -> Option<u16>
+        ensures { result ≡ slot_frame cluster.now (line_of cluster.now self.now.table self.now.entry).entry (slot_in self.now) }
+    {
+        match self.line(cluster).entry {
+            Entry::Event(_) if !self.is_good() => None,
+            _ => self.carried(cluster),
+        }
+    }
+
+    /// How the slot is seen when it ends.
+    pub(crate) fn look(&self) -> Look<'_>
+        ensures { looks result ≡ seen (slot_in self.now) }
+    {
+        if self.header.is_none() {
+            return Look::Silent;
+        }
+        match self.puts.as_slice() {
+            [] => Look::NoAnswer,
+            [_] if self.hurt => Look::Damaged,
+            [put] => Look::Good(&put.1),
+            _ => Look::Collided,
+        }
+    }
+
+    /// Whether the slot puts the cluster to sleep: a good master request whose first data byte is 0 (ISO 17987-3, go-to-sleep).
+    pub(crate) fn is_sleep(&self) -> bool
+        ensures { result ≡ is_sleep_slot (slot_in self.now) }
+    {
+        match self.look() {
+            Look::Good(answer) => self.header == Some(0x3C) && byte_at(answer.as_slice(), 0) == 0,
+            _ => false,
+        }
+    }
+}

@@ -1,0 +1,106 @@
+//! What is kept of a log, entry by entry.
+
+ghost use Rattle.std.specs.Prelude.{◌≡◌, ◌+◌, ◌≤◌, ◌^◌, ◌<◌, ◌∷◌, [], List, option_map, OnOk};
+ghost use Rattle.lin_parts.specs.declared.parts.Parts.{Parts};
+ghost use Rattle.lin_core.specs.declared.log.LogEntry.{LogEntry};
+ghost use Rattle.lin_export.specs.Open.{slot_in};
+ghost use Rattle.lin_export.specs.Track.{track_of};
+
+use crate::slot::OpenSlot;
+use lin_core::{LogEntry, Reply, Step};
+use lin_parts::Cluster;
+use std::alloc::{AllocError, Global};
+use std::marker::Model;
+
+/// The slot that is open behind the entries that were read, the delays of the slots that are finished, in microseconds, and their number.
+#[derive(Drop)]
+pub(crate) struct Track {
+    alloc: Global,
+    slot: Option<OpenSlot>,
+    time: u64,
+    slots: u64,
+}
+
+impl Model for Track {
+    ghost use Rattle.std.specs.Prelude.{option_map};
+    ghost use Rattle.lin_export.specs.Open.{slot_in};
+    ghost use Rattle.lin_export.specs.Track.{TrackData};
+
+    ghost Value = { TrackData };
+
+    ghost view = { λ t. record { slot = option_map slot_in t.slot; time = t.time; slots = t.slots } };
+}
+
+impl Track {
+    /// No entry was read.
+    pub(crate) fn new(alloc: Global) -> Track
+        ensures { (c : Parts) → result ≡ track_of c [] }
+    {
+        Track {
+            alloc,
+            slot: None,
+            time: 0,
+            slots: 0,
+        }
+    }
+
+    /// The open slot.
+    pub(crate) fn slot(&self) -> &Option<OpenSlot>
+        ensures { option_map slot_in result.now ≡ self.now.slot }
+    {
+        &self.slot
+    }
+
+    /// The delays of all finished slots, in microseconds.
+    pub(crate) fn time(&self) -> u64
+        ensures { result ≡ self.now.time }
+    {
+        self.time
+    }
+
+    /// How many slots are finished.
+    pub(crate) fn slots(&self) -> u64
+        ensures { result ≡ self.now.slots }
+    {
+        self.slots
+    }
+
+    /// One entry more was read. An error is want of memory.
+    pub(crate) fn follow(&mut self, cluster: &Cluster, entry: &LogEntry) -> Result<(), AllocError>
+        requires time { self.old.time < 2 ^ 63 }
+        requires slots { self.old.slots < 2 ^ 63 }
+        ensures kept { OnOk result ((past : List LogEntry) → self.old ≡ track_of cluster.now past → self.new ≡ track_of cluster.now (entry.now ∷ past)) }
+        ensures time { self.new.time ≤ self.old.time + 1000000000 }
+        ensures slots { self.new.slots ≤ self.old.slots + 1 }
+    {
+        let Reply::Done(events) = &entry.reply else {
+            return Ok(());
+        };
+        match &entry.step {
+            Step::Open => {
+                let mut slot = OpenSlot::new(self.alloc);
+                slot.tell_all(events.as_slice())?;
+                self.slot = Some(slot);
+            }
+            Step::Answer { node: _ } => {
+                if let Some(slot) = &mut self.slot {
+                    slot.tell_all(events.as_slice())?;
+                }
+            }
+            Step::Hurt { bytes: _ } => {
+                if let Some(slot) = &mut self.slot {
+                    slot.hurt();
+                }
+            }
+            Step::Finish => {
+                if let Some(slot) = &self.slot {
+                    self.time += u64::from(slot.line(cluster).delay_us);
+                    self.slots += 1;
+                }
+                self.slot = None;
+            }
+            _ => {}
+        }
+        Ok(())
+    }
+}
