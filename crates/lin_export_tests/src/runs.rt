@@ -1,0 +1,30 @@
+//! Runs of logs on the clusters of LDF texts.
+
+use lin_cluster::check;
+use lin_core::Core;
+use lin_ldf::parse;
+use lin_log::replay;
+use lin_names::Names;
+use std::alloc::Global;
+use std::process::Abort;
+use std::test::Fail;
+
+/// What an LDF text describes, and the core behind a log on its first table.
+pub fn run(alloc: Global, ldf: &[u8], log: &[u8]) -> Result<(Names, Core), Fail> {
+    let description = parse(alloc, ldf)?;
+    let names = Names::of(alloc, &description)?;
+    let cluster = check(alloc, description)?;
+    if cluster.tables() == 0 {
+        return Err(Fail::from("no table"));
+    }
+    let mut rest = log;
+    let mut text = Vec::new(alloc);
+    let core = replay(alloc, cluster, 0, 16, &mut rest, &mut text)?;
+    Ok((names, core))
+}
+
+/// Compares what was written.
+pub fn expect_bytes(rt: &impl Abort, found: &[u8], want: &[u8], case: &str) {
+    let text = std::str::from_utf8(found).unwrap_or("no text");
+    assert!(rt; found == want, "{case}: {text}");
+}
