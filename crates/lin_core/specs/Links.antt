@@ -18,11 +18,8 @@ use Rattle.lin_core.specs.declared.link.Cause.{Cause}
 use Rattle.lin_core.specs.declared.link.Cause.TheVariants.{Damaged, TimedOut, Slept}
 use Rattle.lin_core.specs.declared.event.Seen.{Seen}
 use Rattle.lin_core.specs.declared.event.Seen.TheVariants.{Good, Damaged as SeenDamaged}
-
 -- a link: a responder and a direction
-pub record Link : Type 0 where
-  pub node : ℕ
-  pub dir : Direction
+pub use Rattle.lin_core.specs.declared.link.Link.{Link}
 
 abbrev pub same_dir : Direction → Direction → Bool
 same_dir Down Down = true
