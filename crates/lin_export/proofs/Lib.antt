@@ -2,3 +2,4 @@ pub mod Tellings
 pub mod Slots
 pub mod Puttings
 pub mod Rows
+pub mod Lines

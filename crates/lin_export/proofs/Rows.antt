@@ -47,7 +47,7 @@ carried-shown c entries.MasterReq s = refl
 carried-shown c entries.SlaveResp s = refl
 carried-shown c entries.Quiet s = refl
 
-frame-shown : (c : Parts) (entry : Entry) (s : Slot) → slot_frame c entry (shown s) ≡ slot_frame c entry s
+pub frame-shown : (c : Parts) (entry : Entry) (s : Slot) → slot_frame c entry (shown s) ≡ slot_frame c entry s
 frame-shown c (entries.Frame f) s = refl
 frame-shown c (entries.Sporadic k) s = refl
 frame-shown c (entries.Event e) s = refl
@@ -71,7 +71,7 @@ hears-none c o k bytes g e = rw (g, e) refl
 pub not-good : (c : Parts) (o : Slot) (k : ℕ) → good o ≡ None → value_in c o k ≡ None
 not-good c o k g = rw g refl
 
-flat-append : {X : Type 0} (f : X → List ℕ) (xs ys : List X) → flat_map f (xs ++ ys) ≡ flat_map f xs ++ flat_map f ys
+pub flat-append : {X A : Type 0} (f : X → List A) (xs ys : List X) → flat_map f (xs ++ ys) ≡ flat_map f xs ++ flat_map f ys
 flat-append f [] ys = refl
 flat-append f (x ∷ xs) ys = ap (λ l. f x ++ l) (flat-append f xs ys) ∙ sym (append_assoc (f x) (flat_map f xs) (flat_map f ys))
 
@@ -122,7 +122,7 @@ find-nothing [] = refl
 find-nothing (x ∷ xs) = find-nothing xs
 
 -- the texts of a list's items, one more at a time
-pub texts-more : {X : Type 0} (f : X → List ℕ) (xs : List X) (i : ℕ) (d : X) → i < length xs
+pub texts-more : {X A : Type 0} (f : X → List A) (xs : List X) (i : ℕ) (d : X) → i < length xs
     → flat_map f (take (i + 1) xs) ≡ flat_map f (take i xs) ++ f (get_or xs i d)
 texts-more f xs i d h =
     ap (flat_map f) (take_more xs i d h) ∙ flat-append f (take i xs) (get_or xs i d ∷ []) ∙ ap (λ l. flat_map f (take i xs) ++ l) (append-nil (f (get_or xs i d)))

@@ -7,3 +7,5 @@ pub mod Putting
 pub mod Pcap
 pub mod Csv
 pub mod Cells
+pub mod Named
+pub mod NamedWords

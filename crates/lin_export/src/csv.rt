@@ -16,7 +16,7 @@ ghost use Rattle.lin_export.specs.Track.{track_of};
 
 use crate::fault::ExportFault;
 use crate::hearing::{hear_slot, initial_values};
-use crate::named::{node_name, slot_name, table_name};
+use crate::naming::{node_name, slot_name, table_name};
 use crate::slot::{Look, OpenSlot, byte_at};
 use crate::track::Track;
 use lin_core::{Log, LogEntry, Reply, Step};

@@ -41,7 +41,7 @@ pub(crate) fn initial_values(alloc: Global, cluster: &Cluster) -> Result<Vec<Val
 }
 
 /// The first eight bytes, with zeros behind fewer.
-fn first_eight(bytes: &[u8]) -> [u8; 8]
+pub(crate) fn first_eight(bytes: &[u8]) -> [u8; 8]
     ensures { (k : ℕ) → slice_index result k ≡ slice_index (take 8 bytes.now) k }
 {
     let mut first = [0; 8];

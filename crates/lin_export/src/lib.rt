@@ -1,4 +1,4 @@
-//! A run in the formats of other tools: its log as a table and as a capture of packets.
+//! A run in the formats of other tools: its log with names, as a table and as a capture of packets.
 #![tactic(auto)]
 
 mod carried;
@@ -6,10 +6,13 @@ mod csv;
 mod fault;
 mod hearing;
 mod named;
+mod naming;
 mod pcap;
 mod slot;
 mod track;
+mod words;
 
 pub use csv::write_csv;
 pub use fault::ExportFault;
+pub use named::write_named;
 pub use pcap::write_pcap;

@@ -1,56 +1,576 @@
-//! Names of what a slot speaks of.
+//! Logs with names.
 
-ghost use Rattle.std.specs.Prelude.{◌≡◌, [], slice_index_or};
-ghost use Rattle.lin_parts.specs.Cluster.{named_table, node_of};
+ghost use Rattle.std.specs.Prelude.{◌≡◌, ◌+◌, ◌∷◌, ◌<◌, ◌^◌, ◌==◌, false, [], List, codes, flat_map, map, nat_lt, if◌then◌else◌, option_map, length, zip};
+ghost use Rattle.std.specs.Fmt.{decimal};
+ghost use Rattle.std.specs.Option.{option_to_list};
+ghost use Rattle.lin_frame.specs.Words.{choose};
+ghost use Rattle.lin_parts.specs.Cluster.{frame_of, line_of, nad, node_of, nodes};
+ghost use Rattle.lin_parts.specs.Rules.{IsEntry};
+ghost use Rattle.lin_core.specs.Slots.{node_with};
+ghost use Rattle.lin_core.specs.declared.log.LogEntry.{LogEntry};
+ghost use Rattle.lin_log.specs.Words.{cause_word, direction_word, header_word, refusal_number, reply_line, seen_words, spaced};
+ghost use Rattle.lin_text.specs.Written.{Grows, WritesText};
+ghost use Rattle.lin_export.specs.Named.{behind, control_words, event_lines, frame_words, good_line, named, named_entry, named_event, named_port, named_step, refusal_name, signal_words, slot_words, sporadic_frame, time_line, transport_line, transport_words, who_word};
+ghost use Rattle.lin_export.specs.NamedWords.{word_shown};
 ghost use Rattle.lin_export.specs.Open.{slot_in};
-ghost use Rattle.lin_export.specs.Shown.{entry_name, slot_name};
+ghost use Rattle.lin_export.specs.Putting.{PutsAll};
+ghost use Rattle.lin_export.specs.Shown.{frame_name};
+ghost use Rattle.lin_export.specs.Telling.{each_entry};
+ghost use Rattle.lin_export.specs.Track.{track_of};
 
-use crate::slot::OpenSlot;
+use crate::carried::{frame_under, line_at};
+use crate::fault::ExportFault;
+use crate::hearing::first_eight;
+use crate::naming::{entry_name, node_name};
+use crate::slot::{OpenSlot, byte_at};
+use crate::track::Track;
+use crate::words::{Word, node_word, put_reply, put_words, signal_word, table_word, value_word};
+use lin_core::{Cause, Direction, Event, Log, LogEntry, PortId, Refusal, Reply, Seen, Step};
+use lin_frame::unpack;
 use lin_names::Names;
 use lin_parts::{Cluster, Entry};
+use lin_text::TextWriter;
+use std::alloc::{AllocError, Global};
+use std::io::Write;
 
-/// The name of a node; no bytes where none has this number.
-pub(crate) fn node_name(cluster: &Cluster, node: u8) -> &[u8]
-    ensures { result.now ≡ (node_of cluster.now node).name }
+/// A letter and a node: behind a colon its name, or its number where it is none's.
+fn put_lettered<W: Write>(out: &mut TextWriter<'_, W>, cluster: &Cluster, letter: u8, node: u8)
+    ensures { Grows W.contents out.old out.new (if nat_lt node (nodes cluster.now) then letter ∷ 58 ∷ (node_of cluster.now node).name else letter ∷ decimal node) }
 {
+    out.put_byte(letter);
     if (node as usize) < cluster.nodes() {
-        cluster.node_name(node)
+        out.put_byte(b':');
+        out.put(cluster.node_name(node));
     } else {
-        &[]
+        out.put_number(u64::from(node));
     }
 }
 
-/// The name of a schedule table; no bytes where none has this number.
-pub(crate) fn table_name(cluster: &Cluster, table: u16) -> &[u8]
-    ensures { result.now ≡ (named_table cluster.now table).name }
+fn put_port<W: Write>(out: &mut TextWriter<'_, W>, cluster: &Cluster, port: PortId)
+    ensures { Grows W.contents out.old out.new (named_port cluster.now port) }
 {
-    if (table as usize) < cluster.tables() {
-        cluster.table_name(table)
-    } else {
-        &[]
+    match port {
+        PortId::Bus => out.put_text("bus"),
+        PortId::Host(number) => put_lettered(out, cluster, b'h', number),
+        PortId::Node(number) => put_lettered(out, cluster, b'n', number),
     }
 }
 
-/// The name of what an entry is for.
-fn entry_name(names: &Names, entry: Entry) -> &[u8]
-    ensures { result.now ≡ entry_name names.now entry }
+fn word_of_direction(direction: Direction) -> Word<'static>
+    ensures { word_shown result ≡ direction_word direction }
 {
-    match entry {
-        Entry::Frame(frame) => names.frame_name(frame),
-        Entry::Sporadic(sporadic) => names.sporadic_name(sporadic),
-        Entry::Event(event) => names.event_name(event),
-        Entry::MasterReq => b"MasterReq",
-        Entry::SlaveResp => b"SlaveResp",
-        Entry::Quiet => b"-",
+    match direction {
+        Direction::Down => Word::Text("down"),
+        Direction::Up => Word::Text("up"),
     }
 }
 
-/// The name of a slot's frame, and failing that of what its entry is for.
-pub(crate) fn slot_name<'a>(cluster: &Cluster, names: &'a Names, slot: &OpenSlot) -> &'a [u8]
-    ensures { result.now ≡ slot_name cluster.now names.now (slot_in slot.now) }
+fn put_step<'a, W: Write>(out: &mut TextWriter<'_, W>, cluster: &'a Cluster, step: &'a Step)
+    ensures { Grows W.contents out.old out.new (flat_map spaced (named_step cluster.now step.now)) }
+{
+    match step {
+        Step::Send { from, to, message } => put_words(
+            out,
+            &[
+                Word::Text("send"),
+                node_word(cluster, *from),
+                node_word(cluster, *to),
+                Word::Hex(message.as_slice()),
+            ],
+        ),
+        Step::Write { by, signal, value } => put_words(
+            out,
+            &[
+                Word::Text("write"),
+                node_word(cluster, *by),
+                signal_word(cluster, *signal),
+                value_word(value),
+            ],
+        ),
+        Step::Open => put_words(out, &[Word::Text("open")]),
+        Step::Answer { node } => put_words(out, &[Word::Text("answer"), node_word(cluster, *node)]),
+        Step::Leave { node } => put_words(out, &[Word::Text("leave"), node_word(cluster, *node)]),
+        Step::Hurt { bytes } => put_words(out, &[Word::Text("hurt"), Word::Hex(bytes.as_slice())]),
+        Step::Finish => put_words(out, &[Word::Text("finish")]),
+        Step::Timeout { node, dir } => put_words(
+            out,
+            &[
+                Word::Text("timeout"),
+                node_word(cluster, *node),
+                word_of_direction(*dir),
+            ],
+        ),
+        Step::Switch { table } => put_words(
+            out,
+            &[Word::Text("switch"), table_word(cluster, *table)],
+        ),
+        Step::AskSleep => put_words(out, &[Word::Text("sleep")]),
+        Step::Wake => put_words(out, &[Word::Text("wake")]),
+        Step::Close { host } => put_words(out, &[Word::Text("close"), node_word(cluster, *host)]),
+    }
+}
+
+fn word_of_header(header: Option<u8>) -> Word<'static>
+    ensures { word_shown result ≡ header_word header }
+{
+    match header {
+        Some(pid) => Word::Byte(pid),
+        None => Word::Text("-"),
+    }
+}
+
+/// The frame of a sporadic entry with a header.
+fn sporadic_frame(cluster: &Cluster, entry: Entry, header: Option<u8>) -> Option<u16>
+    requires { IsEntry cluster.now entry }
+    ensures { result ≡ sporadic_frame cluster.now entry header }
+{
+    cluster.sound();
+    let Entry::Sporadic(sporadic) = entry else {
+        return None;
+    };
+    match header {
+        Some(header) => frame_under(cluster, cluster.sporadic(sporadic), header),
+        None => None,
+    }
+}
+
+/// The name of a member, where there is one.
+fn put_member<W: Write>(out: &mut TextWriter<'_, W>, names: &Names, member: Option<u16>)
+    ensures { Grows W.contents out.old out.new (flat_map spaced (map (frame_name names.now) (option_to_list member))) }
+{
+    if let Some(frame) = member {
+        put_words(out, &[Word::Name(names.frame_name(frame))]);
+    }
+}
+
+/// A slot that opens.
+fn put_slot<'a, W: Write>(
+    out: &mut TextWriter<'_, W>,
+    cluster: &'a Cluster,
+    names: &'a Names,
+    table: u16,
+    number: u16,
+    header: Option<u8>,
+)
+    ensures { Grows W.contents out.old out.new (reply_line (slot_words cluster.now names.now table number header)) }
+{
+    let entry = line_at(cluster, table, number).entry;
+    out.put_byte(b'>');
+    put_words(
+        out,
+        &[
+            Word::Text("slot"),
+            table_word(cluster, table),
+            Word::Number(u64::from(number)),
+            word_of_header(header),
+            Word::Name(entry_name(names, entry)),
+        ],
+    );
+    put_member(out, names, sporadic_frame(cluster, entry, header));
+    out.put_byte(b'\n');
+}
+
+fn put_seen<W: Write>(out: &mut TextWriter<'_, W>, seen: &Seen)
+    ensures { Grows W.contents out.old out.new (reply_line (codes "seen" ∷ seen_words seen.now)) }
+{
+    match seen {
+        Seen::Silent => put_reply(out, &[Word::Text("seen"), Word::Text("silent")]),
+        Seen::NoAnswer => put_reply(out, &[Word::Text("seen"), Word::Text("none")]),
+        Seen::Good(answer) => put_reply(
+            out,
+            &[
+                Word::Text("seen"),
+                Word::Text("good"),
+                Word::Hex(answer.as_slice()),
+            ],
+        ),
+        Seen::Damaged => put_reply(out, &[Word::Text("seen"), Word::Text("damaged")]),
+        Seen::Collided => put_reply(out, &[Word::Text("seen"), Word::Text("collided")]),
+    }
+}
+
+fn word_of_cause(cause: Cause) -> Word<'static>
+    ensures { word_shown result ≡ cause_word cause }
+{
+    match cause {
+        Cause::Damaged => Word::Text("damaged"),
+        Cause::TimedOut => Word::Text("timedout"),
+        Cause::Slept => Word::Text("slept"),
+    }
+}
+
+fn put_event<'a, W: Write>(
+    out: &mut TextWriter<'_, W>,
+    cluster: &'a Cluster,
+    names: &'a Names,
+    event: &'a Event,
+)
+    ensures { Grows W.contents out.old out.new (reply_line (named_event cluster.now names.now event.now)) }
+{
+    match event {
+        Event::Accepted { host, number } => put_reply(
+            out,
+            &[
+                Word::Text("accepted"),
+                node_word(cluster, *host),
+                Word::Number(u64::from(*number)),
+            ],
+        ),
+        Event::Slot {
+            table,
+            entry,
+            header,
+        } => put_slot(out, cluster, names, *table, *entry, *header),
+        Event::Due { node } => put_reply(out, &[Word::Text("due"), node_word(cluster, *node)]),
+        Event::Put { node, answer } => put_reply(
+            out,
+            &[
+                Word::Text("put"),
+                node_word(cluster, *node),
+                Word::Hex(answer.as_slice()),
+            ],
+        ),
+        Event::Seen(seen) => put_seen(out, seen),
+        Event::Message { from, to, bytes } => put_reply(
+            out,
+            &[
+                Word::Text("message"),
+                node_word(cluster, *from),
+                node_word(cluster, *to),
+                Word::Hex(bytes.as_slice()),
+            ],
+        ),
+        Event::Sent { host, number } => put_reply(
+            out,
+            &[
+                Word::Text("sent"),
+                node_word(cluster, *host),
+                Word::Number(u64::from(*number)),
+            ],
+        ),
+        Event::Lost {
+            host,
+            number,
+            cause,
+        } => put_reply(
+            out,
+            &[
+                Word::Text("lost"),
+                node_word(cluster, *host),
+                Word::Number(u64::from(*number)),
+                word_of_cause(*cause),
+            ],
+        ),
+        Event::Asleep => put_reply(out, &[Word::Text("asleep")]),
+    }
+}
+
+/// The signals of a frame, with their values in data bytes.
+fn put_signals<W: Write>(out: &mut TextWriter<'_, W>, cluster: &Cluster, frame: u16, answer: &[u8])
+    requires { frame < length cluster.now.frames }
+    ensures { Grows W.contents out.old out.new (flat_map spaced (flat_map (signal_words cluster.now answer.now) (zip (frame_of cluster.now frame).signals (frame_of cluster.now frame).layout.places))) }
+{
+    cluster.sound();
+    let data = first_eight(answer);
+    let layout = cluster.layout(frame);
+    let signals = cluster.frame_signals(frame);
+    for place in 0..signals.len() {
+        let value = unpack(layout, &data, place);
+        let name = cluster.signal_name(signals[place]);
+        put_words(out, &[Word::Name(name), value_word(&value)]);
+    }
+}
+
+/// A good frame of signals.
+fn put_frame<W: Write>(
+    out: &mut TextWriter<'_, W>,
+    cluster: &Cluster,
+    names: &Names,
+    frame: u16,
+    answer: &[u8],
+)
+    requires { frame < length cluster.now.frames }
+    ensures { Grows W.contents out.old out.new (reply_line (frame_words cluster.now names.now frame answer.now)) }
+{
+    out.put_byte(b'>');
+    put_words(
+        out,
+        &[Word::Text("frame"), Word::Name(names.frame_name(frame))],
+    );
+    put_signals(out, cluster, frame, answer);
+    out.put_byte(b'\n');
+}
+
+/// A node after the one that was found, where it is looked for.
+fn first(found: Option<u8>, node: u8, is_one: bool) -> Option<u8>
+    ensures { result ≡ choose found (if is_one then Some node else None) Some }
+{
+    if found.is_none() && is_one {
+        return Some(node);
+    }
+    found
+}
+
+fn has_address(cluster: &Cluster, node: u8, address: u8) -> bool
+    requires { node < nodes cluster.now }
+    ensures { result ≡ choose (nad cluster.now node) false (λ own. own == address) }
+{
+    match cluster.nad(node) {
+        Some(own) => own == address,
+        None => false,
+    }
+}
+
+/// The node with an address, if there is one.
+fn node_with(cluster: &Cluster, address: u8) -> Option<u8>
+    ensures { result ≡ node_with cluster.now address }
+{
+    let mut found = None;
+    for node in 0..cluster.nodes() as u8 {
+        found = first(found, node, has_address(cluster, node, address));
+    }
+    found
+}
+
+fn who_word(cluster: &Cluster, address: u8) -> Word<'_>
+    ensures { word_shown result ≡ who_word cluster.now address }
+{
+    match node_with(cluster, address) {
+        Some(node) => Word::Name(node_name(cluster, node)),
+        None if address == 126 => Word::Text("all"),
+        None => Word::Number(u64::from(address)),
+    }
+}
+
+/// What a frame of a message is, by its protocol control information (ISO 17987-2).
+fn control_words(control: u8, length: u8) -> (Word<'static>, Word<'static>)
+    ensures { word_shown result.0 ∷ word_shown result.1 ∷ [] ≡ control_words control length }
+{
+    let low = u64::from(control % 16);
+    match control / 16 {
+        0 => (Word::Text("single"), Word::Number(low)),
+        1 => (
+            Word::Text("first"),
+            Word::Number(256 * low + u64::from(length)),
+        ),
+        2 => (Word::Text("next"), Word::Number(low)),
+        _ => (Word::Text("other"), Word::Byte(control)),
+    }
+}
+
+/// A good frame of a message.
+fn put_transport<'a, W: Write>(
+    out: &mut TextWriter<'_, W>,
+    cluster: &'a Cluster,
+    way: &'a str,
+    answer: &[u8],
+)
+    ensures { Grows W.contents out.old out.new (reply_line (transport_words cluster.now way.now answer.now)) }
+{
+    let who = who_word(cluster, byte_at(answer, 0));
+    let (kind, number) = control_words(byte_at(answer, 1), byte_at(answer, 2));
+    put_reply(
+        out,
+        &[Word::Text("transport"), who, Word::Text(way), kind, number],
+    );
+}
+
+fn put_transport_line<W: Write>(
+    out: &mut TextWriter<'_, W>,
+    cluster: &Cluster,
+    header: Option<u8>,
+    answer: &[u8],
+)
+    ensures { Grows W.contents out.old out.new (transport_line cluster.now header answer.now) }
+{
+    match header {
+        Some(0x3C) if byte_at(answer, 0) == 0 => {
+            put_reply(out, &[Word::Text("transport"), Word::Text("sleep")]);
+        }
+        Some(0x3C) => put_transport(out, cluster, "down", answer),
+        Some(0x7D) => put_transport(out, cluster, "up", answer),
+        _ => {}
+    }
+}
+
+/// What a good response means, in the slot that is open.
+fn put_good<W: Write>(
+    out: &mut TextWriter<'_, W>,
+    cluster: &Cluster,
+    names: &Names,
+    slot: &OpenSlot,
+    answer: &[u8],
+)
+    ensures { Grows W.contents out.old out.new (good_line cluster.now names.now answer.now (slot_in slot.now)) }
 {
     match slot.frame(cluster) {
-        Some(frame) => names.frame_name(frame),
-        None => entry_name(names, slot.line(cluster).entry),
+        Some(frame) => put_frame(out, cluster, names, frame, answer),
+        None => put_transport_line(out, cluster, slot.header(), answer),
     }
+}
+
+/// What stands behind an event.
+fn put_behind<W: Write>(
+    out: &mut TextWriter<'_, W>,
+    cluster: &Cluster,
+    names: &Names,
+    slot: &Option<OpenSlot>,
+    event: &Event,
+)
+    ensures { Grows W.contents out.old out.new (behind cluster.now names.now (option_map slot_in slot.now) event.now) }
+{
+    if let Event::Seen(Seen::Good(answer)) = event
+        && let Some(slot) = slot
+    {
+        put_good(out, cluster, names, slot, answer.as_slice());
+    }
+}
+
+fn put_lines<W: Write>(
+    out: &mut TextWriter<'_, W>,
+    cluster: &Cluster,
+    names: &Names,
+    slot: &Option<OpenSlot>,
+    event: &Event,
+)
+    ensures { Grows W.contents out.old out.new (event_lines cluster.now names.now (option_map slot_in slot.now) event.now) }
+{
+    put_event(out, cluster, names, event);
+    put_behind(out, cluster, names, slot, event);
+}
+
+fn put_events<W: Write>(
+    out: &mut TextWriter<'_, W>,
+    cluster: &Cluster,
+    names: &Names,
+    slot: &Option<OpenSlot>,
+    events: &[Event],
+)
+    ensures { Grows W.contents out.old out.new (flat_map (event_lines cluster.now names.now (option_map slot_in slot.now)) events.now) }
+{
+    for event in events {
+        put_lines(out, cluster, names, slot, event);
+    }
+}
+
+/// The number and the name of a refusal.
+fn refusal_words(refusal: Refusal) -> (u64, &'static str)
+    ensures number { result.0 ≡ refusal_number refusal }
+    ensures name { result.1.now ≡ refusal_name refusal }
+{
+    match refusal {
+        Refusal::NoSuchNode => (1, "NoSuchNode"),
+        Refusal::NoSuchSignal => (2, "NoSuchSignal"),
+        Refusal::NoSuchTable => (3, "NoSuchTable"),
+        Refusal::NotPublisher => (4, "NotPublisher"),
+        Refusal::BadValue => (5, "BadValue"),
+        Refusal::NoAddress => (6, "NoAddress"),
+        Refusal::BadLength => (7, "BadLength"),
+        Refusal::Closed => (8, "Closed"),
+        Refusal::QueueFull => (9, "QueueFull"),
+        Refusal::Asleep => (10, "Asleep"),
+        Refusal::Awake => (11, "Awake"),
+        Refusal::SlotOpen => (12, "SlotOpen"),
+        Refusal::NoSlot => (13, "NoSlot"),
+        Refusal::NotYours => (14, "NotYours"),
+        Refusal::Decided => (15, "Decided"),
+        Refusal::NothingOnWire => (16, "NothingOnWire"),
+        Refusal::PassesCheck => (17, "PassesCheck"),
+        Refusal::NoTransfer => (18, "NoTransfer"),
+    }
+}
+
+/// Behind the lines of a finish, the time.
+fn put_time<W: Write>(out: &mut TextWriter<'_, W>, step: &Step, time: u64)
+    ensures { Grows W.contents out.old out.new (time_line step.now time) }
+{
+    if let Step::Finish = step {
+        put_reply(out, &[Word::Text("time"), Word::Number(time)]);
+    }
+}
+
+/// The time behind an entry, where it is a finish that was done.
+fn time_behind(cluster: &Cluster, track: &Track) -> u64
+    requires { track.now.time < 2 ^ 63 }
+    ensures { result ≡ track.now.time + choose track.now.slot 0 (λ s. (line_of cluster.now s.table s.entry).delay_us) }
+{
+    match track.slot() {
+        Some(slot) => track.time() + u64::from(slot.line(cluster).delay_us),
+        None => track.time(),
+    }
+}
+
+fn put_entry<W: Write>(
+    out: &mut TextWriter<'_, W>,
+    cluster: &Cluster,
+    names: &Names,
+    track: &Track,
+    entry: &LogEntry,
+)
+    requires { track.now.time < 2 ^ 63 }
+    ensures { (past : List LogEntry) → track.now ≡ track_of cluster.now past → Grows W.contents out.old out.new (named_entry cluster.now names.now entry.now past) }
+{
+    put_port(out, cluster, entry.port);
+    put_step(out, cluster, &entry.step);
+    out.put_byte(b'\n');
+    match &entry.reply {
+        Reply::Done(events) => {
+            put_events(out, cluster, names, track.slot(), events.as_slice());
+            put_time(out, &entry.step, time_behind(cluster, track));
+        }
+        Reply::Refused(refusal) => {
+            let (number, name) = refusal_words(*refusal);
+            put_reply(
+                out,
+                &[
+                    Word::Text("refused"),
+                    Word::Number(number),
+                    Word::Text(name),
+                ],
+            );
+        }
+    }
+}
+
+fn put_entries<W: Write>(
+    out: &mut TextWriter<'_, W>,
+    alloc: Global,
+    cluster: &Cluster,
+    names: &Names,
+    log: &Log,
+) -> Result<(), AllocError>
+    ensures { PutsAll W.contents out.old out.new result (each_entry (named_entry cluster.now names.now) [] log.now.entries) }
+{
+    let mut track = Track::new(alloc);
+    for index in 0..log.len() {
+        let entry = log.entry(index);
+        put_entry(out, cluster, names, &track, entry);
+        track.follow(cluster, entry)?;
+    }
+    Ok(())
+}
+
+/// Writes the log with names: its text, in which numbers of nodes, signals and tables are names, and what frames and slots mean on lines of
+/// its own, so that it says the same steps.
+///
+/// It goes through a buffer of fixed size, and takes memory for the responses of one slot. The writer isn't flushed.
+///
+/// # Errors
+/// What was written then is the beginning of the text.
+/// - `OutOfMemory`;
+/// - `WriteFailed` at the first error of the writer, an interrupted write too, and at the first write of 0 bytes.
+pub fn write_named<W: Write>(
+    alloc: Global,
+    cluster: &Cluster,
+    names: &Names,
+    log: &Log,
+    writer: &mut W,
+) -> Result<(), ExportFault>
+    ensures { WritesText (W.contents writer.old) (W.contents writer.new) result (named cluster.now names.now log.now.entries) }
+{
+    let mut out = TextWriter::new(writer);
+    let followed = put_entries(&mut out, alloc, cluster, names, log);
+    out.finish()?;
+    followed?;
+    Ok(())
 }

@@ -170,7 +170,8 @@ impl OpenSlot {
 
     /// The frame that is shown: an event-triggered slot has one only where it is seen good.
     pub(crate) fn frame(&self, cluster: &Cluster) -> Option<u16>
-        ensures { result ≡ slot_frame cluster.now (line_of cluster.now self.now.table self.now.entry).entry (slot_in self.now) }
+        ensures frame { result ≡ slot_frame cluster.now (line_of cluster.now self.now.table self.now.entry).entry (slot_in self.now) }
+        ensures there { IfSome result (λ f. f < length cluster.now.frames) }
     {
         match self.line(cluster).entry {
             Entry::Event(_) if !self.is_good() => None,

@@ -4,6 +4,8 @@
 #[cfg(test)]
 mod csv;
 #[cfg(test)]
+mod named;
+#[cfg(test)]
 mod pcap;
 #[cfg(test)]
 mod runs;

@@ -1,0 +1,94 @@
+-- What the lines of an entry say, by what is kept of the entries before it.
+use Rattle.std.proofs.Common.{◌≡◌, ℕ, zero, suc, List, [], ◌∷◌, ◌++◌, refl, sym, ap, ◌∙◌, flat_map, length, get_or, ◌+◌, ◌<◌, arith}
+use Rattle.std.specs.Prelude.{Option, Some, None, option_map, zip}
+use Rattle.lin_frame.specs.Words.{choose}
+use Rattle.lin_parts.specs.Cluster.{line_of}
+use Rattle.lin_parts.specs.declared.parts.Parts.{Parts}
+use Rattle.lin_names.specs.Names.{NamesData}
+use Rattle.lin_core.specs.History.{Slot, done_step, finished, is_finish, open_slot, time}
+use Rattle.lin_core.specs.declared.event.Event.{Event}
+use Rattle.lin_core.specs.declared.event.Event.TheVariants as event
+use Rattle.lin_core.specs.declared.event.Seen.TheVariants as seen
+use Rattle.lin_core.specs.declared.log.LogEntry.{LogEntry}
+use Rattle.lin_core.specs.declared.port.PortId.{PortId}
+use Rattle.lin_core.specs.declared.reply.Reply.{Reply}
+use Rattle.lin_core.specs.declared.reply.Reply.TheVariants.{Done}
+use Rattle.lin_core.specs.declared.step.Step.{Step}
+use Rattle.lin_core.specs.declared.step.Step.TheVariants as step
+use Rattle.lin_export.specs.Named.{behind, event_lines, frame_words, good_line, named_event, time_line, transport_line}
+use Rattle.lin_export.specs.Track.{TrackData, shown, slots_in, track_of}
+use Rattle.lin_log.specs.Words.{reply_line}
+use Rattle.lin_export.proofs.Rows.{frame-shown}
+
+flat-same : {X : Type 0} (f h : X → List ℕ) (xs : List X) → ((x : X) → f x ≡ h x) → flat_map f xs ≡ flat_map h xs
+flat-same f h [] e = refl
+flat-same f h (x ∷ xs) e = ap (λ l. l ++ flat_map f xs) (e x) ∙ ap (λ l. h x ++ l) (flat-same f h xs e)
+
+good-shown : (c : Parts) (names : NamesData) (answer : List ℕ) (s : Slot) → good_line c names answer (shown s) ≡ good_line c names answer s
+good-shown c names answer s =
+    ap (λ (o : Option ℕ). choose o (transport_line c s.header answer) (λ f. reply_line (frame_words c names f answer))) (frame-shown c (line_of c s.table s.entry).entry s)
+
+behind-good : (c : Parts) (names : NamesData) (o : Option Slot) (answer : List ℕ)
+    → choose (option_map shown o) [] (good_line c names answer) ≡ choose o [] (good_line c names answer)
+behind-good c names None answer = refl
+behind-good c names (Some s) answer = good-shown c names answer s
+
+behind-shown : (c : Parts) (names : NamesData) (o : Option Slot) (e : Event) → behind c names (option_map shown o) e ≡ behind c names o e
+behind-shown c names o (event.Accepted host number) = refl
+behind-shown c names o (event.Slot table entry header) = refl
+behind-shown c names o (event.Due node) = refl
+behind-shown c names o (event.Put node answer) = refl
+behind-shown c names o (event.Seen (seen.Good answer)) = behind-good c names o answer
+behind-shown c names o (event.Seen seen.Silent) = refl
+behind-shown c names o (event.Seen seen.NoAnswer) = refl
+behind-shown c names o (event.Seen seen.Damaged) = refl
+behind-shown c names o (event.Seen seen.Collided) = refl
+behind-shown c names o (event.Message from to bytes) = refl
+behind-shown c names o (event.Sent host number) = refl
+behind-shown c names o (event.Lost host number why) = refl
+behind-shown c names o event.Asleep = refl
+
+pub lines-shown : (c : Parts) (names : NamesData) (o : Option Slot) (es : List Event)
+    → flat_map (event_lines c names (option_map shown o)) es ≡ flat_map (event_lines c names o) es
+lines-shown c names o es =
+    flat-same (event_lines c names (option_map shown o)) (event_lines c names o) es (λ e. ap (λ l. reply_line (named_event c names e) ++ l) (behind-shown c names o e))
+
+-- the delay of a slot, where one ends
+abbrev pub delay_in : Parts → Slot → ℕ
+delay_in c s = (line_of c s.table s.entry).delay_us
+
+delay-shown : (c : Parts) (o : Option Slot) (t : ℕ) → t + choose (option_map shown o) 0 (delay_in c) ≡ choose o t (λ s. t + delay_in c s)
+delay-shown c None t = omega arith
+delay-shown c (Some s) t = refl
+
+time-of : (c : Parts) (past : List LogEntry) (p : PortId) (s : Step) (es : List Event)
+    → time_line s (time c past + choose (option_map shown (open_slot past)) 0 (delay_in c)) ≡ time_line s (time c (record { port = p; step = s; reply = Done es } ∷ past))
+time-of c past p (step.Send from to message) es = refl
+time-of c past p (step.Write by signal value) es = refl
+time-of c past p step.Open es = refl
+time-of c past p (step.Answer node) es = refl
+time-of c past p (step.Leave node) es = refl
+time-of c past p (step.Hurt bytes) es = refl
+time-of c past p step.Finish es = ap (time_line step.Finish) (delay-shown c (open_slot past) (time c past))
+time-of c past p (step.Timeout node dir) es = refl
+time-of c past p (step.Switch table) es = refl
+time-of c past p step.AskSleep es = refl
+time-of c past p step.Wake es = refl
+time-of c past p (step.Close host) es = refl
+
+pub time-behind : (c : Parts) (past : List LogEntry) (e : LogEntry) (es : List Event) (t : TrackData) (end : ℕ)
+    → e.reply ≡ Done es → t ≡ track_of c past → end ≡ t.time + choose t.slot 0 (delay_in c) → time_line e.step end ≡ time_line e.step (time c (e ∷ past))
+time-behind c past e es t end r is ends =
+    ap (time_line e.step) (ends ∙ ap (λ (d : TrackData). d.time + choose d.slot 0 (delay_in c)) is) ∙ time-of c past e.port e.step es
+    ∙ ap (λ (reply : Reply). time_line e.step (time c (record { port = e.port; step = e.step; reply = reply } ∷ past))) (sym r)
+
+pub zip-at : {X Y : Type 0} (xs : List X) (ys : List Y) (i : ℕ) (x : X) (y : Y) → i < length xs → i < length ys → get_or (zip xs ys) i (x, y) ≡ (get_or xs i x, get_or ys i y)
+zip-at [] ys i x y h k = absurd (omega arith)
+zip-at (a ∷ xs) [] i x y h k = absurd (omega arith)
+zip-at (a ∷ xs) (b ∷ ys) zero x y h k = refl
+zip-at (a ∷ xs) (b ∷ ys) (suc i) x y h k = zip-at xs ys i x y (omega arith) (omega arith)
+
+pub length-zip : {X Y : Type 0} (xs : List X) (ys : List Y) → length xs ≡ length ys → length (zip xs ys) ≡ length xs
+length-zip [] ys e = refl
+length-zip (a ∷ xs) [] e = absurd (omega arith)
+length-zip (a ∷ xs) (b ∷ ys) e = let more = length-zip xs ys (omega arith) in omega arith

@@ -1,0 +1,36 @@
+use Rattle.std.proofs.Common.{◌≡◌, ◌++◌, ◌∷◌, List, flat_map, sym, ap, ◌∙◌}
+use Rattle.std.specs.Prelude.{Option, option_map}
+use Rattle.lin_core.specs.History.{Slot, open_slot, time}
+use Rattle.lin_core.specs.declared.event.Event.{Event}
+use Rattle.lin_core.specs.declared.reply.Reply.{Reply}
+use Rattle.lin_log.specs.Words.{line}
+use Rattle.lin_text.proofs.Growing.{grows-more, same-growth}
+use Rattle.lin_export.specs.Named.{event_lines, named_port, named_step, reply_lines, time_line}
+use Rattle.lin_export.specs.Open.{slot_in}
+use Rattle.lin_export.specs.Track.{TrackData}
+use Rattle.lin_export.proofs.Lines.{lines-shown, time-behind}
+use Rattle.lin_export.proofs.named.put_entry.Goals as goal
+
+pub returns-in-Done : goal.returns-in-Done
+returns-in-Done g c = λ past is.
+    let x = c.args.cluster.now in
+    let names = c.args.names.now in
+    let e = c.args.entry.now in
+    let es = c.in-Done.events in
+    let first = line (named_port x e.port ∷ named_step x e.step) in
+    same-growth
+    (ap (λ (l : List Event). first ++ (flat_map (event_lines x names (option_map slot_in c.slot.result.now)) l ++ time_line e.step c.time_behind.result)) c.as_slice.ensures
+    ∙ ap (λ (o : Option Slot). first ++ (flat_map (event_lines x names o) es ++ time_line e.step c.time_behind.result)) (c.slot.ensures ∙ ap (λ (d : TrackData). d.slot) is)
+    ∙ ap (λ l. first ++ (l ++ time_line e.step c.time_behind.result)) (lines-shown x names (open_slot past) es)
+    ∙ ap (λ l. first ++ (flat_map (event_lines x names (open_slot past)) es ++ l)) (time-behind x past e es c.args.track.now c.time_behind.result c.in-Done.is is c.time_behind.ensures)
+    ∙ ap (λ (r : Reply). first ++ reply_lines x names e past r) (sym c.in-Done.is))
+    (grows-more (grows-more c.put_port.ensures (grows-more c.put_step.ensures c.put_byte.ensures)) (grows-more c.put_events.ensures c.put_time.ensures))
+
+pub returns-in-Refused : goal.returns-in-Refused
+returns-in-Refused g c = λ past is.
+    let x = c.args.cluster.now in
+    let names = c.args.names.now in
+    let e = c.args.entry.now in
+    let first = line (named_port x e.port ∷ named_step x e.step) in
+    same-growth (ap (λ (r : Reply). first ++ reply_lines x names e past r) (sym c.in-Refused.is))
+    (grows-more (grows-more c.put_port.ensures (grows-more c.put_step.ensures c.put_byte.ensures)) (rw (c.refusal_words-number.ensures.number, c.refusal_words-number.ensures.name) at c.put_reply.ensures))
