@@ -9,7 +9,6 @@ use Rattle.lin_parts.specs.declared.parts.Parts.{Parts}
 use Rattle.lin_core.specs.History.{Slot, open_slot}
 use Rattle.lin_core.specs.Hosts.{sent_of, size_of}
 use Rattle.lin_core.specs.Kept.{message_at}
-use Rattle.lin_core.specs.KeptLate.{is_last_next}
 use Rattle.lin_core.specs.Links.{Message}
 use Rattle.lin_core.specs.Loads.{IsCarried, load_of}
 use Rattle.lin_core.specs.Stages.{IsKept, Stage}
@@ -19,7 +18,6 @@ use Rattle.lin_core.specs.declared.log.LogEntry.{LogEntry}
 use Rattle.lin_core.specs.declared.port.PortId.TheVariants.{Bus}
 use Rattle.lin_core.proofs.FinishCases.{HostCarried, host-carried}
 use Rattle.lin_core.proofs.Known.{Known}
-use Rattle.lin_core.proofs.Lasts.{last-is}
 use Rattle.lin_core.proofs.LateMaking.{host-of}
 use Rattle.lin_core.proofs.Making.{past_in}
 use Rattle.lin_core.proofs.Moves.{is_last}
@@ -102,16 +100,9 @@ tells-by false n f h = by-test (suc n == f) refl
     by-test false e = refl
     by-test true e = absurd (let same : suc n ≡ f = grind (arith, nat_tests, e) in let bad : false ≡ true = h.1 (omega arith) in cc)
 
-pub last-inside : (a : Stage) (h : ℕ) (host : Host) (place len : ℕ) (b : Bool) (w : IsKept a) (k : Known a.cluster (past_in a)) (g : GoodIs a k h host place) → len ≡ length g.message.bytes
-    → (IsTrue b ↔ (sent_of host + 1 ≡ frame_count (size_of host len))) → b ≡ is_last_next a.cluster (past_in a) h
-last-inside a h host place len b w k g l tells =
-    let c : Parts = a.cluster
-    in let sent = sent-by c g.message g.later (k.states h).count host g.sender_is
-    in let size = size-by c g.message g.later (k.states h).count host g.sender_is
-    in tells-by b (k.states h).count (frame_count (length g.message.bytes)) (rw (l, sent, size) at tells)
-    ∙ sym (last-is c (past_in a) h g.message g.later w.sound k g.first)
-
--- the test, by the message
-pub last-by : (a : Stage) (h : ℕ) (host : Host) (place : ℕ) (b : Bool) (w : IsKept a) (k : Known a.cluster (past_in a)) (g : GoodIs a k h host place) → is_last_next a.cluster (past_in a) h ≡ b
-    → is_last g.message.bytes (k.states h).count ≡ b
-last-by a h host place b w k g last = sym (last-is a.cluster (past_in a) h g.message g.later w.sound k g.first) ∙ last
+pub last-inside : (a : Stage) (h : ℕ) (host : Host) (place len : ℕ) (b : Bool) (k : Known a.cluster (past_in a)) (g : GoodIs a k h host place) → len ≡ length g.message.bytes
+    → (IsTrue b ↔ (sent_of host + 1 ≡ frame_count (size_of host len))) → is_last g.message.bytes (k.states h).count ≡ b
+last-inside a h host place len b k g l tells =
+    let sent = sent-by a.cluster g.message g.later (k.states h).count host g.sender_is
+    in let size = size-by a.cluster g.message g.later (k.states h).count host g.sender_is
+    in sym (tells-by b (k.states h).count (frame_count (length g.message.bytes)) (rw (l, sent, size) at tells))

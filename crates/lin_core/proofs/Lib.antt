@@ -41,7 +41,6 @@ pub mod Answering
 pub mod Selected
 pub mod Transporting
 pub mod Settled
-pub mod Lasts
 pub mod Goods
 pub mod Sleeping
 mod Passing

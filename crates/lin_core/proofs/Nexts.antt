@@ -1,6 +1,6 @@
 -- The data bytes that come next of a host, by what is kept of it.
-use Rattle.std.proofs.Common.{◌≡◌, ℕ, zero, suc, ◌≤◌, ◌<◌, Bool, true, false, List, [], ◌∷◌, map, length, refl, ap, ◌∙◌}
-use Rattle.std.specs.Prelude.{Option, Some, None, ◌||◌, slice_get}
+use Rattle.std.proofs.Common.{◌≡◌, ℕ, zero, suc, ◌≤◌, ◌<◌, Bool, true, false, List, [], ◌∷◌, map, length, refl, ap, sym, ◌∙◌}
+use Rattle.std.specs.Prelude.{Option, Some, None, ◌||◌, is_some, slice_get}
 use Rattle.lin_transport.specs.Transport.{frame_count}
 use Rattle.lin_transport.specs.Sender.{Sending as Sender}
 use Rattle.lin_parts.specs.Cluster.{nodes}
@@ -13,7 +13,7 @@ use Rattle.lin_core.specs.declared.host.Host.{Host}
 use Rattle.lin_core.specs.declared.log.LogEntry.{LogEntry}
 use Rattle.lin_core.proofs.Hosts.{CanGo, HostIs, IsCount}
 use Rattle.lin_core.proofs.Known.{Known, as-state, has_rest}
-use Rattle.lin_core.proofs.Making.{past_in}
+use Rattle.lin_core.proofs.Making.{known-inside, past_in}
 use Rattle.lin_core.proofs.Moves.{count-less}
 use Rattle.lin_core.proofs.Queues.{waiting-are}
 use Rattle.lin_core.proofs.Reports.{index-some}
@@ -70,3 +70,19 @@ next-inside a h host place w k here at =
           = as-state c h (accepted_from past h) (heard_on c past) (signs c past) (k.states h) (m ∷ ms) (k.states h).count first refl (k.hosts h)
           in (go.can.some, go.can.few, index-some c.nodes m.link.node go.link.address, count-less c h (accepted_from past h) (heard_on c past) (signs c past) (k.states h).done m ms (k.states h).count i);
     }
+
+-- the message that is begun stands at its place
+first-of-begun : (c : Parts) (o : Option Message) (sender : Option Sender) (rest : List Message) (count : ℕ) → IsNext c o sender rest count → is_some sender ≡ true → is_some o ≡ true
+first-of-begun c o sender [] zero n h = absurd (let bad : false ≡ true = rw n.sender_is at h in cc)
+first-of-begun c o sender [] (suc j) n h = absurd (let bad : false ≡ true = rw n.sender_is at h in cc)
+first-of-begun c o sender (m ∷ ms) count n h = ap is_some (n.message_is m ms refl)
+
+pub begun-there : (a : Stage) (n place : ℕ) (begun : Bool) → IsKept a → ((host : Host) → slice_get a.state.hosts.items n ≡ Some host → begun ≡ is_some host.sender) → (slice_get a.state.hosts.items n ≡ None → begun ≡ false)
+    → ((host : Host) (p : ℕ) → slice_get a.state.hosts.items n ≡ Some host → slice_get host.queue.items 0 ≡ Some p → place ≡ p) → begun ≡ true → is_some (message_at a.log place) ≡ true
+begun-there a n place begun w some none next h = by-host (slice_get a.state.hosts.items n) refl
+  where
+    by-host : (o : Option Host) → slice_get a.state.hosts.items n ≡ o → is_some (message_at a.log place) ≡ true
+    by-host None e = absurd (let bad : false ≡ true = sym (none e) ∙ h in cc)
+    by-host (Some host) e =
+        let k : Known a.cluster (past_in a) = known-inside a w
+        in first-of-begun a.cluster (message_at a.log place) host.sender (k.states n).rest (k.states n).count (next-inside a n host place w k e (λ p front. next host p e front)) (sym (some host e) ∙ h)

@@ -1,6 +1,11 @@
 -- Items of lists by their places.
-use Rattle.std.proofs.Common.{◌≡◌, ◌≢◌, ◌<◌, ℕ, zero, suc, List, [], ◌∷◌, length, refl, ap, sym, arith}
-use Rattle.std.specs.Prelude.{Some, slice_get, slice_set}
+use Rattle.std.proofs.Common.{◌≡◌, ◌≢◌, ◌<◌, ℕ, zero, suc, List, [], ◌∷◌, length, refl, ap, sym, ◌∙◌, arith}
+use Rattle.std.specs.Prelude.{Option, Some, None, is_some, slice_get, slice_index_or, slice_set, true}
+use Rattle.std.proofs.lemmas.Option.{slice_get_read}
+use Rattle.lin_core.specs.Kept.{message_at, sent_in}
+use Rattle.lin_core.specs.Links.{Link, Message}
+use Rattle.lin_core.specs.declared.log.LogEntry.{LogEntry}
+use Rattle.lin_frame.specs.Words.{choose}
 
 pub get-there : {X : Type 0} (xs : List X) (i : ℕ) → i < length xs → (x : X) × (slice_get xs i ≡ Some x)
 get-there [] i h = absurd (omega arith)
@@ -25,3 +30,16 @@ pub set-same : {X : Type 0} (xs : List X) (i : ℕ) (x : X) → slice_get xs i �
 set-same [] i x e = cc
 set-same (a ∷ xs) zero x e = let same : a ≡ x = cc in ap (λ (y : _). y ∷ xs) (sym same)
 set-same (a ∷ xs) (suc i) x e = ap (λ (ys : List _). a ∷ ys) (set-same xs i x e)
+
+-- a message's place is one of the log's, and its entry has the step that sends it
+pub message-there : (log : List LogEntry) (i : ℕ) → is_some (message_at log i) ≡ true → i < length log
+message-there [] i h = cc
+message-there (e ∷ log) zero h = omega arith
+message-there (e ∷ log) (suc i) h = let l = message-there log i h in omega arith
+
+pub message-sent : (log : List LogEntry) (i : ℕ) (e : LogEntry) → is_some (message_at log i) ≡ true → e ≡ slice_index_or log i e → message_at log i ≡ sent_in e.step
+message-sent log i e h is = ap (λ (o : Option LogEntry). choose o None (λ x. sent_in x.step)) (slice_get_read log (length log) i e refl (message-there log i h) is)
+
+-- the message that is lent is the one that stands there
+pub lent-is : (o : Option Message) (l : Link) (bytes : List ℕ) (m : Message) → o ≡ Some (record { link = l; bytes = bytes }) → o ≡ Some m → record { link = l; bytes = bytes } ≡ m
+lent-is o l bytes m lent there = let both : Some (record { link = l; bytes = bytes }) ≡ Some m = sym lent ∙ there in cc

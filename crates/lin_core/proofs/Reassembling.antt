@@ -9,9 +9,8 @@ use Rattle.lin_parts.specs.declared.parts.Parts.{Parts}
 use Rattle.lin_core.specs.Kept.{put_in, slot_in}
 use Rattle.lin_core.specs.KeptHeard.{HearsOn}
 use Rattle.lin_core.specs.Links.{Link, Message, nad_on}
-use Rattle.lin_core.specs.Replies.{link_at, finish_events}
+use Rattle.lin_core.specs.Replies.{finish_events}
 use Rattle.lin_core.specs.Slots.{with_classic}
-use Rattle.lin_core.specs.declared.link.Direction.{Direction}
 use Rattle.lin_core.specs.declared.log.LogEntry.{LogEntry}
 use Rattle.lin_core.specs.declared.port.PortId.{PortId}
 use Rattle.lin_core.specs.declared.receivers.Receivers.{Receivers}
@@ -47,22 +46,19 @@ frame-there c past by k slot h i o f at is =
     in let long : 8 ≤ length one.0.answer = rw one.2 (omega arith)
     in is one.0 (rw at one.1) long ∙ ap (take 8) one.2 ∙ (frame-is n i.message.bytes (k.states h).count).data_is
 
-link-is : (l : Link) (n : ℕ) (d : Direction) → n ≡ l.node → d ≡ l.dir → link_at n d ≡ l
-link-is l n d p q = rw (p, q) refl
-
 -- the link on which it is heard is that of the message
-pub hears-message : (m m' : Message) (n : ℕ) (d : Direction) (f f' : List ℕ) (given : Option (List ℕ)) (old new : List Receivers) → n ≡ m.link.node → d ≡ m.link.dir → m ≡ m' → f ≡ f' → HearsOn (link_at n d) f given old new → HearsOn m'.link f' given old new
-hears-message m m' n d f f' given old new p q e g on =
+pub hears-message : (m m' : Message) (l : Link) (f f' : List ℕ) (given : Option (List ℕ)) (old new : List Receivers) → l ≡ m.link → m ≡ m' → f ≡ f' → HearsOn l f given old new → HearsOn m'.link f' given old new
+hears-message m m' l f f' given old new p e g on =
     subst (λ (y : List ℕ). HearsOn m'.link y given old new) g
     (subst (λ (x : Message). HearsOn x.link f given old new) e
-    (subst (λ (l : Link). HearsOn l f given old new) (link-is m.link n d p q) on))
+    (subst (λ (x : Link). HearsOn x f given old new) p on))
 
 -- a good frame of a host's message, inside a core: the receiver of its link hears it
 pub heard-inside : (a : Stage) (by : PortId) (o : OpenIs a by) (h : ℕ) (host : Host) (place : ℕ) (w : IsKept a) (g : GoodIs a o.step.known h host place) → IsCarried (past_in a) h false
-    → (n : ℕ) (d : Direction) (f : List ℕ) (given : Option (List ℕ)) (rs : List Receivers) → n ≡ g.message.link.node → d ≡ g.message.link.dir
+    → (l : Link) (f : List ℕ) (given : Option (List ℕ)) (rs : List Receivers) → l ≡ g.message.link
     → (own : OpenSlot) → a.state.slot ≡ Some own → ((put : Put) → own.puts.items ≡ put ∷ [] → 8 ≤ length put.answer → f ≡ take 8 put.answer)
-    → HearsOn (link_at n d) f given a.state.receivers.items rs → HeardFrame a.cluster (past_in a) (finish_of a by ∷ past_in a) g.message.link given rs
-heard-inside a by o h host place w g carried n d f given rs node dir own at frame_is on =
+    → HearsOn l f given a.state.receivers.items rs → HeardFrame a.cluster (past_in a) (finish_of a by ∷ past_in a) g.message.link given rs
+heard-inside a by o h host place w g carried l f given rs link own at frame_is on =
     let c : Parts = a.cluster
     in let past : List LogEntry = past_in a
     in let k : Known c past = o.step.known
@@ -73,7 +69,7 @@ heard-inside a by o h host place w g carried n d f given rs node dir own at fram
     in let same : own ≡ o.slot = (let two : Some own ≡ Some o.slot = sym at ∙ o.at in cc)
     in let there : f ≡ frame (nad_on c i.message.link) i.message.bytes (k.states h).count = frame-there c past by k o.slot h i own f same frame_is
     in let hears : HearsOn i.message.link (frame (nad_on c i.message.link) i.message.bytes (k.states h).count) given a.state.receivers.items rs
-    = hears-message g.message i.message n d f _ given a.state.receivers.items rs node dir one there on
+    = hears-message g.message i.message l f _ given a.state.receivers.items rs link one there on
     in subst (λ (m : Message). HeardFrame c past (finish_of a by ∷ past) m.link given rs) (sym one)
     (heard-frame c past by (finish_events c by past) k (slot_in o.slot) h i given a.state.receivers.items rs q.1 hears w.heard)
 

@@ -1,7 +1,6 @@
 -- What a core keeps of its log beside slots, queues and signals: the cluster's mode, and of each host whether it is closed and how far the
 -- message is that it has begun.
-use Rattle.std.specs.Prelude.{◌≡◌, ◌+◌, ◌≤◌, ◌<◌, ⊤, ℕ, Bool, true, false, ◌==◌, nat_le, nat_lt, if◌then◌else◌, List, [], length, filter, slice_get, slice_index, take, Option, Some, None, option_map}
-use Rattle.std.specs.List.{list_any}
+use Rattle.std.specs.Prelude.{◌≡◌, ◌≤◌, ◌<◌, ⊤, ℕ, Bool, true, false, ◌==◌, nat_le, nat_lt, if◌then◌else◌, List, [], length, filter, slice_get, slice_index, Option, Some, None, option_map}
 use Rattle.lin_frame.specs.Words.{choose}
 use Rattle.lin_transport.specs.Transport.{frame, frame_count}
 use Rattle.lin_transport.specs.Sender.{Sending as Sender}
@@ -61,11 +60,3 @@ mode_after c s mode =
 -- the responder that is due in a slave response: the selected one, where one of its messages waits
 abbrev pub responder_now : Parts → List LogEntry → Option ℕ
 responder_now c past = choose (selected c past) None (λ k. if nat_lt 0 (length (waiting c past k)) then Some k else None)
-
--- how many frames of a host's message that is begun were seen good; 0 where none is
-abbrev pub sent_now : Parts → List LogEntry → ℕ → ℕ
-sent_now c past h = choose (sender_now c past h) 0 (λ s. s.sent)
-
--- whether the frame that comes next of a host is the last of its message
-abbrev pub is_last_next : Parts → List LogEntry → ℕ → Bool
-is_last_next c past h = list_any (λ (s : Sending). sent_now c past h + 1 == frame_count (length s.message.bytes)) (take 1 (waiting c past h))

@@ -1,6 +1,6 @@
 //! Frames of signals: their bytes, made of values, and the values that the nodes read in them.
 
-ghost use Rattle.std.specs.Prelude.{◌≡◌, ◌<◌, ◌≤◌, ℕ, [], List, length, map, take, true, All, Some, option_map, is_some, slice_get, slice_index, IsTrue, vec_capacity};
+ghost use Rattle.std.specs.Prelude.{◌≡◌, ◌<◌, ◌≤◌, ℕ, [], length, map, take, true, All, Some, option_map, is_some, slice_get, slice_index, IsTrue, vec_capacity};
 ghost use Rattle.lin_frame.specs.Bits.{fits_place, packed, unpacked};
 ghost use Rattle.lin_frame.specs.Frame.{answer_of};
 ghost use Rattle.lin_frame.specs.Words.{choose};

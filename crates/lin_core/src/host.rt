@@ -1,6 +1,6 @@
 //! What the core keeps of a host.
 
-ghost use Rattle.std.specs.Prelude.{◌≡◌, ◌<◌, ◌+◌, ◌++◌, ◌∷◌, [], ◌^◌, ◌≤◌, ℕ, IfOk, All, IsTrue, ◌↔◌, length, slice_get, is_some, nat_lt, if◌then◌else◌, None, Some};
+ghost use Rattle.std.specs.Prelude.{◌≡◌, ◌<◌, ◌+◌, ◌^◌, ◌≤◌, ℕ, IfOk, All, IsTrue, ◌↔◌, length, slice_get, is_some, nat_lt, if◌then◌else◌, None, Some, false};
 ghost use Rattle.lin_core.specs.Hosts.{fresh, gone_on, queued, sent_of, settled, size_of};
 ghost use Rattle.lin_transport.specs.Sender.{Sending};
 ghost use Rattle.lin_transport.specs.Transport.{frame_count};
@@ -116,7 +116,8 @@ pub(crate) fn closed_by(hosts: &[Host], host: u8) -> bool
 
 /// Whether a host's next message is begun; false for a number that is no host's.
 pub(crate) fn begun_by(hosts: &[Host], host: u8) -> bool
-    ensures { (kept : Host) → slice_get hosts.now host ≡ Some kept → result ≡ is_some kept.sender }
+    ensures some { (kept : Host) → slice_get hosts.now host ≡ Some kept → result ≡ is_some kept.sender }
+    ensures none { slice_get hosts.now host ≡ None → result ≡ false }
 {
     match hosts.get(host as usize) {
         Some(kept) => kept.sender.is_some(),

@@ -1,7 +1,7 @@
 //! The mode of the cluster.
 
-ghost use Rattle.std.specs.Prelude.{◌≡◌, ◌==◌, ◌<◌, ℕ, List, true, false, None, Some, if◌then◌else◌, find, option_map, slice_index};
-ghost use Rattle.lin_frame.specs.Words.{choose, numbers};
+ghost use Rattle.std.specs.Prelude.{◌≡◌, ◌==◌, ◌<◌, true, false, None, Some, if◌then◌else◌, option_map, slice_index};
+ghost use Rattle.lin_frame.specs.Words.{choose};
 ghost use Rattle.lin_parts.specs.Cluster.{nad, nodes};
 ghost use Rattle.lin_core.specs.History.{good_under};
 ghost use Rattle.lin_core.specs.Kept.{slot_in};

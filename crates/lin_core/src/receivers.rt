@@ -4,10 +4,9 @@ ghost use Rattle.std.specs.Prelude.{◌≡◌, ◌<◌, ℕ, [], List, length, o
 ghost use Rattle.lin_transport.specs.Receiver.{Hears, Stands};
 ghost use Rattle.lin_transport.specs.Transport.{Heard};
 ghost use Rattle.lin_core.specs.KeptHeard.{opposite, receiver_in, AreReset, HearsOn, IsReset, KeepsHeard};
-ghost use Rattle.lin_core.specs.Replies.{link_at};
 ghost use Rattle.lin_core.specs.declared.receivers.Receivers.{Receivers};
 
-use crate::link::Direction;
+use crate::link::{Direction, Link};
 use crate::messages::address_of;
 use lin_parts::Cluster;
 use lin_transport::Receiver;
@@ -77,19 +76,18 @@ pub(crate) fn fresh_receivers(
     Ok(made)
 }
 
-/// The receiver of the link of a node, in a direction, hears the data bytes of a good frame, and gives the message that the frame completes.
-/// An error is want of memory, and nothing is heard.
+/// The receiver of a link hears the data bytes of a good frame, and gives the message that the frame completes. An error is want of memory, and
+/// nothing is heard.
 pub(crate) fn hear(
     receivers: &mut Vec<Receivers>,
-    node: u8,
-    dir: Direction,
+    link: Link,
     frame: &[u8; 8],
 ) -> Result<Option<Vec<u8>>, AllocError>
-    requires { node < length receivers.old.items }
-    ensures hears { IfOk result (λ m. HearsOn (link_at node dir) frame.now (option_map (λ v. v.items) m) receivers.old.items receivers.new.items) }
+    requires { link.node < length receivers.old.items }
+    ensures hears { IfOk result (λ m. HearsOn link frame.now (option_map (λ v. v.items) m) receivers.old.items receivers.new.items) }
     ensures unchanged { OnErr result (receivers.new.items ≡ receivers.old.items) }
 {
-    receivers[node as usize].hear(dir, frame)
+    receivers[link.node as usize].hear(link.dir, frame)
 }
 
 /// Each receiver ends what was partial, as at go-to-sleep.

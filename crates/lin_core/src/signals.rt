@@ -1,7 +1,7 @@
 //! What the core keeps of signals and frames.
 
-ghost use Rattle.std.specs.Prelude.{◌≡◌, ◌<◌, ◌≤◌, ◌||◌, ◌==◌, ℕ, Bool, true, false, [], List, length, map, All, IfOk, IfSome, Some, None, is_some, vec_capacity, replicate, slice_set, slice_index_or, if◌then◌else◌};
-ghost use Rattle.lin_parts.specs.Cluster.{frame_of, signal_of};
+ghost use Rattle.std.specs.Prelude.{◌≡◌, ◌<◌, ◌≤◌, ◌||◌, ◌==◌, ℕ, true, false, [], length, map, All, IfOk, IfSome, Some, None, is_some, vec_capacity, replicate, slice_set, slice_index_or, if◌then◌else◌};
+ghost use Rattle.lin_parts.specs.Cluster.{frame_of};
 ghost use Rattle.lin_core.specs.Fits.{AreBytes, FitsValue};
 ghost use Rattle.lin_frame.specs.Words.{choose};
 ghost use Rattle.lin_core.specs.History.{good, is_in};

@@ -1,10 +1,10 @@
 //! The open slot, as the core keeps it.
 
-ghost use Rattle.std.specs.Prelude.{◌≡◌, ◌<◌, ◌≤◌, ◌++◌, ◌∷◌, [], Bool, ◌==◌, ◌&&◌, not, true, false, length, filter};
-ghost use Rattle.std.specs.Prelude.{ℕ, List, IfOk, Some, None, is_some, map, take};
+ghost use Rattle.std.specs.Prelude.{◌≡◌, ◌<◌, ◌≤◌, ◌++◌, ◌∷◌, [], ◌==◌, ◌&&◌, not, true, false, length, filter};
+ghost use Rattle.std.specs.Prelude.{IfOk, Some, None, is_some, map, take};
 ghost use Rattle.std.specs.List.{list_any};
 ghost use Rattle.lin_schedule.specs.Walker.{HasEntry};
-ghost use Rattle.lin_core.specs.History.{good, has_decided, header_is, is_clash_seen, is_in, seen};
+ghost use Rattle.lin_core.specs.History.{good, has_decided, is_clash_seen, is_in, seen};
 ghost use Rattle.lin_core.specs.Kept.{opened, slot_in};
 ghost use Rattle.lin_core.specs.declared.slot.OpenSlot.{OpenSlot};
 ghost use Rattle.lin_core.specs.declared.slot.Put.{Put};

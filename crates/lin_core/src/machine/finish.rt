@@ -8,7 +8,7 @@ use crate::load::Load;
 use crate::log::Log;
 use crate::losses::sleep_events;
 use crate::machine::{three_events, two_events};
-use crate::messages::{address_at, direction_at, message_at, receiver_at, responder_at};
+use crate::messages::message_at;
 use crate::payload::{Events, Payload};
 use crate::port::PortId;
 use crate::receivers::{hear, reset_all};
@@ -19,9 +19,8 @@ use std::alloc::AllocError;
 
 impl State {
     ghost use Rattle.std.specs.Prelude.{◌≡◌, Some, true, false, reverse};
-    ghost use Rattle.lin_core.specs.Stages.{stage, IsKept, IsMade, IsReady, Makes};
+    ghost use Rattle.lin_core.specs.Stages.{stage, IsMade, IsReady, Makes};
     ghost use Rattle.lin_core.specs.History.{open_slot, Slot as OpenedSlot};
-    ghost use Rattle.lin_core.specs.KeptLate.{is_last_next};
     ghost use Rattle.lin_core.specs.Loads.{is_still, load_of, IsCarried};
     ghost use Rattle.lin_core.specs.declared.load.Load.TheVariants.{Carried, Sleep};
 
@@ -60,77 +59,45 @@ impl State {
         Ok(two_events(room, Event::Seen(seen), lost))
     }
 
-    /// Whether the frame of a host that the slot carries is the last of its message.
-    pub(super) fn is_last(&self, setup: &Setup, log: &Log, sender: u8) -> bool
-        requires kept { IsKept (stage setup.now log.now self.now) }
+    /// A finish of a slot with a good frame of a host's message: the message goes on, or it is whole, and its receiver is told of it.
+    fn finish_good(
+        &mut self,
+        setup: &Setup,
+        log: &Log,
+        by: PortId,
+        sender: u8,
+    ) -> Result<Events, AllocError>
+        requires ready { IsReady (stage setup.now log.now self.old) by Step.Finish }
         requires carried { IsCarried (reverse log.now.entries) sender false }
-        ensures { result ≡ is_last_next setup.now.cluster (reverse log.now.entries) sender }
+        ensures { Makes (stage setup.now log.now self.old) by Step.Finish result self.new }
     {
         let host = &self.hosts[sender as usize];
-        let place = host.next() as usize;
-        host.is_last(message_at(log, place).len())
-    }
-
-    /// A finish of a slot with a good frame of a host's message that isn't its last: the message goes on.
-    pub(super) fn finish_part(
-        &mut self,
-        setup: &Setup,
-        log: &Log,
-        by: PortId,
-        sender: u8,
-    ) -> Result<Events, AllocError>
-        requires ready { IsReady (stage setup.now log.now self.old) by Step.Finish }
-        requires carried { IsCarried (reverse log.now.entries) sender false }
-        requires more { is_last_next setup.now.cluster (reverse log.now.entries) sender ≡ false }
-        ensures { Makes (stage setup.now log.now self.old) by Step.Finish result self.new }
-    {
-        let place = self.hosts[sender as usize].next() as usize;
-        let address = address_at(&setup.cluster, log, place);
-        let len = message_at(log, place).len();
-        let node = responder_at(log, place);
-        let dir = direction_at(log, place);
+        let message = message_at(&setup.cluster, log, host.next() as usize);
+        let last = host.is_last(message.bytes.len());
+        let told = if last { 3 } else { 0 };
+        let room = Vec::with_capacity(setup.alloc, told)?;
         let frame = self.slot.open().data();
-        hear(&mut self.receivers, node, dir, &frame)?;
-        let seen = self.pass_slot(&setup.cluster);
-        self.hosts[sender as usize].go_on(address, len);
-        Ok(Events::one(Event::Seen(seen)))
-    }
-
-    /// A finish of a slot with the last frame of a host's message, seen good: the message is whole, and its receiver is told of it.
-    pub(super) fn finish_whole(
-        &mut self,
-        setup: &Setup,
-        log: &Log,
-        by: PortId,
-        sender: u8,
-    ) -> Result<Events, AllocError>
-        requires ready { IsReady (stage setup.now log.now self.old) by Step.Finish }
-        requires carried { IsCarried (reverse log.now.entries) sender false }
-        requires last { is_last_next setup.now.cluster (reverse log.now.entries) sender ≡ true }
-        ensures { Makes (stage setup.now log.now self.old) by Step.Finish result self.new }
-    {
-        let room = Vec::with_capacity(setup.alloc, 3)?;
-        let place = self.hosts[sender as usize].next() as usize;
-        let to = receiver_at(log, place);
-        let node = responder_at(log, place);
-        let dir = direction_at(log, place);
-        let frame = self.slot.open().data();
-        let message = hear(&mut self.receivers, node, dir, &frame)?;
-        let bytes = message.unwrap();
+        let whole = hear(&mut self.receivers, message.link, &frame)?;
         let seen = self.pass_slot(&setup.cluster);
         let host = &mut self.hosts[sender as usize];
-        let number = host.settled + 1;
-        host.settle();
-        let whole = Event::Message {
-            from: sender,
-            to,
-            bytes: Payload::new(bytes),
-        };
-        let sent = Event::Sent {
-            host: sender,
-            number,
-        };
-        Ok(three_events(room, Event::Seen(seen), whole, sent))
+        if last {
+            let number = host.settled + 1;
+            host.settle();
+            let to = message.link.receiver();
+            let bytes = Payload::new(whole.unwrap());
+            let whole = Event::Message {
+                from: sender,
+                to,
+                bytes,
+            };
+            let sent = Event::Sent {
+                host: sender,
+                number,
+            };
+            return Ok(three_events(room, Event::Seen(seen), whole, sent));
+        }
+        host.go_on(message.address, message.bytes.len());
+        Ok(Events::one(Event::Seen(seen)))
     }
 
     /// A finish of a slot with the sleep frame, seen good: the cluster goes to sleep, and each message that is begun is lost.
@@ -148,25 +115,6 @@ impl State {
         let seen = self.pass_slot(&setup.cluster);
         reset_all(&mut self.receivers);
         Ok(sleep_events(room, seen, &mut self.hosts))
-    }
-
-    /// A finish of a slot with a good frame of a host's message.
-    fn finish_good(
-        &mut self,
-        setup: &Setup,
-        log: &Log,
-        by: PortId,
-        sender: u8,
-    ) -> Result<Events, AllocError>
-        requires ready { IsReady (stage setup.now log.now self.old) by Step.Finish }
-        requires carried { IsCarried (reverse log.now.entries) sender false }
-        ensures { Makes (stage setup.now log.now self.old) by Step.Finish result self.new }
-    {
-        if self.is_last(setup, log, sender) {
-            self.finish_whole(setup, log, by, sender)
-        } else {
-            self.finish_part(setup, log, by, sender)
-        }
     }
 
     /// A finish.

@@ -1,11 +1,12 @@
 //! Steps as they are made on what the core keeps.
 
-ghost use Rattle.std.specs.Prelude.{◌≡◌, ◌≤◌, ◌<◌, reverse, length, Some, None, IsOk};
+ghost use Rattle.std.specs.Prelude.{◌≡◌, ◌<◌, reverse, length, Some, None, IsOk};
 
 use crate::due::{due_nodes, has_request, header_for};
 use crate::event::Event;
 use crate::heard::frame_answer;
 use crate::host::responder;
+use crate::link::Link;
 use crate::log::Log;
 use crate::machine::no_events;
 use crate::messages::next_bytes;
@@ -21,7 +22,7 @@ use lin_frame::{SumKind, Value, answer};
 use std::alloc::AllocError;
 
 impl State {
-    ghost use Rattle.std.specs.Prelude.{◌≡◌, ◌≤◌, ◌<◌, reverse, length, Some, None, IsOk};
+    ghost use Rattle.std.specs.Prelude.{◌≡◌, ◌<◌, reverse, length, Some, None, IsOk};
     ghost use Rattle.lin_core.specs.Dues.{frame_answered};
     ghost use Rattle.lin_core.specs.Core.{IsSmall};
     ghost use Rattle.lin_core.specs.Stages.{stage, IsMade, IsReady, Makes};
@@ -172,7 +173,13 @@ impl State {
             Step::Leave { node } => Ok(self.leave(setup, log, by, *node)),
             Step::Hurt { bytes } => Ok(self.hurt(setup, log, by, bytes)),
             Step::Finish => self.finish(setup, log, by),
-            Step::Timeout { node, dir } => Ok(self.time_out(setup, log, by, *node, *dir)),
+            Step::Timeout { node, dir } => {
+                let link = Link {
+                    node: *node,
+                    dir: *dir,
+                };
+                Ok(self.time_out(setup, log, by, link))
+            }
             Step::Switch { table } => Ok(self.switch(setup, log, by, *table)),
             Step::AskSleep => Ok(self.ask_sleep(setup, log, by)),
             Step::Wake => Ok(self.wake(setup, log, by)),

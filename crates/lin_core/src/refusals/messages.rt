@@ -8,7 +8,7 @@ ghost use Rattle.lin_core.specs.Links.{waiting};
 ghost use Rattle.lin_core.specs.Replies.{begun_on, has_address, may, refusal};
 ghost use Rattle.lin_core.specs.declared.log.LogEntry.{LogEntry};
 
-use crate::link::Direction;
+use crate::link::Link;
 use crate::payload::Payload;
 use crate::port::PortId;
 use crate::reply::Refusal;
@@ -93,12 +93,11 @@ pub(crate) fn refuse_timeout(
     slot: &Slot,
     begun: bool,
     by: PortId,
-    node: u8,
-    dir: Direction,
+    link: Link,
 ) -> Option<Refusal>
-    ensures { (capacity : ℕ) (past : List LogEntry) → option_map slot_in slot.now ≡ open_slot past → (node < nodes cluster.now → open_slot past ≡ None → is_some (begun_on cluster.now past node dir) ≡ begun) → result ≡ refusal cluster.now capacity past by (Step.Timeout node dir) }
+    ensures { (capacity : ℕ) (past : List LogEntry) → option_map slot_in slot.now ≡ open_slot past → (link.node < nodes cluster.now → open_slot past ≡ None → is_some (begun_on cluster.now past link.node link.dir) ≡ begun) → result ≡ refusal cluster.now capacity past by (Step.Timeout link.node link.dir) }
 {
-    if node as usize >= cluster.nodes() {
+    if link.node as usize >= cluster.nodes() {
         return Some(Refusal::NoSuchNode);
     }
     if slot.is_open() {

@@ -13,5 +13,5 @@ pub returns-clause-unchanged : goal.returns-clause-unchanged
 returns-clause-unchanged c =
     let xs : List Receivers = c.args.receivers.now.items in
     let was : Receivers = c.index_mut.result.now in
-    let there : slice_get xs c.args.node ≡ Some was = slice_get_read xs (length xs) c.args.node was refl c.requires c.index_mut.ensures.value in
-    on-error c.hear.result (λ (e : c.hear.new.self ≡ was). ap (λ (y : Receivers). slice_set xs c.args.node y) e ∙ set-same xs c.args.node was there) c.hear.ensures.unchanged
+    let there : slice_get xs c.args.link.node ≡ Some was = slice_get_read xs (length xs) c.args.link.node was refl c.requires c.index_mut.ensures.value in
+    on-error c.hear.result (λ (e : c.hear.new.self ≡ was). ap (λ (y : Receivers). slice_set xs c.args.link.node y) e ∙ set-same xs c.args.link.node was there) c.hear.ensures.unchanged

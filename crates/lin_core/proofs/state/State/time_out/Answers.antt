@@ -21,16 +21,16 @@ here c = stage c.args.setup.now c.args.log.now c.args.self.now
 pub overflow_add-number : goal.overflow_add-number
 overflow_add-number c =
     let a = stage c.args.setup.now c.args.log.now c.args.self.now in
-    let n = allowed-ready a c.args.by (Timeout c.args.node c.args.dir) c.requires in
-    let o = times-out a c.args.by c.args.node c.args.dir c.index_mut-kept.result.now c.requires.whole n (rw (← c.sender_over-host.ensures) c.index_mut-kept.ensures.value) in
+    let n = allowed-ready a c.args.by (Timeout c.args.link.node c.args.link.dir) c.requires in
+    let o = times-out a c.args.by c.args.link.node c.args.link.dir c.index_mut-kept.result.now c.requires.whole n (rw (← c.sender-host.ensures) c.index_mut-kept.ensures.value) in
     let small = o.small in
     omega arith
 
 pub settle-requires : goal.settle-requires
 settle-requires c =
     let a = stage c.args.setup.now c.args.log.now c.args.self.now in
-    let n = allowed-ready a c.args.by (Timeout c.args.node c.args.dir) c.requires in
-    let o = times-out a c.args.by c.args.node c.args.dir c.index_mut-kept.result.now c.requires.whole n (rw (← c.sender_over-host.ensures) c.index_mut-kept.ensures.value) in
+    let n = allowed-ready a c.args.by (Timeout c.args.link.node c.args.link.dir) c.requires in
+    let o = times-out a c.args.by c.args.link.node c.args.link.dir c.index_mut-kept.result.now c.requires.whole n (rw (← c.sender-host.ensures) c.index_mut-kept.ensures.value) in
     let small = o.small in
     omega arith
 
@@ -38,28 +38,28 @@ pub index_mut-requires : goal.index_mut-requires
 index_mut-requires c =
     let a = stage c.args.setup.now c.args.log.now c.args.self.now in
     let w = c.requires.whole in
-    let n = allowed-ready a c.args.by (Timeout c.args.node c.args.dir) c.requires in
-    let o = times-out a c.args.by c.args.node c.args.dir c.index_mut-kept.result.now w n (rw (← c.sender_over-host.ensures) c.index_mut-kept.ensures.value) in
+    let n = allowed-ready a c.args.by (Timeout c.args.link.node c.args.link.dir) c.requires in
+    let o = times-out a c.args.by c.args.link.node c.args.link.dir c.index_mut-kept.result.now w n (rw (← c.sender-host.ensures) c.index_mut-kept.ensures.value) in
     let there = o.there in
     let count = w.heard.count in
     omega arith
 
-allowed : (c : After-one) → Allowed (here c) c.args.by (Timeout c.args.node c.args.dir)
-allowed c = allowed-ready (here c) c.args.by (Timeout c.args.node c.args.dir) c.requires
+allowed : (c : After-one) → Allowed (here c) c.args.by (Timeout c.args.link.node c.args.link.dir)
+allowed c = allowed-ready (here c) c.args.by (Timeout c.args.link.node c.args.link.dir) c.requires
 
-out : (c : After-one) → TimesOut (here c) c.args.by c.args.node c.args.dir c.index_mut-kept.result.now
-out c = times-out (here c) c.args.by c.args.node c.args.dir c.index_mut-kept.result.now c.requires.whole (allowed c) (rw (← c.sender_over-host.ensures) c.index_mut-kept.ensures.value)
+out : (c : After-one) → TimesOut (here c) c.args.by c.args.link.node c.args.link.dir c.index_mut-kept.result.now
+out c = times-out (here c) c.args.by c.args.link.node c.args.link.dir c.index_mut-kept.result.now c.requires.whole (allowed c) (rw (← c.sender-host.ensures) c.index_mut-kept.ensures.value)
 
 abbrev events : (c : After-one) → List Event
-events c = all_reports (here c).cluster (quiet_entry c.args.by (Timeout c.args.node c.args.dir)) (past_in (here c))
+events c = all_reports (here c).cluster (quiet_entry c.args.by (Timeout c.args.link.node c.args.link.dir)) (past_in (here c))
 
 abbrev entry : (c : After-one) → LogEntry
-entry c = done_entry c.args.by (Timeout c.args.node c.args.dir) (events c)
+entry c = done_entry c.args.by (Timeout c.args.link.node c.args.link.dir) (events c)
 
 told : (c : After-one) → c.one.result ≡ events c
-told c = c.one.ensures ∙ rw c.sender_over-host.ensures (out c).told
+told c = c.one.ensures ∙ rw c.sender-host.ensures (out c).told
 
-heard : (c : After-one) → KeepsHeard (here c).cluster (entry c ∷ past_in (here c)) (slice_set (here c).state.receivers.items c.args.node c.reset.new.self)
+heard : (c : After-one) → KeepsHeard (here c).cluster (entry c ∷ past_in (here c)) (slice_set (here c).state.receivers.items c.args.link.node c.reset.new.self)
 heard c =
     let a = here c in
     let w = c.requires.whole in
@@ -67,8 +67,8 @@ heard c =
     let there = o.there in
     let count = w.heard.count in
     let was = c.index_mut.result.now in
-    let there_is : slice_get a.state.receivers.items c.args.node ≡ Some was = slice_get_read a.state.receivers.items (nodes a.cluster) c.args.node was (sym count) there c.index_mut.ensures.value in
-    timeout-heard a.cluster (past_in a) c.args.by c.args.node c.args.dir (events c) a.state.receivers.items was c.reset.new.self there_is o.address c.reset.ensures.own c.reset.ensures.other w.heard
+    let there_is : slice_get a.state.receivers.items c.args.link.node ≡ Some was = slice_get_read a.state.receivers.items (nodes a.cluster) c.args.link.node was (sym count) there c.index_mut.ensures.value in
+    timeout-heard a.cluster (past_in a) c.args.by c.args.link.node c.args.link.dir (events c) a.state.receivers.items was c.reset.new.self there_is o.address c.reset.ensures.own c.reset.ensures.other w.heard
 
 pub returns : goal.returns
 returns c =
@@ -77,10 +77,10 @@ returns c =
     let o = out c in
     record {
       told = told c;
-      kept = rw (c.sender_over-host.ensures, c.settle.ensures)
-          (timeout-keeps a.cluster a.opening a.capacity a.log (past_in a) a.state.slot a.state.time a.state.walker a.state.hosts.items a.state.signals c.index_mut-kept.result.now c.args.by c.args.node c.args.dir (events c)
+      kept = rw (c.sender-host.ensures, c.settle.ensures)
+          (timeout-keeps a.cluster a.opening a.capacity a.log (past_in a) a.state.slot a.state.time a.state.walker a.state.hosts.items a.state.signals c.index_mut-kept.result.now c.args.by c.args.link.node c.args.link.dir (events c)
           w.sound o.known o.none o.here (o.settles (events c)) w.kept);
-      late = rw (c.sender_over-host.ensures, c.settle.ensures)
-          (timeout-late a.cluster (past_in a) a.state.mode a.state.hosts.items c.index_mut-kept.result.now c.args.by c.args.node c.args.dir (events c) w.sound o.known o.none o.here (o.settles (events c)) w.late);
+      late = rw (c.sender-host.ensures, c.settle.ensures)
+          (timeout-late a.cluster (past_in a) a.state.mode a.state.hosts.items c.index_mut-kept.result.now c.args.by c.args.link.node c.args.link.dir (events c) w.sound o.known o.none o.here (o.settles (events c)) w.late);
       heard = heard c;
     }
