@@ -13,13 +13,16 @@ use Rattle.lin_core.specs.declared.log.LogEntry.{LogEntry}
 use Rattle.lin_core.specs.declared.step.Step.{Step}
 use Rattle.lin_core.specs.declared.step.Step.TheVariants.{Send, Timeout}
 use Rattle.lin_core.specs.declared.link.Direction.{Direction}
+use Rattle.lin_core.specs.declared.link.Link.{Link as DeclaredLink}
 use Rattle.lin_core.specs.declared.link.Direction.TheVariants.{Down, Up}
 use Rattle.lin_core.specs.declared.link.Cause.{Cause}
 use Rattle.lin_core.specs.declared.link.Cause.TheVariants.{Damaged, TimedOut, Slept}
 use Rattle.lin_core.specs.declared.event.Seen.{Seen}
 use Rattle.lin_core.specs.declared.event.Seen.TheVariants.{Good, Damaged as SeenDamaged}
+
 -- a link: a responder and a direction
-pub use Rattle.lin_core.specs.declared.link.Link.{Link}
+abbrev pub Link : Type 0
+Link = DeclaredLink
 
 abbrev pub same_dir : Direction → Direction → Bool
 same_dir Down Down = true
