@@ -5,7 +5,7 @@ ghost use Rattle.std.specs.Fmt.{decimal};
 ghost use Rattle.lin_text.specs.Written.{Grows, WritesText};
 ghost use Rattle.lin_log.specs.Words.{cause_word, direction_word, ended, entry_text, event_words, header_word, port_word, refusal_number, reply_line, reply_text, seen_words, step_line, step_words, text, value_word};
 
-use crate::words::{put_last_array, put_last_bytes, put_last_number, put_number};
+use crate::words::{put_last_array, put_last_bytes, put_last_number, put_number, put_numbers};
 use lin_core::{Cause, Direction, Event, Log, LogEntry, PortId, Refusal, Reply, Seen, Step};
 use lin_frame::Value;
 use lin_text::{TextWriter, WriteFailed};
@@ -51,15 +51,11 @@ fn put_step<W: Write>(writer: &mut TextWriter<'_, W>, step: &Step)
 {
     match step {
         Step::Send { from, to, message } => {
-            writer.put_text(" send");
-            put_number(writer, *from);
-            put_number(writer, *to);
+            put_numbers(writer, " send", *from, *to);
             put_last_bytes(writer, message.as_slice());
         }
         Step::Write { by, signal, value } => {
-            writer.put_text(" write");
-            put_number(writer, *by);
-            put_number(writer, *signal);
+            put_numbers(writer, " write", *by, *signal);
             put_value(writer, value);
         }
         Step::Open => writer.put_text(" open\n"),
@@ -135,9 +131,7 @@ fn put_event<W: Write>(writer: &mut TextWriter<'_, W>, event: &Event)
             entry,
             header,
         } => {
-            writer.put_text("> slot");
-            put_number(writer, *table);
-            put_number(writer, *entry);
+            put_numbers(writer, "> slot", *table, *entry);
             put_header(writer, *header);
         }
         Event::Due { node } => put_last_number(writer, "> due", *node),
@@ -148,9 +142,7 @@ fn put_event<W: Write>(writer: &mut TextWriter<'_, W>, event: &Event)
         }
         Event::Seen(seen) => put_seen(writer, seen),
         Event::Message { from, to, bytes } => {
-            writer.put_text("> message");
-            put_number(writer, *from);
-            put_number(writer, *to);
+            put_numbers(writer, "> message", *from, *to);
             put_last_bytes(writer, bytes.as_slice());
         }
         Event::Sent { host, number } => put_fate(writer, "> sent", *host, *number),
@@ -159,9 +151,7 @@ fn put_event<W: Write>(writer: &mut TextWriter<'_, W>, event: &Event)
             number,
             cause,
         } => {
-            writer.put_text("> lost");
-            put_number(writer, *host);
-            put_number(writer, *number);
+            put_numbers(writer, "> lost", *host, *number);
             put_cause(writer, *cause);
         }
         Event::Asleep => writer.put_text("> asleep\n"),
@@ -179,26 +169,7 @@ fn put_events<W: Write>(writer: &mut TextWriter<'_, W>, events: &[Event])
 fn refusal_number(refusal: Refusal) -> u8
     ensures { result ≡ refusal_number refusal }
 {
-    match refusal {
-        Refusal::NoSuchNode => 1,
-        Refusal::NoSuchSignal => 2,
-        Refusal::NoSuchTable => 3,
-        Refusal::NotPublisher => 4,
-        Refusal::BadValue => 5,
-        Refusal::NoAddress => 6,
-        Refusal::BadLength => 7,
-        Refusal::Closed => 8,
-        Refusal::QueueFull => 9,
-        Refusal::Asleep => 10,
-        Refusal::Awake => 11,
-        Refusal::SlotOpen => 12,
-        Refusal::NoSlot => 13,
-        Refusal::NotYours => 14,
-        Refusal::Decided => 15,
-        Refusal::NothingOnWire => 16,
-        Refusal::PassesCheck => 17,
-        Refusal::NoTransfer => 18,
-    }
+    refusal as u8 + 1
 }
 
 #[tactic(auto, unfolding(crate::specs::Words::reply_text))]

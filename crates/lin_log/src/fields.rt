@@ -2,7 +2,7 @@
 
 ghost use Rattle.std.specs.Prelude.{◌≡◌, ◌<◌, ◌≤◌, ◌∷◌, ◌==◌, [], false, length, slice_index, take, MatchOption};
 ghost use Rattle.std.specs.List.{All};
-ghost use Rattle.lin_log.specs.Read.{Gives};
+ghost use Rattle.lin_log.specs.Read.{EndsLine, Gives, Takes};
 ghost use Rattle.lin_log.specs.Script.{array_bytes, direction, field_by, fields, hex_bytes, number, port, value};
 
 use arrayvec::ArrayVec;
@@ -75,6 +75,27 @@ pub(crate) fn first_field(line: &[u8]) -> Option<(&[u8], &[u8])>
     Some(rest.split_at(end))
 }
 
+/// The first field of a line, where there is one, and what stands behind it.
+pub(crate) fn next_field(line: &[u8]) -> Result<(&[u8], &[u8]), LineFault>
+    ensures { Takes result (fields line.now) }
+{
+    match first_field(line) {
+        None => Err(LineFault::Bad),
+        Some(parts) => Ok(parts),
+    }
+}
+
+/// A fault where a field is left.
+pub(crate) fn end_of_line(line: &[u8]) -> Result<(), LineFault>
+    ensures { EndsLine result (fields line.now) }
+{
+    if without_spaces(line).is_empty() {
+        Ok(())
+    } else {
+        Err(LineFault::Bad)
+    }
+}
+
 /// The number of a node, a host or a port.
 fn byte_number(word: &[u8]) -> Result<u8, LineFault>
     ensures { Gives (λ x. x) result (number 255 word.now) }
@@ -89,10 +110,8 @@ fn byte_number(word: &[u8]) -> Result<u8, LineFault>
 pub(crate) fn node_field(line: &[u8]) -> Result<(u8, &[u8]), LineFault>
     ensures { Gives (λ x. (x.0, fields x.1.now)) result (field_by (number 255) (fields line.now)) }
 {
-    match first_field(line) {
-        None => Err(LineFault::Bad),
-        Some((word, rest)) => Ok((byte_number(word)?, rest)),
-    }
+    let (word, rest) = next_field(line)?;
+    Ok((byte_number(word)?, rest))
 }
 
 fn hex_bytes(alloc: Global, word: &[u8]) -> Result<Payload, LineFault>
@@ -115,10 +134,8 @@ fn hex_bytes(alloc: Global, word: &[u8]) -> Result<Payload, LineFault>
 pub(crate) fn hex_field(alloc: Global, line: &[u8]) -> Result<(Payload, &[u8]), LineFault>
     ensures { Gives (λ x. (x.0, fields x.1.now)) result (field_by hex_bytes (fields line.now)) }
 {
-    match first_field(line) {
-        None => Err(LineFault::Bad),
-        Some((word, rest)) => Ok((hex_bytes(alloc, word)?, rest)),
-    }
+    let (word, rest) = next_field(line)?;
+    Ok((hex_bytes(alloc, word)?, rest))
 }
 
 /// The number of a signal or a table, or a scalar.
@@ -135,10 +152,8 @@ fn pair_number(word: &[u8]) -> Result<u16, LineFault>
 pub(crate) fn index_field(line: &[u8]) -> Result<(u16, &[u8]), LineFault>
     ensures { Gives (λ x. (x.0, fields x.1.now)) result (field_by (number 65535) (fields line.now)) }
 {
-    match first_field(line) {
-        None => Err(LineFault::Bad),
-        Some((word, rest)) => Ok((pair_number(word)?, rest)),
-    }
+    let (word, rest) = next_field(line)?;
+    Ok((pair_number(word)?, rest))
 }
 
 /// The bytes of an array.
@@ -167,21 +182,17 @@ fn value(alloc: Global, word: &[u8]) -> Result<Value, LineFault>
 pub(crate) fn value_field(alloc: Global, line: &[u8]) -> Result<(Value, &[u8]), LineFault>
     ensures { Gives (λ x. (x.0, fields x.1.now)) result (field_by value (fields line.now)) }
 {
-    match first_field(line) {
-        None => Err(LineFault::Bad),
-        Some((word, rest)) => Ok((value(alloc, word)?, rest)),
-    }
+    let (word, rest) = next_field(line)?;
+    Ok((value(alloc, word)?, rest))
 }
 
 fn direction(word: &[u8]) -> Result<Direction, LineFault>
     ensures { Gives (λ x. x) result (direction word.now) }
 {
-    if word == b"down".as_slice() {
-        Ok(Direction::Down)
-    } else if word == b"up".as_slice() {
-        Ok(Direction::Up)
-    } else {
-        Err(LineFault::Bad)
+    match word {
+        b"down" => Ok(Direction::Down),
+        b"up" => Ok(Direction::Up),
+        _ => Err(LineFault::Bad),
     }
 }
 
@@ -189,32 +200,18 @@ fn direction(word: &[u8]) -> Result<Direction, LineFault>
 pub(crate) fn direction_field(line: &[u8]) -> Result<(Direction, &[u8]), LineFault>
     ensures { Gives (λ x. (x.0, fields x.1.now)) result (field_by direction (fields line.now)) }
 {
-    match first_field(line) {
-        None => Err(LineFault::Bad),
-        Some((word, rest)) => Ok((direction(word)?, rest)),
-    }
+    let (word, rest) = next_field(line)?;
+    Ok((direction(word)?, rest))
 }
 
 #[tactic(auto, unfolding(crate::specs::Script::port))]
-fn port(word: &[u8]) -> Result<PortId, LineFault>
+pub(crate) fn port(word: &[u8]) -> Result<PortId, LineFault>
     ensures { Gives (λ x. x) result (port word.now) }
 {
-    if word == b"bus".as_slice() {
-        return Ok(PortId::Bus);
-    }
     match word {
+        b"bus" => Ok(PortId::Bus),
         [b'h', digits @ ..] => Ok(PortId::Host(byte_number(digits)?)),
         [b'n', digits @ ..] => Ok(PortId::Node(byte_number(digits)?)),
         _ => Err(LineFault::Bad),
-    }
-}
-
-/// A field that is a port.
-pub(crate) fn port_field(line: &[u8]) -> Result<(PortId, &[u8]), LineFault>
-    ensures { Gives (λ x. (x.0, fields x.1.now)) result (field_by port (fields line.now)) }
-{
-    match first_field(line) {
-        None => Err(LineFault::Bad),
-        Some((word, rest)) => Ok((port(word)?, rest)),
     }
 }

@@ -17,6 +17,21 @@ pub(crate) fn put_number<W: Write, N: Integer>(writer: &mut TextWriter<'_, W>, n
     writer.put_number(number);
 }
 
+/// A name and two numbers.
+#[inline]
+pub(crate) fn put_numbers<W: Write, M: Integer, N: Integer>(
+    writer: &mut TextWriter<'_, W>,
+    name: &str,
+    first: M,
+    second: N,
+)
+    ensures { Grows W.contents writer.old writer.new (name.now ++ (spaced (M.text first) ++ spaced (N.text second))) }
+{
+    writer.put_text(name);
+    put_number(writer, first);
+    put_number(writer, second);
+}
+
 /// A name and the number that ends its line.
 #[inline]
 pub(crate) fn put_last_number<W: Write, N: Integer>(
