@@ -12,8 +12,8 @@ use Rattle.lin_cluster.proofs.findings.overlaps.overlaps_among.Given as goal
 
 abbrev pub invariant-loop-placed : goal.invariant-loop-placed
 invariant-loop-placed l = record {
-  found : l.found.items ≡ l.fn.found.items ++ flat_map (overlap_at l.known l.all_placed) (take l.placed-index (enumerate_from 0 l.all_placed));
+  found : l.found.items ≡ l.fn.found.items ++ flat_map (overlap_at l.signals l.all_placed) (take l.placed-index (enumerate_from 0 l.all_placed));
   apart : AreApart l.ranges;
   names : (q : List ℕ) → has_text l.names q ≡ list_any (λ p. bytes_eq p.signal.text q) (take l.placed-index l.all_placed);
-  ranges : (a b : ℕ) → a < b → Meets l.ranges a b ↔ (list_any (λ p. knows (signal_named l.known p.signal) (lies_in a b p)) (take l.placed-index l.all_placed) ≡ true);
+  ranges : (a b : ℕ) → a < b → Meets l.ranges a b ↔ (list_any (λ p. knows (signal_named l.signals p.signal) (λ t. lies_in a b p t.size.value)) (take l.placed-index l.all_placed) ≡ true);
 }
