@@ -16,7 +16,7 @@ use Rattle.std.specs.Str.{bytes_eq}
 use Rattle.std.specs.Option.{option_map_or}
 use Rattle.lin_cluster.specs.Described.{signal_number, frame_number, table_number}
 use Rattle.lin_cluster.specs.Findings.{in_signal, in_placed, in_frame, in_sporadic_member, in_sporadic, in_event_member, in_event, in_entry, in_table}
-use Rattle.lin_cluster.specs.FindingsFrames.{unknown_node, unknown_signal, unknown_member, unknown_table, unknown_entry, wrong_publisher_at, is_published_elsewhere, ids, bad_id, bad_signal_size, bad_frame_size, is_good_size, is_frame_size, outside_at, is_outside, overlaps_in, overlap_at, is_overlapping, bad_init, init_place, is_good_init}
+use Rattle.lin_cluster.specs.FindingsFrames.{unknown_node, unknown_signal, unknown_member, unknown_table, unknown_entry, wrong_publisher_at, is_published_elsewhere, ids, bad_id, bad_signal_size, bad_frame_size, is_good_size, is_frame_size, outside_at, is_outside, overlap_at, is_overlapping, bad_init, init_place, is_good_init}
 use Rattle.lin_cluster.specs.FindingsNames.{is_node, signal_named, frame_named, table_named, is_any_frame, is_event_entry, knows, at_name, at_number, at_place}
 use Rattle.lin_cluster.specs.FindingsTables.{responder_limits, frame_limits, time_limits, past, short_slot_at, zero_delay, empty_table, long_delay, long_table, bad_member_at, bad_sporadic_at, is_responders, is_bad_member, nested_at, is_mixed, mixed_at}
 use Rattle.lin_cluster.specs.declared.finding.FindingKind.TheVariants.{UnknownName, WrongPublisher, BadId, BadSize, SignalOutside, SignalsOverlap, BadInit, ZeroDelay, BadEventFrame, BadSporadic, NestedCollision, EmptyTable, LimitPassed, MixedChecksum}
@@ -110,10 +110,17 @@ pub record GoodFrame (d : Description) (f : Frame) : Type 0 where
 asked : {A : Type 0} (o : Option A) (x : A) (test : A → Bool) → o ≡ Some x → knows o test ≡ false → test x ≡ false
 asked o x test is e = rw is at e
 
-good-placed : (d : Description) (f : Frame) → flat_map (in_placed d f) f.placed ≡ [] → All (GoodPlaced d f) f.placed
+placed-parts : (d : Description) (f : Frame) → flat_map (in_placed d f f.placed) (enumerate_from 0 f.placed) ≡ [] → (k : ℕ) (p : PlacedSignal) → k < length f.placed
+    → (unknown_signal d (get_or f.placed k p) ≡ []) × (wrong_publisher_at d f (get_or f.placed k p) ≡ []) × (outside_at d f (get_or f.placed k p) ≡ []) × (overlap_at d f.placed (k, get_or f.placed k p) ≡ [])
+placed-parts d f none k p lt =
+    let here = get_or f.placed k p
+    in four (unknown_signal d here) (wrong_publisher_at d f here) (outside_at d f here) (overlap_at d f.placed (k, here))
+    (of-each (λ ip. in_placed d f f.placed ip ≡ []) f.placed (each-nil (in_placed d f f.placed) (enumerate_from 0 f.placed) none) k p lt)
+
+good-placed : (d : Description) (f : Frame) → flat_map (in_placed d f f.placed) (enumerate_from 0 f.placed) ≡ [] → All (GoodPlaced d f) f.placed
 good-placed d f none k p lt =
     let here = get_or f.placed k p
-    in let parts = three (unknown_signal d here) (wrong_publisher_at d f here) (outside_at d f here) (each-nil (in_placed d f) f.placed none k p lt)
+    in let parts = placed-parts d f none k p lt
     in let within : signal_number d here.signal < length d.signals = signal-within d here.signal (when-nil _ (at_name UnknownName here.signal) parts.0)
     in let is : signal_named d here.signal ≡ Some (the_signal d here) = signal-at d here within
     in record {
@@ -122,9 +129,8 @@ good-placed d f none k p lt =
       inside = asked (signal_named d here.signal) (the_signal d here) (is_outside f here) is (when-nil _ (at_number SignalOutside here.offset) parts.2);
     }
 
-good-apart : (d : Description) (f : Frame) → overlaps_in d f ≡ [] → (k : ℕ) (p : PlacedSignal) → k < length f.placed → is_overlapping d (take k f.placed) (get_or f.placed k p) ≡ false
-good-apart d f none k p lt =
-    when-nil _ (at_number SignalsOverlap (get_or f.placed k p).offset) (of-each (λ ip. overlap_at d f.placed ip ≡ []) f.placed (each-nil (overlap_at d f.placed) (enumerate_from 0 f.placed) none) k p lt)
+good-apart : (d : Description) (f : Frame) → flat_map (in_placed d f f.placed) (enumerate_from 0 f.placed) ≡ [] → (k : ℕ) (p : PlacedSignal) → k < length f.placed → is_overlapping d (take k f.placed) (get_or f.placed k p) ≡ false
+good-apart d f none k p lt = when-nil _ (at_number SignalsOverlap (get_or f.placed k p).offset) (placed-parts d f none k p lt).3
 
 pub small-id : (n : ℕ) → nat_lt 59 n ≡ false → n < 60
 small-id n e = let h = ltb-false 59 n e in omega (arith, h)
@@ -144,13 +150,13 @@ back-ids d none k e lt =
 pub good-frames : (d : Description) → NothingFound d → All (GoodFrame d) d.frames
 good-frames d none k f lt =
     let here = get_or d.frames k f
-    in let parts = four (unknown_node d here.publisher) (bad_frame_size here) (flat_map (in_placed d here) here.placed) (overlaps_in d here) (each-nil (in_frame d) d.frames none.frames k f lt)
+    in let parts = three (unknown_node d here.publisher) (bad_frame_size here) (flat_map (in_placed d here here.placed) (enumerate_from 0 here.placed)) (each-nil (in_frame d) d.frames none.frames k f lt)
     in record {
       publisher = not-false (is_node d here.publisher) (when-nil _ (at_name UnknownName here.publisher) parts.0);
       id = front-ids d none.ids k f lt;
       size = not-false (is_frame_size here.size.value) (when-nil _ (at_number BadSize here.size) parts.1);
       placed = good-placed d here parts.2;
-      apart = good-apart d here parts.3;
+      apart = good-apart d here parts.2;
     }
 
 -- ---- sporadic and event-triggered frames

@@ -4,8 +4,8 @@ use Rattle.std.specs.Prelude.{◌↔◌, Option, Some, None, is_some, is_none, n
 use Rattle.std.specs.List.{list_any}
 use Rattle.std.specs.Option.{option_map, option_map_or}
 use Rattle.lin_frame.specs.declared.sums.SumKind.{SumKind}
-use Rattle.lin_cluster.specs.Findings.{in_placed, in_event_member, in_sporadic_member}
-use Rattle.lin_cluster.specs.FindingsFrames.{is_outside}
+use Rattle.lin_cluster.specs.Findings.{in_event_member, in_sporadic_member}
+use Rattle.lin_cluster.specs.FindingsFrames.{unknown_signal, wrong_publisher_at, is_outside, outside_at}
 use Rattle.lin_cluster.specs.FindingsMembers.{is_bad_behind, is_wrong_behind, is_mixed_behind, in_member_behind}
 use Rattle.lin_cluster.specs.FindingsNames.{when, knows, at_name, at_number, same_name, is_node, is_any_frame, signal_named, frame_named, carries_frame}
 use Rattle.lin_cluster.specs.FindingsNodes.{node_of, is_number, is_behind_commander, are_two}
@@ -48,25 +48,18 @@ value_made f x v h = ap (λ m. option_map_or (λ y. y) m v) h
 
 -- ---- a signal in a frame
 
-placed_by_some : (d : Description) (publisher : Option ℕ) (f : Frame) (p : PlacedSignal) (a b c : Finding) (o : Option Signal) (s : SignalFacts) → Some s ≡ option_map (signal_facts d) o
-    → when (is_none o) a ++ when (knows o (λ x. are_two (node_of d x.publisher) publisher)) b ++ when (knows o (is_outside f p)) c ≡ when (are_two s.publisher publisher) b ++ when (is_outside_by f p s) c
-placed_by_some d publisher f p a b c (Some x) s h = sym (ap (λ (t : SignalFacts). when (are_two t.publisher publisher) b ++ when (is_outside_by f p t) c) (value_made (signal_facts d) x s h))
-placed_by_some d publisher f p a b c None s h = absurd (cc)
+placed_by : (d : Description) (publisher : Option ℕ) (f : Frame) (p : PlacedSignal) (a b c : Finding) (o : Option Signal)
+    → when (is_none (option_map (signal_facts d) o)) a ++ when (knows (option_map (signal_facts d) o) (λ s. are_two s.publisher publisher)) b ++ when (knows (option_map (signal_facts d) o) (is_outside_by f p)) c
+    ≡ when (is_none o) a ++ when (knows o (λ s. are_two (node_of d s.publisher) publisher)) b ++ when (knows o (is_outside f p)) c
+placed_by d publisher f p a b c (Some x) = refl
+placed_by d publisher f p a b c None = refl
 
-pub placed_some : (d : Description) (publisher : Option ℕ) (f : Frame) (p : PlacedSignal) (s : SignalFacts) → Some s ≡ option_map (signal_facts d) (signal_named d p.signal)
-    → in_placed_by d publisher f p ≡ when (are_two s.publisher publisher) (at_name WrongPublisher p.signal) ++ when (is_outside_by f p s) (at_number SignalOutside p.offset)
-placed_some d publisher f p s h = placed_by_some d publisher f p (at_name UnknownName p.signal) (at_name WrongPublisher p.signal) (at_number SignalOutside p.offset) (signal_named d p.signal) s h
-
-placed_by_none : (d : Description) (publisher : Option ℕ) (f : Frame) (p : PlacedSignal) (a b c : Finding) (o : Option Signal) → None ≡ option_map (signal_facts d) o
-    → when (is_none o) a ++ when (knows o (λ x. are_two (node_of d x.publisher) publisher)) b ++ when (knows o (is_outside f p)) c ≡ a ∷ []
-placed_by_none d publisher f p a b c (Some x) h = absurd (cc)
-placed_by_none d publisher f p a b c None h = refl
-
-pub placed_none : (d : Description) (publisher : Option ℕ) (f : Frame) (p : PlacedSignal) → None ≡ option_map (signal_facts d) (signal_named d p.signal) → in_placed_by d publisher f p ≡ at_name UnknownName p.signal ∷ []
-placed_none d publisher f p h = placed_by_none d publisher f p (at_name UnknownName p.signal) (at_name WrongPublisher p.signal) (at_number SignalOutside p.offset) (signal_named d p.signal) h
-
-pub placed_by : (d : Description) (f : Frame) → in_placed_by d (node_of d f.publisher) f ≡ in_placed d f
-placed_by d f = λ i p. when (is_none (signal_named d p.signal)) (at_name UnknownName p.signal) ++ wrong-by d f i p ++ when (knows (signal_named d p.signal) (is_outside f p)) (at_number SignalOutside p.offset)
+pub placed_same : (d : Description) (f : Frame) (p : PlacedSignal) (publisher : Option ℕ) (m : Option SignalFacts) → m ≡ option_map (signal_facts d) (signal_named d p.signal) → publisher ≡ node_of d f.publisher
+    → in_placed_by f publisher p m ≡ unknown_signal d p ++ wrong_publisher_at d f p ++ outside_at d f p
+placed_same d f p publisher m here by =
+    (λ i. in_placed_by f (by i) p (here i))
+    ∙ placed_by d (node_of d f.publisher) f p (at_name UnknownName p.signal) (at_name WrongPublisher p.signal) (at_number SignalOutside p.offset) (signal_named d p.signal)
+    ∙ (λ i. unknown_signal d p ++ wrong-by d f i p ++ outside_at d f p)
 
 -- tests of its size
 pub size_same : (d : Description) (t : ℕ → Bool) (o : Option Signal) (m : Option SignalFacts) → m ≡ option_map (signal_facts d) o → knows m (λ s. t s.size) ≡ knows o (λ s. t s.size.value)

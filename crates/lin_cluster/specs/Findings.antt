@@ -3,7 +3,7 @@ use Rattle.std.specs.Prelude.{◌≡◌, ℕ, List, [], ◌++◌, flat_map, IsPe
 use Rattle.std.specs.List.{enumerate_from}
 use Rattle.std.specs.declared.cmp.Ordering.{Ordering}
 use Rattle.std.specs.Ordering.{nat_cmp, ordering_then}
-use Rattle.lin_cluster.specs.FindingsFrames.{unknown_node, unknown_member, unknown_signal, unknown_table, unknown_entry, wrong_publisher_at, bad_ids, ids_twice, bad_signal_size, bad_frame_size, outside_at, overlaps_in, bad_init, bad_nads, nads_twice}
+use Rattle.lin_cluster.specs.FindingsFrames.{unknown_node, unknown_member, unknown_signal, unknown_table, unknown_entry, wrong_publisher_at, bad_ids, ids_twice, bad_signal_size, bad_frame_size, outside_at, overlap_at, bad_init, bad_nads, nads_twice}
 use Rattle.lin_cluster.specs.FindingsTables.{short_slot_at, zero_delay, bad_member_at, bad_sporadic_at, nested_at, empty_table, no_table, long_delay, long_table, limits_passed, mixed_at}
 use Rattle.lin_cluster.specs.declared.finding.Finding.{Finding}
 use Rattle.lin_description.specs.declared.description.Attributes.{Attributes}
@@ -22,11 +22,12 @@ use Rattle.lin_description.specs.declared.description.TableEntry.{TableEntry}
 abbrev pub in_signal : Description → Signal → List Finding
 in_signal d s = unknown_node d s.publisher ++ flat_map (unknown_node d) s.subscribers ++ bad_signal_size s ++ bad_init s
 
-abbrev pub in_placed : Description → Frame → PlacedSignal → List Finding
-in_placed d f p = unknown_signal d p ++ wrong_publisher_at d f p ++ outside_at d f p
+-- the signal with this number of those that a frame places
+abbrev pub in_placed : Description → Frame → List PlacedSignal → ℕ × PlacedSignal → List Finding
+in_placed d f placed ip = unknown_signal d ip.1 ++ wrong_publisher_at d f ip.1 ++ outside_at d f ip.1 ++ overlap_at d placed ip
 
 abbrev pub in_frame : Description → Frame → List Finding
-in_frame d f = unknown_node d f.publisher ++ bad_frame_size f ++ flat_map (in_placed d f) f.placed ++ overlaps_in d f
+in_frame d f = unknown_node d f.publisher ++ bad_frame_size f ++ flat_map (in_placed d f f.placed) (enumerate_from 0 f.placed)
 
 -- a member of a sporadic frame
 abbrev pub in_sporadic_member : Description → Name → List Finding

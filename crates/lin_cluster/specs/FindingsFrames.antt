@@ -118,9 +118,6 @@ is_overlapping d earlier p = knows (signal_named d p.signal) (λ s. list_any (me
 abbrev pub overlap_at : Description → List PlacedSignal → ℕ × PlacedSignal → List Finding
 overlap_at d placed ip = when (is_overlapping d (take ip.0 placed) ip.1) (at_number SignalsOverlap ip.1.offset)
 
-abbrev pub overlaps_in : Description → Frame → List Finding
-overlaps_in d f = flat_map (overlap_at d f.placed) (enumerate_from 0 f.placed)
-
 -- ---- 8 BadInit: of a signal of good size
 
 -- below 2^size; for an array a byte for each 8 bits

@@ -1,14 +1,14 @@
 -- What the signals of a frame take up: their names, and the ranges of their bits.
-use Rattle.std.specs.Prelude.{◌≡◌, ◌<◌, ◌+◌, ◌*◌, ◌%◌, ◌⊎◌, ◌++◌, ℕ, List, Option, Bool, true, not, ◌&&◌, ◌||◌, ◌==◌, nat_lt}
+use Rattle.std.specs.Prelude.{◌≡◌, ◌<◌, ◌+◌, ◌*◌, ◌%◌, ◌⊎◌, ◌++◌, ℕ, List, Option, is_none, Bool, true, not, ◌&&◌, ◌||◌, ◌==◌, nat_lt}
 use Rattle.std.specs.BTreeMap.{BTreeMap}
 use Rattle.indexmap.specs.IndexMap.{IndexMap}
-use Rattle.lin_cluster.specs.FindingsFrames.{unknown_signal, outside_at}
 use Rattle.lin_cluster.specs.FindingsMembers.{has_text}
-use Rattle.lin_cluster.specs.FindingsNodes.{wrong_publisher_by}
+use Rattle.lin_cluster.specs.FindingsNames.{at_name, at_number, when, knows}
+use Rattle.lin_cluster.specs.FindingsNodes.{are_two}
 use Rattle.lin_cluster.specs.FindingsRanges.{Meets}
 use Rattle.lin_cluster.specs.declared.finding.Finding.{Finding}
+use Rattle.lin_cluster.specs.declared.finding.FindingKind.TheVariants.{UnknownName, WrongPublisher, SignalOutside}
 use Rattle.lin_cluster.specs.declared.findings.facts.SignalFacts.{SignalFacts}
-use Rattle.lin_description.specs.declared.description.Description.{Description}
 use Rattle.lin_description.specs.declared.description.Frame.{Frame}
 use Rattle.lin_description.specs.declared.description.PlacedSignal.{PlacedSignal}
 use denote.Ref.{Bor}
@@ -25,6 +25,7 @@ lies_in a b q size = nat_lt 0 size && nat_lt a (q.offset.value + size) && nat_lt
 abbrev pub is_outside_by : Frame → PlacedSignal → SignalFacts → Bool
 is_outside_by f p s = nat_lt (8 * f.size.value) (p.offset.value + s.size) || (s.is_array && not (p.offset.value % 8 == 0))
 
-abbrev pub in_placed_by : Description → Option ℕ → Frame → PlacedSignal → List Finding
-in_placed_by d publisher f p =
-    unknown_signal d p ++ wrong_publisher_by d publisher p ++ outside_at d f p
+abbrev pub in_placed_by : Frame → Option ℕ → PlacedSignal → Option SignalFacts → List Finding
+in_placed_by f publisher p signal =
+    when (is_none signal) (at_name UnknownName p.signal) ++ when (knows signal (λ s. are_two s.publisher publisher)) (at_name WrongPublisher p.signal)
+    ++ when (knows signal (is_outside_by f p)) (at_number SignalOutside p.offset)

@@ -6,8 +6,7 @@ ghost use Rattle.lin_cluster.specs.Findings.{in_declarations};
 use super::judged::Judged;
 use super::limits::{long_table, too_long};
 use super::members::{SporadicMembers, members_in_order};
-use super::overlaps::overlaps_among;
-use super::places::places_in;
+use super::places::signals_in_order;
 use super::sizes::{bad_frame_size, bad_init, bad_signal_size};
 use super::slots::{short_slot, zero_delay};
 use super::tables::{empty_table, resolving_table};
@@ -39,8 +38,8 @@ impl<'k, 'a> Finds<Frame> for Judged<'k, 'a> {
     fn find(&self, found: &mut Vec<Finding>, frame: &Frame) -> Result<(), AllocError> {
         unknown_node(found, self, &frame.publisher)?;
         bad_frame_size(found, frame)?;
-        places_in(found, self, frame)?;
-        overlaps_among(self.alloc(), found, self.signals(), frame.placed.as_slice())
+        let placed = frame.placed.as_slice();
+        signals_in_order(self.alloc(), found, self.signals(), frame, placed)
     }
 }
 

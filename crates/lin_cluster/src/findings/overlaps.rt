@@ -1,27 +1,23 @@
 //! Signals overlap (7): they share bits of their frame, or stand in it twice.
 
 ghost use Rattle.std.specs.Prelude.{◌≡◌, ◌++◌, ◌+◌, ◌<◌, ◌||◌, ◌↔◌, ◌⊎◌, ℕ, List, Bool, true, OnOk};
-ghost use Rattle.std.specs.List.{flat_map, enumerate_from};
 ghost use Rattle.std.specs.Str.{bytes_eq};
-ghost use Rattle.lin_cluster.specs.FindingsFrames.{overlap_at};
 ghost use Rattle.lin_cluster.specs.FindingsMembers.{has_text};
 ghost use Rattle.lin_cluster.specs.FindingsNames.{at_number, knows, when};
 ghost use Rattle.lin_cluster.specs.FindingsRanges.{Meets, AreApart};
 ghost use Rattle.lin_cluster.specs.FindingsPlaces.{IsTaken, lies_in};
 ghost use Rattle.lin_cluster.specs.declared.finding.FindingKind.TheVariants.{SignalsOverlap};
 
-use super::facts::{SignalFacts, Signals};
+use super::facts::SignalFacts;
 use super::ranges::{Ranges, add_range, is_met};
 use super::walk::{at_number, push_when};
 use crate::finding::{Finding, FindingKind};
-use crate::names::add;
 use indexmap::IndexMap;
 use lin_description::PlacedSignal;
-use std::alloc::{AllocError, Global};
-use std::collections::BTreeMap;
+use std::alloc::AllocError;
 
 /// The names of some signals of a frame.
-type Names<'a> = IndexMap<&'a [u8], ()>;
+pub(super) type Names<'a> = IndexMap<&'a [u8], ()>;
 
 // Whether one of the names is that of the signal, or one of the ranges has a bit of it.
 fn is_taken(names: &Names, ranges: &Ranges, placed: &PlacedSignal, size: u32) -> bool
@@ -36,7 +32,8 @@ fn is_taken(names: &Names, ranges: &Ranges, placed: &PlacedSignal, size: u32) ->
     0 < size && is_met(ranges, start, start + size)
 }
 
-fn overlap(
+/// A signal, by what is known of it, that stands in its frame a second time, or shares a bit with an earlier one.
+pub(super) fn overlap(
     found: &mut Vec<Finding>,
     names: &Names,
     ranges: &Ranges,
@@ -57,7 +54,8 @@ fn overlap(
     Ok(())
 }
 
-fn add_bits(
+/// Adds the bits of one more signal, by what is known of it.
+pub(super) fn add_bits(
     ranges: &mut Ranges,
     placed: &PlacedSignal,
     signal: Option<SignalFacts>,
@@ -71,27 +69,6 @@ fn add_bits(
             let start = u64::from(placed.offset.value);
             add_range(ranges, start, start + u64::from(signal.size))?;
         }
-    }
-    Ok(())
-}
-
-/// Signals that stand in their frame a second time, or share a bit with an earlier one; each name is looked up once.
-#[tactic(auto, using(crate::proofs::FindingsLists::each_all))]
-pub(super) fn overlaps_among(
-    alloc: Global,
-    found: &mut Vec<Finding>,
-    signals: &Signals,
-    all_placed: &[PlacedSignal],
-) -> Result<(), AllocError>
-    ensures { OnOk result (found.new.items ≡ found.old.items ++ flat_map (overlap_at signals.now all_placed.now) (enumerate_from 0 all_placed.now)) }
-{
-    let mut names = IndexMap::new(alloc);
-    let mut ranges = BTreeMap::new(alloc);
-    for placed in all_placed {
-        let signal = signals.named(&placed.signal);
-        overlap(found, &names, &ranges, placed, signal)?;
-        add(&mut names, placed.signal.text.as_slice(), ())?;
-        add_bits(&mut ranges, placed, signal)?;
     }
     Ok(())
 }

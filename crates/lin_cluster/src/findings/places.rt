@@ -1,17 +1,20 @@
-//! Signals in their frames: unknown name (1), wrong publisher (2) and signal outside (6).
+//! Signals in their frames: unknown name (1), wrong publisher (2), signal outside (6) and, by `overlaps`, signals overlap (7).
 
-ghost use Rattle.std.specs.Prelude.{◌≡◌, ◌++◌, OnOk};
-ghost use Rattle.std.specs.List.{flat_map};
+ghost use Rattle.std.specs.Prelude.{◌≡◌, ◌++◌, ◌<◌, ◌↔◌, ℕ, List, true, OnOk};
+ghost use Rattle.std.specs.List.{flat_map, enumerate_from};
 ghost use Rattle.lin_cluster.specs.Findings.{in_placed};
 ghost use Rattle.lin_cluster.specs.FindingsNodes.{are_two};
-ghost use Rattle.lin_cluster.specs.FindingsPlaces.{is_outside_by};
+ghost use Rattle.lin_cluster.specs.FindingsPlaces.{is_outside_by, in_placed_by};
 
-use super::facts::SignalFacts;
-use super::judged::Judged;
-use super::walk::{Finds, at_name, at_number, each, push_when};
+use super::facts::{SignalFacts, Signals};
+use super::overlaps::{add_bits, overlap};
+use super::walk::{at_name, at_number, push_when};
 use crate::finding::{Finding, FindingKind};
+use crate::names::add;
+use indexmap::IndexMap;
 use lin_description::{Frame, PlacedSignal};
-use std::alloc::AllocError;
+use std::alloc::{AllocError, Global};
+use std::collections::BTreeMap;
 
 // A name that is no node's is no other node's.
 fn are_two(node: Option<usize>, other: Option<usize>) -> bool
@@ -31,53 +34,53 @@ fn is_outside(frame: &Frame, placed: &PlacedSignal, signal: SignalFacts) -> bool
     8 * u64::from(bytes) < end || (signal.is_array && !(placed.offset.value % 8 == 0))
 }
 
-/// A frame and the number of the node that publishes it, where there is one.
-#[derive(Clone, Copy)]
-struct InFrame<'j, 'k, 'a> {
-    judged: &'j Judged<'k, 'a>,
-    frame: &'j Frame,
+fn find_placed(
+    found: &mut Vec<Finding>,
+    frame: &Frame,
     publisher: Option<usize>,
-}
-
-impl<'j, 'k, 'a> Finds<PlacedSignal> for InFrame<'j, 'k, 'a> {
-    ghost use Rattle.lin_cluster.specs.FindingsPlaces.{in_placed_by};
-
-    ghost finds = { λ inside placed. in_placed_by inside.judged.now inside.publisher inside.frame.now placed };
-
-    fn find(&self, found: &mut Vec<Finding>, placed: &PlacedSignal) -> Result<(), AllocError> {
-        match self.judged.signals().named(&placed.signal) {
-            Some(signal) => {
-                let is_elsewhere = are_two(signal.publisher, self.publisher);
-                push_when(
-                    found,
-                    is_elsewhere,
-                    at_name(FindingKind::WrongPublisher, &placed.signal),
-                )?;
-                let is_outside = is_outside(self.frame, placed, signal);
-                push_when(
-                    found,
-                    is_outside,
-                    at_number(FindingKind::SignalOutside, &placed.offset),
-                )
-            }
-            None => Ok(found.push(at_name(FindingKind::UnknownName, &placed.signal))?),
+    placed: &PlacedSignal,
+    signal: Option<SignalFacts>,
+) -> Result<(), AllocError>
+    ensures { OnOk result (found.new.items ≡ found.old.items ++ in_placed_by frame.now publisher placed.now signal) }
+{
+    match signal {
+        Some(signal) => {
+            let is_elsewhere = are_two(signal.publisher, publisher);
+            push_when(
+                found,
+                is_elsewhere,
+                at_name(FindingKind::WrongPublisher, &placed.signal),
+            )?;
+            push_when(
+                found,
+                is_outside(frame, placed, signal),
+                at_number(FindingKind::SignalOutside, &placed.offset),
+            )
         }
+        None => Ok(found.push(at_name(FindingKind::UnknownName, &placed.signal))?),
     }
 }
 
-/// Signals that aren't there, or aren't of the frame's publisher, or reach out of the frame.
-pub(super) fn places_in(
+/// What is wrong with the signals that a frame places; each name is looked up once.
+#[tactic(auto, using(crate::proofs::FindingsLists::each_all))]
+pub(super) fn signals_in_order(
+    alloc: Global,
     found: &mut Vec<Finding>,
-    judged: &Judged,
+    signals: &Signals,
     frame: &Frame,
+    all_placed: &[PlacedSignal],
 ) -> Result<(), AllocError>
-    ensures { OnOk result (found.new.items ≡ found.old.items ++ flat_map (in_placed judged.now frame.now) frame.now.placed) }
+    ensures { OnOk result (found.new.items ≡ found.old.items ++ flat_map (in_placed signals.now frame.now all_placed.now) (enumerate_from 0 all_placed.now)) }
 {
-    let publisher = judged.known().node(&frame.publisher);
-    let inside = InFrame {
-        judged,
-        frame,
-        publisher,
-    };
-    each(found, &inside, frame.placed.as_slice())
+    let publisher = signals.known().node(&frame.publisher);
+    let mut names = IndexMap::new(alloc);
+    let mut ranges = BTreeMap::new(alloc);
+    for placed in all_placed {
+        let signal = signals.named(&placed.signal);
+        find_placed(found, frame, publisher, placed, signal)?;
+        overlap(found, &names, &ranges, placed, signal)?;
+        add(&mut names, placed.signal.text.as_slice(), ())?;
+        add_bits(&mut ranges, placed, signal)?;
+    }
+    Ok(())
 }
