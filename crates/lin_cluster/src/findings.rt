@@ -35,6 +35,7 @@ use lin_description::Description;
 use lin_frame::SumKind;
 use std::alloc::{AllocError, Global};
 use tables::no_table;
+use walk::made_of_each;
 
 fn gathered(alloc: Global, judged: &Judged) -> Result<Vec<Finding>, AllocError>
     ensures { IfOk result (λ found. found.items ≡ candidates judged.now) }
@@ -84,7 +85,7 @@ fn models_of_known(alloc: Global, known: &Known) -> Result<Vec<SumKind>, AllocEr
     ensures { IfOk result (λ v. v.items ≡ map (frame_model known.now) known.now.frames) }
 {
     let signals = Signals::new(alloc, known)?;
-    let models = signals.models_of(alloc, known.description().frames())?;
+    let models = made_of_each(alloc, &signals, known.description().frames())?;
     Ok(models)
 }
 

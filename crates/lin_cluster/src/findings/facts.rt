@@ -1,15 +1,16 @@
 //! What is worked out once of each signal and each frame, since very many names may name one.
 
-ghost use Rattle.std.specs.Prelude.{◌≡◌, IfOk, map, slice_get};
+ghost use Rattle.std.specs.Prelude.{◌≡◌, IfOk, slice_get};
 ghost use Rattle.std.specs.List.{list_any};
 ghost use Rattle.std.specs.Option.{option_map};
 ghost use Rattle.lin_cluster.specs.FindingsNames.{signal_named};
 ghost use Rattle.lin_cluster.specs.FindingsTables.{is_in_front};
-ghost use Rattle.lin_cluster.specs.Known.{signal_facts, frame_facts};
-ghost use Rattle.lin_cluster.specs.Models.{has_lin_1, carries_to_lin_1, is_classic, frame_model};
+ghost use Rattle.lin_cluster.specs.Known.{signal_facts};
+ghost use Rattle.lin_cluster.specs.Models.{has_lin_1, carries_to_lin_1, is_classic};
 
 use super::known::Known;
 use super::sizes::is_array;
+use super::walk::{Makes, made_of_each};
 use lin_description::{Frame, Name, PlacedSignal, Signal};
 use lin_frame::SumKind;
 use std::alloc::{AllocError, Global};
@@ -55,29 +56,19 @@ fn has_lin_1(known: &Known, signal: &Signal) -> bool
         .any(|node| known.is_lin_1(node))
 }
 
-fn signal_facts(known: &Known, signal: &Signal) -> SignalFacts
-    ensures { result ≡ signal_facts known.now signal.now }
-{
-    SignalFacts {
-        size: signal.size.value,
-        is_array: is_array(&signal.init),
-        publisher: known.node(&signal.publisher),
-        is_read_by_lin_1: has_lin_1(known, signal),
-    }
-}
+impl<'a> Makes<Signal, SignalFacts> for Known<'a> {
+    ghost use Rattle.lin_cluster.specs.Known.{signal_facts};
 
-fn facts_of(
-    alloc: Global,
-    known: &Known,
-    signals: &[Signal],
-) -> Result<Vec<SignalFacts>, AllocError>
-    ensures { IfOk result (λ v. v.items ≡ map (signal_facts known.now) signals.now) }
-{
-    let mut facts = Vec::new(alloc);
-    for signal in signals {
-        facts.push(signal_facts(known, signal))?;
+    ghost makes = { signal_facts };
+
+    fn make(&self, signal: &Signal) -> SignalFacts {
+        SignalFacts {
+            size: signal.size.value,
+            is_array: is_array(&signal.init),
+            publisher: self.node(&signal.publisher),
+            is_read_by_lin_1: has_lin_1(self, signal),
+        }
     }
-    Ok(facts)
 }
 
 /// The facts of each signal. Contracts see the description.
@@ -112,7 +103,7 @@ impl<'k, 'a> Signals<'k, 'a> {
     pub(super) fn new(alloc: Global, known: &'k Known<'a>) -> Result<Signals<'k, 'a>, AllocError>
         ensures { IfOk result (λ s. s ≡ known.now) }
     {
-        let facts = facts_of(alloc, known, known.description().signals())?;
+        let facts = made_of_each(alloc, known, known.description().signals())?;
         Ok(Signals { known, facts })
     }
 
@@ -164,62 +155,40 @@ impl<'k, 'a> Signals<'k, 'a> {
         self.known().is_lin_1(&frame.publisher) || self.carry_to_lin_1(frame.placed.as_slice())
     }
 
-    /// The checksum model of a frame.
-    pub(super) fn model(&self, frame: &Frame) -> SumKind
-        ensures { result ≡ frame_model self.now frame.now }
-    {
-        if self.is_classic(frame) {
-            SumKind::Classic
-        } else {
-            SumKind::Enhanced
-        }
-    }
-
     fn has_front(&self, frame: &Frame) -> bool
         ensures { result ≡ list_any (is_in_front self.now) frame.now.placed }
     {
         let placed = frame.placed.as_slice();
         placed.iter().any(|placed| self.is_in_front(placed))
     }
+}
 
-    fn frame_facts(&self, frame: &Frame) -> FrameFacts
-        ensures { result ≡ frame_facts self.now frame.now }
-    {
+impl<'k, 'a> Makes<Frame, SumKind> for Signals<'k, 'a> {
+    ghost use Rattle.lin_cluster.specs.Models.{frame_model};
+
+    ghost makes = { frame_model };
+
+    fn make(&self, frame: &Frame) -> SumKind {
+        if self.is_classic(frame) {
+            SumKind::Classic
+        } else {
+            SumKind::Enhanced
+        }
+    }
+}
+
+impl<'k, 'a> Makes<Frame, FrameFacts> for Signals<'k, 'a> {
+    ghost use Rattle.lin_cluster.specs.Known.{frame_facts};
+
+    ghost makes = { frame_facts };
+
+    fn make(&self, frame: &Frame) -> FrameFacts {
+        let model: SumKind = self.make(frame);
         FrameFacts {
             size: frame.size.value,
             publisher: self.known().node(&frame.publisher),
             has_front: self.has_front(frame),
-            model: self.model(frame),
+            model,
         }
-    }
-
-    /// The facts of each frame; an error is want of memory.
-    pub(super) fn facts_of_frames(
-        &self,
-        alloc: Global,
-        frames: &[Frame],
-    ) -> Result<Vec<FrameFacts>, AllocError>
-        ensures { IfOk result (λ v. v.items ≡ map (frame_facts self.now) frames.now) }
-    {
-        let mut facts = Vec::new(alloc);
-        for frame in frames {
-            facts.push(self.frame_facts(frame))?;
-        }
-        Ok(facts)
-    }
-
-    /// The checksum model of each frame; an error is want of memory.
-    pub(super) fn models_of(
-        &self,
-        alloc: Global,
-        frames: &[Frame],
-    ) -> Result<Vec<SumKind>, AllocError>
-        ensures { IfOk result (λ v. v.items ≡ map (frame_model self.now) frames.now) }
-    {
-        let mut models = Vec::new(alloc);
-        for frame in frames {
-            models.push(self.model(frame))?;
-        }
-        Ok(models)
     }
 }

@@ -1,6 +1,6 @@
 //! What is known of the names of a description, and of what they name.
 
-ghost use Rattle.std.specs.Prelude.{◌≡◌, ◌&&◌, IfOk, map, not, is_some};
+ghost use Rattle.std.specs.Prelude.{◌≡◌, ◌&&◌, IfOk, not, is_some};
 ghost use Rattle.std.specs.List.{list_any};
 ghost use Rattle.std.specs.Option.{option_map};
 ghost use Rattle.lin_cluster.specs.FindingsNames.{frame_named, sporadic_named, event_named, table_named, is_any_frame, is_event_entry, carries_frame};
@@ -10,6 +10,7 @@ ghost use Rattle.lin_cluster.specs.Known.{frame_facts, size_named};
 use super::facts::{FrameFacts, Signals, at};
 use super::known::{Known, carries_frame};
 use super::slots::{first_size, good_size, greatest_size};
+use super::walk::{Makes, made_of_each};
 use lin_description::{EventFrame, Name, Sporadic, Table, TableEntry};
 use std::alloc::{AllocError, Global};
 use std::marker::Model;
@@ -21,61 +22,37 @@ struct Sizes {
     events: Vec<Option<u32>>,
 }
 
-fn sizes_of(alloc: Global, known: &Known) -> Result<Sizes, AllocError>
-    ensures sporadic { IfOk result (λ n. n.sporadic.items ≡ map (λ f. greatest_size known.now f.members) known.now.sporadic) }
-    ensures events { IfOk result (λ n. n.events.items ≡ map (λ e. first_size known.now e.members) known.now.events) }
-{
-    let sporadic = sporadic_sizes(alloc, known, known.description().sporadic())?;
-    let events = event_sizes(alloc, known, known.description().events())?;
-    Ok(Sizes { sporadic, events })
-}
+impl<'a> Makes<Sporadic, Option<u32>> for Known<'a> {
+    ghost use Rattle.lin_cluster.specs.FindingsTables.{greatest_size};
 
-fn sporadic_sizes(
-    alloc: Global,
-    known: &Known,
-    frames: &[Sporadic],
-) -> Result<Vec<Option<u32>>, AllocError>
-    ensures { IfOk result (λ v. v.items ≡ map (λ f. greatest_size known.now f.members) frames.now) }
-{
-    let mut sizes = Vec::new(alloc);
-    for frame in frames {
-        let size = greatest_size(known, frame.members.as_slice());
-        sizes.push(size)?;
+    ghost makes = { λ d f. greatest_size d f.members };
+
+    fn make(&self, frame: &Sporadic) -> Option<u32> {
+        greatest_size(self, frame.members.as_slice())
     }
-    Ok(sizes)
 }
 
-fn event_sizes(
-    alloc: Global,
-    known: &Known,
-    events: &[EventFrame],
-) -> Result<Vec<Option<u32>>, AllocError>
-    ensures { IfOk result (λ v. v.items ≡ map (λ e. first_size known.now e.members) events.now) }
-{
-    let mut sizes = Vec::new(alloc);
-    for event in events {
-        let size = first_size(known, event.members.as_slice());
-        sizes.push(size)?;
+impl<'a> Makes<EventFrame, Option<u32>> for Known<'a> {
+    ghost use Rattle.lin_cluster.specs.FindingsTables.{first_size};
+
+    ghost makes = { λ d e. first_size d e.members };
+
+    fn make(&self, event: &EventFrame) -> Option<u32> {
+        first_size(self, event.members.as_slice())
     }
-    Ok(sizes)
 }
 
-fn has_event_entry(known: &Known, entries: &[TableEntry]) -> bool
-    ensures { result ≡ list_any (is_event_entry known.now) entries.now }
-{
-    entries.iter().any(|entry| known.is_event_entry(entry))
-}
+// Whether a table has an event-triggered entry.
+impl<'a> Makes<Table, bool> for Known<'a> {
+    ghost use Rattle.std.specs.List.{list_any};
+    ghost use Rattle.lin_cluster.specs.FindingsNames.{is_event_entry};
 
-// Of each table, whether it has an event-triggered entry.
-fn nested(alloc: Global, known: &Known, tables: &[Table]) -> Result<Vec<bool>, AllocError>
-    ensures { IfOk result (λ v. v.items ≡ map (λ t. list_any (is_event_entry known.now) t.entries) tables.now) }
-{
-    let mut nested = Vec::new(alloc);
-    for table in tables {
-        let is_nested = has_event_entry(known, table.entries.as_slice());
-        nested.push(is_nested)?;
+    ghost makes = { λ d t. list_any (is_event_entry d) t.entries };
+
+    fn make(&self, table: &Table) -> bool {
+        let entries = table.entries.as_slice();
+        entries.iter().any(|entry| self.is_event_entry(entry))
     }
-    Ok(nested)
 }
 
 /// What an entry says of its slot: whether it names nothing, and the data bytes that the slot has to hold.
@@ -123,15 +100,17 @@ impl<'k, 'a> Judged<'k, 'a> {
     pub(super) fn new(alloc: Global, known: &'k Known<'a>) -> Result<Judged<'k, 'a>, AllocError>
         ensures { IfOk result (λ j. j ≡ known.now) }
     {
+        let description = known.description();
         let signals = Signals::new(alloc, known)?;
-        let frames = signals.facts_of_frames(alloc, known.description().frames())?;
-        let sizes = sizes_of(alloc, known)?;
-        let nested = nested(alloc, known, known.description().tables())?;
+        let frames = made_of_each(alloc, &signals, description.frames())?;
+        let sporadic = made_of_each(alloc, known, description.sporadic())?;
+        let events = made_of_each(alloc, known, description.events())?;
+        let nested = made_of_each(alloc, known, description.tables())?;
         Ok(Judged {
             alloc,
             signals,
             frames,
-            sizes,
+            sizes: Sizes { sporadic, events },
             nested,
         })
     }

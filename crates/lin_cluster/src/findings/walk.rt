@@ -1,12 +1,13 @@
-//! Findings at places, and the one walk over items that adds what is found of each.
+//! Findings at places, the one walk over items that adds what is found of each, and the one that makes a list of what is worked out
+//! of each.
 
-ghost use Rattle.std.specs.Prelude.{◌≡◌, ◌++◌, OnOk};
+ghost use Rattle.std.specs.Prelude.{◌≡◌, ◌++◌, OnOk, IfOk, map};
 ghost use Rattle.std.specs.List.{flat_map};
 ghost use Rattle.lin_cluster.specs.FindingsNames.{at_name, at_number, when};
 
 use crate::finding::{Finding, FindingKind};
 use lin_description::{Name, Number, Place};
-use std::alloc::AllocError;
+use std::alloc::{AllocError, Global};
 
 /// What finds what is wrong with an item.
 pub(super) trait Finds<T> {
@@ -32,6 +33,31 @@ pub(super) fn each<T, F: Finds<T>>(
         finder.find(found, item)?;
     }
     Ok(())
+}
+
+/// What works something out of an item.
+pub(super) trait Makes<T, V> {
+    ghost makes: { Self → T → V };
+
+    fn make(&self, item: &T) -> V
+        ensures { result ≡ makes self.now item.now };
+}
+
+/// What is worked out of each item, in order; an error is want of memory.
+pub(super) fn made_of_each<T, V, M: Makes<T, V>>(
+    alloc: Global,
+    maker: &M,
+    items: &[T],
+) -> Result<Vec<V>, AllocError>
+where
+    V: Drop,
+    ensures { IfOk result (λ made. made.items ≡ map (M.makes maker.now) items.now) }
+{
+    let mut made = Vec::new(alloc);
+    for item in items {
+        made.push(maker.make(item))?;
+    }
+    Ok(made)
 }
 
 pub(super) fn at_name(kind: FindingKind, name: &Name) -> Finding
