@@ -75,7 +75,7 @@ record Apart (d : Description) (q p : PlacedSignal) : Type 0 where
   names : same_name q.signal p.signal ≡ false
   places : are_apart (described_place d q) (described_place d p) ≡ true
 
-apart-from : (d : Description) → NothingFound d → (f : Frame) (q p : PlacedSignal) → GoodPlaced d f q → GoodPlaced d f p → found.meets d p (the_signal d p) q ≡ false → Apart d q p
+apart-from : (d : Description) → NothingFound d → (f : Frame) (q p : PlacedSignal) → GoodPlaced d f q → GoodPlaced d f p → found.meets d p (the_signal d p).size.value q ≡ false → Apart d q p
 apart-from d none f q p earlier good e =
     let s = the_signal d p
     in let t = the_signal d q
@@ -93,9 +93,9 @@ pairs-apart d none f good i j x lt in' =
     let p = get_or f.placed j x
     in let q = get_or f.placed i x
     in let here = good.placed j x in'
-    in let overlap : list_any (found.meets d p (the_signal d p)) (take j f.placed) ≡ false = rw (signal-at d p here.within) at (good.apart j x in')
-    in let each = none-has (found.meets d p (the_signal d p)) (take j f.placed) overlap
-    in let meets : found.meets d p (the_signal d p) (get_or (take j f.placed) i x) ≡ false = each i x (omega (arith, length-take-le j f.placed (omega arith)))
+    in let overlap : list_any (found.meets d p (the_signal d p).size.value) (take j f.placed) ≡ false = rw (signal-at d p here.within) at (good.apart j x in')
+    in let each = none-has (found.meets d p (the_signal d p).size.value) (take j f.placed) overlap
+    in let meets : found.meets d p (the_signal d p).size.value (get_or (take j f.placed) i x) ≡ false = each i x (omega (arith, length-take-le j f.placed (omega arith)))
     in apart-from d none f q p (good.placed i x (omega arith)) here (rw (get_or-take j f.placed i x lt) at meets)
 
 all-apart : (xs : List Place) → AllPairs (λ p q. are_apart p q ≡ true) xs → all_apart xs ≡ true

@@ -22,6 +22,7 @@ use Rattle.lin_cluster.proofs.GoodParts.{good-frames, good-events, small-id}
 use Rattle.lin_parts.proofs.Identifiers.{all-carry}
 use Rattle.lin_cluster.proofs.KnownNames.{no_frame, frame-part}
 use Rattle.lin_cluster.proofs.NothingFound.{NothingFound}
+use Rattle.lin_cluster.specs.declared.finding.FindingKind.TheVariants.{BadId, IdTwice}
 use Rattle.lin_cluster.proofs.NothingIn.{each-nil, when-nil, any-of-map, two-counted}
 use Rattle.lin_parts.proofs.Pairs.{pairs-map}
 use Rattle.lin_parts.proofs.SoundClusters.{pid-low}
@@ -64,7 +65,7 @@ counts-itself x = counts x x refl (by-column x.line x.column x.line x.column ref
 once : (d : Description) → NothingFound d → (k : ℕ) (n : Number) → k < length (ids d) → count_by (counted (get_or (ids d) k n)) (ids d) ≤ 1
 once d none k n lt =
     let x = get_or (ids d) k n
-    in ltb-false 1 (count_by (counted x) (ids d)) (when-nil (is_repeated (ids d) x) (at_number 4 x) (each-nil (id_twice (ids d)) (ids d) none.ids_once k n lt))
+    in ltb-false 1 (count_by (counted x) (ids d)) (when-nil (is_repeated (ids d) x) (at_number IdTwice x) (each-nil (id_twice (ids d)) (ids d) none.ids_once k n lt))
 
 ids-apart : (d : Description) → NothingFound d → AllPairs (λ (x y : Number). x.value ≢ y.value) (ids d)
 ids-apart d none i j n lt in' same =
@@ -107,7 +108,7 @@ one-value x y small few same =
     in sym (pid-low x (omega (arith, small))) ∙ (e ∙ pid-low y (omega (arith, few)))
 
 small-ids : (d : Description) → NothingFound d → All (λ (n : Number). n.value < 60) (ids d)
-small-ids d none k n lt = small-id (get_or (ids d) k n).value (when-nil _ (at_number 3 (get_or (ids d) k n)) (each-nil bad_id (ids d) none.ids k n lt))
+small-ids d none k n lt = small-id (get_or (ids d) k n).value (when-nil _ (at_number BadId (get_or (ids d) k n)) (each-nil bad_id (ids d) none.ids k n lt))
 
 pids-apart : (d : Description) → NothingFound d → AllPairs ◌≢◌ (pids (parts_of d))
 pids-apart d none =

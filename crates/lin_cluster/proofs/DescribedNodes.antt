@@ -24,6 +24,7 @@ use Rattle.lin_cluster.proofs.GoodParts.{within-limits}
 use Rattle.lin_cluster.proofs.KnownNames.{no_name, nodes-count}
 use Rattle.lin_cluster.proofs.Named.{found-at, found-past}
 use Rattle.lin_cluster.proofs.NothingFound.{NothingFound}
+use Rattle.lin_cluster.specs.declared.finding.FindingKind.TheVariants.{BadNad, NadTwice}
 use Rattle.lin_cluster.proofs.NothingIn.{each-nil, when-nil, of-each, from-each, none-has}
 use Rattle.lin_parts.proofs.Pairs.{pairs-cons, pairs-map, pairs-first, pairs-rest}
 
@@ -107,14 +108,14 @@ given-address d n a some few b =
 good-addresses : (d : Description) → NothingFound d → All (λ (n : Number). IsAddress n.value) (addresses d)
 good-addresses d none k n lt =
     let v = (get_or (addresses d) k n).value
-    in let both = and_parts (nat_le 1 v) (nat_le v 125) (not-false (nat_le 1 v && nat_le v 125) (when-nil _ (at_number 11 (get_or (addresses d) k n)) (each-nil bad_nad (addresses d) none.nads k n lt)))
+    in let both = and_parts (nat_le 1 v) (nat_le v 125) (not-false (nat_le 1 v && nat_le v 125) (when-nil _ (at_number BadNad (get_or (addresses d) k n)) (each-nil bad_nad (addresses d) none.nads k n lt)))
     in (leb-true 1 v both.0, leb-true v 125 both.1)
 
 addresses-apart : (d : Description) → NothingFound d → AllPairs (λ (y x : Number). y.value ≢ x.value) (addresses d)
 addresses-apart d none i j n lt in' same =
     let ns = addresses d
     in let x = get_or ns j n
-    in let once : list_any (λ (y : Number). y.value == x.value) (take j ns) ≡ false = when-nil _ (at_number 12 x) (of-each (λ ix. nad_twice ns ix ≡ []) ns (each-nil (nad_twice ns) (enumerate_from 0 ns) none.nads_once) j n in')
+    in let once : list_any (λ (y : Number). y.value == x.value) (take j ns) ≡ false = when-nil _ (at_number NadTwice x) (of-each (λ ix. nad_twice ns ix ≡ []) ns (each-nil (nad_twice ns) (enumerate_from 0 ns) none.nads_once) j n in')
     in let each = none-has (λ (y : Number). y.value == x.value) (take j ns) once
     in let differ : ((get_or (take j ns) i n).value == x.value) ≡ false = each i n (omega (arith, length-take-le j ns (omega arith)))
     in let apart : ((get_or ns i n).value == x.value) ≡ false = rw (get_or-take j ns i n lt) at differ

@@ -32,3 +32,8 @@ each_step f xs i d before found more h so here =
 -- the same where the item is known by another name
 pub each_step_at : {A B : Type 0} (f : ℕ × A → List B) (xs : List A) (i : ℕ) (x : A) (before found more : List B) → i < length xs → get_or xs i x ≡ x → found ≡ before ++ flat_map f (take i (enumerate_from 0 xs)) → more ≡ found ++ f (i, x) → more ≡ before ++ flat_map f (take (i + 1) (enumerate_from 0 xs))
 each_step_at f xs i x before found more h is so here = each_step f xs i x before found more h so (here ∙ ap (λ y. found ++ f (i, y)) (sym is))
+
+-- four findings, one behind another
+pub four_more : {A : Type 0} (before one two three a b c x : List A) → one ≡ before ++ a → two ≡ one ++ b → three ≡ two ++ c → three ++ x ≡ before ++ (a ++ b ++ c ++ x)
+four_more before one two three a b c x first second third =
+    ap (λ l. l ++ x) (third ∙ ap (λ l. l ++ c) (second ∙ ap (λ l. l ++ b) first ∙ append_assoc before a b) ∙ append_assoc before (a ++ b) c) ∙ append_assoc before (a ++ b ++ c) x

@@ -1,10 +1,9 @@
 -- Maps from names to what they name first.
 use Rattle.std.proofs.Common.{◌≡◌, ℕ, ◌+◌, ◌<◌, Bool, true, false, cond, List, length, take, get_or, Option, Some, None, sym, ap, subst, refl, ◌∙◌}
-use Rattle.std.specs.Prelude.{if◌then◌else◌, ◌||◌, is_some, option_and_then}
+use Rattle.std.specs.Prelude.{if◌then◌else◌, ◌||◌, is_some}
 use Rattle.std.specs.Str.{bytes_eq}
 use Rattle.std.specs.List.{list_any}
 use Rattle.std.specs.Map.{update}
-use Rattle.std.specs.Option.{option_map, option_map_or}
 use Rattle.std.proofs.lemmas.Slice.Eq.{bytes_eq-Decides}
 use Rattle.std.proofs.lemmas.List.Folds.{list_any_more}
 use Rattle.lin_cluster.specs.Names.{or_else}
@@ -26,24 +25,6 @@ none_left None h = refl
 
 pub none_there : {A : Type 0} (bs : List ℕ) (old : List ℕ → Option A) → false ≡ is_some (old bs) → (q : List ℕ) → bytes_eq bs q ≡ true → old q ≡ None
 none_there bs old none q same = subst (λ (cs : List ℕ). old cs ≡ None) ((bytes_eq-Decides bs q).0 same) (none_left (old bs) none)
-
--- a test of what is made
-pub made_knows : {A : Type 0} (f : A → Bool) (o : Option A) (b : Bool) → Some b ≡ option_map f o → b ≡ option_map_or f o false
-made_knows f (Some x) b h = ap (λ m. option_map_or (λ y. y) m false) h
-made_knows f None b h = absurd (cc)
-
-pub made_none : {A : Type 0} (f : A → Bool) (o : Option A) → None ≡ option_map f o → false ≡ option_map_or f o false
-made_none f (Some x) h = absurd (cc)
-made_none f None h = refl
-
--- what is made of it, where that is itself an option
-pub made_then : {A V : Type 0} (f : A → Option V) (o : Option A) (v : Option V) → Some v ≡ option_map f o → v ≡ option_and_then f o
-made_then f (Some x) v h = ap (λ m. option_and_then (λ y. y) m) h
-made_then f None v h = absurd (cc)
-
-pub made_then_none : {A V : Type 0} (f : A → Option V) (o : Option A) → None ≡ option_map f o → None ≡ option_and_then f o
-made_then_none f (Some x) h = absurd (cc)
-made_then_none f None h = refl
 
 -- a set with one more item
 pub seen_more : {A : Type 0} (p : A → Bool) (xs : List A) (i : ℕ) (d : A) (b old new : Bool) → i < length xs → b ≡ p (get_or xs i d) → old ≡ list_any p (take i xs) → new ≡ (old || b) → new ≡ list_any p (take (i + 1) xs)

@@ -1,18 +1,17 @@
 -- Publishers that are compared by the numbers of their nodes.
 use Rattle.std.proofs.Common.{◌≡◌, ◌<◌, ◌≤◌, ℕ, ◌+◌, Bool, true, false, cond, List, length, refl, sym, ap, subst, ◌∙◌, arith, one-add}
-use Rattle.std.specs.Prelude.{Option, Some, None, is_some, not, ◌==◌, ◌&&◌, ◌||◌, nat_lt, slice_get, option_and_then}
+use Rattle.std.specs.Prelude.{Option, Some, None, is_some, not, ◌==◌, ◌&&◌, ◌||◌, nat_lt}
 use Rattle.std.specs.List.{list_any, position_or_len}
-use Rattle.std.specs.Option.{option_map_or}
 use Rattle.std.specs.Str.{bytes_eq}
 use Rattle.std.proofs.lemmas.Bool.{eqb-true, eq-eqb, lt-ltb}
 use Rattle.std.proofs.Math.Dec.{eqb-suc-zero}
 use Rattle.lin_cluster.specs.Described.{node_names, node_number}
 use Rattle.lin_cluster.specs.FindingsFrames.{wrong_publisher_at}
-use Rattle.lin_cluster.specs.FindingsMembers.{is_bad_behind, is_wrong_behind}
-use Rattle.lin_cluster.specs.FindingsNames.{at_name, when, same_name, is_node, is_responder, signal_named, frame_named, is_any_frame, knows}
+use Rattle.lin_cluster.specs.FindingsNames.{at_name, when, same_name, is_node, is_responder, signal_named, frame_named, knows}
 use Rattle.lin_cluster.specs.FindingsNodes.{node_of, is_number, is_behind_commander, are_two, wrong_publisher_by}
-use Rattle.lin_cluster.specs.FindingsTables.{has_publisher, differs_from_first, is_in_front, is_bad_member, is_wrong_member}
+use Rattle.lin_cluster.specs.FindingsTables.{has_publisher}
 use Rattle.lin_cluster.proofs.KnownNames.{node-same, same-node}
+use Rattle.lin_cluster.specs.declared.finding.FindingKind.TheVariants.{WrongPublisher}
 use Rattle.lin_cluster.proofs.Named.{same-text, text-same, within-any, past-any}
 use Rattle.lin_description.specs.declared.description.Description.{Description}
 use Rattle.lin_description.specs.declared.description.Frame.{Frame}
@@ -65,6 +64,19 @@ alike false false there back = refl
 same-names : (a b : Name) → same_name a b ≡ same_name b a
 same-names a b = alike (same_name a b) (same_name b a) (λ e. text-same b.text a.text (sym (same-text a.text b.text e))) (λ e. text-same a.text b.text (sym (same-text b.text a.text e)))
 
+behind-same : (b rest other : Bool) → other ≡ b → (not b && rest) ≡ ((b || rest) && not other)
+behind-same true rest true e = refl
+behind-same true true false e = absurd (cc)
+behind-same true false false e = absurd (cc)
+behind-same false true true e = absurd (cc)
+behind-same false false true e = refl
+behind-same false true false e = refl
+behind-same false false false e = refl
+
+-- and is a node that the commander isn't
+pub behind-commander : (d : Description) (n : Name) → is_behind_commander (node_of d n) ≡ (is_node d n && not (same_name n d.master))
+behind-commander d n = behind-responder d n ∙ behind-same (same_name d.master n) (list_any (λ m. same_name m n) d.slaves) (same_name n d.master) (same-names n d.master)
+
 -- ---- two publishers
 
 both-known : (d : Description) (a b : Name) → is_node d a ≡ true → is_node d b ≡ true → same_name a b ≡ (node_number d a == node_number d b)
@@ -82,7 +94,7 @@ elsewhere d a b =
     ] refl
 
 pub wrong-by : (d : Description) (f : Frame) → wrong_publisher_by d (node_of d f.publisher) ≡ wrong_publisher_at d f
-wrong-by d f = λ i p. when (knows (signal_named d p.signal) (λ s. elsewhere d s.publisher f.publisher i)) (at_name 2 p.signal)
+wrong-by d f = λ i p. when (knows (signal_named d p.signal) (λ s. elsewhere d s.publisher f.publisher i)) (at_name WrongPublisher p.signal)
 
 -- ---- publishers of members
 
@@ -108,30 +120,16 @@ commander-by true rest k = refl
 commander-by false true k = rw one-add (eqb-suc-zero k)
 commander-by false false k = refl
 
-commanders : (d : Description) (a : Name) → is_number 0 (node_of d a) ≡ same_name a d.master
+pub commanders : (d : Description) (a : Name) → is_number 0 (node_of d a) ≡ same_name a d.master
 commanders d a = commander-by (same_name d.master a) (list_any (λ m. same_name m a) d.slaves) (position_or_len (λ m. bytes_eq m.text a.text) d.slaves) ∙ same-names d.master a
 
 -- whether the node with a number publishes one of some members
 abbrev pub publishes : Description → List Name → ℕ → Bool
 publishes d members k = list_any (λ m. knows (frame_named d m) (λ g. is_number k (node_of d g.publisher))) members
 
-published-same : (d : Description) (earlier : List Name) (published : ℕ → Bool) (a : Name) → ((k : ℕ) → published k ≡ publishes d earlier k) → knows (node_of d a) published ≡ (is_node d a && list_any (has_publisher d a) earlier)
+pub published-same : (d : Description) (earlier : List Name) (published : ℕ → Bool) (a : Name) → ((k : ℕ) → published k ≡ publishes d earlier k) → knows (node_of d a) published ≡ (is_node d a && list_any (has_publisher d a) earlier)
 published-same d earlier published a so =
     elim (is_node d a) as (λ t. is_node d a ≡ t → knows (cond t (Some (node_number d a)) None) published ≡ (t && list_any (has_publisher d a) earlier)) [
       | true ↦ λ e. so (node_number d a) ∙ (λ i. list_any (λ m. knows (frame_named d m) (λ g. same-number d g.publisher a e i)) earlier)
       | false ↦ λ e. refl
     ] refl
-
-bad-same : (d : Description) (members earlier : List Name) (published : ℕ → Bool) (f : Frame) → ((k : ℕ) → published k ≡ publishes d earlier k)
-    → is_bad_behind (option_and_then (frame_named d) (slice_get members 0)) published (node_of d f.publisher) (list_any (is_in_front d) f.placed) f ≡ is_bad_member d members earlier f
-bad-same d members earlier published f so = λ i.
-    commanders d f.publisher i
-    || published-same d earlier published f.publisher so i
-    || differs_from_first d members f
-    || list_any (is_in_front d) f.placed
-
--- a wrong member by the first member and the publishers of those before it
-pub same_wrong : (d : Description) (members earlier : List Name) (first : Option Frame) (published : ℕ → Bool) (m : Name) → first ≡ option_and_then (frame_named d) (slice_get members 0) → ((k : ℕ) → published k ≡ publishes d earlier k)
-    → is_wrong_behind d first published m ≡ is_wrong_member d members earlier m
-same_wrong d members earlier first published m is so =
-    (λ i. is_wrong_behind d (is i) published m) ∙ (λ i. is_any_frame d m && option_map_or (λ f. bad-same d members earlier published f so i) (frame_named d m) true)

@@ -60,7 +60,7 @@ no_bits m h = grind (arith, nat_tests)
 abbrev Shares : Description → ℕ → ℕ → List PlacedSignal → Bool → Bool
 Shares d a m xs b = list_any (λ (q : PlacedSignal). knows (signal_named d q.signal) (λ t. b && nat_lt 0 t.size.value && nat_lt a (q.offset.value + t.size.value) && nat_lt q.offset.value (a + m))) xs
 
-bits_taken : (d : Description) (ranges : BTreeMap ℕ ℕ) (a m : ℕ) (xs : List PlacedSignal) → ((b e : ℕ) → b < e → Meets ranges b e ↔ (list_any (λ q. knows (signal_named d q.signal) (lies_in b e q)) xs ≡ true))
+bits_taken : (d : Description) (ranges : BTreeMap ℕ ℕ) (a m : ℕ) (xs : List PlacedSignal) → ((b e : ℕ) → b < e → Meets ranges b e ↔ (list_any (λ q. knows (signal_named d q.signal) (λ t. lies_in b e q t.size.value)) xs ≡ true))
     → (list_any (λ q. knows (signal_named d q.signal) (λ t. share_bit a m q.offset.value t.size.value)) xs ≡ true) ↔ ((0 < m) × Meets ranges a (a + m))
 bits_taken d ranges a m xs so =
     elim (cases_lt 0 m) as (λ _. (list_any (λ q. knows (signal_named d q.signal) (λ t. share_bit a m q.offset.value t.size.value)) xs ≡ true) ↔ ((0 < m) × Meets ranges a (a + m))) [
@@ -73,16 +73,16 @@ bits_taken d ranges a m xs so =
           (λ h. absurd (let no : true ≡ false = sym h ∙ e in cc), λ met. absurd (let low : 0 < m = met.0 in omega arith))
     ]
 
-pub taken : {V S : Type 0} (d : Description) (names : IndexMap (Bor (List ℕ)) V S) (ranges : BTreeMap ℕ ℕ) (xs : List PlacedSignal) (p : PlacedSignal) (s : Signal)
+pub taken : {V S : Type 0} (d : Description) (names : IndexMap (Bor (List ℕ)) V S) (ranges : BTreeMap ℕ ℕ) (xs : List PlacedSignal) (p : PlacedSignal) (size : ℕ)
     → ((q : List ℕ) → has_text names q ≡ list_any (λ x. bytes_eq x.signal.text q) xs)
-    → ((b e : ℕ) → b < e → Meets ranges b e ↔ (list_any (λ q. knows (signal_named d q.signal) (lies_in b e q)) xs ≡ true))
-    → (list_any (meets d p s) xs ≡ true) ↔ IsTaken names ranges p s
-taken d names ranges xs p s named so =
+    → ((b e : ℕ) → b < e → Meets ranges b e ↔ (list_any (λ q. knows (signal_named d q.signal) (λ t. lies_in b e q t.size.value)) xs ≡ true))
+    → (list_any (meets d p size) xs ≡ true) ↔ IsTaken names ranges p size
+taken d names ranges xs p size named so =
     let f : PlacedSignal → Bool = λ q. same_name q.signal p.signal in
-    let g : PlacedSignal → Bool = λ q. knows (signal_named d q.signal) (λ t. share_bit p.offset.value s.size.value q.offset.value t.size.value) in
-    let e : list_any (meets d p s) xs ≡ (list_any f xs || list_any g xs) = any_either f g xs in
-    let bits = bits_taken d ranges p.offset.value s.size.value xs so in (
-      λ h. elim (either (list_any f xs) (list_any g xs) (sym e ∙ h)) as (λ _. IsTaken names ranges p s) [
+    let g : PlacedSignal → Bool = λ q. knows (signal_named d q.signal) (λ t. share_bit p.offset.value size q.offset.value t.size.value) in
+    let e : list_any (meets d p size) xs ≡ (list_any f xs || list_any g xs) = any_either f g xs in
+    let bits = bits_taken d ranges p.offset.value size xs so in (
+      λ h. elim (either (list_any f xs) (list_any g xs) (sym e ∙ h)) as (λ _. IsTaken names ranges p size) [
         | inl name ↦ inl (named p.signal.text ∙ name)
         | inr bit ↦ inr (bits.0 bit)
       ],
@@ -108,9 +108,9 @@ more_bits old new p xs i d lt is so here =
 named_never : {V S : Type 0} (names : IndexMap (Bor (List ℕ)) V S) (q : List ℕ) → false ≡ has_text names q → has_text names q ≡ true → ⊥
 named_never names q unnamed named = absurd (let e : false ≡ true = unnamed ∙ named in cc)
 
-pub taken_by_bits : {V S : Type 0} (names : IndexMap (Bor (List ℕ)) V S) (ranges : BTreeMap ℕ ℕ) (p : PlacedSignal) (s : Signal) (start size : ℕ) (b : Bool) → false ≡ has_text names p.signal.text → start ≡ p.offset.value → size ≡ s.size.value → 0 < size
-    → ((b ≡ true) ↔ Meets ranges start (start + size)) → (b ≡ true) ↔ IsTaken names ranges p s
-taken_by_bits names ranges p s start size b unnamed at wide some met =
+pub taken_by_bits : {V S : Type 0} (names : IndexMap (Bor (List ℕ)) V S) (ranges : BTreeMap ℕ ℕ) (p : PlacedSignal) (bits start size : ℕ) (b : Bool) → false ≡ has_text names p.signal.text → start ≡ p.offset.value → size ≡ bits → 0 < size
+    → ((b ≡ true) ↔ Meets ranges start (start + size)) → (b ≡ true) ↔ IsTaken names ranges p bits
+taken_by_bits names ranges p bits start size b unnamed at wide some met =
     let there = subst (λ (xy : ℕ × ℕ). Meets ranges xy.0 (xy.0 + xy.1)) (λ i. (at i, wide i)) in
     let back = subst (λ (xy : ℕ × ℕ). Meets ranges xy.0 (xy.0 + xy.1)) (λ i. (sym at i, sym wide i)) in (
       λ e. inr (subst (λ n. 0 < n) wide some, there (met.0 e)),
@@ -120,12 +120,12 @@ taken_by_bits names ranges p s start size b unnamed at wide some met =
       ],
     )
 
-pub taken_by_none : {V S : Type 0} (names : IndexMap (Bor (List ℕ)) V S) (ranges : BTreeMap ℕ ℕ) (p : PlacedSignal) (s : Signal) (size : ℕ) → false ≡ has_text names p.signal.text → size ≡ s.size.value → size ≤ 0 → (nat_lt 0 size ≡ true) ↔ IsTaken names ranges p s
-taken_by_none names ranges p s size unnamed wide none = (
+pub taken_by_none : {V S : Type 0} (names : IndexMap (Bor (List ℕ)) V S) (ranges : BTreeMap ℕ ℕ) (p : PlacedSignal) (bits size : ℕ) → false ≡ has_text names p.signal.text → size ≡ bits → size ≤ 0 → (nat_lt 0 size ≡ true) ↔ IsTaken names ranges p bits
+taken_by_none names ranges p bits size unnamed wide none = (
   λ e. absurd (let never : true ≡ false = sym e ∙ no_bits size none in cc),
   λ t. elim t as (λ _. nat_lt 0 size ≡ true) [
     | inl name ↦ absurd (named_never names p.signal.text unnamed name)
-    | inr here ↦ absurd (let some : 0 < s.size.value = here.0 in omega arith)
+    | inr here ↦ absurd (let some : 0 < bits = here.0 in omega arith)
   ],
 )
 
@@ -138,20 +138,16 @@ lies_low m o a b h = grind (arith, nat_tests)
 lies_high : (m o a b : ℕ) → (nat_lt 0 m && nat_lt a (o + m) && nat_lt o b) ≡ true → a < o + m
 lies_high m o a b h = grind (arith, nat_tests)
 
-pub added_bits : (d : Description) (p : PlacedSignal) (s : Signal) (start size a b : ℕ) (old new : Type 0) → Some s ≡ signal_named d p.signal → start ≡ p.offset.value → size ≡ s.size.value → 0 < s.size.value
-    → (new ↔ (old ⊎ ((start < b) × (a < start + size)))) → new ↔ (old ⊎ (knows (signal_named d p.signal) (lies_in a b p) ≡ true))
-added_bits d p s start size a b old new found at wide some same =
-    let e : knows (signal_named d p.signal) (lies_in a b p) ≡ lies_in a b p s = ap (λ o. knows o (lies_in a b p)) (sym found) in
-    let m : ℕ = s.size.value in
+pub added_bits : (p : PlacedSignal) (bits start size a b : ℕ) (old new : Type 0) → start ≡ p.offset.value → size ≡ bits → 0 < bits
+    → (new ↔ (old ⊎ ((start < b) × (a < start + size)))) → new ↔ (old ⊎ (lies_in a b p bits ≡ true))
+added_bits p bits start size a b old new at wide some same =
     let o : ℕ = p.offset.value in (
-      λ h. elim (same.0 h) as (λ _. old ⊎ (knows (signal_named d p.signal) (lies_in a b p) ≡ true)) [
+      λ h. elim (same.0 h) as (λ _. old ⊎ (lies_in a b p bits ≡ true)) [
         | inl past ↦ inl past
-        | inr now ↦ inr (e ∙ lies_from m o a b some (subst (λ x. x < b) at now.0) (subst (λ (xy : ℕ × ℕ). a < xy.0 + xy.1) (λ i. (at i, wide i)) now.1))
+        | inr now ↦ inr (lies_from bits o a b some (subst (λ x. x < b) at now.0) (subst (λ (xy : ℕ × ℕ). a < xy.0 + xy.1) (λ i. (at i, wide i)) now.1))
       ],
       λ h. same.1 (elim h as (λ _. old ⊎ ((start < b) × (a < start + size))) [
         | inl past ↦ inl past
-        | inr now ↦
-            let lies : lies_in a b p s ≡ true = sym e ∙ now in
-            inr (subst (λ x. x < b) (sym at) (lies_low m o a b lies), subst (λ (xy : ℕ × ℕ). a < xy.0 + xy.1) (λ i. (sym at i, sym wide i)) (lies_high m o a b lies))
+        | inr now ↦ inr (subst (λ x. x < b) (sym at) (lies_low bits o a b now), subst (λ (xy : ℕ × ℕ). a < xy.0 + xy.1) (λ i. (sym at i, sym wide i)) (lies_high bits o a b now))
       ]),
     )

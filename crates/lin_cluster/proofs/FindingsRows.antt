@@ -3,7 +3,8 @@ use Rattle.std.proofs.Common.{◌≡◌, ℕ, List, [], ◌∷◌, false, refl}
 use Rattle.std.specs.Prelude.{◌+◌, codes, Some, None}
 use Rattle.lin_cluster.specs.Findings.{candidates}
 use Rattle.lin_cluster.specs.FindingsFrames.{ids_twice}
-use Rattle.lin_cluster.specs.FindingsNames.{finding_at}
+use Rattle.lin_cluster.specs.declared.finding.FindingKind.TheVariants.{SlotTooShort, UnknownName, WrongPublisher, BadId, IdTwice, BadSize, SignalOutside, SignalsOverlap, BadInit, ZeroDelay, BadNad, NadTwice, BadEventFrame, BadSporadic, NestedCollision, EmptyTable, LimitPassed, MixedChecksum}
+use Rattle.lin_cluster.specs.Kinds.{finding_at}
 use Rattle.lin_description.specs.declared.description.Attributes.{Attributes}
 use Rattle.lin_description.specs.declared.description.Description.{Description}
 use Rattle.lin_description.specs.declared.description.EventFrame.{EventFrame}
@@ -95,84 +96,84 @@ pub nothing-found : candidates body ≡ []
 nothing-found = refl
 
 -- a subscriber that is no node
-pub unknown-name : candidates (record body { signals = (record level { subscribers = name (codes "ghost") 6 40 ∷ [] }) ∷ lkey ∷ [] }) ≡ finding_at 1 6 40 ∷ []
+pub unknown-name : candidates (record body { signals = (record level { subscribers = name (codes "ghost") 6 40 ∷ [] }) ∷ lkey ∷ [] }) ≡ finding_at UnknownName 6 40 ∷ []
 unknown-name = refl
 
 -- a signal of the responder in a frame of the commander
-pub wrong-publisher : candidates (record body { frames = (record light { placed = placed 11 40 (codes "lkey") 0 ∷ [] }) ∷ left ∷ [] }) ≡ finding_at 2 11 40 ∷ []
+pub wrong-publisher : candidates (record body { frames = (record light { placed = placed 11 40 (codes "lkey") 0 ∷ [] }) ∷ left ∷ [] }) ≡ finding_at WrongPublisher 11 40 ∷ []
 wrong-publisher = refl
 
 -- 59 is the last identifier of signals
 pub last-identifier : candidates (record body { frames = (record light { id = number 59 11 10 }) ∷ left ∷ [] }) ≡ []
 last-identifier = refl
 
-pub bad-identifier : candidates (record body { frames = (record light { id = number 60 11 10 }) ∷ left ∷ [] }) ≡ finding_at 3 11 10 ∷ []
+pub bad-identifier : candidates (record body { frames = (record light { id = number 60 11 10 }) ∷ left ∷ [] }) ≡ finding_at BadId 11 10 ∷ []
 bad-identifier = refl
 
 -- the event-triggered frame stands behind the frame; in the other order the frame is the later one
-pub identifier-twice : candidates (record body { events = (record keys { id = number 2 21 20 }) ∷ [] }) ≡ finding_at 4 21 20 ∷ []
+pub identifier-twice : candidates (record body { events = (record keys { id = number 2 21 20 }) ∷ [] }) ≡ finding_at IdTwice 21 20 ∷ []
 identifier-twice = refl
 
-pub identifier-twice-before : candidates (record body { events = (record keys { id = number 2 3 20 }) ∷ [] }) ≡ finding_at 4 12 10 ∷ []
+pub identifier-twice-before : candidates (record body { events = (record keys { id = number 2 3 20 }) ∷ [] }) ≡ finding_at IdTwice 12 10 ∷ []
 identifier-twice-before = refl
 
 -- two at one place count as each other's earlier one
-pub identifier-twice-at-one-place : ids_twice (record body { events = (record keys { id = number 2 12 10 }) ∷ [] }) ≡ finding_at 4 12 10 ∷ finding_at 4 12 10 ∷ []
+pub identifier-twice-at-one-place : ids_twice (record body { events = (record keys { id = number 2 12 10 }) ∷ [] }) ≡ finding_at IdTwice 12 10 ∷ finding_at IdTwice 12 10 ∷ []
 identifier-twice-at-one-place = refl
 
 -- a scalar of 17 bits at bit 0 of a frame of 16: its initial value is not judged
-pub bad-size : candidates (record body { signals = signal 6 (codes "level") 17 70000 (codes "cem") ∷ lkey ∷ [] }) ≡ finding_at 5 6 10 ∷ finding_at 6 11 45 ∷ []
+pub bad-size : candidates (record body { signals = signal 6 (codes "level") 17 70000 (codes "cem") ∷ lkey ∷ [] }) ≡ finding_at BadSize 6 10 ∷ finding_at SignalOutside 11 45 ∷ []
 bad-size = refl
 
 -- the last bit of 16, and one beyond
 pub last-bit : candidates (record body { frames = (record light { placed = placed 11 40 (codes "level") 12 ∷ [] }) ∷ left ∷ [] }) ≡ []
 last-bit = refl
 
-pub signal-outside : candidates (record body { frames = (record light { placed = placed 11 40 (codes "level") 13 ∷ [] }) ∷ left ∷ [] }) ≡ finding_at 6 11 45 ∷ []
+pub signal-outside : candidates (record body { frames = (record light { placed = placed 11 40 (codes "level") 13 ∷ [] }) ∷ left ∷ [] }) ≡ finding_at SignalOutside 11 45 ∷ []
 signal-outside = refl
 
 -- bits 0 to 3, then bits 3 to 6 of another signal, then the first signal again at bit 8
-pub signals-overlapping : candidates (record body { signals = level ∷ lkey ∷ signal 8 (codes "mode") 4 0 (codes "cem") ∷ []; frames = (record light { placed = placed 11 40 (codes "level") 0 ∷ placed 11 60 (codes "mode") 3 ∷ placed 11 80 (codes "level") 8 ∷ [] }) ∷ left ∷ [] }) ≡ finding_at 7 11 65 ∷ finding_at 7 11 85 ∷ []
+pub signals-overlapping : candidates (record body { signals = level ∷ lkey ∷ signal 8 (codes "mode") 4 0 (codes "cem") ∷ []; frames = (record light { placed = placed 11 40 (codes "level") 0 ∷ placed 11 60 (codes "mode") 3 ∷ placed 11 80 (codes "level") 8 ∷ [] }) ∷ left ∷ [] }) ≡ finding_at SignalsOverlap 11 65 ∷ finding_at SignalsOverlap 11 85 ∷ []
 signals-overlapping = refl
 
-pub bad-initial : candidates (record body { signals = signal 6 (codes "level") 4 16 (codes "cem") ∷ lkey ∷ [] }) ≡ finding_at 8 6 20 ∷ []
+pub bad-initial : candidates (record body { signals = signal 6 (codes "level") 4 16 (codes "cem") ∷ lkey ∷ [] }) ≡ finding_at BadInit 6 20 ∷ []
 bad-initial = refl
 
 -- two bytes need 100 + 1,400,000 * 64 / 19,200 = 4,766.7 microseconds, rounded up
-pub slot-too-short : candidates (record body { tables = main_table (entry 32 (codes "Spor") 4767 ∷ entry 33 (codes "Spor") 4766 ∷ []) ∷ resolve ∷ [] }) ≡ (record { line = 33; column = 1; number = 9; needed_us = 4767 }) ∷ []
+pub slot-too-short : candidates (record body { tables = main_table (entry 32 (codes "Spor") 4767 ∷ entry 33 (codes "Spor") 4766 ∷ []) ∷ resolve ∷ [] }) ≡ finding_at (SlotTooShort 4767) 33 1 ∷ []
 slot-too-short = refl
 
-pub zero-delay : candidates (record body { tables = main_table (entry 32 (codes "Spor") 0 ∷ []) ∷ resolve ∷ [] }) ≡ finding_at 10 32 10 ∷ []
+pub zero-delay : candidates (record body { tables = main_table (entry 32 (codes "Spor") 0 ∷ []) ∷ resolve ∷ [] }) ≡ finding_at ZeroDelay 32 10 ∷ []
 zero-delay = refl
 
 -- the commander's address is not judged
-pub bad-address : candidates (record body { attributes = address_of 26 (codes "lsm") 126 ∷ address_of 27 (codes "cem") 127 ∷ [] }) ≡ finding_at 11 26 20 ∷ []
+pub bad-address : candidates (record body { attributes = address_of 26 (codes "lsm") 126 ∷ address_of 27 (codes "cem") 127 ∷ [] }) ≡ finding_at BadNad 26 20 ∷ []
 bad-address = refl
 
-pub address-twice : candidates (record body { slaves = name (codes "lsm") 5 30 ∷ name (codes "rsm") 5 40 ∷ []; attributes = address_of 26 (codes "cem") 1 ∷ address_of 27 (codes "lsm") 1 ∷ address_of 28 (codes "rsm") 1 ∷ [] }) ≡ finding_at 12 28 20 ∷ []
+pub address-twice : candidates (record body { slaves = name (codes "lsm") 5 30 ∷ name (codes "rsm") 5 40 ∷ []; attributes = address_of 26 (codes "cem") 1 ∷ address_of 27 (codes "lsm") 1 ∷ address_of 28 (codes "rsm") 1 ∷ [] }) ≡ finding_at NadTwice 28 20 ∷ []
 address-twice = refl
 
 -- the same frame twice, a sporadic frame, and a frame of the commander of the same size
-pub bad-members : candidates (record body { events = (record keys { members = name (codes "LeftKey") 21 30 ∷ name (codes "LeftKey") 21 40 ∷ name (codes "Spor") 21 50 ∷ name (codes "Light") 21 60 ∷ [] }) ∷ [] }) ≡ finding_at 13 21 40 ∷ finding_at 13 21 50 ∷ finding_at 13 21 60 ∷ []
+pub bad-members : candidates (record body { events = (record keys { members = name (codes "LeftKey") 21 30 ∷ name (codes "LeftKey") 21 40 ∷ name (codes "Spor") 21 50 ∷ name (codes "Light") 21 60 ∷ [] }) ∷ [] }) ≡ finding_at BadEventFrame 21 40 ∷ finding_at BadEventFrame 21 50 ∷ finding_at BadEventFrame 21 60 ∷ []
 bad-members = refl
 
-pub bad-sporadic-frame : candidates (record body { sporadic = (record spor { members = name (codes "Light") 16 10 ∷ name (codes "LeftKey") 16 20 ∷ [] }) ∷ [] }) ≡ finding_at 14 16 20 ∷ []
+pub bad-sporadic-frame : candidates (record body { sporadic = (record spor { members = name (codes "Light") 16 10 ∷ name (codes "LeftKey") 16 20 ∷ [] }) ∷ [] }) ≡ finding_at BadSporadic 16 20 ∷ []
 bad-sporadic-frame = refl
 
-pub nested-collision : candidates (record body { events = (record keys { table = name (codes "Main") 21 10 }) ∷ [] }) ≡ finding_at 15 21 10 ∷ []
+pub nested-collision : candidates (record body { events = (record keys { table = name (codes "Main") 21 10 }) ∷ [] }) ≡ finding_at NestedCollision 21 10 ∷ []
 nested-collision = refl
 
-pub empty-table : candidates (record body { tables = main_table [] ∷ resolve ∷ [] }) ≡ finding_at 16 31 1 ∷ []
+pub empty-table : candidates (record body { tables = main_table [] ∷ resolve ∷ [] }) ≡ finding_at EmptyTable 31 1 ∷ []
 empty-table = refl
 
-pub no-table : candidates (record body { events = []; tables = [] }) ≡ finding_at 16 1 1 ∷ []
+pub no-table : candidates (record body { events = []; tables = [] }) ≡ finding_at EmptyTable 1 1 ∷ []
 no-table = refl
 
 -- the limits of time and speed are good, and one more isn't
 pub limits : candidates (record body { speed = number 20000 4 1; time_base = number 1000000000 5 10; jitter = number 100 5 20 }) ≡ []
 limits = refl
 
-pub limits-passed : candidates (record body { speed = number 20001 4 1; time_base = number 1000000001 5 10 }) ≡ finding_at 17 4 1 ∷ finding_at 17 5 10 ∷ []
+pub limits-passed : candidates (record body { speed = number 20001 4 1; time_base = number 1000000001 5 10 }) ≡ finding_at LimitPassed 4 1 ∷ finding_at LimitPassed 5 10 ∷ []
 limits-passed = refl
 
 -- two responders of these versions, each with a frame, and an event-triggered frame that lists both
@@ -188,7 +189,7 @@ two_keys blocks = record body {
   attributes = blocks;
 }
 
-pub mixed-checksum : candidates (two_keys (of_version 26 (codes "lsm") (codes "1.3") ∷ of_version 27 (codes "rsm") (codes "2.2") ∷ [])) ≡ finding_at 18 21 40 ∷ []
+pub mixed-checksum : candidates (two_keys (of_version 26 (codes "lsm") (codes "1.3") ∷ of_version 27 (codes "rsm") (codes "2.2") ∷ [])) ≡ finding_at MixedChecksum 21 40 ∷ []
 mixed-checksum = refl
 
 pub one-checksum : candidates (two_keys (of_version 26 (codes "lsm") (codes "1.3") ∷ of_version 27 (codes "rsm") (codes "1.2") ∷ [])) ≡ []

@@ -18,6 +18,7 @@ pub mod FindingsRepeats
 pub mod FindingsRows
 pub mod GoodParts
 pub mod KnownNames
+pub mod Made
 pub mod Named
 pub mod NothingFound
 pub mod NothingIn

@@ -1,18 +1,66 @@
--- What is wrong with a description: all that each condition finds, in the order of the places.
-use Rattle.std.specs.Prelude.{◌≡◌, List, [], ◌++◌, IsPermutation, IsSorted}
+-- What is wrong with a description: what each condition finds, declaration by declaration, in the order of the places.
+use Rattle.std.specs.Prelude.{◌≡◌, ℕ, List, [], ◌++◌, flat_map, IsPermutation, IsSorted}
+use Rattle.std.specs.List.{enumerate_from}
 use Rattle.std.specs.declared.cmp.Ordering.{Ordering}
 use Rattle.std.specs.Ordering.{nat_cmp, ordering_then}
-use Rattle.lin_cluster.specs.FindingsFrames.{unknown_names, wrong_publishers, bad_ids, ids_twice, bad_sizes, signals_outside, signals_overlap, bad_inits, bad_nads, nads_twice}
-use Rattle.lin_cluster.specs.FindingsTables.{slots_too_short, zero_delays, bad_event_frames, bad_sporadics, nested_collisions, empty_tables, limits_passed, mixed_checksums}
+use Rattle.lin_cluster.specs.FindingsFrames.{unknown_node, unknown_member, unknown_signal, unknown_table, unknown_entry, wrong_publisher_at, bad_ids, ids_twice, bad_signal_size, bad_frame_size, outside_at, overlap_at, bad_init, bad_nads, nads_twice}
+use Rattle.lin_cluster.specs.FindingsTables.{short_slot_at, zero_delay, bad_member_at, bad_sporadic_at, nested_at, empty_table, no_table, long_delay, long_table, limits_passed, mixed_at}
 use Rattle.lin_cluster.specs.declared.finding.Finding.{Finding}
+use Rattle.lin_description.specs.declared.description.Attributes.{Attributes}
 use Rattle.lin_description.specs.declared.description.Description.{Description}
+use Rattle.lin_description.specs.declared.description.EventFrame.{EventFrame}
+use Rattle.lin_description.specs.declared.description.Frame.{Frame}
+use Rattle.lin_description.specs.declared.description.Name.{Name}
+use Rattle.lin_description.specs.declared.description.PlacedSignal.{PlacedSignal}
+use Rattle.lin_description.specs.declared.description.Signal.{Signal}
+use Rattle.lin_description.specs.declared.description.Sporadic.{Sporadic}
+use Rattle.lin_description.specs.declared.description.Table.{Table}
+use Rattle.lin_description.specs.declared.description.TableEntry.{TableEntry}
 
--- the findings of each condition
+-- ---- the findings of each declaration
+
+abbrev pub in_signal : Description → Signal → List Finding
+in_signal d s = unknown_node d s.publisher ++ flat_map (unknown_node d) s.subscribers ++ bad_signal_size s ++ bad_init s
+
+-- the signal with this number of those that a frame places
+abbrev pub in_placed : Description → Frame → List PlacedSignal → ℕ × PlacedSignal → List Finding
+in_placed d f placed ip = unknown_signal d ip.1 ++ wrong_publisher_at d f ip.1 ++ outside_at d f ip.1 ++ overlap_at d placed ip
+
+abbrev pub in_frame : Description → Frame → List Finding
+in_frame d f = unknown_node d f.publisher ++ bad_frame_size f ++ flat_map (in_placed d f f.placed) (enumerate_from 0 f.placed)
+
+-- a member of a sporadic frame
+abbrev pub in_sporadic_member : Description → Name → List Finding
+in_sporadic_member d m = unknown_member d m ++ bad_sporadic_at d m
+
+abbrev pub in_sporadic : Description → Sporadic → List Finding
+in_sporadic d f = flat_map (in_sporadic_member d) f.members
+
+-- the member of an event-triggered frame with this number
+abbrev pub in_event_member : Description → List Name → ℕ × Name → List Finding
+in_event_member d members im = unknown_member d im.1 ++ bad_member_at d members im ++ mixed_at d members im.1
+
+abbrev pub in_event : Description → EventFrame → List Finding
+in_event d e = unknown_table d e ++ nested_at d e ++ flat_map (in_event_member d e.members) (enumerate_from 0 e.members)
+
+abbrev pub in_attributes : Description → Attributes → List Finding
+in_attributes d a = unknown_node d a.node
+
+abbrev pub in_entry : Description → TableEntry → List Finding
+in_entry d e = unknown_entry d e ++ short_slot_at d e ++ zero_delay e ++ long_delay e
+
+abbrev pub in_table : Description → Table → List Finding
+in_table d t = empty_table t ++ long_table t ++ flat_map (in_entry d) t.entries
+
+-- ---- the findings of a description
+
+abbrev pub in_declarations : Description → List Finding
+in_declarations d =
+    flat_map (in_signal d) d.signals ++ flat_map (in_frame d) d.frames ++ flat_map (in_sporadic d) d.sporadic
+    ++ flat_map (in_event d) d.events ++ flat_map (in_attributes d) d.attributes ++ flat_map (in_table d) d.tables
+
 abbrev pub candidates : Description → List Finding
-candidates d =
-    unknown_names d ++ wrong_publishers d ++ bad_ids d ++ ids_twice d ++ bad_sizes d ++ signals_outside d ++ signals_overlap d ++ bad_inits d
-    ++ slots_too_short d ++ zero_delays d ++ bad_nads d ++ nads_twice d ++ bad_event_frames d ++ bad_sporadics d ++ nested_collisions d
-    ++ empty_tables d ++ limits_passed d ++ mixed_checksums d
+candidates d = in_declarations d ++ bad_ids d ++ ids_twice d ++ bad_nads d ++ nads_twice d ++ no_table d ++ limits_passed d
 
 -- a description in which nothing is found
 abbrev pub IsFree : Description → Type 0

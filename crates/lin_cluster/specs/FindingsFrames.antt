@@ -2,6 +2,7 @@
 use Rattle.std.specs.Prelude.{ℕ, ◌+◌, ◌*◌, ◌/◌, ◌%◌, ◌^◌, List, ◌++◌, length, map, take, count_by, flat_map, filter_map, Option, None, is_none, Bool, true, false, not, if◌then◌else◌, ◌==◌, ◌&&◌, ◌||◌, nat_lt, nat_le}
 use Rattle.std.specs.List.{list_any, enumerate_from}
 use Rattle.lin_cluster.specs.FindingsNames.{at_name, at_number, at_place, when, same_name, is_node, is_responder, signal_named, table_named, is_any_frame, knows, carries_frame}
+use Rattle.lin_cluster.specs.declared.finding.FindingKind.TheVariants.{UnknownName, WrongPublisher, BadId, IdTwice, BadSize, SignalOutside, SignalsOverlap, BadInit, BadNad, NadTwice}
 use Rattle.lin_cluster.specs.declared.finding.Finding.{Finding}
 use Rattle.lin_description.specs.declared.description.Attributes.{Attributes}
 use Rattle.lin_description.specs.declared.description.Description.{Description}
@@ -13,49 +14,30 @@ use Rattle.lin_description.specs.declared.description.Name.{Name}
 use Rattle.lin_description.specs.declared.description.Number.{Number}
 use Rattle.lin_description.specs.declared.description.PlacedSignal.{PlacedSignal}
 use Rattle.lin_description.specs.declared.description.Signal.{Signal}
-use Rattle.lin_description.specs.declared.description.Sporadic.{Sporadic}
-use Rattle.lin_description.specs.declared.description.Table.{Table}
 use Rattle.lin_description.specs.declared.description.TableEntry.{TableEntry}
 use Rattle.lin_description.specs.declared.place.Place.{Place}
 
 -- ---- 1 UnknownName
 
--- a name that has to be a node's
+-- a name that has to be a node's: a publisher, a subscriber or that of a block of attributes
 abbrev pub unknown_node : Description → Name → List Finding
-unknown_node d n = when (not (is_node d n)) (at_name 1 n)
+unknown_node d n = when (not (is_node d n)) (at_name UnknownName n)
 
 -- a member, which has to be a frame of one of the three kinds
 abbrev pub unknown_member : Description → Name → List Finding
-unknown_member d n = when (not (is_any_frame d n)) (at_name 1 n)
+unknown_member d n = when (not (is_any_frame d n)) (at_name UnknownName n)
 
-abbrev pub unknown_in_signal : Description → Signal → List Finding
-unknown_in_signal d s = unknown_node d s.publisher ++ flat_map (unknown_node d) s.subscribers
-
+-- a signal of a frame
 abbrev pub unknown_signal : Description → PlacedSignal → List Finding
-unknown_signal d p = when (is_none (signal_named d p.signal)) (at_name 1 p.signal)
+unknown_signal d p = when (is_none (signal_named d p.signal)) (at_name UnknownName p.signal)
 
-abbrev pub unknown_in_frame : Description → Frame → List Finding
-unknown_in_frame d f = unknown_node d f.publisher ++ flat_map (unknown_signal d) f.placed
+-- the table that resolves the collisions of an event-triggered frame
+abbrev pub unknown_table : Description → EventFrame → List Finding
+unknown_table d e = when (is_none (table_named d e.table)) (at_name UnknownName e.table)
 
-abbrev pub unknown_in_sporadic : Description → Sporadic → List Finding
-unknown_in_sporadic d f = flat_map (unknown_member d) f.members
-
-abbrev pub unknown_in_event : Description → EventFrame → List Finding
-unknown_in_event d e = when (is_none (table_named d e.table)) (at_name 1 e.table) ++ flat_map (unknown_member d) e.members
-
-abbrev pub unknown_in_block : Description → Attributes → List Finding
-unknown_in_block d a = unknown_node d a.node
-
-abbrev pub unknown_in_entry : Description → TableEntry → List Finding
-unknown_in_entry d e = when (carries_frame e && not (is_any_frame d e.name)) (at_name 1 e.name)
-
-abbrev pub unknown_in_table : Description → Table → List Finding
-unknown_in_table d t = flat_map (unknown_in_entry d) t.entries
-
-abbrev pub unknown_names : Description → List Finding
-unknown_names d =
-    flat_map (unknown_in_signal d) d.signals ++ flat_map (unknown_in_frame d) d.frames ++ flat_map (unknown_in_sporadic d) d.sporadic
-    ++ flat_map (unknown_in_event d) d.events ++ flat_map (unknown_in_block d) d.attributes ++ flat_map (unknown_in_table d) d.tables
+-- an entry for a frame, which has to be one of the three kinds
+abbrev pub unknown_entry : Description → TableEntry → List Finding
+unknown_entry d e = when (carries_frame e && not (is_any_frame d e.name)) (at_name UnknownName e.name)
 
 -- ---- 2 WrongPublisher: a signal and its frame have publishers that are nodes, and not the same
 
@@ -63,13 +45,7 @@ abbrev pub is_published_elsewhere : Description → Frame → Signal → Bool
 is_published_elsewhere d f s = is_node d s.publisher && is_node d f.publisher && not (same_name s.publisher f.publisher)
 
 abbrev pub wrong_publisher_at : Description → Frame → PlacedSignal → List Finding
-wrong_publisher_at d f p = when (knows (signal_named d p.signal) (is_published_elsewhere d f)) (at_name 2 p.signal)
-
-abbrev pub wrong_publishers_in : Description → Frame → List Finding
-wrong_publishers_in d f = flat_map (wrong_publisher_at d f) f.placed
-
-abbrev pub wrong_publishers : Description → List Finding
-wrong_publishers d = flat_map (wrong_publishers_in d) d.frames
+wrong_publisher_at d f p = when (knows (signal_named d p.signal) (is_published_elsewhere d f)) (at_name WrongPublisher p.signal)
 
 -- ---- 3 BadId, 4 IdTwice
 
@@ -78,7 +54,7 @@ abbrev pub ids : Description → List Number
 ids d = map (λ f. f.id) d.frames ++ map (λ e. e.id) d.events
 
 abbrev pub bad_id : Number → List Finding
-bad_id n = when (nat_lt 59 n.value) (at_number 3 n)
+bad_id n = when (nat_lt 59 n.value) (at_number BadId n)
 
 abbrev pub bad_ids : Description → List Finding
 bad_ids d = flat_map bad_id (ids d)
@@ -92,7 +68,7 @@ abbrev pub is_repeated : List Number → Number → Bool
 is_repeated ns x = nat_lt 1 (count_by (λ y. y.value == x.value && is_up_to x y) ns)
 
 abbrev pub id_twice : List Number → Number → List Finding
-id_twice ns x = when (is_repeated ns x) (at_number 4 x)
+id_twice ns x = when (is_repeated ns x) (at_number IdTwice x)
 
 abbrev pub ids_twice : Description → List Finding
 ids_twice d = flat_map (id_twice (ids d)) (ids d)
@@ -108,17 +84,14 @@ abbrev pub is_good_size : Signal → Bool
 is_good_size s = if is_array s.init then nat_le 8 s.size.value && nat_le s.size.value 64 && s.size.value % 8 == 0 else nat_le 1 s.size.value && nat_le s.size.value 16
 
 abbrev pub bad_signal_size : Signal → List Finding
-bad_signal_size s = when (not (is_good_size s)) (at_number 5 s.size)
+bad_signal_size s = when (not (is_good_size s)) (at_number BadSize s.size)
 
 -- 1 to 8 bytes
 abbrev pub is_frame_size : ℕ → Bool
 is_frame_size n = nat_le 1 n && nat_le n 8
 
 abbrev pub bad_frame_size : Frame → List Finding
-bad_frame_size f = when (not (is_frame_size f.size.value)) (at_number 5 f.size)
-
-abbrev pub bad_sizes : Description → List Finding
-bad_sizes d = flat_map bad_signal_size d.signals ++ flat_map bad_frame_size d.frames
+bad_frame_size f = when (not (is_frame_size f.size.value)) (at_number BadSize f.size)
 
 -- ---- 6 SignalOutside: it reaches beyond the frame's bits, or is an array and begins in the middle of a byte
 
@@ -126,13 +99,7 @@ abbrev pub is_outside : Frame → PlacedSignal → Signal → Bool
 is_outside f p s = nat_lt (8 * f.size.value) (p.offset.value + s.size.value) || (is_array s.init && not (p.offset.value % 8 == 0))
 
 abbrev pub outside_at : Description → Frame → PlacedSignal → List Finding
-outside_at d f p = when (knows (signal_named d p.signal) (is_outside f p)) (at_number 6 p.offset)
-
-abbrev pub outside_in : Description → Frame → List Finding
-outside_in d f = flat_map (outside_at d f) f.placed
-
-abbrev pub signals_outside : Description → List Finding
-signals_outside d = flat_map (outside_in d) d.frames
+outside_at d f p = when (knows (signal_named d p.signal) (is_outside f p)) (at_number SignalOutside p.offset)
 
 -- ---- 7 SignalsOverlap
 
@@ -140,22 +107,16 @@ signals_outside d = flat_map (outside_in d) d.frames
 abbrev pub share_bit : ℕ → ℕ → ℕ → ℕ → Bool
 share_bit a m b n = nat_lt 0 m && nat_lt 0 n && nat_lt a (b + n) && nat_lt b (a + m)
 
--- an earlier signal of the frame is the same, or shares a bit
-abbrev pub meets : Description → PlacedSignal → Signal → PlacedSignal → Bool
-meets d p s q = same_name q.signal p.signal || knows (signal_named d q.signal) (λ t. share_bit p.offset.value s.size.value q.offset.value t.size.value)
+-- an earlier signal of the frame is the same, or shares a bit with this one of so many bits
+abbrev pub meets : Description → PlacedSignal → ℕ → PlacedSignal → Bool
+meets d p size q = same_name q.signal p.signal || knows (signal_named d q.signal) (λ t. share_bit p.offset.value size q.offset.value t.size.value)
 
 abbrev pub is_overlapping : Description → List PlacedSignal → PlacedSignal → Bool
-is_overlapping d earlier p = knows (signal_named d p.signal) (λ s. list_any (meets d p s) earlier)
+is_overlapping d earlier p = knows (signal_named d p.signal) (λ s. list_any (meets d p s.size.value) earlier)
 
 -- the signal with this number in a frame
 abbrev pub overlap_at : Description → List PlacedSignal → ℕ × PlacedSignal → List Finding
-overlap_at d placed ip = when (is_overlapping d (take ip.0 placed) ip.1) (at_number 7 ip.1.offset)
-
-abbrev pub overlaps_in : Description → Frame → List Finding
-overlaps_in d f = flat_map (overlap_at d f.placed) (enumerate_from 0 f.placed)
-
-abbrev pub signals_overlap : Description → List Finding
-signals_overlap d = flat_map (overlaps_in d) d.frames
+overlap_at d placed ip = when (is_overlapping d (take ip.0 placed) ip.1) (at_number SignalsOverlap ip.1.offset)
 
 -- ---- 8 BadInit: of a signal of good size
 
@@ -170,10 +131,7 @@ init_place (Scalar n) = record { line = n.line; column = n.column }
 init_place (Array place items) = place
 
 abbrev pub bad_init : Signal → List Finding
-bad_init s = when (is_good_size s && not (is_good_init s.size.value s.init)) (at_place 8 (init_place s.init))
-
-abbrev pub bad_inits : Description → List Finding
-bad_inits d = flat_map bad_init d.signals
+bad_init s = when (is_good_size s && not (is_good_init s.size.value s.init)) (at_place BadInit (init_place s.init))
 
 -- ---- 11 BadNad, 12 NadTwice
 
@@ -185,14 +143,14 @@ abbrev pub addresses : Description → List Number
 addresses d = filter_map (address d) d.attributes
 
 abbrev pub bad_nad : Number → List Finding
-bad_nad n = when (not (nat_le 1 n.value && nat_le n.value 125)) (at_number 11 n)
+bad_nad n = when (not (nat_le 1 n.value && nat_le n.value 125)) (at_number BadNad n)
 
 abbrev pub bad_nads : Description → List Finding
 bad_nads d = flat_map bad_nad (addresses d)
 
 -- the address with this number, which an earlier one is
 abbrev pub nad_twice : List Number → ℕ × Number → List Finding
-nad_twice ns ix = when (list_any (λ y. y.value == ix.1.value) (take ix.0 ns)) (at_number 12 ix.1)
+nad_twice ns ix = when (list_any (λ y. y.value == ix.1.value) (take ix.0 ns)) (at_number NadTwice ix.1)
 
 abbrev pub nads_twice : Description → List Finding
 nads_twice d = flat_map (nad_twice (addresses d)) (enumerate_from 0 (addresses d))

@@ -1,9 +1,11 @@
 -- What the names in a description name, and where findings stand. A name names the first declaration that has it.
-use Rattle.std.specs.Prelude.{ℕ, List, ◌∷◌, [], codes, find, Option, is_some, Bool, false, not, if◌then◌else◌, ◌&&◌, ◌||◌}
+use Rattle.std.specs.Prelude.{List, ◌∷◌, [], codes, find, Option, is_some, Bool, false, not, if◌then◌else◌, ◌&&◌, ◌||◌}
 use Rattle.std.specs.List.{list_any}
 use Rattle.std.specs.Option.{option_map_or}
 use Rattle.std.specs.Str.{bytes_eq}
+use Rattle.lin_cluster.specs.Kinds.{finding_at}
 use Rattle.lin_cluster.specs.declared.finding.Finding.{Finding}
+use Rattle.lin_cluster.specs.declared.finding.FindingKind.{FindingKind}
 use Rattle.lin_description.specs.declared.description.Description.{Description}
 use Rattle.lin_description.specs.declared.description.EventFrame.{EventFrame}
 use Rattle.lin_description.specs.declared.description.Frame.{Frame}
@@ -17,18 +19,14 @@ use Rattle.lin_description.specs.declared.place.Place.{Place}
 
 -- ---- findings at places
 
--- a finding by its number, line and column
-abbrev pub finding_at : ℕ → ℕ → ℕ → Finding
-finding_at number line column = record { line = line; column = column; number = number; needed_us = 0 }
+abbrev pub at_name : FindingKind → Name → Finding
+at_name kind n = finding_at kind n.line n.column
 
-abbrev pub at_name : ℕ → Name → Finding
-at_name number n = finding_at number n.line n.column
+abbrev pub at_number : FindingKind → Number → Finding
+at_number kind n = finding_at kind n.line n.column
 
-abbrev pub at_number : ℕ → Number → Finding
-at_number number n = finding_at number n.line n.column
-
-abbrev pub at_place : ℕ → Place → Finding
-at_place number p = finding_at number p.line p.column
+abbrev pub at_place : FindingKind → Place → Finding
+at_place kind p = finding_at kind p.line p.column
 
 -- the finding, where the condition holds
 abbrev pub when : Bool → Finding → List Finding

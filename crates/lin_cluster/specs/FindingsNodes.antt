@@ -2,6 +2,7 @@
 use Rattle.std.specs.Prelude.{ℕ, List, Option, Some, None, Bool, not, if◌then◌else◌, ◌==◌, nat_lt}
 use Rattle.lin_cluster.specs.Described.{node_number}
 use Rattle.lin_cluster.specs.FindingsNames.{at_name, when, is_node, signal_named, knows}
+use Rattle.lin_cluster.specs.declared.finding.FindingKind.TheVariants.{WrongPublisher}
 use Rattle.lin_cluster.specs.declared.finding.Finding.{Finding}
 use Rattle.lin_description.specs.declared.description.Description.{Description}
 use Rattle.lin_description.specs.declared.description.Name.{Name}
@@ -23,4 +24,4 @@ are_two a b = knows a (λ n. knows b (λ k. not (n == k)))
 
 -- a signal in a frame with this publisher
 abbrev pub wrong_publisher_by : Description → Option ℕ → PlacedSignal → List Finding
-wrong_publisher_by d publisher p = when (knows (signal_named d p.signal) (λ s. are_two (node_of d s.publisher) publisher)) (at_name 2 p.signal)
+wrong_publisher_by d publisher p = when (knows (signal_named d p.signal) (λ s. are_two (node_of d s.publisher) publisher)) (at_name WrongPublisher p.signal)

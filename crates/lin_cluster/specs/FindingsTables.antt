@@ -4,8 +4,10 @@ use Rattle.std.specs.Prelude.{ℕ, ◌+◌, ◌-◌, ◌*◌, ◌/◌, List, [],
 use Rattle.std.specs.List.{list_any, list_all, enumerate_from}
 use Rattle.std.specs.Option.{option_map_or}
 use Rattle.lin_cluster.specs.FindingsFrames.{is_frame_size}
-use Rattle.lin_cluster.specs.FindingsNames.{finding_at, at_name, at_number, when, same_name, is_node, signal_named, frame_named, sporadic_named, event_named, table_named, is_any_frame, knows, carries_frame, is_event_entry}
+use Rattle.lin_cluster.specs.FindingsNames.{at_name, at_number, when, same_name, is_node, signal_named, frame_named, sporadic_named, event_named, table_named, is_any_frame, knows, carries_frame, is_event_entry}
+use Rattle.lin_cluster.specs.Kinds.{finding_at}
 use Rattle.lin_cluster.specs.Models.{model_named, first_model, differ}
+use Rattle.lin_cluster.specs.declared.finding.FindingKind.TheVariants.{SlotTooShort, ZeroDelay, BadEventFrame, BadSporadic, NestedCollision, EmptyTable, LimitPassed, MixedChecksum}
 use Rattle.lin_cluster.specs.declared.finding.Finding.{Finding}
 use Rattle.lin_description.specs.declared.description.Description.{Description}
 use Rattle.lin_description.specs.declared.description.EventFrame.{EventFrame}
@@ -13,7 +15,6 @@ use Rattle.lin_description.specs.declared.description.Frame.{Frame}
 use Rattle.lin_description.specs.declared.description.Name.{Name}
 use Rattle.lin_description.specs.declared.description.Number.{Number}
 use Rattle.lin_description.specs.declared.description.PlacedSignal.{PlacedSignal}
-use Rattle.lin_description.specs.declared.description.Sporadic.{Sporadic}
 use Rattle.lin_description.specs.declared.description.Table.{Table}
 use Rattle.lin_description.specs.declared.description.TableEntry.{TableEntry}
 
@@ -27,12 +28,12 @@ needed_us jitter speed n = jitter + (1400000 * (34 + 10 * (n + 1)) + (speed - 1)
 abbrev pub is_speed : ℕ → Bool
 is_speed speed = nat_le 1 speed && nat_le speed 20000
 
-abbrev pub good_size : Frame → Option ℕ
-good_size f = if is_frame_size f.size.value then Some f.size.value else None
+abbrev pub good_size : ℕ → Option ℕ
+good_size size = if is_frame_size size then Some size else None
 
 -- the size of a frame by its name, where that is a frame's and the size is good
 abbrev pub frame_size : Description → Name → Option ℕ
-frame_size d n = option_and_then good_size (frame_named d n)
+frame_size d n = option_and_then (λ f. good_size f.size.value) (frame_named d n)
 
 -- the greatest size of some members, where all are frames of good sizes
 abbrev pub greatest_size : Description → List Name → Option ℕ
@@ -57,28 +58,16 @@ abbrev pub short_slot : ℕ → ℕ → TableEntry → Option ℕ → List Findi
 short_slot jitter speed e None = []
 short_slot jitter speed e (Some n) =
     if not (e.delay.value == 0) && is_speed speed && nat_lt e.delay.value (needed_us jitter speed n)
-    then record { line = e.name.line; column = e.name.column; number = 9; needed_us = needed_us jitter speed n } ∷ []
+    then at_name (SlotTooShort (needed_us jitter speed n)) e.name ∷ []
     else []
 
 abbrev pub short_slot_at : Description → TableEntry → List Finding
 short_slot_at d e = short_slot d.jitter.value d.speed.value e (slot_size d e)
 
-abbrev pub short_slots_in : Description → Table → List Finding
-short_slots_in d t = flat_map (short_slot_at d) t.entries
-
-abbrev pub slots_too_short : Description → List Finding
-slots_too_short d = flat_map (short_slots_in d) d.tables
-
 -- ---- 10 ZeroDelay
 
 abbrev pub zero_delay : TableEntry → List Finding
-zero_delay e = when (e.delay.value == 0) (at_number 10 e.delay)
-
-abbrev pub zero_delays_in : Table → List Finding
-zero_delays_in t = flat_map zero_delay t.entries
-
-abbrev pub zero_delays : Description → List Finding
-zero_delays d = flat_map zero_delays_in d.tables
+zero_delay e = when (e.delay.value == 0) (at_number ZeroDelay e.delay)
 
 -- ---- 13 BadEventFrame
 
@@ -107,13 +96,7 @@ is_wrong_member d members earlier m = is_any_frame d m && option_map_or (is_bad_
 
 -- the member with this number
 abbrev pub bad_member_at : Description → List Name → ℕ × Name → List Finding
-bad_member_at d members im = when (is_wrong_member d members (take im.0 members) im.1) (at_name 13 im.1)
-
-abbrev pub bad_members_in : Description → EventFrame → List Finding
-bad_members_in d e = flat_map (bad_member_at d e.members) (enumerate_from 0 e.members)
-
-abbrev pub bad_event_frames : Description → List Finding
-bad_event_frames d = flat_map (bad_members_in d) d.events
+bad_member_at d members im = when (is_wrong_member d members (take im.0 members) im.1) (at_name BadEventFrame im.1)
 
 -- ---- 14 BadSporadic
 
@@ -122,46 +105,38 @@ abbrev pub is_responders : Description → Frame → Bool
 is_responders d f = is_node d f.publisher && not (same_name f.publisher d.master)
 
 abbrev pub bad_sporadic_at : Description → Name → List Finding
-bad_sporadic_at d m = when (is_any_frame d m && option_map_or (is_responders d) (frame_named d m) true) (at_name 14 m)
-
-abbrev pub bad_sporadics_in : Description → Sporadic → List Finding
-bad_sporadics_in d f = flat_map (bad_sporadic_at d) f.members
-
-abbrev pub bad_sporadics : Description → List Finding
-bad_sporadics d = flat_map (bad_sporadics_in d) d.sporadic
+bad_sporadic_at d m = when (is_any_frame d m && option_map_or (is_responders d) (frame_named d m) true) (at_name BadSporadic m)
 
 -- ---- 15 NestedCollision: the resolving table has an event-triggered entry
 
 abbrev pub nested_at : Description → EventFrame → List Finding
-nested_at d e = when (knows (table_named d e.table) (λ t. list_any (is_event_entry d) t.entries)) (at_name 15 e.table)
-
-abbrev pub nested_collisions : Description → List Finding
-nested_collisions d = flat_map (nested_at d) d.events
+nested_at d e = when (knows (table_named d e.table) (λ t. list_any (is_event_entry d) t.entries)) (at_name NestedCollision e.table)
 
 -- ---- 16 EmptyTable
 
 abbrev pub empty_table : Table → List Finding
-empty_table t = when (length t.entries == 0) (at_name 16 t.name)
+empty_table t = when (length t.entries == 0) (at_name EmptyTable t.name)
 
-abbrev pub empty_tables : Description → List Finding
-empty_tables d = when (length d.tables == 0) (finding_at 16 1 1) ++ flat_map empty_table d.tables
+-- that there is no table
+abbrev pub no_table : Description → List Finding
+no_table d = when (length d.tables == 0) (finding_at EmptyTable 1 1)
 
 -- ---- 17 LimitPassed
 
 -- the name of the first item behind as many as there may be
 abbrev pub past : {A : Type 0} → (A → Name) → Option A → List Finding
 past name None = []
-past name (Some x) = at_name 17 (name x) ∷ []
+past name (Some x) = at_name LimitPassed (name x) ∷ []
 
 -- a time in microseconds above its limit
 abbrev pub too_long : Number → List Finding
-too_long n = when (nat_lt 1000000000 n.value) (at_number 17 n)
+too_long n = when (nat_lt 1000000000 n.value) (at_number LimitPassed n)
 
 abbrev pub long_delay : TableEntry → List Finding
 long_delay e = too_long e.delay
 
-abbrev pub table_limits : Table → List Finding
-table_limits t = past (λ e. e.name) (slice_get t.entries 1024) ++ flat_map long_delay t.entries
+abbrev pub long_table : Table → List Finding
+long_table t = past (λ e. e.name) (slice_get t.entries 1024)
 
 abbrev pub responder_limits : Description → List Finding
 responder_limits d = past (λ n. n) (slice_get d.slaves 15)
@@ -172,10 +147,10 @@ frame_limits d =
     ++ past (λ f. f.name) (slice_get d.sporadic 256) ++ past (λ e. e.name) (slice_get d.events 60)
 
 abbrev pub time_limits : Description → List Finding
-time_limits d = when (not (is_speed d.speed.value)) (at_number 17 d.speed) ++ too_long d.time_base ++ too_long d.jitter
+time_limits d = when (not (is_speed d.speed.value)) (at_number LimitPassed d.speed) ++ too_long d.time_base ++ too_long d.jitter
 
 abbrev pub limits_passed : Description → List Finding
-limits_passed d = responder_limits d ++ frame_limits d ++ past (λ t. t.name) (slice_get d.tables 256) ++ flat_map table_limits d.tables ++ time_limits d
+limits_passed d = responder_limits d ++ frame_limits d ++ past (λ t. t.name) (slice_get d.tables 256) ++ time_limits d
 
 -- ---- 18 MixedChecksum: a member that is a frame and has another checksum model than the first member, where that is a frame
 
@@ -183,10 +158,4 @@ abbrev pub is_mixed : Description → List Name → Name → Bool
 is_mixed d members m = knows (model_named d m) (λ model. knows (first_model d members) (differ model))
 
 abbrev pub mixed_at : Description → List Name → Name → List Finding
-mixed_at d members m = when (is_mixed d members m) (at_name 18 m)
-
-abbrev pub mixed_in : Description → EventFrame → List Finding
-mixed_in d e = flat_map (mixed_at d e.members) e.members
-
-abbrev pub mixed_checksums : Description → List Finding
-mixed_checksums d = flat_map (mixed_in d) d.events
+mixed_at d members m = when (is_mixed d members m) (at_name MixedChecksum m)

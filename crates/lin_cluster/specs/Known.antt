@@ -1,11 +1,15 @@
 -- What is known of a description: its declarations, found by their names, and what is worked out of each of them once.
 use Rattle.std.specs.Prelude.{◌≡◌, ℕ, List, Option, Bool, map}
 use Rattle.std.specs.List.{list_any}
-use Rattle.lin_cluster.specs.FindingsNames.{is_event_entry}
+use Rattle.std.specs.Option.{option_map}
+use Rattle.lin_cluster.specs.FindingsNames.{frame_named, sporadic_named, event_named, is_event_entry}
 use Rattle.lin_cluster.specs.FindingsNodes.{node_of}
-use Rattle.lin_cluster.specs.Models.{frame_model}
-use Rattle.lin_cluster.specs.FindingsTables.{greatest_size, first_size, is_in_front}
-use Rattle.lin_frame.specs.declared.sums.SumKind.{SumKind}
+use Rattle.lin_cluster.specs.FindingsFrames.{is_array}
+use Rattle.lin_cluster.specs.FindingsTables.{good_size, greatest_size, first_size, is_in_front}
+use Rattle.lin_cluster.specs.Models.{has_lin_1, frame_model}
+use Rattle.lin_cluster.specs.Names.{or_else}
+use Rattle.lin_cluster.specs.declared.findings.facts.FrameFacts.{FrameFacts}
+use Rattle.lin_cluster.specs.declared.findings.facts.SignalFacts.{SignalFacts}
 use Rattle.lin_description.specs.declared.description.Attributes.{Attributes}
 use Rattle.lin_description.specs.declared.description.Description.{Description}
 use Rattle.lin_description.specs.declared.description.EventFrame.{EventFrame}
@@ -21,18 +25,30 @@ IsKnown d slaves signals frames sporadic events tables blocks =
     (slaves ≡ d.slaves) × (signals ≡ d.signals) × (frames ≡ d.frames) × (sporadic ≡ d.sporadic) × (events ≡ d.events) × (tables ≡ d.tables)
     × (blocks ≡ d.attributes)
 
--- the nodes that publish each signal and each frame
-abbrev pub AreNodes : Description → List (Option ℕ) → List (Option ℕ) → Type 0
-AreNodes d signals frames = (signals ≡ map (λ s. node_of d s.publisher) d.signals) × (frames ≡ map (λ f. node_of d f.publisher) d.frames)
+-- what is asked of a signal wherever a frame places it
+abbrev pub signal_facts : Description → Signal → SignalFacts
+signal_facts d s = record { size = s.size.value; is_array = is_array s.init; publisher = node_of d s.publisher; is_read_by_lin_1 = has_lin_1 d s }
+
+abbrev pub AreSignalFacts : Description → List SignalFacts → Type 0
+AreSignalFacts d facts = facts ≡ map (signal_facts d) d.signals
+
+-- what is asked of a frame wherever a member or an entry names it
+abbrev pub frame_facts : Description → Frame → FrameFacts
+frame_facts d f = record { size = f.size.value; publisher = node_of d f.publisher; has_front = list_any (is_in_front d) f.placed; model = frame_model d f }
+
+abbrev pub AreFrameFacts : Description → List FrameFacts → Type 0
+AreFrameFacts d facts = facts ≡ map (frame_facts d) d.frames
 
 -- the sizes of each sporadic and each event-triggered frame
 abbrev pub AreSizes : Description → List (Option ℕ) → List (Option ℕ) → Type 0
 AreSizes d sporadic events = (sporadic ≡ map (λ f. greatest_size d f.members) d.sporadic) × (events ≡ map (λ e. first_size d e.members) d.events)
 
--- which frames have a signal that begins in data byte 0, and which tables have an event-triggered entry
-abbrev pub AreMarks : Description → List Bool → List Bool → Type 0
-AreMarks d fronts nested = (fronts ≡ map (λ f. list_any (is_in_front d) f.placed) d.frames) × (nested ≡ map (λ t. list_any (is_event_entry d) t.entries) d.tables)
+-- which tables have an event-triggered entry
+abbrev pub AreNested : Description → List Bool → Type 0
+AreNested d nested = nested ≡ map (λ t. list_any (is_event_entry d) t.entries) d.tables
 
--- the checksum model of each frame
-abbrev pub AreModels : Description → List SumKind → Type 0
-AreModels d models = models ≡ map (frame_model d) d.frames
+-- the size of what a name names, where that is a frame of any of the three kinds
+abbrev pub size_named : Description → Name → Option (Option ℕ)
+size_named d n =
+    or_else (option_map (λ f. good_size f.size.value) (frame_named d n))
+    (or_else (option_map (λ f. greatest_size d f.members) (sporadic_named d n)) (option_map (λ e. first_size d e.members) (event_named d n)))

@@ -1,5 +1,6 @@
 pub mod Checks
 pub mod Described
+pub mod Kinds
 pub mod FindingsNames
 pub mod FindingsFrames
 pub mod FindingsTables

@@ -8,5 +8,5 @@ mod findings;
 mod names;
 
 pub use checks::check;
-pub use finding::{CheckFault, Finding};
+pub use finding::{CheckFault, Finding, FindingKind};
 pub use lin_parts::{Cluster, Entry, EventFrame, Line, Node, Parts, Signal, SignalFrame, Table};

@@ -1,14 +1,15 @@
-//! Diagnostic addresses of responders.
+//! Bad address (11) and address twice (12), of responders.
 
 ghost use Rattle.std.specs.Prelude.{◌≡◌, ◌++◌, OnOk, IfOk, nat_eq};
 ghost use Rattle.std.specs.List.{flat_map, filter_map, enumerate_from};
 ghost use Rattle.indexmap.specs.IndexSet.{contains};
-ghost use Rattle.lin_cluster.specs.FindingsFrames.{address, addresses, bad_nad, bad_nads, nad_twice, nads_twice};
+ghost use Rattle.lin_cluster.specs.FindingsFrames.{address, bad_nads, nad_twice, nads_twice};
 ghost use Rattle.lin_cluster.specs.FindingsNames.{at_number, when};
+ghost use Rattle.lin_cluster.specs.declared.finding.FindingKind.TheVariants.{NadTwice};
 
 use super::known::Known;
-use super::words::{at_number, push_when};
-use crate::finding::Finding;
+use super::walk::{Finds, at_number, each, push_when};
+use crate::finding::{Finding, FindingKind};
 use indexmap::IndexSet;
 use lin_description::{Attributes, Number};
 use std::alloc::{AllocError, Global};
@@ -32,26 +33,29 @@ fn addresses(alloc: Global, known: &Known, blocks: &[Attributes]) -> Result<Vec<
         .collect(alloc)
 }
 
-fn bad_nad(found: &mut Vec<Finding>, nad: &Number) -> Result<(), AllocError>
-    ensures { OnOk result (found.new.items ≡ found.old.items ++ bad_nad nad.now) }
-{
-    let is_good = 1 <= nad.value && nad.value <= 125;
-    push_when(found, !is_good, at_number(11, nad))
-}
+/// What is asked of an address by itself.
+#[derive(Clone, Copy)]
+struct EachAddress;
 
-fn bad_nads(found: &mut Vec<Finding>, nads: &[Number]) -> Result<(), AllocError>
-    ensures { OnOk result (found.new.items ≡ found.old.items ++ flat_map bad_nad nads.now) }
-{
-    for nad in nads {
-        bad_nad(found, nad)?;
+impl Finds<Number> for EachAddress {
+    ghost use Rattle.lin_cluster.specs.FindingsFrames.{bad_nad};
+
+    ghost finds = { λ addresses nad. bad_nad nad };
+
+    fn find(&self, found: &mut Vec<Finding>, nad: &Number) -> Result<(), AllocError> {
+        let is_good = 1 <= nad.value && nad.value <= 125;
+        push_when(found, !is_good, at_number(FindingKind::BadNad, nad))
     }
-    Ok(())
 }
 
 fn twice(found: &mut Vec<Finding>, earlier: &IndexSet<u32>, nad: &Number) -> Result<(), AllocError>
-    ensures { OnOk result (found.new.items ≡ found.old.items ++ when (contains nat_eq earlier.now nad.now.value) (at_number 12 nad.now)) }
+    ensures { OnOk result (found.new.items ≡ found.old.items ++ when (contains nat_eq earlier.now nad.now.value) (at_number NadTwice nad.now)) }
 {
-    push_when(found, earlier.contains(&nad.value), at_number(12, nad))
+    push_when(
+        found,
+        earlier.contains(&nad.value),
+        at_number(FindingKind::NadTwice, nad),
+    )
 }
 
 #[tactic(auto, using(crate::proofs::FindingsLists::each_all))]
@@ -75,6 +79,6 @@ pub(super) fn bad_addresses(
     ensures { OnOk result (found.new.items ≡ found.old.items ++ bad_nads known.now ++ nads_twice known.now) }
 {
     let nads = addresses(alloc, known, known.description().attributes())?;
-    bad_nads(found, nads.as_slice())?;
+    each(found, &EachAddress, nads.as_slice())?;
     nads_twice(alloc, found, nads.as_slice())
 }

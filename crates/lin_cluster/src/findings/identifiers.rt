@@ -1,13 +1,12 @@
-//! Identifiers of frames and of event-triggered frames.
+//! Bad identifier (3) and identifier twice (4), of frames and of event-triggered frames.
 
 ghost use Rattle.std.specs.Prelude.{◌≡◌, ◌++◌, OnOk, IfOk, map};
-ghost use Rattle.std.specs.List.{flat_map};
-ghost use Rattle.lin_cluster.specs.FindingsFrames.{ids, bad_id, bad_ids, id_twice, ids_twice};
+ghost use Rattle.lin_cluster.specs.FindingsFrames.{ids, bad_ids, ids_twice};
 
 use super::known::Known;
 use super::repeats::Repeats;
-use super::words::{at_number, push_when};
-use crate::finding::Finding;
+use super::walk::{Finds, at_number, each, push_when};
+use crate::finding::{Finding, FindingKind};
 use lin_description::{EventFrame, Frame, Number};
 use std::alloc::{AllocError, Global};
 
@@ -21,34 +20,32 @@ fn ids_of(alloc: Global, frames: &[Frame], events: &[EventFrame]) -> Result<Vec<
         .collect(alloc)
 }
 
-fn bad_id(found: &mut Vec<Finding>, id: &Number) -> Result<(), AllocError>
-    ensures { OnOk result (found.new.items ≡ found.old.items ++ bad_id id.now) }
-{
-    push_when(found, 59 < id.value, at_number(3, id))
-}
+/// What is asked of an identifier by itself.
+#[derive(Clone, Copy)]
+struct EachIdentifier;
 
-fn bad_ids(found: &mut Vec<Finding>, ids: &[Number]) -> Result<(), AllocError>
-    ensures { OnOk result (found.new.items ≡ found.old.items ++ flat_map bad_id ids.now) }
-{
-    for id in ids {
-        bad_id(found, id)?;
+impl Finds<Number> for EachIdentifier {
+    ghost use Rattle.lin_cluster.specs.FindingsFrames.{bad_id};
+
+    ghost finds = { λ identifiers id. bad_id id };
+
+    fn find(&self, found: &mut Vec<Finding>, id: &Number) -> Result<(), AllocError> {
+        push_when(found, 59 < id.value, at_number(FindingKind::BadId, id))
     }
-    Ok(())
 }
 
-fn id_twice(found: &mut Vec<Finding>, ids: &Repeats, id: &Number) -> Result<(), AllocError>
-    ensures { OnOk result (found.new.items ≡ found.old.items ++ id_twice ids.now id.now) }
-{
-    push_when(found, ids.is_repeated(id), at_number(4, id))
-}
+impl Finds<Number> for Repeats {
+    ghost use Rattle.lin_cluster.specs.FindingsFrames.{id_twice};
 
-fn ids_twice(found: &mut Vec<Finding>, ids: &Repeats) -> Result<(), AllocError>
-    ensures { OnOk result (found.new.items ≡ found.old.items ++ flat_map (id_twice ids.now) ids.now) }
-{
-    for id in ids.numbers() {
-        id_twice(found, ids, id)?;
+    ghost finds = { id_twice };
+
+    fn find(&self, found: &mut Vec<Finding>, id: &Number) -> Result<(), AllocError> {
+        push_when(
+            found,
+            self.is_repeated(id),
+            at_number(FindingKind::IdTwice, id),
+        )
     }
-    Ok(())
 }
 
 fn all_ids(alloc: Global, known: &Known) -> Result<Vec<Number>, AllocError>
@@ -67,6 +64,6 @@ pub(super) fn bad_identifiers(
     ensures { OnOk result (found.new.items ≡ found.old.items ++ bad_ids known.now ++ ids_twice known.now) }
 {
     let ids = Repeats::new(alloc, all_ids(alloc, known)?)?;
-    bad_ids(found, ids.numbers())?;
-    ids_twice(found, &ids)
+    each(found, &EachIdentifier, ids.numbers())?;
+    each(found, &ids, ids.numbers())
 }

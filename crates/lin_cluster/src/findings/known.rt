@@ -1,9 +1,9 @@
 //! What the names of a description name.
 
-ghost use Rattle.std.specs.Prelude.{◌≡◌, IfOk};
+ghost use Rattle.std.specs.Prelude.{◌≡◌, ◌||◌, IfOk, is_some};
 ghost use Rattle.std.specs.Option.{option_copied};
 ghost use Rattle.lin_cluster.specs.Described.{signal_number, frame_number, sporadic_number, event_number, table_number};
-ghost use Rattle.lin_cluster.specs.FindingsNames.{is_node, is_responder, signal_named, frame_named, sporadic_named, event_named, table_named, is_any_frame, is_diagnostic, carries_frame, is_event_entry};
+ghost use Rattle.lin_cluster.specs.FindingsNames.{is_node, is_responder, frame_named, sporadic_named, event_named, is_diagnostic, carries_frame, is_event_entry};
 ghost use Rattle.lin_cluster.specs.FindingsNodes.{node_of, is_behind_commander};
 ghost use Rattle.lin_cluster.specs.Models.{tells_version_1, block_named, is_lin_1};
 
@@ -190,34 +190,22 @@ impl<'a> Known<'a> {
         }
     }
 
-    pub(super) fn signal(&self, name: &Name) -> Option<&'a Signal>
-        ensures { option_copied result ≡ signal_named self.now name.now }
-    {
-        self.signals.find(name)
-    }
-
     pub(super) fn frame(&self, name: &Name) -> Option<&'a Frame>
         ensures { option_copied result ≡ frame_named self.now name.now }
     {
         self.kinds.frames.find(name)
     }
 
-    pub(super) fn sporadic(&self, name: &Name) -> Option<&'a Sporadic>
+    fn sporadic(&self, name: &Name) -> Option<&'a Sporadic>
         ensures { option_copied result ≡ sporadic_named self.now name.now }
     {
         self.kinds.sporadic.find(name)
     }
 
-    pub(super) fn event(&self, name: &Name) -> Option<&'a EventFrame>
+    fn event(&self, name: &Name) -> Option<&'a EventFrame>
         ensures { option_copied result ≡ event_named self.now name.now }
     {
         self.kinds.events.find(name)
-    }
-
-    pub(super) fn table(&self, name: &Name) -> Option<&'a Table>
-        ensures { option_copied result ≡ table_named self.now name.now }
-    {
-        self.tables.find(name)
     }
 
     pub(super) fn signal_number(&self, name: &Name) -> usize
@@ -250,11 +238,11 @@ impl<'a> Known<'a> {
         self.tables.number(name)
     }
 
-    /// Whether the name is a frame's of any of the three kinds.
-    pub(super) fn is_any_frame(&self, name: &Name) -> bool
-        ensures { result ≡ is_any_frame self.now name.now }
+    /// Whether the name is that of a sporadic or of an event-triggered frame.
+    pub(super) fn is_other_frame(&self, name: &Name) -> bool
+        ensures { result ≡ (is_some (sporadic_named self.now name.now) || is_some (event_named self.now name.now)) }
     {
-        self.frame(name).is_some() || self.sporadic(name).is_some() || self.event(name).is_some()
+        self.sporadic(name).is_some() || self.event(name).is_some()
     }
 
     /// Whether the entry is for an event-triggered frame.

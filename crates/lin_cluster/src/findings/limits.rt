@@ -1,15 +1,14 @@
-//! How much there may be: of what is counted the first one too many is found.
+//! Limit passed (17): of what is counted the first one too many is found.
 
 ghost use Rattle.std.specs.Prelude.{◌≡◌, ◌++◌, OnOk, slice_get};
-ghost use Rattle.std.specs.List.{flat_map};
-ghost use Rattle.lin_cluster.specs.FindingsTables.{past, too_long, long_delay, table_limits, responder_limits, frame_limits, time_limits, limits_passed};
+ghost use Rattle.lin_cluster.specs.FindingsTables.{past, too_long, long_table, responder_limits, frame_limits, time_limits, limits_passed};
 
 use super::known::Known;
 use super::slots::is_speed;
-use super::words::{at_name, at_number, push_when};
-use crate::finding::Finding;
+use super::walk::{at_name, at_number, push_when};
+use crate::finding::{Finding, FindingKind};
 use crate::names::Named;
-use lin_description::{Number, Table, TableEntry};
+use lin_description::{Number, Table};
 use std::alloc::AllocError;
 
 #[tactic(auto, using(crate::proofs::FindingsLists::past_none))]
@@ -17,47 +16,27 @@ fn past<T: Named>(found: &mut Vec<Finding>, all: &[T], limit: usize) -> Result<(
     ensures { OnOk result (found.new.items ≡ found.old.items ++ past T.name_of (slice_get all.now limit)) }
 {
     match all.get(limit) {
-        Some(one) => Ok(found.push(at_name(17, one.name()))?),
+        Some(one) => Ok(found.push(at_name(FindingKind::LimitPassed, one.name()))?),
         None => Ok(()),
     }
 }
 
-fn too_long(found: &mut Vec<Finding>, time: &Number) -> Result<(), AllocError>
+/// A time above its limit.
+pub(super) fn too_long(found: &mut Vec<Finding>, time: &Number) -> Result<(), AllocError>
     ensures { OnOk result (found.new.items ≡ found.old.items ++ too_long time.now) }
 {
-    push_when(found, 1_000_000_000 < time.value, at_number(17, time))
+    push_when(
+        found,
+        1_000_000_000 < time.value,
+        at_number(FindingKind::LimitPassed, time),
+    )
 }
 
-fn long_delay(found: &mut Vec<Finding>, entry: &TableEntry) -> Result<(), AllocError>
-    ensures { OnOk result (found.new.items ≡ found.old.items ++ long_delay entry.now) }
+/// The first entry too many of a table.
+pub(super) fn long_table(found: &mut Vec<Finding>, table: &Table) -> Result<(), AllocError>
+    ensures { OnOk result (found.new.items ≡ found.old.items ++ long_table table.now) }
 {
-    too_long(found, &entry.delay)
-}
-
-fn long_delays(found: &mut Vec<Finding>, entries: &[TableEntry]) -> Result<(), AllocError>
-    ensures { OnOk result (found.new.items ≡ found.old.items ++ flat_map long_delay entries.now) }
-{
-    for entry in entries {
-        long_delay(found, entry)?;
-    }
-    Ok(())
-}
-
-fn limits_of_table(found: &mut Vec<Finding>, table: &Table) -> Result<(), AllocError>
-    ensures { OnOk result (found.new.items ≡ found.old.items ++ table_limits table.now) }
-{
-    let entries = table.entries.as_slice();
-    past(found, entries, 1024)?;
-    long_delays(found, entries)
-}
-
-fn table_limits(found: &mut Vec<Finding>, tables: &[Table]) -> Result<(), AllocError>
-    ensures { OnOk result (found.new.items ≡ found.old.items ++ flat_map table_limits tables.now) }
-{
-    for table in tables {
-        limits_of_table(found, table)?;
-    }
-    Ok(())
+    past(found, table.entries.as_slice(), 1024)
 }
 
 fn responder_limits(found: &mut Vec<Finding>, known: &Known) -> Result<(), AllocError>
@@ -81,7 +60,11 @@ fn time_limits(found: &mut Vec<Finding>, known: &Known) -> Result<(), AllocError
 {
     let description = known.description();
     let is_good = is_speed(description.speed.value);
-    push_when(found, !is_good, at_number(17, &description.speed))?;
+    push_when(
+        found,
+        !is_good,
+        at_number(FindingKind::LimitPassed, &description.speed),
+    )?;
     too_long(found, &description.time_base)?;
     too_long(found, &description.jitter)
 }
@@ -90,10 +73,8 @@ fn time_limits(found: &mut Vec<Finding>, known: &Known) -> Result<(), AllocError
 pub(super) fn limits_passed(found: &mut Vec<Finding>, known: &Known) -> Result<(), AllocError>
     ensures { OnOk result (found.new.items ≡ found.old.items ++ limits_passed known.now) }
 {
-    let tables = known.description().tables();
     responder_limits(found, known)?;
     frame_limits(found, known)?;
-    past(found, tables, 256)?;
-    table_limits(found, tables)?;
+    past(found, known.description().tables(), 256)?;
     time_limits(found, known)
 }

@@ -1,80 +1,64 @@
-//! Members of event-triggered and of sporadic frames.
+//! Members of event-triggered and of sporadic frames: unknown name (1), bad event-triggered frame (13), bad sporadic frame (14) and
+//! mixed checksum (18).
 
-ghost use Rattle.std.specs.Prelude.{◌≡◌, ◌++◌, ◌||◌, ℕ, OnOk, true, not, ◌==◌, nat_eq, nat_lt, slice_get, option_and_then};
-ghost use Rattle.std.specs.List.{flat_map, list_any, enumerate_from};
-ghost use Rattle.std.specs.Option.{option_copied, option_map_or};
+ghost use Rattle.std.specs.Prelude.{◌≡◌, ◌++◌, ◌||◌, ℕ, OnOk, true, not, nat_eq, nat_lt, slice_get, option_and_then};
+ghost use Rattle.std.specs.List.{flat_map, enumerate_from};
+ghost use Rattle.std.specs.Option.{option_map, option_map_or};
 ghost use Rattle.indexmap.specs.IndexSet.{contains};
-ghost use Rattle.lin_cluster.specs.FindingsMembers.{is_bad_behind, is_wrong_behind};
-ghost use Rattle.lin_cluster.specs.FindingsNames.{at_name, when, frame_named, knows, signal_named};
-ghost use Rattle.lin_cluster.specs.FindingsNodes.{node_of, is_number};
-ghost use Rattle.lin_cluster.specs.FindingsTables.{is_in_front, bad_member_at, bad_members_in, bad_event_frames, is_responders, bad_sporadic_at, bad_sporadics_in, bad_sporadics};
+ghost use Rattle.lin_cluster.specs.Findings.{in_event_member};
+ghost use Rattle.lin_cluster.specs.FindingsMembers.{is_bad_behind, is_wrong_behind, is_mixed_behind, in_member_behind};
+ghost use Rattle.lin_cluster.specs.FindingsNames.{frame_named, knows};
+ghost use Rattle.lin_cluster.specs.FindingsNodes.{is_number, is_behind_commander};
+ghost use Rattle.lin_cluster.specs.Known.{frame_facts};
+ghost use Rattle.lin_cluster.specs.Models.{differ};
 
+use super::facts::FrameFacts;
 use super::judged::Judged;
-use super::known::{Known, is_behind_commander};
-use super::words::{at_name, push_when};
-use crate::finding::Finding;
+use super::known::is_behind_commander;
+use super::walk::{Finds, at_name, push_when};
+use crate::finding::{Finding, FindingKind};
 use indexmap::IndexSet;
-use lin_description::{EventFrame, Frame, Name, PlacedSignal, Sporadic};
+use lin_description::Name;
+use lin_frame::SumKind;
 use std::alloc::{AllocError, Global};
 
 fn add_publisher(
     publishers: &mut IndexSet<usize>,
-    judged: &Judged,
-    member: &Name,
+    frame: Option<FrameFacts>,
 ) -> Result<(), AllocError>
-    ensures { OnOk result ((q : ℕ) → contains nat_eq publishers.new q ≡ (contains nat_eq publishers.old q || knows (frame_named judged.now member.now) (λ g. is_number q (node_of judged.now g.publisher)))) }
+    ensures { OnOk result ((q : ℕ) → contains nat_eq publishers.new q ≡ (contains nat_eq publishers.old q || knows frame (λ f. is_number q f.publisher))) }
 {
-    if let Some(node) = judged.frame_node(member) {
-        publishers.insert(node)?;
+    if let Some(frame) = frame {
+        if let Some(node) = frame.publisher {
+            publishers.insert(node)?;
+        }
     }
     Ok(())
 }
 
-fn first_frame<'a>(judged: &Judged<'_, 'a>, members: &[Name]) -> Option<&'a Frame>
-    ensures { option_copied result ≡ option_and_then (frame_named judged.now) (slice_get members.now 0) }
+fn first_frame(judged: &Judged, members: &[Name]) -> Option<FrameFacts>
+    ensures { result ≡ option_map (frame_facts judged.now) (option_and_then (frame_named judged.now) (slice_get members.now 0)) }
 {
     match members.first() {
-        Some(member) => judged.known().frame(member),
+        Some(member) => judged.frame(member),
         None => None,
     }
 }
 
-fn differs_from(first: Option<&Frame>, frame: &Frame) -> bool
-    ensures { result ≡ knows (option_copied first.entry) (λ g. not (g.size.value == frame.now.size.value)) }
+fn has_other_size(first: Option<FrameFacts>, frame: FrameFacts) -> bool
+    ensures { result ≡ knows first (λ g. not (nat_eq g.size frame.size)) }
 {
     match first {
-        Some(first) => !(first.size.value == frame.size.value),
+        Some(first) => !(first.size == frame.size),
         None => false,
     }
 }
 
-fn has_bits(known: &Known, name: &Name) -> bool
-    ensures { result ≡ knows (signal_named known.now name.now) (λ s. nat_lt 0 s.size.value) }
-{
-    match known.signal(name) {
-        Some(signal) => 0 < signal.size.value,
-        None => false,
-    }
-}
-
-fn is_in_front(known: &Known, placed: &PlacedSignal) -> bool
-    ensures { result ≡ is_in_front known.now placed.now }
-{
-    placed.offset.value < 8 && has_bits(known, &placed.signal)
-}
-
-/// Whether a frame has a signal of one bit at least that begins in data byte 0.
-pub(super) fn has_signal_in_front(known: &Known, all_placed: &[PlacedSignal]) -> bool
-    ensures { result ≡ list_any (is_in_front known.now) all_placed.now }
-{
-    all_placed.iter().any(|placed| is_in_front(known, placed))
-}
-
-fn is_commander(publisher: Option<usize>) -> bool
-    ensures { result ≡ is_number 0 publisher }
+fn is_number_of(node: usize, publisher: Option<usize>) -> bool
+    ensures { result ≡ is_number node publisher }
 {
     match publisher {
-        Some(node) => node == 0,
+        Some(publisher) => publisher == node,
         None => false,
     }
 }
@@ -88,166 +72,117 @@ fn has_published(publishers: &IndexSet<usize>, publisher: Option<usize>) -> bool
     }
 }
 
-fn is_bad_member(
-    first: Option<&Frame>,
-    publishers: &IndexSet<usize>,
-    publisher: Option<usize>,
-    is_in_front: bool,
-    frame: &Frame,
-) -> bool
-    ensures { result ≡ is_bad_behind (option_copied first.entry) (contains nat_eq publishers.now) publisher is_in_front frame.now }
+fn is_bad_frame(first: Option<FrameFacts>, publishers: &IndexSet<usize>, frame: FrameFacts) -> bool
+    ensures { result ≡ is_bad_behind first (contains nat_eq publishers.now) frame }
 {
-    is_commander(publisher)
-        || has_published(publishers, publisher)
-        || differs_from(first, frame)
-        || is_in_front
+    is_number_of(0, frame.publisher)
+        || has_published(publishers, frame.publisher)
+        || has_other_size(first, frame)
+        || frame.has_front
 }
 
 fn is_wrong_member(
-    judged: &Judged,
-    first: Option<&Frame>,
+    first: Option<FrameFacts>,
     publishers: &IndexSet<usize>,
-    member: &Name,
+    is_known: bool,
+    frame: Option<FrameFacts>,
 ) -> bool
-    ensures { result ≡ is_wrong_behind judged.now (option_copied first.entry) (contains nat_eq publishers.now) member.now }
+    ensures { result ≡ is_wrong_behind first (contains nat_eq publishers.now) is_known frame }
 {
-    let known = judged.known();
-    match known.frame(member) {
-        Some(frame) => is_bad_member(
-            first,
-            publishers,
-            judged.frame_node(member),
-            judged.has_signal_in_front(member),
-            frame,
-        ),
-        None => known.is_any_frame(member),
+    match frame {
+        Some(frame) => is_known && is_bad_frame(first, publishers, frame),
+        None => is_known,
     }
 }
 
-fn bad_member(
-    found: &mut Vec<Finding>,
-    judged: &Judged,
-    first: Option<&Frame>,
-    publishers: &IndexSet<usize>,
-    member: &Name,
-) -> Result<(), AllocError>
-    ensures { OnOk result (found.new.items ≡ found.old.items ++ when (is_wrong_behind judged.now (option_copied first.entry) (contains nat_eq publishers.now) member.now) (at_name 13 member.now)) }
+fn differ(model: SumKind, other: SumKind) -> bool
+    ensures { result ≡ differ model other }
 {
-    let is_wrong = is_wrong_member(judged, first, publishers, member);
-    push_when(found, is_wrong, at_name(13, member))
+    match (model, other) {
+        (SumKind::Classic, SumKind::Enhanced) => true,
+        (SumKind::Enhanced, SumKind::Classic) => true,
+        _ => false,
+    }
 }
 
+fn is_mixed(first: Option<FrameFacts>, frame: Option<FrameFacts>) -> bool
+    ensures { result ≡ is_mixed_behind first frame }
+{
+    match (frame, first) {
+        (Some(frame), Some(first)) => differ(frame.model, first.model),
+        _ => false,
+    }
+}
+
+fn find_member(
+    found: &mut Vec<Finding>,
+    first: Option<FrameFacts>,
+    publishers: &IndexSet<usize>,
+    is_known: bool,
+    frame: Option<FrameFacts>,
+    member: &Name,
+) -> Result<(), AllocError>
+    ensures { OnOk result (found.new.items ≡ found.old.items ++ in_member_behind first (contains nat_eq publishers.now) is_known frame member.now) }
+{
+    let is_wrong = is_wrong_member(first, publishers, is_known, frame);
+    push_when(found, !is_known, at_name(FindingKind::UnknownName, member))?;
+    push_when(found, is_wrong, at_name(FindingKind::BadEventFrame, member))?;
+    push_when(
+        found,
+        is_mixed(first, frame),
+        at_name(FindingKind::MixedChecksum, member),
+    )
+}
+
+/// What is wrong with the members of an event-triggered frame; each name is looked up once.
 #[tactic(auto, using(crate::proofs::FindingsLists::each_all))]
-fn bad_members_among(
+pub(super) fn members_in_order(
     alloc: Global,
     found: &mut Vec<Finding>,
     judged: &Judged,
     members: &[Name],
 ) -> Result<(), AllocError>
-    ensures { OnOk result (found.new.items ≡ found.old.items ++ flat_map (bad_member_at judged.now members.now) (enumerate_from 0 members.now)) }
+    ensures { OnOk result (found.new.items ≡ found.old.items ++ flat_map (in_event_member judged.now members.now) (enumerate_from 0 members.now)) }
 {
     let first = first_frame(judged, members);
     let mut publishers = IndexSet::new(alloc);
     for member in members {
-        bad_member(found, judged, first, &publishers, member)?;
-        add_publisher(&mut publishers, judged, member)?;
+        let frame = judged.frame(member);
+        let is_known = judged.is_any_frame(frame, member);
+        find_member(found, first, &publishers, is_known, frame, member)?;
+        add_publisher(&mut publishers, frame)?;
     }
     Ok(())
 }
 
-fn bad_members_in(
-    alloc: Global,
-    found: &mut Vec<Finding>,
-    judged: &Judged,
-    event: &EventFrame,
-) -> Result<(), AllocError>
-    ensures { OnOk result (found.new.items ≡ found.old.items ++ bad_members_in judged.now event.now) }
+fn is_no_commanders(frame: Option<FrameFacts>) -> bool
+    ensures { result ≡ option_map_or (λ f. is_behind_commander f.publisher) frame true }
 {
-    bad_members_among(alloc, found, judged, event.members.as_slice())
-}
-
-fn bad_members_in_each(
-    alloc: Global,
-    found: &mut Vec<Finding>,
-    judged: &Judged,
-    events: &[EventFrame],
-) -> Result<(), AllocError>
-    ensures { OnOk result (found.new.items ≡ found.old.items ++ flat_map (bad_members_in judged.now) events.now) }
-{
-    for event in events {
-        bad_members_in(alloc, found, judged, event)?;
+    match frame {
+        Some(frame) => is_behind_commander(frame.publisher),
+        None => true,
     }
-    Ok(())
 }
 
-/// Members that an event-triggered frame may not carry.
-pub(super) fn bad_event_frames(
-    alloc: Global,
-    found: &mut Vec<Finding>,
-    judged: &Judged,
-) -> Result<(), AllocError>
-    ensures { OnOk result (found.new.items ≡ found.old.items ++ bad_event_frames judged.now) }
-{
-    bad_members_in_each(alloc, found, judged, judged.known().description().events())
+/// The members of sporadic frames.
+#[derive(Clone, Copy)]
+pub(super) struct SporadicMembers<'j, 'k, 'a> {
+    pub(super) judged: &'j Judged<'k, 'a>,
 }
 
-fn is_no_commanders(judged: &Judged, member: &Name) -> bool
-    ensures { result ≡ option_map_or (is_responders judged.now) (frame_named judged.now member.now) true }
-{
-    judged.known().frame(member).is_none() || is_behind_commander(judged.frame_node(member))
-}
+impl<'j, 'k, 'a> Finds<Name> for SporadicMembers<'j, 'k, 'a> {
+    ghost use Rattle.lin_cluster.specs.Findings.{in_sporadic_member};
 
-fn bad_sporadic_at(
-    found: &mut Vec<Finding>,
-    judged: &Judged,
-    member: &Name,
-) -> Result<(), AllocError>
-    ensures { OnOk result (found.new.items ≡ found.old.items ++ bad_sporadic_at judged.now member.now) }
-{
-    let known = judged.known();
-    let is_wrong = known.is_any_frame(member) && is_no_commanders(judged, member);
-    push_when(found, is_wrong, at_name(14, member))
-}
+    ghost finds = { λ members name. in_sporadic_member members.judged.now name };
 
-fn bad_sporadics_at(
-    found: &mut Vec<Finding>,
-    judged: &Judged,
-    members: &[Name],
-) -> Result<(), AllocError>
-    ensures { OnOk result (found.new.items ≡ found.old.items ++ flat_map (bad_sporadic_at judged.now) members.now) }
-{
-    for member in members {
-        bad_sporadic_at(found, judged, member)?;
+    fn find(&self, found: &mut Vec<Finding>, member: &Name) -> Result<(), AllocError> {
+        let frame = self.judged.frame(member);
+        let is_known = self.judged.is_any_frame(frame, member);
+        push_when(found, !is_known, at_name(FindingKind::UnknownName, member))?;
+        push_when(
+            found,
+            is_known && is_no_commanders(frame),
+            at_name(FindingKind::BadSporadic, member),
+        )
     }
-    Ok(())
-}
-
-fn bad_sporadics_of(
-    found: &mut Vec<Finding>,
-    judged: &Judged,
-    frame: &Sporadic,
-) -> Result<(), AllocError>
-    ensures { OnOk result (found.new.items ≡ found.old.items ++ bad_sporadics_in judged.now frame.now) }
-{
-    bad_sporadics_at(found, judged, frame.members.as_slice())
-}
-
-fn bad_sporadics_in(
-    found: &mut Vec<Finding>,
-    judged: &Judged,
-    frames: &[Sporadic],
-) -> Result<(), AllocError>
-    ensures { OnOk result (found.new.items ≡ found.old.items ++ flat_map (bad_sporadics_in judged.now) frames.now) }
-{
-    for frame in frames {
-        bad_sporadics_of(found, judged, frame)?;
-    }
-    Ok(())
-}
-
-/// Members that a sporadic frame may not carry.
-pub(super) fn bad_sporadics(found: &mut Vec<Finding>, judged: &Judged) -> Result<(), AllocError>
-    ensures { OnOk result (found.new.items ≡ found.old.items ++ bad_sporadics judged.now) }
-{
-    bad_sporadics_in(found, judged, judged.known().description().sporadic())
 }

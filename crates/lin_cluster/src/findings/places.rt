@@ -1,18 +1,20 @@
-//! Signals in frames of another node, and signals that reach out of their frames.
+//! Signals in their frames: unknown name (1), wrong publisher (2), signal outside (6) and, by `overlaps`, signals overlap (7).
 
-ghost use Rattle.std.specs.Prelude.{◌≡◌, ◌++◌, OnOk};
-ghost use Rattle.std.specs.List.{flat_map};
-ghost use Rattle.lin_cluster.specs.FindingsFrames.{is_array, wrong_publishers_in, wrong_publishers, is_outside, outside_at, outside_in, signals_outside};
-ghost use Rattle.lin_cluster.specs.FindingsNames.{knows, signal_named};
-ghost use Rattle.lin_cluster.specs.FindingsNodes.{node_of, are_two, wrong_publisher_by};
+ghost use Rattle.std.specs.Prelude.{◌≡◌, ◌++◌, ◌<◌, ◌↔◌, ℕ, List, true, OnOk};
+ghost use Rattle.std.specs.List.{flat_map, enumerate_from};
+ghost use Rattle.lin_cluster.specs.Findings.{in_placed};
+ghost use Rattle.lin_cluster.specs.FindingsNodes.{are_two};
+ghost use Rattle.lin_cluster.specs.FindingsPlaces.{is_outside_by, in_placed_by};
 
-use super::judged::Judged;
-use super::known::Known;
-use super::sizes::is_array;
-use super::words::{at_name, at_number, push_when};
-use crate::finding::Finding;
-use lin_description::{Frame, PlacedSignal, Signal};
-use std::alloc::AllocError;
+use super::facts::{SignalFacts, Signals};
+use super::overlaps::{add_bits, overlap};
+use super::walk::{at_name, at_number, push_when};
+use crate::finding::{Finding, FindingKind};
+use crate::names::add;
+use indexmap::IndexMap;
+use lin_description::{Frame, PlacedSignal};
+use std::alloc::{AllocError, Global};
+use std::collections::BTreeMap;
 
 // A name that is no node's is no other node's.
 fn are_two(node: Option<usize>, other: Option<usize>) -> bool
@@ -24,134 +26,61 @@ fn are_two(node: Option<usize>, other: Option<usize>) -> bool
     }
 }
 
-fn has_other_publisher(judged: &Judged, publisher: Option<usize>, placed: &PlacedSignal) -> bool
-    ensures { result ≡ knows (signal_named judged.now placed.now.signal) (λ s. are_two (node_of judged.now s.publisher) publisher) }
-{
-    are_two(judged.signal_node(&placed.signal), publisher)
-}
-
-fn wrong_publisher_at(
-    found: &mut Vec<Finding>,
-    judged: &Judged,
-    publisher: Option<usize>,
-    placed: &PlacedSignal,
-) -> Result<(), AllocError>
-    ensures { OnOk result (found.new.items ≡ found.old.items ++ wrong_publisher_by judged.now publisher placed.now) }
-{
-    let is_wrong = has_other_publisher(judged, publisher, placed);
-    push_when(found, is_wrong, at_name(2, &placed.signal))
-}
-
-fn wrong_publishers_at(
-    found: &mut Vec<Finding>,
-    judged: &Judged,
-    publisher: Option<usize>,
-    all_placed: &[PlacedSignal],
-) -> Result<(), AllocError>
-    ensures { OnOk result (found.new.items ≡ found.old.items ++ flat_map (wrong_publisher_by judged.now publisher) all_placed.now) }
-{
-    for placed in all_placed {
-        wrong_publisher_at(found, judged, publisher, placed)?;
-    }
-    Ok(())
-}
-
-fn wrong_publishers_of(
-    found: &mut Vec<Finding>,
-    judged: &Judged,
-    frame: &Frame,
-) -> Result<(), AllocError>
-    ensures { OnOk result (found.new.items ≡ found.old.items ++ wrong_publishers_in judged.now frame.now) }
-{
-    let publisher = judged.known().node(&frame.publisher);
-    wrong_publishers_at(found, judged, publisher, frame.placed.as_slice())
-}
-
-fn wrong_publishers_in(
-    found: &mut Vec<Finding>,
-    judged: &Judged,
-    frames: &[Frame],
-) -> Result<(), AllocError>
-    ensures { OnOk result (found.new.items ≡ found.old.items ++ flat_map (wrong_publishers_in judged.now) frames.now) }
-{
-    for frame in frames {
-        wrong_publishers_of(found, judged, frame)?;
-    }
-    Ok(())
-}
-
-/// Signals whose publisher isn't that of the frame.
-pub(super) fn wrong_publishers(found: &mut Vec<Finding>, judged: &Judged) -> Result<(), AllocError>
-    ensures { OnOk result (found.new.items ≡ found.old.items ++ wrong_publishers judged.now) }
-{
-    wrong_publishers_in(found, judged, judged.known().description().frames())
-}
-
-fn is_outside(frame: &Frame, placed: &PlacedSignal, signal: &Signal) -> bool
-    ensures { result ≡ is_outside frame.now placed.now signal.now }
+fn is_outside(frame: &Frame, placed: &PlacedSignal, signal: SignalFacts) -> bool
+    ensures { result ≡ is_outside_by frame.now placed.now signal }
 {
     let bytes: u32 = frame.size.value;
-    let end = u64::from(placed.offset.value) + u64::from(signal.size.value);
-    8 * u64::from(bytes) < end || (is_array(&signal.init) && !(placed.offset.value % 8 == 0))
+    let end = u64::from(placed.offset.value) + u64::from(signal.size);
+    8 * u64::from(bytes) < end || (signal.is_array && !(placed.offset.value % 8 == 0))
 }
 
-fn reaches_outside(known: &Known, frame: &Frame, placed: &PlacedSignal) -> bool
-    ensures { result ≡ knows (signal_named known.now placed.now.signal) (is_outside frame.now placed.now) }
+fn find_placed(
+    found: &mut Vec<Finding>,
+    frame: &Frame,
+    publisher: Option<usize>,
+    placed: &PlacedSignal,
+    signal: Option<SignalFacts>,
+) -> Result<(), AllocError>
+    ensures { OnOk result (found.new.items ≡ found.old.items ++ in_placed_by frame.now publisher placed.now signal) }
 {
-    match known.signal(&placed.signal) {
-        Some(signal) => is_outside(frame, placed, signal),
-        None => false,
+    match signal {
+        Some(signal) => {
+            let is_elsewhere = are_two(signal.publisher, publisher);
+            push_when(
+                found,
+                is_elsewhere,
+                at_name(FindingKind::WrongPublisher, &placed.signal),
+            )?;
+            push_when(
+                found,
+                is_outside(frame, placed, signal),
+                at_number(FindingKind::SignalOutside, &placed.offset),
+            )
+        }
+        None => Ok(found.push(at_name(FindingKind::UnknownName, &placed.signal))?),
     }
 }
 
-fn outside_at(
+/// What is wrong with the signals that a frame places; each name is looked up once.
+#[tactic(auto, using(crate::proofs::FindingsLists::each_all))]
+pub(super) fn signals_in_order(
+    alloc: Global,
     found: &mut Vec<Finding>,
-    known: &Known,
-    frame: &Frame,
-    placed: &PlacedSignal,
-) -> Result<(), AllocError>
-    ensures { OnOk result (found.new.items ≡ found.old.items ++ outside_at known.now frame.now placed.now) }
-{
-    let is_wrong = reaches_outside(known, frame, placed);
-    push_when(found, is_wrong, at_number(6, &placed.offset))
-}
-
-fn outside_at_each(
-    found: &mut Vec<Finding>,
-    known: &Known,
+    signals: &Signals,
     frame: &Frame,
     all_placed: &[PlacedSignal],
 ) -> Result<(), AllocError>
-    ensures { OnOk result (found.new.items ≡ found.old.items ++ flat_map (outside_at known.now frame.now) all_placed.now) }
+    ensures { OnOk result (found.new.items ≡ found.old.items ++ flat_map (in_placed signals.now frame.now all_placed.now) (enumerate_from 0 all_placed.now)) }
 {
+    let publisher = signals.known().node(&frame.publisher);
+    let mut names = IndexMap::new(alloc);
+    let mut ranges = BTreeMap::new(alloc);
     for placed in all_placed {
-        outside_at(found, known, frame, placed)?;
+        let signal = signals.named(&placed.signal);
+        find_placed(found, frame, publisher, placed, signal)?;
+        overlap(found, &names, &ranges, placed, signal)?;
+        add(&mut names, placed.signal.text.as_slice(), ())?;
+        add_bits(&mut ranges, placed, signal)?;
     }
     Ok(())
-}
-
-fn outside_in(found: &mut Vec<Finding>, known: &Known, frame: &Frame) -> Result<(), AllocError>
-    ensures { OnOk result (found.new.items ≡ found.old.items ++ outside_in known.now frame.now) }
-{
-    outside_at_each(found, known, frame, frame.placed.as_slice())
-}
-
-fn outside_in_each(
-    found: &mut Vec<Finding>,
-    known: &Known,
-    frames: &[Frame],
-) -> Result<(), AllocError>
-    ensures { OnOk result (found.new.items ≡ found.old.items ++ flat_map (outside_in known.now) frames.now) }
-{
-    for frame in frames {
-        outside_in(found, known, frame)?;
-    }
-    Ok(())
-}
-
-/// Signals that reach beyond their frame's bits, and arrays that begin in the middle of a byte.
-pub(super) fn signals_outside(found: &mut Vec<Finding>, known: &Known) -> Result<(), AllocError>
-    ensures { OnOk result (found.new.items ≡ found.old.items ++ signals_outside known.now) }
-{
-    outside_in_each(found, known, known.description().frames())
 }

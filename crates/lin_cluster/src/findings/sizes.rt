@@ -1,12 +1,11 @@
-//! Sizes of signals and frames, and initial values.
+//! Bad size (5) of signals and frames, and bad initial value (8).
 
 ghost use Rattle.std.specs.Prelude.{◌≡◌, ◌++◌, OnOk, nat_lt, IsTrue};
-ghost use Rattle.std.specs.List.{flat_map, list_any};
-ghost use Rattle.lin_cluster.specs.FindingsFrames.{is_array, is_good_size, bad_signal_size, is_frame_size, bad_frame_size, bad_sizes, is_good_init, init_place, bad_init, bad_inits};
+ghost use Rattle.std.specs.List.{list_any};
+ghost use Rattle.lin_cluster.specs.FindingsFrames.{is_array, is_good_size, bad_signal_size, is_frame_size, bad_frame_size, is_good_init, init_place, bad_init};
 
-use super::known::Known;
-use super::words::{at_number, at_place, push_when};
-use crate::finding::Finding;
+use super::walk::{at_number, push_when};
+use crate::finding::{Finding, FindingKind};
 use lin_description::{Frame, Init, Number, Place, Signal};
 use std::alloc::AllocError;
 
@@ -30,19 +29,15 @@ fn is_good_size(signal: &Signal) -> bool
     }
 }
 
-fn bad_signal_size(found: &mut Vec<Finding>, signal: &Signal) -> Result<(), AllocError>
+/// A size that a signal may not have.
+pub(super) fn bad_signal_size(found: &mut Vec<Finding>, signal: &Signal) -> Result<(), AllocError>
     ensures { OnOk result (found.new.items ≡ found.old.items ++ bad_signal_size signal.now) }
 {
-    push_when(found, !is_good_size(signal), at_number(5, &signal.size))
-}
-
-fn bad_signal_sizes(found: &mut Vec<Finding>, signals: &[Signal]) -> Result<(), AllocError>
-    ensures { OnOk result (found.new.items ≡ found.old.items ++ flat_map bad_signal_size signals.now) }
-{
-    for signal in signals {
-        bad_signal_size(found, signal)?;
-    }
-    Ok(())
+    push_when(
+        found,
+        !is_good_size(signal),
+        at_number(FindingKind::BadSize, &signal.size),
+    )
 }
 
 /// Whether a frame may have this number of bytes.
@@ -52,29 +47,16 @@ pub(super) fn is_frame_size(size: u32) -> bool
     1 <= size && size <= 8
 }
 
-fn bad_frame_size(found: &mut Vec<Finding>, frame: &Frame) -> Result<(), AllocError>
+/// A size that a frame may not have.
+pub(super) fn bad_frame_size(found: &mut Vec<Finding>, frame: &Frame) -> Result<(), AllocError>
     ensures { OnOk result (found.new.items ≡ found.old.items ++ bad_frame_size frame.now) }
 {
     let is_good = is_frame_size(frame.size.value);
-    push_when(found, !is_good, at_number(5, &frame.size))
-}
-
-fn bad_frame_sizes(found: &mut Vec<Finding>, frames: &[Frame]) -> Result<(), AllocError>
-    ensures { OnOk result (found.new.items ≡ found.old.items ++ flat_map bad_frame_size frames.now) }
-{
-    for frame in frames {
-        bad_frame_size(found, frame)?;
-    }
-    Ok(())
-}
-
-/// Signals and frames of sizes that they may not have.
-pub(super) fn bad_sizes(found: &mut Vec<Finding>, known: &Known) -> Result<(), AllocError>
-    ensures { OnOk result (found.new.items ≡ found.old.items ++ bad_sizes known.now) }
-{
-    let description = known.description();
-    bad_signal_sizes(found, description.signals())?;
-    bad_frame_sizes(found, description.frames())
+    push_when(
+        found,
+        !is_good,
+        at_number(FindingKind::BadSize, &frame.size),
+    )
 }
 
 fn has_wide_item(items: &[Number]) -> bool
@@ -109,25 +91,11 @@ fn init_place(init: &Init) -> Place
     }
 }
 
-fn bad_init(found: &mut Vec<Finding>, signal: &Signal) -> Result<(), AllocError>
+/// An initial value that doesn't fit its signal.
+pub(super) fn bad_init(found: &mut Vec<Finding>, signal: &Signal) -> Result<(), AllocError>
     ensures { OnOk result (found.new.items ≡ found.old.items ++ bad_init signal.now) }
 {
     let is_bad = is_good_size(signal) && !is_good_init(signal);
-    push_when(found, is_bad, at_place(8, init_place(&signal.init)))
-}
-
-fn bad_inits_of(found: &mut Vec<Finding>, signals: &[Signal]) -> Result<(), AllocError>
-    ensures { OnOk result (found.new.items ≡ found.old.items ++ flat_map bad_init signals.now) }
-{
-    for signal in signals {
-        bad_init(found, signal)?;
-    }
-    Ok(())
-}
-
-/// Initial values that don't fit their signals.
-pub(super) fn bad_inits(found: &mut Vec<Finding>, known: &Known) -> Result<(), AllocError>
-    ensures { OnOk result (found.new.items ≡ found.old.items ++ bad_inits known.now) }
-{
-    bad_inits_of(found, known.description().signals())
+    let place = init_place(&signal.init);
+    push_when(found, is_bad, Finding::new(FindingKind::BadInit, place))
 }

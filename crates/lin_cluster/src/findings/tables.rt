@@ -1,76 +1,55 @@
-//! Tables that may not resolve collisions, and tables without entries.
+//! Resolving tables of event-triggered frames: unknown name (1) and nested collision (15); empty table (16).
 
-ghost use Rattle.std.specs.Prelude.{◌≡◌, ◌++◌, OnOk};
-ghost use Rattle.std.specs.List.{flat_map, list_any};
-ghost use Rattle.lin_cluster.specs.FindingsNames.{is_event_entry};
-ghost use Rattle.lin_cluster.specs.FindingsTables.{nested_at, nested_collisions, empty_table, empty_tables};
+ghost use Rattle.std.specs.Prelude.{◌≡◌, ◌++◌, ◌==◌, OnOk, length};
+ghost use Rattle.lin_cluster.specs.FindingsFrames.{unknown_table};
+ghost use Rattle.lin_cluster.specs.FindingsNames.{when};
+ghost use Rattle.lin_cluster.specs.FindingsTables.{nested_at, empty_table};
+ghost use Rattle.lin_cluster.specs.Kinds.{finding_at};
+ghost use Rattle.lin_cluster.specs.declared.finding.FindingKind.TheVariants.{EmptyTable};
 
 use super::judged::Judged;
-use super::known::Known;
-use super::words::{at_name, finding_at, push_when};
-use crate::finding::Finding;
-use lin_description::{EventFrame, Table, TableEntry};
+use super::walk::{at_name, push_when};
+use crate::finding::{Finding, FindingKind};
+use lin_description::{EventFrame, Place, Table};
 use std::alloc::AllocError;
 
-/// Whether a table has an event-triggered entry.
-pub(super) fn has_event_entry(known: &Known, entries: &[TableEntry]) -> bool
-    ensures { result ≡ list_any (is_event_entry known.now) entries.now }
-{
-    entries.iter().any(|entry| known.is_event_entry(entry))
-}
-
-fn nested_at(
+/// A resolving table that isn't there, or that has an event-triggered entry.
+pub(super) fn resolving_table(
     found: &mut Vec<Finding>,
     judged: &Judged,
     event: &EventFrame,
 ) -> Result<(), AllocError>
-    ensures { OnOk result (found.new.items ≡ found.old.items ++ nested_at judged.now event.now) }
+    ensures { OnOk result (found.new.items ≡ found.old.items ++ unknown_table judged.now event.now ++ nested_at judged.now event.now) }
 {
-    let is_wrong = judged.is_nested(&event.table);
-    push_when(found, is_wrong, at_name(15, &event.table))
-}
-
-fn nested_at_each(
-    found: &mut Vec<Finding>,
-    judged: &Judged,
-    events: &[EventFrame],
-) -> Result<(), AllocError>
-    ensures { OnOk result (found.new.items ≡ found.old.items ++ flat_map (nested_at judged.now) events.now) }
-{
-    for event in events {
-        nested_at(found, judged, event)?;
+    match judged.nested(&event.table) {
+        Some(is_nested) => push_when(
+            found,
+            is_nested,
+            at_name(FindingKind::NestedCollision, &event.table),
+        ),
+        None => Ok(found.push(at_name(FindingKind::UnknownName, &event.table))?),
     }
-    Ok(())
 }
 
-/// Resolving tables with an event-triggered entry.
-pub(super) fn nested_collisions(found: &mut Vec<Finding>, judged: &Judged) -> Result<(), AllocError>
-    ensures { OnOk result (found.new.items ≡ found.old.items ++ nested_collisions judged.now) }
-{
-    nested_at_each(found, judged, judged.known().description().events())
-}
-
-fn empty_table(found: &mut Vec<Finding>, table: &Table) -> Result<(), AllocError>
+/// A table without entries.
+pub(super) fn empty_table(found: &mut Vec<Finding>, table: &Table) -> Result<(), AllocError>
     ensures { OnOk result (found.new.items ≡ found.old.items ++ empty_table table.now) }
 {
-    let is_empty = table.entries.as_slice().is_empty();
-    push_when(found, is_empty, at_name(16, &table.name))
+    push_when(
+        found,
+        table.entries.as_slice().is_empty(),
+        at_name(FindingKind::EmptyTable, &table.name),
+    )
 }
 
-fn empty_tables_of(found: &mut Vec<Finding>, tables: &[Table]) -> Result<(), AllocError>
-    ensures { OnOk result (found.new.items ≡ found.old.items ++ flat_map empty_table tables.now) }
+/// That there is no table.
+pub(super) fn no_table(found: &mut Vec<Finding>, tables: &[Table]) -> Result<(), AllocError>
+    ensures { OnOk result (found.new.items ≡ found.old.items ++ when (length tables.now == 0) (finding_at EmptyTable 1 1)) }
 {
-    for table in tables {
-        empty_table(found, table)?;
-    }
-    Ok(())
-}
-
-/// Tables without entries, and that there is no table.
-pub(super) fn empty_tables(found: &mut Vec<Finding>, known: &Known) -> Result<(), AllocError>
-    ensures { OnOk result (found.new.items ≡ found.old.items ++ empty_tables known.now) }
-{
-    let tables = known.description().tables();
-    push_when(found, tables.is_empty(), finding_at(16, 1, 1))?;
-    empty_tables_of(found, tables)
+    let start = Place { line: 1, column: 1 };
+    push_when(
+        found,
+        tables.is_empty(),
+        Finding::new(FindingKind::EmptyTable, start),
+    )
 }

@@ -1,8 +1,9 @@
-use Rattle.std.proofs.Common.{◌∙◌}
+use Rattle.std.proofs.Common.{ap, ◌∙◌}
+use Rattle.std.specs.List.{position_or_len}
 use Rattle.lin_cluster.specs.FindingsTables.{first_size}
 use Rattle.lin_cluster.proofs.Named.{made_of}
 use Rattle.lin_cluster.specs.FindingsNames.{same_name}
 use Rattle.lin_cluster.proofs.findings.judged.Judged.event_size.Goals as goal
 
 pub returns : goal.returns
-returns c = rw (← c.self.view_is) (c.at.ensures ∙ made_of (λ e. first_size c.self.inside.known.now e.members) (λ x. same_name x.name c.args.name.now) c.self.inside.known.now.events c.event_number.result c.as_slice.result.now _ c.as_slice.ensures.value c.self.invariant.1.1 c.event_number.ensures)
+returns c = rw (← c.self.view_is) (c.at.ensures ∙ made_of (λ e. first_size c.self.inside.signals e.members) (λ x. same_name x.name c.args.name.now) c.self.inside.signals.events c.event_number.result c.as_slice.result.now _ c.as_slice.ensures.value c.self.invariant.1.1 (c.event_number.ensures ∙ ap (λ d. position_or_len (λ x. same_name x.name c.args.name.now) d.events) c.known.ensures))

@@ -1,7 +1,0 @@
-use Rattle.std.proofs.Common.{◌≡◌, ◌++◌, take}
-use Rattle.std.specs.List.{flat_map}
-use Rattle.lin_cluster.specs.FindingsTables.{bad_members_in}
-use Rattle.lin_cluster.proofs.findings.members.bad_members_in_each.Given as goal
-
-abbrev pub invariant-loop-event : goal.invariant-loop-event
-invariant-loop-event l = l.found.items ≡ l.fn.found.items ++ flat_map (bad_members_in l.judged) (take l.event-index l.events)

@@ -1,7 +1,0 @@
-use Rattle.std.proofs.Common.{◌≡◌, ◌++◌, take}
-use Rattle.std.specs.List.{flat_map}
-use Rattle.lin_cluster.specs.FindingsFrames.{bad_init}
-use Rattle.lin_cluster.proofs.findings.sizes.bad_inits_of.Given as goal
-
-abbrev pub invariant-loop-signal : goal.invariant-loop-signal
-invariant-loop-signal l = l.found.items ≡ l.fn.found.items ++ flat_map bad_init (take l.signal-index l.signals)

@@ -1,0 +1,50 @@
+-- The numbers of findings, and findings by their kinds.
+use Rattle.std.specs.Prelude.{ℕ}
+use Rattle.lin_cluster.specs.declared.finding.Finding.{Finding}
+use Rattle.lin_cluster.specs.declared.finding.FindingKind.{FindingKind}
+use Rattle.lin_cluster.specs.declared.finding.FindingKind.TheVariants.{UnknownName, WrongPublisher, BadId, IdTwice, BadSize, SignalOutside, SignalsOverlap, BadInit, SlotTooShort, ZeroDelay, BadNad, NadTwice, BadEventFrame, BadSporadic, NestedCollision, EmptyTable, LimitPassed, MixedChecksum}
+
+abbrev pub number_of : FindingKind → ℕ
+number_of UnknownName = 1
+number_of WrongPublisher = 2
+number_of BadId = 3
+number_of IdTwice = 4
+number_of BadSize = 5
+number_of SignalOutside = 6
+number_of SignalsOverlap = 7
+number_of BadInit = 8
+number_of (SlotTooShort needed_us) = 9
+number_of ZeroDelay = 10
+number_of BadNad = 11
+number_of NadTwice = 12
+number_of BadEventFrame = 13
+number_of BadSporadic = 14
+number_of NestedCollision = 15
+number_of EmptyTable = 16
+number_of LimitPassed = 17
+number_of MixedChecksum = 18
+
+-- the time in microseconds that a slot that is too short needs
+abbrev pub needed_by : FindingKind → ℕ
+needed_by (SlotTooShort needed_us) = needed_us
+needed_by UnknownName = 0
+needed_by WrongPublisher = 0
+needed_by BadId = 0
+needed_by IdTwice = 0
+needed_by BadSize = 0
+needed_by SignalOutside = 0
+needed_by SignalsOverlap = 0
+needed_by BadInit = 0
+needed_by ZeroDelay = 0
+needed_by BadNad = 0
+needed_by NadTwice = 0
+needed_by BadEventFrame = 0
+needed_by BadSporadic = 0
+needed_by NestedCollision = 0
+needed_by EmptyTable = 0
+needed_by LimitPassed = 0
+needed_by MixedChecksum = 0
+
+-- a finding by its kind, line and column
+abbrev pub finding_at : FindingKind → ℕ → ℕ → Finding
+finding_at kind line column = record { line = line; column = column; number = number_of kind; needed_us = needed_by kind }

@@ -1,0 +1,194 @@
+//! What is worked out once of each signal and each frame, since very many names may name one.
+
+ghost use Rattle.std.specs.Prelude.{◌≡◌, IfOk, slice_get};
+ghost use Rattle.std.specs.List.{list_any};
+ghost use Rattle.std.specs.Option.{option_map};
+ghost use Rattle.lin_cluster.specs.FindingsNames.{signal_named};
+ghost use Rattle.lin_cluster.specs.FindingsTables.{is_in_front};
+ghost use Rattle.lin_cluster.specs.Known.{signal_facts};
+ghost use Rattle.lin_cluster.specs.Models.{has_lin_1, carries_to_lin_1, is_classic};
+
+use super::known::Known;
+use super::sizes::is_array;
+use super::walk::{Makes, made_of_each};
+use lin_description::{Frame, Name, PlacedSignal, Signal};
+use lin_frame::SumKind;
+use std::alloc::{AllocError, Global};
+use std::marker::Model;
+
+/// What is asked of a signal wherever a frame places it: its size in bits, the number of the node that publishes it, where
+/// there is one, and whether a node of LIN 1.x subscribes it.
+#[derive(Clone, Copy)]
+pub(super) struct SignalFacts {
+    pub(super) size: u32,
+    pub(super) is_array: bool,
+    pub(super) publisher: Option<usize>,
+    pub(super) is_read_by_lin_1: bool,
+}
+
+/// What is asked of a frame wherever a member or an entry names it: its size in bytes, the number of the node that publishes
+/// it, where there is one, whether a signal begins in its data byte 0, and its checksum model.
+#[derive(Clone, Copy)]
+pub(super) struct FrameFacts {
+    pub(super) size: u32,
+    pub(super) publisher: Option<usize>,
+    pub(super) has_front: bool,
+    pub(super) model: SumKind,
+}
+
+/// What a list has at a number, where it has that.
+pub(super) fn at<V: Copy>(values: &[V], number: usize) -> Option<V>
+    ensures { result ≡ slice_get values.now number }
+{
+    match values.get(number) {
+        Some(value) => Some(*value),
+        None => None,
+    }
+}
+
+fn has_lin_1(known: &Known, signal: &Signal) -> bool
+    ensures { result ≡ has_lin_1 known.now signal.now }
+{
+    signal
+        .subscribers
+        .as_slice()
+        .iter()
+        .any(|node| known.is_lin_1(node))
+}
+
+impl<'a> Makes<Signal, SignalFacts> for Known<'a> {
+    ghost use Rattle.lin_cluster.specs.Known.{signal_facts};
+
+    ghost makes = { signal_facts };
+
+    fn make(&self, signal: &Signal) -> SignalFacts {
+        SignalFacts {
+            size: signal.size.value,
+            is_array: is_array(&signal.init),
+            publisher: self.node(&signal.publisher),
+            is_read_by_lin_1: has_lin_1(self, signal),
+        }
+    }
+}
+
+/// The facts of each signal. Contracts see the description.
+pub(super) struct Signals<'k, 'a> {
+    known: &'k Known<'a>,
+    facts: Vec<SignalFacts>,
+}
+
+impl<'k, 'a> Model for Signals<'k, 'a> {
+    ghost use Rattle.lin_cluster.specs.Known.{AreSignalFacts};
+    ghost use Rattle.lin_description.specs.declared.description.Description.{Description};
+
+    ghost Value = { Description };
+
+    ghost view = { λ s. s.known.now };
+
+    ghost invariant = { λ s. AreSignalFacts s.known.now s.facts.items };
+}
+
+// Written out, so that what owns one lets it go in one step.
+impl<'k, 'a> Drop for Signals<'k, 'a> {
+    fn drop(self) {
+        let Signals {
+            known: _,
+            facts: _facts,
+        } = self;
+    }
+}
+
+impl<'k, 'a> Signals<'k, 'a> {
+    /// An error is want of memory.
+    pub(super) fn new(alloc: Global, known: &'k Known<'a>) -> Result<Signals<'k, 'a>, AllocError>
+        ensures { IfOk result (λ s. s ≡ known.now) }
+    {
+        let facts = made_of_each(alloc, known, known.description().signals())?;
+        Ok(Signals { known, facts })
+    }
+
+    pub(super) fn known(&self) -> &'k Known<'a>
+        ensures { result.now ≡ self.now }
+    {
+        self.known
+    }
+
+    /// The facts of the signal with this name, where there is one.
+    pub(super) fn named(&self, name: &Name) -> Option<SignalFacts>
+        ensures { result ≡ option_map (signal_facts self.now) (signal_named self.now name.now) }
+    {
+        at(self.facts.as_slice(), self.known.signal_number(name))
+    }
+
+    fn is_in_front(&self, placed: &PlacedSignal) -> bool
+        ensures { result ≡ is_in_front self.now placed.now }
+    {
+        if 8 <= placed.offset.value {
+            return false;
+        }
+        match self.named(&placed.signal) {
+            Some(signal) => 0 < signal.size,
+            None => false,
+        }
+    }
+
+    fn carries_to_lin_1(&self, placed: &PlacedSignal) -> bool
+        ensures { result ≡ carries_to_lin_1 self.now placed.now }
+    {
+        match self.named(&placed.signal) {
+            Some(signal) => signal.is_read_by_lin_1,
+            None => false,
+        }
+    }
+
+    fn carry_to_lin_1(&self, all_placed: &[PlacedSignal]) -> bool
+        ensures { result ≡ list_any (carries_to_lin_1 self.now) all_placed.now }
+    {
+        all_placed
+            .iter()
+            .any(|placed| self.carries_to_lin_1(placed))
+    }
+
+    fn is_classic(&self, frame: &Frame) -> bool
+        ensures { result ≡ is_classic self.now frame.now }
+    {
+        self.known().is_lin_1(&frame.publisher) || self.carry_to_lin_1(frame.placed.as_slice())
+    }
+
+    fn has_front(&self, frame: &Frame) -> bool
+        ensures { result ≡ list_any (is_in_front self.now) frame.now.placed }
+    {
+        let placed = frame.placed.as_slice();
+        placed.iter().any(|placed| self.is_in_front(placed))
+    }
+}
+
+impl<'k, 'a> Makes<Frame, SumKind> for Signals<'k, 'a> {
+    ghost use Rattle.lin_cluster.specs.Models.{frame_model};
+
+    ghost makes = { frame_model };
+
+    fn make(&self, frame: &Frame) -> SumKind {
+        if self.is_classic(frame) {
+            SumKind::Classic
+        } else {
+            SumKind::Enhanced
+        }
+    }
+}
+
+impl<'k, 'a> Makes<Frame, FrameFacts> for Signals<'k, 'a> {
+    ghost use Rattle.lin_cluster.specs.Known.{frame_facts};
+
+    ghost makes = { frame_facts };
+
+    fn make(&self, frame: &Frame) -> FrameFacts {
+        let model: SumKind = self.make(frame);
+        FrameFacts {
+            size: frame.size.value,
+            publisher: self.known().node(&frame.publisher),
+            has_front: self.has_front(frame),
+            model,
+        }
+    }
+}
