@@ -1,5 +1,5 @@
 -- The fields of lines.
-use Rattle.std.proofs.Common.{◌≡◌, ℕ, List, [], ◌∷◌, ◌++◌, refl, ap, ◌∙◌, append-nil, take, drop, length, get_or, ◌+◌, ◌<◌, ◌≤◌, ◌==◌, flat_map, arith, Bool, true, false, None, slice_index, nat_lt, ◌&&◌, drop-cons, subst, not}
+use Rattle.std.proofs.Common.{◌≡◌, ℕ, List, [], ◌∷◌, ◌++◌, refl, sym, ap, ◌∙◌, add-one, ◌-◌, append-nil, take, drop, length, get_or, ◌+◌, ◌<◌, ◌≤◌, ◌==◌, flat_map, arith, Bool, true, false, None, slice_index, nat_lt, ◌&&◌, drop-cons, subst, not}
 use Rattle.std.proofs.lemmas.List.{take-append-drop}
 use Rattle.std.proofs.lemmas.List.Elements.{All-nil, All-cons}
 use Rattle.std.proofs.lemmas.Bool.{and_parts}
@@ -7,9 +7,15 @@ use Rattle.std.specs.List.{slice_split, All}
 use Rattle.std.proofs.lemmas.List.Splits.{slice_split_at, slice_split_none}
 use Rattle.std.specs.Char.{is_ascii_digit}
 use Rattle.std.proofs.lemmas.Grind.{common_steps}
-use Rattle.lin_log.proofs.Sinks.{cut-at}
 use Rattle.lin_log.specs.Words.{spaced}
 use Rattle.lin_log.specs.Script.{fields, number_after}
+
+-- a list at an index
+pub cut-at : (xs : List ℕ) (i : ℕ) → i < length xs → xs ≡ take i xs ++ (get_or xs i 0 ∷ drop (i + 1) xs)
+cut-at xs i h = sym (take-append-drop i xs) ∙ ap (λ l. take i xs ++ l) (rw (add-one) (drop-cons xs i 0 h))
+
+pub slice-rest : (xs : List ℕ) (n : ℕ) → take (length xs - n) (drop n xs) ≡ drop n xs
+slice-rest xs n = grind (arith, common_steps)
 
 abbrev is_space : ℕ → Bool
 is_space b = b == 32

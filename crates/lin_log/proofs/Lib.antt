@@ -1,5 +1,3 @@
-pub mod Sinks
-pub mod Texts
 pub mod FieldLemmas
 pub mod Law
 pub mod Whole

@@ -7,7 +7,7 @@ use Rattle.std.proofs.lemmas.List.Elements.{All-nil, All-cons}
 use Rattle.std.proofs.lemmas.List.Splits.{slice_split_at}
 use Rattle.std.proofs.lemmas.Bool.{and_parts}
 use Rattle.std.proofs.lemmas.Grind.{common_steps}
-use Rattle.lin_log.specs.Words.{spaced, port_word, direction_word, step_words, value_word, step_line, reply_line, event_words, seen_words, cause_word, header_word, refusal_number, reply_text, entry_text, text}
+use Rattle.lin_log.specs.Words.{spaced, ended, port_word, direction_word, step_words, value_word, step_line, reply_line, event_words, seen_words, cause_word, header_word, refusal_number, reply_text, entry_text, text}
 use Rattle.std.proofs.lemmas.List.Elements.{All-head, All-tail}
 use Rattle.lin_core.specs.Runs.{steps_of}
 use Rattle.lin_core.specs.Fits.{FitsPort, FitsStep, FitsValue}
@@ -101,11 +101,17 @@ inline-plains (w ∷ ws) h =
     let p = and_parts (all_plain w) (plains ws) h in
     inline-append w (flat_map spaced ws) (inline-word w p.0) (inline-plains ws p.1)
 
+-- the words of a line and its end, before a text
+line-end : (ws : List (List ℕ)) (rest : List ℕ) → ended ws ++ rest ≡ flat_map spaced ws ++ 10 ∷ rest
+line-end [] rest = refl
+line-end (w ∷ ws) rest =
+    append_assoc (spaced w) (ended ws) rest ∙ ap (λ l. spaced w ++ l) (line-end ws rest) ∙ sym (append_assoc (spaced w) (flat_map spaced ws) (10 ∷ rest))
+
 -- a reply's lines say nothing
 quiet-line : (ws : List (List ℕ)) (rest : List ℕ) (xs : List (PortId × Step)) → plains ws ≡ true → Says rest xs → Says (reply_line ws ++ rest) xs
 quiet-line ws rest xs h k =
     let body : List ℕ = 62 ∷ flat_map spaced ws in
-    let e : reply_line ws ++ rest ≡ body ++ 10 ∷ rest = ap (λ l. 62 ∷ l) (append_assoc (flat_map spaced ws) (10 ∷ []) rest) in
+    let e : reply_line ws ++ rest ≡ body ++ 10 ∷ rest = ap (λ l. 62 ∷ l) (line-end ws rest) in
     let P : List ℕ → Type 0 = λ t. Says t xs in
     subst P (sym e) (said-line body rest [] xs (inline-plains ws h) (remark-says (flat_map spaced ws)) k)
 
@@ -160,7 +166,8 @@ pub says-step : (p : PortId) (s : Step) (rest : List ℕ) (xs : List (PortId × 
 says-step p s rest xs hp hs k =
     let body : List ℕ = port_word p ++ flat_map spaced (step_words s) in
     let e : step_line p s ++ rest ≡ body ++ 10 ∷ rest =
-    ap (λ l. l ++ rest) (sym (append_assoc (port_word p) (flat_map spaced (step_words s)) (10 ∷ []))) ∙ append_assoc body (10 ∷ []) rest in
+    append_assoc (port_word p) (ended (step_words s)) rest ∙ ap (λ l. port_word p ++ l) (line-end (step_words s) rest)
+    ∙ sym (append_assoc (port_word p) (flat_map spaced (step_words s)) (10 ∷ rest)) in
     let P : List ℕ → Type 0 = λ t. Says t ((p, s) ∷ xs) in
     let wp = word-port p hp in
     let ws = words-step s hs in

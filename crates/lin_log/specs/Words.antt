@@ -26,9 +26,13 @@ use Rattle.lin_core.specs.declared.log.LogEntry.{LogEntry}
 abbrev pub spaced : List ℕ → List ℕ
 spaced word = 32 ∷ word
 
+abbrev pub ended : List (List ℕ) → List ℕ
+ended [] = 10 ∷ []
+ended (w ∷ ws) = spaced w ++ ended ws
+
 abbrev pub line : List (List ℕ) → List ℕ
 line [] = 10 ∷ []
-line (w ∷ ws) = w ++ (flat_map spaced ws ++ 10 ∷ [])
+line (w ∷ ws) = w ++ ended ws
 
 -- bytes in upper-case digits, and `-` for none
 abbrev pub hex_word : List ℕ → List ℕ

@@ -18,12 +18,6 @@ pub enum ScriptFault {
     OutOfMemory,
 }
 
-/// The writer answered an error or took no byte; it was asked no second time.
-/// What it took before is the beginning of the text.
-#[derive(Clone, Copy, Debug, Drop, Error)]
-#[error("write failed")]
-pub struct WriteFailed;
-
 /// Why a replay gives no core.
 #[derive(Debug, Drop, Error)]
 pub enum ReplayFault {
@@ -31,9 +25,9 @@ pub enum ReplayFault {
     #[error(transparent)]
     Script(ScriptFault),
     /// Nothing was written.
-    #[error("out of memory")]
+    #[error("{}", ScriptFault::OutOfMemory)]
     OutOfMemory,
     /// What was written is the beginning of the text.
-    #[error("write failed")]
+    #[error("{}", lin_text::WriteFailed)]
     WriteFailed,
 }

@@ -1,19 +1,18 @@
 //! Scripts of steps, the text of logs, and replays of the one that write the other.
 #![tactic(auto)]
 
-mod engine;
 mod entries;
 mod fault;
 mod fields;
 mod forms;
-mod listing;
+mod replaying;
 mod script;
-mod sink;
+mod steps;
 mod words;
 
-pub use engine::replay;
 pub use entries::write_log;
-pub use fault::{ReplayFault, ScriptFault, WriteFailed};
-pub use listing::steps_of;
+pub use fault::{ReplayFault, ScriptFault};
+pub use lin_text::WriteFailed;
+pub use replaying::replay;
 pub use script::read_script;
-pub use sink::write_out;
+pub use steps::steps_of;

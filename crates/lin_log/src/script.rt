@@ -1,9 +1,9 @@
 //! Scripts.
 
-ghost use Rattle.std.specs.Prelude.{◌≡◌, ◌<◌, ◌≤◌, ◌∷◌, ◌==◌, false, length, slice_index, take, IfOk, IfSome};
+ghost use Rattle.std.specs.Prelude.{◌≡◌, ◌<◌, ◌≤◌, ◌∷◌, ◌==◌, ◌+◌, false, length, slice_index, take, IfOk, IfSome};
 ghost use Rattle.std.specs.List.{All, slice_split};
 ghost use Rattle.std.specs.Str.Lines.{strip_carriage_return};
-ghost use Rattle.lin_log.specs.Judged.{Judges, ReadsAll, left_of, lines_left};
+ghost use Rattle.lin_log.specs.Judged.{Judges, NextStep, ReadsBytes, left_of, lines_left, said};
 ghost use Rattle.lin_log.specs.Replay.{ReadsScript};
 ghost use Rattle.lin_log.specs.Script.{script};
 
@@ -11,6 +11,7 @@ use crate::fault::ScriptFault;
 use crate::fields::LineFault;
 use crate::forms::line_step;
 use lin_core::{PortId, Step};
+use lin_text::{ReadFault, read_whole};
 use std::alloc::Global;
 use std::io::Read;
 
@@ -52,56 +53,75 @@ fn first_line(text: &[u8]) -> (&[u8], Option<&[u8]>)
     (&text[..end], Some(&text[end + 1..]))
 }
 
+/// The lines of a script that are left, and the number of the first of them.
+#[derive(Drop)]
+pub(crate) struct ScriptLines<'a> {
+    left: Option<&'a [u8]>,
+    number: u64,
+}
+
+impl<'a> ScriptLines<'a> {
+    #[tactic(auto, unfolding(crate::specs::Script::script))]
+    pub(crate) fn new(bytes: &'a [u8]) -> ScriptLines<'a>
+        ensures said { said result ≡ script bytes.now }
+        ensures first { result.number ≡ 1 }
+        ensures left { left_of result.left ≡ length bytes.now + 1 }
+    {
+        ScriptLines {
+            left: Some(bytes),
+            number: 1,
+        }
+    }
+
+    /// The step of the next line that says one; none where no line is left that does.
+    pub(crate) fn next_step(&mut self, alloc: Global) -> Result<Option<(PortId, Step)>, ScriptFault>
+        requires { self.old.number + left_of self.old.left ≤ 16777218 }
+        ensures step { NextStep result (said self.old) (said self.new) }
+        ensures bound { self.new.number + left_of self.new.left ≤ self.old.number + left_of self.old.left }
+        ensures passed { IfOk result (λ step. IfSome step (λ _. self.old.number + 1 ≤ self.new.number)) }
+    {
+        while let Some(text) = self.left {
+            let (line, rest) = first_line(text);
+            let number = self.number;
+            self.left = rest;
+            self.number = number + 1;
+            match line_step(alloc, without_return(line)) {
+                Err(LineFault::Bad) => return Err(ScriptFault::BadLine { line: number }),
+                Err(LineFault::OutOfMemory) => return Err(ScriptFault::OutOfMemory),
+                Ok(None) => {}
+                Ok(step) => return Ok(step),
+            }
+        }
+        Ok(None)
+    }
+}
+
 /// The steps that the lines of a script say.
-#[tactic(auto, unfolding(crate::specs::Script::script))]
 fn judge(alloc: Global, bytes: &[u8]) -> Result<Vec<(PortId, Step)>, ScriptFault>
     requires { length bytes.now ≤ 16777216 }
     ensures steps { Judges (λ v. v.items) result (script bytes.now) }
     ensures few { IfOk result (λ v. length v.items ≤ 16777217) }
 {
+    let mut lines = ScriptLines::new(bytes);
     let mut steps = Vec::new(alloc);
-    let mut left = Some(bytes);
-    let mut number = 1u64;
-    while let Some(text) = left {
-        let (line, rest) = first_line(text);
-        match line_step(alloc, without_return(line)) {
-            Err(LineFault::Bad) => return Err(ScriptFault::BadLine { line: number }),
-            Err(LineFault::OutOfMemory) => return Err(ScriptFault::OutOfMemory),
-            Ok(None) => {}
-            Ok(Some(step)) => {
-                if steps.push(step).is_err() {
-                    return Err(ScriptFault::OutOfMemory);
-                }
-            }
+    while let Some(step) = lines.next_step(alloc)? {
+        if steps.push(step).is_err() {
+            return Err(ScriptFault::OutOfMemory);
         }
-        left = rest;
-        number += 1;
     }
     Ok(steps)
 }
 
-/// All that a reader gives, up to the limit. A library loop would ask an interrupted reader again.
-fn read_all<R: Read>(alloc: Global, reader: &mut R) -> Result<Vec<u8>, ScriptFault>
-    ensures bytes { IfSome (R.remaining reader.old) (λ bytes. ReadsAll (λ v. v.items) result bytes) }
-    ensures short { IfOk result (λ v. length v.items ≤ 16777216) }
+/// The bytes of a script.
+pub(crate) fn read_bytes<R: Read>(alloc: Global, reader: &mut R) -> Result<Vec<u8>, ScriptFault>
+    ensures { ReadsBytes (λ v. v.items) result (R.remaining reader.old) }
 {
-    let mut bytes = Vec::new(alloc);
-    let mut buffer = [0u8; 4096];
-    for _ in 0..=LIMIT {
-        let Ok(count) = reader.read(&mut buffer) else {
-            return Err(ScriptFault::ReadFailed);
-        };
-        if count == 0 {
-            return Ok(bytes);
-        }
-        if count > LIMIT - bytes.len() {
-            return Err(ScriptFault::TooLong);
-        }
-        if bytes.extend_from_slice(&buffer[..count]).is_err() {
-            return Err(ScriptFault::OutOfMemory);
-        }
+    match read_whole(alloc, reader, LIMIT) {
+        Ok(bytes) => Ok(bytes),
+        Err(ReadFault::TooLong) => Err(ScriptFault::TooLong),
+        Err(ReadFault::ReadFailed) => Err(ScriptFault::ReadFailed),
+        Err(ReadFault::OutOfMemory) => Err(ScriptFault::OutOfMemory),
     }
-    Err(ScriptFault::TooLong)
 }
 
 /// The ports and steps that a script names, line by line, in order.
@@ -121,6 +141,6 @@ pub fn read_script<R: Read>(
     ensures steps { IfSome (R.remaining reader.old) (λ bytes. ReadsScript (λ v. v.items) result bytes) }
     ensures few { IfOk result (λ v. length v.items ≤ 16777217) }
 {
-    let bytes = read_all(alloc, reader)?;
+    let bytes = read_bytes(alloc, reader)?;
     judge(alloc, bytes.as_slice())
 }

@@ -1,132 +1,60 @@
-//! Lines as words with one space between two.
+//! Words of lines, each with the space before it.
 
-ghost use Rattle.std.specs.Prelude.{◌≡◌, ◌∷◌, [], flat_map, map};
+ghost use Rattle.std.specs.Prelude.{◌≡◌, ◌∷◌, ◌++◌, []};
 ghost use Rattle.hex.specs.Hex.{encode_upper};
-ghost use Rattle.lin_log.specs.Shown.{shown};
-ghost use Rattle.lin_log.specs.Sink.{Puts};
-ghost use Rattle.lin_log.specs.Words.{hex_word, line, reply_line, spaced};
+ghost use Rattle.lin_text.specs.Written.{Grows};
+ghost use Rattle.lin_log.specs.Words.{ended, hex_word, spaced};
 
-use crate::fault::WriteFailed;
-use crate::sink::{Buffer, put, put_byte, put_number};
+use itoa::Integer;
+use lin_text::TextWriter;
 use std::io::Write;
 
-/// A word of a line.
-#[derive(Clone, Copy)]
-pub(crate) enum Word<'a> {
-    Text(&'a str),
-    Number(u32),
-    Byte(u8),
-    Hex(&'a [u8]),
-    Array(&'a [u8]),
-    Host(u8),
-    Node(u8),
-}
-
-const DIGITS: [u8; 16] = *b"0123456789ABCDEF";
-
-/// The two digits of a byte. The calls of `hex` that write upper case take memory.
-#[tactic(auto, unfolding(hex::specs::Hex::encode_with))]
-fn digits(byte: u8) -> [u8; 2]
-    ensures { result ≡ encode_upper (byte ∷ []) }
+#[inline]
+pub(crate) fn put_number<W: Write, N: Integer>(writer: &mut TextWriter<'_, W>, number: N)
+    ensures { Grows W.contents writer.old writer.new (spaced (N.text number)) }
 {
-    [
-        DIGITS[usize::from(byte / 16)],
-        DIGITS[usize::from(byte % 16)],
-    ]
+    writer.put_byte(b' ');
+    writer.put_number(number);
 }
 
-fn put_digits<W: Write>(
-    writer: &mut W,
-    buffer: &mut Buffer,
-    bytes: &[u8],
-) -> Result<(), WriteFailed>
-    ensures { Puts (W.contents writer.old) buffer.old.items (W.contents writer.new) buffer.new.items result (encode_upper bytes.now) }
+/// A name and the number that ends its line.
+#[inline]
+pub(crate) fn put_last_number<W: Write, N: Integer>(
+    writer: &mut TextWriter<'_, W>,
+    name: &str,
+    number: N,
+)
+    ensures { Grows W.contents writer.old writer.new (name.now ++ ended (N.text number ∷ [])) }
 {
-    for byte in bytes {
-        put(writer, buffer, &digits(*byte))?;
-    }
-    Ok(())
+    writer.put_text(name);
+    put_number(writer, number);
+    writer.put_byte(b'\n');
 }
 
-fn put_hex<W: Write>(writer: &mut W, buffer: &mut Buffer, bytes: &[u8]) -> Result<(), WriteFailed>
-    ensures { Puts (W.contents writer.old) buffer.old.items (W.contents writer.new) buffer.new.items result (hex_word bytes.now) }
+fn put_hex<W: Write>(writer: &mut TextWriter<'_, W>, bytes: &[u8])
+    ensures { Grows W.contents writer.old writer.new (hex_word bytes.now) }
 {
     if bytes.is_empty() {
-        return put_byte(writer, buffer, b'-');
-    }
-    put_digits(writer, buffer, bytes)
-}
-
-fn put_word<W: Write>(
-    writer: &mut W,
-    buffer: &mut Buffer,
-    word: Word<'_>,
-) -> Result<(), WriteFailed>
-    ensures { Puts (W.contents writer.old) buffer.old.items (W.contents writer.new) buffer.new.items result (shown word.entry) }
-{
-    match word {
-        Word::Text(text) => put(writer, buffer, text.as_bytes()),
-        Word::Number(number) => put_number(writer, buffer, number),
-        Word::Byte(byte) => put(writer, buffer, &digits(byte)),
-        Word::Hex(bytes) => put_hex(writer, buffer, bytes),
-        Word::Array(bytes) => {
-            put_byte(writer, buffer, b'x')?;
-            put_hex(writer, buffer, bytes)
-        }
-        Word::Host(number) => {
-            put_byte(writer, buffer, b'h')?;
-            put_number(writer, buffer, u32::from(number))
-        }
-        Word::Node(number) => {
-            put_byte(writer, buffer, b'n')?;
-            put_number(writer, buffer, u32::from(number))
-        }
+        writer.put_byte(b'-');
+    } else {
+        writer.put_hex(bytes);
     }
 }
 
-fn put_spaced<W: Write>(
-    writer: &mut W,
-    buffer: &mut Buffer,
-    word: Word<'_>,
-) -> Result<(), WriteFailed>
-    ensures { Puts (W.contents writer.old) buffer.old.items (W.contents writer.new) buffer.new.items result (spaced (shown word.entry)) }
+/// Bytes that end their line.
+pub(crate) fn put_last_bytes<W: Write>(writer: &mut TextWriter<'_, W>, bytes: &[u8])
+    ensures { Grows W.contents writer.old writer.new (ended (hex_word bytes.now ∷ [])) }
 {
-    put_byte(writer, buffer, b' ')?;
-    put_word(writer, buffer, word)
+    writer.put_byte(b' ');
+    put_hex(writer, bytes);
+    writer.put_byte(b'\n');
 }
 
-fn put_rest<W: Write>(
-    writer: &mut W,
-    buffer: &mut Buffer,
-    words: &[Word<'_>],
-) -> Result<(), WriteFailed>
-    ensures { Puts (W.contents writer.old) buffer.old.items (W.contents writer.new) buffer.new.items result (flat_map (λ w. spaced (shown w)) words.now) }
+/// The bytes of an array, which end their line.
+pub(crate) fn put_last_array<W: Write>(writer: &mut TextWriter<'_, W>, bytes: &[u8])
+    ensures { Grows W.contents writer.old writer.new (ended ((120 ∷ hex_word bytes.now) ∷ [])) }
 {
-    for word in words {
-        put_spaced(writer, buffer, *word)?;
-    }
-    Ok(())
-}
-
-pub(crate) fn put_line<W: Write>(
-    writer: &mut W,
-    buffer: &mut Buffer,
-    first: Word<'_>,
-    rest: &[Word<'_>],
-) -> Result<(), WriteFailed>
-    ensures { Puts (W.contents writer.old) buffer.old.items (W.contents writer.new) buffer.new.items result (line (shown first.entry ∷ map shown rest.now)) }
-{
-    put_word(writer, buffer, first)?;
-    put_rest(writer, buffer, rest)?;
-    put_byte(writer, buffer, b'\n')
-}
-
-pub(crate) fn put_reply_line<W: Write>(
-    writer: &mut W,
-    buffer: &mut Buffer,
-    words: &[Word<'_>],
-) -> Result<(), WriteFailed>
-    ensures { Puts (W.contents writer.old) buffer.old.items (W.contents writer.new) buffer.new.items result (reply_line (map shown words.now)) }
-{
-    put_line(writer, buffer, Word::Text(">"), words)
+    writer.put_text(" x");
+    put_hex(writer, bytes);
+    writer.put_byte(b'\n');
 }

@@ -11,7 +11,7 @@ use std::test::Fail;
 fn cluster_text(alloc: Global, mut rest: &[u8]) -> Result<Vec<u8>, Fault> {
     let cluster = cluster_of_reader(alloc, &mut rest)?;
     let mut text = Vec::new(alloc);
-    write_list(alloc, &cluster, &mut text)?;
+    write_list(&cluster, &mut text)?;
     Ok(text)
 }
 
@@ -65,7 +65,7 @@ fn list_is_written_once_where_that_fails(rt: HostRuntime) -> Result<(), Fail> {
     let cluster = cluster_of(rt.alloc(), BODY_CLUSTER)?;
     for kind in [Some(ErrorKind::Interrupted), None] {
         let mut writer = Broken { kind, calls: 0 };
-        let listed = write_list(rt.alloc(), &cluster, &mut writer);
+        let listed = write_list(&cluster, &mut writer);
         assert!(rt; matches!(listed, Err(Fault::WriteFailed)));
         assert!(rt; writer.calls == 1);
     }

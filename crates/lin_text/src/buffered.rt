@@ -1,13 +1,13 @@
 //! A writer with a buffer of fixed size.
 
 ghost use Rattle.std.specs.Prelude.{◌≡◌, ◌∷◌, []};
-ghost use Rattle.std.specs.Fmt.{decimal};
 ghost use Rattle.hex.specs.Hex.{encode_upper};
 ghost use Rattle.lin_text.specs.Written.{Finishes, Grows, IsNew};
 
 use crate::fault::WriteFailed;
 use crate::out::write_out;
 use arrayvec::ArrayVec;
+use itoa::Integer;
 use std::io::Write;
 
 /// How many bytes wait at most.
@@ -100,9 +100,9 @@ impl<'a, W: Write> TextWriter<'a, W> {
         self.put(&[byte]);
     }
 
-    /// Puts a number in decimal digits.
-    pub fn put_number(&mut self, number: u64)
-        ensures { Grows W.contents self.old self.new (decimal number) }
+    /// Puts an integer in decimal digits.
+    pub fn put_number<N: Integer>(&mut self, number: N)
+        ensures { Grows W.contents self.old self.new (N.text number) }
     {
         let mut digits = itoa::Buffer::new();
         self.put(digits.format(number).as_bytes());

@@ -1,5 +1,9 @@
 -- Lines of numbered things, one more at a time.
 use Rattle.std.proofs.Common.{◌≡◌, ℕ, zero, suc, ◌+◌, ◌<◌, List, [], ◌∷◌, ◌++◌, length, take, get_or, sym, ap, ◌∙◌, append_assoc, append-nil, add-one, arith}
+use Rattle.std.proofs.Common.{Option}
+use Rattle.lin_text.specs.declared.buffered.TextWriter.{TextWriter}
+use Rattle.lin_text.specs.Written.{Grows}
+use Rattle.lin_text.proofs.Growing.{grows-more, same-growth}
 use Rattle.lin_tool.specs.Listing.{numbered}
 
 numbered-next_suc : {X : Type 0} (f : ℕ → X → List ℕ) (n : ℕ) (xs : List X) (i : ℕ) (d : X) → i < length xs
@@ -19,9 +23,7 @@ numbered-next f xs i d h =
     let same : 0 + i ≡ i = omega arith in
     rw (add-one) (numbered-next_suc f 0 xs i d h ∙ ap (λ k. numbered f 0 (take i xs) ++ f k (get_or xs i d)) same)
 
--- what stands behind a text, and one line more
-pub lines-next : {X : Type 0} (f : ℕ → X → List ℕ) (xs : List X) (i : ℕ) (d : X) (old text more : List ℕ) → i < length xs
-    → text ≡ old ++ numbered f 0 (take i xs) → more ≡ text ++ f i (get_or xs i d) → more ≡ old ++ numbered f 0 (take (i + 1) xs)
-lines-next f xs i d old text more h e g =
-    g ∙ ap (λ l. l ++ f i (get_or xs i d)) e ∙ append_assoc old (numbered f 0 (take i xs)) (f i (get_or xs i d))
-    ∙ ap (λ l. old ++ l) (sym (numbered-next f xs i d h))
+-- one line more
+pub lines-next : {W X : Type 0} {contents : W → Option (List ℕ)} {x y z : TextWriter W} (f : ℕ → X → List ℕ) (xs : List X) (i : ℕ) (d : X) → i < length xs
+    → Grows contents x y (numbered f 0 (take i xs)) → Grows contents y z (f i (get_or xs i d)) → Grows contents x z (numbered f 0 (take (i + 1) xs))
+lines-next f xs i d lt h k = same-growth (sym (numbered-next f xs i d lt)) (grows-more h k)

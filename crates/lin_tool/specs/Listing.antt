@@ -1,14 +1,14 @@
 -- What a cluster has, as lines.
 use Rattle.std.specs.Prelude.{◌≡◌, ℕ, ◌+◌, List, [], ◌∷◌, ◌++◌, length, Option, Some, None, Result, Ok, Err, codes}
 use Rattle.std.specs.Fmt.{decimal}
-use Rattle.std.specs.Io.KnownBytes.{Appends, Keeps}
+use Rattle.std.specs.Io.KnownBytes.{Appends}
 use Rattle.lin_parts.specs.declared.parts.Node.{Node}
 use Rattle.lin_parts.specs.declared.parts.Parts.{Parts}
 use Rattle.lin_parts.specs.declared.parts.Signal.{Signal}
 use Rattle.lin_parts.specs.declared.parts.Table.{Table}
 use Rattle.lin_log.specs.Words.{line}
 use Rattle.lin_tool.specs.declared.fault.Fault.{Fault}
-use Rattle.lin_tool.specs.declared.fault.Fault.TheVariants.{OutOfMemory, WriteFailed}
+use Rattle.lin_tool.specs.declared.fault.Fault.TheVariants.{WriteFailed}
 
 -- a diagnostic address, and `-` for none
 abbrev pub address_word : Option ℕ → List ℕ
@@ -36,6 +36,5 @@ listing c = numbered node_line 0 c.nodes ++ numbered signal_line 0 c.signals ++ 
 -- what writing that list answers, and what the writer took
 abbrev pub Lists : Parts → Result Unit Fault → Option (List ℕ) → Option (List ℕ) → Type 0
 Lists c (Ok done) old new = Appends old new (listing c)
-Lists c (Err OutOfMemory) old new = Keeps old new
 Lists c (Err WriteFailed) old new = (part rest : List ℕ) × (listing c ≡ part ++ rest) × Appends old new part
 Lists c (Err _) old new = ⊥

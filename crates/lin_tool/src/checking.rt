@@ -13,5 +13,5 @@ use std::io;
 /// Those of `cluster_of_file`, after which nothing was written; those of `write_list`.
 pub fn check<R: AllocGlobal + Files + Print>(rt: &R, path: &str) -> Result<(), Fault> {
     let cluster = cluster_of_file(rt, Some(path))?;
-    write_list(rt.alloc(), &cluster, &mut io::writer(rt))
+    write_list(&cluster, &mut io::writer(rt))
 }

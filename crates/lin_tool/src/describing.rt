@@ -9,6 +9,7 @@ use crate::findings::Findings;
 use lin_cluster::{CheckFault, check};
 use lin_ldf::{LdfFault, parse};
 use lin_parts::Cluster;
+use lin_text::{ReadFault, read_whole};
 use std::alloc::Global;
 use std::fs::{self, Files};
 use std::io::Read;
@@ -35,23 +36,12 @@ Schedule_tables { diag { MasterReq delay 10 ms; SlaveResp delay 10 ms; } }
 pub fn read_text<R: Read>(alloc: Global, reader: &mut R) -> Result<Vec<u8>, Fault>
     ensures { ReadsAll (λ v. v.items) result (R.remaining reader.old) }
 {
-    let mut bytes = Vec::new(alloc);
-    let mut buffer = [0u8; 65536];
-    for _ in 0..=LIMIT {
-        let Ok(count) = reader.read(&mut buffer) else {
-            return Err(Fault::ReadFailed);
-        };
-        if count == 0 {
-            return Ok(bytes);
-        }
-        if count > LIMIT - bytes.len() {
-            return Err(Fault::LdfTooLong);
-        }
-        if bytes.extend_from_slice(&buffer[..count]).is_err() {
-            return Err(Fault::OutOfMemory);
-        }
+    match read_whole(alloc, reader, LIMIT) {
+        Ok(bytes) => Ok(bytes),
+        Err(ReadFault::TooLong) => Err(Fault::LdfTooLong),
+        Err(ReadFault::ReadFailed) => Err(Fault::ReadFailed),
+        Err(ReadFault::OutOfMemory) => Err(Fault::OutOfMemory),
     }
-    Err(Fault::LdfTooLong)
 }
 
 /// What a fault of `parse` is to the program.

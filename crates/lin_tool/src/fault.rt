@@ -16,7 +16,7 @@ use thiserror::Error;
 #[derive(Debug, Drop, Error)]
 pub enum Fault {
     /// The script's first line that is in no form, counted from 1.
-    #[error("script {line} bad line")]
+    #[error("{}", ScriptFault::BadLine {line: *.line})]
     BadLine { line: u64 },
     /// The LDF text has a fault.
     #[error("ldf {0}")]
@@ -28,7 +28,7 @@ pub enum Fault {
     #[error("ldf too long")]
     LdfTooLong,
     /// The script is longer than 16,777,216 bytes.
-    #[error("script too long")]
+    #[error("{}", ScriptFault::TooLong)]
     ScriptTooLong,
     /// The script's first step, counted from 0, that is none of a host of the cluster by its own port.
     #[error("script step {index} not a host step")]
@@ -36,13 +36,13 @@ pub enum Fault {
     /// The cluster has no schedule table of the name that the command line gives.
     #[error("no such table")]
     NoSuchTable,
-    #[error("out of memory")]
+    #[error("{}", ScriptFault::OutOfMemory)]
     OutOfMemory,
     /// Standard input or the LDF file couldn't be read.
-    #[error("read failed")]
+    #[error("{}", ScriptFault::ReadFailed)]
     ReadFailed,
     /// Standard output didn't take what was written.
-    #[error("write failed")]
+    #[error("{}", lin_log::WriteFailed)]
     WriteFailed,
     /// A host's task had all its turns before it was done. The log was written.
     #[error("task limit")]

@@ -10,11 +10,12 @@ use lin_parts::Cluster;
 use std::alloc::Global;
 use std::fs::Files;
 use std::io::{self, Read, Write};
+use std::mem;
 
 /// Reads a script, makes its steps over a cluster, and writes their log.
 ///
-/// It begins with the schedule table `table`; each host may have `capacity` messages waiting, 1 to 1,024. (The cluster and the core are
-/// owned in different functions, since letting either go is long to prove.)
+/// It begins with the schedule table `table`; each host may have `capacity` messages waiting, 1 to 1,024. (The core's memory is left
+/// to the end of the program: it would be let go of entry by entry.)
 ///
 /// # Errors
 /// `BadLine` and `ScriptTooLong` for a fault of the script; `ReadFailed` where the reader answers an error; `OutOfMemory`. Nothing was
@@ -32,7 +33,10 @@ pub fn replay_script<R: Read, W: Write>(
     ensures { Replays cluster table capacity result (R.remaining reader.old) (W.contents writer.old) (W.contents writer.new) }
 {
     match lin_log::replay(alloc, cluster, table, capacity, reader, writer) {
-        Ok(_core) => Ok(()),
+        Ok(core) => {
+            mem::forget(core);
+            Ok(())
+        }
         Err(fault) => Err(Fault::from(fault)),
     }
 }

@@ -17,6 +17,7 @@ use lin_threads::{
 use std::alloc::{AllocError, Global};
 use std::fs::Files;
 use std::io::{self, Read, Write};
+use std::mem;
 use std::sync::Wait;
 use std::thread::Threads;
 
@@ -143,7 +144,9 @@ fn run_over<R: AllocGlobal + Input + Print + Eprint + Threads + Wait>(
         let _ = eprintln!(rt; "linsim: {slots} slots, {hosts} hosts");
     }
     let report = run_steps(rt, cluster, table, capacity, slots, lists)?;
-    put_report(&report, &mut io::writer(rt))
+    let written = put_report(&report, &mut io::writer(rt));
+    mem::forget(report);
+    written
 }
 
 /// Reads a script of hosts' steps on standard input, runs so many slots of the cluster that the LDF text in the file at

@@ -1,8 +1,7 @@
-use Rattle.std.proofs.Common.{take, Ok}
-use Rattle.lin_log.specs.Sink.{Puts}
-use Rattle.lin_log.specs.Words.{text}
-use Rattle.lin_log.specs.declared.fault.WriteFailed.{WriteFailed}
+use Rattle.std.proofs.Common.{take, flat_map}
+use Rattle.lin_text.specs.Written.{Grows}
+use Rattle.lin_log.specs.Words.{entry_text}
 use Rattle.lin_log.proofs.entries.put_entries.Given as goal
 
 abbrev pub invariant-loop-index : goal.invariant-loop-index
-invariant-loop-index g l = Puts {E = WriteFailed} (g.W.Write.contents l.initial.writer) l.initial.buffer.items (g.W.Write.contents l.writer) l.buffer.items (Ok tt) (text (take l.index l.fn.log.entries))
+invariant-loop-index g l = Grows g.W.Write.contents l.initial.writer l.writer (flat_map entry_text (take l.index l.fn.log.entries))

@@ -1,8 +1,9 @@
-use Rattle.lin_log.proofs.Sinks.{written-whole, written-short}
+use Rattle.std.proofs.Common.{◌∙◌, sym, rules}
+use Rattle.lin_text.proofs.Growing.{text-written}
 use Rattle.lin_log.proofs.entries.write_log.Goals as goal
 
-pub returns-in_err-put_entries : goal.returns-in_err-put_entries
-returns-in_err-put_entries g c = written-short c.from_residual.ensures.0 (rw c.new-buffer.ensures at c.put_entries.ensures)
-
 pub returns : goal.returns
-returns g c = written-whole (rw (c.in_ok-put_entries.was, c.new-buffer.ensures) at c.put_entries.ensures) c.flush.ensures.text
+returns g c =
+    let same = sym (c.put_entries.ensures.same ∙ c.new-lines.ensures.same) in
+    let written = text-written c.new-lines.ensures c.put_entries.ensures c.finish.ensures in
+    search rules

@@ -1,15 +1,15 @@
 use Rattle.std.proofs.Common.{◌≡◌, ◌+◌, ◌≤◌, length}
-use Rattle.lin_log.specs.Script.{judged, prefixed, script}
-use Rattle.lin_log.specs.Judged.{lines_left, left_of}
+use Rattle.lin_log.specs.Script.{prefixed, script}
+use Rattle.lin_log.specs.Judged.{left_of, said}
 use Rattle.lin_log.proofs.script.judge.Given as goal
 
-abbrev pub invariant-loop-left : goal.invariant-loop-left
-invariant-loop-left l = record {
-  read : prefixed l.steps.items (judged l.number (lines_left l.left)) ≡ script l.fn.bytes;
-  few : l.number + left_of l.left ≤ length l.fn.bytes + 2;
-  each : length l.steps.items + 1 ≤ l.number;
+abbrev pub invariant-loop-steps : goal.invariant-loop-steps
+invariant-loop-steps l = record {
+  read : prefixed l.steps.items (said l.lines) ≡ script l.fn.bytes;
+  few : l.lines.number + left_of l.lines.left ≤ length l.fn.bytes + 2;
+  each : length l.steps.items + 1 ≤ l.lines.number;
   most : length l.fn.bytes ≤ 16777216;
 }
 
-abbrev pub decreases-loop-left : goal.decreases-loop-left
-decreases-loop-left l = left_of l.left
+abbrev pub decreases-loop-steps : goal.decreases-loop-steps
+decreases-loop-steps l = left_of l.lines.left

@@ -1,8 +1,11 @@
 use Rattle.std.proofs.Common.{arith}
 use Rattle.lin_tool.specs.Listing.{table_line}
+use Rattle.lin_text.proofs.Growing.{grows-nothing}
 use Rattle.lin_tool.proofs.Lines.{lines-next}
 use Rattle.lin_tool.proofs.listing.put_tables.Goals as goal
 
+pub loop-table-init : goal.loop-table-init
+loop-table-init g c = grows-nothing c.args.writer.now
+
 pub loop-table-preserved : goal.loop-table-preserved
-loop-table-preserved c =
-    lines-next table_line c.args.cluster.now.tables c.loop-table.table _ _ _ _ (omega arith) c.loop-table.invariant (rw c.in_ok-put_table.was at c.put_table.ensures)
+loop-table-preserved g c = lines-next table_line c.args.cluster.now.tables c.loop-table.table _ (omega arith) c.loop-table.invariant c.put_table.ensures
