@@ -1,11 +1,11 @@
 -- What the lines of an entry say, by what is kept of the entries before it.
-use Rattle.std.proofs.Common.{◌≡◌, ℕ, zero, suc, List, [], ◌∷◌, ◌++◌, refl, sym, ap, ◌∙◌, flat_map, length, get_or, ◌+◌, ◌<◌, arith}
+use Rattle.std.proofs.Common.{◌≡◌, ℕ, zero, suc, List, [], ◌∷◌, ◌++◌, refl, sym, ap, ◌∙◌, append_assoc, flat_map, length, get_or, ◌+◌, ◌<◌, arith}
 use Rattle.std.specs.Prelude.{Option, Some, None, option_map, zip}
 use Rattle.lin_frame.specs.Words.{choose}
 use Rattle.lin_parts.specs.Cluster.{line_of}
 use Rattle.lin_parts.specs.declared.parts.Parts.{Parts}
 use Rattle.lin_names.specs.Names.{NamesData}
-use Rattle.lin_core.specs.History.{Slot, done_step, finished, is_finish, open_slot, time}
+use Rattle.lin_core.specs.History.{Slot, open_slot, time}
 use Rattle.lin_core.specs.declared.event.Event.{Event}
 use Rattle.lin_core.specs.declared.event.Event.TheVariants as event
 use Rattle.lin_core.specs.declared.event.Seen.TheVariants as seen
@@ -16,9 +16,9 @@ use Rattle.lin_core.specs.declared.reply.Reply.TheVariants.{Done}
 use Rattle.lin_core.specs.declared.step.Step.{Step}
 use Rattle.lin_core.specs.declared.step.Step.TheVariants as step
 use Rattle.lin_export.specs.Named.{behind, event_lines, frame_words, good_line, named_event, time_line, transport_line}
-use Rattle.lin_export.specs.Track.{TrackData, shown, slots_in, track_of}
-use Rattle.lin_log.specs.Words.{reply_line}
-use Rattle.lin_export.proofs.Rows.{frame-shown}
+use Rattle.lin_export.specs.Track.{TrackData, shown, track_of}
+use Rattle.lin_log.specs.Words.{ended, reply_line, spaced}
+use Rattle.lin_export.proofs.Rows.{flat-append, frame-shown}
 
 flat-same : {X : Type 0} (f h : X → List ℕ) (xs : List X) → ((x : X) → f x ≡ h x) → flat_map f xs ≡ flat_map h xs
 flat-same f h [] e = refl
@@ -92,3 +92,12 @@ pub length-zip : {X Y : Type 0} (xs : List X) (ys : List Y) → length xs ≡ le
 length-zip [] ys e = refl
 length-zip (a ∷ xs) [] e = absurd (omega arith)
 length-zip (a ∷ xs) (b ∷ ys) e = let more = length-zip xs ys (omega arith) in omega arith
+
+-- words that end a line
+pub ended-flat : (ws : List (List ℕ)) → flat_map spaced ws ++ 10 ∷ [] ≡ ended ws
+ended-flat [] = refl
+ended-flat (w ∷ ws) = append_assoc (spaced w) (flat_map spaced ws) (10 ∷ []) ∙ ap (λ l. spaced w ++ l) (ended-flat ws)
+
+pub ended-both : (xs ys : List (List ℕ)) → flat_map spaced xs ++ (flat_map spaced ys ++ 10 ∷ []) ≡ ended (xs ++ ys)
+ended-both xs ys =
+    sym (append_assoc (flat_map spaced xs) (flat_map spaced ys) (10 ∷ [])) ∙ ap (λ l. l ++ 10 ∷ []) (sym (flat-append spaced xs ys)) ∙ ended-flat (xs ++ ys)

@@ -25,7 +25,7 @@ use Rattle.lin_core.specs.declared.step.Step.{Step}
 use Rattle.lin_core.specs.declared.step.Step.TheVariants.{Finish}
 use Rattle.lin_export.specs.Csv.{comma, csv_line, node_name, nodes_cell, row, slot_line, spaced_name, step_row, value_cell}
 use Rattle.lin_export.specs.Pcap.{bus_event, finish_packets, goes_to_sleep, packet, slot_packet}
-use Rattle.lin_export.specs.Shown.{entry_name, frame_name, slot_frame}
+use Rattle.lin_export.specs.Shown.{slot_frame}
 use Rattle.lin_export.specs.Track.{shown, slots_in}
 use Rattle.lin_export.proofs.Slots.{some-same}
 

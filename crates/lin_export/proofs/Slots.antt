@@ -2,13 +2,13 @@
 use Rattle.std.proofs.Common.{◌≡◌, ℕ, zero, suc, List, [], ◌∷◌, refl, sym, ap, ◌∙◌, drop, length, get_or, ◌+◌, ◌<◌, ◌≤◌, add-one, arith}
 use Rattle.std.specs.Prelude.{Option, Some, None, option_map}
 use Rattle.lin_parts.specs.declared.parts.Parts.{Parts}
-use Rattle.lin_core.specs.History.{Slot, open_slot, time, told, told_all}
+use Rattle.lin_core.specs.History.{Slot, open_slot, told, told_all}
 use Rattle.lin_core.specs.declared.event.Event.{Event}
 use Rattle.lin_core.specs.declared.event.Event.TheVariants as event
 use Rattle.lin_core.specs.declared.log.LogEntry.{LogEntry}
 use Rattle.lin_core.specs.declared.reply.Reply.TheVariants.{Done}
 use Rattle.lin_core.specs.declared.step.Step.TheVariants.{Answer}
-use Rattle.lin_export.specs.Track.{TrackData, shown, slots_in, track_of}
+use Rattle.lin_export.specs.Track.{TrackData, shown, track_of}
 
 -- an event tells the same of what is shown
 told-shown : (e : Event) (s : Slot) → shown (told e (shown s)) ≡ shown (told e s)

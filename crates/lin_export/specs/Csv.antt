@@ -1,5 +1,5 @@
 -- A log as lines of values between commas (RFC 4180, with LF alone): nothing needs quotes, since names of LDFs are words.
-use Rattle.std.specs.Prelude.{ℕ, List, [], ◌∷◌, ◌++◌, length, map, flat_map, codes, Option, Some, None}
+use Rattle.std.specs.Prelude.{ℕ, List, [], ◌∷◌, ◌++◌, length, map, flat_map, codes}
 use Rattle.std.specs.Fmt.{decimal}
 use Rattle.hex.specs.Hex.{encode_upper}
 use Rattle.lin_frame.specs.Words.{choose, numbers}

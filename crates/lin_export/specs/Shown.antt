@@ -1,5 +1,5 @@
 -- What of a slot is shown by name.
-use Rattle.std.specs.Prelude.{ℕ, ◌-◌, List, [], length, take, slice_index, slice_index_or, codes, Bool, if◌then◌else◌, is_some, Option, None}
+use Rattle.std.specs.Prelude.{ℕ, ◌-◌, List, [], length, take, slice_index, slice_index_or, codes, if◌then◌else◌, is_some, Option, None}
 use Rattle.lin_frame.specs.Words.{choose}
 use Rattle.lin_parts.specs.Cluster.{line_of}
 use Rattle.lin_parts.specs.declared.parts.Parts.{Parts}

@@ -1,4 +1,4 @@
-use Rattle.std.proofs.Common.{sym, arith}
+use Rattle.std.proofs.Common.{arith}
 use Rattle.lin_text.proofs.Growing.{grows-next}
 use Rattle.lin_export.specs.Csv.{comma, value_cell}
 use Rattle.lin_export.proofs.csv.put_values.Goals as goal

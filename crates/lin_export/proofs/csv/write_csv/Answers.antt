@@ -1,7 +1,6 @@
-use Rattle.std.proofs.Common.{◌≡◌, ◌++◌, [], sym, ap, ◌∙◌, append_assoc, rules}
+use Rattle.std.proofs.Common.{◌++◌, sym, ap, ◌∙◌, append_assoc, rules}
 use Rattle.lin_text.proofs.Growing.{grows-more, text-written}
 use Rattle.lin_export.specs.declared.fault.ExportFault.{ExportFault}
-use Rattle.lin_export.specs.Telling.{each_entry}
 use Rattle.lin_export.specs.Csv.{head_line}
 use Rattle.lin_export.proofs.Puttings.{written-all, written-short}
 use Rattle.lin_export.proofs.csv.write_csv.Goals as goal

@@ -1,12 +1,11 @@
 use Rattle.std.proofs.Common.{◌≡◌, ℕ, List, sym, ap, ◌∙◌}
-use Rattle.std.specs.Prelude.{Option, Some, None, option_map, take}
+use Rattle.std.specs.Prelude.{Option, Some, option_map, take}
 use Rattle.lin_frame.specs.Words.{choose}
 use Rattle.lin_frame.specs.Bits.{unpacked}
 use Rattle.lin_frame.specs.declared.value.Value.{Value}
 use Rattle.lin_parts.specs.Cluster.{frame_of}
 use Rattle.lin_core.specs.History.{good, good_bytes}
 use Rattle.lin_core.specs.Signals.{place_in}
-use Rattle.lin_core.specs.declared.event.Seen.{Seen}
 use Rattle.lin_export.specs.Look.{looks}
 use Rattle.lin_export.specs.Open.{slot_in}
 use Rattle.lin_export.proofs.Rows.{hears-value}

@@ -1,6 +1,6 @@
-use Rattle.std.proofs.Common.{◌≡◌, ◌++◌, ◌∷◌, List, flat_map, sym, ap, ◌∙◌}
+use Rattle.std.proofs.Common.{◌++◌, ◌∷◌, List, flat_map, sym, ap, ◌∙◌}
 use Rattle.std.specs.Prelude.{Option, option_map}
-use Rattle.lin_core.specs.History.{Slot, open_slot, time}
+use Rattle.lin_core.specs.History.{Slot, open_slot}
 use Rattle.lin_core.specs.declared.event.Event.{Event}
 use Rattle.lin_core.specs.declared.reply.Reply.{Reply}
 use Rattle.lin_log.specs.Words.{line}
@@ -8,7 +8,7 @@ use Rattle.lin_text.proofs.Growing.{grows-more, same-growth}
 use Rattle.lin_export.specs.Named.{event_lines, named_port, named_step, reply_lines, time_line}
 use Rattle.lin_export.specs.Open.{slot_in}
 use Rattle.lin_export.specs.Track.{TrackData}
-use Rattle.lin_export.proofs.Lines.{lines-shown, time-behind}
+use Rattle.lin_export.proofs.Lines.{ended-flat, lines-shown, time-behind}
 use Rattle.lin_export.proofs.named.put_entry.Goals as goal
 
 pub returns-in-Done : goal.returns-in-Done
@@ -24,7 +24,7 @@ returns-in-Done g c = λ past is.
     ∙ ap (λ l. first ++ (l ++ time_line e.step c.time_behind.result)) (lines-shown x names (open_slot past) es)
     ∙ ap (λ l. first ++ (flat_map (event_lines x names (open_slot past)) es ++ l)) (time-behind x past e es c.args.track.now c.time_behind.result c.in-Done.is is c.time_behind.ensures)
     ∙ ap (λ (r : Reply). first ++ reply_lines x names e past r) (sym c.in-Done.is))
-    (grows-more (grows-more c.put_port.ensures (grows-more c.put_step.ensures c.put_byte.ensures)) (grows-more c.put_events.ensures c.put_time.ensures))
+    (grows-more (grows-more c.put_port.ensures (same-growth (ended-flat (named_step x e.step)) (grows-more c.put_step.ensures c.put_byte.ensures))) (grows-more c.put_events.ensures c.put_time.ensures))
 
 pub returns-in-Refused : goal.returns-in-Refused
 returns-in-Refused g c = λ past is.
@@ -33,4 +33,4 @@ returns-in-Refused g c = λ past is.
     let e = c.args.entry.now in
     let first = line (named_port x e.port ∷ named_step x e.step) in
     same-growth (ap (λ (r : Reply). first ++ reply_lines x names e past r) (sym c.in-Refused.is))
-    (grows-more (grows-more c.put_port.ensures (grows-more c.put_step.ensures c.put_byte.ensures)) (rw (c.refusal_words-number.ensures.number, c.refusal_words-number.ensures.name) at c.put_reply.ensures))
+    (grows-more (grows-more c.put_port.ensures (same-growth (ended-flat (named_step x e.step)) (grows-more c.put_step.ensures c.put_byte.ensures))) (rw (c.refusal_words-number.ensures.number, c.refusal_words-number.ensures.name) at c.put_reply.ensures))

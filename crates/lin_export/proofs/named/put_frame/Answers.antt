@@ -1,11 +1,10 @@
-use Rattle.std.proofs.Common.{◌∷◌, [], ◌++◌, flat_map, sym, ap, ◌∙◌, append_assoc, codes}
+use Rattle.std.proofs.Common.{◌∷◌, [], flat_map, ap, codes}
 use Rattle.std.specs.Prelude.{zip}
 use Rattle.lin_parts.specs.Cluster.{frame_of}
-use Rattle.lin_log.specs.Words.{spaced}
 use Rattle.lin_text.proofs.Growing.{grows-more, same-growth}
 use Rattle.lin_export.specs.Named.{signal_words}
 use Rattle.lin_export.specs.Shown.{frame_name}
-use Rattle.lin_export.proofs.Rows.{flat-append}
+use Rattle.lin_export.proofs.Lines.{ended-both}
 use Rattle.lin_export.proofs.named.put_frame.Goals as goal
 
 pub returns : goal.returns
@@ -14,5 +13,5 @@ returns g c =
     let head = codes "frame" ∷ frame_name c.args.names.now c.args.frame ∷ [] in
     let signals = flat_map (signal_words x c.args.answer.now) (zip (frame_of x c.args.frame).signals (frame_of x c.args.frame).layout.places) in
     same-growth
-    (ap (λ l. 62 ∷ l) (sym (ap (λ l. l ++ 10 ∷ []) (flat-append spaced head signals) ∙ append_assoc (flat_map spaced head) (flat_map spaced signals) (10 ∷ []))))
+    (ap (λ l. 62 ∷ l) (ended-both head signals))
     (grows-more c.put_byte.ensures (grows-more (rw c.frame_name.ensures at c.put_words.ensures) (grows-more c.put_signals.ensures c.put_byte-2.ensures)))

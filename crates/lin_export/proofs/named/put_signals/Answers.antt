@@ -1,5 +1,5 @@
-use Rattle.std.proofs.Common.{◌≡◌, ◌+◌, ◌<◌, ◌∷◌, [], ◌++◌, ℕ, List, length, take, flat_map, get_or, sym, ap, ◌∙◌, arith}
-use Rattle.std.specs.Prelude.{zip, slice_index}
+use Rattle.std.proofs.Common.{◌≡◌, ◌+◌, ◌<◌, ◌++◌, ℕ, List, length, take, flat_map, get_or, sym, ap, ◌∙◌, arith}
+use Rattle.std.specs.Prelude.{zip}
 use Rattle.std.proofs.lemmas.List.{take_all}
 use Rattle.lin_frame.specs.Bits.{unpacked}
 use Rattle.lin_frame.specs.declared.layout.Layout.{Layout}

@@ -1,4 +1,4 @@
-use Rattle.std.proofs.Common.{◌≡◌, ◌++◌, [], sym, ap, ◌∙◌, append_assoc, rules}
+use Rattle.std.proofs.Common.{◌++◌, [], sym, ap, ◌∙◌, append_assoc, rules}
 use Rattle.lin_text.proofs.Growing.{grows-more, text-written}
 use Rattle.lin_export.specs.declared.fault.ExportFault.{ExportFault}
 use Rattle.lin_export.specs.Telling.{each_entry}

@@ -1,4 +1,4 @@
-use Rattle.std.proofs.Common.{◌+◌, ◌∷◌, List, drop, sym, ap, ◌∙◌, arith}
+use Rattle.std.proofs.Common.{◌+◌, List, drop, sym, ap, ◌∙◌, arith}
 use Rattle.lin_core.specs.History.{told_all}
 use Rattle.lin_core.specs.declared.event.Event.{Event}
 use Rattle.lin_export.specs.Open.{slot_in}

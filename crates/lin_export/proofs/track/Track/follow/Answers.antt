@@ -1,7 +1,6 @@
-use Rattle.std.proofs.Common.{◌≡◌, refl, sym, ap, ◌∙◌}
+use Rattle.std.proofs.Common.{sym, ap, ◌∙◌}
 use Rattle.std.specs.Prelude.{option_map}
 use Rattle.lin_export.specs.Open.{slot_in}
-use Rattle.lin_export.specs.Track.{TrackData}
 use Rattle.lin_export.proofs.Slots.{track-answer}
 use Rattle.lin_export.proofs.track.Track.follow.Goals as goal
 
