@@ -2,6 +2,7 @@
 
 ghost use Rattle.std.specs.Prelude.{◌≡◌, ◌∷◌, ◌++◌, [], codes, flat_map};
 ghost use Rattle.std.specs.Fmt.{decimal};
+ghost use Rattle.lin_core.specs.declared.event.Event.TheVariants.{Lost};
 ghost use Rattle.lin_text.specs.Written.{Grows, WritesText};
 ghost use Rattle.lin_log.specs.Words.{cause_word, direction_word, ended, entry_text, event_words, header_word, port_word, refusal_number, reply_line, reply_text, seen_words, step_line, step_words, text, value_word};
 
@@ -121,6 +122,13 @@ fn put_fate<W: Write>(writer: &mut TextWriter<'_, W>, name: &str, host: u8, numb
     put_last_number(writer, "", number);
 }
 
+fn put_loss<W: Write>(writer: &mut TextWriter<'_, W>, host: u8, number: u32, cause: Cause)
+    ensures { Grows W.contents writer.old writer.new (reply_line (event_words (Lost host number cause))) }
+{
+    put_numbers(writer, "> lost", host, number);
+    put_cause(writer, cause);
+}
+
 fn put_event<W: Write>(writer: &mut TextWriter<'_, W>, event: &Event)
     ensures { Grows W.contents writer.old writer.new (reply_line (event_words event.now)) }
 {
@@ -150,10 +158,7 @@ fn put_event<W: Write>(writer: &mut TextWriter<'_, W>, event: &Event)
             host,
             number,
             cause,
-        } => {
-            put_numbers(writer, "> lost", *host, *number);
-            put_cause(writer, *cause);
-        }
+        } => put_loss(writer, *host, *number, *cause),
         Event::Asleep => writer.put_text("> asleep\n"),
     }
 }

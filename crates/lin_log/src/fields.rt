@@ -96,22 +96,20 @@ pub(crate) fn end_of_line(line: &[u8]) -> Result<(), LineFault>
     }
 }
 
-/// The number of a node, a host or a port.
-fn byte_number(word: &[u8]) -> Result<u8, LineFault>
-    ensures { Gives (λ x. x) result (number 255 word.now) }
-{
-    match number(word, 255) {
-        None => Err(LineFault::Bad),
-        Some(n) => Ok(n as u8),
-    }
-}
-
 /// A field that is the number of a node or a host.
 pub(crate) fn node_field(line: &[u8]) -> Result<(u8, &[u8]), LineFault>
     ensures { Gives (λ x. (x.0, fields x.1.now)) result (field_by (number 255) (fields line.now)) }
 {
     let (word, rest) = next_field(line)?;
     Ok((byte_number(word)?, rest))
+}
+
+/// A field that is the number of a signal or a table.
+pub(crate) fn index_field(line: &[u8]) -> Result<(u16, &[u8]), LineFault>
+    ensures { Gives (λ x. (x.0, fields x.1.now)) result (field_by (number 65535) (fields line.now)) }
+{
+    let (word, rest) = next_field(line)?;
+    Ok((pair_number(word)?, rest))
 }
 
 fn hex_bytes(alloc: Global, word: &[u8]) -> Result<Payload, LineFault>
@@ -138,24 +136,6 @@ pub(crate) fn hex_field(alloc: Global, line: &[u8]) -> Result<(Payload, &[u8]), 
     Ok((hex_bytes(alloc, word)?, rest))
 }
 
-/// The number of a signal or a table, or a scalar.
-fn pair_number(word: &[u8]) -> Result<u16, LineFault>
-    ensures { Gives (λ x. x) result (number 65535 word.now) }
-{
-    match number(word, 65535) {
-        None => Err(LineFault::Bad),
-        Some(n) => Ok(n as u16),
-    }
-}
-
-/// A field that is the number of a signal or a table.
-pub(crate) fn index_field(line: &[u8]) -> Result<(u16, &[u8]), LineFault>
-    ensures { Gives (λ x. (x.0, fields x.1.now)) result (field_by (number 65535) (fields line.now)) }
-{
-    let (word, rest) = next_field(line)?;
-    Ok((pair_number(word)?, rest))
-}
-
 /// The bytes of an array.
 fn array_bytes(alloc: Global, word: &[u8]) -> Result<ValueBytes, LineFault>
     ensures { Gives (λ x. x) result (array_bytes word.now) }
@@ -165,6 +145,16 @@ fn array_bytes(alloc: Global, word: &[u8]) -> Result<ValueBytes, LineFault>
     match bytes.try_extend_from_slice(payload.as_slice()) {
         Ok(()) => Ok(ValueBytes::new(bytes)),
         Err(_) => Err(LineFault::Bad),
+    }
+}
+
+/// The number of a signal or a table, or a scalar.
+fn pair_number(word: &[u8]) -> Result<u16, LineFault>
+    ensures { Gives (λ x. x) result (number 65535 word.now) }
+{
+    match number(word, 65535) {
+        None => Err(LineFault::Bad),
+        Some(n) => Ok(n as u16),
     }
 }
 
@@ -202,6 +192,16 @@ pub(crate) fn direction_field(line: &[u8]) -> Result<(Direction, &[u8]), LineFau
 {
     let (word, rest) = next_field(line)?;
     Ok((direction(word)?, rest))
+}
+
+/// The number of a node, a host or a port.
+fn byte_number(word: &[u8]) -> Result<u8, LineFault>
+    ensures { Gives (λ x. x) result (number 255 word.now) }
+{
+    match number(word, 255) {
+        None => Err(LineFault::Bad),
+        Some(n) => Ok(n as u8),
+    }
 }
 
 #[tactic(auto, unfolding(crate::specs::Script::port))]

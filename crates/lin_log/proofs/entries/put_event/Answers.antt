@@ -13,6 +13,3 @@ returns-in-Put g c = rw c.in-Put.is (rw c.as_slice.ensures.items at (grows-more 
 
 pub returns-in-Message : goal.returns-in-Message
 returns-in-Message g c = rw c.in-Message.is (rw (append_assoc, append_assoc, c.as_slice-in-Message.ensures) at (grows-more c.put_numbers-in-Message.ensures c.put_last_bytes-in-Message.ensures))
-
-pub returns-in-Lost : goal.returns-in-Lost
-returns-in-Lost g c = rw c.in-Lost.is (rw (append_assoc, append_assoc) at (grows-more c.put_numbers-in-Lost.ensures c.put_cause.ensures))
