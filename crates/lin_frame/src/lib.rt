@@ -1,4 +1,10 @@
 //! LIN frames: protected identifiers, checksums, and signals in data bytes (ISO 17987-3).
+//!
+//! ```
+//! // the master request of the bytes 22 06 2E to the address 01: its checksum is A5
+//! let pid = protected(id);
+//! let response = answer(SumKind::Classic, pid, &[0x01, 0x03, 0x22, 0x06, 0x2E, 0xFF, 0xFF, 0xFF]);
+//! ```
 #![tactic(auto)]
 
 mod answering;

@@ -1,4 +1,9 @@
 //! Texts and lists that contracts see as lists.
+//!
+//! ```
+//! let text = Text::copied(alloc, b"door")?;
+//! let is_door = text.as_slice() == b"door";
+//! ```
 #![tactic(auto)]
 
 mod lists;

@@ -1,4 +1,9 @@
 //! Scripts of steps, the text of logs, and replays of the one that write the other.
+//!
+//! ```
+//! // reads a script, makes its steps from table 0 on, and writes the log
+//! let core = replay(alloc, cluster, 0, 16, &mut reader, &mut writer)?;
+//! ```
 #![tactic(auto)]
 
 mod entries;

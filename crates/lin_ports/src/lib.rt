@@ -1,5 +1,12 @@
 //! Ports of hosts and nodes, each with a ring of steps and a ring of notes, and the pump that makes their steps on a
 //! core.
+//!
+//! ```
+//! let (mut pump, mut hosts, mut nodes) = wire(alloc, core, 64)?;
+//! hosts[0].put(HostStep::Send { to: 1, message })?;
+//! pump.round()?;
+//! let note = hosts[0].take();
+//! ```
 #![tactic(auto)]
 
 mod host_port;

@@ -1,5 +1,11 @@
 //! Whole runs of a cluster: the hosts' tasks and the nodes' answers in threads of their own, and the slots of the
 //! schedule. The ports and the pump of `lin_ports` are handed on.
+//!
+//! ```
+//! let (pump, hosts, nodes) = wire(alloc, core, 64)?;
+//! let report = run_cluster(rt, alloc, pump, hosts, nodes, tasks, plan)?;
+//! write_log(report.core.log(), &mut writer)?;
+//! ```
 #![tactic(auto)]
 
 mod ending;

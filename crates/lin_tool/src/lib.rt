@@ -1,5 +1,11 @@
 //! What the program `linsim` does, apart from its command line: clusters from LDF texts, what each subcommand does with one, and why
 //! it ends early.
+//!
+//! ```
+//! let cluster = cluster_of_text(alloc, text)?;
+//! let table = opening_table(&cluster, Some("diag"))?;
+//! replay_script(alloc, cluster, table, 16, &mut reader, &mut writer)?;
+//! ```
 #![tactic(auto)]
 
 mod checking;
