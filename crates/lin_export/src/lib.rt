@@ -1,4 +1,9 @@
 //! A run in the formats of other tools: its log with names, as a table and as a capture of packets.
+//!
+//! ```
+//! let mut capture = Vec::new(alloc);
+//! write_pcap(alloc, core.cluster(), core.log(), &mut capture)?;
+//! ```
 #![tactic(auto)]
 
 mod carried;

@@ -4,8 +4,8 @@ ghost use Rattle.std.specs.Prelude.{◌≡◌, ◌∷◌, []};
 ghost use Rattle.hex.specs.Hex.{encode_upper};
 ghost use Rattle.lin_text.specs.Written.{Finishes, Grows, IsNew};
 
+use crate::direct::write_out;
 use crate::fault::WriteFailed;
-use crate::out::write_out;
 use arrayvec::ArrayVec;
 use itoa::Integer;
 use std::io::Write;
