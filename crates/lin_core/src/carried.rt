@@ -14,7 +14,7 @@ use lin_frame::SumKind;
 use lin_parts::{Cluster, Entry};
 
 /// The first of these frames with a protected identifier.
-fn frame_under(cluster: &Cluster, frames: &[u16], header: u8) -> Option<u16>
+pub fn frame_under(cluster: &Cluster, frames: &[u16], header: u8) -> Option<u16>
     requires { All (λ f. f < length cluster.now.frames) frames.now }
     ensures { result ≡ find (λ f. header == (frame_of cluster.now f).pid) frames.now }
 {
@@ -76,8 +76,9 @@ impl OpenSlot {
     }
 }
 
-/// The checksum model of the responses in a slot for an entry, under its header.
-pub(crate) fn model_under(cluster: &Cluster, entry: Entry, header: u8) -> SumKind
+/// The checksum model of the responses in a slot for an entry, under its header, a protected
+/// identifier (ISO 17987-3, checksum; LIN 2.2A, 2.3.1.5).
+pub fn model_under(cluster: &Cluster, entry: Entry, header: u8) -> SumKind
     requires { IsEntry cluster.now entry }
     ensures { result ≡ model_of cluster.now entry header }
 {

@@ -1,12 +1,13 @@
 //! Copies of steps and events.
 
-ghost use Rattle.std.specs.Prelude.{◌≡◌};
+ghost use Rattle.std.specs.Prelude.{◌≡◌, ◌≤◌, length};
+ghost use Rattle.lin_core.specs.Fits.{AreBytes, FitsValue};
 
-use crate::event::{Event, Seen};
+use crate::event::Event;
 use crate::payload::Payload;
-use crate::response::answer_with;
-use crate::signals::copied;
 use crate::step::Step;
+use arrayvec::ArrayVec;
+use lin_frame::{Value, ValueBytes};
 use std::alloc::{AllocError, Global};
 
 impl Payload {
@@ -20,6 +21,29 @@ impl Payload {
     {
         let bytes = self.as_slice();
         Ok(Payload::new(Vec::from_slice(alloc, bytes)?))
+    }
+}
+
+/// The same bytes.
+fn copied_bytes(bytes: &ValueBytes) -> ValueBytes
+    ensures same { result ≡ bytes.now }
+    ensures few { length bytes.now ≤ 8 }
+    ensures fits { AreBytes bytes.now }
+{
+    let source = bytes.as_slice();
+    let mut copy = ArrayVec::new();
+    copy.try_extend_from_slice(source).unwrap();
+    ValueBytes::new(copy)
+}
+
+/// The same value.
+fn copied(value: &Value) -> Value
+    ensures same { result ≡ value.now }
+    ensures fits { FitsValue value.now }
+{
+    match value {
+        Value::Scalar(number) => Value::Scalar(*number),
+        Value::Bytes(bytes) => Value::Bytes(copied_bytes(bytes)),
     }
 }
 
@@ -62,19 +86,6 @@ impl Step {
     }
 }
 
-/// A slot seen alike.
-fn copied_seen(seen: &Seen) -> Seen
-    ensures { result ≡ seen.now }
-{
-    match seen {
-        Seen::Silent => Seen::Silent,
-        Seen::NoAnswer => Seen::NoAnswer,
-        Seen::Good(answer) => Seen::Good(answer_with(answer.as_slice())),
-        Seen::Damaged => Seen::Damaged,
-        Seen::Collided => Seen::Collided,
-    }
-}
-
 impl Event {
     ghost use Rattle.std.specs.Prelude.{◌≡◌, IfOk};
 
@@ -99,9 +110,9 @@ impl Event {
             Event::Due { node } => Ok(Event::Due { node: *node }),
             Event::Put { node, answer } => Ok(Event::Put {
                 node: *node,
-                answer: answer_with(answer.as_slice()),
+                answer: *answer,
             }),
-            Event::Seen(seen) => Ok(Event::Seen(copied_seen(seen))),
+            Event::Seen(seen) => Ok(Event::Seen(*seen)),
             Event::Message { from, to, bytes } => Ok(Event::Message {
                 from: *from,
                 to: *to,

@@ -5,7 +5,7 @@ use crate::payload::Payload;
 use lin_frame::Answer;
 
 /// How the nodes see a slot when it ends (ISO 17987-3, frame slots).
-#[derive(Drop)]
+#[derive(Clone, Copy, Debug, PartialEq, Eq)]
 pub enum Seen {
     /// The slot had no header.
     Silent,

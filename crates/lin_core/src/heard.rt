@@ -1,17 +1,16 @@
 //! Frames of signals: their bytes, made of values, and the values that the nodes read in them.
 
-ghost use Rattle.std.specs.Prelude.{◌≡◌, ◌<◌, ◌≤◌, ℕ, [], length, map, take, true, All, Some, option_map, is_some, slice_get, slice_index, IsTrue, vec_capacity};
+ghost use Rattle.std.specs.Prelude.{◌≡◌, ◌<◌, ◌≤◌, ℕ, [], length, map, take, true, All, Some, option_map, is_some, slice_get, IsTrue, vec_capacity};
 ghost use Rattle.lin_frame.specs.Bits.{fits_place, packed, unpacked};
 ghost use Rattle.lin_frame.specs.Frame.{answer_of};
 ghost use Rattle.lin_frame.specs.Words.{choose};
 ghost use Rattle.lin_parts.specs.Cluster.{frame_of, signal_of};
 ghost use Rattle.lin_parts.specs.Rules.{place_at};
 ghost use Rattle.lin_core.specs.History.{good};
-ghost use Rattle.lin_core.specs.Kept.{ArePointwise, slot_in, IsOpen};
-ghost use Rattle.lin_core.specs.Signals.{place_in, value_in};
+ghost use Rattle.lin_core.specs.Kept.{slot_in, IsOpen};
+ghost use Rattle.lin_core.specs.Signals.{place_in, value_in, ArePointwise};
 
 use crate::carried::frame_by;
-use crate::signals::copied;
 use crate::slot::OpenSlot;
 use lin_frame::{Answer, SumKind, Value, answer, pack, unpack};
 use lin_parts::Cluster;
@@ -25,7 +24,7 @@ fn gather(room: &mut Vec<Value>, values: &[Value], signals: &[u16])
     ensures room { vec_capacity room.old ≤ vec_capacity room.new }
 {
     for signal in signals {
-        room.push(copied(&values[*signal as usize])).unwrap();
+        room.push(values[*signal as usize]).unwrap();
     }
 }
 
@@ -55,36 +54,17 @@ pub(crate) fn frame_answer(
     answer(model, header, &bytes[..layout.len as usize])
 }
 
-/// The byte at an index; 0 behind the last.
-fn byte_at(bytes: &[u8], index: usize) -> u8
-    ensures { result ≡ slice_index bytes.now index }
-{
-    if index < bytes.len() {
-        return bytes[index];
-    }
-    0
-}
-
-/// The first eight bytes, with zeros behind fewer.
-fn first_eight(bytes: &[u8]) -> [u8; 8]
-    ensures { (k : ℕ) → slice_index result k ≡ slice_index (take 8 bytes.now) k }
-{
-    let mut first = [0; 8];
-    for index in 0..8 {
-        first[index] = byte_at(bytes, index);
-    }
-    first
-}
-
-/// The other nodes hear a frame with these bytes.
-fn hear(heard: &mut Vec<Value>, cluster: &Cluster, frame: u16, bytes: &[u8])
+/// The values that are heard, by the numbers of their signals, after a response with a frame of
+/// signals was seen good: those of the frame are the ones in its data bytes, the others stay
+/// (ISO 17987-3, signals).
+pub fn hear_frame(heard: &mut Vec<Value>, cluster: &Cluster, frame: u16, answer: &Answer)
     requires frame { frame < length cluster.now.frames }
     requires count { length heard.old.items ≡ length cluster.now.signals }
     ensures count { length heard.new.items ≡ length heard.old.items }
-    ensures heard { (g : ℕ → Value) → ArePointwise g heard.old.items → ArePointwise (λ s. choose (option_map (λ p. unpacked p (take 8 bytes.now)) (place_in (frame_of cluster.now frame) s)) (g s) (λ v. v)) heard.new.items }
+    ensures heard { (g : ℕ → Value) → ArePointwise g heard.old.items → ArePointwise (λ s. choose (option_map (λ p. unpacked p (take 8 answer.now)) (place_in (frame_of cluster.now frame) s)) (g s) (λ v. v)) heard.new.items }
 {
     cluster.sound();
-    let data = first_eight(bytes);
+    let data = answer.data();
     let layout = cluster.layout(frame);
     let signals = cluster.frame_signals(frame);
     let mut left = signals.len();
@@ -109,6 +89,6 @@ pub(crate) fn hear_slot(heard: &mut Vec<Value>, cluster: &Cluster, slot: &OpenSl
         return;
     };
     if let Some(frame) = frame_by(cluster, slot.kind, header, put.node) {
-        hear(heard, cluster, frame, put.answer.as_slice());
+        hear_frame(heard, cluster, frame, &put.answer);
     }
 }

@@ -20,7 +20,7 @@ use crate::port::PortId;
 use crate::receivers::fresh_receivers;
 use crate::reply::Reply;
 use crate::setup::Setup;
-use crate::signals::{Signals, copied};
+use crate::signals::Signals;
 use crate::slot::Slot;
 use crate::state::State;
 use crate::step::Step;
@@ -194,9 +194,9 @@ impl Core {
     {
         let signals = &self.state.signals;
         if node == self.setup.cluster.publisher(signal) {
-            copied(&signals.values[signal as usize])
+            signals.values[signal as usize]
         } else {
-            copied(&signals.heard[signal as usize])
+            signals.heard[signal as usize]
         }
     }
 

@@ -35,8 +35,8 @@ fn first(found: Option<u8>, node: u8, is_one: bool) -> Option<u8>
     found
 }
 
-/// The node with an address, if there is one.
-fn node_with(cluster: &Cluster, address: u8) -> Option<u8>
+/// The node with an address, if there is one (ISO 17987-2, node addresses).
+pub fn node_with(cluster: &Cluster, address: u8) -> Option<u8>
     ensures { result ≡ node_with cluster.now address }
 {
     let mut found = None;

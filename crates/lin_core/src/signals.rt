@@ -2,49 +2,24 @@
 
 ghost use Rattle.std.specs.Prelude.{◌≡◌, ◌<◌, ◌≤◌, ◌||◌, ◌==◌, ℕ, true, false, [], length, map, All, IfOk, IfSome, Some, None, is_some, vec_capacity, replicate, slice_set, slice_index_or, if◌then◌else◌};
 ghost use Rattle.lin_parts.specs.Cluster.{frame_of};
-ghost use Rattle.lin_core.specs.Fits.{AreBytes, FitsValue};
 ghost use Rattle.lin_frame.specs.Words.{choose};
 ghost use Rattle.lin_core.specs.History.{good, is_in};
-ghost use Rattle.lin_core.specs.Kept.{ArePointwise, is_cleared, slot_in, IsOpen};
-ghost use Rattle.lin_core.specs.Signals.{value_in};
+ghost use Rattle.lin_core.specs.Kept.{is_cleared, slot_in, IsOpen};
+ghost use Rattle.lin_core.specs.Signals.{value_in, ArePointwise};
 
 use crate::heard::hear_slot;
 use crate::slot::{OpenSlot, Put};
-use arrayvec::ArrayVec;
-use lin_frame::{Value, ValueBytes};
+use lin_frame::Value;
 use lin_parts::Cluster;
 use std::alloc::{AllocError, Global};
 
-/// Equal bytes.
-fn copied_bytes(bytes: &ValueBytes) -> ValueBytes
-    ensures same { result ≡ bytes.now }
-    ensures few { length bytes.now ≤ 8 }
-    ensures fits { AreBytes bytes.now }
-{
-    let source = bytes.as_slice();
-    let mut copy = ArrayVec::new();
-    copy.try_extend_from_slice(source).unwrap();
-    ValueBytes::new(copy)
-}
-
-/// An equal value.
-pub(crate) fn copied(value: &Value) -> Value
-    ensures same { result ≡ value.now }
-    ensures fits { FitsValue value.now }
-{
-    match value {
-        Value::Scalar(number) => Value::Scalar(*number),
-        Value::Bytes(bytes) => Value::Bytes(copied_bytes(bytes)),
-    }
-}
-
-/// The initial values of all signals. An error is want of memory.
-fn initial_values(alloc: Global, cluster: &Cluster) -> Result<Vec<Value>, AllocError>
+/// The initial values of all signals, by number (ISO 17987-3, signals). An error is want of memory.
+pub fn initial_values(alloc: Global, cluster: &Cluster) -> Result<Vec<Value>, AllocError>
     ensures { IfOk result (λ values. values.items ≡ map (λ signal. signal.initial) cluster.now.signals) }
 {
     let mut values = Vec::new(alloc);
     for signal in 0..cluster.signals() as u16 {
-        values.push(copied(cluster.initial(signal)))?;
+        values.push(*cluster.initial(signal))?;
     }
     Ok(values)
 }

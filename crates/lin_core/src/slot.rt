@@ -11,8 +11,8 @@ ghost use Rattle.lin_core.specs.declared.slot.Put.{Put};
 
 use crate::event::{Event, Seen};
 use crate::payload::Events;
-use crate::response::Response;
 use arrayvec::ArrayVec;
+use lin_frame::Answer;
 use lin_parts::{Cluster, Entry};
 use std::alloc::{AllocError, Global};
 use std::marker::Model;
@@ -26,7 +26,7 @@ pub(crate) const SLAVE_RESPONSE: u8 = 0x7D;
 #[derive(Drop)]
 pub(crate) struct Put {
     pub(crate) node: u8,
-    pub(crate) answer: Response,
+    pub(crate) answer: Answer,
     pub(crate) cleared: Option<u16>,
 }
 
@@ -35,7 +35,7 @@ impl Default for Put {
     fn default() -> Put {
         Put {
             node: 0,
-            answer: Response::empty(),
+            answer: Answer::new(ArrayVec::new()),
             cleared: None,
         }
     }
@@ -140,17 +140,14 @@ impl OpenSlot {
         self.header.unwrap()
     }
 
-    /// The data bytes of its only response; zeros where that has fewer than eight.
+    /// The data bytes of its only response; zeros where there isn't just one.
     pub(crate) fn data(&self) -> [u8; 8]
         ensures { (put : Put) → self.now.puts.items ≡ put ∷ [] → 8 ≤ length put.answer → result ≡ take 8 put.answer }
     {
-        let mut data = [0; 8];
-        if let Some(put) = self.puts.as_slice().first()
-            && put.answer.as_slice().len() >= 8
-        {
-            data.copy_from_slice(&put.answer.as_slice()[..8]);
+        match self.puts.as_slice() {
+            [put] => put.answer.data(),
+            _ => [0; 8],
         }
-        data
     }
 
     /// How the slot is seen when it ends.
@@ -163,7 +160,7 @@ impl OpenSlot {
         match self.puts.as_slice() {
             [] => Seen::NoAnswer,
             [_] if self.hurt => Seen::Damaged,
-            [put] => Seen::Good(put.answer.answer()),
+            [put] => Seen::Good(put.answer),
             _ => Seen::Collided,
         }
     }

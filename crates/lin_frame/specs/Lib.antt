@@ -1,4 +1,5 @@
 pub mod Bits
 pub mod Frame
 pub mod Inverse
+pub mod Short
 pub mod Words

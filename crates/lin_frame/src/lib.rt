@@ -14,6 +14,7 @@ mod inverse;
 mod layout;
 mod packing;
 mod response;
+mod short;
 mod sums;
 mod value;
 

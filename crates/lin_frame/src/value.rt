@@ -2,23 +2,36 @@
 
 ghost use Rattle.std.specs.Prelude.{◌≡◌, ◌≤◌, length};
 
+use crate::short::with_zeros;
 use arrayvec::ArrayVec;
 use std::marker::Model;
 
+/// The most bytes of an array signal (ISO 17987-3, signals).
+const MOST: usize = 8;
+
 /// The bytes of an array signal, at most eight, the lowest first. Contracts see them as a list.
-#[derive(Drop)]
+#[derive(Clone, Copy, Debug, PartialEq, Eq)]
 pub struct ValueBytes {
-    bytes: ArrayVec<u8, 8>,
+    bytes: [u8; MOST],
+    len: u8,
 }
 
 impl Model for ValueBytes {
-    ghost use Rattle.std.specs.Prelude.{List, ℕ, length, ◌≤◌};
+    ghost use Rattle.std.specs.Prelude.{List, ℕ, length, take};
+    ghost use Rattle.std.proofs.Common.{ap, ◌∙◌};
+    ghost use Rattle.lin_frame.specs.Short.{with_zeros, IsShort};
 
     ghost Value = { List ℕ };
 
-    ghost view = { λ v. v.bytes.items };
+    ghost view = { λ v. take v.len v.bytes };
 
-    ghost invariant = { λ v. length v.bytes.items ≤ 8 };
+    ghost invariant = { λ v. IsShort 8 v.len v.bytes };
+
+    ghost inverse = { λ xs. record { bytes = with_zeros 8 xs; len = length xs } };
+
+    ghost inverse_ok = { λ v h.
+        ap (λ n. record { bytes = with_zeros 8 (take v.len v.bytes); len = n }) h.len_is
+        ∙ ap (λ bytes. record { bytes = bytes; len = v.len }) h.zeros_behind };
 }
 
 impl ValueBytes {
@@ -26,7 +39,11 @@ impl ValueBytes {
     pub fn new(bytes: ArrayVec<u8, 8>) -> ValueBytes
         ensures { result ≡ bytes.items }
     {
-        ValueBytes { bytes }
+        let given = bytes.as_slice();
+        ValueBytes {
+            bytes: with_zeros(given),
+            len: given.len() as u8,
+        }
     }
 
     /// The bytes, the lowest first.
@@ -34,12 +51,13 @@ impl ValueBytes {
         ensures items { result.now ≡ self.now }
         ensures few { length result.now ≤ 8 }
     {
-        self.bytes.as_slice()
+        &self.bytes[..self.len as usize]
     }
 }
 
-/// The value of a signal: a scalar of 1 to 16 bits, or an array of 1 to 8 bytes (ISO 17987-3, signals).
-#[derive(Drop)]
+/// The value of a signal: a scalar of 1 to 16 bits, or an array of 1 to 8 bytes
+/// (ISO 17987-3, signals).
+#[derive(Clone, Copy, Debug, PartialEq, Eq)]
 pub enum Value {
     Scalar(u16),
     Bytes(ValueBytes),

@@ -12,9 +12,7 @@ use crate::machine::no_events;
 use crate::messages::next_bytes;
 use crate::payload::{Events, Payload};
 use crate::port::PortId;
-use crate::response::Response;
 use crate::setup::Setup;
-use crate::signals::copied;
 use crate::slot::{Put, is_sleep_asked, opening_events};
 use crate::state::State;
 use crate::step::Step;
@@ -60,7 +58,7 @@ impl State {
         requires { IsReady (stage setup.now log.now self.old) by (Step.Write node signal value.now) }
         ensures { IsMade (stage setup.now log.now self.old) by (Step.Write node signal value.now) result self.new }
     {
-        self.signals.write(&setup.cluster, signal, copied(value));
+        self.signals.write(&setup.cluster, signal, *value);
         no_events(setup)
     }
 
@@ -123,7 +121,7 @@ impl State {
         );
         self.slot.put(Put {
             node,
-            answer: Response::of(&answer),
+            answer,
             cleared: self.signals.clear(frame),
         });
         Events::one(Event::Put { node, answer })
@@ -143,7 +141,7 @@ impl State {
         let answer = answer(SumKind::Classic, header, &data);
         self.slot.put(Put {
             node,
-            answer: Response::of(&answer),
+            answer,
             cleared: None,
         });
         Events::one(Event::Put { node, answer })

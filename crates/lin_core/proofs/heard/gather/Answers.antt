@@ -15,12 +15,12 @@ loop-signal-preserved c =
     let v = c.loop-signal.invariant in
     let s = slice_index c.args.signals.now i in
     let known : s < length c.args.values.now = c.requires.known i 0 (omega arith) in
-    let pushed : c.push.new.self.items ≡ c.loop-signal.room.items ++ c.copied.result ∷ [] = rw c.unwrap.ensures at c.push.ensures.items in
-    let at : slice_get c.args.values.now s ≡ Some c.copied.result
-    = slice_get_read c.args.values.now (length c.args.values.now) s c.index-values-signal.result refl known c.index-values-signal.is ∙ ap Some (sym c.copied.ensures.same) in
+    let pushed : c.push.new.self.items ≡ c.loop-signal.room.items ++ c.index-values-signal.result ∷ [] = rw c.unwrap.ensures at c.push.ensures.items in
+    let at : slice_get c.args.values.now s ≡ Some c.index-values-signal.result
+    = slice_get_read c.args.values.now (length c.args.values.now) s c.index-values-signal.result refl known c.index-values-signal.is in
     let count = v.count in
     record {
-      values = λ g p. pushed ∙ one-more g c.loop-signal.room.items c.copied.result c.args.signals.now i (omega arith) (v.values g p) (p s c.copied.result at);
+      values = λ g p. pushed ∙ one-more g c.loop-signal.room.items c.index-values-signal.result c.args.signals.now i (omega arith) (v.values g p) (p s c.index-values-signal.result at);
       count = rw (pushed, length-append) (omega arith);
       enough = let e = v.enough in let grown = c.push.ensures.capacity in omega arith;
       grown = let e = v.grown in let grown = c.push.ensures.capacity in omega arith;

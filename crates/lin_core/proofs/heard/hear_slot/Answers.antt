@@ -24,8 +24,7 @@ returns-in-Some-frame_by-clause-heard c = λ g p s v at.
     = rw (← c.requires.there.kind_is) (sym c.frame_by.ensures.frame ∙ c.in-Some-frame_by.is) in
     let is : value_in x (slot_in slot) s ≡ option_map (λ q. unpacked q (take 8 put.answer)) (place_in (frame_of x c.in-Some-frame_by.frame) s)
     = heard-is x slot c.in-Some.header put c.in-Some-frame_by.frame s c.requires.good c.in-Some.is first by in
-    c.hear.ensures.heard g p s v at
-    ∙ ap (λ (bytes : List ℕ). choose (option_map (λ q. unpacked q (take 8 bytes)) (place_in (frame_of x c.in-Some-frame_by.frame) s)) (g s) (λ y. y)) c.as_slice-in-Some-frame_by.ensures.items
+    c.hear_frame.ensures.heard g p s v at
     ∙ ap (λ (o : Option Value). choose o (g s) (λ y. y)) (sym is)
 
 pub returns-in_default-frame_by-clause-heard : goal.returns-in_default-frame_by-clause-heard

@@ -91,7 +91,7 @@ kept c =
     let a = here c in
     let w = c.requires.ready.whole in
     let s = at c in
-    let p : KeptPut = record { node = c.args.node; answer = c.of.result; cleared = c.clear.result } in
+    let p : KeptPut = record { node = c.args.node; answer = c.frame_answer-answer.result; cleared = c.clear.result } in
     let k = w.kept.signals_are in
     let n = k.pending_count in
     let below : c.args.frame < length a.cluster.frames = c.requires.frame in
@@ -100,7 +100,7 @@ kept c =
     let keeps : Keeps a.cluster a.opening a.capacity a.log (past_in a) (Some s.slot) a.state.time a.state.walker a.state.hosts.items a.state.signals
     = subst (λ (o : Option OpenSlot). Keeps a.cluster a.opening a.capacity a.log (past_in a) o a.state.time a.state.walker a.state.hosts.items a.state.signals) s.at w.kept in
     rw (c.put.ensures s.slot s.at)
-    (answer-keeps a.cluster a.opening a.capacity a.log (past_in a) s.slot a.state.time a.state.walker a.state.hosts.items a.state.signals c.clear.new.self c.args.by c.args.node p w.sound (allowed c).known (allowed c).allowed refl (ap (λ (bytes : List ℕ). Put c.args.node bytes ∷ []) c.of.ensures ∙ told c)
+    (answer-keeps a.cluster a.opening a.capacity a.log (past_in a) s.slot a.state.time a.state.walker a.state.hosts.items a.state.signals c.clear.new.self c.args.by c.args.node p w.sound (allowed c).known (allowed c).allowed refl (told c)
     (frame-answers a.cluster s.slot p s.can.0 c.args.frame a.state.signals c.clear.new.self s.can.1 (by c) l c.clear.ensures.cleared c.clear.ensures.values c.clear.ensures.heard c.clear.ensures.pending
     (ap (λ (r : _). r.items) c.clear.ensures.room ∙ c.frame_answer-answer.ensures.empty)
     (λ f inside. let enough = k.room_enough f inside in let same = ap vec_capacity c.clear.ensures.room in omega arith)) keeps)

@@ -44,7 +44,7 @@ abbrev entry : (c : After-one) → LogEntry
 entry c = done_entry c.args.by (Answer c.args.node) (events c)
 
 abbrev put_of : (c : After-one) → KeptPut
-put_of c = record { node = c.args.node; answer = c.of.result; cleared = None }
+put_of c = record { node = c.args.node; answer = c.answer-answer.result; cleared = None }
 
 told : (c : After-one) → Put c.args.node c.answer-answer.result ∷ [] ≡ events c
 told c = ap (λ (bytes : List ℕ). Put c.args.node bytes ∷ []) (c.answer-answer.ensures ∙ ap with_classic (c.next_bytes-data.ensures)) ∙ (next c).told
@@ -59,7 +59,7 @@ kept c =
     let keeps : Keeps a.cluster a.opening a.capacity a.log (past_in a) (Some s.slot) a.state.time a.state.walker a.state.hosts.items a.state.signals
     = subst (λ (o : Option OpenSlot). Keeps a.cluster a.opening a.capacity a.log (past_in a) o a.state.time a.state.walker a.state.hosts.items a.state.signals) s.at w.kept in
     rw put
-    (answer-keeps a.cluster a.opening a.capacity a.log (past_in a) s.slot a.state.time a.state.walker a.state.hosts.items a.state.signals a.state.signals c.args.by c.args.node (put_of c) w.sound x.step.known x.step.allowed refl (ap (λ (bytes : List ℕ). Put c.args.node bytes ∷ []) c.of.ensures ∙ told c)
+    (answer-keeps a.cluster a.opening a.capacity a.log (past_in a) s.slot a.state.time a.state.walker a.state.hosts.items a.state.signals a.state.signals c.args.by c.args.node (put_of c) w.sound x.step.known x.step.allowed refl (told c)
     (request-answers a.cluster (past_in a) s.slot (put_of c) s.can.0 a.state.signals s.can.1 (sym (answered-by a.cluster (past_in a) c.args.node s.can.0 s.slot s.is s.can.1) ∙ c.requires.none) refl keeps.signals_are) keeps)
 
 pub open-requires : goal.open-requires

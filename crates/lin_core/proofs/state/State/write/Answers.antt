@@ -16,7 +16,7 @@ returns c =
       told = c.no_events.ensures;
       kept = write-keeps a.cluster a.opening a.capacity a.log (past_in a) a.state.slot a.state.time a.state.walker a.state.hosts.items a.state.signals c.write.new.self c.args.by c.args.node c.args.signal c.args.value.now
           w.sound k c.requires.allowed
-          (record { values = rw c.copied.ensures.same at c.write.ensures.values; heard = c.write.ensures.heard; room = c.write.ensures.room; count = c.write.ensures.frames; pending = c.write.ensures.pending }) w.kept;
+          (record { values = c.write.ensures.values; heard = c.write.ensures.heard; room = c.write.ensures.room; count = c.write.ensures.frames; pending = c.write.ensures.pending }) w.kept;
       late = write-late a.cluster (past_in a) c.args.by c.args.node c.args.signal c.args.value.now a.state.mode a.state.hosts.items w.sound k w.late;
       heard = heard-same a.cluster (past_in a) (done_of a c.args.by (Write c.args.node c.args.signal c.args.value.now) ∷ past_in a) a.state.receivers.items (λ l i. refl) w.heard;
     }

@@ -8,10 +8,10 @@ use Rattle.lin_core.specs.Kept.{ArePointwise}
 use Rattle.lin_parts.specs.Cluster.{frame_of}
 use Rattle.lin_core.proofs.ClusterFrames.{FrameIs, frame-is}
 use Rattle.lin_core.proofs.Hearing.{from_place, hear-none, hear-more, hear-all, no_place}
-use Rattle.lin_core.proofs.heard.hear.Goals as goal
+use Rattle.lin_core.proofs.heard.hear_frame.Goals as goal
 
 pub loop-left-init : goal.loop-left-init
-loop-left-init c = record { count = refl; few = omega arith; values = λ g p. hear-none c.first_eight-data.result c.frame_signals-signals.result.now c.layout-layout.result.now.places g c.args.heard.now.items p }
+loop-left-init c = record { count = refl; few = omega arith; values = λ g p. hear-none c.data-data.result c.frame_signals-signals.result.now c.layout-layout.result.now.places g c.args.heard.now.items p }
 
 pub unpack-requires-clause-in_range : goal.unpack-requires-clause-in_range
 unpack-requires-clause-in_range c =
@@ -46,15 +46,15 @@ loop-left-preserved c =
       count = length-set c.loop-left.heard.items (slice_index_or signals i 0) c.unpack.result ∙ v.count;
       few = omega arith;
       values = λ g p.
-          hear-more c.first_eight-data.result signals places g c.loop-left.heard.items i c.unpack.result below inside (c.unpack.ensures no_place)
-          (subst (λ (m : ℕ). ArePointwise (λ s. choose (from_place c.first_eight-data.result signals places m s) (g s) (λ x. x)) c.loop-left.heard.items) next (v.values g p));
+          hear-more c.data-data.result signals places g c.loop-left.heard.items i c.unpack.result below inside (c.unpack.ensures no_place)
+          (subst (λ (m : ℕ). ArePointwise (λ s. choose (from_place c.data-data.result signals places m s) (g s) (λ x. x)) c.loop-left.heard.items) next (v.values g p));
     }
 
 pub returns-clause-heard : goal.returns-clause-heard
 returns-clause-heard c = λ g p.
     let x = c.args.cluster.now in
     let z : c.loop-left.left ≡ 0 = let t = c.loop-left-test.false in omega arith in
-    hear-all x c.args.frame c.first_eight-data.result c.args.bytes.now g c.loop-left.heard.items c.loop-left.left z c.first_eight-data.ensures
-    (subst (λ (ss : List ℕ). ArePointwise (λ s. choose (from_place c.first_eight-data.result ss (frame_of x c.args.frame).layout.places c.loop-left.left s) (g s) (λ y. y)) c.loop-left.heard.items) c.frame_signals-signals.ensures
-    (subst (λ (l : Layout). ArePointwise (λ s. choose (from_place c.first_eight-data.result c.frame_signals-signals.result.now l.places c.loop-left.left s) (g s) (λ y. y)) c.loop-left.heard.items) c.layout-layout.ensures
+    hear-all x c.args.frame c.data-data.result c.args.answer.now g c.loop-left.heard.items c.loop-left.left z c.data-data.ensures.each
+    (subst (λ (ss : List ℕ). ArePointwise (λ s. choose (from_place c.data-data.result ss (frame_of x c.args.frame).layout.places c.loop-left.left s) (g s) (λ y. y)) c.loop-left.heard.items) c.frame_signals-signals.ensures
+    (subst (λ (l : Layout). ArePointwise (λ s. choose (from_place c.data-data.result c.frame_signals-signals.result.now l.places c.loop-left.left s) (g s) (λ y. y)) c.loop-left.heard.items) c.layout-layout.ensures
     (c.loop-left.invariant.values g p)))

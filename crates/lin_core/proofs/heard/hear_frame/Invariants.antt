@@ -5,7 +5,7 @@ use Rattle.lin_frame.specs.Bits.{unpacked}
 use Rattle.lin_frame.specs.declared.layout.Place.{Place}
 use Rattle.lin_frame.specs.declared.value.Value.{Value}
 use Rattle.lin_core.specs.Kept.{ArePointwise}
-use Rattle.lin_core.proofs.heard.hear.Given as goal
+use Rattle.lin_core.proofs.heard.hear_frame.Given as goal
 
 abbrev pub invariant-loop-left : goal.invariant-loop-left
 invariant-loop-left l = record {
