@@ -30,9 +30,13 @@ fn write(alloc: Global, line: &[u8]) -> Result<Step, LineFault>
 {
     let (by, rest) = node_field(line)?;
     let (signal, rest) = index_field(rest)?;
-    let (value, rest) = value_field(alloc, rest)?;
-    end_of_line(rest)?;
-    Ok(Step::Write { by, signal, value })
+    match value_field(alloc, rest) {
+        Err(fault) => Err(fault),
+        Ok((value, rest)) => {
+            end_of_line(rest)?;
+            Ok(Step::Write { by, signal, value })
+        }
+    }
 }
 
 #[tactic(auto, unfolding(crate::specs::Script::hurt_form))]
