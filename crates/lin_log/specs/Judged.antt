@@ -1,5 +1,5 @@
 -- What the parts of reading a script answer.
-use Rattle.std.specs.Prelude.{◌≡◌, ℕ, ◌+◌, ◌==◌, ◌<◌, ◌≤◌, List, [], ◌∷◌, length, Option, Some, None, IfSome, Result, Ok, Err}
+use Rattle.std.specs.Prelude.{◌≡◌, ℕ, ◌+◌, ◌==◌, List, [], ◌∷◌, length, Option, Some, None, Result, Ok, Err}
 use Rattle.std.specs.Borrow.{Bor}
 use Rattle.std.specs.List.{slice_split}
 use Rattle.lin_core.specs.declared.port.PortId.{PortId}
@@ -9,9 +9,6 @@ use Rattle.lin_core.specs.declared.log.LogEntry.{LogEntry}
 use Rattle.lin_log.specs.Replay.{log_of}
 use Rattle.lin_log.specs.Script.{judged, prefixed}
 use Rattle.lin_log.specs.declared.script.ScriptLines.{ScriptLines}
-use Rattle.lin_log.specs.declared.fault.ReplayFault.{ReplayFault}
-use Rattle.lin_log.specs.declared.fault.ReplayFault.TheVariants.{Script}
-use Rattle.lin_log.specs.declared.fault.ReplayFault.TheVariants as replay
 use Rattle.lin_log.specs.declared.fault.ScriptFault.{ScriptFault}
 use Rattle.lin_log.specs.declared.fault.ScriptFault.TheVariants.{BadLine, TooLong, ReadFailed, OutOfMemory}
 
@@ -45,19 +42,6 @@ NextStep (Ok (Some step)) old new = old ≡ prefixed (step ∷ []) new
 NextStep (Err e) old new = JudgeFaults e old
 
 -- what making the steps that lines say answers, and the log of those steps
-abbrev pub MakesLines : Parts → ℕ → ℕ → Result Unit ReplayFault → List LogEntry → Result (List (PortId × Step)) ℕ → Type 0
+abbrev pub MakesLines : Parts → ℕ → ℕ → Result Unit ScriptFault → List LogEntry → Result (List (PortId × Step)) ℕ → Type 0
 MakesLines c opening capacity (Ok done) log r = (steps : List (PortId × Step)) × (r ≡ Ok steps) × (log ≡ log_of c opening capacity steps)
-MakesLines c opening capacity (Err (Script fault)) log r = JudgeFaults fault r
-MakesLines c opening capacity (Err replay.OutOfMemory) log r = Unit {0}
-MakesLines c opening capacity (Err replay.WriteFailed) log r = ⊥
-
-abbrev pub ByteFaults : ScriptFault → Option (List ℕ) → Type 0
-ByteFaults (BadLine n) told = ⊥
-ByteFaults TooLong told = IfSome told (λ bytes. 16777216 < length bytes)
-ByteFaults ReadFailed told = Unit {0}
-ByteFaults OutOfMemory told = Unit {0}
-
--- the bytes of a script, as far as a reader tells them
-abbrev pub ReadsBytes : {X : Type 0} → (X → List ℕ) → Result X ScriptFault → Option (List ℕ) → Type 0
-ReadsBytes view (Ok x) told = IfSome told (λ bytes. view x ≡ bytes) × (length (view x) ≤ 16777216)
-ReadsBytes view (Err e) told = ByteFaults e told
+MakesLines c opening capacity (Err fault) log r = JudgeFaults fault r

@@ -33,9 +33,33 @@ abbrev pub ReadsScript : {X : Type 0} → (X → List (PortId × Step)) → Resu
 ReadsScript view (Ok x) bytes = IsScriptOf bytes (view x)
 ReadsScript view (Err e) bytes = ScriptFaults e bytes
 
+-- when reading a script's bytes has this fault: what the reader has is told, or it isn't
+abbrev pub ByteFaults : ScriptFault → Option (List ℕ) → Type 0
+ByteFaults (BadLine n) told = ⊥
+ByteFaults TooLong told = IfSome told (λ bytes. 16777216 < length bytes)
+ByteFaults ReadFailed told = Unit {0}
+ByteFaults NoMemory told = Unit {0}
+
+-- the bytes of a script, as far as a reader tells them
+abbrev pub ReadsBytes : {X : Type 0} → (X → List ℕ) → Result X ScriptFault → Option (List ℕ) → Type 0
+ReadsBytes view (Ok x) told = IfSome told (λ bytes. view x ≡ bytes) × (length (view x) ≤ 16777216)
+ReadsBytes view (Err e) told = ByteFaults e told
+
 -- the log of these steps, both the oldest first
 abbrev pub log_of : Parts → ℕ → ℕ → List (PortId × Step) → List LogEntry
 log_of c opening capacity said = reverse (history c opening capacity (reverse said))
+
+-- a replay's fault for one of its script
+abbrev pub replay_fault : ScriptFault → ReplayFault
+replay_fault (BadLine n) = Script (BadLine n)
+replay_fault TooLong = Script TooLong
+replay_fault ReadFailed = Script ReadFailed
+replay_fault NoMemory = OutOfMemory
+
+-- what making the steps of a script of these bytes answers
+abbrev pub RunsScript : {X : Type 0} → Parts → ℕ → ℕ → (X → List LogEntry) → Result X ScriptFault → List ℕ → Type 0
+RunsScript c opening capacity view (Ok x) bytes = (said : List (PortId × Step)) × IsScriptOf bytes said × (view x ≡ log_of c opening capacity said)
+RunsScript c opening capacity view (Err fault) bytes = ScriptFaults fault bytes
 
 -- what a replay answers, and what the writer took: of the script's bytes where the reader tells them, and of some steps in any case
 abbrev pub IsReplay : {X : Type 0} → Parts → ℕ → ℕ → (X → List LogEntry) → Result X ReplayFault

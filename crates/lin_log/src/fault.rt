@@ -1,5 +1,8 @@
 //! Why a script isn't read, a log isn't written, or a replay ends early.
 
+ghost use Rattle.std.specs.Prelude.{◌≡◌};
+ghost use Rattle.lin_log.specs.Replay.{replay_fault};
+
 use thiserror::Error;
 
 /// Why a script gives no steps. Nothing but the reader has changed then.
@@ -30,4 +33,15 @@ pub enum ReplayFault {
     /// What was written is the beginning of the text.
     #[error("{}", lin_text::WriteFailed)]
     WriteFailed,
+}
+
+impl From<ScriptFault> for ReplayFault {
+    ghost from_gives = { λ x y. y ≡ replay_fault x };
+
+    fn from(fault: ScriptFault) -> ReplayFault {
+        match fault {
+            ScriptFault::OutOfMemory => ReplayFault::OutOfMemory,
+            fault => ReplayFault::Script(fault),
+        }
+    }
 }

@@ -18,6 +18,6 @@ mod words;
 pub use entries::write_log;
 pub use fault::{ReplayFault, ScriptFault};
 pub use lin_text::WriteFailed;
-pub use replaying::replay;
-pub use script::read_script;
+pub use replaying::{replay, run_script};
+pub use script::{read_bytes, read_script};
 pub use steps::steps_of;

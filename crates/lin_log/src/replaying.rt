@@ -1,13 +1,13 @@
-//! A script, made and written.
+//! Scripts, made and written.
 
 ghost use Rattle.std.specs.Prelude.{◌≡◌, ◌≤◌, ◌<◌, ◌^◌, ◌-◌, ◌++◌, ◌∷◌, [], length, IfOk, OnOk};
 ghost use Rattle.lin_core.specs.Core.{IsAlike, answered};
 ghost use Rattle.lin_log.specs.Judged.{MakesLines};
-ghost use Rattle.lin_log.specs.Replay.{IsReplay};
+ghost use Rattle.lin_log.specs.Replay.{IsReplay, RunsScript};
 ghost use Rattle.lin_log.specs.Script.{script};
 
 use crate::entries::write_log;
-use crate::fault::ReplayFault;
+use crate::fault::{ReplayFault, ScriptFault};
 use crate::script::{ScriptLines, read_bytes};
 use lin_core::{Core, Hold, PortId, Step};
 use lin_parts::Cluster;
@@ -28,7 +28,7 @@ fn make_step(core: &mut Core, by: PortId, step: Step) -> Result<(), AllocError>
 }
 
 /// Makes each step of a script as its line is read.
-fn make_steps(alloc: Global, core: &mut Core, bytes: &[u8]) -> Result<(), ReplayFault>
+fn make_steps(alloc: Global, core: &mut Core, bytes: &[u8]) -> Result<(), ScriptFault>
     requires empty { core.old.log ≡ [] }
     requires few { length bytes.now ≤ 16777216 }
     ensures log { MakesLines core.old.cluster core.old.opening core.old.capacity result core.new.log (script bytes.now) }
@@ -37,15 +37,41 @@ fn make_steps(alloc: Global, core: &mut Core, bytes: &[u8]) -> Result<(), Replay
     let mut lines = ScriptLines::new(bytes);
     loop {
         match lines.next_step(alloc) {
-            Err(fault) => return Err(ReplayFault::Script(fault)),
+            Err(fault) => return Err(fault),
             Ok(None) => return Ok(()),
             Ok(Some((by, step))) => {
                 if make_step(core, by, step).is_err() {
-                    return Err(ReplayFault::OutOfMemory);
+                    return Err(ScriptFault::OutOfMemory);
                 }
             }
         }
     }
+}
+
+/// Makes each step of a script of these bytes, at most 16,777,216, on a new core.
+///
+/// The core begins with schedule table `table` of the cluster; each host may have `capacity` messages waiting, 1 to 1,024.
+///
+/// # Errors
+/// `BadLine` with the number of the first line that is in no form; `OutOfMemory`. The cluster is dropped then.
+pub fn run_script(
+    alloc: Global,
+    cluster: Cluster,
+    table: u16,
+    capacity: usize,
+    bytes: &[u8],
+) -> Result<Core, ScriptFault>
+    requires table { table < length cluster.tables }
+    requires capacity { (1 ≤ capacity) × (capacity ≤ 1024) }
+    requires few { length bytes.now ≤ 16777216 }
+    ensures log { RunsScript cluster table capacity (λ core. core.log) result bytes.now }
+    ensures core { IfOk result (λ core. (core.cluster ≡ cluster) × (core.opening ≡ table) × (core.capacity ≡ capacity)) }
+{
+    let Ok(mut core) = Core::new(alloc, cluster, table, capacity) else {
+        return Err(ScriptFault::OutOfMemory);
+    };
+    make_steps(alloc, &mut core, bytes)?;
+    Ok(core)
 }
 
 /// Reads a script, makes each of its steps on a new core, and writes the core's log.
@@ -72,14 +98,8 @@ pub fn replay<R: Read, W: Write>(
     ensures text { IsReplay cluster table capacity (λ core. core.log) result (R.remaining reader.old) (W.contents writer.old) (W.contents writer.new) }
     ensures core { IfOk result (λ core. (core.cluster ≡ cluster) × (core.opening ≡ table) × (core.capacity ≡ capacity)) }
 {
-    let bytes = match read_bytes(alloc, reader) {
-        Ok(bytes) => bytes,
-        Err(fault) => return Err(ReplayFault::Script(fault)),
-    };
-    let Ok(mut core) = Core::new(alloc, cluster, table, capacity) else {
-        return Err(ReplayFault::OutOfMemory);
-    };
-    make_steps(alloc, &mut core, bytes.as_slice())?;
+    let bytes = read_bytes(alloc, reader)?;
+    let core = run_script(alloc, cluster, table, capacity, bytes.as_slice())?;
     if write_log(core.log(), writer).is_err() {
         return Err(ReplayFault::WriteFailed);
     }

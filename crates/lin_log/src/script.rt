@@ -3,8 +3,8 @@
 ghost use Rattle.std.specs.Prelude.{◌≡◌, ◌<◌, ◌≤◌, ◌∷◌, ◌==◌, ◌+◌, false, length, slice_index, take, IfOk, IfSome};
 ghost use Rattle.std.specs.List.{All, slice_split};
 ghost use Rattle.std.specs.Str.Lines.{strip_carriage_return};
-ghost use Rattle.lin_log.specs.Judged.{Judges, NextStep, ReadsBytes, left_of, lines_left, said};
-ghost use Rattle.lin_log.specs.Replay.{ReadsScript};
+ghost use Rattle.lin_log.specs.Judged.{Judges, NextStep, left_of, lines_left, said};
+ghost use Rattle.lin_log.specs.Replay.{ReadsBytes, ReadsScript};
 ghost use Rattle.lin_log.specs.Script.{script};
 
 use crate::fault::ScriptFault;
@@ -112,8 +112,11 @@ fn judge(alloc: Global, bytes: &[u8]) -> Result<Vec<(PortId, Step)>, ScriptFault
     Ok(steps)
 }
 
-/// The bytes of a script.
-pub(crate) fn read_bytes<R: Read>(alloc: Global, reader: &mut R) -> Result<Vec<u8>, ScriptFault>
+/// The bytes of a script, at most 16,777,216.
+///
+/// # Errors
+/// `TooLong`, `ReadFailed` and `OutOfMemory`, as of `read_script`.
+pub fn read_bytes<R: Read>(alloc: Global, reader: &mut R) -> Result<Vec<u8>, ScriptFault>
     ensures { ReadsBytes (λ v. v.items) result (R.remaining reader.old) }
 {
     match read_whole(alloc, reader, LIMIT) {
