@@ -1,22 +1,16 @@
 -- What the lines of an entry say, by what is kept of the entries before it.
-use Rattle.std.proofs.Common.{◌≡◌, ℕ, zero, suc, List, [], ◌∷◌, ◌++◌, refl, sym, ap, ◌∙◌, append_assoc, flat_map, length, get_or, ◌+◌, ◌<◌, arith}
+use Rattle.std.proofs.Common.{◌≡◌, ℕ, zero, suc, List, [], ◌∷◌, ◌++◌, refl, sym, ap, ◌∙◌, append_assoc, flat_map, length, get_or, ◌<◌, arith}
 use Rattle.std.specs.Prelude.{Option, Some, None, option_map, zip}
 use Rattle.lin_frame.specs.Words.{choose}
 use Rattle.lin_parts.specs.Cluster.{line_of}
 use Rattle.lin_parts.specs.declared.parts.Parts.{Parts}
 use Rattle.lin_names.specs.Names.{NamesData}
-use Rattle.lin_core.specs.History.{Slot, open_slot, time}
+use Rattle.lin_core.specs.History.{Slot}
 use Rattle.lin_core.specs.declared.event.Event.{Event}
 use Rattle.lin_core.specs.declared.event.Event.TheVariants as event
 use Rattle.lin_core.specs.declared.event.Seen.TheVariants as seen
-use Rattle.lin_core.specs.declared.log.LogEntry.{LogEntry}
-use Rattle.lin_core.specs.declared.port.PortId.{PortId}
-use Rattle.lin_core.specs.declared.reply.Reply.{Reply}
-use Rattle.lin_core.specs.declared.reply.Reply.TheVariants.{Done}
-use Rattle.lin_core.specs.declared.step.Step.{Step}
-use Rattle.lin_core.specs.declared.step.Step.TheVariants as step
-use Rattle.lin_export.specs.Named.{behind, event_lines, frame_words, good_line, named_event, time_line, transport_line}
-use Rattle.lin_export.specs.Track.{TrackData, shown, track_of}
+use Rattle.lin_export.specs.Named.{behind, event_lines, frame_words, good_line, named_event, transport_line}
+use Rattle.lin_export.specs.Track.{shown}
 use Rattle.lin_log.specs.Words.{ended, reply_line, spaced}
 use Rattle.lin_export.proofs.Rows.{flat-append, frame-shown}
 
@@ -52,35 +46,6 @@ pub lines-shown : (c : Parts) (names : NamesData) (o : Option Slot) (es : List E
     → flat_map (event_lines c names (option_map shown o)) es ≡ flat_map (event_lines c names o) es
 lines-shown c names o es =
     flat-same (event_lines c names (option_map shown o)) (event_lines c names o) es (λ e. ap (λ l. reply_line (named_event c names e) ++ l) (behind-shown c names o e))
-
--- the delay of a slot, where one ends
-abbrev pub delay_in : Parts → Slot → ℕ
-delay_in c s = (line_of c s.table s.entry).delay_us
-
-delay-shown : (c : Parts) (o : Option Slot) (t : ℕ) → t + choose (option_map shown o) 0 (delay_in c) ≡ choose o t (λ s. t + delay_in c s)
-delay-shown c None t = omega arith
-delay-shown c (Some s) t = refl
-
-time-of : (c : Parts) (past : List LogEntry) (p : PortId) (s : Step) (es : List Event)
-    → time_line s (time c past + choose (option_map shown (open_slot past)) 0 (delay_in c)) ≡ time_line s (time c (record { port = p; step = s; reply = Done es } ∷ past))
-time-of c past p (step.Send from to message) es = refl
-time-of c past p (step.Write by signal value) es = refl
-time-of c past p step.Open es = refl
-time-of c past p (step.Answer node) es = refl
-time-of c past p (step.Leave node) es = refl
-time-of c past p (step.Hurt bytes) es = refl
-time-of c past p step.Finish es = ap (time_line step.Finish) (delay-shown c (open_slot past) (time c past))
-time-of c past p (step.Timeout node dir) es = refl
-time-of c past p (step.Switch table) es = refl
-time-of c past p step.AskSleep es = refl
-time-of c past p step.Wake es = refl
-time-of c past p (step.Close host) es = refl
-
-pub time-behind : (c : Parts) (past : List LogEntry) (e : LogEntry) (es : List Event) (t : TrackData) (end : ℕ)
-    → e.reply ≡ Done es → t ≡ track_of c past → end ≡ t.time + choose t.slot 0 (delay_in c) → time_line e.step end ≡ time_line e.step (time c (e ∷ past))
-time-behind c past e es t end r is ends =
-    ap (time_line e.step) (ends ∙ ap (λ (d : TrackData). d.time + choose d.slot 0 (delay_in c)) is) ∙ time-of c past e.port e.step es
-    ∙ ap (λ (reply : Reply). time_line e.step (time c (record { port = e.port; step = e.step; reply = reply } ∷ past))) (sym r)
 
 pub zip-at : {X Y : Type 0} (xs : List X) (ys : List Y) (i : ℕ) (x : X) (y : Y) → i < length xs → i < length ys → get_or (zip xs ys) i (x, y) ≡ (get_or xs i x, get_or ys i y)
 zip-at [] ys i x y h k = absurd (omega arith)

@@ -1,5 +1,5 @@
 -- Texts that are put, and written at the end.
-use Rattle.std.proofs.Common.{◌≡◌, ℕ, List, ◌++◌, Option, Result, Ok, Err, sym, ap, ◌∙◌, append_assoc, append-nil}
+use Rattle.std.proofs.Common.{◌≡◌, ℕ, List, ◌++◌, Option, Result, Ok, Err, sym, ap, ◌∙◌, append_assoc, append-nil, subst}
 use Rattle.std.specs.Prelude.{OnOk, IsErr, []}
 use Rattle.lin_text.specs.Written.{Grows, WritesText}
 use Rattle.lin_text.specs.declared.buffered.TextWriter.{TextWriter}
@@ -30,3 +30,7 @@ written-short {r = r} {s = s} {t = t} rest failed e h = record {
 
 pub written-all : {E F : Type 0} {a b : Option (List ℕ)} {s t : List ℕ} → s ≡ t → WritesText {E = F} a b (Ok tt) s → WritesText {E = E} a b (Ok tt) t
 written-all e h = record { part = h.part; rest = h.rest; written = h.written; whole = sym e ∙ h.whole; all = h.all ∙ e }
+
+-- an equal text
+pub written-same : {E : Type 0} {a b : Option (List ℕ)} {r : Result Unit E} {s t : List ℕ} → s ≡ t → WritesText a b r s → WritesText a b r t
+written-same {a = a} {b = b} {r = r} e h = subst (λ l. WritesText a b r l) e h

@@ -1,20 +1,17 @@
 //! Logs as lines of values between commas.
 
-ghost use Rattle.std.specs.Prelude.{◌≡◌, ◌∷◌, ℕ, [], List, length, flat_map, map};
+ghost use Rattle.std.specs.Prelude.{◌≡◌, ℕ, [], length, flat_map, map};
 ghost use Rattle.lin_core.specs.Kept.{ArePointwise};
 ghost use Rattle.lin_core.specs.Signals.{heard};
 ghost use Rattle.lin_frame.specs.declared.value.Value.{Value};
-ghost use Rattle.lin_core.specs.declared.log.LogEntry.{LogEntry};
 ghost use Rattle.lin_text.specs.Written.{Grows, WritesText};
 ghost use Rattle.lin_export.specs.Cells.{shown};
 ghost use Rattle.lin_export.specs.Csv.{comma, csv, head_line, hex_cell, kind_cell, node_name, nodes_cell, response_cells, row, schedule_cells, seen_cell, slot_line, spaced_name, value_cell};
 ghost use Rattle.lin_export.specs.Look.{looks};
 ghost use Rattle.lin_export.specs.Open.{slot_in};
-ghost use Rattle.lin_export.specs.Putting.{PutsAll};
-ghost use Rattle.lin_export.specs.Telling.{each_entry};
-ghost use Rattle.lin_export.specs.Track.{track_of};
 
 use crate::fault::ExportFault;
+use crate::format::{Format, write_as};
 use crate::hearing::{hear_slot, initial_values};
 use crate::naming::{node_name, slot_name, table_name};
 use crate::slot::{Look, OpenSlot, byte_at};
@@ -24,7 +21,7 @@ use lin_frame::{Answer, Value};
 use lin_names::Names;
 use lin_parts::{Cluster, Entry};
 use lin_text::TextWriter;
-use std::alloc::{AllocError, Global};
+use std::alloc::Global;
 use std::io::Write;
 
 /// A cell of a line.
@@ -226,49 +223,55 @@ fn put_line<'a, W: Write>(
     out.put_byte(b'\n');
 }
 
-/// An entry, where it finishes a slot; the values of the signals are those that are heard behind it.
-fn put_entry<W: Write>(
-    out: &mut TextWriter<'_, W>,
-    cluster: &Cluster,
-    names: &Names,
-    track: &Track,
-    entry: &LogEntry,
-    values: &mut Vec<Value>,
-)
-    requires { length values.old.items ≡ length cluster.now.signals }
-    ensures count { length values.new.items ≡ length values.old.items }
-    ensures heard { (past : List LogEntry) → track.now ≡ track_of cluster.now past → ArePointwise (heard cluster.now past) values.old.items → ArePointwise (heard cluster.now (entry.now ∷ past)) values.new.items }
-    ensures text { (past : List LogEntry) → track.now ≡ track_of cluster.now past → ArePointwise (heard cluster.now past) values.old.items → Grows W.contents out.old out.new (row cluster.now names.now entry.now past) }
-{
-    let Reply::Done(_) = &entry.reply else {
-        return;
-    };
-    let Step::Finish = &entry.step else {
-        return;
-    };
-    if let Some(slot) = track.slot() {
-        hear_slot(values, cluster, slot);
-        put_line(out, cluster, names, track, slot, values.as_slice());
-    }
+/// A table, and the values of the signals that are heard.
+#[derive(Drop)]
+struct Sheet<'a> {
+    names: &'a Names,
+    values: Vec<Value>,
 }
 
-fn put_entries<W: Write>(
-    out: &mut TextWriter<'_, W>,
-    alloc: Global,
-    cluster: &Cluster,
-    names: &Names,
-    log: &Log,
-) -> Result<(), AllocError>
-    ensures { PutsAll W.contents out.old out.new result (each_entry (row cluster.now names.now) [] log.now.entries) }
-{
-    let mut values = initial_values(alloc, cluster)?;
-    let mut track = Track::new(alloc);
-    for index in 0..log.len() {
-        let entry = log.entry(index);
-        put_entry(out, cluster, names, &track, entry, &mut values);
-        track.follow(cluster, entry)?;
+impl Format for Sheet<'_> {
+    ghost begins = { λ f c. head_line c };
+
+    ghost says = { λ f c. row c f.names.now };
+
+    ghost ends = { λ f c past. [] };
+
+    ghost fits = { λ f c. length f.values.items ≡ length c.signals };
+
+    ghost keeps = { λ f c past. ArePointwise (heard c past) f.values.items };
+
+    fn put_head<W: Write>(&self, out: &mut TextWriter<'_, W>, cluster: &Cluster) {
+        put_head(out, cluster);
     }
-    Ok(())
+
+    fn put_entry<W: Write>(
+        &mut self,
+        out: &mut TextWriter<'_, W>,
+        cluster: &Cluster,
+        track: &Track,
+        entry: &LogEntry,
+    ) {
+        let Reply::Done(_) = &entry.reply else {
+            return;
+        };
+        let Step::Finish = &entry.step else {
+            return;
+        };
+        if let Some(slot) = track.slot() {
+            hear_slot(&mut self.values, cluster, slot);
+            put_line(
+                out,
+                cluster,
+                self.names,
+                track,
+                slot,
+                self.values.as_slice(),
+            );
+        }
+    }
+
+    fn put_end<W: Write>(&self, _out: &mut TextWriter<'_, W>, _cluster: &Cluster, _track: &Track) {}
 }
 
 /// Writes the table of a log: a line with the names of the columns, and one per finished slot, with its number from 0, its times in
@@ -290,10 +293,6 @@ pub fn write_csv<W: Write>(
 ) -> Result<(), ExportFault>
     ensures { WritesText (W.contents writer.old) (W.contents writer.new) result (csv cluster.now names.now log.now.entries) }
 {
-    let mut out = TextWriter::new(writer);
-    put_head(&mut out, cluster);
-    let followed = put_entries(&mut out, alloc, cluster, names, log);
-    out.finish()?;
-    followed?;
-    Ok(())
+    let values = initial_values(alloc, cluster)?;
+    write_as(&mut Sheet { names, values }, alloc, cluster, log, writer)
 }

@@ -9,6 +9,7 @@
 mod carried;
 mod csv;
 mod fault;
+mod format;
 mod hearing;
 mod named;
 mod naming;

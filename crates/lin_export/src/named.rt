@@ -1,25 +1,22 @@
 //! Logs with names.
 
-ghost use Rattle.std.specs.Prelude.{◌≡◌, ◌+◌, ◌∷◌, ◌<◌, ◌^◌, ◌==◌, false, [], List, codes, flat_map, map, nat_lt, if◌then◌else◌, option_map, length, zip};
+ghost use Rattle.std.specs.Prelude.{◌≡◌, ◌∷◌, ◌<◌, ◌==◌, ⊤, false, [], codes, flat_map, map, nat_lt, if◌then◌else◌, option_map, length, zip};
 ghost use Rattle.std.specs.Fmt.{decimal};
 ghost use Rattle.std.specs.Option.{option_to_list};
 ghost use Rattle.lin_frame.specs.Words.{choose};
-ghost use Rattle.lin_parts.specs.Cluster.{frame_of, line_of, nad, node_of, nodes};
+ghost use Rattle.lin_parts.specs.Cluster.{frame_of, nad, node_of, nodes};
 ghost use Rattle.lin_parts.specs.Rules.{IsEntry};
 ghost use Rattle.lin_core.specs.Slots.{node_with};
-ghost use Rattle.lin_core.specs.declared.log.LogEntry.{LogEntry};
 ghost use Rattle.lin_log.specs.Words.{cause_word, direction_word, header_word, refusal_number, reply_line, seen_words, spaced};
 ghost use Rattle.lin_text.specs.Written.{Grows, WritesText};
 ghost use Rattle.lin_export.specs.Named.{behind, control_words, event_lines, frame_words, good_line, named, named_entry, named_event, named_port, named_step, refusal_name, signal_words, slot_words, sporadic_frame, time_line, transport_line, transport_words, who_word};
 ghost use Rattle.lin_export.specs.NamedWords.{word_shown};
 ghost use Rattle.lin_export.specs.Open.{slot_in};
-ghost use Rattle.lin_export.specs.Putting.{PutsAll};
 ghost use Rattle.lin_export.specs.Shown.{frame_name};
-ghost use Rattle.lin_export.specs.Telling.{each_entry};
-ghost use Rattle.lin_export.specs.Track.{track_of};
 
 use crate::carried::{frame_under, line_at};
 use crate::fault::ExportFault;
+use crate::format::{Format, write_as};
 use crate::hearing::first_eight;
 use crate::naming::{entry_name, node_name};
 use crate::slot::{OpenSlot, byte_at};
@@ -30,7 +27,7 @@ use lin_frame::unpack;
 use lin_names::Names;
 use lin_parts::{Cluster, Entry};
 use lin_text::TextWriter;
-use std::alloc::{AllocError, Global};
+use std::alloc::Global;
 use std::io::Write;
 
 /// A letter and a node: behind a colon its name, or its number where it is none's.
@@ -480,6 +477,21 @@ fn refusal_words(refusal: Refusal) -> (u64, &'static str)
     }
 }
 
+/// The line of a refusal.
+fn put_refusal<W: Write>(out: &mut TextWriter<'_, W>, refusal: Refusal)
+    ensures { Grows W.contents out.old out.new (reply_line (codes "refused" ∷ decimal (refusal_number refusal) ∷ refusal_name refusal ∷ [])) }
+{
+    let (number, name) = refusal_words(refusal);
+    put_reply(
+        out,
+        &[
+            Word::Text("refused"),
+            Word::Number(number),
+            Word::Text(name),
+        ],
+    );
+}
+
 /// Behind the lines of a finish, the time.
 fn put_time<W: Write>(out: &mut TextWriter<'_, W>, step: &Step, time: u64)
     ensures { Grows W.contents out.old out.new (time_line step.now time) }
@@ -489,65 +501,45 @@ fn put_time<W: Write>(out: &mut TextWriter<'_, W>, step: &Step, time: u64)
     }
 }
 
-/// The time behind an entry, where it is a finish that was done.
-fn time_behind(cluster: &Cluster, track: &Track) -> u64
-    requires { track.now.time < 2 ^ 63 }
-    ensures { result ≡ track.now.time + choose track.now.slot 0 (λ s. (line_of cluster.now s.table s.entry).delay_us) }
-{
-    match track.slot() {
-        Some(slot) => track.time() + u64::from(slot.line(cluster).delay_us),
-        None => track.time(),
-    }
+/// A log with names, and what it needs for them.
+#[derive(Drop)]
+struct NamedLog<'a> {
+    names: &'a Names,
 }
 
-fn put_entry<W: Write>(
-    out: &mut TextWriter<'_, W>,
-    cluster: &Cluster,
-    names: &Names,
-    track: &Track,
-    entry: &LogEntry,
-)
-    requires { track.now.time < 2 ^ 63 }
-    ensures { (past : List LogEntry) → track.now ≡ track_of cluster.now past → Grows W.contents out.old out.new (named_entry cluster.now names.now entry.now past) }
-{
-    put_port(out, cluster, entry.port);
-    put_step(out, cluster, &entry.step);
-    out.put_byte(b'\n');
-    match &entry.reply {
-        Reply::Done(events) => {
-            put_events(out, cluster, names, track.slot(), events.as_slice());
-            put_time(out, &entry.step, time_behind(cluster, track));
-        }
-        Reply::Refused(refusal) => {
-            let (number, name) = refusal_words(*refusal);
-            put_reply(
-                out,
-                &[
-                    Word::Text("refused"),
-                    Word::Number(number),
-                    Word::Text(name),
-                ],
-            );
-        }
-    }
-}
+impl Format for NamedLog<'_> {
+    ghost begins = { λ f c. [] };
 
-fn put_entries<W: Write>(
-    out: &mut TextWriter<'_, W>,
-    alloc: Global,
-    cluster: &Cluster,
-    names: &Names,
-    log: &Log,
-) -> Result<(), AllocError>
-    ensures { PutsAll W.contents out.old out.new result (each_entry (named_entry cluster.now names.now) [] log.now.entries) }
-{
-    let mut track = Track::new(alloc);
-    for index in 0..log.len() {
-        let entry = log.entry(index);
-        put_entry(out, cluster, names, &track, entry);
-        track.follow(cluster, entry)?;
+    ghost says = { λ f c. named_entry c f.names.now };
+
+    ghost ends = { λ f c past. [] };
+
+    ghost fits = { λ f c. ⊤ };
+
+    ghost keeps = { λ f c past. ⊤ };
+
+    fn put_head<W: Write>(&self, _out: &mut TextWriter<'_, W>, _cluster: &Cluster) {}
+
+    fn put_entry<W: Write>(
+        &mut self,
+        out: &mut TextWriter<'_, W>,
+        cluster: &Cluster,
+        track: &Track,
+        entry: &LogEntry,
+    ) {
+        put_port(out, cluster, entry.port);
+        put_step(out, cluster, &entry.step);
+        out.put_byte(b'\n');
+        match &entry.reply {
+            Reply::Done(events) => {
+                put_events(out, cluster, self.names, track.slot(), events.as_slice());
+                put_time(out, &entry.step, track.time_behind(cluster, entry));
+            }
+            Reply::Refused(refusal) => put_refusal(out, *refusal),
+        }
     }
-    Ok(())
+
+    fn put_end<W: Write>(&self, _out: &mut TextWriter<'_, W>, _cluster: &Cluster, _track: &Track) {}
 }
 
 /// Writes the log with names: its text, in which numbers of nodes, signals and tables are names, and what frames and slots mean on lines of
@@ -568,9 +560,5 @@ pub fn write_named<W: Write>(
 ) -> Result<(), ExportFault>
     ensures { WritesText (W.contents writer.old) (W.contents writer.new) result (named cluster.now names.now log.now.entries) }
 {
-    let mut out = TextWriter::new(writer);
-    let followed = put_entries(&mut out, alloc, cluster, names, log);
-    out.finish()?;
-    followed?;
-    Ok(())
+    write_as(&mut NamedLog { names }, alloc, cluster, log, writer)
 }

@@ -1,17 +1,14 @@
 //! Logs as captures of LIN packets (pcap, link type 212).
 
-ghost use Rattle.std.specs.Prelude.{◌≡◌, ◌≤◌, ◌<◌, ◌^◌, [], length, List};
-ghost use Rattle.lin_core.specs.declared.log.LogEntry.{LogEntry};
+ghost use Rattle.std.specs.Prelude.{◌≡◌, ◌≤◌, ◌<◌, ◌^◌, ⊤, [], length};
 ghost use Rattle.lin_text.specs.Written.{Grows, WritesText};
-ghost use Rattle.lin_export.specs.Putting.{PutsAll};
 ghost use Rattle.lin_export.specs.Look.{looks};
 ghost use Rattle.lin_export.specs.Open.{slot_in};
 ghost use Rattle.lin_export.specs.Pcap.{bus_event, file_header, finish_packets, frame_body, model_number, packet, packets, pcap, seen_packet, slot_packet, word};
-ghost use Rattle.lin_export.specs.Telling.{each_entry};
-ghost use Rattle.lin_export.specs.Track.{track_of};
 
 use crate::carried::model_under;
 use crate::fault::ExportFault;
+use crate::format::{Format, write_as};
 use crate::slot::{Look, OpenSlot, byte_at};
 use crate::track::Track;
 use arrayvec::ArrayVec;
@@ -19,7 +16,7 @@ use lin_core::{Log, LogEntry, Reply, Step};
 use lin_frame::SumKind;
 use lin_parts::Cluster;
 use lin_text::TextWriter;
-use std::alloc::{AllocError, Global};
+use std::alloc::Global;
 use std::io::Write;
 
 /// The errors of a frame's packet.
@@ -160,43 +157,46 @@ fn put_finish<W: Write>(out: &mut TextWriter<'_, W>, at: u64, cluster: &Cluster,
     put_bus_event(out, end, GOES_TO_SLEEP);
 }
 
-fn put_entry<W: Write>(
-    out: &mut TextWriter<'_, W>,
-    cluster: &Cluster,
-    track: &Track,
-    entry: &LogEntry,
-)
-    requires { track.now.time < 2 ^ 63 }
-    ensures { (past : List LogEntry) → track.now ≡ track_of cluster.now past → Grows W.contents out.old out.new (packets cluster.now entry.now past) }
-{
-    let Reply::Done(_) = &entry.reply else {
-        return;
-    };
-    match &entry.step {
-        Step::Wake => put_bus_event(out, track.time(), WAKES),
-        Step::Finish => match track.slot() {
-            Some(slot) => put_finish(out, track.time(), cluster, slot),
-            None => {}
-        },
-        _ => {}
-    }
-}
+/// A capture.
+#[derive(Drop)]
+struct Capture;
 
-fn put_entries<W: Write>(
-    out: &mut TextWriter<'_, W>,
-    alloc: Global,
-    cluster: &Cluster,
-    log: &Log,
-) -> Result<(), AllocError>
-    ensures { PutsAll W.contents out.old out.new result (each_entry (packets cluster.now) [] log.now.entries) }
-{
-    let mut track = Track::new(alloc);
-    for index in 0..log.len() {
-        let entry = log.entry(index);
-        put_entry(out, cluster, &track, entry);
-        track.follow(cluster, entry)?;
+impl Format for Capture {
+    ghost begins = { λ f c. file_header };
+
+    ghost says = { λ f c. packets c };
+
+    ghost ends = { λ f c past. [] };
+
+    ghost fits = { λ f c. ⊤ };
+
+    ghost keeps = { λ f c past. ⊤ };
+
+    fn put_head<W: Write>(&self, out: &mut TextWriter<'_, W>, _cluster: &Cluster) {
+        out.put(file_header().as_slice());
     }
-    Ok(())
+
+    fn put_entry<W: Write>(
+        &mut self,
+        out: &mut TextWriter<'_, W>,
+        cluster: &Cluster,
+        track: &Track,
+        entry: &LogEntry,
+    ) {
+        let Reply::Done(_) = &entry.reply else {
+            return;
+        };
+        match &entry.step {
+            Step::Wake => put_bus_event(out, track.time(), WAKES),
+            Step::Finish => match track.slot() {
+                Some(slot) => put_finish(out, track.time(), cluster, slot),
+                None => {}
+            },
+            _ => {}
+        }
+    }
+
+    fn put_end<W: Write>(&self, _out: &mut TextWriter<'_, W>, _cluster: &Cluster, _track: &Track) {}
 }
 
 /// Writes the capture of a log: per finished slot with a header a packet at its start, with the response where it was seen good; one at the
@@ -216,10 +216,5 @@ pub fn write_pcap<W: Write>(
 ) -> Result<(), ExportFault>
     ensures { WritesText (W.contents writer.old) (W.contents writer.new) result (pcap cluster.now log.now.entries) }
 {
-    let mut out = TextWriter::new(writer);
-    out.put(file_header().as_slice());
-    let followed = put_entries(&mut out, alloc, cluster, log);
-    out.finish()?;
-    followed?;
-    Ok(())
+    write_as(&mut Capture, alloc, cluster, log, writer)
 }

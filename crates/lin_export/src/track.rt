@@ -2,6 +2,7 @@
 
 ghost use Rattle.std.specs.Prelude.{◌≡◌, ◌+◌, ◌≤◌, ◌^◌, ◌<◌, ◌∷◌, [], List, option_map, OnOk};
 ghost use Rattle.lin_parts.specs.declared.parts.Parts.{Parts};
+ghost use Rattle.lin_core.specs.History.{time};
 ghost use Rattle.lin_core.specs.declared.log.LogEntry.{LogEntry};
 ghost use Rattle.lin_export.specs.Open.{slot_in};
 ghost use Rattle.lin_export.specs.Track.{track_of};
@@ -63,6 +64,20 @@ impl Track {
         ensures { result ≡ self.now.slots }
     {
         self.slots
+    }
+
+    /// The delays of all slots that are finished behind the next entry, in microseconds.
+    pub(crate) fn time_behind(&self, cluster: &Cluster, entry: &LogEntry) -> u64
+        requires { self.now.time < 2 ^ 63 }
+        ensures { (past : List LogEntry) → self.now ≡ track_of cluster.now past → result ≡ time cluster.now (entry.now ∷ past) }
+    {
+        let Reply::Done(_) = &entry.reply else {
+            return self.time;
+        };
+        match (&entry.step, &self.slot) {
+            (Step::Finish, Some(slot)) => self.time + u64::from(slot.line(cluster).delay_us),
+            _ => self.time,
+        }
     }
 
     /// One entry more was read. An error is want of memory.

@@ -2,11 +2,7 @@
 #![tactic(auto)]
 
 #[cfg(test)]
-mod csv;
-#[cfg(test)]
-mod named;
-#[cfg(test)]
-mod pcap;
+mod formats;
 #[cfg(test)]
 mod runs;
 #[cfg(test)]

@@ -1,34 +1,8 @@
-use Rattle.std.proofs.Common.{◌++◌, sym, ap, ◌∙◌, append_assoc, rules}
-use Rattle.lin_text.proofs.Growing.{grows-more, text-written}
-use Rattle.lin_export.specs.declared.fault.ExportFault.{ExportFault}
-use Rattle.lin_export.specs.Csv.{head_line}
-use Rattle.lin_export.proofs.Puttings.{written-all, written-short}
+use Rattle.std.proofs.Common.{◌++◌, [], ap, append-nil}
+use Rattle.lin_export.specs.Csv.{head_line, row}
+use Rattle.lin_export.specs.Telling.{each_entry}
+use Rattle.lin_export.proofs.Puttings.{written-same}
 use Rattle.lin_export.proofs.csv.write_csv.Goals as goal
 
-pub returns-in_err-finish : goal.returns-in_err-finish
-returns-in_err-finish g c =
-    let p = c.put_entries-followed.ensures in
-    let same = sym (p.grows.same ∙ c.put_head.ensures.same ∙ c.new-out.ensures.same) in
-    let written =
-    written-short p.rest c.from_residual.ensures.0 (ap (λ t. head_line c.args.cluster.now ++ t) (p.whole) ∙ sym (append_assoc (head_line c.args.cluster.now) p.part p.rest))
-    (text-written c.new-out.ensures (grows-more c.put_head.ensures p.grows) c.finish.ensures) in
-    search rules
-
-pub returns-in_err-followed : goal.returns-in_err-followed
-returns-in_err-followed g c =
-    let p = c.put_entries-followed.ensures in
-    let same = sym (p.grows.same ∙ c.put_head.ensures.same ∙ c.new-out.ensures.same) in
-    let written =
-    written-short p.rest c.from_residual-in_err-followed.ensures.0 (ap (λ t. head_line c.args.cluster.now ++ t) (p.whole) ∙ sym (append_assoc (head_line c.args.cluster.now) p.part p.rest))
-    (text-written c.new-out.ensures (grows-more c.put_head.ensures p.grows) c.finish.ensures) in
-    search rules
-
 pub returns : goal.returns
-returns g c =
-    let p = c.put_entries-followed.ensures in
-    let whole = (rw c.in_ok-followed.was at p.all) in
-    let same = sym (p.grows.same ∙ c.put_head.ensures.same ∙ c.new-out.ensures.same) in
-    let written =
-    written-all {E = ExportFault} (sym (ap (λ t. head_line c.args.cluster.now ++ t) (sym whole)))
-    (rw c.in_ok-finish.was at (text-written c.new-out.ensures (grows-more c.put_head.ensures p.grows) c.finish.ensures)) in
-    search rules
+returns g c = written-same (ap (λ l. head_line c.args.cluster.now ++ l) (append-nil (each_entry (row c.args.cluster.now c.args.names.now) [] c.args.log.now.entries))) c.write_as.ensures

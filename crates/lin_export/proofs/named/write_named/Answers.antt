@@ -1,27 +1,8 @@
-use Rattle.std.proofs.Common.{sym, ◌∙◌, rules}
-use Rattle.lin_text.proofs.Growing.{text-written}
-use Rattle.lin_export.specs.declared.fault.ExportFault.{ExportFault}
-use Rattle.lin_export.proofs.Puttings.{written-all, written-short}
+use Rattle.std.proofs.Common.{[], append-nil}
+use Rattle.lin_export.specs.Named.{named_entry}
+use Rattle.lin_export.specs.Telling.{each_entry}
+use Rattle.lin_export.proofs.Puttings.{written-same}
 use Rattle.lin_export.proofs.named.write_named.Goals as goal
 
-pub returns-in_err-finish : goal.returns-in_err-finish
-returns-in_err-finish g c =
-    let p = c.put_entries-followed.ensures in
-    let same = sym (p.grows.same ∙ c.new-out.ensures.same) in
-    let written = written-short p.rest c.from_residual.ensures.0 p.whole (text-written c.new-out.ensures p.grows c.finish.ensures) in
-    search rules
-
-pub returns-in_err-followed : goal.returns-in_err-followed
-returns-in_err-followed g c =
-    let p = c.put_entries-followed.ensures in
-    let same = sym (p.grows.same ∙ c.new-out.ensures.same) in
-    let written = written-short p.rest c.from_residual-in_err-followed.ensures.0 p.whole (text-written c.new-out.ensures p.grows c.finish.ensures) in
-    search rules
-
 pub returns : goal.returns
-returns g c =
-    let p = c.put_entries-followed.ensures in
-    let whole = rw c.in_ok-followed.was at p.all in
-    let same = sym (p.grows.same ∙ c.new-out.ensures.same) in
-    let written = written-all {E = ExportFault} whole (rw c.in_ok-finish.was at (text-written c.new-out.ensures p.grows c.finish.ensures)) in
-    search rules
+returns g c = written-same (append-nil (each_entry (named_entry c.args.cluster.now c.args.names.now) [] c.args.log.now.entries)) c.write_as.ensures

@@ -1,0 +1,103 @@
+//! What all formats have in common: something before the entries of a log, something for each, and something behind them.
+
+ghost use Rattle.std.specs.Prelude.{◌≡◌, ◌∷◌, ◌++◌, ◌<◌, ◌^◌, ℕ, [], List, reverse};
+ghost use Rattle.lin_core.specs.declared.log.LogEntry.{LogEntry};
+ghost use Rattle.lin_parts.specs.declared.parts.Parts.{Parts};
+ghost use Rattle.lin_text.specs.Written.{Grows, WritesText};
+ghost use Rattle.lin_export.specs.Putting.{PutsAll};
+ghost use Rattle.lin_export.specs.Telling.{each_entry};
+ghost use Rattle.lin_export.specs.Track.{track_of};
+
+use crate::fault::ExportFault;
+use crate::track::Track;
+use lin_core::{Log, LogEntry};
+use lin_parts::Cluster;
+use lin_text::TextWriter;
+use std::alloc::{AllocError, Global};
+use std::io::Write;
+
+/// A format: what it keeps of the entries that were read, and what it puts.
+pub(crate) trait Format {
+    ghost begins: { Self → Parts → List ℕ };
+
+    ghost says: { Self → Parts → LogEntry → List LogEntry → List ℕ };
+
+    ghost ends: { Self → Parts → List LogEntry → List ℕ };
+
+    ghost fits: { Self → Parts → Type 0 };
+
+    ghost keeps: { Self → Parts → List LogEntry → Type 0 };
+
+    /// Puts what stands before the entries.
+    fn put_head<W: Write>(&self, out: &mut TextWriter<'_, W>, cluster: &Cluster)
+        ensures { Grows W.contents out.old out.new (begins self.now cluster.now) };
+
+    /// Puts what an entry says on those before it.
+    fn put_entry<W: Write>(
+        &mut self,
+        out: &mut TextWriter<'_, W>,
+        cluster: &Cluster,
+        track: &Track,
+        entry: &LogEntry,
+    )
+        requires time { track.now.time < 2 ^ 63 }
+        requires fits { fits self.old cluster.now }
+        ensures fits { fits self.new cluster.now }
+        ensures says { says self.new ≡ says self.old }
+        ensures ends { ends self.new ≡ ends self.old }
+        ensures keeps { (past : List LogEntry) → track.now ≡ track_of cluster.now past → keeps self.old cluster.now past → keeps self.new cluster.now (entry.now ∷ past) }
+        ensures text { (past : List LogEntry) → track.now ≡ track_of cluster.now past → keeps self.old cluster.now past → Grows W.contents out.old out.new (says self.old cluster.now entry.now past) };
+
+    /// Puts what stands behind the entries.
+    fn put_end<W: Write>(&self, out: &mut TextWriter<'_, W>, cluster: &Cluster, track: &Track)
+        ensures { (past : List LogEntry) → track.now ≡ track_of cluster.now past → keeps self.now cluster.now past → Grows W.contents out.old out.new (ends self.now cluster.now past) };
+}
+
+/// Puts the entries of a log, and what stands behind them. An error is want of memory.
+fn put_entries<F: Format, W: Write>(
+    format: &mut F,
+    out: &mut TextWriter<'_, W>,
+    alloc: Global,
+    cluster: &Cluster,
+    log: &Log,
+) -> Result<(), AllocError>
+    requires fits { F.fits format.old cluster.now }
+    requires keeps { F.keeps format.old cluster.now [] }
+    ensures { PutsAll W.contents out.old out.new result (each_entry (F.says format.old cluster.now) [] log.now.entries ++ F.ends format.old cluster.now (reverse log.now.entries)) }
+{
+    let mut track = Track::new(alloc);
+    for index in 0..log.len() {
+        let entry = log.entry(index);
+        format.put_entry(out, cluster, &track, entry);
+        track.follow(cluster, entry)?;
+    }
+    format.put_end(out, cluster, &track);
+    Ok(())
+}
+
+/// Writes a log in a format.
+///
+/// It goes through a buffer of fixed size, and takes memory for the responses of one slot. The writer isn't flushed.
+///
+/// # Errors
+/// What was written then is the beginning of the text.
+/// - `OutOfMemory`;
+/// - `WriteFailed` at the first error of the writer, an interrupted write too, and at the first write of 0 bytes.
+pub(crate) fn write_as<F: Format, W: Write>(
+    format: &mut F,
+    alloc: Global,
+    cluster: &Cluster,
+    log: &Log,
+    writer: &mut W,
+) -> Result<(), ExportFault>
+    requires fits { F.fits format.old cluster.now }
+    requires keeps { F.keeps format.old cluster.now [] }
+    ensures { WritesText (W.contents writer.old) (W.contents writer.new) result (F.begins format.old cluster.now ++ (each_entry (F.says format.old cluster.now) [] log.now.entries ++ F.ends format.old cluster.now (reverse log.now.entries))) }
+{
+    let mut out = TextWriter::new(writer);
+    format.put_head(&mut out, cluster);
+    let followed = put_entries(format, &mut out, alloc, cluster, log);
+    out.finish()?;
+    followed?;
+    Ok(())
+}

@@ -1,0 +1,92 @@
+//! Each sample in each format.
+
+use crate::runs::{expect_bytes, run};
+use crate::samples;
+use lin_export::{write_csv, write_named, write_pcap};
+use std::alloc::Global;
+use std::process::Abort;
+use std::test::Fail;
+
+/// A log, the LDF text of its cluster, and what it is written as.
+#[derive(Drop)]
+struct Sample<'a> {
+    ldf: &'a [u8],
+    log: &'a [u8],
+    named: &'a [u8],
+    csv: &'a [u8],
+    pcap: &'a [u8],
+}
+
+fn expect_formats(rt: &impl Abort, alloc: Global, sample: &Sample<'_>) -> Result<(), Fail> {
+    let (names, core) = run(alloc, sample.ldf, sample.log)?;
+    let mut named = Vec::new(alloc);
+    write_named(alloc, core.cluster(), &names, core.log(), &mut named)?;
+    expect_bytes(rt, &named, sample.named, "named");
+    let mut csv = Vec::new(alloc);
+    write_csv(alloc, core.cluster(), &names, core.log(), &mut csv)?;
+    expect_bytes(rt, &csv, sample.csv, "csv");
+    let mut pcap = Vec::new(alloc);
+    write_pcap(alloc, core.cluster(), core.log(), &mut pcap)?;
+    expect_bytes(rt, &pcap, sample.pcap, "pcap");
+    Ok(())
+}
+
+#[test]
+fn first(rt: HostRuntime) -> Result<(), Fail> {
+    let sample = Sample {
+        ldf: samples::BUILT_IN,
+        log: samples::FIRST_LOG,
+        named: samples::FIRST_NAMED,
+        csv: samples::FIRST_CSV,
+        pcap: samples::FIRST_PCAP,
+    };
+    expect_formats(&rt, rt.alloc(), &sample)
+}
+
+#[test]
+fn wake(rt: HostRuntime) -> Result<(), Fail> {
+    let sample = Sample {
+        ldf: samples::BUILT_IN,
+        log: samples::WAKE_LOG,
+        named: samples::WAKE_NAMED,
+        csv: samples::WAKE_CSV,
+        pcap: samples::WAKE_PCAP,
+    };
+    expect_formats(&rt, rt.alloc(), &sample)
+}
+
+#[test]
+fn keys(rt: HostRuntime) -> Result<(), Fail> {
+    let sample = Sample {
+        ldf: samples::LIGHTS,
+        log: samples::KEYS_LOG,
+        named: samples::KEYS_NAMED,
+        csv: samples::KEYS_CSV,
+        pcap: samples::KEYS_PCAP,
+    };
+    expect_formats(&rt, rt.alloc(), &sample)
+}
+
+#[test]
+fn window(rt: HostRuntime) -> Result<(), Fail> {
+    let sample = Sample {
+        ldf: samples::DOOR_ZONE,
+        log: samples::WINDOW_LOG,
+        named: samples::WINDOW_NAMED,
+        csv: samples::WINDOW_CSV,
+        pcap: samples::WINDOW_PCAP,
+    };
+    expect_formats(&rt, rt.alloc(), &sample)
+}
+
+#[test]
+fn task_c(rt: HostRuntime) -> Result<(), Fail> {
+    let sample = Sample {
+        ldf: samples::DOOR_ZONE,
+        log: samples::TASK_C_LOG,
+        named: samples::TASK_C_NAMED,
+        csv: samples::TASK_C_CSV,
+        pcap: samples::TASK_C_PCAP,
+    };
+    expect_formats(&rt, rt.alloc(), &sample)
+}
