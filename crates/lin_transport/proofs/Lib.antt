@@ -2,8 +2,9 @@ pub mod Frames
 pub mod Pieces
 pub mod Begins
 pub mod Partial
+pub mod Ears
 pub mod Continues
 pub mod Hears
+pub mod Plain
 pub mod Readings
-pub mod Parts
 pub mod FirstFrames

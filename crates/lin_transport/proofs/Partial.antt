@@ -1,6 +1,6 @@
 -- What the frames of a partial message are read as, and what the next frame makes of it.
 use Rattle.std.proofs.Common.{◌≡◌, ℕ, zero, suc, ◌+◌, ◌-◌, ◌*◌, ◌%◌, ◌/◌, ◌≤◌, ◌<◌, ◌≢◌, Bool, true, false, List, [], ◌∷◌, ◌++◌, length, take, drop, replicate, map, refl, ap, sym, ◌∙◌, arith, inl, inr, append_assoc, subst}
-use Rattle.std.specs.Prelude.{Some, None, ◌&&◌, nat_le, nat_lt}
+use Rattle.std.specs.Prelude.{Some, None, ◌&&◌, nat_le, nat_lt, slice_index}
 use Rattle.std.specs.List.{concat, starts_with}
 use Rattle.std.proofs.Math.Dec.{eqb}
 use Rattle.std.proofs.Math.Nat.{eq-or-lt_of_le}
@@ -13,7 +13,7 @@ use Rattle.lin_frame.specs.Words.{numbers}
 use Rattle.lin_transport.specs.Words.{begin_with}
 use Rattle.lin_transport.specs.Transport.{needed, frame, first, frame_count, bytes_in, message_in, CanSend}
 use Rattle.lin_transport.specs.Receiver.{Part, AreFirst}
-use Rattle.lin_transport.proofs.Frames.{eqb-self, numbers-suc, first-more, first-cons, length-first, length-numbers, begin-needed, begin-not, and-false, count-suc, chunks, chunks-suc, chunks-are, length_in-long, first-five, six-suc, reads-none, reads-by}
+use Rattle.lin_transport.proofs.Frames.{eqb-self, frame-address, numbers-suc, first-more, first-cons, length-first, length-numbers, begin-needed, begin-not, and-false, count-suc, chunks, chunks-suc, chunks-are, length_in-long, first-five, six-suc, reads-none, reads-by}
 
 pub is-long : (m : List ℕ) → 7 ≤ length m → nat_le (length m) 6 ≡ false
 is-long m l = grind (arith, nat_tests)
@@ -224,9 +224,9 @@ breaks n m k f more s l high h =
     in ap (message_in n) start ∙ rw (length_in-long n m s (is-long m l), fails, and-false)
 
 -- another frame that begins nothing: the frames are never read as a message
-pub first-breaks : (n : ℕ) (part : Part) (fs : List (List ℕ)) (b p : ℕ) (c : List ℕ) (more : List (List ℕ)) → (a : AreFirst n part fs) → p ≢ 32 + suc a.consecutive % 16
-    → message_in n (fs ++ (b ∷ p ∷ c) ∷ more) ≡ None
-first-breaks n part fs b p c more a other =
+breaks-part : (n : ℕ) (part : Part) (fs : List (List ℕ)) (f : List ℕ) (more : List (List ℕ)) → (a : AreFirst n part fs) → ((o : List ℕ) → starts_with eqb f (needed n o (suc a.consecutive)) ≡ false)
+    → message_in n (fs ++ f ∷ more) ≡ None
+breaks-part n part fs f more a other =
     let k : ℕ = a.consecutive
     in let rest : List ℕ = any_rest part
     in let m : List ℕ = part.bytes ++ rest
@@ -234,6 +234,28 @@ first-breaks n part fs b p c more a other =
     in let l : length m ≡ part.size = rest-size part rest e
     in let many : 7 ≤ length m = let r = a.long in omega arith
     in let high : 5 + 6 * k < length m = let r = a.more in omega arith
-    in ap (λ (xs : List (List ℕ)). message_in n (xs ++ (b ∷ p ∷ c) ∷ more)) (a.frames rest e)
-    ∙ breaks n m k (b ∷ p ∷ c) more (rest-can n part fs rest a e) many high
-    (λ o. starts-other n b p (32 + suc k % 16) c (take 6 (drop (5 + 6 * k) o)) other)
+    in ap (λ (xs : List (List ℕ)). message_in n (xs ++ f ∷ more)) (a.frames rest e)
+    ∙ breaks n m k f more (rest-can n part fs rest a e) many high other
+
+-- by its PCI
+pub first-breaks : (n : ℕ) (part : Part) (fs : List (List ℕ)) (b p : ℕ) (c : List ℕ) (more : List (List ℕ)) → (a : AreFirst n part fs) → p ≢ 32 + suc a.consecutive % 16
+    → message_in n (fs ++ (b ∷ p ∷ c) ∷ more) ≡ None
+first-breaks n part fs b p c more a other = breaks-part n part fs (b ∷ p ∷ c) more a (λ o. starts-other n b p (32 + suc a.consecutive % 16) c (take 6 (drop (5 + 6 * a.consecutive) o)) other)
+
+-- by its address
+pub first-foreign : (n : ℕ) (part : Part) (fs : List (List ℕ)) (b : ℕ) (c : List ℕ) (more : List (List ℕ)) → AreFirst n part fs → b ≢ n → message_in n (fs ++ (b ∷ c) ∷ more) ≡ None
+first-foreign n part fs b c more a other =
+    let differ : eqb n b ≡ false = ne_eqb n b (λ e. other (sym e))
+    in breaks-part n part fs (b ∷ c) more a (λ o. rw differ)
+
+-- a piece that begins with these frames begins with one to the address
+pub first-head : (n : ℕ) (part : Part) (fs : List (List ℕ)) → AreFirst n part fs → (f : List ℕ) × (gs : List (List ℕ)) × (fs ≡ f ∷ gs) × (slice_index f 0 ≡ n)
+first-head n part fs a =
+    let m : List ℕ = part.bytes ++ any_rest part
+    in let k : ℕ = a.consecutive
+    in (
+      frame n m 0,
+      map (frame n m) (map suc (numbers k)),
+      a.frames (any_rest part) (any-fits n part fs a) ∙ first-cons n m k,
+      frame-address n m 0,
+    )

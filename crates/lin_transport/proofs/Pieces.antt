@@ -5,7 +5,7 @@ use Rattle.std.specs.List.{cons_option}
 use Rattle.std.proofs.lemmas.List.{append-nil}
 use Rattle.std.proofs.lemmas.List.Elements.{filter_map-append}
 use Rattle.lin_transport.specs.Words.{with_last}
-use Rattle.lin_transport.specs.Transport.{begins, pieces, message_in, messages_in, Heard}
+use Rattle.lin_transport.specs.Transport.{begins, pieces, Ear, message_to, messages_to, Heard}
 use Rattle.lin_transport.specs.Transport.Heard.{Frame, Reset}
 use Rattle.lin_transport.specs.Receiver.{current}
 
@@ -32,23 +32,23 @@ pieces-last (Frame f ∷ earlier) = last-by f earlier (begins f) refl (pieces-la
 pieces-last (Reset ∷ earlier) = refl
 
 -- one more piece, read as o
-pub reads-more : (n : ℕ) (ps : List (List (List ℕ))) (p : List (List ℕ)) (o : Option (List ℕ)) → message_in n p ≡ o → filter_map (message_in n) (ps ++ p ∷ []) ≡ filter_map (message_in n) ps ++ cons_option o []
-reads-more n ps p o e = filter_map-append (message_in n) ps (p ∷ []) ∙ ap (λ (x : Option (List ℕ)). filter_map (message_in n) ps ++ cons_option x []) e
+pub reads-more : (ear : Ear) (ps : List (List (List ℕ))) (p : List (List ℕ)) (o : Option (List ℕ)) → message_to ear p ≡ o → filter_map (message_to ear) (ps ++ p ∷ []) ≡ filter_map (message_to ear) ps ++ cons_option o []
+reads-more ear ps p o e = filter_map-append (message_to ear) ps (p ∷ []) ∙ ap (λ (x : Option (List ℕ)). filter_map (message_to ear) ps ++ cons_option x []) e
 
-pub reads-nothing : (n : ℕ) (ps : List (List (List ℕ))) (p : List (List ℕ)) → message_in n p ≡ None → filter_map (message_in n) (ps ++ p ∷ []) ≡ filter_map (message_in n) ps
-reads-nothing n ps p e = reads-more n ps p None e ∙ append-nil (filter_map (message_in n) ps)
+pub reads-nothing : (ear : Ear) (ps : List (List (List ℕ))) (p : List (List ℕ)) → message_to ear p ≡ None → filter_map (message_to ear) (ps ++ p ∷ []) ≡ filter_map (message_to ear) ps
+reads-nothing ear ps p e = reads-more ear ps p None e ∙ append-nil (filter_map (message_to ear) ps)
 
 -- what is read of all pieces, by what the last is read as
-pub reads-last : (n : ℕ) (heard : List Heard) (o : Option (List ℕ)) → message_in n (current heard) ≡ o → messages_in n heard ≡ filter_map (message_in n) (earlier_pieces heard) ++ cons_option o []
-reads-last n heard o e = ap (filter_map (message_in n)) (pieces-last heard) ∙ reads-more n (earlier_pieces heard) (current heard) o e
+pub reads-last : (ear : Ear) (heard : List Heard) (o : Option (List ℕ)) → message_to ear (current heard) ≡ o → messages_to ear heard ≡ filter_map (message_to ear) (earlier_pieces heard) ++ cons_option o []
+reads-last ear heard o e = ap (filter_map (message_to ear)) (pieces-last heard) ∙ reads-more ear (earlier_pieces heard) (current heard) o e
 
 -- a reset adds nothing
-pub reads-reset : (n : ℕ) (heard : List Heard) → messages_in n (Reset ∷ heard) ≡ messages_in n heard
-reads-reset n heard = reads-nothing n (pieces heard) [] refl
+pub reads-reset : (ear : Ear) (heard : List Heard) → messages_to ear (Reset ∷ heard) ≡ messages_to ear heard
+reads-reset ear heard = reads-nothing ear (pieces heard) [] refl
 
 -- a frame that begins a message adds what it is read as alone
-pub reads-begun : (n : ℕ) (f : List ℕ) (heard : List Heard) (o : Option (List ℕ)) → begins f ≡ true → message_in n (f ∷ []) ≡ o → messages_in n (Frame f ∷ heard) ≡ messages_in n heard ++ cons_option o []
-reads-begun n f heard o b e = rw b (reads-more n (pieces heard) (f ∷ []) o e)
+pub reads-begun : (ear : Ear) (f : List ℕ) (heard : List Heard) (o : Option (List ℕ)) → begins f ≡ true → message_to ear (f ∷ []) ≡ o → messages_to ear (Frame f ∷ heard) ≡ messages_to ear heard ++ cons_option o []
+reads-begun ear f heard o b e = rw b (reads-more ear (pieces heard) (f ∷ []) o e)
 
 pub current-begun : (f : List ℕ) (heard : List Heard) → begins f ≡ true → current (Frame f ∷ heard) ≡ f ∷ []
 current-begun f heard b = rw b
@@ -61,15 +61,15 @@ pub earlier-more : (f : List ℕ) (heard : List Heard) → begins f ≡ false �
 earlier-more f heard b = rw b
 
 -- where that piece read as nothing, it adds what the longer piece is read as
-pub reads-completed : (n : ℕ) (f : List ℕ) (heard : List Heard) (o : Option (List ℕ)) → begins f ≡ false → message_in n (current heard) ≡ None → message_in n (current heard ++ f ∷ []) ≡ o → messages_in n (Frame f ∷ heard) ≡ messages_in n heard ++ cons_option o []
-reads-completed n f heard o b before e =
-    reads-last n (Frame f ∷ heard) o (ap (message_in n) (current-more f heard b) ∙ e)
-    ∙ ap (λ (ps : List (List (List ℕ))). filter_map (message_in n) ps ++ cons_option o []) (earlier-more f heard b)
-    ∙ ap (λ (ms : List (List ℕ)). ms ++ cons_option o []) (sym (reads-last n heard None before ∙ append-nil (filter_map (message_in n) (earlier_pieces heard))))
+pub reads-completed : (ear : Ear) (f : List ℕ) (heard : List Heard) (o : Option (List ℕ)) → begins f ≡ false → message_to ear (current heard) ≡ None → message_to ear (current heard ++ f ∷ []) ≡ o → messages_to ear (Frame f ∷ heard) ≡ messages_to ear heard ++ cons_option o []
+reads-completed ear f heard o b before e =
+    reads-last ear (Frame f ∷ heard) o (ap (message_to ear) (current-more f heard b) ∙ e)
+    ∙ ap (λ (ps : List (List (List ℕ))). filter_map (message_to ear) ps ++ cons_option o []) (earlier-more f heard b)
+    ∙ ap (λ (ms : List (List ℕ)). ms ++ cons_option o []) (sym (reads-last ear heard None before ∙ append-nil (filter_map (message_to ear) (earlier_pieces heard))))
 
 -- where both are read as the same, it adds nothing
-pub reads-same : (n : ℕ) (f : List ℕ) (heard : List Heard) → begins f ≡ false → message_in n (current heard ++ f ∷ []) ≡ message_in n (current heard) → messages_in n (Frame f ∷ heard) ≡ messages_in n heard
-reads-same n f heard b e =
-    reads-last n (Frame f ∷ heard) (message_in n (current heard)) (ap (message_in n) (current-more f heard b) ∙ e)
-    ∙ ap (λ (ps : List (List (List ℕ))). filter_map (message_in n) ps ++ cons_option (message_in n (current heard)) []) (earlier-more f heard b)
-    ∙ sym (reads-last n heard (message_in n (current heard)) refl)
+pub reads-same : (ear : Ear) (f : List ℕ) (heard : List Heard) → begins f ≡ false → message_to ear (current heard ++ f ∷ []) ≡ message_to ear (current heard) → messages_to ear (Frame f ∷ heard) ≡ messages_to ear heard
+reads-same ear f heard b e =
+    reads-last ear (Frame f ∷ heard) (message_to ear (current heard)) (ap (message_to ear) (current-more f heard b) ∙ e)
+    ∙ ap (λ (ps : List (List (List ℕ))). filter_map (message_to ear) ps ++ cons_option (message_to ear (current heard)) []) (earlier-more f heard b)
+    ∙ sym (reads-last ear heard (message_to ear (current heard)) refl)

@@ -1,15 +1,16 @@
 -- What is read where the frames of messages follow what was heard.
-use Rattle.std.proofs.Common.{◌≡◌, ℕ, zero, suc, ◌-◌, ◌≤◌, ◌<◌, List, [], ◌∷◌, ◌++◌, length, take, drop, map, refl, ap, sym, ◌∙◌, arith, append_assoc}
+use Rattle.std.proofs.Common.{◌≡◌, ℕ, zero, suc, ◌-◌, ◌≤◌, List, [], ◌∷◌, ◌++◌, length, take, drop, map, refl, ap, sym, ◌∙◌, arith, append_assoc}
 use Rattle.std.specs.Prelude.{Some, None, All, filter_map}
 use Rattle.std.proofs.lemmas.List.{append-nil, take-map, drop-map}
 use Rattle.std.proofs.lemmas.List.Elements.{All-tail}
 use Rattle.lin_frame.specs.Words.{numbers}
-use Rattle.lin_transport.specs.Transport.{frame, first, frames, frame_count, CanSend, pieces, message_in, messages_in, Heard}
+use Rattle.lin_transport.specs.Transport.{frame, first, frames, frame_count, CanSend, pieces, Ear, message_to, messages_to, Heard}
 use Rattle.lin_transport.specs.Transport.Heard.{Frame, Reset}
-use Rattle.lin_transport.specs.Law.{followed, frames_of_all, ReadsBack, ReadsAcross, LacksCut}
-use Rattle.lin_transport.proofs.Frames.{first-cons, length-frame, frame-begins, frame-continues, count-some, reads-all, reads-none}
+use Rattle.lin_transport.specs.Law.{Addressed, IsFor, followed, frames_of_all, bytes_of_all, ReadsBack, ReadsAcross, LacksCut, AddsMessage, AddsNothing}
+use Rattle.lin_transport.proofs.Frames.{first-cons, length-frame, frame-begins, frame-continues, count-some}
 use Rattle.lin_transport.proofs.Pieces.{with_last-append, reads-more, reads-nothing, reads-reset}
 use Rattle.lin_transport.proofs.Begins.{behind-fails}
+use Rattle.lin_transport.proofs.Ears.{to-reads, is-to, to-all, to-none}
 
 pub followed-append : (heard : List Heard) (fs gs : List (List ℕ)) → followed heard (fs ++ gs) ≡ followed (followed heard fs) gs
 followed-append heard [] gs = refl
@@ -37,36 +38,44 @@ pieces-first n m k heard s =
     ∙ ap (λ (fs : List (List ℕ)). pieces heard ++ fs ∷ []) (sym (first-cons n m k))
 
 -- all frames of a message add it
-pub message-adds : (n : ℕ) (m : List ℕ) (heard : List Heard) → CanSend m → messages_in n (followed heard (frames n m)) ≡ messages_in n heard ++ m ∷ []
-message-adds n m heard s =
-    let j : ℕ = frame_count (length m) - 1
-    in let e : frame_count (length m) ≡ suc j = let some : 1 ≤ frame_count (length m) = count-some m in omega arith
-    in let whole : message_in n (first n m (suc j)) ≡ Some m = ap (λ (k : ℕ). message_in n (first n m k)) (sym e) ∙ reads-all n m s
-    in ap (λ (k : ℕ). messages_in n (followed heard (first n m k))) e
-    ∙ ap (filter_map (message_in n)) (pieces-first n m j heard s)
-    ∙ reads-more n (pieces heard) (first n m (suc j)) (Some m) whole
+pub message-adds : (e : Ear) (m : Addressed) (heard : List Heard) → AddsMessage e m heard
+message-adds e m heard is =
+    let n : ℕ = m.nad
+    in let j : ℕ = frame_count (length m.bytes) - 1
+    in let c : frame_count (length m.bytes) ≡ suc j = let some : 1 ≤ frame_count (length m.bytes) = count-some m.bytes in omega arith
+    in let whole : message_to e (first n m.bytes (suc j)) ≡ Some m.bytes = ap (λ (k : ℕ). message_to e (first n m.bytes k)) (sym c) ∙ to-all e m is
+    in ap (λ (k : ℕ). messages_to e (followed heard (first n m.bytes k))) c
+    ∙ ap (filter_map (message_to e)) (pieces-first n m.bytes j heard is.can)
+    ∙ reads-more e (pieces heard) (first n m.bytes (suc j)) (Some m.bytes) whole
 
 -- fewer add nothing
-pub part-adds-nothing : (n : ℕ) (m : List ℕ) (k : ℕ) (heard : List Heard) → CanSend m → k < frame_count (length m) → messages_in n (followed heard (first n m k)) ≡ messages_in n heard
-part-adds-nothing n m zero heard s more = refl
-part-adds-nothing n m (suc k) heard s more = ap (filter_map (message_in n)) (pieces-first n m k heard s) ∙ reads-nothing n (pieces heard) (first n m (suc k)) (reads-none n m k s more)
+pub part-adds-nothing : (e : Ear) (m : Addressed) (k : ℕ) (heard : List Heard) → AddsNothing e m k heard
+part-adds-nothing e m zero heard is more = refl
+part-adds-nothing e m (suc k) heard is more =
+    ap (filter_map (message_to e)) (pieces-first m.nad m.bytes k heard is.can)
+    ∙ reads-nothing e (pieces heard) (first m.nad m.bytes (suc k)) (to-none e m k is more)
 
-later-fails : (n : ℕ) (m ks : List ℕ) → message_in n (later n m ks) ≡ None
-later-fails n m [] = refl
-later-fails n m (k ∷ ks) = behind-fails n (frame n m (suc k)) (later n m ks) (length-frame n m (suc k)) refl (omega arith)
+later-fails : (e : Ear) (m : Addressed) (ks : List ℕ) → IsFor e m → message_to e (later m.nad m.bytes ks) ≡ None
+later-fails e m [] is = refl
+later-fails e m (k ∷ ks) is =
+    to-reads e (frame m.nad m.bytes (suc k)) None (is-to e m is)
+    (record { reads = λ more. behind-fails m.nad (frame m.nad m.bytes (suc k)) more (length-frame m.nad m.bytes (suc k)) refl (omega arith) })
+    (later m.nad m.bytes ks)
 
 -- the rest of a message behind a reset adds nothing
-pub rest-adds-nothing : (n : ℕ) (m ks : List ℕ) (heard : List Heard) → messages_in n (followed (Reset ∷ heard) (later n m ks)) ≡ messages_in n heard
-rest-adds-nothing n m ks heard = ap (filter_map (message_in n)) (pieces-later n m ks (Reset ∷ heard) (pieces heard) [] refl) ∙ reads-nothing n (pieces heard) (later n m ks) (later-fails n m ks)
+pub rest-adds-nothing : (e : Ear) (m : Addressed) (ks : List ℕ) (heard : List Heard) → IsFor e m → messages_to e (followed (Reset ∷ heard) (later m.nad m.bytes ks)) ≡ messages_to e heard
+rest-adds-nothing e m ks heard is =
+    ap (filter_map (message_to e)) (pieces-later m.nad m.bytes ks (Reset ∷ heard) (pieces heard) [] refl)
+    ∙ reads-nothing e (pieces heard) (later m.nad m.bytes ks) (later-fails e m ks is)
 
 -- the frames of messages add them
-pub messages-add : (n : ℕ) (ms : List (List ℕ)) (heard : List Heard) → All CanSend ms → messages_in n (followed heard (frames_of_all n ms)) ≡ messages_in n heard ++ ms
-messages-add n [] heard all = sym (append-nil (messages_in n heard))
-messages-add n (m ∷ ms) heard all =
-    ap (messages_in n) (followed-append heard (frames n m) (frames_of_all n ms))
-    ∙ messages-add n ms (followed heard (frames n m)) (All-tail CanSend m ms all)
-    ∙ ap (λ (xs : List (List ℕ)). xs ++ ms) (message-adds n m heard (all 0 m (omega arith)))
-    ∙ append_assoc (messages_in n heard) (m ∷ []) ms
+pub messages-add : (e : Ear) (ms : List Addressed) (heard : List Heard) → All (IsFor e) ms → messages_to e (followed heard (frames_of_all ms)) ≡ messages_to e heard ++ bytes_of_all ms
+messages-add e [] heard all = sym (append-nil (messages_to e heard))
+messages-add e (m ∷ ms) heard all =
+    ap (messages_to e) (followed-append heard (frames m.nad m.bytes) (frames_of_all ms))
+    ∙ messages-add e ms (followed heard (frames m.nad m.bytes)) (All-tail (IsFor e) m ms all)
+    ∙ ap (λ (xs : List (List ℕ)). xs ++ bytes_of_all ms) (message-adds e m heard (all 0 m (omega arith)))
+    ∙ append_assoc (messages_to e heard) (m.bytes ∷ []) (bytes_of_all ms)
 
 -- what stands behind the first frames of a message
 pub later-frames : (n : ℕ) (m : List ℕ) (k j : ℕ) → (ks : List ℕ) × (take j (drop (suc k) (frames n m)) ≡ later n m ks)
@@ -83,30 +92,30 @@ later-frames n m k j =
     )
 
 -- the readings of whole messages and of one that a reset cuts
-pub reads-back : (n : ℕ) (ms : List (List ℕ)) (given : List Heard) → ReadsBack n ms given
-reads-back n ms given all e = ap (messages_in n) e ∙ messages-add n ms [] all
+pub reads-back : (e : Ear) (ms : List Addressed) (given : List Heard) → ReadsBack e ms given
+reads-back e ms given all is = ap (messages_to e) is ∙ messages-add e ms [] all
 
-pub reads-across : (n : ℕ) (before behind : List (List ℕ)) (given : List Heard) → ReadsAcross n before behind given
-reads-across n before behind given all rest e =
-    let heard : List Heard = followed [] (frames_of_all n before)
-    in ap (messages_in n) e
-    ∙ messages-add n behind (Reset ∷ heard) rest
-    ∙ ap (λ (xs : List (List ℕ)). xs ++ behind) (reads-reset n heard ∙ messages-add n before [] all)
+pub reads-across : (e : Ear) (before behind : List Addressed) (given : List Heard) → ReadsAcross e before behind given
+reads-across e before behind given all rest is =
+    let heard : List Heard = followed [] (frames_of_all before)
+    in ap (messages_to e) is
+    ∙ messages-add e behind (Reset ∷ heard) rest
+    ∙ ap (λ (xs : List (List ℕ)). xs ++ bytes_of_all behind) (reads-reset e heard ∙ messages-add e before [] all)
 
-lacks-by : (n : ℕ) (before : List (List ℕ)) (m : List ℕ) (k j : ℕ) (behind : List (List ℕ)) (given : List Heard) → LacksCut n before m (suc k) j behind given
-lacks-by n before m k j behind given all can rest low high e =
-    let heard : List Heard = followed [] (frames_of_all n before)
-    in let part : List Heard = followed [] (frames_of_all n before ++ first n m (suc k))
-    in let l : (ks : List ℕ) × (take j (drop (suc k) (frames n m)) ≡ later n m ks) = later-frames n m k j
-    in let cut : messages_in n part ≡ before
-    = ap (messages_in n) (followed-append [] (frames_of_all n before) (first n m (suc k)))
-    ∙ part-adds-nothing n m (suc k) heard can high ∙ messages-add n before [] all
-    in ap (messages_in n) e
-    ∙ ap (messages_in n) (followed-append (Reset ∷ part) (take j (drop (suc k) (frames n m))) (frames_of_all n behind))
-    ∙ messages-add n behind (followed (Reset ∷ part) (take j (drop (suc k) (frames n m)))) rest
-    ∙ ap (λ (fs : List (List ℕ)). messages_in n (followed (Reset ∷ part) fs) ++ behind) l.1
-    ∙ ap (λ (xs : List (List ℕ)). xs ++ behind) (rest-adds-nothing n m l.0 part ∙ cut)
+lacks-by : (e : Ear) (before : List Addressed) (m : Addressed) (k j : ℕ) (behind : List Addressed) (given : List Heard) → LacksCut e before m (suc k) j behind given
+lacks-by e before m k j behind given all can rest low high is =
+    let heard : List Heard = followed [] (frames_of_all before)
+    in let part : List Heard = followed [] (frames_of_all before ++ first m.nad m.bytes (suc k))
+    in let l : (ks : List ℕ) × (take j (drop (suc k) (frames m.nad m.bytes)) ≡ later m.nad m.bytes ks) = later-frames m.nad m.bytes k j
+    in let cut : messages_to e part ≡ bytes_of_all before
+    = ap (messages_to e) (followed-append [] (frames_of_all before) (first m.nad m.bytes (suc k)))
+    ∙ part-adds-nothing e m (suc k) heard can high ∙ messages-add e before [] all
+    in ap (messages_to e) is
+    ∙ ap (messages_to e) (followed-append (Reset ∷ part) (take j (drop (suc k) (frames m.nad m.bytes))) (frames_of_all behind))
+    ∙ messages-add e behind (followed (Reset ∷ part) (take j (drop (suc k) (frames m.nad m.bytes)))) rest
+    ∙ ap (λ (fs : List (List ℕ)). messages_to e (followed (Reset ∷ part) fs) ++ bytes_of_all behind) l.1
+    ∙ ap (λ (xs : List (List ℕ)). xs ++ bytes_of_all behind) (rest-adds-nothing e m l.0 part can ∙ cut)
 
-pub lacks-cut : (n : ℕ) (before : List (List ℕ)) (m : List ℕ) (k j : ℕ) (behind : List (List ℕ)) (given : List Heard) → LacksCut n before m k j behind given
-lacks-cut n before m zero j behind given = λ all can rest low. absurd (omega arith)
-lacks-cut n before m (suc k) j behind given = lacks-by n before m k j behind given
+pub lacks-cut : (e : Ear) (before : List Addressed) (m : Addressed) (k j : ℕ) (behind : List Addressed) (given : List Heard) → LacksCut e before m k j behind given
+lacks-cut e before m zero j behind given = λ all can rest low. absurd (omega arith)
+lacks-cut e before m (suc k) j behind given = lacks-by e before m k j behind given

@@ -1,6 +1,6 @@
 -- What is read of one piece, of messages that are sent whole, and of one that a reset cuts.
-use Rattle.std.specs.Prelude.{◌≡◌, ◌↔◌, ℕ, ◌≤◌, ◌<◌, List, [], ◌∷◌, ◌++◌, All, length, take, drop, slice_index_or, Some}
-use Rattle.lin_transport.specs.Transport.{needed, first, frames, frame_count, CanSend, Heard, message_in, messages_in, addressed, messages_for}
+use Rattle.std.specs.Prelude.{◌≡◌, ◌↔◌, ℕ, ◌≤◌, ◌<◌, IsTrue, true, List, [], ◌∷◌, ◌++◌, All, length, take, drop, map, slice_index_or, Some}
+use Rattle.lin_transport.specs.Transport.{functional, needed, first, frames, frame_count, CanSend, Ear, looks_at, Heard, message_in, messages_to, addressed, messages_for}
 use Rattle.lin_transport.specs.Transport.Heard.{Frame, Reset}
 
 -- a frame has these bytes first; those behind them are unused and have any value
@@ -22,39 +22,55 @@ abbrev pub followed : List Heard → List (List ℕ) → List Heard
 followed heard [] = heard
 followed heard (f ∷ fs) = followed (Frame f ∷ heard) fs
 
--- the frames of messages, one message behind the other
-abbrev pub frames_of_all : ℕ → List (List ℕ) → List (List ℕ)
-frames_of_all nad [] = []
-frames_of_all nad (m ∷ ms) = frames nad m ++ frames_of_all nad ms
+-- a message on its way: the address of its frames, and its bytes
+pub record Addressed : Type 0 where
+  pub nad : ℕ
+  pub bytes : List ℕ
 
--- where the frames with an address are those of messages, whatever frames of other addresses stand
--- between them, the messages are read
-abbrev pub ReadsBack : ℕ → List (List ℕ) → List Heard → Type 0
-ReadsBack nad ms given = All CanSend ms → addressed nad given ≡ followed [] (frames_of_all nad ms) → messages_for nad given ≡ ms
+-- a receiver is meant, by its own address or by the functional one, and the message can be sent so: to
+-- all at once one of 1 to 6 bytes
+pub record IsFor (e : Ear) (m : Addressed) : Type 0 where
+  pub heard : IsTrue (looks_at e m.nad)
+  pub can : CanSend m.bytes
+  pub short : e.all ≡ true → m.nad ≡ functional → length m.bytes ≤ 6
+
+-- the frames of messages, one message behind the other
+abbrev pub frames_of_all : List Addressed → List (List ℕ)
+frames_of_all [] = []
+frames_of_all (m ∷ ms) = frames m.nad m.bytes ++ frames_of_all ms
+
+-- their bytes
+abbrev pub bytes_of_all : List Addressed → List (List ℕ)
+bytes_of_all ms = map (λ m. m.bytes) ms
+
+-- where the frames that a receiver looks at are those of messages, whatever frames of other addresses
+-- stand between them, the messages are read
+abbrev pub ReadsBack : Ear → List Addressed → List Heard → Type 0
+ReadsBack e ms given = All (IsFor e) ms → addressed e given ≡ followed [] (frames_of_all ms) → messages_for e given ≡ bytes_of_all ms
 
 -- a reset between two of the messages changes nothing
-abbrev pub ReadsAcross : ℕ → List (List ℕ) → List (List ℕ) → List Heard → Type 0
-ReadsAcross nad earlier later given =
-    All CanSend earlier → All CanSend later
-    → addressed nad given ≡ followed (Reset ∷ followed [] (frames_of_all nad earlier)) (frames_of_all nad later)
-    → messages_for nad given ≡ earlier ++ later
+abbrev pub ReadsAcross : Ear → List Addressed → List Addressed → List Heard → Type 0
+ReadsAcross e earlier later given =
+    All (IsFor e) earlier → All (IsFor e) later
+    → addressed e given ≡ followed (Reset ∷ followed [] (frames_of_all earlier)) (frames_of_all later)
+    → messages_for e given ≡ bytes_of_all earlier ++ bytes_of_all later
 
 -- a reset behind the first k frames of a message, with none, some or all of its other frames behind it:
 -- exactly that message isn't read
-abbrev pub LacksCut : ℕ → List (List ℕ) → List ℕ → ℕ → ℕ → List (List ℕ) → List Heard → Type 0
-LacksCut nad earlier m k j later given =
-    All CanSend earlier → CanSend m → All CanSend later → 1 ≤ k → k < frame_count (length m)
-    → addressed nad given ≡ followed (Reset ∷ followed [] (frames_of_all nad earlier ++ first nad m k)) (take j (drop k (frames nad m)) ++ frames_of_all nad later)
-    → messages_for nad given ≡ earlier ++ later
+abbrev pub LacksCut : Ear → List Addressed → Addressed → ℕ → ℕ → List Addressed → List Heard → Type 0
+LacksCut e earlier m k j later given =
+    All (IsFor e) earlier → IsFor e m → All (IsFor e) later → 1 ≤ k → k < frame_count (length m.bytes)
+    → addressed e given ≡ followed (Reset ∷ followed [] (frames_of_all earlier ++ first m.nad m.bytes k)) (take j (drop k (frames m.nad m.bytes)) ++ frames_of_all later)
+    → messages_for e given ≡ bytes_of_all earlier ++ bytes_of_all later
 
 -- over whatever was heard before: the frames of a message add it
-abbrev pub AddsMessage : ℕ → List ℕ → List Heard → Type 0
-AddsMessage nad m heard = CanSend m → messages_in nad (followed heard (frames nad m)) ≡ messages_in nad heard ++ m ∷ []
+abbrev pub AddsMessage : Ear → Addressed → List Heard → Type 0
+AddsMessage e m heard = IsFor e m → messages_to e (followed heard (frames m.nad m.bytes)) ≡ messages_to e heard ++ m.bytes ∷ []
 
 -- fewer of them add nothing
-abbrev pub AddsNothing : ℕ → List ℕ → ℕ → List Heard → Type 0
-AddsNothing nad m k heard = CanSend m → k < frame_count (length m) → messages_in nad (followed heard (first nad m k)) ≡ messages_in nad heard
+abbrev pub AddsNothing : Ear → Addressed → ℕ → List Heard → Type 0
+AddsNothing e m k heard = IsFor e m → k < frame_count (length m.bytes) → messages_to e (followed heard (first m.nad m.bytes k)) ≡ messages_to e heard
 
 -- nor does a reset
-abbrev pub ResetAddsNothing : ℕ → List Heard → Type 0
-ResetAddsNothing nad heard = messages_in nad (Reset ∷ heard) ≡ messages_in nad heard
+abbrev pub ResetAddsNothing : Ear → List Heard → Type 0
+ResetAddsNothing e heard = messages_to e (Reset ∷ heard) ≡ messages_to e heard

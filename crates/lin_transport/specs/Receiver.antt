@@ -1,6 +1,6 @@
 -- What a receiver holds, and for which frames and resets it stands.
-use Rattle.std.specs.Prelude.{◌≡◌, ℕ, suc, ◌+◌, ◌*◌, ◌/◌, ◌%◌, ◌≤◌, ◌<◌, ⊤, if◌then◌else◌, List, [], ◌∷◌, ◌++◌, length, slice_index, Option, Some, None, option_to_list}
-use Rattle.lin_transport.specs.Transport.{Heard, begins, first, message_in, messages_in, heard_with}
+use Rattle.std.specs.Prelude.{◌≡◌, ℕ, suc, ◌+◌, ◌*◌, ◌/◌, ◌%◌, ◌≤◌, ◌<◌, ⊤, ◌≢◌, Bool, true, false, if◌then◌else◌, List, [], ◌∷◌, ◌++◌, length, slice_index, Option, Some, None, option_to_list}
+use Rattle.lin_transport.specs.Transport.{Heard, Ear, functional, begins, first, message_in, message_to, messages_to, heard_to, messages_in, heard_with}
 use Rattle.lin_transport.specs.Transport.Heard.{Frame, Reset}
 
 -- a message of which only a part has come: that part's bytes, and the length of the message
@@ -8,10 +8,21 @@ pub record Part : Type 0 where
   pub bytes : List ℕ
   pub size : ℕ
 
--- the address at which a receiver listens, and its partial message
+-- the address at which a receiver listens, its partial message, whether it also listens to the
+-- functional address, and for how many single frames room was made
 pub record Reception : Type 0 where
   pub nad : ℕ
   pub part : Option Part
+  pub all : Bool
+  pub spare : ℕ
+
+-- what it listens to
+abbrev pub ear_of : Reception → Ear
+ear_of r = record { nad = r.nad; all = r.all }
+
+-- its own address isn't one that all hear
+abbrev pub IsOwn : Ear → Type 0
+IsOwn e = e.all ≡ true → e.nad ≢ functional
 
 -- the frames behind the last cut, the oldest first
 abbrev pub current : List Heard → List (List ℕ)
@@ -20,9 +31,9 @@ current (Frame f ∷ earlier) = if begins f then f ∷ [] else current earlier +
 current (Reset ∷ earlier) = []
 
 -- nothing is partial: these frames read as the same message, or as none, whatever comes behind them
-abbrev pub AreOver : ℕ → List (List ℕ) → Type 0
-AreOver nad [] = ⊤
-AreOver nad (f ∷ fs) = (more : List (List ℕ)) → message_in nad (f ∷ fs ++ more) ≡ message_in nad (f ∷ fs)
+abbrev pub AreOver : Ear → List (List ℕ) → Type 0
+AreOver e [] = ⊤
+AreOver e (f ∷ fs) = (more : List (List ℕ)) → message_to e (f ∷ fs ++ more) ≡ message_to e (f ∷ fs)
 
 -- a message is partial: these frames are the first ones of each message that begins with the part's
 -- bytes and has its length, and it has more
@@ -34,16 +45,26 @@ pub record AreFirst (nad : ℕ) (part : Part) (fs : List (List ℕ)) : Type 0 wh
   pub more : 5 + 6 * consecutive < part.size
   pub frames : (rest : List ℕ) → length part.bytes + length rest ≡ part.size → fs ≡ first nad (part.bytes ++ rest) (suc consecutive)
 
-abbrev pub Holds : ℕ → Option Part → List (List ℕ) → Type 0
-Holds nad None fs = AreOver nad fs
-Holds nad (Some part) fs = AreFirst nad part fs
+abbrev pub Holds : Ear → Option Part → List (List ℕ) → Type 0
+Holds e None fs = AreOver e fs
+Holds e (Some part) fs = IsOwn e × AreFirst e.nad part fs
 
 -- the receiver has heard this, the newest first
-abbrev pub Stands : Reception → List Heard → Type 0
-Stands receiver heard = Holds receiver.nad receiver.part (current heard)
+abbrev pub HasHeard : Reception → List Heard → Type 0
+HasHeard r heard = Holds (ear_of r) r.part (current heard)
 
 -- what a receiver gives for a frame, over what it had heard: with the frame, it reads as many messages
 -- more as it gave
+pub record Reads (old : Reception) (frame : List ℕ) (heard : List Heard) (given : Option (List ℕ)) (new : Reception) : Type 0 where
+  pub ear : ear_of new ≡ ear_of old
+  pub stands : HasHeard new (heard_to (ear_of old) frame heard)
+  pub reads : messages_to (ear_of old) (heard_to (ear_of old) frame heard) ≡ messages_to (ear_of old) heard ++ option_to_list given
+
+-- a receiver that listens to its own address alone has heard this
+abbrev pub Stands : Reception → List Heard → Type 0
+Stands r heard = (r.all ≡ false) × HasHeard r heard
+
+-- what it gives for a frame
 pub record Hears (old : Reception) (frame : List ℕ) (heard : List Heard) (given : Option (List ℕ)) (new : Reception) : Type 0 where
   pub address : new.nad ≡ old.nad
   pub stands : Stands new (heard_with old.nad frame heard)
@@ -53,15 +74,20 @@ pub record Hears (old : Reception) (frame : List ℕ) (heard : List Heard) (give
 pub record IsReadAs (frame : List ℕ) (given : Option (List ℕ)) : Type 0 where
   pub reads : (more : List (List ℕ)) → message_in (slice_index frame 0) (frame ∷ more) ≡ given
 
+-- what is held of one frame that begins a piece, by the address that the frame has
+abbrev pub HoldsOne : ℕ → Option Part → List ℕ → Type 0
+HoldsOne nad None f = (more : List (List ℕ)) → message_in nad (f ∷ more) ≡ message_in nad (f ∷ [])
+HoldsOne nad (Some part) f = AreFirst nad part (f ∷ [])
+
 -- a frame that begins a piece leaves this partial message or none, and isn't a message itself
 pub record IsBegun (frame : List ℕ) (new : Option Part) : Type 0 where
-  pub holds : Holds (slice_index frame 0) new (frame ∷ [])
+  pub holds : HoldsOne (slice_index frame 0) new frame
   pub reads : message_in (slice_index frame 0) (frame ∷ []) ≡ None
 
 -- with one more frame behind these, what is partial then, and what is read more
-pub record IsContinued (nad : ℕ) (frame : List ℕ) (fs : List (List ℕ)) (given : Option (List ℕ)) (new : Option Part) : Type 0 where
-  pub holds : Holds nad new (fs ++ frame ∷ [])
-  pub reads : option_to_list (message_in nad (fs ++ frame ∷ [])) ≡ option_to_list (message_in nad fs) ++ option_to_list given
+pub record IsContinued (e : Ear) (frame : List ℕ) (fs : List (List ℕ)) (given : Option (List ℕ)) (new : Option Part) : Type 0 where
+  pub holds : Holds e new (fs ++ frame ∷ [])
+  pub reads : option_to_list (message_to e (fs ++ frame ∷ [])) ≡ option_to_list (message_to e fs) ++ option_to_list given
 
 -- a partial message as it is kept: the buffer has room for all of it, and the counter is that of the
 -- next consecutive frame

@@ -1,6 +1,6 @@
 -- Segmented messages as diagnostic frames, and what a receiver reads of frames
 -- (ISO 17987-2, transport layer; LIN 2.2A, 3.2).
-use Rattle.std.specs.Prelude.{ℕ, zero, suc, ◌+◌, ◌*◌, ◌/◌, ◌%◌, ◌≤◌, Bool, ◌&&◌, nat_lt, nat_le, eqb, if◌then◌else◌, List, [], ◌∷◌, ◌++◌, map, length, take, drop, slice_index, filter_map, Option, Some, None}
+use Rattle.std.specs.Prelude.{ℕ, zero, suc, ◌+◌, ◌*◌, ◌/◌, ◌%◌, ◌≤◌, Bool, false, ◌&&◌, ◌||◌, nat_lt, nat_le, eqb, if◌then◌else◌, List, [], ◌∷◌, ◌++◌, map, length, take, drop, slice_index, filter_map, Option, Some, None}
 use Rattle.std.specs.List.{concat}
 use Rattle.lin_frame.specs.Words.{numbers}
 use Rattle.lin_transport.specs.Words.{filled, with_last, begin_with}
@@ -35,6 +35,11 @@ frames nad m = first nad m (frame_count (length m))
 pub record CanSend (m : List ℕ) : Type 0 where
   pub some : 1 ≤ length m
   pub few : length m ≤ 4095
+
+-- the functional address: each responder hears it beside its own address, in single frames alone
+-- (ISO 17987-2, node addresses)
+abbrev pub functional : ℕ
+functional = 126
 
 -- a frame that begins a message: a single or first frame, by the high four bits of its PCI (0 or 1)
 abbrev pub begins : List ℕ → Bool
@@ -72,21 +77,49 @@ message_in nad (f ∷ fs) =
     then Some m
     else None
 
+-- what a receiver listens to: its own address, and whether also the functional one
+pub record Ear : Type 0 where
+  pub nad : ℕ
+  pub all : Bool
+
+-- to its own address alone
+abbrev pub plain : ℕ → Ear
+plain nad = record { nad = nad; all = false }
+
+-- whether it looks at frames to an address
+abbrev pub looks_at : Ear → ℕ → Bool
+looks_at e n = (e.all && eqb n functional) || eqb n e.nad
+
+-- the message that it reads in a piece: where the piece begins with a frame to all, that of this frame
+-- alone; otherwise that of the frames to its own address
+abbrev pub message_to : Ear → List (List ℕ) → Option (List ℕ)
+message_to e [] = None
+message_to e (f ∷ fs) = if e.all && eqb (slice_index f 0) functional then message_in functional (f ∷ []) else message_in e.nad (f ∷ fs)
+
+-- the messages in what was heard, in order
+abbrev pub messages_to : Ear → List Heard → List (List ℕ)
+messages_to e heard = filter_map (message_to e) (pieces heard)
+
+-- what a receiver has heard once this frame is given to it: it looks only at frames to it
+abbrev pub heard_to : Ear → List ℕ → List Heard → List Heard
+heard_to e f heard = if looks_at e (slice_index f 0) then Frame f ∷ heard else heard
+
+-- what it has heard of all that it was given
+abbrev pub addressed : Ear → List Heard → List Heard
+addressed e [] = []
+addressed e (Frame f ∷ earlier) = heard_to e f (addressed e earlier)
+addressed e (Reset ∷ earlier) = Reset ∷ addressed e earlier
+
+-- the messages that it reads in all that it was given, in order
+abbrev pub messages_for : Ear → List Heard → List (List ℕ)
+messages_for e given = messages_to e (addressed e given)
+
+-- ---- a receiver that listens to its own address alone
+
 -- the messages in what was heard, in order
 abbrev pub messages_in : ℕ → List Heard → List (List ℕ)
 messages_in nad heard = filter_map (message_in nad) (pieces heard)
 
--- what a receiver with this address has heard once this frame is given to it: it looks only at frames
--- with its address
+-- what it has heard once this frame is given to it
 abbrev pub heard_with : ℕ → List ℕ → List Heard → List Heard
 heard_with nad f heard = if eqb (slice_index f 0) nad then Frame f ∷ heard else heard
-
--- what it has heard of all that it was given
-abbrev pub addressed : ℕ → List Heard → List Heard
-addressed nad [] = []
-addressed nad (Frame f ∷ earlier) = heard_with nad f (addressed nad earlier)
-addressed nad (Reset ∷ earlier) = Reset ∷ addressed nad earlier
-
--- the messages that it reads in all that it was given, in order
-abbrev pub messages_for : ℕ → List Heard → List (List ℕ)
-messages_for nad given = messages_in nad (addressed nad given)

@@ -16,6 +16,7 @@ mod receiver;
 mod sender;
 
 pub use law::{reads_first_frames, reads_what_is_sent};
+pub use pci::FUNCTIONAL;
 pub use receiver::Receiver;
 pub use sender::Sender;
 

@@ -2,7 +2,7 @@
 
 ghost use Rattle.std.specs.Prelude.{◌≤◌, ◌<◌, length};
 
-use crate::{Receiver, Sender};
+use crate::{FUNCTIONAL, Receiver, Sender};
 use std::alloc::{AllocError, Global};
 use std::process::Abort;
 use std::test::Fail;
@@ -108,6 +108,42 @@ fn reset_cuts_a_message(rt: HostRuntime) -> Result<(), Fail> {
     Ok(())
 }
 
+#[test]
+fn message_to_all(rt: HostRuntime) -> Result<(), Fail> {
+    let to_all = [0x7E, 2, 0x3E, 0x80, 0xFF, 0xFF, 0xFF, 0xFF];
+    let frames = frames_of(rt.alloc(), FUNCTIONAL, &[0x3E, 0x80])?;
+    assert!(rt; frames.as_slice() == [to_all].as_slice());
+
+    let mut receiver = Receiver::functional(rt.alloc(), 5);
+    receiver.make_room()?;
+    hears(&rt, &mut receiver, &[to_all], &[0x3E, 0x80])?;
+    hears(&rt, &mut receiver, &[to_all], &[0x3E, 0x80])?;
+
+    // its own messages, too; but a frame to all ends what is partial
+    let seven = [1, 2, 3, 4, 5, 6, 7];
+    let frames = frames_of(rt.alloc(), 5, &seven)?;
+    hears(&rt, &mut receiver, frames.as_slice(), &seven)?;
+    assert!(rt; receiver.hear(&[5, 0x10, 7, 1, 2, 3, 4, 5])?.is_none());
+    assert!(rt; receiver.hear(&to_all)?.is_some());
+    assert!(rt;
+        receiver
+            .hear(&[5, 0x21, 6, 7, 0xFF, 0xFF, 0xFF, 0xFF])?
+            .is_none()
+    );
+
+    // segmented ones to all are not read
+    assert!(rt; receiver.hear(&[0x7E, 0x10, 7, 1, 2, 3, 4, 5])?.is_none());
+    assert!(rt;
+        receiver
+            .hear(&[0x7E, 0x21, 6, 7, 0xFF, 0xFF, 0xFF, 0xFF])?
+            .is_none()
+    );
+
+    let mut plain = Receiver::new(rt.alloc(), 5);
+    assert!(rt; plain.hear(&to_all)?.is_none());
+    Ok(())
+}
+
 // A fixed sequence of bytes.
 #[derive(Drop)]
 struct Sequence {
@@ -156,10 +192,17 @@ impl Sequence {
     }
 }
 
+const NAD: u8 = 5;
+
+// Whether frames to an address are looked at, where those to all are or aren't.
+fn is_looked_at(all: bool, nad: u8) -> bool {
+    nad == NAD || (all && nad == FUNCTIONAL)
+}
+
 // The message that begins with the first of these frames, and how many frames behind it are looked at for it.
 fn message_at(
     alloc: Global,
-    nad: u8,
+    all: bool,
     first: &[u8; 8],
     behind: &[[u8; 8]],
 ) -> Result<Option<(Vec<u8>, usize)>, AllocError> {
@@ -173,7 +216,7 @@ fn message_at(
         bytes.extend_from_slice(&first[2..])?;
     } else {
         len = usize::from(first[1] & 0x0F) * 256 + usize::from(first[2]);
-        if len < 7 {
+        if len < 7 || first[0] != NAD {
             return Ok(None);
         }
         bytes.extend_from_slice(&first[3..])?;
@@ -184,8 +227,8 @@ fn message_at(
         if bytes.len() >= len {
             break;
         }
-        if frame[0] == nad {
-            if frame[1] != 0x20 | counter {
+        if is_looked_at(all, frame[0]) {
+            if frame[0] != NAD || frame[1] != 0x20 | counter {
                 return Ok(None);
             }
             bytes.extend_from_slice(&frame[2..])?;
@@ -200,19 +243,23 @@ fn message_at(
     Ok(Some((bytes, looked_at)))
 }
 
-const NAD: u8 = 5;
-
-// Fifty frames: likely ones of a conversation with the address, or any.
+// Fifty frames: likely ones of a conversation with the address, some of them to all, or any.
 fn list_of_frames(
     alloc: Global,
     sequence: &mut Sequence,
+    all: bool,
     is_likely: bool,
 ) -> Result<Vec<[u8; 8]>, AllocError> {
     let mut frames = Vec::new(alloc);
     let mut counter = 1;
     for _ in 0..50 {
         let frame = if is_likely {
-            sequence.likely_frame(NAD, counter)
+            let nad = if all && sequence.below(16) == 0 {
+                FUNCTIONAL
+            } else {
+                NAD
+            };
+            sequence.likely_frame(nad, counter)
         } else {
             sequence.any_frame()
         };
@@ -234,8 +281,16 @@ fn next_counter(counter: u8, pci: u8) -> u8 {
 }
 
 // The messages that a receiver gives, each with the place of the frame that completes it.
-fn heard_messages(alloc: Global, frames: &[[u8; 8]]) -> Result<Vec<(usize, Vec<u8>)>, AllocError> {
-    let mut receiver = Receiver::new(alloc, NAD);
+fn heard_messages(
+    alloc: Global,
+    all: bool,
+    frames: &[[u8; 8]],
+) -> Result<Vec<(usize, Vec<u8>)>, AllocError> {
+    let mut receiver = if all {
+        Receiver::functional(alloc, NAD)
+    } else {
+        Receiver::new(alloc, NAD)
+    };
     let mut messages = Vec::new(alloc);
     for (i, frame) in frames.iter().enumerate() {
         if let Some(message) = receiver.hear(frame)? {
@@ -246,11 +301,15 @@ fn heard_messages(alloc: Global, frames: &[[u8; 8]]) -> Result<Vec<(usize, Vec<u
 }
 
 // The same by the plain reading.
-fn read_messages(alloc: Global, frames: &[[u8; 8]]) -> Result<Vec<(usize, Vec<u8>)>, AllocError> {
+fn read_messages(
+    alloc: Global,
+    all: bool,
+    frames: &[[u8; 8]],
+) -> Result<Vec<(usize, Vec<u8>)>, AllocError> {
     let mut messages = Vec::new(alloc);
     for (i, frame) in frames.iter().enumerate() {
-        if frame[0] == NAD && frame[1] < 0x20 {
-            if let Some((message, behind)) = message_at(alloc, NAD, frame, &frames[i + 1..])? {
+        if is_looked_at(all, frame[0]) && frame[1] < 0x20 {
+            if let Some((message, behind)) = message_at(alloc, all, frame, &frames[i + 1..])? {
                 messages.push((i.saturating_add(behind), message))?;
             }
         }
@@ -268,20 +327,43 @@ fn begun_messages(frames: &[[u8; 8]]) -> usize {
         .count()
 }
 
-#[test]
-fn lists_of_frames(rt: HostRuntime) -> Result<(), Fail> {
+// How many of the frames are single ones to all.
+fn single_to_all(frames: &[[u8; 8]]) -> usize {
+    frames
+        .iter()
+        .filter(|frame| frame[0] == FUNCTIONAL && 1 <= frame[1] && frame[1] <= 6)
+        .count()
+}
+
+// A receiver gives what the plain reading does, over 100,000 lists of frames.
+fn reads_lists(rt: &impl Abort, alloc: Global, all: bool) -> Result<(), AllocError> {
     let mut sequence = Sequence { state: 1 };
     let mut begun: usize = 0;
     let mut whole: usize = 0;
+    let mut to_all: usize = 0;
     for list in 0..100_000u32 {
-        let frames = list_of_frames(rt.alloc(), &mut sequence, list % 2 == 1)?;
-        let heard = heard_messages(rt.alloc(), frames.as_slice())?;
-        let read = read_messages(rt.alloc(), frames.as_slice())?;
+        let frames = list_of_frames(alloc, &mut sequence, all, list % 2 == 1)?;
+        let heard = heard_messages(alloc, all, frames.as_slice())?;
+        let read = read_messages(alloc, all, frames.as_slice())?;
         assert!(rt; heard == read, "list {list}");
         begun = begun.saturating_add(begun_messages(frames.as_slice()));
         whole = whole.saturating_add(read.iter().filter(|message| message.1.len() > 6).count());
+        to_all = to_all.saturating_add(single_to_all(frames.as_slice()));
     }
     assert!(rt; whole > 500);
     assert!(rt; begun.saturating_sub(whole) > 500);
+    assert!(rt; !all || to_all > 500);
+    Ok(())
+}
+
+#[test]
+fn lists_of_frames(rt: HostRuntime) -> Result<(), Fail> {
+    reads_lists(&rt, rt.alloc(), false)?;
+    Ok(())
+}
+
+#[test]
+fn lists_of_frames_also_to_all(rt: HostRuntime) -> Result<(), Fail> {
+    reads_lists(&rt, rt.alloc(), true)?;
     Ok(())
 }
