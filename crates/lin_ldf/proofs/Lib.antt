@@ -15,6 +15,8 @@ pub mod AnyName
 pub mod SeveralSteps
 pub mod GatherSteps
 pub mod Capped
+pub mod Commas
+pub mod Extras
 pub mod Ending
 pub mod Described
 pub mod Stops

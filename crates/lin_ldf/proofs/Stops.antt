@@ -4,12 +4,12 @@ use Rattle.std.proofs.lemmas.List.{reverse-append}
 use Rattle.lin_ldf.specs.Symbols.{Symbol, is_kind}
 use Rattle.lin_ldf.specs.Stream.{stop}
 use Rattle.lin_ldf.specs.Forms.{Form, never, as_value, ◌&>◌, ◌<&◌, ◌&=◌}
-use Rattle.lin_ldf.specs.Loops.{Steps, is_next}
-use Rattle.lin_ldf.specs.Words.{block, group, once, close_brace, consed_of}
+use Rattle.lin_ldf.specs.Loops.{Steps}
+use Rattle.lin_ldf.specs.Words.{block, no_word, group, once, close_brace, consed_of}
 use Rattle.lin_ldf.specs.Laws.{Behind, Lawful, Taking, mark_takes, keyword_takes, value_lawful, then_lawful, left_lawful}
 use Rattle.lin_ldf.specs.LoopLaws.{several_lawful}
 use Rattle.lin_ldf.specs.UpToLaws.{up_to_lawful}
-use Rattle.lin_ldf.specs.Grammar.{signal, with_signal, frame, with_frame, sporadic_frame, with_sporadic, event_frame, with_event, attribute_block, with_block, table, with_table, with_signals, with_frames, with_sporadics, with_events, with_attributes, with_tables, section_of, front_section, section, is_end, slaves, nodes, nodes_of, node_names, no_sections}
+use Rattle.lin_ldf.specs.Grammar.{signal, with_signal, frame, with_frame, sporadic_frame, with_sporadic, event_frame, with_event, attribute_block, with_block, table, with_table, with_signals, with_frames, with_sporadics, with_events, with_attributes, with_tables, section_of, front_section, section, slaves, nodes, nodes_of, node_names, no_sections}
 use Rattle.lin_ldf.specs.GrammarLaws.{word_takes, declared_takes, other_declared_lawful, header_takes, master_takes, signal_takes, frame_takes, sporadic_frame_takes, event_frame_takes, attribute_block_takes, table_takes}
 use Rattle.lin_ldf.specs.Describes.{Spells}
 use Rattle.lin_ldf.specs.declared.token.TokenKind.TheVariants as kinds
@@ -53,7 +53,7 @@ closes_once None q = q
 closes_once (Some x) q = never_closes
 
 block_closes : {A S : Type 0} (next : S → A → S) (f : S → Form A) → ((s : S) → Taking (f s)) → (s : S) → Closes (block next f s)
-block_closes next f p s = closes_right (mark_takes kinds.OpenBrace).lawful (closes_left (several_lawful (is_next kinds.CloseBrace) next f p s))
+block_closes next f p s = closes_right (mark_takes kinds.OpenBrace).lawful (closes_left (several_lawful no_word next f p s))
 
 group_closes : Closes group
 group_closes = closes_right (mark_takes kinds.OpenBrace).lawful (closes_left (up_to_lawful kinds.CloseBrace))
@@ -66,16 +66,16 @@ nodes_close : Closes nodes
 nodes_close = closes_value nodes_of (closes_then master_takes.lawful (λ m. slaves_close m.0))
 
 section_closes : (s : Sections) (w : SectionWord) → Closes (section_of w s)
-section_closes s words_of.Signals = closes_once s.signals (closes_value (with_signals s) (closes_right (keyword_takes _).lawful (block_closes with_signal signal signal_takes [])))
-section_closes s words_of.Frames = closes_once s.frames (closes_value (with_frames s) (closes_right (keyword_takes _).lawful (block_closes with_frame frame frame_takes s.frame_names)))
-section_closes s words_of.Sporadic = closes_once s.sporadic (closes_value (with_sporadics s) (closes_right (keyword_takes _).lawful (block_closes with_sporadic sporadic_frame sporadic_frame_takes s.frame_names)))
-section_closes s words_of.Event = closes_once s.events (closes_value (with_events s) (closes_right (keyword_takes _).lawful (block_closes with_event event_frame event_frame_takes s.frame_names)))
-section_closes s words_of.Attributes = closes_once s.attributes (closes_value (with_attributes s) (closes_right (keyword_takes _).lawful (block_closes with_block attribute_block attribute_block_takes s.blocks)))
-section_closes s words_of.Tables = closes_once s.tables (closes_value (with_tables s) (closes_right (keyword_takes _).lawful (block_closes with_table table table_takes [])))
+section_closes s words_of.Signals = closes_value (with_signals s) (closes_once s.signals (closes_right (keyword_takes _).lawful (block_closes with_signal signal signal_takes [])))
+section_closes s words_of.Frames = closes_value (with_frames s) (closes_once s.frames (closes_right (keyword_takes _).lawful (block_closes with_frame frame frame_takes s.frame_names)))
+section_closes s words_of.Sporadic = closes_value (with_sporadics s) (closes_once s.sporadic (closes_right (keyword_takes _).lawful (block_closes with_sporadic sporadic_frame sporadic_frame_takes s.frame_names)))
+section_closes s words_of.Event = closes_value (with_events s) (closes_once s.events (closes_right (keyword_takes _).lawful (block_closes with_event event_frame event_frame_takes s.frame_names)))
+section_closes s words_of.Attributes = closes_value (with_attributes s) (closes_once s.attributes (closes_right (keyword_takes _).lawful (block_closes with_block attribute_block attribute_block_takes s.blocks)))
+section_closes s words_of.Tables = closes_value (with_tables s) (closes_once s.tables (closes_right (keyword_takes _).lawful (block_closes with_table table table_takes [])))
 section_closes s words_of.Nodes = never_closes
 section_closes s words_of.Unused = closes_value (λ u. s) (closes_right word_takes.lawful group_closes)
 
-steps_close : (n : ℕ) (whole : List Symbol) (s : Sections) (ts : List Symbol) (last : Sections) (rest : List Symbol) → Closed whole ts → Steps is_end (λ x. (section x).spells) n s ts last rest → Closed whole rest
+steps_close : (n : ℕ) (whole : List Symbol) (s : Sections) (ts : List Symbol) (last : Sections) (rest : List Symbol) → Closed whole ts → Steps no_word (λ x. (section x).spells) n s ts last rest → Closed whole rest
 steps_close zero whole s ts last rest c h = subst (Closed whole) (sym h.2) c
 steps_close (suc n) whole s ts last rest c h =
     steps_close n whole h.1 h.2 last rest (after whole ts h.2 (as_behind whole ts c) ((section_closes s (front_section ts)).closed ts h.1 h.2 h.3)) h.4
@@ -85,7 +85,8 @@ unfolding Spells
 file_closes ss d h =
     let first = h.1.1 in
     let begun : Closed ss h.1.0 = after ss first.0 h.1.0 (header_takes.lawful.behind ss h.0.0.0 first.0 first.1) (nodes_close.closed first.0 h.0.0.1 h.1.0 first.2) in
-    steps_close h.1.2.0 ss (no_sections (node_names h.0.0.1)) h.1.0 h.0.1 [] begun h.1.2.1
+    let sections = h.1.2 in
+    subst (Closed ss) sections.3.0 (steps_close sections.2.0 ss (no_sections (node_names h.0.0.1)) h.1.0 h.0.1 sections.0 begun sections.2.1)
 
 same_last : (xs ys : List Symbol) (s t : Symbol) → xs ++ s ∷ [] ≡ ys ++ t ∷ [] → s ≡ t
 same_last xs ys s t e =

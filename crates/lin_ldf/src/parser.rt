@@ -6,12 +6,12 @@ ghost use Rattle.std.specs.List.{list_any};
 ghost use Rattle.lin_ldf.specs.Symbols.{is_kind, symbol};
 ghost use Rattle.lin_ldf.specs.Stream.{symbols_at, Fronts};
 ghost use Rattle.lin_ldf.specs.Advance.{first_place};
-ghost use Rattle.lin_ldf.specs.Forms.{Gives, mark, keyword, token};
+ghost use Rattle.lin_ldf.specs.Forms.{Gives, mark, keyword, end};
 ghost use Rattle.lin_ldf.specs.Loops.{is_next, tail};
 ghost use Rattle.lin_ldf.specs.UpTo.{front_kind};
 ghost use Rattle.lin_ldf.specs.Words.{word, opening, declared, int, dec, is_word_next};
 ghost use Rattle.lin_ldf.specs.declared.token.TokenKind.TheVariants as kinds;
-ghost use Rattle.lin_ldf.specs.Grammar.{header_words, is_extra_word, no_extra, extra_word, without_quotes, protocol_of, protocol_text, with_node, front_section, is_end};
+ghost use Rattle.lin_ldf.specs.Grammar.{header_words, is_extra_word, is_extra_next, without_quotes, protocol_of, protocol_text, with_node, front_section};
 
 use crate::fault::LdfFault;
 use crate::lexeme::Lexeme;
@@ -356,13 +356,13 @@ impl<'a> Parser<'a> {
         }
     }
 
-    /// Whether no token is left.
-    pub fn is_at_end(&self) -> bool
-        ensures { result ≡ is_end self.now }
+    /// No token is left.
+    pub fn end(&self) -> Result<(), LdfFault>
+        ensures { Gives result self.now (end.read self.now) }
     {
         match self.front() {
-            None => true,
-            Some(_) => false,
+            None => Ok(()),
+            Some(t) => Err(LdfFault::unexpected(t.place())),
         }
     }
 
@@ -376,26 +376,13 @@ impl<'a> Parser<'a> {
         }
     }
 
-    /// Whether the next token can't begin an extra line of the header.
-    pub fn is_past_extras(&self) -> bool
-        ensures { result ≡ no_extra self.now }
+    /// Whether the next token begins an extra line of the header.
+    pub fn is_at_extra(&self) -> bool
+        ensures { result ≡ is_extra_next self.now }
     {
         match self.front() {
-            Some(t) => !is_extra_word(&t),
-            None => true,
-        }
-    }
-
-    /// The word that begins an extra line of the header.
-    pub fn extra_word(&mut self) -> Result<(), LdfFault>
-        ensures { Gives result self.new (extra_word.read self.old) }
-    {
-        match self.front() {
-            Some(t) if is_extra_word(&t) => {
-                self.skip();
-                Ok(())
-            }
-            _ => Err(LdfFault::unexpected(self.place())),
+            Some(t) => is_extra_word(&t),
+            None => false,
         }
     }
 }
