@@ -3,3 +3,4 @@ pub mod Slots
 pub mod Puttings
 pub mod Rows
 pub mod Lines
+pub mod Groups

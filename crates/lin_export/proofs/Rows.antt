@@ -39,7 +39,7 @@ pub shows : (o : Option Slot) (t : Slot) → Some t ≡ option_map shown o → S
 shows None t e = absurd (cc)
 shows (Some s) t e = record { slot = s; is_open = refl; same = some-same t (shown s) e }
 
-carried-shown : (c : Parts) (entry : Entry) (s : Slot) → carried_by c entry (shown s) ≡ carried_by c entry s
+pub carried-shown : (c : Parts) (entry : Entry) (s : Slot) → carried_by c entry (shown s) ≡ carried_by c entry s
 carried-shown c (entries.Frame f) s = refl
 carried-shown c (entries.Sporadic k) s = refl
 carried-shown c (entries.Event e) s = refl

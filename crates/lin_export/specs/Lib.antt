@@ -9,3 +9,5 @@ pub mod Csv
 pub mod Cells
 pub mod Named
 pub mod NamedWords
+pub mod Vcd
+pub mod PutsGroups

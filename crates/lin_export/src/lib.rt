@@ -7,6 +7,7 @@
 #![tactic(auto)]
 
 mod carried;
+mod changes;
 mod csv;
 mod fault;
 mod format;
@@ -16,9 +17,12 @@ mod naming;
 mod pcap;
 mod slot;
 mod track;
+mod variables;
+mod vcd;
 mod words;
 
 pub use csv::write_csv;
 pub use fault::ExportFault;
 pub use named::write_named;
 pub use pcap::write_pcap;
+pub use vcd::write_vcd;

@@ -2,7 +2,7 @@
 
 use crate::runs::{expect_bytes, run};
 use crate::samples;
-use lin_export::{write_csv, write_named, write_pcap};
+use lin_export::{write_csv, write_named, write_pcap, write_vcd};
 use std::alloc::Global;
 use std::process::Abort;
 use std::test::Fail;
@@ -15,6 +15,7 @@ struct Sample<'a> {
     named: &'a [u8],
     csv: &'a [u8],
     pcap: &'a [u8],
+    vcd: &'a [u8],
 }
 
 fn expect_formats(rt: &impl Abort, alloc: Global, sample: &Sample<'_>) -> Result<(), Fail> {
@@ -28,6 +29,9 @@ fn expect_formats(rt: &impl Abort, alloc: Global, sample: &Sample<'_>) -> Result
     let mut pcap = Vec::new(alloc);
     write_pcap(alloc, core.cluster(), core.log(), &mut pcap)?;
     expect_bytes(rt, &pcap, sample.pcap, "pcap");
+    let mut vcd = Vec::new(alloc);
+    write_vcd(alloc, core.cluster(), core.log(), &mut vcd)?;
+    expect_bytes(rt, &vcd, sample.vcd, "vcd");
     Ok(())
 }
 
@@ -39,6 +43,7 @@ fn first(rt: HostRuntime) -> Result<(), Fail> {
         named: samples::FIRST_NAMED,
         csv: samples::FIRST_CSV,
         pcap: samples::FIRST_PCAP,
+        vcd: samples::FIRST_VCD,
     };
     expect_formats(&rt, rt.alloc(), &sample)
 }
@@ -51,6 +56,7 @@ fn wake(rt: HostRuntime) -> Result<(), Fail> {
         named: samples::WAKE_NAMED,
         csv: samples::WAKE_CSV,
         pcap: samples::WAKE_PCAP,
+        vcd: samples::WAKE_VCD,
     };
     expect_formats(&rt, rt.alloc(), &sample)
 }
@@ -63,6 +69,7 @@ fn keys(rt: HostRuntime) -> Result<(), Fail> {
         named: samples::KEYS_NAMED,
         csv: samples::KEYS_CSV,
         pcap: samples::KEYS_PCAP,
+        vcd: samples::KEYS_VCD,
     };
     expect_formats(&rt, rt.alloc(), &sample)
 }
@@ -75,6 +82,7 @@ fn window(rt: HostRuntime) -> Result<(), Fail> {
         named: samples::WINDOW_NAMED,
         csv: samples::WINDOW_CSV,
         pcap: samples::WINDOW_PCAP,
+        vcd: samples::WINDOW_VCD,
     };
     expect_formats(&rt, rt.alloc(), &sample)
 }
@@ -87,6 +95,7 @@ fn task_c(rt: HostRuntime) -> Result<(), Fail> {
         named: samples::TASK_C_NAMED,
         csv: samples::TASK_C_CSV,
         pcap: samples::TASK_C_PCAP,
+        vcd: samples::TASK_C_VCD,
     };
     expect_formats(&rt, rt.alloc(), &sample)
 }

@@ -1,0 +1,8 @@
+use Rattle.std.proofs.Common.{sym}
+use Rattle.lin_text.proofs.Growing.{grows-more, same-growth}
+use Rattle.lin_export.specs.Vcd.{written_variable}
+use Rattle.lin_export.proofs.Groups.{numbers-more}
+use Rattle.lin_export.proofs.variables.put_written_variables.Goals as goal
+
+pub loop-signal-preserved : goal.loop-signal-preserved
+loop-signal-preserved g c = same-growth (sym (numbers-more (written_variable c.args.cluster.now) c.loop-signal.signal)) (grows-more c.loop-signal.invariant c.put_written_variable.ensures)

@@ -1,0 +1,240 @@
+-- A log as changes of values over time (IEEE 1364-2005, section 18, value change dump).
+use Rattle.std.specs.Prelude.{ℕ, zero, suc, ◌+◌, ◌-◌, ◌*◌, ◌/◌, ◌%◌, ◌^◌, ◌==◌, nat_lt, if◌then◌else◌, List, [], ◌∷◌, ◌++◌, length, flat_map, codes, take, zip, reverse, Option}
+use Rattle.std.specs.Fmt.{decimal}
+use Rattle.lin_frame.specs.Bits.{unpacked}
+use Rattle.lin_frame.specs.Words.{choose, numbers}
+use Rattle.lin_frame.specs.declared.layout.Place.{Place}
+use Rattle.lin_frame.specs.declared.value.Value.{Value}
+use Rattle.lin_frame.specs.declared.value.Value.TheVariants.{Scalar, Bytes}
+use Rattle.lin_parts.specs.Cluster.{frame_of, node_of, nodes, signal_of}
+use Rattle.lin_parts.specs.declared.parts.Parts.{Parts}
+use Rattle.lin_core.specs.History.{Slot, done, events, good, open_slot, seen, time}
+use Rattle.lin_core.specs.Signals.{carried}
+use Rattle.lin_core.specs.declared.event.Event.{Event}
+use Rattle.lin_core.specs.declared.event.Event.TheVariants.{Accepted, Sent, Lost, Asleep}
+use Rattle.lin_core.specs.declared.event.Seen.{Seen}
+use Rattle.lin_core.specs.declared.event.Seen.TheVariants.{Silent, NoAnswer, Good, Damaged, Collided}
+use Rattle.lin_core.specs.declared.log.LogEntry.{LogEntry}
+use Rattle.lin_core.specs.declared.step.Step.{Step}
+use Rattle.lin_core.specs.declared.step.Step.TheVariants.{Write, Finish, Wake}
+use Rattle.lin_export.specs.Telling.{each_entry}
+use Rattle.lin_export.specs.Track.{slots_in}
+
+-- the low bits of a number as digits, the highest first
+abbrev pub binary : ℕ → ℕ → List ℕ
+binary zero n = []
+binary (suc k) n = (48 + n / 2 ^ k % 2) ∷ binary k n
+
+-- a value of so many bits; the first byte of an array stands highest
+abbrev pub digits : ℕ → Value → List ℕ
+digits size (Scalar n) = binary size n
+digits size (Bytes bytes) = flat_map (binary 8) bytes
+
+-- the code of a variable by its number: one or two printable characters
+abbrev pub code : ℕ → List ℕ
+code k = if nat_lt k 94 then (33 + k) ∷ [] else (33 + k % 94) ∷ (32 + k / 94) ∷ []
+
+-- the numbers of variables: first the six of the bus, then the signals as they are heard, as they are written, and the hosts
+abbrev pub heard_number : ℕ → ℕ
+heard_number s = 6 + s
+
+abbrev pub written_number : Parts → ℕ → ℕ
+written_number c s = 6 + length c.signals + s
+
+abbrev pub waiting_number : Parts → ℕ → ℕ
+waiting_number c h = 6 + 2 * length c.signals + h
+
+-- a variable takes a value of so many bits, or one that isn't known
+abbrev pub before_code : ℕ → List ℕ → List ℕ
+before_code width value = if width == 1 then value else 98 ∷ (value ++ 32 ∷ [])
+
+abbrev pub change : ℕ → ℕ → List ℕ → List ℕ
+change width k value = before_code width value ++ (code k ++ 10 ∷ [])
+
+abbrev pub unknown : ℕ → List ℕ
+unknown k = codes "bx " ++ (code k ++ 10 ∷ [])
+
+abbrev pub number_change : ℕ → ℕ → ℕ → List ℕ
+number_change width k n = change width k (binary width n)
+
+abbrev pub heard_change : Parts → ℕ → Value → List ℕ
+heard_change c s v = change (signal_of c s).size (heard_number s) (digits (signal_of c s).size v)
+
+abbrev pub written_change : Parts → ℕ → Value → List ℕ
+written_change c s v = change (signal_of c s).size (written_number c s) (digits (signal_of c s).size v)
+
+abbrev pub waiting_change : Parts → ℕ → ℕ → List ℕ
+waiting_change c h n = number_change 11 (waiting_number c h) n
+
+-- the declaration of a variable, and of a scope of them
+abbrev pub text_line : List ℕ → List ℕ
+text_line text = text ++ 10 ∷ []
+
+abbrev pub opening : ℕ → ℕ → List ℕ
+opening width k = codes "$var wire " ++ (decimal width ++ 32 ∷ (code k ++ 32 ∷ []))
+
+abbrev pub declared : ℕ → ℕ → List ℕ → List ℕ
+declared width k name = opening width k ++ (name ++ text_line (codes " $end"))
+
+abbrev pub scope : List ℕ → List ℕ → List ℕ
+scope name variables = text_line (codes "$scope module " ++ name ++ codes " $end") ++ (variables ++ text_line (codes "$upscope $end"))
+
+abbrev pub bus_variables : List ℕ
+bus_variables =
+    declared 32 0 (codes "slot")
+    ++ (declared 16 1 (codes "table")
+    ++ (declared 16 2 (codes "entry")
+    ++ (declared 8 3 (codes "header")
+    ++ (declared 4 4 (codes "seen")
+    ++ declared 1 5 (codes "asleep")))))
+
+abbrev pub heard_variable : Parts → ℕ → List ℕ
+heard_variable c s = declared (signal_of c s).size (heard_number s) (signal_of c s).name
+
+abbrev pub written_variable : Parts → ℕ → List ℕ
+written_variable c s = declared (signal_of c s).size (written_number c s) ((signal_of c s).name ++ 64 ∷ (node_of c (signal_of c s).publisher).name)
+
+abbrev pub waiting_variable : Parts → ℕ → List ℕ
+waiting_variable c h = declared 11 (waiting_number c h) (codes "waiting@" ++ (node_of c h).name)
+
+abbrev pub declarations : Parts → List ℕ
+declarations c =
+    text_line (codes "$timescale 1 us $end")
+    ++ (scope (codes "bus") bus_variables
+    ++ (scope (codes "heard") (flat_map (heard_variable c) (numbers (length c.signals)))
+    ++ (scope (codes "written") (flat_map (written_variable c) (numbers (length c.signals)))
+    ++ (scope (codes "waiting") (flat_map (waiting_variable c) (numbers (nodes c)))
+    ++ text_line (codes "$enddefinitions $end")))))
+
+-- the first value of each variable: the bus has shown nothing and is awake, signals have their initial values, and no message waits
+abbrev pub first_heard : Parts → ℕ → List ℕ
+first_heard c s = heard_change c s (signal_of c s).initial
+
+abbrev pub first_written : Parts → ℕ → List ℕ
+first_written c s = written_change c s (signal_of c s).initial
+
+abbrev pub first_waiting : Parts → ℕ → List ℕ
+first_waiting c h = waiting_change c h 0
+
+abbrev pub first_values : Parts → List ℕ
+first_values c =
+    text_line (codes "#0")
+    ++ (text_line (codes "$dumpvars")
+    ++ (flat_map unknown (numbers 5)
+    ++ (number_change 1 5 0
+    ++ (flat_map (first_heard c) (numbers (length c.signals))
+    ++ (flat_map (first_written c) (numbers (length c.signals))
+    ++ (flat_map (first_waiting c) (numbers (nodes c))
+    ++ text_line (codes "$end")))))))
+
+abbrev pub head : Parts → List ℕ
+head c = declarations c ++ first_values c
+
+-- how many messages of a host wait, as the events say: at most 2,047
+abbrev pub one_more : ℕ → ℕ
+one_more n = if nat_lt n 2047 then n + 1 else n
+
+abbrev pub counted : ℕ → Event → ℕ → ℕ
+counted h (Accepted host number) n = if host == h then one_more n else n
+counted h (Sent host number) n = if host == h then n - 1 else n
+counted h (Lost host number why) n = if host == h then n - 1 else n
+counted h event n = n
+
+abbrev pub counted_all : ℕ → List Event → ℕ → ℕ
+counted_all h [] n = n
+counted_all h (e ∷ es) n = counted_all h es (counted h e n)
+
+abbrev pub waits : List LogEntry → ℕ → ℕ
+waits [] h = 0
+waits (e ∷ past) h = counted_all h (events e) (waits past h)
+
+-- changes at a time in microseconds
+pub record Group : Type 0 where
+  pub at : ℕ
+  pub changes : List ℕ
+
+-- a time stands before the changes at it where it is later than the last one
+abbrev pub stamp : ℕ → ℕ → List ℕ
+stamp last at = if nat_lt last at then 35 ∷ (decimal at ++ 10 ∷ []) else []
+
+abbrev pub later : ℕ → ℕ → ℕ
+later last at = if nat_lt last at then at else last
+
+abbrev pub timed : ℕ → List Group → List ℕ
+timed last [] = []
+timed last (g ∷ gs) = stamp last g.at ++ (g.changes ++ timed (later last g.at) gs)
+
+abbrev pub latest : ℕ → List Group → ℕ
+latest last [] = last
+latest last (g ∷ gs) = latest (later last g.at) gs
+
+abbrev pub seen_number : Seen → ℕ
+seen_number Silent = 0
+seen_number NoAnswer = 1
+seen_number (Good answer) = 2
+seen_number Damaged = 3
+seen_number Collided = 4
+
+abbrev pub header_change : Option ℕ → List ℕ
+header_change header = choose header (unknown 3) (number_change 8 3)
+
+-- a finished slot by its number: what the bus shows from its start
+abbrev pub slot_changes : ℕ → Slot → List ℕ
+slot_changes number s =
+    number_change 32 0 number
+    ++ (number_change 16 1 s.table
+    ++ (number_change 16 2 s.entry
+    ++ (header_change s.header
+    ++ number_change 4 4 (seen_number (seen s)))))
+
+-- the signals of a frame that was seen good, in the order of its places
+abbrev pub place_change : Parts → List ℕ → ℕ × Place → List ℕ
+place_change c answer p = heard_change c p.0 (unpacked p.1 (take 8 answer))
+
+abbrev pub frame_changes : Parts → ℕ → List ℕ → List ℕ
+frame_changes c f answer = flat_map (place_change c answer) (zip (frame_of c f).signals (frame_of c f).layout.places)
+
+abbrev pub heard_group : Parts → ℕ → Slot → List Group
+heard_group c end s =
+    choose (good s) [] (λ answer. choose (carried c s) [] (λ f. record { at = end; changes = frame_changes c f answer } ∷ []))
+
+abbrev pub slot_groups : Parts → ℕ → ℕ → ℕ → Slot → List Group
+slot_groups c number at end s = record { at = at; changes = slot_changes number s } ∷ heard_group c end s
+
+-- what a step that was done changes by itself: a write of a signal, a slot at its start and what is heard at its end, a wake
+abbrev pub step_groups : Parts → List LogEntry → ℕ → Step → List Group
+step_groups c past end (Write by signal value) =
+    if nat_lt signal (length c.signals) then record { at = time c past; changes = written_change c signal value } ∷ [] else []
+step_groups c past end Finish = choose (open_slot past) [] (slot_groups c (slots_in past) (time c past) end)
+step_groups c past end Wake = record { at = time c past; changes = number_change 1 5 0 } ∷ []
+step_groups c past end step = []
+
+abbrev pub count_group : Parts → ℕ → (ℕ → ℕ) → ℕ → List Group
+count_group c at count host = record { at = at; changes = waiting_change c host (count host) } ∷ []
+
+-- and what its events change, where so many messages of each host wait then
+abbrev pub event_group : Parts → ℕ → (ℕ → ℕ) → Event → List Group
+event_group c at count (Accepted host number) = count_group c at count host
+event_group c at count (Sent host number) = count_group c at count host
+event_group c at count (Lost host number why) = count_group c at count host
+event_group c at count Asleep = record { at = at; changes = number_change 1 5 1 } ∷ []
+event_group c at count event = []
+
+abbrev pub groups : Parts → LogEntry → List LogEntry → List Group
+groups c e past =
+    choose (done e) [] (step_groups c past (time c (e ∷ past))) ++ flat_map (event_group c (time c (e ∷ past)) (waits (e ∷ past))) (events e)
+
+-- the last time that stands in the text
+abbrev pub shown_at : Parts → List LogEntry → ℕ
+shown_at c [] = 0
+shown_at c (e ∷ past) = latest (shown_at c past) (groups c e past)
+
+abbrev pub entry_changes : Parts → LogEntry → List LogEntry → List ℕ
+entry_changes c e past = timed (shown_at c past) (groups c e past)
+
+-- the changes of a log, the oldest entry first, and the time of its end
+abbrev pub last_time : Parts → List LogEntry → List ℕ
+last_time c past = stamp (shown_at c past) (time c past)
+
+abbrev pub vcd : Parts → List LogEntry → List ℕ
+vcd c log = head c ++ (each_entry (entry_changes c) [] log ++ last_time c (reverse log))

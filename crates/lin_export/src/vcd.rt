@@ -1,0 +1,347 @@
+//! Logs as changes of values over time (IEEE 1364-2005, section 18, value change dump).
+
+ghost use Rattle.std.specs.Prelude.{◌≡◌, ◌<◌, ◌-◌, ◌==◌, if◌then◌else◌, ⊤, ℕ, List, length, flat_map, slice_index};
+ghost use Rattle.lin_core.specs.declared.log.LogEntry.{LogEntry};
+ghost use Rattle.lin_text.specs.Written.{Grows, WritesText};
+ghost use Rattle.lin_export.specs.Look.{looks};
+ghost use Rattle.lin_export.specs.Open.{slot_in};
+ghost use Rattle.lin_export.specs.PutsGroups.{AreCounts, KeepsChanges, PutsGroups};
+ghost use Rattle.lin_export.specs.Track.{track_of};
+ghost use Rattle.lin_export.specs.Vcd.{counted, counted_all, count_group, entry_changes, event_group, frame_changes, head, header_change, heard_group, last_time, later, one_more, seen_number, slot_changes, slot_groups, stamp, step_groups, vcd};
+
+use crate::changes::{put_heard, put_number, put_unknown, put_waiting, put_written};
+use crate::fault::ExportFault;
+use crate::format::{Format, write_as};
+use crate::hearing::first_eight;
+use crate::slot::{Look, OpenSlot};
+use crate::track::Track;
+use crate::variables::put_head;
+use lin_core::{Event, Log, LogEntry, Reply, Step};
+use lin_frame::unpack;
+use lin_parts::Cluster;
+use lin_text::TextWriter;
+use std::alloc::Global;
+use std::io::Write;
+
+/// How many hosts a number may name.
+const HOSTS: usize = 256;
+
+/// Puts a time, where it is later than the last one.
+fn put_time<W: Write>(out: &mut TextWriter<'_, W>, last: u64, at: u64)
+    ensures { Grows W.contents out.old out.new (stamp last at) }
+{
+    if last < at {
+        out.put_byte(b'#');
+        out.put_number(at);
+        out.put_byte(b'\n');
+    }
+}
+
+/// Puts the time of changes, where it is later than the last one, which it then is.
+fn put_stamp<W: Write>(out: &mut TextWriter<'_, W>, last: &mut u64, at: u64)
+    ensures text { Grows W.contents out.old out.new (stamp last.old at) }
+    ensures shown { last.new ≡ later last.old at }
+{
+    put_time(out, *last, at);
+    if *last < at {
+        *last = at;
+    }
+}
+
+fn seen_number(look: Look<'_>) -> u64
+    ensures { result ≡ seen_number (looks look.entry) }
+{
+    match look {
+        Look::Silent => 0,
+        Look::NoAnswer => 1,
+        Look::Good(_) => 2,
+        Look::Damaged => 3,
+        Look::Collided => 4,
+    }
+}
+
+fn put_header<W: Write>(out: &mut TextWriter<'_, W>, header: Option<u8>)
+    ensures { Grows W.contents out.old out.new (header_change header) }
+{
+    match header {
+        Some(pid) => put_number(out, 8, 3, u64::from(pid)),
+        None => put_unknown(out, 3),
+    }
+}
+
+/// What the bus shows of a slot.
+fn put_slot<W: Write>(out: &mut TextWriter<'_, W>, number: u64, slot: &OpenSlot)
+    ensures { Grows W.contents out.old out.new (slot_changes number (slot_in slot.now)) }
+{
+    put_number(out, 32, 0, number);
+    put_number(out, 16, 1, u64::from(slot.table()));
+    put_number(out, 16, 2, u64::from(slot.entry()));
+    put_header(out, slot.header());
+    put_number(out, 4, 4, seen_number(slot.look()));
+}
+
+/// The signals of a frame, with their values in data bytes.
+fn put_frame<W: Write>(out: &mut TextWriter<'_, W>, cluster: &Cluster, frame: u16, answer: &[u8])
+    requires { frame < length cluster.now.frames }
+    ensures { Grows W.contents out.old out.new (frame_changes cluster.now frame answer.now) }
+{
+    cluster.sound();
+    let data = first_eight(answer);
+    let layout = cluster.layout(frame);
+    let signals = cluster.frame_signals(frame);
+    for place in 0..signals.len() {
+        let value = unpack(layout, &data, place);
+        put_heard(out, cluster, signals[place], &value);
+    }
+}
+
+/// What the nodes hear at the end of a slot.
+fn put_heard_frame<W: Write>(
+    out: &mut TextWriter<'_, W>,
+    last: &mut u64,
+    cluster: &Cluster,
+    end: u64,
+    slot: &OpenSlot,
+)
+    ensures { PutsGroups W.contents out.old out.new last.old last.new (heard_group cluster.now end (slot_in slot.now)) }
+{
+    let Look::Good(answer) = slot.look() else {
+        return;
+    };
+    let Some(frame) = slot.carried(cluster) else {
+        return;
+    };
+    put_stamp(out, last, end);
+    put_frame(out, cluster, frame, answer.as_slice());
+}
+
+/// A slot that ends.
+fn put_finish<W: Write>(
+    out: &mut TextWriter<'_, W>,
+    last: &mut u64,
+    cluster: &Cluster,
+    track: &Track,
+    end: u64,
+    slot: &OpenSlot,
+)
+    ensures { PutsGroups W.contents out.old out.new last.old last.new (slot_groups cluster.now track.now.slots track.now.time end (slot_in slot.now)) }
+{
+    put_stamp(out, last, track.time());
+    put_slot(out, track.slots(), slot);
+    put_heard_frame(out, last, cluster, end, slot);
+}
+
+/// What a step that was done changes by itself.
+fn put_step<W: Write>(
+    out: &mut TextWriter<'_, W>,
+    last: &mut u64,
+    cluster: &Cluster,
+    track: &Track,
+    end: u64,
+    step: &Step,
+)
+    ensures { (past : List LogEntry) → track.now ≡ track_of cluster.now past → PutsGroups W.contents out.old out.new last.old last.new (step_groups cluster.now past end step.now) }
+{
+    match step {
+        Step::Write {
+            by: _,
+            signal,
+            value,
+        } => {
+            if (*signal as usize) < cluster.signals() {
+                put_stamp(out, last, track.time());
+                put_written(out, cluster, *signal, value);
+            }
+        }
+        Step::Finish => {
+            if let Some(slot) = track.slot() {
+                put_finish(out, last, cluster, track, end, slot);
+            }
+        }
+        Step::Wake => {
+            put_stamp(out, last, track.time());
+            put_number(out, 1, 5, 0);
+        }
+        _ => {}
+    }
+}
+
+/// No message of any host waits.
+fn no_counts() -> [u16; HOSTS]
+    ensures { AreCounts (λ h. 0) result }
+{
+    [0; HOSTS]
+}
+
+/// One message more of a host waits.
+fn count_more(counts: &mut [u16; HOSTS], host: u8)
+    ensures { (h : ℕ) → h < 256 → slice_index counts.new h ≡ (if host == h then one_more (slice_index counts.old h) else slice_index counts.old h) }
+{
+    let count = counts[usize::from(host)];
+    if count < 2047 {
+        counts[usize::from(host)] = count + 1;
+    }
+}
+
+/// One message of a host waits no more.
+fn count_less(counts: &mut [u16; HOSTS], host: u8)
+    ensures { (h : ℕ) → h < 256 → slice_index counts.new h ≡ (if host == h then slice_index counts.old h - 1 else slice_index counts.old h) }
+{
+    let count = counts[usize::from(host)];
+    counts[usize::from(host)] = count.saturating_sub(1);
+}
+
+fn count(counts: &mut [u16; HOSTS], event: &Event)
+    ensures { (h : ℕ) → h < 256 → slice_index counts.new h ≡ counted h event.now (slice_index counts.old h) }
+{
+    match event {
+        Event::Accepted { host, number: _ } => count_more(counts, *host),
+        Event::Sent { host, number: _ } => count_less(counts, *host),
+        Event::Lost {
+            host,
+            number: _,
+            cause: _,
+        } => count_less(counts, *host),
+        _ => {}
+    }
+}
+
+/// How many messages of each host wait behind these events.
+fn count_all(counts: &mut [u16; HOSTS], events: &[Event])
+    ensures { (h : ℕ) → h < 256 → slice_index counts.new h ≡ counted_all h events.now (slice_index counts.old h) }
+{
+    for event in events {
+        count(counts, event);
+    }
+}
+
+fn put_count<W: Write>(
+    out: &mut TextWriter<'_, W>,
+    last: &mut u64,
+    cluster: &Cluster,
+    at: u64,
+    counts: &[u16; HOSTS],
+    host: u8,
+)
+    ensures { (count : ℕ → ℕ) → AreCounts count counts.now → PutsGroups W.contents out.old out.new last.old last.new (count_group cluster.now at count host) }
+{
+    put_stamp(out, last, at);
+    put_waiting(out, cluster, host, counts[usize::from(host)]);
+}
+
+/// What an event changes, where so many messages of each host wait.
+fn put_event<W: Write>(
+    out: &mut TextWriter<'_, W>,
+    last: &mut u64,
+    cluster: &Cluster,
+    at: u64,
+    counts: &[u16; HOSTS],
+    event: &Event,
+)
+    ensures { (count : ℕ → ℕ) → AreCounts count counts.now → PutsGroups W.contents out.old out.new last.old last.new (event_group cluster.now at count event.now) }
+{
+    match event {
+        Event::Accepted { host, number: _ } => put_count(out, last, cluster, at, counts, *host),
+        Event::Sent { host, number: _ } => put_count(out, last, cluster, at, counts, *host),
+        Event::Lost {
+            host,
+            number: _,
+            cause: _,
+        } => put_count(out, last, cluster, at, counts, *host),
+        Event::Asleep => {
+            put_stamp(out, last, at);
+            put_number(out, 1, 5, 1);
+        }
+        _ => {}
+    }
+}
+
+fn put_events<W: Write>(
+    out: &mut TextWriter<'_, W>,
+    last: &mut u64,
+    cluster: &Cluster,
+    at: u64,
+    counts: &[u16; HOSTS],
+    events: &[Event],
+)
+    ensures { (count : ℕ → ℕ) → AreCounts count counts.now → PutsGroups W.contents out.old out.new last.old last.new (flat_map (event_group cluster.now at count) events.now) }
+{
+    for event in events {
+        put_event(out, last, cluster, at, counts, event);
+    }
+}
+
+/// A dump of changes: the last time in it, and how many messages of each host wait.
+#[derive(Drop)]
+struct Dump {
+    last: u64,
+    counts: [u16; HOSTS],
+}
+
+impl Format for Dump {
+    ghost begins = { λ f c. head c };
+
+    ghost says = { λ f c. entry_changes c };
+
+    ghost ends = { λ f c. last_time c };
+
+    ghost fits = { λ f c. ⊤ };
+
+    ghost keeps = { λ f c past. KeepsChanges c past f.last f.counts };
+
+    fn put_head<W: Write>(&self, out: &mut TextWriter<'_, W>, cluster: &Cluster) {
+        put_head(out, cluster);
+    }
+
+    fn put_entry<W: Write>(
+        &mut self,
+        out: &mut TextWriter<'_, W>,
+        cluster: &Cluster,
+        track: &Track,
+        entry: &LogEntry,
+    ) {
+        let Reply::Done(events) = &entry.reply else {
+            return;
+        };
+        let end = track.time_behind(cluster, entry);
+        put_step(out, &mut self.last, cluster, track, end, &entry.step);
+        count_all(&mut self.counts, events.as_slice());
+        put_events(
+            out,
+            &mut self.last,
+            cluster,
+            end,
+            &self.counts,
+            events.as_slice(),
+        );
+    }
+
+    fn put_end<W: Write>(&self, out: &mut TextWriter<'_, W>, _cluster: &Cluster, track: &Track) {
+        put_time(out, self.last, track.time());
+    }
+}
+
+/// Writes the changes of a log over time, in microseconds: what the bus shows of each slot from its start, the values of signals as they are
+/// heard from the end of the slot, those that their publishers write, and how many messages of each host wait (IEEE 1364-2005, section 18,
+/// value change dump).
+///
+/// It goes through a buffer of fixed size, and takes memory for the responses of one slot. The writer isn't flushed.
+///
+/// # Errors
+/// What was written then is the beginning of the dump.
+/// - `OutOfMemory`;
+/// - `WriteFailed` at the first error of the writer, an interrupted write too, and at the first write of 0 bytes.
+pub fn write_vcd<W: Write>(
+    alloc: Global,
+    cluster: &Cluster,
+    log: &Log,
+    writer: &mut W,
+) -> Result<(), ExportFault>
+    ensures { WritesText (W.contents writer.old) (W.contents writer.new) result (vcd cluster.now log.now.entries) }
+{
+    let mut dump = Dump {
+        last: 0,
+        counts: no_counts(),
+    };
+    write_as(&mut dump, alloc, cluster, log, writer)
+}
