@@ -2,4 +2,4 @@ pub mod Numbers
 pub mod PackedBits
 pub mod PlacedBits
 pub mod PlacedValues
-pub mod ZerosBehind
+pub mod ZerosAfter

@@ -129,8 +129,8 @@ bytes_of_bits n w at l h =
     ∙ sym (fill_by_all (byte_of_bits at) (take n (to_le_bytes w64 w)) n 0 long item)
 
 -- where all bits from 8 n on are 1, the bytes from n on are 0xFF
-pub ones_behind : (n w : ℕ) → n ≤ 8 → ((b : ℕ) → 8 * n ≤ b → b < 64 → bit w b ≡ 1) → drop n (to_le_bytes w64 w) ≡ replicate (8 - n) 0xFF
-ones_behind n w l h =
+pub ones_after : (n w : ℕ) → n ≤ 8 → ((b : ℕ) → 8 * n ≤ b → b < 64 → bit w b ≡ 1) → drop n (to_le_bytes w64 w) ≡ replicate (8 - n) 0xFF
+ones_after n w l h =
     let whole : length (to_le_bytes w64 w) ≡ 8 = refl in
     let ones : List ℕ = replicate (8 - n) 255 in
     let filled : length ones ≡ 8 - n = length-replicate {A = ℕ} (8 - n) 255 in

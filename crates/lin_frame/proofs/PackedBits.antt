@@ -51,13 +51,13 @@ bit-byte_of_bits f b h =
     bit-number_of_bits 8 (λ j. f (8 * (b / 8) + j)) (b % 8) (λ j. h (8 * (b / 8) + j)) (mod_below b 8 (omega arith))
     ∙ ap f (div-add-mod b 8)
 
--- bit b of bytes that are made of bits, whatever stands behind them
-pub data_bit-bytes : (n : ℕ) (f : ℕ → ℕ) (behind : List ℕ) (b : ℕ) → ((j : ℕ) → f j < 2) → b < 8 * n → data_bit (map (byte_of_bits f) (numbers n) ++ behind) b ≡ f b
-data_bit-bytes n f behind b h l =
+-- bit b of bytes that are made of bits, whatever stands after them
+pub data_bit-bytes : (n : ℕ) (f : ℕ → ℕ) (after : List ℕ) (b : ℕ) → ((j : ℕ) → f j < 2) → b < 8 * n → data_bit (map (byte_of_bits f) (numbers n) ++ after) b ≡ f b
+data_bit-bytes n f after b h l =
     let long = length-map-range_with_len (byte_of_bits f) 0 n in
-    ap (λ ks. data_bit (map (byte_of_bits f) ks ++ behind) b) (numbers-range n)
+    ap (λ ks. data_bit (map (byte_of_bits f) ks ++ after) b) (numbers-range n)
     ∙ ap (λ x. bit x (b % 8))
-    (get_or_append_left (map (byte_of_bits f) (range_with_len 0 n)) behind 0 (b / 8) (omega (arith, long))
+    (get_or_append_left (map (byte_of_bits f) (range_with_len 0 n)) after 0 (b / 8) (omega (arith, long))
     ∙ get_or-map-range_with_len (byte_of_bits f) 0 n (b / 8) (b / 8) 0 (omega arith) (omega arith))
     ∙ bit-byte_of_bits f b h
 
@@ -82,9 +82,9 @@ frame_bit-below layout values b =
     chosen-below layout.pid (placed_bit layout.places values b) b (found-below (find (λ (s : Place × Value). covers s.0 b) (zip layout.places values)) b)
 
 -- the bits of a frame's data bytes
-pub data_bit-packed : (layout : Layout) (values : List Value) (behind : List ℕ) (b : ℕ) → b < 8 * layout.len → data_bit (packed layout values ++ behind) b ≡ frame_bit layout values b
-data_bit-packed layout values behind b l =
-    data_bit-bytes layout.len (frame_bit layout values) behind b (frame_bit-below layout values) l
+pub data_bit-packed : (layout : Layout) (values : List Value) (after : List ℕ) (b : ℕ) → b < 8 * layout.len → data_bit (packed layout values ++ after) b ≡ frame_bit layout values b
+data_bit-packed layout values after b l =
+    data_bit-bytes layout.len (frame_bit layout values) after b (frame_bit-below layout values) l
 
 -- ---- values that were packed
 has-bytes : (v : Value) → has_bytes v ≡ true → HasBytes v
@@ -150,15 +150,15 @@ bit_over-covered (p ∷ ps) (v ∷ vs) x y b f o =
     ∙ sym (bit_over-first p v ps vs y b ∙ cond-false (covers p b) (value_bit v (b - p.offset)) (bit_over ps vs y b) c) in
     elim (cases_Bool (covers p b)) [ inl c ↦ here c | inr c ↦ later c ]
 
-pub unpacking_undoes_packing : (layout : Layout) (values : List Value) (behind : List ℕ) → good_layout layout ≡ true → all_fit layout.places values ≡ true → list_all has_bytes values ≡ true → map (λ p. unpacked p (packed layout values ++ behind)) layout.places ≡ values
-unpacking_undoes_packing layout values behind g f u =
+pub unpacking_undoes_packing : (layout : Layout) (values : List Value) (after : List ℕ) → good_layout layout ≡ true → all_fit layout.places values ≡ true → list_all has_bytes values ≡ true → map (λ p. unpacked p (packed layout values ++ after)) layout.places ≡ values
+unpacking_undoes_packing layout values after g f u =
     let parts = good-parts layout g in
     let inside : (b : ℕ) → outside layout.places b ≡ false → b < 8 * layout.len = λ b o.
     let past : 8 * layout.len ≤ b → b < 8 * layout.len = λ l.
     absurd (false≢true (sym o ∙ outside-lies_in (first_bit layout) (8 * layout.len) layout.places b parts.2 (inr l))) in
     elim (cases_lt b (8 * layout.len)) [ inl l ↦ l | inr l ↦ past l ] in
-    unpacked_all layout.places values (packed layout values ++ behind) f u parts.3 (λ b o.
-    data_bit-packed layout values behind b (inside b o)
+    unpacked_all layout.places values (packed layout values ++ after) f u parts.3 (λ b o.
+    data_bit-packed layout values after b (inside b o)
     ∙ sym (frame_bit-over layout values b g)
     ∙ bit_over-covered layout.places values (empty_bit layout.pid b) 1 b f o)
 

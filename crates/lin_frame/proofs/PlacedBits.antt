@@ -105,14 +105,14 @@ over_empty (Some own) end ps vs b h =
 pub frame_bit-over : (layout : Layout) (vs : List Value) (b : ℕ) → good_layout layout ≡ true → bit_over layout.places vs (empty_bit layout.pid b) b ≡ frame_bit layout vs b
 frame_bit-over layout vs b h = over_empty layout.pid (8 * layout.len) layout.places vs b (good-parts layout h).2
 
-empty_bit-behind : (pid : Option ℕ) (b : ℕ) → 8 ≤ b → empty_bit pid b ≡ 1
-empty_bit-behind None b h = refl
-empty_bit-behind (Some own) b h = cond-false (nat_lt b 8) (bit own b) 1 (le-ltb b 8 h)
+empty_bit-after : (pid : Option ℕ) (b : ℕ) → 8 ≤ b → empty_bit pid b ≡ 1
+empty_bit-after None b h = refl
+empty_bit-after (Some own) b h = cond-false (nat_lt b 8) (bit own b) 1 (le-ltb b 8 h)
 
--- behind the data bytes all bits are 1
-pub frame_bit-behind : (layout : Layout) (vs : List Value) (b : ℕ) → good_layout layout ≡ true → 8 * layout.len ≤ b → frame_bit layout vs b ≡ 1
-frame_bit-behind layout vs b h l =
+-- after the data bytes all bits are 1
+pub frame_bit-after : (layout : Layout) (vs : List Value) (b : ℕ) → good_layout layout ≡ true → 8 * layout.len ≤ b → frame_bit layout vs b ≡ 1
+frame_bit-after layout vs b h l =
     let parts = good-parts layout h in
     sym (frame_bit-over layout vs b h)
     ∙ bit_over-outside layout.places vs (empty_bit layout.pid b) b (outside-lies_in (first_bit layout) (8 * layout.len) layout.places b parts.2 (inr l))
-    ∙ empty_bit-behind layout.pid b (omega (arith, parts.0))
+    ∙ empty_bit-after layout.pid b (omega (arith, parts.0))

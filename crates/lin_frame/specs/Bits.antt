@@ -1,5 +1,8 @@
--- Where signals lie in a frame's data bytes, and the bits of a frame (ISO 17987-3, signal mapping; LIN 2.2A, 2.2).
-use Rattle.std.specs.Prelude.{ℕ, ◌+◌, ◌-◌, ◌*◌, ◌/◌, ◌%◌, ◌^◌, Bool, true, false, not, ◌&&◌, ◌||◌, nat_lt, nat_le, if◌then◌else◌, ◌==◌, List, [], ◌∷◌, ◌++◌, length, map, sum, replicate, slice_index, zip, find}
+-- Where signals lie in a frame's data bytes, and the bits of a frame (ISO 17987-3, signal mapping;
+-- LIN 2.2A, 2.2).
+use Rattle.std.specs.Prelude.{ℕ, ◌+◌, ◌-◌, ◌*◌, ◌/◌, ◌%◌, ◌^◌, Bool, true, false, not, ◌&&◌, ◌||◌}
+use Rattle.std.specs.Prelude.{nat_lt, nat_le, if◌then◌else◌, ◌==◌, List, [], ◌∷◌, ◌++◌, length}
+use Rattle.std.specs.Prelude.{map, sum, replicate, slice_index, zip, find}
 use Rattle.std.specs.List.{list_all}
 use Rattle.lin_frame.specs.Words.{numbers, choose}
 use Rattle.lin_frame.specs.Frame.{bit}
@@ -68,9 +71,11 @@ covers p b = nat_le p.offset b && nat_lt b (p.offset + p.size)
 
 -- bit b of a frame with these values in these places, and 1 where there is none
 abbrev pub placed_bit : List Place → List Value → ℕ → ℕ
-placed_bit places values b = choose (find (λ s. covers s.0 b) (zip places values)) 1 (λ s. value_bit s.1 (b - s.0.offset))
+placed_bit places values b =
+    choose (find (λ s. covers s.0 b) (zip places values)) 1 (λ s. value_bit s.1 (b - s.0.offset))
 
--- bit b of a frame: of its protected identifier where data byte 0 holds it, otherwise of the signal there
+-- bit b of a frame: of its protected identifier where data byte 0 holds it, otherwise of the signal
+-- there
 abbrev pub frame_bit : Layout → List Value → ℕ → ℕ
 frame_bit layout values b =
     choose layout.pid (placed_bit layout.places values b) (λ own.
@@ -100,4 +105,5 @@ data_bit bytes b = bit (slice_index bytes (b / 8)) (b % 8)
 abbrev pub unpacked : Place → List ℕ → Value
 unpacked p bytes =
     let at = λ (j : ℕ). data_bit bytes (p.offset + j)
-    in if p.array then Bytes (map (byte_of_bits at) (numbers (p.size / 8))) else Scalar (number_of_bits p.size at)
+    in if p.array then Bytes (map (byte_of_bits at) (numbers (p.size / 8))) else Scalar
+    (number_of_bits p.size at)

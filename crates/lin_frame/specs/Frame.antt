@@ -1,5 +1,6 @@
 -- Protected identifiers and checksums (ISO 17987-3, frame header and checksum; LIN 2.2A, 2.3.1).
-use Rattle.std.specs.Prelude.{ℕ, ◌+◌, ◌-◌, ◌*◌, ◌/◌, ◌%◌, ◌^◌, Bool, ◌&&◌, if◌then◌else◌, ◌==◌, List, [], ◌∷◌, ◌++◌, sum, length, take, slice_index}
+use Rattle.std.specs.Prelude.{ℕ, ◌+◌, ◌-◌, ◌*◌, ◌/◌, ◌%◌, ◌^◌, Bool, ◌&&◌, if◌then◌else◌, ◌==◌}
+use Rattle.std.specs.Prelude.{List, [], ◌∷◌, ◌++◌, sum, length, take, slice_index}
 use Rattle.lin_frame.specs.declared.sums.SumKind.{SumKind}
 use Rattle.lin_frame.specs.declared.sums.SumKind.TheVariants.{Classic, Enhanced}
 
@@ -7,7 +8,8 @@ use Rattle.lin_frame.specs.declared.sums.SumKind.TheVariants.{Classic, Enhanced}
 abbrev pub bit : ℕ → ℕ → ℕ
 bit n k = n / 2 ^ k % 2
 
--- an identifier with its two parity bits: P0 = ID0 xor ID1 xor ID2 xor ID4, P1 = not (ID1 xor ID3 xor ID4 xor ID5)
+-- an identifier with its two parity bits: P0 = ID0 xor ID1 xor ID2 xor ID4, P1 = not (ID1 xor ID3
+-- xor ID4 xor ID5)
 abbrev pub pid : ℕ → ℕ
 pid id =
     id
@@ -37,4 +39,5 @@ answer_of kind pid bytes = bytes ++ checksum_of kind pid bytes ∷ []
 
 -- whether these are len data bytes and their checksum
 abbrev pub is_answer : SumKind → ℕ → ℕ → List ℕ → Bool
-is_answer kind pid len bytes = length bytes == len + 1 && slice_index bytes len == checksum_of kind pid (take len bytes)
+is_answer kind pid len bytes =
+    length bytes == len + 1 && slice_index bytes len == checksum_of kind pid (take len bytes)

@@ -1,20 +1,22 @@
 -- Packing and unpacking undo each other.
 use Rattle.std.specs.Prelude.{◌≡◌, ℕ, ◌*◌, ◌<◌, IsTrue, if◌then◌else◌, List, [], ◌++◌, map}
 use Rattle.std.specs.List.{list_all, list_any}
-use Rattle.lin_frame.specs.Bits.{all_fit, covers, data_bit, frame_bit, good_layout, has_bytes, packed, unpacked}
+use Rattle.lin_frame.specs.Bits.{all_fit, covers, data_bit, frame_bit, good_layout, has_bytes}
+use Rattle.lin_frame.specs.Bits.{packed, unpacked}
 use Rattle.lin_frame.specs.declared.layout.Layout.{Layout}
 use Rattle.lin_frame.specs.declared.value.Value.{Value}
 
--- the values that were packed are unpacked again, whatever stands behind the data bytes
+-- the values that were packed are unpacked again, whatever stands after the data bytes
 abbrev pub UnpackingUndoesPacking : Type 0
 UnpackingUndoesPacking =
-    (layout : Layout) (values : List Value) (behind : List ℕ) →
+    (layout : Layout) (values : List Value) (after : List ℕ) →
     IsTrue (good_layout layout) →
     IsTrue (all_fit layout.places values) →
     IsTrue (list_all has_bytes values) →
-    map (λ p. unpacked p (packed layout values ++ behind)) layout.places ≡ values
+    map (λ p. unpacked p (packed layout values ++ after)) layout.places ≡ values
 
--- what was unpacked is packed again: the same bits where a signal lies, elsewhere those of a frame without signals
+-- what was unpacked is packed again: the same bits where a signal lies, elsewhere those of a frame
+-- without signals
 abbrev pub PackingUndoesUnpacking : Type 0
 PackingUndoesUnpacking =
     (layout : Layout) (bytes : List ℕ) (b : ℕ) →

@@ -7,7 +7,7 @@ use crate::response::Answer;
 use crate::sums::{SumKind, checksum};
 use arrayvec::ArrayVec;
 
-/// The answer with these 1 to 8 data bytes: behind them stands their checksum.
+/// The answer with these 1 to 8 data bytes: after them stands their checksum.
 pub fn answer(kind: SumKind, pid: u8, bytes: &[u8]) -> Answer
     requires some { 1 ≤ length bytes.now }
     requires few { length bytes.now ≤ 8 }

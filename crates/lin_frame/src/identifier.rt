@@ -5,8 +5,8 @@ ghost use Rattle.lin_frame.specs.Frame.{pid};
 
 use std::marker::Model;
 
-/// An identifier of 6 bits (ISO 17987-3, frame header): 0 to 59 carry signals, 60 is the master request,
-/// 61 the slave response, 62 and 63 are reserved. Contracts see it as its number.
+/// An identifier of 6 bits (ISO 17987-3, frame header): 0 to 59 carry signals, 60 is the master
+/// request, 61 the slave response, 62 and 63 are reserved. Contracts see it as its number.
 #[derive(Clone, Copy, Debug, PartialEq, Eq)]
 pub struct FrameId {
     number: u8,
@@ -46,7 +46,8 @@ impl FrameId {
     }
 }
 
-/// The protected identifier: the identifier in bits 0 to 5, and above it the two parity bits (LIN 2.2A, 2.3.1).
+/// The protected identifier: the identifier in bits 0 to 5, and above it the two parity bits (LIN
+/// 2.2A, 2.3.1).
 pub fn protected(id: FrameId) -> u8
     ensures { result ≡ pid id }
 {

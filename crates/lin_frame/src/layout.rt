@@ -2,7 +2,8 @@
 
 ghost use Rattle.std.specs.Prelude.{◌≡◌, ◌+◌, ◌^◌, nat_lt};
 ghost use Rattle.std.specs.List.{list_all};
-ghost use Rattle.lin_frame.specs.Bits.{all_apart, all_fit, are_apart, fits_place, good_layout, has_good_size, lies_in};
+ghost use Rattle.lin_frame.specs.Bits.{all_apart, all_fit, are_apart, fits_place, good_layout};
+ghost use Rattle.lin_frame.specs.Bits.{has_good_size, lies_in};
 
 use crate::value::Value;
 use lin_lists::Many;
@@ -23,8 +24,8 @@ fn has_at_most(number: u16, bits: u8) -> bool
 }
 
 impl Place {
-    /// Whether the place can hold the value: a scalar below 2 to the place's size in a scalar's place, an array of as
-    /// many bits as the place has in an array's place.
+    /// Whether the place can hold the value: a scalar below 2 to the place's size in a scalar's
+    /// place, an array of as many bits as the place has in an array's place.
     pub fn fits(&self, value: &Value) -> bool
         ensures { result ≡ fits_place self.now value.now }
     {
@@ -45,7 +46,7 @@ impl Place {
         }
     }
 
-    /// The bit behind the place.
+    /// The bit after the place.
     fn end(&self) -> u16
         ensures { result ≡ self.now.offset + self.now.size }
     {
@@ -90,7 +91,8 @@ fn are_all_apart(places: &[Place]) -> bool
     true
 }
 
-/// How signals lie in a frame of `len` data bytes (1 to 8). Where `pid` is given, data byte 0 holds it.
+/// How signals lie in a frame of `len` data bytes (1 to 8). Where `pid` is given, data byte 0 holds
+/// it.
 #[derive(Drop)]
 pub struct Layout {
     pub len: u8,
@@ -99,9 +101,9 @@ pub struct Layout {
 }
 
 impl Layout {
-    /// Whether a frame can be laid out so: it has 1 to 8 data bytes, and its places lie in them, share no bit with each
-    /// other or with data byte 0 where that holds a protected identifier, and have 1 to 16 bits for a scalar or whole
-    /// bytes (1 to 8) at a byte border for an array.
+    /// Whether a frame can be laid out so: it has 1 to 8 data bytes, and its places lie in them,
+    /// share no bit with each other or with data byte 0 where that holds a protected identifier,
+    /// and have 1 to 16 bits for a scalar or whole bytes (1 to 8) at a byte border for an array.
     pub fn is_good(&self) -> bool
         ensures { result ≡ good_layout self.now }
     {

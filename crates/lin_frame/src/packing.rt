@@ -1,10 +1,13 @@
-//! Values of signals into the data bytes of a frame and back (ISO 17987-3, signal mapping; LIN 2.2A, 2.2).
+//! Values of signals into the data bytes of a frame and back (ISO 17987-3, signal mapping; LIN
+//! 2.2A, 2.2).
 
-ghost use Rattle.std.specs.Prelude.{◌≡◌, ◌/◌, ◌%◌, ◌+◌, ◌<◌, ◌≤◌, ℕ, IsTrue, if◌then◌else◌, length, nat_lt, slice_index, slice_index_or, take};
+ghost use Rattle.std.specs.Prelude.{◌≡◌, ◌/◌, ◌%◌, ◌+◌, ◌<◌, ◌≤◌, ℕ, IsTrue, if◌then◌else◌};
+ghost use Rattle.std.specs.Prelude.{length, nat_lt, slice_index, slice_index_or, take};
 ghost use Rattle.std.specs.Int.{to_le_bytes, w64};
 ghost use Rattle.lin_frame.specs.Words.{choose};
 ghost use Rattle.lin_frame.specs.Frame.{bit};
-ghost use Rattle.lin_frame.specs.Bits.{all_fit, data_bit, frame_bit, good_layout, lies_in, packed, padded, unpacked, value_bit};
+ghost use Rattle.lin_frame.specs.Bits.{all_fit, data_bit, frame_bit, good_layout, lies_in};
+ghost use Rattle.lin_frame.specs.Bits.{packed, padded, unpacked, value_bit};
 
 use crate::bits::{put_bits, take_bits};
 use crate::layout::{Layout, Place};
@@ -35,7 +38,8 @@ fn word_of_value(value: &Value) -> u64
 
 /// A frame without signals: all bits are 1 but those of the protected identifier.
 fn empty_frame(pid: Option<u8>) -> u64
-    ensures { (b : ℕ) → b < 64 → bit result b ≡ choose pid 1 (λ own. if nat_lt b 8 then bit own b else 1) }
+    ensures { (b : ℕ) → b < 64
+        → bit result b ≡ choose pid 1 (λ own. if nat_lt b 8 then bit own b else 1) }
 {
     match pid {
         Some(own) => put_bits(u64::MAX, 0, 8, u64::from(own)),
@@ -55,8 +59,8 @@ fn frame_word(layout: &Layout, values: &[Value]) -> u64
     word
 }
 
-/// The data bytes of a frame with these values in the layout's places, one value per place; 0xFF behind the frame's
-/// length. Bits that no signal uses are 1.
+/// The data bytes of a frame with these values in the layout's places, one value per place; 0xFF
+/// after the frame's length. Bits that no signal uses are 1.
 pub fn pack(layout: &Layout, values: &[Value]) -> [u8; 8]
     requires good { IsTrue (good_layout layout.now) }
     requires fit { IsTrue (all_fit layout.now.places values.now) }
@@ -94,7 +98,8 @@ fn value_in(place: Place, bytes: &[u8; 8]) -> Value
 pub fn unpack(layout: &Layout, bytes: &[u8; 8], place: usize) -> Value
     requires good { IsTrue (good_layout layout.now) }
     requires in_range { place < length layout.now.places }
-    ensures { (none : Place) → result ≡ unpacked (slice_index_or layout.now.places place none) bytes.now }
+    ensures { (none : Place)
+        → result ≡ unpacked (slice_index_or layout.now.places place none) bytes.now }
 {
     value_in(layout.places.as_slice()[place], bytes)
 }

@@ -32,7 +32,7 @@ impl Model for Answer {
 
     ghost inverse_ok = { λ a h.
         ap (λ n. record { bytes = with_zeros 9 (take a.len a.bytes); len = n }) h.len_is
-        ∙ ap (λ bytes. record { bytes = bytes; len = a.len }) h.zeros_behind };
+        ∙ ap (λ bytes. record { bytes = bytes; len = a.len }) h.zeros_after };
 }
 
 impl Answer {
@@ -55,7 +55,7 @@ impl Answer {
         &self.bytes[..self.len as usize]
     }
 
-    /// Its first eight bytes, which are the data bytes of a frame of eight; zeros behind fewer.
+    /// Its first eight bytes, which are the data bytes of a frame of eight; zeros after fewer.
     pub fn data(&self) -> [u8; 8]
         ensures each { (k : ℕ) → slice_index result k ≡ slice_index (take 8 self.now) k }
         ensures whole { 8 ≤ length self.now → result ≡ take 8 self.now }

@@ -33,7 +33,8 @@ fn carried_sum(first: u8, bytes: &[u8]) -> u8
     total
 }
 
-/// The checksum: the inverted 8-bit sum with carry of the bytes, and of the protected identifier where it is enhanced.
+/// The checksum: the inverted 8-bit sum with carry of the bytes, and of the protected identifier
+/// where it is enhanced.
 pub fn checksum(kind: SumKind, pid: u8, bytes: &[u8]) -> u8
     ensures { result ≡ checksum_of kind pid bytes.now }
 {
@@ -44,7 +45,7 @@ pub fn checksum(kind: SumKind, pid: u8, bytes: &[u8]) -> u8
     255 - carried_sum(first, bytes)
 }
 
-/// Whether these are `len` data bytes and, behind them, their checksum.
+/// Whether these are `len` data bytes and, after them, their checksum.
 pub fn passes(kind: SumKind, pid: u8, len: usize, bytes: &[u8]) -> bool
     ensures { result ≡ is_answer kind pid len bytes.now }
 {

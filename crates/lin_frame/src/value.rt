@@ -31,7 +31,7 @@ impl Model for ValueBytes {
 
     ghost inverse_ok = { λ v h.
         ap (λ n. record { bytes = with_zeros 8 (take v.len v.bytes); len = n }) h.len_is
-        ∙ ap (λ bytes. record { bytes = bytes; len = v.len }) h.zeros_behind };
+        ∙ ap (λ bytes. record { bytes = bytes; len = v.len }) h.zeros_after };
 }
 
 impl ValueBytes {

@@ -27,7 +27,7 @@ impl Text {
         Text { bytes }
     }
 
-    /// A copy of these bytes; an error is want of memory.
+    /// A copy of these bytes; an error means out of memory.
     pub fn copied(alloc: Global, bytes: &[u8]) -> Result<Text, AllocError>
         ensures { IfOk result (λ t. t ≡ bytes.now) }
     {
@@ -73,7 +73,7 @@ impl<T> Many<T> {
         self.items.as_slice()
     }
 
-    /// These items behind a first one; an error is want of memory.
+    /// These items after a first one; an error means out of memory.
     pub fn behind(self, first: T) -> Result<OneOrMore<T>, AllocError>
     where
         T: Drop,

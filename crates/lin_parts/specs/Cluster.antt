@@ -1,4 +1,5 @@
--- The parts of a cluster by their numbers. A number out of range gives a part that breaks no rule of clusters.
+-- The parts of a cluster by their numbers. A number out of range gives a part that breaks no rule
+-- of clusters.
 use Rattle.std.specs.Prelude.{ℕ, List, [], length, slice_index_or, position, Option, None}
 use Rattle.std.specs.Str.{bytes_eq}
 use Rattle.lin_frame.specs.declared.sums.SumKind.TheVariants.{Enhanced}
@@ -25,7 +26,8 @@ nad c n = (node_of c n).nad
 
 -- out of range: a signal of one bit
 abbrev pub signal_of : Parts → ℕ → Signal
-signal_of c s = slice_index_or c.signals s (record { name = []; publisher = 0; size = 1; initial = Scalar 0 })
+signal_of c s =
+    slice_index_or c.signals s (record { name = []; publisher = 0; size = 1; initial = Scalar 0 })
 
 -- out of range: a frame of identifier 0, whose protected identifier is 80
 abbrev pub frame_of : Parts → ℕ → SignalFrame
@@ -37,7 +39,8 @@ sporadic_of c k = slice_index_or c.sporadic k []
 
 -- out of range: an event-triggered frame of identifier 0
 abbrev pub event_of : Parts → ℕ → EventFrame
-event_of c e = slice_index_or c.events e (record { pid = 0x80; model = Enhanced; table = 0; frames = [] })
+event_of c e =
+    slice_index_or c.events e (record { pid = 0x80; model = Enhanced; table = 0; frames = [] })
 
 -- a table with its name, and its lines
 abbrev pub named_table : Parts → ℕ → Table

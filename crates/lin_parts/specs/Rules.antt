@@ -1,5 +1,8 @@
--- What the parts of every cluster have (ISO 17987-3; LIN 2.2A, section 9), within this project's limits.
-use Rattle.std.specs.Prelude.{◌≡◌, ◌≢◌, ◌<◌, ◌≤◌, ℕ, Bool, true, false, ◌==◌, if◌then◌else◌, List, ◌++◌, length, map, All, AllPairs, EachIndex, Some, None, IfSome, IsTrue}
+-- What the parts of every cluster have (ISO 17987-3; LIN 2.2A, section 9), within this project's
+-- limits.
+use Rattle.std.specs.Prelude.{◌≡◌, ◌≢◌, ◌<◌, ◌≤◌, ℕ, Bool, true, false, ◌==◌, if◌then◌else◌, List}
+use Rattle.std.specs.Prelude.{◌++◌, length, map, All, AllPairs, EachIndex, Some, None, IfSome}
+use Rattle.std.specs.Prelude.{IsTrue}
 use Rattle.std.specs.List.{AllZip, list_any}
 use Rattle.lin_frame.specs.Bits.{fits_place, good_layout, has_good_size}
 use Rattle.lin_frame.specs.Frame.{pid}
@@ -8,7 +11,8 @@ use Rattle.lin_frame.specs.declared.value.Value.{Value}
 use Rattle.lin_frame.specs.declared.value.Value.TheVariants.{Scalar, Bytes}
 use Rattle.lin_parts.specs.Cluster.{nodes, nad, signal_of, frame_of, table_of}
 use Rattle.lin_parts.specs.declared.parts.Entry.{Entry}
-use Rattle.lin_parts.specs.declared.parts.Entry.TheVariants.{Frame, Sporadic, Event, MasterReq, SlaveResp, Quiet}
+use Rattle.lin_parts.specs.declared.parts.Entry.TheVariants.{Frame, Sporadic, Event, MasterReq}
+use Rattle.lin_parts.specs.declared.parts.Entry.TheVariants.{SlaveResp, Quiet}
 use Rattle.lin_parts.specs.declared.parts.Node.{Node}
 use Rattle.lin_parts.specs.declared.parts.Parts.{Parts}
 use Rattle.lin_parts.specs.declared.parts.Signal.{Signal}
@@ -21,7 +25,8 @@ IsAddress address = (1 ≤ address) × (address ≤ 125)
 abbrev pub HaveOwnAddresses : Node → Node → Type 0
 HaveOwnAddresses m n = (address : ℕ) → m.nad ≡ Some address → n.nad ≢ Some address
 
--- the commander, which has no address, and 1 to 15 responders, of which each may have one of its own
+-- the commander, which has no address, and 1 to 15 responders, of which each may have one of its
+-- own
 pub record AreNodes (c : Parts) : Type 0 where
   pub number : (2 ≤ nodes c) × (nodes c ≤ 16)
   pub commander : nad c 0 ≡ None
@@ -37,7 +42,8 @@ is_array (Bytes xs) = true
 abbrev pub place_at : ℕ → Signal → Place
 place_at offset s = record { offset = offset; size = s.size; array = is_array s.initial }
 
--- at most 1,024 signals: each has a publisher, a size that a place may have, and an initial value of that size
+-- at most 1,024 signals: each has a publisher, a size that a place may have, and an initial value
+-- of that size
 pub record AreSignals (c : Parts) : Type 0 where
   pub number : length c.signals ≤ 1024
   pub publishers : All (λ s. s.publisher < nodes c) c.signals
@@ -54,9 +60,11 @@ pub record IsSignalAt (c : Parts) (publisher : ℕ) (p : Place) (s : ℕ) : Type
 abbrev pub is_listed : Parts → ℕ → Bool
 is_listed c f = list_any (λ e. list_any (λ g. g == f) e.frames) c.events
 
--- exactly the frames that an event-triggered frame lists have their protected identifier in data byte 0
+-- exactly the frames that an event-triggered frame lists have their protected identifier in data
+-- byte 0
 abbrev pub HasOwnPid : Parts → ℕ → Type 0
-HasOwnPid c f = (frame_of c f).layout.pid ≡ (if is_listed c f then Some (frame_of c f).pid else None)
+HasOwnPid c f =
+    (frame_of c f).layout.pid ≡ (if is_listed c f then Some (frame_of c f).pid else None)
 
 -- the protected identifiers of the frames, and of the event-triggered ones
 abbrev pub pids : Parts → List ℕ
@@ -68,7 +76,8 @@ pub record CarriesSignals (p : ℕ) : Type 0 where
   pub small : identifier < 60
   pub protected : p ≡ pid identifier
 
--- each frame has a publisher, a layout, one signal of its publisher for each place, and no signal twice
+-- each frame has a publisher, a layout, one signal of its publisher for each place, and no signal
+-- twice
 pub record AreFrames (c : Parts) : Type 0 where
   pub publishers : All (λ f. f.publisher < nodes c) c.frames
   pub layouts : All (λ f. IsTrue (good_layout f.layout)) c.frames
@@ -107,8 +116,9 @@ abbrev pub is_event : Entry → Bool
 is_event (Event e) = true
 is_event entry = false
 
--- each event-triggered frame has at least one frame, they are of different responders, of one size and of one checksum model,
--- which is the event-triggered frame's, and a table without event-triggered entries resolves their collisions
+-- each event-triggered frame has at least one frame, they are of different responders, of one size
+-- and of one checksum model, which is the event-triggered frame's, and a table without
+-- event-triggered entries resolves their collisions
 pub record AreEvents (c : Parts) : Type 0 where
   pub models : All (λ e. All (λ f. (frame_of c f).model ≡ e.model) e.frames) c.events
   pub members : All (λ e. 1 ≤ length e.frames) c.events

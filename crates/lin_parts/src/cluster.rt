@@ -2,7 +2,8 @@
 
 ghost use Rattle.std.specs.Prelude.{◌≡◌, ◌+◌, ◌<◌, ◌≤◌, length, position, IfSome};
 ghost use Rattle.std.specs.Str.{bytes_eq};
-ghost use Rattle.lin_parts.specs.Cluster.{nodes, nad, node_of, signal_of, frame_of, sporadic_of, event_of, named_table, table_of, line_of, first_table};
+ghost use Rattle.lin_parts.specs.Cluster.{nodes, nad, node_of, signal_of, frame_of, sporadic_of};
+ghost use Rattle.lin_parts.specs.Cluster.{event_of, named_table, table_of, line_of, first_table};
 ghost use Rattle.lin_parts.specs.Rules.{IsCluster, IsDelay};
 ghost use Rattle.lin_parts.specs.Sound.{IsSound};
 
@@ -10,8 +11,8 @@ use crate::parts::{Entry, EventFrame, Line, Node, Parts, Signal, SignalFrame, Ta
 use lin_frame::{Layout, SumKind, Value};
 use std::marker::Model;
 
-/// A LIN cluster. Contracts see its parts. Nodes, signals, frames of each kind and tables are read by their numbers, which
-/// begin at 0; each read's condition is that the number is in range.
+/// A LIN cluster. Contracts see its parts. Nodes, signals, frames of each kind and tables are read
+/// by their numbers, which begin at 0; each read's condition is that the number is in range.
 pub struct Cluster {
     parts: Parts,
 }
@@ -46,7 +47,8 @@ fn first_named(tables: &[Table], name: &[u8]) -> Option<usize>
 }
 
 impl Cluster {
-    /// The cluster of these parts. The condition is that they keep the rules of every cluster; `check` makes such parts of a description.
+    /// The cluster of these parts. The condition is that they keep the rules of every cluster;
+    /// `check` makes such parts of a description.
     pub fn new(parts: Parts) -> Cluster
         requires { IsCluster parts }
         ensures { result ≡ parts }
@@ -54,7 +56,8 @@ impl Cluster {
         Cluster { parts }
     }
 
-    /// What every cluster has: this call does nothing, and its caller knows the rules of clusters of this one.
+    /// What every cluster has: this call does nothing, and its caller knows the rules of clusters
+    /// of this one.
     pub fn sound(&self)
         ensures rules { IsCluster self.now }
         ensures sound { IsSound self.now }
@@ -261,7 +264,8 @@ impl Cluster {
         self.event(event).pid
     }
 
-    /// The checksum model of the answers to an event-triggered frame's header (ISO 17987-3, checksum).
+    /// The checksum model of the answers to an event-triggered frame's header (ISO 17987-3,
+    /// checksum).
     pub fn event_model(&self, event: u16) -> SumKind
         requires { event < length self.now.events }
         ensures { result ≡ (event_of self.now event).model }
@@ -269,7 +273,8 @@ impl Cluster {
         self.event(event).model
     }
 
-    /// The table that resolves a collision of an event-triggered frame (ISO 17987-3, event-triggered frames).
+    /// The table that resolves a collision of an event-triggered frame (ISO 17987-3,
+    /// event-triggered frames).
     pub fn event_table(&self, event: u16) -> u16
         requires { event < length self.now.events }
         ensures { result ≡ (event_of self.now event).table }

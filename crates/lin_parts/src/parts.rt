@@ -1,4 +1,5 @@
-//! What a cluster is made of. Nodes, signals, frames of each kind and tables are numbered, each kind from 0.
+//! What a cluster is made of. Nodes, signals, frames of each kind and tables are numbered, each
+//! kind from 0.
 
 ghost use Rattle.std.specs.Prelude.{◌≡◌};
 ghost use Rattle.lin_parts.specs.Rules.{is_array, place_at};
@@ -6,7 +7,8 @@ ghost use Rattle.lin_parts.specs.Rules.{is_array, place_at};
 use lin_frame::{Layout, Place, SumKind, Value};
 use lin_lists::{Many, Text};
 
-/// A node: the commander (number 0) or a responder. `nad` is its diagnostic address (ISO 17987-2), where it has one.
+/// A node: the commander (number 0) or a responder. `nad` is its diagnostic address (ISO 17987-2),
+/// where it has one.
 #[derive(Drop)]
 pub struct Node {
     pub name: Text,
@@ -32,7 +34,8 @@ fn is_array(value: &Value) -> bool
 }
 
 impl Signal {
-    /// The signal's place in a frame in which it begins at this bit: an array, where its initial value is one (ISO 17987-3, signals).
+    /// The signal's place in a frame in which it begins at this bit: an array, where its initial
+    /// value is one (ISO 17987-3, signals).
     pub fn place_at(&self, offset: u8) -> Place
         ensures { result ≡ place_at offset self.now }
     {
@@ -44,8 +47,8 @@ impl Signal {
     }
 }
 
-/// An unconditional frame: its protected identifier, its checksum model, the node that sends it, and its signals in the order of the places
-/// of its layout (ISO 17987-3, unconditional frames).
+/// An unconditional frame: its protected identifier, its checksum model, the node that sends it,
+/// and its signals in the order of the places of its layout (ISO 17987-3, unconditional frames).
 #[derive(Drop)]
 pub struct SignalFrame {
     pub pid: u8,
@@ -55,8 +58,8 @@ pub struct SignalFrame {
     pub signals: Many<u16>,
 }
 
-/// An event-triggered frame: its protected identifier, the checksum model of its answers, the table that resolves a collision, and its frames
-/// (ISO 17987-3, event-triggered frames).
+/// An event-triggered frame: its protected identifier, the checksum model of its answers, the table
+/// that resolves a collision, and its frames (ISO 17987-3, event-triggered frames).
 #[derive(Drop)]
 pub struct EventFrame {
     pub pid: u8,
@@ -96,7 +99,8 @@ pub struct Table {
     pub lines: Many<Line>,
 }
 
-/// All that a cluster is made of. A sporadic frame is the list of its frames, the first one first in rank.
+/// All that a cluster is made of. A sporadic frame is the list of its frames, the first one first
+/// in rank.
 #[derive(Drop)]
 pub struct Parts {
     pub nodes: Many<Node>,

@@ -8,8 +8,8 @@ use std::alloc::Global;
 use std::process::Abort;
 use std::test::Fail;
 
-/// A cluster with the table that opens it, how many sends the core has when it is wired, how many items a ring takes, what is done,
-/// the log that this leaves, and how many events stand in it.
+/// A cluster with the table that opens it, how many sends the core has when it is wired, how many
+/// items a ring takes, what is done, the log that this leaves, and how many events stand in it.
 struct Row {
     cluster: &'static [u8],
     table: u16,
@@ -189,7 +189,8 @@ fn wired_log_goes_on(rt: HostRuntime) -> Result<(), Fail> {
     expect(&rt, rt.alloc(), &DOOR_LEAVES)
 }
 
-/// Notes of each kind. The last slot puts the cluster to sleep, so that the log has an event of each kind too.
+/// Notes of each kind. The last slot puts the cluster to sleep, so that the log has an event of
+/// each kind too.
 const NOTES: Row = Row {
     cluster: KEYS_CLUSTER,
     table: 2,

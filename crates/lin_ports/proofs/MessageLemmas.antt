@@ -68,7 +68,7 @@ reply-messages l own (Done es) = event-messages l es
 reply-messages l true (Refused r) = refl
 reply-messages l false (Refused r) = refl
 
--- what the entries of a longer history tell comes behind
+-- what the entries of a longer history tell comes after
 told-append : (xs ys : List LogEntry) (l : Link) → told_messages (xs ++ ys) l ≡ told_messages ys l ++ told_messages xs l
 told-append [] ys l = sym (append-nil (told_messages ys l))
 told-append (x ∷ xs) ys l =

@@ -89,7 +89,7 @@ serves_event base log e events x a b s at is here t seen part =
       given = t.given s.given;
     }
 
--- a lane that goes on to the next entry, behind these notes
+-- a lane that goes on to the next entry, after these notes
 pub serves_next : (base : ℕ) (log : List LogEntry) (e : LogEntry) (a b : Lane) (xs : List Note) → Serves base log a → slice_get log a.seen ≡ Some e
     → told (port_of a) base a.seen a.part log ++ xs ≡ notes (drop base (take a.seen log)) (port_of a) ++ notes_in (port_of a) e
     → Tells a b xs → b.seen ≡ a.seen + 1 → b.part ≡ 0 → Serves base log b
@@ -138,7 +138,7 @@ tells_none a b number steps notes_ given settled = record {
   settled = settled;
 }
 
--- a note is pushed behind a look for room
+-- a note is pushed after a look for room
 pub tells_more : (a b c : Lane) (x : Note) → Tells a b [] → c.number ≡ b.number → c.steps ≡ b.steps → SameProducer b.notes c.notes → sent c.notes ≡ sent b.notes ++ x ∷ [] → c.given ≡ b.given + 1 → c.settled ≡ b.settled → Tells a c (x ∷ [])
 tells_more a b c x t number steps ring more given settled = record {
   number = number ∙ t.number;

@@ -1,5 +1,6 @@
 -- What the pump keeps for each port.
-use Rattle.std.specs.Prelude.{◌≡◌, ℕ, ◌≤◌, ◌+◌, ⊤, List, ◌++◌, ◌∷◌, [], map, length, drop, Bool, true, false, if◌then◌else◌, Some, MatchBool, Result, Ok, Err}
+use Rattle.std.specs.Prelude.{◌≡◌, ℕ, ◌≤◌, ◌+◌, ⊤, List, ◌++◌, ◌∷◌, [], map, length, drop, Bool}
+use Rattle.std.specs.Prelude.{true, false, if◌then◌else◌, Some, MatchBool, Result, Ok, Err}
 use Rattle.std.specs.List.{slice_get}
 use Rattle.rtrb.specs.Ring.{sent, received}
 use Rattle.lin_core.specs.Core.{CoreData, answered}
@@ -17,7 +18,8 @@ use Rattle.lin_ports.specs.declared.steps.Note.{Note}
 use Rattle.lin_ports.specs.declared.pump.RoundFault.{RoundFault}
 use Rattle.lin_ports.specs.declared.pump.RoundFault.TheVariants.{LogFull, OutOfMemory}
 
--- of the pump's end of a ring of steps: the port with this number, its ring, and the steps that came out
+-- of the pump's end of a ring of steps: the port with this number, its ring, and the steps that
+-- came out
 abbrev pub port_in : ℕ → Incoming → PortId
 port_in n (into.Host ring) = Host n
 port_in n (into.Node ring) = Node n
@@ -45,8 +47,8 @@ pub record SameLane (a b : Lane) : Type 0 where
   pub wiring : lane_wiring b ≡ lane_wiring a
   pub settled : a.settled ≡ true → b.settled ≡ true
 
--- what came out of the ring of steps is what was logged, and what went into the ring of notes is the notes of what the
--- lane has seen
+-- what came out of the ring of steps is what was logged, and what went into the ring of notes is
+-- the notes of what the lane has seen
 pub record Serves (base : ℕ) (log : List LogEntry) (lane : Lane) : Type 0 where
   pub steps : logged (drop base log) (port_of lane) ≡ popped lane.number lane.steps
   pub after : base ≤ lane.seen
@@ -71,21 +73,24 @@ IsFullLog LogFull = ⊤
 IsFullLog OutOfMemory = ⊥
 
 abbrev pub AllServe : ℕ → List LogEntry → List Lane → Type 0
-AllServe base log lanes = (i : ℕ) (lane : Lane) → slice_get lanes i ≡ Some lane → Serves base log lane
+AllServe base log lanes =
+    (i : ℕ) (lane : Lane) → slice_get lanes i ≡ Some lane → Serves base log lane
 
 -- the lanes stand in the order of their ports
 abbrev pub InOrder : ℕ → List Lane → Type 0
-InOrder nodes lanes = (i : ℕ) (lane : Lane) → slice_get lanes i ≡ Some lane → port_of lane ≡ port_at nodes i
+InOrder nodes lanes =
+    (i : ℕ) (lane : Lane) → slice_get lanes i ≡ Some lane → port_of lane ≡ port_at nodes i
 
--- each of these entries is a step that its port may give: a host's own Sends, Writes and Closes, and a node's own
--- Answers and Leaves
+-- each of these entries is a step that its port may give: a host's own Sends, Writes and Closes,
+-- and a node's own Answers and Leaves
 abbrev pub OnlyOwn : List LogEntry → Type 0
 OnlyOwn es = (i : ℕ) (e : LogEntry) → slice_get es i ≡ Some e → may e.port e.step ≡ true
 
 -- the notes that were pushed to a port
 abbrev pub given_in : PortId → List Lane → List Note
 given_in port [] = []
-given_in port (lane ∷ lanes) = if same_port (port_of lane) port then sent lane.notes else given_in port lanes
+given_in port (lane ∷ lanes) =
+    if same_port (port_of lane) port then sent lane.notes else given_in port lanes
 
 -- what it does to a lane to push these notes
 pub record Tells (a b : Lane) (xs : List Note) : Type 0 where

@@ -1,5 +1,7 @@
--- The messages among a port's notes, and what the reading of their link grew by (ISO 17987-2, transport layer).
-use Rattle.std.specs.Prelude.{◌≡◌, ℕ, ◌==◌, if◌then◌else◌, List, ◌++◌, take, drop, reverse, Option, Some, None, is_some, true}
+-- The messages among a port's notes, and what the reading of their link grew by (ISO 17987-2,
+-- transport layer).
+use Rattle.std.specs.Prelude.{◌≡◌, ℕ, ◌==◌, if◌then◌else◌, List, ◌++◌, take, drop, reverse}
+use Rattle.std.specs.Prelude.{Option, Some, None, is_some, true}
 use Rattle.std.specs.List.{filter_map}
 use mathlib.Core.List.{IsPrefix}
 use Rattle.lin_parts.specs.Cluster.{nad}
@@ -17,7 +19,8 @@ use Rattle.lin_ports.specs.declared.steps.Note.TheVariants as note
 
 -- the message of a host that a note brings
 abbrev pub message_from : ℕ → Note → Option (List ℕ)
-message_from host (note.Event (event.Message from to bytes)) = if from == host then Some bytes else None
+message_from host (note.Event (event.Message from to bytes)) =
+    if from == host then Some bytes else None
 message_from host n = None
 
 -- the messages of a host among notes, in order
@@ -28,19 +31,24 @@ messages_from host ns = filter_map (message_from host) ns
 abbrev pub port_on : Link → PortId
 port_on l = Host (receiver_of l.dir l.node)
 
--- what the reading of a link grew by since a place of the log is the messages of the link's sender among the notes of
--- the receiver's port since then
+-- what the reading of a link grew by since a place of the log is the messages of the link's sender
+-- among the notes of the receiver's port since then
 abbrev pub TellsGrowth : Parts → List LogEntry → ℕ → Link → Type 0
 TellsGrowth c log base l =
-    reading c (reverse log) l ≡ reading c (reverse (take base log)) l ++ messages_from (host_of l) (notes (drop base log) (port_on l))
+    reading c (reverse log) l
+    ≡ reading c (reverse (take base log)) l
+    ++ messages_from (host_of l) (notes (drop base log) (port_on l))
 
--- the messages of the link's sender among these notes are, in order, the first of those by which the reading of the
--- link grew since a place of the log
+-- the messages of the link's sender among these notes are, in order, the first of those by which
+-- the reading of the link grew since a place of the log
 abbrev pub BeginsGrowth : Parts → List LogEntry → ℕ → Link → List Note → Type 0
 BeginsGrowth c log base l taken =
-    (grown : List (List ℕ)) × (reading c (reverse log) l ≡ reading c (reverse (take base log)) l ++ grown) × IsPrefix (messages_from (host_of l) taken) grown
+    (grown : List (List ℕ))
+    × (reading c (reverse log) l ≡ reading c (reverse (take base log)) l ++ grown)
+    × IsPrefix (messages_from (host_of l) taken) grown
 
 -- the same for each link whose receiver has this port
 abbrev pub BeginsGrowths : CoreData → ℕ → PortId → List Note → Type 0
 BeginsGrowths core base port taken =
-    (l : Link) → is_some (nad core.cluster l.node) ≡ true → port_on l ≡ port → BeginsGrowth core.cluster core.log base l taken
+    (l : Link) → is_some (nad core.cluster l.node) ≡ true → port_on l ≡ port
+    → BeginsGrowth core.cluster core.log base l taken

@@ -28,10 +28,12 @@ pub record RingId : Type 0 where
   pub heap : Global
 
 abbrev pub ring_into : {T P : Type 0} → Producer T Global P → RingId
-ring_into p = record { words = p.end.words; slots = p.end.slots; names = p.end.names; heap = p.end.heap }
+ring_into p =
+    record { words = p.end.words; slots = p.end.slots; names = p.end.names; heap = p.end.heap }
 
 abbrev pub ring_from : {T P : Type 0} → Consumer T Global P → RingId
-ring_from c = record { words = c.end.words; slots = c.end.slots; names = c.end.names; heap = c.end.heap }
+ring_from c =
+    record { words = c.end.words; slots = c.end.slots; names = c.end.names; heap = c.end.heap }
 
 -- how many items a ring takes
 abbrev pub size_of : RingId → ℕ
@@ -43,10 +45,11 @@ pub record Wiring : Type 0 where
   pub steps : RingId
   pub notes : RingId
 
--- of a host's port: which it is, how many items its ring of steps takes, the step that it puts with its number, the
--- steps that it has put, and the notes that it has taken
+-- of a host's port: which it is, how many items its ring of steps takes, the step that it puts with
+-- its number, the steps that it has put, and the notes that it has taken
 abbrev pub host_wiring : HostPort → Wiring
-host_wiring p = record { port = Host p.number; steps = ring_into p.steps; notes = ring_from p.notes }
+host_wiring p =
+    record { port = Host p.number; steps = ring_into p.steps; notes = ring_from p.notes }
 
 abbrev pub host_ring : HostPort → ℕ
 host_ring p = size_of (ring_into p.steps)
@@ -62,7 +65,8 @@ host_took p = received p.notes
 
 -- the same of a node's port
 abbrev pub node_wiring : NodePort → Wiring
-node_wiring p = record { port = Node p.number; steps = ring_into p.steps; notes = ring_from p.notes }
+node_wiring p =
+    record { port = Node p.number; steps = ring_into p.steps; notes = ring_from p.notes }
 
 abbrev pub node_ring : NodePort → ℕ
 node_ring p = size_of (ring_into p.steps)
@@ -76,7 +80,8 @@ node_put p = map (node_step p.number) (sent p.steps)
 abbrev pub node_took : NodePort → List Note
 node_took p = received p.notes
 
--- of the end of either kind of ring of steps: the port with this number, its ring, and what was put into it
+-- of the end of either kind of ring of steps: the port with this number, its ring, and what was put
+-- into it
 abbrev pub port_out : ℕ → Outgoing → PortId
 port_out n (out.Host ring) = Host n
 port_out n (out.Node ring) = Node n
@@ -91,7 +96,8 @@ puts n (out.Node ring) = map (node_step n) (sent ring)
 
 -- the same of a receipt
 abbrev pub receipt_wiring : Receipt → Wiring
-receipt_wiring r = record { port = port_out r.number r.steps; steps = ring_out r.steps; notes = ring_from r.notes }
+receipt_wiring r =
+    record { port = port_out r.number r.steps; steps = ring_out r.steps; notes = ring_from r.notes }
 
 abbrev pub receipt_id : Receipt → PortId
 receipt_id r = (receipt_wiring r).port
@@ -103,7 +109,8 @@ abbrev pub receipt_took : Receipt → List Note
 receipt_took r = received r.notes
 
 -- the receipt of this port: the same port with the same lists
-pub record IsReceiptOf (port : Wiring) (steps : List Step) (notes : List Note) (r : Receipt) : Type 0 where
+pub record IsReceiptOf (port : Wiring) (steps : List Step) (notes : List Note)
+    (r : Receipt) : Type 0 where
   pub wiring : receipt_wiring r ≡ port
   pub put : receipt_put r ≡ steps
   pub took : receipt_took r ≡ notes

@@ -10,8 +10,8 @@ use Rattle.lin_ports.specs.Steps.{port_at}
 abbrev pub longer_by : CoreData → LogEntry → CoreData
 longer_by core e = record core { log = core.log ++ e ∷ [] }
 
--- each entry is the core's answer to a step that a port of its own put, and the ports stand in their order (hosts by
--- number, then nodes), each once, from one place on and below another
+-- each entry is the core's answer to a step that a port of its own put, and the ports stand in
+-- their order (hosts by number, then nodes), each once, from one place on and below another
 abbrev pub Rising : CoreData → ℕ → ℕ → List LogEntry → Type 0
 Rising core from to [] = from ≤ to
 Rising core from to (e ∷ es) =
@@ -23,7 +23,9 @@ Rising core from to (e ∷ es) =
 
 -- so many entries were added, at most one of each of the first ports, in their order
 abbrev pub AddsUpTo : ℕ → CoreData → CoreData → ℕ → Type 0
-AddsUpTo ports old new steps = (added : List LogEntry) × (new.log ≡ old.log ++ added) × (length added ≡ steps) × Rising old 0 ports added
+AddsUpTo ports old new steps =
+    (added : List LogEntry) × (new.log ≡ old.log ++ added) × (length added ≡ steps)
+    × Rising old 0 ports added
 
 -- so many entries were added, at most one of each port, in their order
 abbrev pub RoundAdds : CoreData → CoreData → ℕ → Type 0

@@ -6,7 +6,8 @@ use Rattle.rtrb.specs.Ring.{sent}
 use Rattle.lin_core.specs.declared.log.LogEntry.{LogEntry}
 use Rattle.lin_ports.specs.Steps.{logged, notes}
 use Rattle.lin_ports.specs.Lanes.{popped, lane_wiring}
-use Rattle.lin_ports.specs.Ports.{Wiring, receipt_wiring, receipt_id, receipt_put, receipt_took, IsReceiptOf}
+use Rattle.lin_ports.specs.Ports.{Wiring, receipt_wiring, receipt_id, receipt_put, receipt_took}
+use Rattle.lin_ports.specs.Ports.{IsReceiptOf}
 use Rattle.lin_ports.specs.Messages.{BeginsGrowths}
 use Rattle.lin_ports.specs.Pumps.{core_of, since, started, given_to}
 use Rattle.lin_ports.specs.declared.lane.Lane.{Lane}
@@ -32,16 +33,22 @@ pub record KeptLane (a b : Lane) : Type 0 where
 -- all that was put came out of the ring, and the lane is settled; or the beginning of it did
 abbrev pub LaneSettles : Lane → Lane → Receipt → Settled → Type 0
 LaneSettles old new r (Whole s) =
-    SameReceipt r s × IsPrefix (receipt_took s) (sent new.notes) × (popped new.number new.steps ≡ receipt_put s) × (new.settled ≡ true)
+    SameReceipt r s × IsPrefix (receipt_took s) (sent new.notes)
+    × (popped new.number new.steps ≡ receipt_put s) × (new.settled ≡ true)
 LaneSettles old new r (Left s) =
-    SameReceipt r s × IsPrefix (receipt_took s) (sent new.notes) × (length (popped new.number new.steps) < length (receipt_put s)) × IsPrefix (popped new.number new.steps) (receipt_put s)
+    SameReceipt r s × IsPrefix (receipt_took s) (sent new.notes)
+    × (length (popped new.number new.steps) < length (receipt_put s))
+    × IsPrefix (popped new.number new.steps) (receipt_put s)
 
 -- the port's lane is passed over: no step of it is taken any more
 abbrev pub IsPassedOver : List Lane → Wiring → Type 0
-IsPassedOver lanes port = (i : ℕ) × (lane : Lane) × (slice_get lanes i ≡ Some lane) × (lane_wiring lane ≡ port) × (lane.settled ≡ true)
+IsPassedOver lanes port =
+    (i : ℕ) × (lane : Lane) × (slice_get lanes i ≡ Some lane) × (lane_wiring lane ≡ port)
+    × (lane.settled ≡ true)
 
--- the notes that a port took are the first ones of those that the log names, and of those that were pushed to it; and
--- its messages from each sender are the first ones of those by which the reading of their link grew
+-- the notes that a port took are the first ones of those that the log names, and of those that were
+-- pushed to it; and its messages from each sender are the first ones of those by which the reading
+-- of their link grew
 pub record TookOnlyNotes (pump : Pump) (r : Receipt) : Type 0 where
   pub named : IsPrefix (receipt_took r) (notes (since pump) (receipt_id r))
   pub given : IsPrefix (receipt_took r) (given_to pump (receipt_id r))
@@ -65,6 +72,9 @@ abbrev pub Settles : Pump → Receipt → Settled → Type 0
 Settles pump r (Whole s) = SameReceipt r s × TookOnlyNotes pump s × IsSettled pump s
 Settles pump r (Left s) = SameReceipt r s × TookOnlyNotes pump s × IsLeft pump s
 
--- a port that is settled stays so: all that it put stays all that is logged of it, and no more notes are pushed to it
+-- a port that is settled stays so: all that it put stays all that is logged of it, and no more
+-- notes are pushed to it
 abbrev pub StaysSettled : Pump → Pump → Type 0
-StaysSettled a b = (r : Receipt) → IsSettled a r → IsSettled b r × (given_to b (receipt_id r) ≡ given_to a (receipt_id r))
+StaysSettled a b =
+    (r : Receipt) → IsSettled a r
+    → IsSettled b r × (given_to b (receipt_id r) ≡ given_to a (receipt_id r))

@@ -1,5 +1,6 @@
 -- Ports: their steps with their numbers filled in, and what of a log is theirs.
-use Rattle.std.specs.Prelude.{ℕ, ◌==◌, ◌-◌, nat_lt, Bool, true, false, if◌then◌else◌, List, [], ◌∷◌, ◌++◌, map, filter, flat_map, take, drop, Option, Some, None}
+use Rattle.std.specs.Prelude.{ℕ, ◌==◌, ◌-◌, nat_lt, Bool, true, false, if◌then◌else◌, List, []}
+use Rattle.std.specs.Prelude.{◌∷◌, ◌++◌, map, filter, flat_map, take, drop, Option, Some, None}
 use Rattle.std.specs.List.{filter_map}
 use Rattle.lin_core.specs.declared.port.PortId.{PortId}
 use Rattle.lin_core.specs.declared.port.PortId.TheVariants.{Bus, Host, Node}
@@ -82,4 +83,5 @@ first_notes port k (e ∷ es) = part_notes port k e.reply
 
 -- the notes of the entries from one place up to another, and of the first events of the entry there
 abbrev pub told : PortId → ℕ → ℕ → ℕ → List LogEntry → List Note
-told port base seen part log = notes (drop base (take seen log)) port ++ first_notes port part (drop seen log)
+told port base seen part log =
+    notes (drop base (take seen log)) port ++ first_notes port part (drop seen log)

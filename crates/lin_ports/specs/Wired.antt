@@ -6,7 +6,8 @@ use Rattle.lin_core.specs.declared.port.PortId.{PortId}
 use Rattle.lin_core.specs.declared.port.PortId.TheVariants.{Host, Node}
 use Rattle.lin_ports.specs.Lanes.{popped, port_of}
 use Rattle.lin_ports.specs.Steps.{port_at}
-use Rattle.lin_ports.specs.Ports.{host_wiring, host_ring, host_put, host_took, node_wiring, node_ring, node_put, node_took}
+use Rattle.lin_ports.specs.Ports.{host_wiring, host_ring, host_put, host_took, node_wiring}
+use Rattle.lin_ports.specs.Ports.{node_ring, node_put, node_took}
 use Rattle.lin_ports.specs.declared.lane.Lane.{Lane}
 use Rattle.lin_ports.specs.declared.host_port.HostPort.{HostPort}
 use Rattle.lin_ports.specs.declared.node_port.NodePort.{NodePort}
@@ -29,7 +30,8 @@ pub record IsNewLane (start : ℕ) (by : PortId) (lane : Lane) : Type 0 where
 abbrev pub AreNewLanes : ℕ → ℕ → List Lane → Type 0
 AreNewLanes nodes start lanes = Each (λ i lane. IsNewLane start (port_at nodes i) lane) lanes
 
--- the port of the host with this number: nothing was put and nothing taken, and its ring of steps takes so many
+-- the port of the host with this number: nothing was put and nothing taken, and its ring of steps
+-- takes so many
 pub record IsNewHost (ring n : ℕ) (port : HostPort) : Type 0 where
   pub id : (host_wiring port).port ≡ Host n
   pub size : host_ring port ≡ ring

@@ -1,14 +1,15 @@
 //! The ports of hosts.
 
-ghost use Rattle.std.specs.Prelude.{◌≡◌, ◌≤◌, ◌++◌, ◌∷◌, [], length, OnOk, OnErr, IfErr, IfSome, IfNone};
+ghost use Rattle.std.specs.Prelude.{◌≡◌, ◌≤◌, ◌++◌, ◌∷◌, [], length, OnOk, OnErr, IfErr, IfSome};
+ghost use Rattle.std.specs.Prelude.{IfNone};
 
 use crate::ports::{Full, Outgoing, Receipt};
 use crate::steps::{HostStep, Note};
 use lin_core::PortId;
 use rtrb::{Consumer, Producer, PushError};
 
-/// A host's port. Contracts see which port it is, the steps that it put, with its number filled in, and the notes that
-/// it took.
+/// A host's port. Contracts see which port it is, the steps that it put, with its number filled in,
+/// and the notes that it took.
 #[derive(Drop)]
 pub struct HostPort {
     pub(crate) number: u8,
@@ -17,13 +18,17 @@ pub struct HostPort {
 }
 
 impl HostPort {
-    ghost use Rattle.std.specs.Prelude.{◌≡◌, ◌≤◌, ◌++◌, ◌∷◌, [], length, OnOk, OnErr, IfErr, IfSome, IfNone};
-    ghost use Rattle.lin_ports.specs.Ports.{host_wiring, host_put, host_took, host_ring, by_port, IsReceiptOf};
+    ghost use Rattle.std.specs.Prelude.{◌≡◌, ◌≤◌, ◌++◌, ◌∷◌, [], length, OnOk, OnErr, IfErr};
+    ghost use Rattle.std.specs.Prelude.{IfSome, IfNone};
+    ghost use Rattle.lin_ports.specs.Ports.{host_wiring, host_put, host_took, host_ring, by_port};
+    ghost use Rattle.lin_ports.specs.Ports.{IsReceiptOf};
 
-    /// Puts a step, or hands it back where the ring is full: then at least as many steps were put as it takes.
+    /// Puts a step, or hands it back where the ring is full: then at least as many steps were put
+    /// as it takes.
     pub fn put(&mut self, step: HostStep) -> Result<(), Full<HostStep>>
         ensures port { host_wiring self.new ≡ host_wiring self.old }
-        ensures ok { OnOk result (host_put self.new ≡ host_put self.old ++ by_port self.old step ∷ []) }
+        ensures ok { OnOk result
+            (host_put self.new ≡ host_put self.old ++ by_port self.old step ∷ []) }
         ensures back { IfErr result (λ e. (e.0 ≡ step) × (host_put self.new ≡ host_put self.old)) }
         ensures full { OnErr result (host_ring self.old ≤ length (host_put self.old)) }
         ensures took { host_took self.new ≡ host_took self.old }

@@ -22,7 +22,8 @@ impl Incoming {
     /// The next step of the port with this number.
     pub(crate) fn pop(&mut self, number: u8) -> Option<Step>
         ensures same { SameIncoming self.old self.new }
-        ensures some { IfSome result (λ s. popped number self.new ≡ popped number self.old ++ s ∷ []) }
+        ensures some { IfSome result
+            (λ s. popped number self.new ≡ popped number self.old ++ s ∷ []) }
         ensures none { IfNone result (popped number self.new ≡ popped number self.old) }
         ensures own { IfSome result (λ s. may (port_in number self.old) s ≡ true) }
         ensures small { IfSome result (λ s. IsSmall s) }

@@ -8,8 +8,8 @@ use crate::steps::Note;
 use lin_core::{Core, Hold, PortId};
 use rtrb::Producer;
 
-/// The pump's side of a port: its ends of the two rings, and how far the port was told of the log: all events of the
-/// entries before `seen`, and the first `part` events of the entry there.
+/// The pump's side of a port: its ends of the two rings, and how far the port was told of the log:
+/// all events of the entries before `seen`, and the first `part` events of the entry there.
 #[derive(Drop)]
 pub(crate) struct Lane {
     pub(crate) number: u8,
@@ -39,7 +39,8 @@ impl Lane {
 
     /// Takes at most one step of the port, and makes it on the core.
     pub(crate) fn serve(&mut self, core: &mut Core) -> Result<bool, RoundFault>
-        ensures serves { (base : ℕ) → Serves base core.old.log self.old → Serves base core.new.log self.new }
+        ensures serves { (base : ℕ) → Serves base core.old.log self.old
+            → Serves base core.new.log self.new }
         ensures same { SameLane self.old self.new }
         ensures adds { Served (port_of self.old) core.old core.new result }
         ensures alike { IsAlike core.old core.new }

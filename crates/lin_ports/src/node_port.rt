@@ -1,6 +1,7 @@
 //! The ports of nodes.
 
-ghost use Rattle.std.specs.Prelude.{◌≡◌, ◌≤◌, ◌++◌, ◌∷◌, [], length, OnOk, OnErr, IfErr, IfSome, IfNone};
+ghost use Rattle.std.specs.Prelude.{◌≡◌, ◌≤◌, ◌++◌, ◌∷◌, [], length, OnOk, OnErr, IfErr, IfSome};
+ghost use Rattle.std.specs.Prelude.{IfNone};
 
 use crate::ports::{Full, Outgoing, Receipt};
 use crate::steps::{NodeStep, Note};
@@ -16,13 +17,17 @@ pub struct NodePort {
 }
 
 impl NodePort {
-    ghost use Rattle.std.specs.Prelude.{◌≡◌, ◌≤◌, ◌++◌, ◌∷◌, [], length, OnOk, OnErr, IfErr, IfSome, IfNone};
-    ghost use Rattle.lin_ports.specs.Ports.{node_wiring, node_put, node_took, node_ring, by_node_port, IsReceiptOf};
+    ghost use Rattle.std.specs.Prelude.{◌≡◌, ◌≤◌, ◌++◌, ◌∷◌, [], length, OnOk, OnErr, IfErr};
+    ghost use Rattle.std.specs.Prelude.{IfSome, IfNone};
+    ghost use Rattle.lin_ports.specs.Ports.{node_wiring, node_put, node_took, node_ring};
+    ghost use Rattle.lin_ports.specs.Ports.{by_node_port, IsReceiptOf};
 
-    /// Puts a step, or hands it back where the ring is full: then at least as many steps were put as it takes.
+    /// Puts a step, or hands it back where the ring is full: then at least as many steps were put
+    /// as it takes.
     pub fn put(&mut self, step: NodeStep) -> Result<(), Full<NodeStep>>
         ensures port { node_wiring self.new ≡ node_wiring self.old }
-        ensures ok { OnOk result (node_put self.new ≡ node_put self.old ++ by_node_port self.old step ∷ []) }
+        ensures ok { OnOk result
+            (node_put self.new ≡ node_put self.old ++ by_node_port self.old step ∷ []) }
         ensures back { IfErr result (λ e. (e.0 ≡ step) × (node_put self.new ≡ node_put self.old)) }
         ensures full { OnErr result (node_ring self.old ≤ length (node_put self.old)) }
         ensures took { node_took self.new ≡ node_took self.old }

@@ -16,8 +16,8 @@ pub struct Taken {
     pub steps: u32,
 }
 
-/// Why a round ended early. What it added to the log stays, and each note that wasn't pushed is held for the next
-/// round.
+/// Why a round ended early. What it added to the log stays, and each note that wasn't pushed is
+/// held for the next round.
 #[derive(Clone, Copy, Debug, PartialEq, Eq)]
 pub enum RoundFault {
     /// The log has 4,294,967,295 entries.
@@ -25,8 +25,9 @@ pub enum RoundFault {
     OutOfMemory,
 }
 
-/// The pump: it owns the core, makes the steps of all ports on it, and tells each port its notes. Contracts see its
-/// core, the entries that the log got since `wire`, which ports it serves, and the notes that were pushed to each.
+/// The pump: it owns the core, makes the steps of all ports on it, and tells each port its notes.
+/// Contracts see its core, the entries that the log got since `wire`, which ports it serves, and
+/// the notes that were pushed to each.
 #[derive(Drop)]
 pub struct Pump {
     pub(crate) alloc: Global,
@@ -42,7 +43,8 @@ pub struct Pump {
 }
 
 impl Pump {
-    ghost use Rattle.std.specs.Prelude.{◌≡◌, ◌≢◌, ◌<◌, ◌+◌, ◌-◌, ◌^◌, ◌↔◌, ℕ, vec_len, length, IfOk, IfErr, IfSome, IfNone};
+    ghost use Rattle.std.specs.Prelude.{◌≡◌, ◌≢◌, ◌<◌, ◌+◌, ◌-◌, ◌^◌, ◌↔◌, ℕ, vec_len, length};
+    ghost use Rattle.std.specs.Prelude.{IfOk, IfErr, IfSome, IfNone};
     ghost use mathlib.Core.List.{IsPrefix};
     ghost use Rattle.lin_parts.specs.Cluster.{nodes};
     ghost use Rattle.lin_core.specs.Core.{IsStepped, IsLogFull};
@@ -58,8 +60,10 @@ impl Pump {
     fn serve(&mut self, i: u8) -> Result<bool, RoundFault>
         requires { i < vec_len self.old.lanes }
         ensures pump { KeepsPump self.old self.new }
-        ensures adds { Served (port_at (nodes self.old.core.cluster) i) self.old.core self.new.core result }
-        ensures full { IfErr result (λ fault. IsFullLog fault → length self.old.core.log ≡ 2 ^ 32 - 1) }
+        ensures adds { Served
+            (port_at (nodes self.old.core.cluster) i) self.old.core self.new.core result }
+        ensures full { IfErr result
+            (λ fault. IsFullLog fault → length self.old.core.log ≡ 2 ^ 32 - 1) }
         ensures stays { StaysSettled self.old self.new }
     {
         let lane = &mut self.lanes[i as usize];
@@ -70,8 +74,10 @@ impl Pump {
     fn serve_all(&mut self, count: u8) -> Result<u32, RoundFault>
         requires { count ≡ vec_len self.old.lanes }
         ensures pump { KeepsPump self.old self.new }
-        ensures adds { (n : ℕ) × AddsUpTo count self.old.core self.new.core n × IfOk result (λ steps. steps ≡ n) }
-        ensures full { IfErr result (λ fault. IsFullLog fault → length self.new.core.log ≡ 2 ^ 32 - 1) }
+        ensures adds { (n : ℕ) × AddsUpTo count self.old.core self.new.core n
+            × IfOk result (λ steps. steps ≡ n) }
+        ensures full { IfErr result
+            (λ fault. IsFullLog fault → length self.new.core.log ≡ 2 ^ 32 - 1) }
         ensures stays { StaysSettled self.old self.new }
     {
         let mut steps = 0;
@@ -98,13 +104,15 @@ impl Pump {
         lane.tell(self.alloc, &self.core)
     }
 
-    /// Takes at most one step of each port, hosts by number and then nodes, and then tells the ports their notes while
-    /// their rings have room. `LogFull` comes only where the log is full. A step is taken only after room was made for
-    /// its entry, so that none is lost.
+    /// Takes at most one step of each port, hosts by number and then nodes, and then tells the
+    /// ports their notes while their rings have room. `LogFull` comes only where the log is full. A
+    /// step is taken only after room was made for its entry, so that none is lost.
     pub fn round(&mut self) -> Result<Taken, RoundFault>
         ensures pump { KeepsPump self.old self.new }
-        ensures adds { (n : ℕ) × RoundAdds (core_of self.old) (core_of self.new) n × IfOk result (λ taken. taken.steps ≡ n) }
-        ensures full { IfErr result (λ fault. IsFullLog fault → length (core_of self.new).log ≡ 2 ^ 32 - 1) }
+        ensures adds { (n : ℕ) × RoundAdds (core_of self.old) (core_of self.new) n
+            × IfOk result (λ taken. taken.steps ≡ n) }
+        ensures full { IfErr result
+            (λ fault. IsFullLog fault → length (core_of self.new).log ≡ 2 ^ 32 - 1) }
         ensures stays { StaysSettled self.old self.new }
     {
         let count = self.lanes.len() as u8;
@@ -120,7 +128,8 @@ impl Pump {
         Ok(Taken { steps })
     }
 
-    /// Makes a step of the bus, or hands it back; the newest entry of the core's log has the answer.
+    /// Makes a step of the bus, or hands it back; the newest entry of the core's log has the
+    /// answer.
     pub fn own(&mut self, step: Step) -> Result<(), Hold>
         ensures stepped { IsStepped (core_of self.old) Bus step result (core_of self.new) }
         ensures full { IsLogFull result ↔ (length (core_of self.old).log ≡ 2 ^ 32 - 1) }
@@ -130,8 +139,8 @@ impl Pump {
         self.core.step(PortId::Bus, step)
     }
 
-    /// The core. Since `wire`, its log has of each host only its own Sends, Writes and Closes, and of each node only
-    /// its own Answers and Leaves.
+    /// The core. Since `wire`, its log has of each host only its own Sends, Writes and Closes, and
+    /// of each node only its own Answers and Leaves.
     pub fn core(&self) -> &Core
         ensures core { result.now ≡ core_of self.now }
         ensures own { OnlyOwn (since self.now) }
@@ -149,8 +158,11 @@ impl Pump {
 
     /// The place of a port's lane.
     fn place(&self, port: PortId) -> Option<usize>
-        ensures some { IfSome result (λ i. (i < vec_len self.now.lanes) × (port_at (nodes self.now.core.cluster) i ≡ port)) }
-        ensures none { IfNone result ((i : ℕ) → i < vec_len self.now.lanes → port_at (nodes self.now.core.cluster) i ≢ port) }
+        ensures some { IfSome result
+            (λ i. (i < vec_len self.now.lanes) × (port_at (nodes self.now.core.cluster) i ≡ port)) }
+        ensures none { IfNone result
+            ((i : ℕ) → i < vec_len self.now.lanes
+            → port_at (nodes self.now.core.cluster) i ≢ port) }
     {
         let nodes = self.core.cluster().nodes();
         match port {
@@ -160,8 +172,8 @@ impl Pump {
         }
     }
 
-    /// How many notes were pushed to a port so far; 0 for the bus and for a number that is no node. They are the first
-    /// ones of those that the log names for it since `wire`.
+    /// How many notes were pushed to a port so far; 0 for the bus and for a number that is no node.
+    /// They are the first ones of those that the log names for it since `wire`.
     pub fn given(&self, port: PortId) -> u64
         ensures count { result ≡ length (given_to self.now port) }
         ensures first { IsPrefix (given_to self.now port) (notes (since self.now) port) }
@@ -172,8 +184,8 @@ impl Pump {
         }
     }
 
-    /// Compares what a port of this pump put with what is logged. After `Whole` no step of it is taken and no note is
-    /// pushed to it any more.
+    /// Compares what a port of this pump put with what is logged. After `Whole` no step of it is
+    /// taken and no note is pushed to it any more.
     pub fn settle(&mut self, receipt: Receipt) -> Settled
         requires { IsWired self.old (receipt_wiring receipt) }
         ensures settles { Settles self.new receipt result }

@@ -6,8 +6,8 @@ use crate::incoming::Incoming;
 use crate::lane::Lane;
 use crate::ports::{Outgoing, Receipt};
 
-/// What settling found: all steps of the port are logged and the pump passes it over from now on, or some still stand
-/// in its ring.
+/// What settling found: all steps of the port are logged and the pump passes it over from now on,
+/// or some still stand in its ring.
 #[derive(Drop)]
 pub enum Settled {
     Whole(Receipt),
@@ -29,7 +29,9 @@ impl Incoming {
         ensures port { (n : ℕ) → port_out n put.new ≡ port_out n put.old }
         ensures ring { ring_out put.new ≡ ring_out put.old }
         ensures puts { (n : ℕ) → puts n put.new ≡ puts n put.old }
-        ensures fifo { (n : ℕ) → (rest : List Step) × (popped n self.new ++ rest ≡ puts n put.new) × (length rest ≡ result) }
+        ensures fifo { (n : ℕ)
+            → (rest : List Step) × (popped n self.new ++ rest ≡ puts n put.new)
+            × (length rest ≡ result) }
     {
         match self {
             Incoming::Host(popped) => match put {

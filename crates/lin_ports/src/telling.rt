@@ -1,6 +1,7 @@
 //! How a port is told of the log.
 
-ghost use Rattle.std.specs.Prelude.{◌≡◌, ◌<◌, ◌≤◌, ◌+◌, ◌-◌, ◌^◌, ◌∷◌, [], length, MatchResult, MatchBool};
+ghost use Rattle.std.specs.Prelude.{◌≡◌, ◌<◌, ◌≤◌, ◌+◌, ◌-◌, ◌^◌, ◌∷◌, [], length, MatchResult};
+ghost use Rattle.std.specs.Prelude.{MatchBool};
 
 use crate::lane::Lane;
 use crate::steps::{Note, is_same, is_told};
@@ -8,7 +9,8 @@ use lin_core::{Core, Event, LogEntry, PortId, Refusal, Reply};
 use std::alloc::{AllocError, Global};
 
 impl Lane {
-    ghost use Rattle.std.specs.Prelude.{◌≡◌, ◌<◌, ◌+◌, ◌-◌, ◌^◌, ◌∷◌, [], ℕ, ⊤, List, Some, true, length, MatchResult, MatchBool};
+    ghost use Rattle.std.specs.Prelude.{◌≡◌, ◌<◌, ◌+◌, ◌-◌, ◌^◌, ◌∷◌, [], ℕ, ⊤, List, Some, true};
+    ghost use Rattle.std.specs.Prelude.{length, MatchResult, MatchBool};
     ghost use Rattle.lin_ports.specs.Lanes.{GoesOn, Tells, TellsEvent, Serves, SameLane, port_of};
     ghost use Rattle.lin_ports.specs.Steps.{event_notes};
     ghost use Rattle.rtrb.specs.Ring.{known_free, sent};
@@ -21,7 +23,8 @@ impl Lane {
         ensures told { Tells self.old self.new [] }
         ensures part { self.new.part ≡ self.old.part }
         ensures seen { self.new.seen ≡ self.old.seen }
-        ensures room { MatchBool result ((0 < known_free self.new.notes) × (self.new.given < 2 ^ 64 - 1)) ⊤ }
+        ensures room { MatchBool result
+            ((0 < known_free self.new.notes) × (self.new.given < 2 ^ 64 - 1)) ⊤ }
     {
         self.given != u64::MAX && !self.notes.is_full()
     }
@@ -30,7 +33,8 @@ impl Lane {
     fn tell_event(&mut self, alloc: Global, event: &Event) -> Result<bool, AllocError>
         requires { self.old.part < 2 ^ 64 - 1 }
         ensures seen { self.new.seen ≡ self.old.seen }
-        ensures told { TellsEvent self.old self.new (event_notes (port_of self.old) (event.now ∷ [])) result }
+        ensures told { TellsEvent self.old self.new
+            (event_notes (port_of self.old) (event.now ∷ [])) result }
     {
         if !is_told(self.port(), event) {
             self.part += 1;
@@ -49,8 +53,8 @@ impl Lane {
         Ok(true)
     }
 
-    /// Pushes the notes of an entry's events from `part` on, and goes on to the next entry. False where the ring has no
-    /// room.
+    /// Pushes the notes of an entry's events from `part` on, and goes on to the next entry. False
+    /// where the ring has no room.
     fn tell_events(&mut self, alloc: Global, events: &[Event]) -> Result<bool, AllocError>
         requires { self.old.seen < 2 ^ 32 }
         ensures same { SameLane self.old self.new }
@@ -74,8 +78,8 @@ impl Lane {
         Ok(true)
     }
 
-    /// Pushes the note of an entry that was refused, if it is the port's, and goes on. False where the ring has no
-    /// room.
+    /// Pushes the note of an entry that was refused, if it is the port's, and goes on. False where
+    /// the ring has no room.
     fn tell_refusal(&mut self, by: PortId, refusal: Refusal) -> bool
         requires seen { self.old.seen < 2 ^ 32 }
         ensures same { SameLane self.old self.new }
@@ -85,7 +89,8 @@ impl Lane {
             → e.port ≡ by
             → e.reply ≡ Refused refusal
             → Serves base log self.new }
-        ensures next { MatchBool result (self.new.seen ≡ self.old.seen + 1) (self.new.seen ≡ self.old.seen) }
+        ensures next { MatchBool result (self.new.seen ≡ self.old.seen + 1)
+            (self.new.seen ≡ self.old.seen) }
         ensures settled { self.new.settled ≡ self.old.settled }
     {
         if !is_same(by, self.port()) {
@@ -107,7 +112,8 @@ impl Lane {
     fn tell_entry(&mut self, alloc: Global, entry: &LogEntry) -> Result<bool, AllocError>
         requires { self.old.seen < 2 ^ 32 }
         ensures same { SameLane self.old self.new }
-        ensures serves { (base : ℕ) (log : List LogEntry) → Serves base log self.old → slice_get log self.old.seen ≡ Some entry.now → Serves base log self.new }
+        ensures serves { (base : ℕ) (log : List LogEntry) → Serves base log self.old
+            → slice_get log self.old.seen ≡ Some entry.now → Serves base log self.new }
         ensures next { GoesOn self.old self.new result }
     {
         match &entry.reply {
@@ -119,7 +125,8 @@ impl Lane {
     /// Pushes the port's notes while their ring has room.
     pub(crate) fn tell(&mut self, alloc: Global, core: &Core) -> Result<(), AllocError>
         ensures same { SameLane self.old self.new }
-        ensures serves { (base : ℕ) → Serves base core.now.log self.old → Serves base core.now.log self.new }
+        ensures serves { (base : ℕ) → Serves base core.now.log self.old
+            → Serves base core.now.log self.new }
         ensures settled { self.old.settled ≡ true → sent self.new.notes ≡ sent self.old.notes }
     {
         if self.settled {

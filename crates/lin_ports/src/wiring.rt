@@ -6,7 +6,8 @@ ghost use Rattle.lin_parts.specs.Cluster.{nodes};
 ghost use Rattle.lin_ports.specs.Lanes.{lane_wiring};
 ghost use Rattle.lin_ports.specs.Ports.{host_wiring, node_wiring};
 ghost use Rattle.lin_ports.specs.Pumps.{core_of, since, wirings};
-ghost use Rattle.lin_ports.specs.Wired.{AreHosts, AreNewLanes, AreNodes, IsNewHost, IsNewLane, IsNewNode};
+ghost use Rattle.lin_ports.specs.Wired.{AreHosts, AreNewLanes, AreNodes, IsNewHost, IsNewLane};
+ghost use Rattle.lin_ports.specs.Wired.{IsNewNode};
 
 use crate::host_port::HostPort;
 use crate::incoming::Incoming;
@@ -88,7 +89,8 @@ fn open_hosts(
     ensures lanes { IfOk result (λ ports. AreNewLanes nodes seen lanes.new.items) }
     ensures count { IfOk result (λ ports. length lanes.new.items ≡ nodes) }
     ensures ports { IfOk result (λ ports. AreHosts ring nodes ports.items) }
-    ensures wirings { IfOk result (λ ports. map lane_wiring lanes.new.items ≡ map host_wiring ports.items) }
+    ensures wirings { IfOk result
+        (λ ports. map lane_wiring lanes.new.items ≡ map host_wiring ports.items) }
 {
     let mut ports = Vec::new(alloc);
     for number in 0..nodes {
@@ -111,7 +113,9 @@ fn open_nodes(
     ensures lanes { IfOk result (λ ports. AreNewLanes nodes seen lanes.new.items) }
     ensures count { IfOk result (λ ports. length lanes.new.items ≡ nodes + nodes) }
     ensures ports { IfOk result (λ ports. AreNodes ring nodes ports.items) }
-    ensures wirings { IfOk result (λ ports. map lane_wiring lanes.new.items ≡ map lane_wiring lanes.old.items ++ map node_wiring ports.items) }
+    ensures wirings { IfOk result
+        (λ ports. map lane_wiring lanes.new.items
+        ≡ map lane_wiring lanes.old.items ++ map node_wiring ports.items) }
 {
     let mut ports = Vec::new(alloc);
     for number in 0..nodes {
@@ -122,9 +126,9 @@ fn open_nodes(
     Ok(ports)
 }
 
-/// The ports of a core's nodes, one for the host and one for the node of each, and the pump that serves them; each ring
-/// takes `ring` items (1 to 1,024). The core may have a log already, and notes begin behind it. An error is want of
-/// memory, and the core is dropped.
+/// The ports of a core's nodes, one for the host and one for the node of each, and the pump that
+/// serves them; each ring takes `ring` items (1 to 1,024). The core may have a log already, and
+/// notes begin after it. an error means out of memory, and the core is dropped.
 pub fn wire(
     alloc: Global,
     core: Core,
@@ -134,7 +138,8 @@ pub fn wire(
     requires few { ring ≤ 1024 }
     ensures core { IfOk result (λ r. core_of r.0 ≡ core) }
     ensures since { IfOk result (λ r. since r.0 ≡ []) }
-    ensures ports { IfOk result (λ r. wirings r.0 ≡ map host_wiring r.1.items ++ map node_wiring r.2.items) }
+    ensures ports { IfOk result
+        (λ r. wirings r.0 ≡ map host_wiring r.1.items ++ map node_wiring r.2.items) }
     ensures hosts { IfOk result (λ r. AreHosts ring (nodes core.cluster) r.1.items) }
     ensures nodes { IfOk result (λ r. AreNodes ring (nodes core.cluster) r.2.items) }
 {

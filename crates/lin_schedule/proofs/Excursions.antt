@@ -36,12 +36,12 @@ excursion-inside c opening moves r resolved (x ∷ xs) lt =
     let more : nat_lt (suc (length xs)) (length (table_of c r)) ≡ true = (Decides-ltb (suc (length xs)) (length (table_of c r))).1 lt in
     rw (excursion-inside c opening moves r resolved xs (omega arith), more) refl
 
--- behind
-pub excursion-behind : (c : Parts) (opening : ℕ) (moves : List Move) (r : ℕ) → IsResolvedBy c opening moves r → (clashes : List Bool)
+-- after
+pub excursion-after : (c : Parts) (opening : ℕ) (moves : List Move) (r : ℕ) → IsResolvedBy c opening moves r → (clashes : List Bool)
     → length clashes ≡ length (table_of c r)
     → standing c opening (map Slot clashes ++ Slot true ∷ moves) ≡ standing c opening (Slot false ∷ moves)
-excursion-behind c opening moves r resolved [] is = let some = resolved.entries in absurd (omega arith)
-excursion-behind c opening moves r resolved (x ∷ xs) is =
+excursion-after c opening moves r resolved [] is = let some = resolved.entries in absurd (omega arith)
+excursion-after c opening moves r resolved (x ∷ xs) is =
     let s : Standing = standing c opening moves in
     let main : Standing = standing c opening (Slot false ∷ moves) in
     let last : nat_lt (suc (length xs)) (length (table_of c r)) ≡ false = grind (arith, nat_tests) in
@@ -52,5 +52,5 @@ pub excursion-IsExcursion : (c : Parts) (opening : ℕ) (moves : List Move) (r :
     → IsExcursion c opening moves r clashes
 excursion-IsExcursion c opening moves r resolved clashes = record {
   inside = λ lt. ap (due c) (excursion-inside c opening moves r resolved clashes lt);
-  behind = excursion-behind c opening moves r resolved clashes;
+  after = excursion-after c opening moves r resolved clashes;
 }

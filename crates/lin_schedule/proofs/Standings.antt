@@ -86,37 +86,37 @@ started-when : (clash : Bool) (resolver : Option ℕ)
 started-when true resolver = refl
 started-when false resolver = refl
 
--- the position behind a main slot: in the resolving table where one is started, else on the next entry
-abbrev pub behind_main : Option ℕ → ℕ × ℕ → Position
-behind_main resolver main =
+-- the position after a main slot: in the resolving table where one is started, else on the next entry
+abbrev pub position_after_main : Option ℕ → ℕ × ℕ → Position
+position_after_main resolver main =
     choose resolver (record { place = main; back = None }) (λ t. record { place = (t, 0); back = Some main })
 
 -- the position of an excursion, or of a main slot where there is none
 abbrev pub position_at : Option (ℕ × ℕ) → ℕ × ℕ → Position
 position_at excursion main = record { place = choose excursion main (λ place. place); back = option_map (λ _. main) excursion }
 
-behind_main-is : (resolver : Option ℕ) (main : ℕ × ℕ)
-    → behind_main resolver main ≡ position_at (started resolver) main
-behind_main-is None main = refl
-behind_main-is (Some t) main = refl
+position_after_main-is : (resolver : Option ℕ) (main : ℕ × ℕ)
+    → position_after_main resolver main ≡ position_at (started resolver) main
+position_after_main-is None main = refl
+position_after_main-is (Some t) main = refl
 
 -- a main slot at entry k of table t
 main-slot : (c : Parts) (t elapsed : ℕ) (clash : Bool) → AreDelays (table_of c t) → IsOn (table_of c t) elapsed
     → let k : ℕ = entry_at (table_of c t) elapsed in
-    behind_main (if clash then resolving c (line_of c t k).entry else None) (t, next (table_of c t) k)
+    position_after_main (if clash then resolving c (line_of c t k).entry else None) (t, next (table_of c t) k)
     ≡ position_of c (after_slot c (record { table = t; elapsed = elapsed; excursion = None }) clash)
 main-slot c t elapsed clash delays on =
     let k : ℕ = entry_at (table_of c t) elapsed in
     let e : Entry = (line_of c t k).entry in
     let moved : entry_at (table_of c t) (elapsed + (line_of c t k).delay_us) ≡ next (table_of c t) k = entry_at-next (table_of c t) delays elapsed on in
-    behind_main-is (if clash then resolving c e else None) (t, next (table_of c t) k)
+    position_after_main-is (if clash then resolving c e else None) (t, next (table_of c t) k)
     ∙ ap (λ (x : Option (ℕ × ℕ)). position_at x (t, next (table_of c t) k)) (sym (started-when clash (resolving c e)))
     ∙ ap (λ (j : ℕ). position_at (if clash then started (resolving c e) else None) (t, j)) (sym moved)
 
 stands-main-at : (c : Parts) → AreWalkable c → (t elapsed : ℕ) (excursion : Option (ℕ × ℕ)) (clash : Bool) (table entry : ℕ)
     → IsTimed c (record { table = t; elapsed = elapsed; excursion = excursion }) → table < length c.tables
     → record { place = (table, entry); back = None } ≡ position_of c (record { table = t; elapsed = elapsed; excursion = excursion })
-    → behind_main (if clash then resolving c (line_of c table entry).entry else None) (table, next (table_of c table) entry)
+    → position_after_main (if clash then resolving c (line_of c table entry).entry else None) (table, next (table_of c table) entry)
     ≡ position_of c (after_slot c (record { table = t; elapsed = elapsed; excursion = excursion }) clash)
 stands-main-at c h t elapsed None clash table entry timed lt e =
     let table_is : t ≡ table = sym (ap (λ (w : Position). w.place.0) e) in
@@ -130,40 +130,40 @@ stands-main-at c h t elapsed (Some place) clash table entry timed lt e =
 pub Stands-main : (c : Parts) → AreWalkable c → (opening : ℕ) (moves : List Move) (clash : Bool) (table entry : ℕ) → table < length c.tables
     → Stands c opening (record { place = (table, entry); back = None }) moves
     → Stands c opening
-    (behind_main (if clash then resolving c (line_of c table entry).entry else None) (table, next (table_of c table) entry))
+    (position_after_main (if clash then resolving c (line_of c table entry).entry else None) (table, next (table_of c table) entry))
     (Slot clash ∷ moves)
 Stands-main c h opening moves clash table entry lt stands =
     let s : Standing = standing c opening moves in
     stands-main-at c h s.table s.elapsed s.excursion clash table entry (IsTimed-standing c h opening moves) lt stands
 
--- the position behind a slot of an excursion
-abbrev pub behind_place : Parts → ℕ × ℕ → ℕ × ℕ → Position
-behind_place c place back =
+-- the position after a slot of an excursion
+abbrev pub position_after_place : Parts → ℕ × ℕ → ℕ × ℕ → Position
+position_after_place c place back =
     if nat_lt (suc place.1) (length (table_of c place.0))
     then record { place = (place.0, suc place.1); back = Some back }
     else record { place = back; back = None }
 
-behind_place-is : (more : Bool) (place main : ℕ × ℕ)
+position_after_place-is : (more : Bool) (place main : ℕ × ℕ)
     → (if more then record { place = (place.0, suc place.1); back = Some main } else record { place = main; back = None })
     ≡ position_at (if more then Some (place.0, suc place.1) else None) main
-behind_place-is true place main = refl
-behind_place-is false place main = refl
+position_after_place-is true place main = refl
+position_after_place-is false place main = refl
 
 stands-place-at : (c : Parts) (t elapsed : ℕ) (excursion : Option (ℕ × ℕ)) (clash : Bool) (place back : ℕ × ℕ)
     → record { place = place; back = Some back } ≡ position_of c (record { table = t; elapsed = elapsed; excursion = excursion })
-    → behind_place c place back ≡ position_of c (after_slot c (record { table = t; elapsed = elapsed; excursion = excursion }) clash)
+    → position_after_place c place back ≡ position_of c (after_slot c (record { table = t; elapsed = elapsed; excursion = excursion }) clash)
 stands-place-at c t elapsed None clash place back e =
     absurd (none-some back (sym (ap (λ (w : Position). w.back) e)))
 stands-place-at c t elapsed (Some at) clash place back e =
     let place_is : place ≡ at = ap (λ (w : Position). w.place) e in
     let both : Some back ≡ Some (t, entry_at (table_of c t) elapsed) = ap (λ (w : Position). w.back) e in
     let back_is : back ≡ (t, entry_at (table_of c t) elapsed) = cc in
-    rw (place_is, back_is) (behind_place-is (nat_lt (suc at.1) (length (table_of c at.0))) at (t, entry_at (table_of c t) elapsed))
+    rw (place_is, back_is) (position_after_place-is (nat_lt (suc at.1) (length (table_of c at.0))) at (t, entry_at (table_of c t) elapsed))
 
 -- the walker stands for one more slot of an excursion
 pub Stands-place : (c : Parts) (opening : ℕ) (moves : List Move) (clash : Bool) (place back : ℕ × ℕ)
     → Stands c opening (record { place = place; back = Some back }) moves
-    → Stands c opening (behind_place c place back) (Slot clash ∷ moves)
+    → Stands c opening (position_after_place c place back) (Slot clash ∷ moves)
 Stands-place c opening moves clash place back stands =
     let s : Standing = standing c opening moves in
     stands-place-at c s.table s.elapsed s.excursion clash place back stands
@@ -175,7 +175,7 @@ pub Stands-resolving : (c : Parts) → AreWalkable c → (opening : ℕ) (moves 
     → Stands c opening (record { place = (t, 0); back = Some (table, n) }) (Slot clash ∷ moves)
 Stands-resolving c h opening moves clash table entry lt stands t n is next_is =
     rw next_is
-    (subst (λ (r : Option ℕ). Stands c opening (behind_main r (table, next (table_of c table) entry)) (Slot clash ∷ moves)) (sym is)
+    (subst (λ (r : Option ℕ). Stands c opening (position_after_main r (table, next (table_of c table) entry)) (Slot clash ∷ moves)) (sym is)
     (Stands-main c h opening moves clash table entry lt stands))
 
 -- a main slot that starts none
@@ -185,7 +185,7 @@ pub Stands-next : (c : Parts) → AreWalkable c → (opening : ℕ) (moves : Lis
     → Stands c opening (record { place = (table, n); back = None }) (Slot clash ∷ moves)
 Stands-next c h opening moves clash table entry lt stands n is next_is =
     rw next_is
-    (subst (λ (r : Option ℕ). Stands c opening (behind_main r (table, next (table_of c table) entry)) (Slot clash ∷ moves)) (sym is)
+    (subst (λ (r : Option ℕ). Stands c opening (position_after_main r (table, next (table_of c table) entry)) (Slot clash ∷ moves)) (sym is)
     (Stands-main c h opening moves clash table entry lt stands))
 
 -- a walker with no way back

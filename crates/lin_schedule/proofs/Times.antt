@@ -23,7 +23,7 @@ delay_at table k = (slice_index_or table k no_line).delay_us
 abbrev pub AreDelays : List Line → Type 0
 AreDelays table = (k : ℕ) → k < length table → 1 ≤ delay_at table k
 
--- behind an entry its delay has passed
+-- after an entry its delay has passed
 pub offset-suc : (table : List Line) (k : ℕ) → k < length table → offset table (suc k) ≡ offset table k + delay_at table k
 offset-suc table k h = rw (← add-one k) (sum_by_more (λ line. line.delay_us) table k no_line h)
 
@@ -90,7 +90,7 @@ entry_at-offset table h k t lt e =
     let rises = offset-below table h j k less (omega arith) in grind (arith, nat_tests) in
     rw (find-first p k (length table) lt here before) refl
 
--- the entry behind one, the first again behind the last
+-- the entry after one, the first again after the last
 abbrev pub next : List Line → ℕ → ℕ
 next table k = if nat_lt (suc k) (length table) then suc k else 0
 
@@ -113,7 +113,7 @@ entry_at-start table h lt = entry_at-offset table h 0 0 lt (offset-start table)
 pub next-lt : (table : List Line) (k : ℕ) → k < length table → next table k < length table
 next-lt table k lt = grind (arith, nat_tests)
 
--- when an entry's delay has passed, the time is that of the entry behind it
+-- when an entry's delay has passed, the time is that of the entry after it
 pub offset-next : (table : List Line) → AreDelays table → (k t : ℕ) → k < length table → offset table k ≡ t % total table
     → offset table (next table k) ≡ (t + delay_at table k) % total table
 offset-next table h k t lt e =

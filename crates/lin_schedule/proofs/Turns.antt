@@ -13,7 +13,7 @@ use Rattle.lin_schedule.specs.Law.{HaveOwnOffsets, time_of_slots, IsInTurn, IsDu
 use Rattle.lin_schedule.proofs.Clusters.{table-length, table-delays}
 use Rattle.lin_schedule.proofs.Times.{AreDelays, entry_at-offset, offset-apart, offset-next, offset-start, next}
 
--- the entry behind the one in turn is in turn
+-- the entry after the one in turn is in turn
 pub next-in_turn : (table : List Line) (n : ℕ) → 0 < length table → next table (n % length table) ≡ suc n % length table
 next-in_turn table n some =
     let k : ℕ = n % length table in

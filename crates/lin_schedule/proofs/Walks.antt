@@ -15,16 +15,16 @@ use Rattle.lin_schedule.proofs.Clusters.{table-start, line-entry, resolving-star
 use Rattle.lin_schedule.proofs.Times.{next, next-lt}
 use Rattle.lin_schedule.proofs.Standings.{main_table}
 
--- the entry behind one, where there is one
-abbrev pub behind : ℕ → ℕ → Option ℕ
-behind len entry = if nat_lt (suc entry) len then Some (suc entry) else None
+-- the entry after one, where there is one
+abbrev pub after : ℕ → ℕ → Option ℕ
+after len entry = if nat_lt (suc entry) len then Some (suc entry) else None
 
-behind-when : (more : Bool) (entry n : ℕ) → Some n ≡ (if more then Some (suc entry) else None) → (more ≡ true) × (n ≡ suc entry)
-behind-when true entry n is = (refl, cc)
-behind-when false entry n is = absurd (none-some n (sym is))
+after-when : (more : Bool) (entry n : ℕ) → Some n ≡ (if more then Some (suc entry) else None) → (more ≡ true) × (n ≡ suc entry)
+after-when true entry n is = (refl, cc)
+after-when false entry n is = absurd (none-some n (sym is))
 
-pub behind-lt : (len entry n : ℕ) → Some n ≡ behind len entry → n < len
-behind-lt len entry n is = let both = behind-when (nat_lt (suc entry) len) entry n is in grind (arith, nat_tests)
+pub after-lt : (len entry n : ℕ) → Some n ≡ after len entry → n < len
+after-lt len entry n is = let both = after-when (nat_lt (suc entry) len) entry n is in grind (arith, nat_tests)
 
 -- no way back
 pub no-back : (P : ℕ × ℕ → Type 0) → ForSome None P
@@ -35,10 +35,10 @@ pub one-back : (P : ℕ × ℕ → Type 0) (back : ℕ × ℕ) → P back → Fo
 one-back P back h = λ x is. let same : back ≡ x = cc in subst P same h
 
 -- on to a later entry of the table
-pub Walks-on : (c : Parts) (walker : Position) (n : ℕ) → Walks c walker → Some n ≡ behind (length (table_of c walker.place.0)) walker.place.1
+pub Walks-on : (c : Parts) (walker : Position) (n : ℕ) → Walks c walker → Some n ≡ after (length (table_of c walker.place.0)) walker.place.1
     → Walks c (record { place = (walker.place.0, n); back = walker.back })
 Walks-on c walker n walks is = record {
-  place = (walks.place.0, behind-lt (length (table_of c walker.place.0)) walker.place.1 n is);
+  place = (walks.place.0, after-lt (length (table_of c walker.place.0)) walker.place.1 n is);
   back = walks.back;
 }
 
@@ -88,7 +88,7 @@ Walks-next c walker walks n next_is = record {
   back = walks.back;
 }
 
--- the entry behind one, or the first where there is none, is the next
+-- the entry after one, or the first where there is none, is the next
 pub unwrapped-next : (more : Bool) (entry : ℕ) → unwrap_or (if more then Some (suc entry) else None) 0 ≡ (if more then suc entry else 0)
 unwrapped-next true entry = refl
 unwrapped-next false entry = refl

@@ -3,7 +3,8 @@ use Rattle.std.specs.Prelude.{Bool, false, List, slice_index_or, find}
 use Rattle.lin_parts.specs.Cluster.{sporadic_of}
 use Rattle.lin_parts.specs.declared.parts.Parts.{Parts}
 use Rattle.lin_parts.specs.declared.parts.Entry.{Entry}
-use Rattle.lin_parts.specs.declared.parts.Entry.TheVariants.{Frame, Sporadic, Event, MasterReq, SlaveResp, Quiet}
+use Rattle.lin_parts.specs.declared.parts.Entry.TheVariants.{Frame, Sporadic, Event, MasterReq}
+use Rattle.lin_parts.specs.declared.parts.Entry.TheVariants.{SlaveResp, Quiet}
 use Rattle.lin_schedule.specs.declared.due.Due.{Due}
 use Rattle.lin_schedule.specs.declared.due.Due.TheVariants.{
   Frame as FrameDue,
@@ -14,10 +15,12 @@ use Rattle.lin_schedule.specs.declared.due.Due.TheVariants.{
   Quiet as QuietDue,
 }
 
--- what a schedule entry asks for, where these frames are pending: of a sporadic frame the first pending one in its list
+-- what a schedule entry asks for, where these frames are pending: of a sporadic frame the first
+-- pending one in its list
 abbrev pub due_for : Parts → List Bool → Entry → Due
 due_for c pending (Frame f) = FrameDue f
-due_for c pending (Sporadic k) = SporadicDue (find (λ f. slice_index_or pending f false) (sporadic_of c k))
+due_for c pending (Sporadic k) =
+    SporadicDue (find (λ f. slice_index_or pending f false) (sporadic_of c k))
 due_for c pending (Event e) = EventDue e
 due_for c pending MasterReq = MasterReqDue
 due_for c pending SlaveResp = SlaveRespDue

@@ -1,5 +1,7 @@
--- Which entry of which schedule table is due (ISO 17987-3, schedule tables and event-triggered frames).
-use Rattle.std.specs.Prelude.{ℕ, suc, ◌+◌, ◌%◌, Bool, nat_lt, ◌==◌, if◌then◌else◌, List, [], ◌∷◌, length, take, sum_by, find, Option, Some, None}
+-- Which entry of which schedule table is due (ISO 17987-3, schedule tables and event-triggered
+-- frames).
+use Rattle.std.specs.Prelude.{ℕ, suc, ◌+◌, ◌%◌, Bool, nat_lt, ◌==◌, if◌then◌else◌, List, [], ◌∷◌}
+use Rattle.std.specs.Prelude.{length, take, sum_by, find, Option, Some, None}
 use Rattle.lin_frame.specs.Words.{numbers, choose}
 use Rattle.lin_parts.specs.Cluster.{event_of, table_of, line_of}
 use Rattle.lin_parts.specs.declared.parts.Parts.{Parts}
@@ -15,15 +17,15 @@ offset table k = sum_by (λ line. line.delay_us) (take k table)
 abbrev pub total : List Line → ℕ
 total table = sum_by (λ line. line.delay_us) table
 
--- what moves a schedule on: a slot, which was seen damaged or collided where `clash` says so, a switch to a table, or a
--- new start of the current table
+-- what moves a schedule on: a slot, which was seen damaged or collided where `clash` says so, a
+-- switch to a table, or a new start of the current table
 pub data Move : Type 0 where
   Slot : (clash : Bool) → Move
   Switch : (table : ℕ) → Move
   Restart : Move
 
--- where a schedule stands: its table, the delays of the main slots since the origin, and, inside an excursion, the
--- resolving table and the place in it
+-- where a schedule stands: its table, the delays of the main slots since the origin, and, inside an
+-- excursion, the resolving table and the place in it
 pub record Standing : Type 0 where
   pub table : ℕ
   pub elapsed : ℕ
@@ -31,7 +33,8 @@ pub record Standing : Type 0 where
 
 -- the entry of a table that is due when t has passed since its start
 abbrev pub entry_at : List Line → ℕ → ℕ
-entry_at table t = choose (find (λ k. offset table k == t % total table) (numbers (length table))) 0 (λ k. k)
+entry_at table t =
+    choose (find (λ k. offset table k == t % total table) (numbers (length table))) 0 (λ k. k)
 
 -- the due table and entry of a main slot
 abbrev pub due_in_main : Parts → Standing → ℕ × ℕ
@@ -62,13 +65,17 @@ after_main c s line clash =
 -- after a slot of an excursion: it goes on to the resolving table's end
 abbrev pub after_place : Parts → Standing → ℕ × ℕ → Standing
 after_place c s place =
-    record s { excursion = if nat_lt (suc place.1) (length (table_of c place.0)) then Some (place.0, suc place.1) else None }
+    record s {
+      excursion = if nat_lt (suc place.1) (length (table_of c place.0))
+          then Some (place.0, suc place.1) else None;
+    }
 
 -- where a schedule that opened with a table stands after these moves, the newest first
 abbrev pub standing : Parts → ℕ → List Move → Standing
 standing c opening [] = record { table = opening; elapsed = 0; excursion = None }
 standing c opening (Switch t ∷ earlier) = record { table = t; elapsed = 0; excursion = None }
-standing c opening (Restart ∷ earlier) = record { table = (standing c opening earlier).table; elapsed = 0; excursion = None }
+standing c opening (Restart ∷ earlier) =
+    record { table = (standing c opening earlier).table; elapsed = 0; excursion = None }
 standing c opening (Slot clash ∷ earlier) =
     let s : Standing = standing c opening earlier
     in choose s.excursion (after_main c s (due_line c s) clash) (after_place c s)

@@ -5,7 +5,8 @@ use Rattle.lin_parts.specs.Cluster.{table_of}
 use Rattle.lin_parts.specs.declared.parts.Parts.{Parts}
 use Rattle.lin_schedule.specs.Schedule.{Move, Standing, due, due_in_main, standing}
 
--- the table and entry of the next slot, and, inside an excursion, those with which the schedule goes on behind it
+-- the table and entry of the next slot, and, inside an excursion, those with which the schedule
+-- goes on after it
 pub record Position : Type 0 where
   pub place : ℕ × ℕ
   pub back : Option (ℕ × ℕ)
@@ -14,7 +15,8 @@ pub record Position : Type 0 where
 abbrev pub position_of : Parts → Standing → Position
 position_of c s = record { place = due c s; back = option_map (λ _. due_in_main c s) s.excursion }
 
--- on this cluster, where the schedule opened with this table, the walker stands for these moves, the newest first
+-- on this cluster, where the schedule opened with this table, the walker stands for these moves,
+-- the newest first
 abbrev pub Stands : Parts → ℕ → Position → List Move → Type 0
 Stands c opening walker moves = walker ≡ position_of c (standing c opening moves)
 

@@ -1,6 +1,7 @@
 //! What is due in a slot.
 
-/// What is due in a slot, for a schedule entry of each kind (ISO 17987-3, schedule tables). Frames are given by their numbers.
+/// What is due in a slot, for a schedule entry of each kind (ISO 17987-3, schedule tables). Frames
+/// are given by their numbers.
 #[derive(Clone, Copy, Debug, PartialEq, Eq)]
 pub enum Due {
     /// An unconditional frame.

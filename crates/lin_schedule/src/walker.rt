@@ -1,20 +1,24 @@
 //! The walk through schedule tables.
 
-ghost use Rattle.std.specs.Prelude.{◌≡◌, ◌<◌, ℕ, suc, List, [], ◌∷◌, length, nat_lt, if◌then◌else◌, Option, Some, None, All, find, slice_index_or, false};
+ghost use Rattle.std.specs.Prelude.{◌≡◌, ◌<◌, ℕ, suc, List, [], ◌∷◌, length, nat_lt};
+ghost use Rattle.std.specs.Prelude.{if◌then◌else◌, Option, Some, None, All, find, slice_index_or};
+ghost use Rattle.std.specs.Prelude.{false};
 ghost use Rattle.lin_parts.specs.Cluster.{table_of, line_of};
 ghost use Rattle.lin_parts.specs.Rules.{IsCluster, IsEntry};
 ghost use Rattle.lin_parts.specs.declared.parts.Parts.{Parts};
 ghost use Rattle.lin_schedule.specs.Due.{due_for};
-ghost use Rattle.lin_schedule.specs.Schedule.{Move, Slot, Switch, Restart, due, due_line, resolving, standing};
+ghost use Rattle.lin_schedule.specs.Schedule.{Move, Slot, Switch, Restart, due, due_line};
+ghost use Rattle.lin_schedule.specs.Schedule.{resolving, standing};
 ghost use Rattle.lin_schedule.specs.Walker.{Stands, HasEntry, Walks};
 
 use crate::due::Due;
 use lin_parts::{Cluster, Entry};
 use std::marker::Model;
 
-/// A walk through a cluster's schedule tables (ISO 17987-3, schedule tables). It keeps which entry is due in the next slot, and,
-/// while the resolving table of an event-triggered frame runs once, the entry with which the former table goes on behind it.
-/// All calls of a walker are given the same cluster, and table numbers in its range.
+/// A walk through a cluster's schedule tables (ISO 17987-3, schedule tables). It keeps which entry
+/// is due in the next slot, and, while the resolving table of an event-triggered frame runs once,
+/// the entry with which the former table goes on after it. All calls of a walker are given the
+/// same cluster, and table numbers in its range.
 #[derive(Drop)]
 pub struct Walker {
     table: u16,
@@ -46,18 +50,25 @@ impl Walker {
     /// The table and the entry of the next slot.
     pub fn place(&self) -> (u16, u16)
         ensures value { result ≡ self.now.place }
-        ensures stands { (c : Parts) (opening : ℕ) (moves : List Move) → Stands c opening self.now moves → result ≡ due c (standing c opening moves) }
+        ensures stands { (c : Parts) (opening : ℕ) (moves : List Move)
+            → Stands c opening self.now moves → result ≡ due c (standing c opening moves) }
     {
         (self.table, self.entry)
     }
 
-    /// What is due in the next slot. `pending` says of each frame whether it is pending; of a sporadic frame the first frame in
-    /// its list that is pending is due (ISO 17987-3, sporadic frames).
+    /// What is due in the next slot. `pending` says of each frame whether it is pending; of a
+    /// sporadic frame the first frame in its list that is pending is due (ISO 17987-3, sporadic
+    /// frames).
     pub fn due(&self, cluster: &Cluster, pending: &[bool]) -> Due
         requires walks { Walks cluster.now self.now }
         requires frames { length pending.now ≡ length cluster.now.frames }
-        ensures entry { result ≡ due_for cluster.now pending.now (line_of cluster.now self.now.place.0 self.now.place.1).entry }
-        ensures stands { (opening : ℕ) (moves : List Move) → Stands cluster.now opening self.now moves → result ≡ due_for cluster.now pending.now (due_line cluster.now (standing cluster.now opening moves)).entry }
+        ensures entry { result
+            ≡ due_for cluster.now pending.now
+            (line_of cluster.now self.now.place.0 self.now.place.1).entry }
+        ensures stands { (opening : ℕ) (moves : List Move)
+            → Stands cluster.now opening self.now moves
+            → result ≡ due_for cluster.now pending.now
+            (due_line cluster.now (standing cluster.now opening moves)).entry }
     {
         cluster.sound();
         match cluster.entry(self.table, self.entry) {
@@ -73,18 +84,21 @@ impl Walker {
         }
     }
 
-    /// Goes on behind a slot, which was seen damaged or collided where `clash` says so. A clash in a slot for an event-triggered
-    /// frame starts its resolving table, unless one is running; behind the last entry of that one the former table goes on
-    /// (ISO 17987-3, event-triggered frames).
+    /// Goes on after a slot, which was seen damaged or collided where `clash` says so. A clash in
+    /// a slot for an event-triggered frame starts its resolving table, unless one is running;
+    /// after the last entry of that one the former table goes on (ISO 17987-3, event-triggered
+    /// frames).
     pub fn advance(&mut self, cluster: &Cluster, clash: bool)
         requires walks { Walks cluster.now self.old }
-        ensures stands { (opening : ℕ) (moves : List Move) → Stands cluster.now opening self.old moves → Stands cluster.now opening self.new (Slot clash ∷ moves) }
+        ensures stands { (opening : ℕ) (moves : List Move)
+            → Stands cluster.now opening self.old moves
+            → Stands cluster.now opening self.new (Slot clash ∷ moves) }
         ensures walks { Walks cluster.now self.new }
     {
         cluster.sound();
-        let behind = entry_behind(cluster, self.table, self.entry);
+        let after = entry_after(cluster, self.table, self.entry);
         match self.back {
-            Some((former, entry)) => match behind {
+            Some((former, entry)) => match after {
                 Some(next) => self.entry = next,
                 None => {
                     self.table = former;
@@ -93,7 +107,7 @@ impl Walker {
                 }
             },
             None => {
-                let next = behind.unwrap_or(0);
+                let next = after.unwrap_or(0);
                 match resolving_table(cluster, cluster.entry(self.table, self.entry), clash) {
                     Some(resolving) => {
                         self.back = Some((self.table, next));
@@ -108,7 +122,8 @@ impl Walker {
 
     /// Starts a table at its first entry.
     pub fn switch(&mut self, table: u16)
-        ensures stands { (c : Parts) (opening : ℕ) (moves : List Move) → Stands c opening self.old moves → Stands c opening self.new (Switch table ∷ moves) }
+        ensures stands { (c : Parts) (opening : ℕ) (moves : List Move)
+            → Stands c opening self.old moves → Stands c opening self.new (Switch table ∷ moves) }
         ensures walks { (c : Parts) → IsCluster c → table < length c.tables → Walks c self.new }
     {
         self.table = table;
@@ -116,9 +131,11 @@ impl Walker {
         self.back = None;
     }
 
-    /// Starts the current table at its first entry. While a resolving table runs the current table is the former one.
+    /// Starts the current table at its first entry. While a resolving table runs the current table
+    /// is the former one.
     pub fn restart(&mut self)
-        ensures stands { (c : Parts) (opening : ℕ) (moves : List Move) → Stands c opening self.old moves → Stands c opening self.new (Restart ∷ moves) }
+        ensures stands { (c : Parts) (opening : ℕ) (moves : List Move)
+            → Stands c opening self.old moves → Stands c opening self.new (Restart ∷ moves) }
         ensures walks { (c : Parts) → Walks c self.old → Walks c self.new }
     {
         let (current, _) = self.back.unwrap_or(self.place());
@@ -126,11 +143,12 @@ impl Walker {
     }
 }
 
-// The entry behind one of a table, where it is not the last.
-fn entry_behind(cluster: &Cluster, table: u16, entry: u16) -> Option<u16>
+// The entry after one of a table, where it is not the last.
+fn entry_after(cluster: &Cluster, table: u16, entry: u16) -> Option<u16>
     requires rules { IsCluster cluster.now }
     requires there { HasEntry cluster.now (table, entry) }
-    ensures { result ≡ (if nat_lt (suc entry) (length (table_of cluster.now table)) then Some (suc entry) else None) }
+    ensures { result ≡ (if nat_lt (suc entry) (length (table_of cluster.now table))
+        then Some (suc entry) else None) }
 {
     if entry as usize + 1 < cluster.entries(table) {
         Some(entry + 1)

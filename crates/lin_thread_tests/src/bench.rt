@@ -51,7 +51,8 @@ pub fn core_with_send(rt: &impl Abort, alloc: Global) -> Result<Core, Fail> {
     Ok(core)
 }
 
-/// What a run does: the numbers of a plan, the slots that are damaged, and what each node leaves out.
+/// What a run does: the numbers of a plan, the slots that are damaged, and what each node leaves
+/// out.
 #[derive(Clone, Copy)]
 pub struct Numbers {
     pub slots: u32,

@@ -1,5 +1,6 @@
 -- Which steps of a script are each host's.
-use Rattle.std.specs.Prelude.{◌≡◌, ℕ, ◌<◌, List, [], length, map, take, Option, Some, None, if◌then◌else◌, Result, Ok, Err}
+use Rattle.std.specs.Prelude.{◌≡◌, ℕ, ◌<◌, List, [], length, map, take, Option, Some, None}
+use Rattle.std.specs.Prelude.{if◌then◌else◌, Result, Ok, Err}
 use Rattle.std.specs.Global.{Vec}
 use Rattle.std.specs.List.{All, filter_map, slice_get}
 use Rattle.lin_frame.specs.Words.{choose}
@@ -11,7 +12,8 @@ use Rattle.lin_ports.specs.declared.steps.HostStep.{HostStep}
 use Rattle.lin_threads.specs.declared.splitting.SplitFault.{SplitFault}
 use Rattle.lin_threads.specs.declared.splitting.SplitFault.TheVariants.{NotHost, OutOfMemory}
 
--- the step is a send, a write or a close of the host whose port gives it, and that is one of the first hosts
+-- the step is a send, a write or a close of the host whose port gives it, and that is one of the
+-- first hosts
 pub record IsOfHost (hosts : ℕ) (given : PortId × Step) : Type 0 where
   pub host : ℕ
   pub below : host < hosts
@@ -31,11 +33,14 @@ given_by steps port = filter_map (step_given port) steps
 abbrev pub list_at : ℕ → List (Vec HostStep) → List HostStep
 list_at host lists = choose (slice_get lists host) [] (λ list. list.items)
 
--- each step is a host's, and each host has a list of just the steps that its port gives, in their order
-pub record IsSplit (hosts : ℕ) (steps : List (PortId × Step)) (lists : List (Vec HostStep)) : Type 0 where
+-- each step is a host's, and each host has a list of just the steps that its port gives, in their
+-- order
+pub record IsSplit (hosts : ℕ) (steps : List (PortId × Step))
+    (lists : List (Vec HostStep)) : Type 0 where
   pub all : All (IsOfHost hosts) steps
   pub count : length lists ≡ hosts
-  pub each : (host : ℕ) → host < hosts → map (host_step host) (list_at host lists) ≡ given_by steps (Host host)
+  pub each : (host : ℕ) → host < hosts
+      → map (host_step host) (list_at host lists) ≡ given_by steps (Host host)
 
 -- the step at this place is no host's, and all before it are
 pub record IsFirstOther (hosts : ℕ) (steps : List (PortId × Step)) (index : ℕ) : Type 0 where

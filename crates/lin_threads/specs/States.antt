@@ -3,7 +3,9 @@ use Rattle.std.specs.Prelude.{◌≡◌, List, ◌++◌, map}
 use mathlib.Core.List.{IsPrefix}
 use Rattle.lin_core.specs.declared.log.LogEntry.{LogEntry}
 use Rattle.lin_core.specs.declared.step.Step.{Step}
-use Rattle.lin_ports.specs.Ports.{Wiring, host_wiring, host_put, host_took, node_wiring, node_put, node_took, receipt_wiring, receipt_id, receipt_put, receipt_took}
+use Rattle.lin_ports.specs.Ports.{Wiring, host_wiring, host_put, host_took, node_wiring, node_put}
+use Rattle.lin_ports.specs.Ports.{node_took, receipt_wiring, receipt_id, receipt_put}
+use Rattle.lin_ports.specs.Ports.{receipt_took}
 use Rattle.lin_ports.specs.Pumps.{wirings}
 use Rattle.lin_ports.specs.Steps.{logged, notes}
 use Rattle.lin_ports.specs.declared.host_port.HostPort.{HostPort}
@@ -45,8 +47,8 @@ ArePortsOf pump hosts nodes = wirings pump ≡ map host_wiring hosts ++ map node
 abbrev pub handed_in : List HostPort → List NodePort → List PortState
 handed_in hosts nodes = map host_state hosts ++ map node_state nodes
 
--- the receipt of a port that was in this state: all that it put is in these entries, in order and each step once, and
--- the notes that it took are the first of those that the entries name
+-- the receipt of a port that was in this state: all that it put is in these entries, in order and
+-- each step once, and the notes that it took are the first of those that the entries name
 pub record IsSettledReceipt (es : List LogEntry) (port : PortState) (r : Receipt) : Type 0 where
   pub further : IsReceiptFrom port r
   pub whole : logged es (receipt_id r) ≡ receipt_put r

@@ -11,7 +11,8 @@ use std::alloc::Global;
 use std::sync::Arc;
 use std::thread;
 
-/// Gives a task its turns on its port: until it is done, or had as many as it may take, or the run ends early.
+/// Gives a task its turns on its port: until it is done, or had as many as it may take, or the run
+/// ends early.
 fn take_turns(
     mut task: Box<dyn HostTask + Send>,
     port: &mut HostPort,

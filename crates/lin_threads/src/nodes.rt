@@ -26,8 +26,9 @@ fn put_until_over(port: &mut NodePort, shared: &Shared, mut step: NodeStep)
     }
 }
 
-/// Answers each slot in which the node is due, or leaves its response out where the number of that slot among those in
-/// which it was due (from 0) stands in its list; until the run's slots are over and no note is left.
+/// Answers each slot in which the node is due, or leaves its response out where the number of that
+/// slot among those in which it was due (from 0) stands in its list; until the run's slots are over
+/// and no note is left.
 fn answer_all(port: &mut NodePort, shared: &Shared, leave: &[u32])
     ensures { IsFurther (node_state port.old) (node_state port.new) }
 {

@@ -48,7 +48,8 @@ pub enum Ended {
     Limit,
 }
 
-/// What a run leaves: the core, how each task ended, and the receipt of each port, hosts' before nodes', all settled.
+/// What a run leaves: the core, how each task ended, and the receipt of each port, hosts' before
+/// nodes', all settled.
 #[derive(Drop)]
 pub struct RunReport {
     pub core: Core,
@@ -62,7 +63,7 @@ pub enum RunFault {
     /// The log has 4,294,967,295 entries.
     LogFull,
     OutOfMemory,
-    /// A thread couldn't be started, for want of memory or for another cause.
+    /// A thread couldn't be started, out of memory or for another cause.
     NoThread,
 }
 
@@ -127,8 +128,10 @@ fn drive<R: Threads + Wait>(
     requires leave { vec_len plan.leave ≡ vec_len players.nodes }
     requires none { threads.old.items ≡ [] }
     requires room { vec_len players.hosts + vec_len players.nodes ≤ vec_capacity threads.old }
-    ensures lent { OnOk result (all_lent threads.new.items ≡ handed_in players.hosts.items players.nodes.items) }
-    ensures advances { OnOk result (Advances pump.old pump.new (bus_steps plan.hurt.items plan.slots)) }
+    ensures lent { OnOk result
+        (all_lent threads.new.items ≡ handed_in players.hosts.items players.nodes.items) }
+    ensures advances { OnOk result
+        (Advances pump.old pump.new (bus_steps plan.hurt.items plan.slots)) }
 {
     let Players {
         hosts,
@@ -142,7 +145,8 @@ fn drive<R: Threads + Wait>(
     make_last_rounds(rt, pump, shared, threads.len() as u64)
 }
 
-/// Runs the threads and the slots, and settles each port. All memory is asked for before the first thread starts.
+/// Runs the threads and the slots, and settles each port. All memory is asked for before the first
+/// thread starts.
 fn run<R: Threads + Wait>(
     rt: &R,
     alloc: Global,
@@ -153,7 +157,8 @@ fn run<R: Threads + Wait>(
     requires ports { ArePortsOf pump.old players.hosts.items players.nodes.items }
     requires tasks { vec_len players.tasks ≡ vec_len players.hosts }
     requires leave { vec_len plan.leave ≡ vec_len players.nodes }
-    ensures advances { OnOk result (Advances pump.old pump.new (bus_steps plan.hurt.items plan.slots)) }
+    ensures advances { OnOk result
+        (Advances pump.old pump.new (bus_steps plan.hurt.items plan.slots)) }
     ensures receipts { IfOk result (λ r.
         AllZip (IsSettledReceipt (since pump.new)) (handed_in players.hosts.items players.nodes.items) r.1.items) }
     ensures ended { IfOk result (λ r. vec_len r.0 ≡ vec_len players.tasks) }
@@ -178,14 +183,15 @@ fn run<R: Threads + Wait>(
     Ok((ended, settled))
 }
 
-/// Runs a cluster: each host's task in a thread of its own, until it is done or had all its turns, and each node in a
-/// thread of its own, which answers the slots in which it is due or leaves its response out, as the plan says. The
-/// calling thread makes the slots of the plan: it opens one, makes rounds until one was made and no node is undecided
-/// (or all that the plan allows), damages the response where the plan says so, and finishes the slot. After the last
-/// slot rounds go on until all threads have ended and all that they put is in the log.
+/// Runs a cluster: each host's task in a thread of its own, until it is done or had all its turns,
+/// and each node in a thread of its own, which answers the slots in which it is due or leaves its
+/// response out, as the plan says. The calling thread makes the slots of the plan: it opens one,
+/// makes rounds until one was made and no node is undecided (or all that the plan allows), damages
+/// the response where the plan says so, and finishes the slot. After the last slot rounds go on
+/// until all threads have ended and all that they put is in the log.
 ///
-/// The ports must be those of this pump, with one task and one list of left-out slots per node. After each fault all
-/// threads have ended.
+/// The ports must be those of this pump, with one task and one list of left-out slots per node.
+/// After each fault all threads have ended.
 pub fn run_cluster<R: Threads + Wait>(
     rt: &R,
     alloc: Global,

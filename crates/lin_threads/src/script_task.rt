@@ -45,7 +45,8 @@ impl ScriptTask {
     fn put_next(&mut self, port: &mut HostPort)
         ensures port { host_wiring port.new ≡ host_wiring port.old }
         ensures puts { PutsFirst self.old self.new port.old port.new }
-        ensures full { self.new ≡ self.old → 1 ≤ length self.old → host_ring port.old ≤ length (host_put port.old) }
+        ensures full { self.new ≡ self.old → 1 ≤ length self.old
+            → host_ring port.old ≤ length (host_put port.old) }
         ensures took { host_took port.new ≡ host_took port.old }
     {
         let Some(step) = self.next.take() else {
@@ -70,12 +71,13 @@ impl HostTask for ScriptTask {
     ghost use Rattle.lin_ports.specs.Ports.{Continues, host_put, host_took, host_ring};
     ghost use Rattle.lin_threads.specs.Scripts.{PutsFirst, turn_with};
 
-    /// Takes a note, if one has come, and puts the first step that is left, which stays where the port's ring is full.
-    /// The task is done once no step is left and the run's slots are over.
+    /// Takes a note, if one has come, and puts the first step that is left, which stays where the
+    /// port's ring is full. The task is done once no step is left and the run's slots are over.
     fn turn(&mut self, port: &mut HostPort, over: bool) -> Turn
         ensures port { Continues port.old port.new }
         ensures puts { PutsFirst self.old self.new port.old port.new }
-        ensures full { self.new ≡ self.old → 1 ≤ length self.old → host_ring port.old ≤ length (host_put port.old) }
+        ensures full { self.new ≡ self.old → 1 ≤ length self.old
+            → host_ring port.old ≤ length (host_put port.old) }
         ensures took { length (host_took port.new) ≤ length (host_took port.old) + 1 }
         ensures turn { result ≡ turn_with self.new over }
     {

@@ -19,8 +19,8 @@ fn own(pump: &mut Pump, step: Step) -> Result<(), RunFault>
     }
 }
 
-/// Makes rounds until one was made and each node that is due has answered or left its response out, or until so many
-/// were made.
+/// Makes rounds until one was made and each node that is due has answered or left its response out,
+/// or until so many were made.
 fn make_rounds(pump: &mut Pump, rounds: u32) -> Result<(), RunFault>
     ensures { OnOk result (Advances pump.old pump.new []) }
 {

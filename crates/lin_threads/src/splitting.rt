@@ -1,6 +1,7 @@
 //! A script's steps, host by host.
 
-ghost use Rattle.std.specs.Prelude.{◌≡◌, ◌≢◌, ℕ, ◌<◌, ◌++◌, ◌∷◌, [], length, OnOk, IfOk, IfSome, IfNone};
+ghost use Rattle.std.specs.Prelude.{◌≡◌, ◌≢◌, ℕ, ◌<◌, ◌++◌, ◌∷◌, [], length, OnOk, IfOk, IfSome};
+ghost use Rattle.std.specs.Prelude.{IfNone};
 ghost use Rattle.lin_core.specs.declared.port.PortId.TheVariants.{Host};
 ghost use Rattle.lin_ports.specs.Steps.{host_step};
 ghost use Rattle.lin_threads.specs.Splitting.{IsOfHost, Splits, list_at};
@@ -17,8 +18,8 @@ pub enum SplitFault {
     OutOfMemory,
 }
 
-/// The host and what it puts, where the step is a send, a write or a close of the host whose port gives it, and that is
-/// one of the first hosts.
+/// The host and what it puts, where the step is a send, a write or a close of the host whose port
+/// gives it, and that is one of the first hosts.
 fn of_host(hosts: usize, port: PortId, step: Step) -> Option<(usize, HostStep)>
     ensures below { IfSome result (λ own. own.0 < hosts) }
     ensures port { IfSome result (λ own. port ≡ Host own.0) }
@@ -57,17 +58,18 @@ fn empty_lists(alloc: Global, hosts: usize) -> Result<Vec<Vec<HostStep>>, AllocE
 fn add(lists: &mut Vec<Vec<HostStep>>, host: usize, step: HostStep) -> Result<(), AllocError>
     requires { host < length lists.old.items }
     ensures count { length lists.new.items ≡ length lists.old.items }
-    ensures own { OnOk result (list_at host lists.new.items ≡ list_at host lists.old.items ++ step ∷ []) }
-    ensures others { (other : ℕ) → other ≢ host → list_at other lists.new.items ≡ list_at other lists.old.items }
+    ensures own { OnOk result
+        (list_at host lists.new.items ≡ list_at host lists.old.items ++ step ∷ []) }
+    ensures others { (other : ℕ) → other ≢ host
+        → list_at other lists.new.items ≡ list_at other lists.old.items }
 {
     Ok(lists[host].push(step)?)
 }
 
 /// The steps of a script, as a list for each of the first `nodes` hosts: what it puts, in order.
 ///
-/// # Errors
-/// `NotHost` for the first step that is no send, write or close of one of these hosts by its own port; `OutOfMemory`.
-/// The steps are dropped after each of them.
+/// # Errors `NotHost` for the first step that is no send, write or close of one of these hosts by
+/// its own port; `OutOfMemory`. The steps are dropped after each of them.
 pub fn split(
     alloc: Global,
     steps: Vec<(PortId, Step)>,

@@ -3,7 +3,8 @@
 ghost use Rattle.std.specs.Prelude.{◌≡◌, ◌≤◌, ◌+◌, ◌++◌, [], map, IfOk, OnOk, vec_len};
 ghost use Rattle.std.specs.List.{AllZip};
 ghost use Rattle.std.specs.Vec.{vec_capacity};
-ghost use Rattle.lin_threads.specs.States.{IsFurther, IsReceiptFrom, handed_in, host_state, node_state, receipt_state};
+ghost use Rattle.lin_threads.specs.States.{IsFurther, IsReceiptFrom, handed_in, host_state};
+ghost use Rattle.lin_threads.specs.States.{node_state, receipt_state};
 ghost use Rattle.lin_threads.specs.Started.{lent, all_lent};
 
 use crate::hosts::run_task;
@@ -25,7 +26,8 @@ pub(crate) struct Finished {
     pub(crate) ended: Ended,
 }
 
-/// The promise of a port's thread: the receipt that it hands back is that of the port that it was lent, further on.
+/// The promise of a port's thread: the receipt that it hands back is that of the port that it was
+/// lent, further on.
 #[derive(Drop)]
 pub(crate) enum Keeps {
     Host(Snapshot<HostPort>),
@@ -155,7 +157,8 @@ pub(crate) fn join_all(
     ended: &mut Vec<Ended>,
 )
     requires none { (receipts.old.items ≡ []) × (ended.old.items ≡ []) }
-    requires room { (vec_len started ≤ vec_capacity receipts.old) × (vec_len started ≤ vec_capacity ended.old) }
+    requires room { (vec_len started ≤ vec_capacity receipts.old)
+        × (vec_len started ≤ vec_capacity ended.old) }
     ensures receipts { AllZip IsReceiptFrom (all_lent started.items) receipts.new.items }
     ensures count { vec_len receipts.new ≡ vec_len started }
     ensures ended { vec_len ended.new ≡ vec_len started }

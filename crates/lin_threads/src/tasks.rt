@@ -15,8 +15,9 @@ pub enum Turn {
 pub trait HostTask: Drop {
     ghost use Rattle.lin_ports.specs.Ports.{Continues};
 
-    /// One turn of a host's task on its port; `over` once the run's slots are over. The port is still that port
-    /// afterwards, and what it put and what it took begin with what it had put and taken before.
+    /// One turn of a host's task on its port; `over` once the run's slots are over. The port is
+    /// still that port afterwards, and what it put and what it took begin with what it had put and
+    /// taken before.
     fn turn(&mut self, port: &mut HostPort, over: bool) -> Turn
         ensures port { Continues port.old port.new };
 }

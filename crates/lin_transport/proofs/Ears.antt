@@ -47,7 +47,7 @@ own-piece e f fs h = rw h
 pub all-piece : (e : Ear) (f : List ℕ) (fs : List (List ℕ)) → IsToAll e (slice_index f 0) → message_to e (f ∷ fs) ≡ message_in functional (f ∷ [])
 all-piece e f fs h = rw (h.0, eqb-same (slice_index f 0) functional h.1)
 
--- a frame that is read as o at its address, whatever comes behind it
+-- a frame that is read as o at its address, whatever comes after it
 pub to-reads : (e : Ear) (f : List ℕ) (o : Option (List ℕ)) → To e (slice_index f 0) → IsReadAs f o → (more : List (List ℕ)) → message_to e (f ∷ more) ≡ o
 to-reads e f o (all h) r more = all-piece e f more h ∙ ap (λ (n : ℕ). message_in n (f ∷ [])) (sym h.1) ∙ r.reads []
 to-reads e f o (own is h) r more = own-piece e f more h ∙ ap (λ (n : ℕ). message_in n (f ∷ more)) (sym is) ∙ r.reads more

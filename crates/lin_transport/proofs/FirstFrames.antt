@@ -92,21 +92,21 @@ read-begins n m (f ∷ fs) is =
     in let fits : length read ≤ length_in f = simp length-take (omega arith)
     in begins-by n m read f fs (nat_lt 0 (length read) && begin_with (f ∷ fs) (map (needed n read) (numbers (frame_count (length read))))) fits refl is
 
--- a frame with an address and some PCI, and these bytes behind it
+-- a frame with an address and some PCI, and these bytes after it
 record Carries (n : ℕ) (bytes f : List ℕ) : Type 0 where
   pci : ℕ
   unused : List ℕ
   is : f ≡ n ∷ pci ∷ (bytes ++ unused)
 
-none-behind : (xs unused : List ℕ) → length (xs ++ unused) ≤ length xs → unused ≡ []
-none-behind [] [] l = refl
-none-behind [] (u ∷ unused) l = absurd (omega arith)
-none-behind (x ∷ xs) unused l = none-behind xs unused (omega arith)
+none-after : (xs unused : List ℕ) → length (xs ++ unused) ≤ length xs → unused ≡ []
+none-after [] [] l = refl
+none-after [] (u ∷ unused) l = absurd (omega arith)
+none-after (x ∷ xs) unused l = none-after xs unused (omega arith)
 
 abbrev AreEight : List (List ℕ) → Type 0
 AreEight fs = All (λ f. length f ≡ 8) fs
 
--- the bytes of consecutive frames, of which the last may have others behind its own
+-- the bytes of consecutive frames, of which the last may have others after its own
 later-bytes : (n j : ℕ) (xs : List ℕ) (fs : List (List ℕ)) → length xs ≤ 6 * j → j ≤ length fs → ((k : ℕ) → k < j → Carries n (take 6 (drop (6 * k) xs)) (slice_index_or fs k [])) → AreEight fs
     → take (length xs) (concat (map (drop 2) fs)) ≡ xs
 later-bytes n j [] fs l more each eight = refl
@@ -121,7 +121,7 @@ later-bytes n (suc j) (a ∷ b ∷ c ∷ d ∷ e ∷ g ∷ xs) (f ∷ fs) l more
     let six : List ℕ = a ∷ b ∷ c ∷ d ∷ e ∷ g ∷ []
     in let h : Carries n six f = each 0 (omega arith)
     in let whole : length f ≡ 8 = eight 0 [] (omega arith)
-    in let none : h.unused ≡ [] = none-behind six h.unused (let w : length (n ∷ h.pci ∷ (six ++ h.unused)) ≡ 8 = rw h.is at whole in omega arith)
+    in let none : h.unused ≡ [] = none-after six h.unused (let w : length (n ∷ h.pci ∷ (six ++ h.unused)) ≡ 8 = rw h.is at whole in omega arith)
     in let later : (k : ℕ) → k < j → Carries n (take 6 (drop (6 * k) xs)) (slice_index_or fs k [])
     = λ k i. let s = each (suc k) (omega arith) in rw (sixth k) at s
     in rw (h.is, none) (ap (λ (ys : List ℕ). a ∷ b ∷ c ∷ d ∷ e ∷ g ∷ ys) (later-bytes n j xs fs (omega (arith, six-suc j)) (omega arith) later (All-tail (λ f. length f ≡ 8) f fs eight)))
@@ -140,7 +140,7 @@ long-bytes n m f fs l b eight =
     in let first : HasFirst (n ∷ (16 + length m / 256) ∷ (length m % 256) ∷ take 5 m) f = rw h at (b.frames 0 (omega arith))
     in let five : length (take 5 m) ≡ 5 = simp length-take (omega arith)
     in let whole : length f ≡ 8 = eight 0 [] (omega arith)
-    in let none : first.0 ≡ [] = none-behind (take 5 m) first.0 (let w = rw first.1 at whole in omega arith)
+    in let none : first.0 ≡ [] = none-after (take 5 m) first.0 (let w = rw first.1 at whole in omega arith)
     in let is : f ≡ n ∷ (16 + length m / 256) ∷ (length m % 256) ∷ take 5 m = first.1 ∙ rw (none, append-nil (take 5 m)) refl
     in let big : nat_lt (16 + length m / 256) 16 ≡ false = grind (arith, nat_tests)
     in let said : 256 * ((16 + length m / 256) % 16) + length m % 256 ≡ length (take 5 m) + length (drop 5 m) = rw (five, length-drop) (omega arith)

@@ -21,7 +21,7 @@ is-long m l = grind (arith, nat_tests)
 pub sixth : (n : ℕ) → 6 * suc n ≡ suc (suc (suc (suc (suc (suc (6 * n))))))
 sixth n = omega arith
 
--- as many consecutive frames as are full have the bytes behind the first frame
+-- as many consecutive frames as are full have the bytes after the first frame
 pub chunks-full : (n : ℕ) (xs : List ℕ) → 6 * n ≤ length xs → chunks xs n ≡ take (6 * n) xs
 chunks-full zero xs h = refl
 chunks-full (suc n) [] h = absurd (omega arith)
@@ -33,7 +33,7 @@ chunks-full (suc n) (a ∷ b ∷ c ∷ d ∷ e ∷ []) h = absurd (omega arith)
 chunks-full (suc n) (a ∷ b ∷ c ∷ d ∷ e ∷ f ∷ xs) h =
     rw (chunks-suc (a ∷ b ∷ c ∷ d ∷ e ∷ f ∷ xs) n, sixth n) (ap (λ (ys : List ℕ). a ∷ b ∷ c ∷ d ∷ e ∷ f ∷ ys) (chunks-full n xs (omega (arith, six-suc n))))
 
--- the frames of a part have exactly its bytes, and more frames have more behind them
+-- the frames of a part have exactly its bytes, and more frames have more after them
 pub bytes_in-first : (n : ℕ) (m : List ℕ) (k : ℕ) (more : List (List ℕ)) → CanSend m → 7 ≤ length m → 5 + 6 * k ≤ length m
     → bytes_in (first n m (suc k) ++ more) ≡ take (5 + 6 * k) m ++ concat (map (drop 2) more)
 bytes_in-first n m k more s l full =
@@ -44,9 +44,9 @@ bytes_in-first n m k more s l full =
     in let all : concat (map (drop 2) (later ++ more)) ≡ chunks (drop 5 m) k ++ concat (map (drop 2) more)
     = ap concat (map-append (drop 2) later more) ∙ concat-append (map (drop 2) later) (map (drop 2) more)
     ∙ ap (λ (xs : List (List ℕ)). concat xs ++ concat (map (drop 2) more)) (chunks-are n m (numbers k))
-    in let behind : chunks (drop 5 m) k ≡ take (6 * k) (drop 5 m) = chunks-full k (drop 5 m) (simp length-drop (omega arith))
+    in let after : chunks (drop 5 m) k ≡ take (6 * k) (drop 5 m) = chunks-full k (drop 5 m) (simp length-drop (omega arith))
     in ap (λ (fs : List (List ℕ)). bytes_in (fs ++ more)) (first-cons n m k)
-    ∙ rw (h, big, first-five m l, all, behind, ← append_assoc, ← take-add 5 (6 * k) m) refl
+    ∙ rw (h, big, first-five m l, all, after, ← append_assoc, ← take-add 5 (6 * k) m) refl
 
 pub map-suc : (g : ℕ → List ℕ) (ks : List ℕ) → map g (map suc ks) ≡ map (λ k. g (suc k)) ks
 map-suc g [] = refl
@@ -62,7 +62,7 @@ begin-after-by : (xs more : List (List ℕ)) (f y : List ℕ) (ys : List (List �
 begin-after-by xs more f y ys true h k = k h
 begin-after-by xs more f y ys false h k = absurd (false≢true h)
 
--- behind the frames of a part, the message's frames want the next one to be its own
+-- after the frames of a part, the message's frames want the next one to be its own
 begin-after : (xs more : List (List ℕ)) (f y : List ℕ) (ys : List (List ℕ)) → length xs ≡ length ys → begin_with xs ys ≡ true → begin_with (xs ++ f ∷ more) (ys ++ y ∷ []) ≡ starts_with eqb f y
 begin-after [] more f y [] l h = and-true (starts_with eqb f y)
 begin-after [] more f y (z ∷ ys) l h = absurd (omega arith)
@@ -85,21 +85,21 @@ completed-bytes n m k f c more s l low high six d last =
     let part : ℕ = 5 + 6 * k
     in let front : List ℕ = take part m
     in let missing : ℕ = length m - part
-    in let behind : List ℕ = concat (map (drop 2) more)
+    in let after : List ℕ = concat (map (drop 2) more)
     in let full : length front ≡ part = simp length-take (omega arith)
     in let sum : length m ≡ length front + missing = omega arith
     in let fits : missing ≤ length c = omega arith
     in ap (take (length m)) (bytes_in-first n m k (f ∷ more) s l (omega arith))
-    ∙ ap (λ (xs : List ℕ). take (length m) (front ++ (xs ++ behind))) d
-    ∙ ap (λ (j : ℕ). take j (front ++ (c ++ behind))) sum
-    ∙ take-append-add front (c ++ behind) missing
-    ∙ ap (λ (xs : List ℕ). front ++ xs) (take-append-le missing c behind fits ∙ sym last)
+    ∙ ap (λ (xs : List ℕ). take (length m) (front ++ (xs ++ after))) d
+    ∙ ap (λ (j : ℕ). take j (front ++ (c ++ after))) sum
+    ∙ take-append-add front (c ++ after) missing
+    ∙ ap (λ (xs : List ℕ). front ++ xs) (take-append-le missing c after fits ∙ sym last)
     ∙ take-append-drop part m
 
 completed-count : (m : List ℕ) (k : ℕ) → 7 ≤ length m → 5 + 6 * k < length m → length m ≤ 11 + 6 * k → frame_count (length m) ≡ suc (suc k)
 completed-count m k l low high = count-suc m (is-long m l) ∙ ap suc (omega arith)
 
--- with the last frame behind it, it is read as the message, whatever comes behind that
+-- with the last frame after it, it is read as the message, whatever comes after that
 pub completed-reads : (n : ℕ) (m : List ℕ) (k : ℕ) (c : List ℕ) (more : List (List ℕ)) → CanSend m → 7 ≤ length m → 5 + 6 * k < length m → length m ≤ 11 + 6 * k → length c ≡ 6
     → drop (5 + 6 * k) m ≡ take (length m - (5 + 6 * k)) c → message_in n (first n m (suc k) ++ (n ∷ (32 + suc k % 16) ∷ c) ∷ more) ≡ Some m
 completed-reads n m k c more s l low high six last =
@@ -168,17 +168,17 @@ first-continues n part fs c a six more = record {
       let k : ℕ = a.consecutive
       in let m : List ℕ = part.bytes ++ (c ++ rest)
       in let fits : length part.bytes + length (c ++ rest) ≡ part.size = rw (length-append c rest) (let q = length-append part.bytes c in omega (arith, e))
-      in let behind : drop (5 + 6 * k) m ≡ c ++ rest = ap (λ (j : ℕ). drop j m) (sym a.bytes) ∙ drop-append_seam part.bytes (c ++ rest)
+      in let after : drop (5 + 6 * k) m ≡ c ++ rest = ap (λ (j : ℕ). drop j m) (sym a.bytes) ∙ drop-append_seam part.bytes (c ++ rest)
       in let own : take 6 (c ++ rest) ≡ c = take-append-le 6 c rest (omega arith) ∙ take_all 6 c (omega arith)
       in let whole : take 6 (c ++ replicate 8 255) ≡ c = take-append-le 6 c (replicate 8 255) (omega arith) ∙ take_all 6 c (omega arith)
-      in let last : frame n m (suc k) ≡ n ∷ (32 + suc k % 16) ∷ c = rw (behind, own, whole)
+      in let last : frame n m (suc k) ≡ n ∷ (32 + suc k % 16) ∷ c = rw (after, own, whole)
       in ap (λ (xs : List (List ℕ)). xs ++ (n ∷ (32 + suc k % 16) ∷ c) ∷ []) (a.frames (c ++ rest) fits)
       ∙ ap (λ (f : List ℕ). first n m (suc k) ++ f ∷ []) (sym last)
       ∙ sym (first-more n m (suc k))
       ∙ ap (λ (xs : List ℕ). first n xs (suc (suc k))) (sym (append_assoc part.bytes c rest));
 }
 
--- the last one: the frames are read as the message, whatever comes behind them
+-- the last one: the frames are read as the message, whatever comes after them
 pub first-completes : (n : ℕ) (part : Part) (fs : List (List ℕ)) (c : List ℕ) (more : List (List ℕ)) → (a : AreFirst n part fs) → length c ≡ 6 → part.size ≤ 11 + 6 * a.consecutive
     → message_in n (fs ++ (n ∷ (32 + suc a.consecutive % 16) ∷ c) ∷ more) ≡ Some (part.bytes ++ take (part.size - length part.bytes) c)
 first-completes n part fs c more a six few =
@@ -188,11 +188,11 @@ first-completes n part fs c more a six few =
     in let m : List ℕ = part.bytes ++ rest
     in let e : length part.bytes + length rest ≡ part.size = simp length-take (let l = a.bytes in let r = a.more in omega arith)
     in let l : length m ≡ part.size = rest-size part rest e
-    in let behind : drop (5 + 6 * k) m ≡ take (length m - (5 + 6 * k)) c
+    in let after : drop (5 + 6 * k) m ≡ take (length m - (5 + 6 * k)) c
     = ap (λ (j : ℕ). drop j m) (sym a.bytes) ∙ drop-append_seam part.bytes rest
     ∙ ap (λ (j : ℕ). take j c) (let q = a.bytes in omega arith)
     in ap (λ (xs : List (List ℕ)). message_in n (xs ++ (n ∷ (32 + suc k % 16) ∷ c) ∷ more)) (a.frames rest e)
-    ∙ completed-reads n m k c more (rest-can n part fs rest a e) (let r = a.long in omega arith) (let r = a.more in omega arith) (omega arith) six behind
+    ∙ completed-reads n m k c more (rest-can n part fs rest a e) (let r = a.long in omega arith) (let r = a.more in omega arith) (omega arith) six after
 
 starts-other : (n b p q : ℕ) (c xs : List ℕ) → p ≢ q → starts_with eqb (b ∷ p ∷ c) (n ∷ q ∷ xs) ≡ false
 starts-other n b p q c xs ne = rw (ne_eqb q p (λ e. ne (sym e))) (and-false (eqb n b))

@@ -25,7 +25,7 @@ last-by : (f : List ℕ) (earlier : List Heard) (b : Bool) → begins f ≡ b �
 last-by f earlier true b e = rw b
 last-by f earlier false b e = rw (b, e) (with_last-append (λ (p : List (List ℕ)). p ++ f ∷ []) (earlier_pieces earlier) (current earlier))
 
--- the last is what stands behind the last cut
+-- the last is what stands after the last cut
 pub pieces-last : (heard : List Heard) → pieces heard ≡ earlier_pieces heard ++ current heard ∷ []
 pieces-last [] = refl
 pieces-last (Frame f ∷ earlier) = last-by f earlier (begins f) refl (pieces-last earlier)
@@ -53,7 +53,7 @@ reads-begun ear f heard o b e = rw b (reads-more ear (pieces heard) (f ∷ []) o
 pub current-begun : (f : List ℕ) (heard : List Heard) → begins f ≡ true → current (Frame f ∷ heard) ≡ f ∷ []
 current-begun f heard b = rw b
 
--- another stands behind the last piece
+-- another stands after the last piece
 pub current-more : (f : List ℕ) (heard : List Heard) → begins f ≡ false → current (Frame f ∷ heard) ≡ current heard ++ f ∷ []
 current-more f heard b = rw b
 

@@ -9,7 +9,7 @@ use Rattle.lin_transport.specs.Transport.Heard.{Frame, Reset}
 use Rattle.lin_transport.specs.Law.{Addressed, IsFor, followed, frames_of_all, bytes_of_all, ReadsBack, ReadsAcross, LacksCut, AddsMessage, AddsNothing}
 use Rattle.lin_transport.proofs.Frames.{first-cons, length-frame, frame-begins, frame-continues, count-some}
 use Rattle.lin_transport.proofs.Pieces.{with_last-append, reads-more, reads-nothing, reads-reset}
-use Rattle.lin_transport.proofs.Begins.{behind-fails}
+use Rattle.lin_transport.proofs.Begins.{after-fails}
 use Rattle.lin_transport.proofs.Ears.{to-reads, is-to, to-all, to-none}
 
 pub followed-append : (heard : List Heard) (fs gs : List (List ℕ)) → followed heard (fs ++ gs) ≡ followed (followed heard fs) gs
@@ -59,10 +59,10 @@ later-fails : (e : Ear) (m : Addressed) (ks : List ℕ) → IsFor e m → messag
 later-fails e m [] is = refl
 later-fails e m (k ∷ ks) is =
     to-reads e (frame m.nad m.bytes (suc k)) None (is-to e m is)
-    (record { reads = λ more. behind-fails m.nad (frame m.nad m.bytes (suc k)) more (length-frame m.nad m.bytes (suc k)) refl (omega arith) })
+    (record { reads = λ more. after-fails m.nad (frame m.nad m.bytes (suc k)) more (length-frame m.nad m.bytes (suc k)) refl (omega arith) })
     (later m.nad m.bytes ks)
 
--- the rest of a message behind a reset adds nothing
+-- the rest of a message after a reset adds nothing
 pub rest-adds-nothing : (e : Ear) (m : Addressed) (ks : List ℕ) (heard : List Heard) → IsFor e m → messages_to e (followed (Reset ∷ heard) (later m.nad m.bytes ks)) ≡ messages_to e heard
 rest-adds-nothing e m ks heard is =
     ap (filter_map (message_to e)) (pieces-later m.nad m.bytes ks (Reset ∷ heard) (pieces heard) [] refl)
@@ -77,7 +77,7 @@ messages-add e (m ∷ ms) heard all =
     ∙ ap (λ (xs : List (List ℕ)). xs ++ bytes_of_all ms) (message-adds e m heard (all 0 m (omega arith)))
     ∙ append_assoc (messages_to e heard) (m.bytes ∷ []) (bytes_of_all ms)
 
--- what stands behind the first frames of a message
+-- what stands after the first frames of a message
 pub later-frames : (n : ℕ) (m : List ℕ) (k j : ℕ) → (ks : List ℕ) × (take j (drop (suc k) (frames n m)) ≡ later n m ks)
 later-frames n m k j =
     let c : ℕ = frame_count (length m) - 1
@@ -95,15 +95,15 @@ later-frames n m k j =
 pub reads-back : (e : Ear) (ms : List Addressed) (given : List Heard) → ReadsBack e ms given
 reads-back e ms given all is = ap (messages_to e) is ∙ messages-add e ms [] all
 
-pub reads-across : (e : Ear) (before behind : List Addressed) (given : List Heard) → ReadsAcross e before behind given
-reads-across e before behind given all rest is =
+pub reads-across : (e : Ear) (before after : List Addressed) (given : List Heard) → ReadsAcross e before after given
+reads-across e before after given all rest is =
     let heard : List Heard = followed [] (frames_of_all before)
     in ap (messages_to e) is
-    ∙ messages-add e behind (Reset ∷ heard) rest
-    ∙ ap (λ (xs : List (List ℕ)). xs ++ bytes_of_all behind) (reads-reset e heard ∙ messages-add e before [] all)
+    ∙ messages-add e after (Reset ∷ heard) rest
+    ∙ ap (λ (xs : List (List ℕ)). xs ++ bytes_of_all after) (reads-reset e heard ∙ messages-add e before [] all)
 
-lacks-by : (e : Ear) (before : List Addressed) (m : Addressed) (k j : ℕ) (behind : List Addressed) (given : List Heard) → LacksCut e before m (suc k) j behind given
-lacks-by e before m k j behind given all can rest low high is =
+lacks-by : (e : Ear) (before : List Addressed) (m : Addressed) (k j : ℕ) (after : List Addressed) (given : List Heard) → LacksCut e before m (suc k) j after given
+lacks-by e before m k j after given all can rest low high is =
     let heard : List Heard = followed [] (frames_of_all before)
     in let part : List Heard = followed [] (frames_of_all before ++ first m.nad m.bytes (suc k))
     in let l : (ks : List ℕ) × (take j (drop (suc k) (frames m.nad m.bytes)) ≡ later m.nad m.bytes ks) = later-frames m.nad m.bytes k j
@@ -111,11 +111,11 @@ lacks-by e before m k j behind given all can rest low high is =
     = ap (messages_to e) (followed-append [] (frames_of_all before) (first m.nad m.bytes (suc k)))
     ∙ part-adds-nothing e m (suc k) heard can high ∙ messages-add e before [] all
     in ap (messages_to e) is
-    ∙ ap (messages_to e) (followed-append (Reset ∷ part) (take j (drop (suc k) (frames m.nad m.bytes))) (frames_of_all behind))
-    ∙ messages-add e behind (followed (Reset ∷ part) (take j (drop (suc k) (frames m.nad m.bytes)))) rest
-    ∙ ap (λ (fs : List (List ℕ)). messages_to e (followed (Reset ∷ part) fs) ++ bytes_of_all behind) l.1
-    ∙ ap (λ (xs : List (List ℕ)). xs ++ bytes_of_all behind) (rest-adds-nothing e m l.0 part can ∙ cut)
+    ∙ ap (messages_to e) (followed-append (Reset ∷ part) (take j (drop (suc k) (frames m.nad m.bytes))) (frames_of_all after))
+    ∙ messages-add e after (followed (Reset ∷ part) (take j (drop (suc k) (frames m.nad m.bytes)))) rest
+    ∙ ap (λ (fs : List (List ℕ)). messages_to e (followed (Reset ∷ part) fs) ++ bytes_of_all after) l.1
+    ∙ ap (λ (xs : List (List ℕ)). xs ++ bytes_of_all after) (rest-adds-nothing e m l.0 part can ∙ cut)
 
-pub lacks-cut : (e : Ear) (before : List Addressed) (m : Addressed) (k j : ℕ) (behind : List Addressed) (given : List Heard) → LacksCut e before m k j behind given
-lacks-cut e before m zero j behind given = λ all can rest low. absurd (omega arith)
-lacks-cut e before m (suc k) j behind given = lacks-by e before m k j behind given
+pub lacks-cut : (e : Ear) (before : List Addressed) (m : Addressed) (k j : ℕ) (after : List Addressed) (given : List Heard) → LacksCut e before m k j after given
+lacks-cut e before m zero j after given = λ all can rest low. absurd (omega arith)
+lacks-cut e before m (suc k) j after given = lacks-by e before m k j after given

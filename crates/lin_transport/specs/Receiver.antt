@@ -1,6 +1,10 @@
 -- What a receiver holds, and for which frames and resets it stands.
-use Rattle.std.specs.Prelude.{◌≡◌, ℕ, suc, ◌+◌, ◌*◌, ◌/◌, ◌%◌, ◌≤◌, ◌<◌, ⊤, ◌≢◌, Bool, true, false, if◌then◌else◌, List, [], ◌∷◌, ◌++◌, length, slice_index, Option, Some, None, option_to_list}
-use Rattle.lin_transport.specs.Transport.{Heard, Ear, functional, begins, first, message_in, message_to, messages_to, heard_to, messages_in, heard_with}
+use Rattle.std.specs.Prelude.{◌≡◌, ℕ, suc, ◌+◌, ◌*◌, ◌/◌, ◌%◌, ◌≤◌, ◌<◌, ⊤, ◌≢◌, Bool, true}
+use Rattle.std.specs.Prelude.{false, if◌then◌else◌, List, [], ◌∷◌, ◌++◌, length, slice_index}
+use Rattle.std.specs.Prelude.{Option, Some, None, option_to_list}
+use Rattle.lin_transport.specs.Transport.{Heard, Ear, functional, begins, first, message_in}
+use Rattle.lin_transport.specs.Transport.{message_to, messages_to, heard_to, messages_in}
+use Rattle.lin_transport.specs.Transport.{heard_with}
 use Rattle.lin_transport.specs.Transport.Heard.{Frame, Reset}
 
 -- a message of which only a part has come: that part's bytes, and the length of the message
@@ -24,13 +28,13 @@ ear_of r = record { nad = r.nad; all = r.all }
 abbrev pub IsOwn : Ear → Type 0
 IsOwn e = e.all ≡ true → e.nad ≢ functional
 
--- the frames behind the last cut, the oldest first
+-- the frames after the last cut, the oldest first
 abbrev pub current : List Heard → List (List ℕ)
 current [] = []
 current (Frame f ∷ earlier) = if begins f then f ∷ [] else current earlier ++ f ∷ []
 current (Reset ∷ earlier) = []
 
--- nothing is partial: these frames read as the same message, or as none, whatever comes behind them
+-- nothing is partial: these frames read as the same message, or as none, whatever comes after them
 abbrev pub AreOver : Ear → List (List ℕ) → Type 0
 AreOver e [] = ⊤
 AreOver e (f ∷ fs) = (more : List (List ℕ)) → message_to e (f ∷ fs ++ more) ≡ message_to e (f ∷ fs)
@@ -43,7 +47,8 @@ pub record AreFirst (nad : ℕ) (part : Part) (fs : List (List ℕ)) : Type 0 wh
   pub consecutive : ℕ
   pub bytes : length part.bytes ≡ 5 + 6 * consecutive
   pub more : 5 + 6 * consecutive < part.size
-  pub frames : (rest : List ℕ) → length part.bytes + length rest ≡ part.size → fs ≡ first nad (part.bytes ++ rest) (suc consecutive)
+  pub frames : (rest : List ℕ) → length part.bytes + length rest ≡ part.size
+      → fs ≡ first nad (part.bytes ++ rest) (suc consecutive)
 
 abbrev pub Holds : Ear → Option Part → List (List ℕ) → Type 0
 Holds e None fs = AreOver e fs
@@ -53,24 +58,28 @@ Holds e (Some part) fs = IsOwn e × AreFirst e.nad part fs
 abbrev pub HasHeard : Reception → List Heard → Type 0
 HasHeard r heard = Holds (ear_of r) r.part (current heard)
 
--- what a receiver gives for a frame, over what it had heard: with the frame, it reads as many messages
--- more as it gave
-pub record Reads (old : Reception) (frame : List ℕ) (heard : List Heard) (given : Option (List ℕ)) (new : Reception) : Type 0 where
+-- what a receiver gives for a frame, over what it had heard: with the frame, it reads as many
+-- messages more as it gave
+pub record Reads (old : Reception) (frame : List ℕ) (heard : List Heard) (given : Option (List ℕ))
+    (new : Reception) : Type 0 where
   pub ear : ear_of new ≡ ear_of old
   pub stands : HasHeard new (heard_to (ear_of old) frame heard)
-  pub reads : messages_to (ear_of old) (heard_to (ear_of old) frame heard) ≡ messages_to (ear_of old) heard ++ option_to_list given
+  pub reads : messages_to (ear_of old) (heard_to (ear_of old) frame heard)
+      ≡ messages_to (ear_of old) heard ++ option_to_list given
 
 -- a receiver that listens to its own address alone has heard this
 abbrev pub Stands : Reception → List Heard → Type 0
 Stands r heard = (r.all ≡ false) × HasHeard r heard
 
 -- what it gives for a frame
-pub record Hears (old : Reception) (frame : List ℕ) (heard : List Heard) (given : Option (List ℕ)) (new : Reception) : Type 0 where
+pub record Hears (old : Reception) (frame : List ℕ) (heard : List Heard) (given : Option (List ℕ))
+    (new : Reception) : Type 0 where
   pub address : new.nad ≡ old.nad
   pub stands : Stands new (heard_with old.nad frame heard)
-  pub reads : messages_in old.nad (heard_with old.nad frame heard) ≡ messages_in old.nad heard ++ option_to_list given
+  pub reads : messages_in old.nad (heard_with old.nad frame heard)
+      ≡ messages_in old.nad heard ++ option_to_list given
 
--- a frame that begins a piece is read as this message or as none, whatever comes behind it
+-- a frame that begins a piece is read as this message or as none, whatever comes after it
 pub record IsReadAs (frame : List ℕ) (given : Option (List ℕ)) : Type 0 where
   pub reads : (more : List (List ℕ)) → message_in (slice_index frame 0) (frame ∷ more) ≡ given
 
@@ -84,13 +93,15 @@ pub record IsBegun (frame : List ℕ) (new : Option Part) : Type 0 where
   pub holds : HoldsOne (slice_index frame 0) new frame
   pub reads : message_in (slice_index frame 0) (frame ∷ []) ≡ None
 
--- with one more frame behind these, what is partial then, and what is read more
-pub record IsContinued (e : Ear) (frame : List ℕ) (fs : List (List ℕ)) (given : Option (List ℕ)) (new : Option Part) : Type 0 where
+-- with one more frame after these, what is partial then, and what is read more
+pub record IsContinued (e : Ear) (frame : List ℕ) (fs : List (List ℕ)) (given : Option (List ℕ))
+    (new : Option Part) : Type 0 where
   pub holds : Holds e new (fs ++ frame ∷ [])
-  pub reads : option_to_list (message_to e (fs ++ frame ∷ [])) ≡ option_to_list (message_to e fs) ++ option_to_list given
+  pub reads : option_to_list (message_to e (fs ++ frame ∷ []))
+      ≡ option_to_list (message_to e fs) ++ option_to_list given
 
--- a partial message as it is kept: the buffer has room for all of it, and the counter is that of the
--- next consecutive frame
+-- a partial message as it is kept: the buffer has room for all of it, and the counter is that of
+-- the next consecutive frame
 pub record IsKept (bytes : List ℕ) (size counter capacity : ℕ) : Type 0 where
   pub more : length bytes < size
   pub full : length bytes % 6 ≡ 5

@@ -1,6 +1,8 @@
 -- Segmented messages as diagnostic frames, and what a receiver reads of frames
 -- (ISO 17987-2, transport layer; LIN 2.2A, 3.2).
-use Rattle.std.specs.Prelude.{ℕ, zero, suc, ◌+◌, ◌*◌, ◌/◌, ◌%◌, ◌≤◌, Bool, false, ◌&&◌, ◌||◌, nat_lt, nat_le, eqb, if◌then◌else◌, List, [], ◌∷◌, ◌++◌, map, length, take, drop, slice_index, filter_map, Option, Some, None}
+use Rattle.std.specs.Prelude.{ℕ, zero, suc, ◌+◌, ◌*◌, ◌/◌, ◌%◌, ◌≤◌, Bool, false, ◌&&◌, ◌||◌}
+use Rattle.std.specs.Prelude.{nat_lt, nat_le, eqb, if◌then◌else◌, List, [], ◌∷◌, ◌++◌, map}
+use Rattle.std.specs.Prelude.{length, take, drop, slice_index, filter_map, Option, Some, None}
 use Rattle.std.specs.List.{concat}
 use Rattle.lin_frame.specs.Words.{numbers}
 use Rattle.lin_transport.specs.Words.{filled, with_last, begin_with}
@@ -10,9 +12,9 @@ use Rattle.lin_transport.specs.Words.{filled, with_last, begin_with}
 abbrev pub frame_count : ℕ → ℕ
 frame_count n = if nat_le n 6 then 1 else 1 + n / 6
 
--- the bytes of frame k that the message m needs: the node address, the PCI, and the frame's part of m.
--- A single frame has the PCI 0x0L with L bytes; a first frame 0x1H with the low length byte behind it,
--- for a length of 256 * H + low; consecutive frame k has 0x2C, where C is k modulo 16
+-- the bytes of frame k that the message m needs: the node address, the PCI, and the frame's part of
+-- m. A single frame has the PCI 0x0L with L bytes; a first frame 0x1H with the low length byte
+-- after it, for a length of 256 * H + low; consecutive frame k has 0x2C, where C is k modulo 16
 abbrev pub needed : ℕ → List ℕ → ℕ → List ℕ
 needed nad m zero =
     if nat_le (length m) 6 then nad ∷ length m ∷ m
@@ -54,26 +56,32 @@ pub data Heard : Type 0 where
 -- What was heard stands the newest first, the pieces and their frames the oldest first
 abbrev pub pieces : List Heard → List (List (List ℕ))
 pieces [] = [] ∷ []
-pieces (Frame f ∷ earlier) = if begins f then pieces earlier ++ (f ∷ []) ∷ [] else with_last (λ p. p ++ f ∷ []) (pieces earlier)
+pieces (Frame f ∷ earlier) =
+    if begins f then pieces earlier
+    ++ (f ∷ []) ∷ [] else with_last (λ p. p ++ f ∷ []) (pieces earlier)
 pieces (Reset ∷ earlier) = pieces earlier ++ [] ∷ []
 
 -- how long the message is that a single or first frame begins
 abbrev pub length_in : List ℕ → ℕ
-length_in f = if nat_lt (slice_index f 1) 16 then slice_index f 1 else 256 * (slice_index f 1 % 16) + slice_index f 2
+length_in f =
+    if nat_lt (slice_index f 1) 16
+    then slice_index f 1 else 256 * (slice_index f 1 % 16) + slice_index f 2
 
--- the message bytes that a piece has: what stands behind the PCI in a single frame, behind the low
--- length byte in a first frame, and behind the PCI in those that follow
+-- the message bytes that a piece has: what stands after the PCI in a single frame, after the low
+-- length byte in a first frame, and after the PCI in those that follow
 abbrev pub bytes_in : List (List ℕ) → List ℕ
 bytes_in [] = []
-bytes_in (f ∷ fs) = (if nat_lt (slice_index f 1) 16 then drop 2 f else drop 3 f) ++ concat (map (drop 2) fs)
+bytes_in (f ∷ fs) =
+    (if nat_lt (slice_index f 1) 16 then drop 2 f else drop 3 f) ++ concat (map (drop 2) fs)
 
--- the message whose frames, to this address, a piece begins with, unused bytes apart.
--- Only a message of the first frame's length can be meant, so it is the one of the piece's own bytes
+-- the message whose frames, to this address, a piece begins with, unused bytes apart. Only a
+-- message of the first frame's length can be meant, so it is the one of the piece's own bytes
 abbrev pub message_in : ℕ → List (List ℕ) → Option (List ℕ)
 message_in nad [] = None
 message_in nad (f ∷ fs) =
     let m : List ℕ = take (length_in f) (bytes_in (f ∷ fs))
-    in if nat_lt 0 (length m) && begin_with (f ∷ fs) (map (needed nad m) (numbers (frame_count (length m))))
+    in if nat_lt 0 (length m)
+    && begin_with (f ∷ fs) (map (needed nad m) (numbers (frame_count (length m))))
     then Some m
     else None
 
@@ -90,11 +98,13 @@ plain nad = record { nad = nad; all = false }
 abbrev pub looks_at : Ear → ℕ → Bool
 looks_at e n = (e.all && eqb n functional) || eqb n e.nad
 
--- the message that it reads in a piece: where the piece begins with a frame to all, that of this frame
--- alone; otherwise that of the frames to its own address
+-- the message that it reads in a piece: where the piece begins with a frame to all, that of this
+-- frame alone; otherwise that of the frames to its own address
 abbrev pub message_to : Ear → List (List ℕ) → Option (List ℕ)
 message_to e [] = None
-message_to e (f ∷ fs) = if e.all && eqb (slice_index f 0) functional then message_in functional (f ∷ []) else message_in e.nad (f ∷ fs)
+message_to e (f ∷ fs) =
+    if e.all && eqb (slice_index f 0) functional
+    then message_in functional (f ∷ []) else message_in e.nad (f ∷ fs)
 
 -- the messages in what was heard, in order
 abbrev pub messages_to : Ear → List Heard → List (List ℕ)

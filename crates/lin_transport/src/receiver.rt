@@ -1,16 +1,21 @@
 //! The receiver of messages: what it reads of the frames that it hears.
 
-ghost use Rattle.std.specs.Prelude.{◌≡◌, ℕ, ◌<◌, ◌≤◌, ◌∷◌, ◌++◌, [], List, ◌&&◌, eqb, true, false, slice_index, option_map, option_to_list, vec_capacity, IfOk, OnOk, OnErr, IsOk};
-ghost use Rattle.lin_transport.specs.Transport.{Ear, Heard, addressed, begins, functional, messages_for};
+ghost use Rattle.std.specs.Prelude.{◌≡◌, ℕ, ◌<◌, ◌≤◌, ◌∷◌, ◌++◌, [], List, ◌&&◌, eqb, true};
+ghost use Rattle.std.specs.Prelude.{false, slice_index, option_map, option_to_list, vec_capacity};
+ghost use Rattle.std.specs.Prelude.{IfOk, OnOk, OnErr, IsOk};
+ghost use Rattle.lin_transport.specs.Transport.{Ear, Heard, addressed, begins, functional};
+ghost use Rattle.lin_transport.specs.Transport.{messages_for};
 ghost use Rattle.lin_transport.specs.Transport.Heard.{Frame, Reset};
-ghost use Rattle.lin_transport.specs.Receiver.{Holds, IsOwn, IsReadAs, IsBegun, IsContinued, HasHeard, Reads, Stands, Hears, ear_of};
+ghost use Rattle.lin_transport.specs.Receiver.{Holds, IsOwn, IsReadAs, IsBegun, IsContinued};
+ghost use Rattle.lin_transport.specs.Receiver.{HasHeard, Reads, Stands, Hears, ear_of};
 
 use crate::pci::{CONSECUTIVE_BYTES, CONSECUTIVE_FRAME, FIRST_FRAME, FUNCTIONAL, SINGLE_BYTES};
 use std::alloc::{AllocError, Global};
 use std::marker::Model;
 use std::mem;
 
-/// A message of which the first frame was heard and the last wasn't yet. The buffer has room for all of it.
+/// A message of which the first frame was heard and the last wasn't yet. The buffer has room for
+/// all of it.
 #[derive(Drop)]
 struct Partial {
     message: Vec<u8>,
@@ -29,10 +34,11 @@ impl Model for Partial {
     ghost invariant = { λ p. IsKept p.message.items p.len p.counter (vec_capacity p.message) };
 }
 
-/// A receiver of the messages to one node address, and also of those to all responders where it is functional: it
-/// reassembles them from the frames that it hears (ISO 17987-2, segmented messages).
+/// A receiver of the messages to one node address, and also of those to all responders where it is
+/// functional: it reassembles them from the frames that it hears (ISO 17987-2, segmented messages).
 ///
-/// Contracts see what it listens to, its partial message, and for how many single frames room was made.
+/// Contracts see what it listens to, its partial message, and for how many single frames room was
+/// made.
 #[derive(Drop)]
 pub struct Receiver {
     alloc: Global,
@@ -54,7 +60,8 @@ impl Model for Receiver {
     ghost invariant = { λ r. r.room.items ≡ [] };
 }
 
-// The message of a single frame, where its length is in range. It is made in the room where that has enough.
+// The message of a single frame, where its length is in range. It is made in the room where that
+// has enough.
 fn single(alloc: Global, room: &mut Vec<u8>, frame: &[u8; 8]) -> Result<Option<Vec<u8>>, AllocError>
     requires low { slice_index frame.now 1 < 16 }
     requires empty { room.old.items ≡ [] }
@@ -75,7 +82,8 @@ fn single(alloc: Global, room: &mut Vec<u8>, frame: &[u8; 8]) -> Result<Option<V
     Ok(Some(message))
 }
 
-// The partial message that a first frame begins, where its length is in range: up to 6 bytes are no first frame's.
+// The partial message that a first frame begins, where its length is in range: up to 6 bytes are no
+// first frame's.
 fn begun(alloc: Global, frame: &[u8; 8]) -> Result<Option<Partial>, AllocError>
     requires low { 16 ≤ slice_index frame.now 1 }
     requires high { slice_index frame.now 1 < 32 }
@@ -97,7 +105,8 @@ fn begun(alloc: Global, frame: &[u8; 8]) -> Result<Option<Partial>, AllocError>
 // What is partial after a frame that begins no message, and the message that it completes.
 fn continued(partial: Option<Partial>, frame: &[u8; 8]) -> (Option<Partial>, Option<Vec<u8>>)
     requires { 32 ≤ slice_index frame.now 1 }
-    ensures { (ear : Ear) (fs : List (List ℕ)) → IsOwn ear → slice_index frame.now 0 ≡ ear.nad → Holds ear partial fs
+    ensures { (ear : Ear) (fs : List (List ℕ)) → IsOwn ear → slice_index frame.now 0 ≡ ear.nad
+        → Holds ear partial fs
         → IsContinued ear frame.now fs (option_map (λ v. v.items) result.1) result.0 }
 {
     let Some(partial) = partial else {
@@ -126,7 +135,8 @@ fn continued(partial: Option<Partial>, frame: &[u8; 8]) -> (Option<Partial>, Opt
 }
 
 impl Receiver {
-    /// A receiver of the messages to the node address `nad`, which has heard nothing. `hear` takes its memory from `alloc`.
+    /// A receiver of the messages to the node address `nad`, which has heard nothing. `hear` takes
+    /// its memory from `alloc`.
     pub fn new(alloc: Global, nad: u8) -> Receiver
         ensures address { result.nad ≡ nad }
         ensures stands { Stands result [] }
@@ -140,8 +150,8 @@ impl Receiver {
         }
     }
 
-    /// A receiver of the messages to the node address `nad` and of those to all responders, which has heard nothing.
-    /// `hear` and `make_room` take their memory from `alloc`.
+    /// A receiver of the messages to the node address `nad` and of those to all responders, which
+    /// has heard nothing. `hear` and `make_room` take their memory from `alloc`.
     pub fn functional(alloc: Global, nad: u8) -> Receiver
         ensures ear { ear_of result ≡ record { nad = nad; all = true } }
         ensures stands { HasHeard result [] }
@@ -162,8 +172,8 @@ impl Receiver {
         self.functional && frame[0] == FUNCTIONAL
     }
 
-    /// Makes room for the message of a single frame: after `Ok`, a `hear` of one as the next call isn't refused for
-    /// memory. What was heard stays.
+    /// Makes room for the message of a single frame: after `Ok`, a `hear` of one as the next call
+    /// isn't refused for memory. What was heard stays.
     ///
     /// # Errors
     /// `AllocError` where there is no memory for it. The receiver is then as before.
@@ -206,13 +216,16 @@ impl Receiver {
         Ok(message)
     }
 
-    /// Hears the 8 data bytes of a diagnostic frame, and gives the message that the frame completes.
+    /// Hears the 8 data bytes of a diagnostic frame, and gives the message that the frame
+    /// completes.
     ///
-    /// Only frames with the receiver's address count, and, where it is functional, those to all. A single or first frame
-    /// ends what was partial, also where its length is out of range, and so does every other frame that isn't the
-    /// expected consecutive one. Of frames to all only single ones are read. Unused bytes don't matter.
+    /// Only frames with the receiver's address count, and, where it is functional, those to all. A
+    /// single or first frame ends what was partial, also where its length is out of range, and so
+    /// does every other frame that isn't the expected consecutive one. Of frames to all only single
+    /// ones are read. Unused bytes don't matter.
     ///
-    /// Takes memory only for a single or first frame: a message's buffer is made once, at its length.
+    /// Takes memory only for a single or first frame: a message's buffer is made once, at its
+    /// length.
     ///
     /// # Errors
     /// `AllocError` where there is no memory for the message. The receiver is then as before.
@@ -233,7 +246,8 @@ impl Receiver {
     /// Ends what was partial, as at a timeout or at go-to-sleep.
     pub fn reset(&mut self)
         ensures address { self.new.nad ≡ self.old.nad }
-        ensures stands { (heard : List Heard) → Stands self.old heard → Stands self.new (Reset ∷ heard) }
+        ensures stands { (heard : List Heard) → Stands self.old heard
+            → Stands self.new (Reset ∷ heard) }
         ensures ear { ear_of self.new ≡ ear_of self.old }
         ensures ends { (heard : List Heard) → HasHeard self.new (Reset ∷ heard) }
     {

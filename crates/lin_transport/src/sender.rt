@@ -9,7 +9,8 @@ use crate::pci::{
 };
 use std::marker::Model;
 
-/// A message on its way: it gives the message's frames one by one (ISO 17987-2, segmented messages).
+/// A message on its way: it gives the message's frames one by one (ISO 17987-2, segmented
+/// messages).
 ///
 /// Contracts see its address, the message's length in bytes and the number of frames sent.
 #[derive(Debug, Drop)]
@@ -30,7 +31,7 @@ impl Model for Sender {
     ghost invariant = { λ s. IsBetween s.len s.position s.counter };
 }
 
-// The data bytes of a frame: these, and the fill byte behind them.
+// The data bytes of a frame: these, and the fill byte after them.
 fn data_bytes(header: &[u8], bytes: &[u8]) -> [u8; 8]
     requires { length header.now + length bytes.now ≤ 8 }
     ensures { result ≡ filled 8 (header.now ++ bytes.now) }
@@ -42,7 +43,8 @@ fn data_bytes(header: &[u8], bytes: &[u8]) -> [u8; 8]
 }
 
 impl Sender {
-    /// Begins a message of `len` bytes (1 to 4,095) to the node address `nad`: no frame of it is sent.
+    /// Begins a message of `len` bytes (1 to 4,095) to the node address `nad`: no frame of it is
+    /// sent.
     pub fn begin(nad: u8, len: usize) -> Sender
         requires some { 1 ≤ len }
         requires few { len ≤ 4095 }
@@ -56,8 +58,9 @@ impl Sender {
         }
     }
 
-    /// The 8 data bytes of the next frame of `message`: a single frame up to 6 bytes, otherwise a first frame and
-    /// then consecutive frames, whose counter goes from 1 to 15 and on with 0. Unused bytes are 0xFF.
+    /// The 8 data bytes of the next frame of `message`: a single frame up to 6 bytes, otherwise a
+    /// first frame and then consecutive frames, whose counter goes from 1 to 15 and on with 0.
+    /// Unused bytes are 0xFF.
     pub fn next(&self, message: &[u8]) -> [u8; 8]
         requires more { self.now.sent < frame_count self.now.size }
         requires whole { length message.now ≡ self.now.size }

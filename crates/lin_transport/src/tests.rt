@@ -175,7 +175,8 @@ impl Sequence {
         frame
     }
 
-    // A frame to an address, mostly one of a message with up to 32 bytes. The counter is that of the next consecutive frame.
+    // A frame to an address, mostly one of a message with up to 32 bytes. The counter is that of
+    // the next consecutive frame.
     fn likely_frame(&mut self, nad: u8, counter: u8) -> [u8; 8] {
         let mut frame = self.any_frame();
         frame[0] = nad;
@@ -199,12 +200,13 @@ fn is_looked_at(all: bool, nad: u8) -> bool {
     nad == NAD || (all && nad == FUNCTIONAL)
 }
 
-// The message that begins with the first of these frames, and how many frames behind it are looked at for it.
+// The message that begins with the first of these frames, and how many frames after it are looked
+// at for it.
 fn message_at(
     alloc: Global,
     all: bool,
     first: &[u8; 8],
-    behind: &[[u8; 8]],
+    after: &[[u8; 8]],
 ) -> Result<Option<(Vec<u8>, usize)>, AllocError> {
     let mut bytes = Vec::new(alloc);
     let len;
@@ -223,7 +225,7 @@ fn message_at(
     }
     let mut counter = 1;
     let mut looked_at = 0;
-    for (i, frame) in behind.iter().enumerate() {
+    for (i, frame) in after.iter().enumerate() {
         if bytes.len() >= len {
             break;
         }
@@ -309,8 +311,8 @@ fn read_messages(
     let mut messages = Vec::new(alloc);
     for (i, frame) in frames.iter().enumerate() {
         if is_looked_at(all, frame[0]) && frame[1] < 0x20 {
-            if let Some((message, behind)) = message_at(alloc, all, frame, &frames[i + 1..])? {
-                messages.push((i.saturating_add(behind), message))?;
+            if let Some((message, after)) = message_at(alloc, all, frame, &frames[i + 1..])? {
+                messages.push((i.saturating_add(after), message))?;
             }
         }
     }

@@ -12,8 +12,8 @@ use Rattle.lin_frame.proofs.packing.word_of_bytes.Goals as goal
 before : (bytes : List ℕ) (n b : ℕ) → b / 8 < n → data_bit (take n bytes) b ≡ data_bit bytes b
 before bytes n b h = ap (λ x. bit x (b % 8)) (get_or-take n bytes (b / 8) 0 h)
 
-behind : (bytes : List ℕ) (n b : ℕ) → n ≤ b / 8 → data_bit (take n bytes) b ≡ 0
-behind bytes n b h =
+after : (bytes : List ℕ) (n b : ℕ) → n ≤ b / 8 → data_bit (take n bytes) b ≡ 0
+after bytes n b h =
     ap (λ x. bit x (b % 8)) (get_or_past (take n bytes) (b / 8) 0 (omega (arith, length-take n bytes))) ∙ bit_at-zero (b % 8)
 
 byte_more : (bytes : List ℕ) (word byte n b : ℕ) → b < 64 → byte < 2 ^ 8 → byte ≡ get_or bytes n 0 → bit word b ≡ data_bit (take n bytes) b → bit (bit_or word (byte * 2 ^ (8 * n) % 2 ^ 64)) b ≡ data_bit (take (n + 1) bytes) b
@@ -31,14 +31,14 @@ byte_more bytes word byte n b h s e w =
     let here = bit-shl_high byte (8 * n) b (omega arith) in
     let place : bit byte (b - 8 * n) ≡ bit byte (b % 8) = ap (λ k. bit byte k) (omega arith) in
     let item : bit byte (b % 8) ≡ data_bit bytes b = ap (λ x. bit x (b % 8)) (e ∙ ap (λ k. get_or bytes k 0) (sym l)) in
-    let old = behind bytes n b (omega arith) in
+    let old = after bytes n b (omega arith) in
     let new = before bytes (n + 1) b (omega arith) in
     omega (arith, both, low, here, place, item, old, new, w) in
     let gt : n < b / 8 → bit (bit_or word (byte * 2 ^ (8 * n) % 2 ^ 64)) b ≡ data_bit (take (n + 1) bytes) b = λ l.
     let here = bit-shl_high byte (8 * n) b (omega arith) in
     let none = bit_at_above byte 8 (b - 8 * n) s (omega arith) in
-    let old = behind bytes n b (omega arith) in
-    let new = behind bytes (n + 1) b (omega arith) in
+    let old = after bytes n b (omega arith) in
+    let new = after bytes (n + 1) b (omega arith) in
     omega (arith, both, low, here, none, old, new, w) in
     elim (cases_order (b / 8) n) [ inl l ↦ eq l | inr m ↦ elim m [ inl l ↦ lt l | inr l ↦ gt l ] ]
 

@@ -1,6 +1,6 @@
 use Rattle.std.proofs.Common.{◌≡◌, ℕ, List, take, ap, ◌∙◌}
 use Rattle.std.specs.Prelude.{slice_index}
-use Rattle.lin_frame.proofs.ZerosBehind.{first-read}
+use Rattle.lin_frame.proofs.ZerosAfter.{first-read}
 use Rattle.lin_frame.proofs.response.Answer.data.Goals as goal
 
 pub returns-clause-each : goal.returns-clause-each

@@ -1,4 +1,4 @@
--- Few bytes, with zeros behind them.
+-- Few bytes, with zeros after them.
 use Rattle.std.proofs.Common.{◌≡◌, ◌<◌, ◌≤◌, ◌++◌, ℕ, zero, suc, Bool, true, false, List, [], ◌∷◌, length, replicate, take, refl, sym, ◌∙◌, ap, arith, get_or, get_or-take}
 use Rattle.std.specs.Prelude.{slice_index, nat_lt}
 use Rattle.std.proofs.lemmas.Bool.Decides.{nat_tests}
@@ -28,7 +28,7 @@ take-read xs n m k false t =
 -- the first bytes of the place are those that are meant
 pub first-read : (size len m k : ℕ) (bytes : List ℕ) → IsShort size len bytes → slice_index (take m bytes) k ≡ slice_index (take m (take len bytes)) k
 first-read size len m k bytes s =
-    ap (λ xs. slice_index (take m xs) k) (sym s.zeros_behind) ∙ take-read (take len bytes) _ m k (nat_lt k m) refl
+    ap (λ xs. slice_index (take m xs) k) (sym s.zeros_after) ∙ take-read (take len bytes) _ m k (nat_lt k m) refl
 
 pub first-whole : (size len m : ℕ) (bytes : List ℕ) → IsShort size len bytes → m ≤ length (take len bytes) → take m bytes ≡ take m (take len bytes)
-first-whole size len m bytes s l = ap (λ xs. take m xs) (sym s.zeros_behind) ∙ take-append-le m (take len bytes) _ l
+first-whole size len m bytes s l = ap (λ xs. take m xs) (sym s.zeros_after) ∙ take-append-le m (take len bytes) _ l

@@ -1,6 +1,6 @@
 use Rattle.std.proofs.Common.{arith}
 use Rattle.lin_schedule.proofs.Clusters.{table-length}
-use Rattle.lin_schedule.proofs.walker.entry_behind.Goals as goal
+use Rattle.lin_schedule.proofs.walker.entry_after.Goals as goal
 
 pub overflow_add-result : goal.overflow_add-result
 overflow_add-result c =
