@@ -1,8 +1,7 @@
 //! Logs as lines of values between commas.
 
 ghost use Rattle.std.specs.Prelude.{◌≡◌, ℕ, [], length, flat_map, map};
-ghost use Rattle.lin_core.specs.Kept.{ArePointwise};
-ghost use Rattle.lin_core.specs.Signals.{heard};
+ghost use Rattle.lin_core.specs.Signals.{heard, ArePointwise};
 ghost use Rattle.lin_frame.specs.declared.value.Value.{Value};
 ghost use Rattle.lin_text.specs.Written.{Grows, WritesText};
 ghost use Rattle.lin_export.specs.Cells.{shown};
@@ -12,11 +11,11 @@ ghost use Rattle.lin_export.specs.Open.{slot_in};
 
 use crate::fault::ExportFault;
 use crate::format::{Format, write_as};
-use crate::hearing::{hear_slot, initial_values};
+use crate::hearing::hear_slot;
 use crate::naming::{node_name, slot_name, table_name};
 use crate::slot::{Look, OpenSlot, byte_at};
 use crate::track::Track;
-use lin_core::{Log, LogEntry, Reply, Step};
+use lin_core::{Log, LogEntry, Reply, Step, initial_values};
 use lin_frame::{Answer, Value};
 use lin_names::Names;
 use lin_parts::{Cluster, Entry};

@@ -6,7 +6,6 @@ ghost use Rattle.std.specs.Option.{option_to_list};
 ghost use Rattle.lin_frame.specs.Words.{choose};
 ghost use Rattle.lin_parts.specs.Cluster.{frame_of, nad, node_of, nodes};
 ghost use Rattle.lin_parts.specs.Rules.{IsEntry};
-ghost use Rattle.lin_core.specs.Slots.{node_with};
 ghost use Rattle.lin_log.specs.Words.{cause_word, direction_word, header_word, refusal_number, reply_line, seen_words, spaced};
 ghost use Rattle.lin_text.specs.Written.{Grows, WritesText};
 ghost use Rattle.lin_export.specs.Named.{behind, control_words, event_lines, frame_words, good_line, named, named_entry, named_event, named_port, named_step, refusal_name, signal_words, slot_words, sporadic_frame, time_line, transport_line, transport_words, who_word};
@@ -14,16 +13,18 @@ ghost use Rattle.lin_export.specs.NamedWords.{word_shown};
 ghost use Rattle.lin_export.specs.Open.{slot_in};
 ghost use Rattle.lin_export.specs.Shown.{frame_name};
 
-use crate::carried::{frame_under, line_at};
+use crate::carried::line_at;
 use crate::fault::ExportFault;
 use crate::format::{Format, write_as};
-use crate::hearing::first_eight;
 use crate::naming::{entry_name, node_name};
 use crate::slot::{OpenSlot, byte_at};
 use crate::track::Track;
 use crate::words::{Word, node_word, put_reply, put_words, signal_word, table_word, value_word};
-use lin_core::{Cause, Direction, Event, Log, LogEntry, PortId, Refusal, Reply, Seen, Step};
-use lin_frame::unpack;
+use lin_core::{
+    Cause, Direction, Event, Log, LogEntry, PortId, Refusal, Reply, Seen, Step, frame_under,
+    node_with,
+};
+use lin_frame::{Answer, unpack};
 use lin_names::Names;
 use lin_parts::{Cluster, Entry};
 use lin_text::TextWriter;
@@ -263,12 +264,17 @@ fn put_event<'a, W: Write>(
 }
 
 /// The signals of a frame, with their values in data bytes.
-fn put_signals<W: Write>(out: &mut TextWriter<'_, W>, cluster: &Cluster, frame: u16, answer: &[u8])
+fn put_signals<W: Write>(
+    out: &mut TextWriter<'_, W>,
+    cluster: &Cluster,
+    frame: u16,
+    answer: &Answer,
+)
     requires { frame < length cluster.now.frames }
     ensures { Grows W.contents out.old out.new (flat_map spaced (flat_map (signal_words cluster.now answer.now) (zip (frame_of cluster.now frame).signals (frame_of cluster.now frame).layout.places))) }
 {
     cluster.sound();
-    let data = first_eight(answer);
+    let data = answer.data();
     let layout = cluster.layout(frame);
     let signals = cluster.frame_signals(frame);
     for place in 0..signals.len() {
@@ -284,7 +290,7 @@ fn put_frame<W: Write>(
     cluster: &Cluster,
     names: &Names,
     frame: u16,
-    answer: &[u8],
+    answer: &Answer,
 )
     requires { frame < length cluster.now.frames }
     ensures { Grows W.contents out.old out.new (reply_line (frame_words cluster.now names.now frame answer.now)) }
@@ -296,37 +302,6 @@ fn put_frame<W: Write>(
     );
     put_signals(out, cluster, frame, answer);
     out.put_byte(b'\n');
-}
-
-/// A node after the one that was found, where it is looked for.
-fn first(found: Option<u8>, node: u8, is_one: bool) -> Option<u8>
-    ensures { result ≡ choose found (if is_one then Some node else None) Some }
-{
-    if found.is_none() && is_one {
-        return Some(node);
-    }
-    found
-}
-
-fn has_address(cluster: &Cluster, node: u8, address: u8) -> bool
-    requires { node < nodes cluster.now }
-    ensures { result ≡ choose (nad cluster.now node) false (λ own. own == address) }
-{
-    match cluster.nad(node) {
-        Some(own) => own == address,
-        None => false,
-    }
-}
-
-/// The node with an address, if there is one.
-fn node_with(cluster: &Cluster, address: u8) -> Option<u8>
-    ensures { result ≡ node_with cluster.now address }
-{
-    let mut found = None;
-    for node in 0..cluster.nodes() as u8 {
-        found = first(found, node, has_address(cluster, node, address));
-    }
-    found
 }
 
 fn who_word(cluster: &Cluster, address: u8) -> Word<'_>
@@ -396,13 +371,13 @@ fn put_good<W: Write>(
     cluster: &Cluster,
     names: &Names,
     slot: &OpenSlot,
-    answer: &[u8],
+    answer: &Answer,
 )
     ensures { Grows W.contents out.old out.new (good_line cluster.now names.now answer.now (slot_in slot.now)) }
 {
     match slot.frame(cluster) {
         Some(frame) => put_frame(out, cluster, names, frame, answer),
-        None => put_transport_line(out, cluster, slot.header(), answer),
+        None => put_transport_line(out, cluster, slot.header(), answer.as_slice()),
     }
 }
 
@@ -419,7 +394,7 @@ fn put_behind<W: Write>(
     if let Event::Seen(Seen::Good(answer)) = event
         && let Some(slot) = slot
     {
-        put_good(out, cluster, names, slot, answer.as_slice());
+        put_good(out, cluster, names, slot, answer);
     }
 }
 

@@ -6,13 +6,12 @@ ghost use Rattle.lin_export.specs.Look.{looks};
 ghost use Rattle.lin_export.specs.Open.{slot_in};
 ghost use Rattle.lin_export.specs.Pcap.{bus_event, file_header, finish_packets, frame_body, model_number, packet, packets, pcap, seen_packet, slot_packet, word};
 
-use crate::carried::model_under;
 use crate::fault::ExportFault;
 use crate::format::{Format, write_as};
 use crate::slot::{Look, OpenSlot, byte_at};
 use crate::track::Track;
 use arrayvec::ArrayVec;
-use lin_core::{Log, LogEntry, Reply, Step};
+use lin_core::{Log, LogEntry, Reply, Step, model_under};
 use lin_frame::SumKind;
 use lin_parts::Cluster;
 use lin_text::TextWriter;

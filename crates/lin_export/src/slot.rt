@@ -10,9 +10,8 @@ ghost use Rattle.lin_export.specs.Open.{slot_in};
 ghost use Rattle.lin_export.specs.Shown.{slot_frame};
 ghost use Rattle.lin_export.specs.Track.{shown};
 
-use crate::carried::{frame_put, frame_under, line_at};
-use arrayvec::ArrayVec;
-use lin_core::Event;
+use crate::carried::{frame_put, line_at};
+use lin_core::{Event, frame_under};
 use lin_frame::Answer;
 use lin_parts::{Cluster, Entry, Line};
 use std::alloc::{AllocError, Global};
@@ -25,15 +24,6 @@ pub(crate) struct OpenSlot {
     header: Option<u8>,
     puts: Vec<(u8, Answer)>,
     hurt: bool,
-}
-
-/// An equal response.
-fn copied(answer: &Answer) -> Answer
-    ensures { result ≡ answer.now }
-{
-    let mut copy = ArrayVec::new();
-    copy.try_extend_from_slice(answer.as_slice()).unwrap();
-    Answer::new(copy)
 }
 
 /// The byte at an index; 0 behind the last.
@@ -84,7 +74,7 @@ impl OpenSlot {
                 self.entry = *entry;
                 self.header = *header;
             }
-            Event::Put { node, answer } => self.puts.push((*node, copied(answer)))?,
+            Event::Put { node, answer } => self.puts.push((*node, *answer))?,
             _ => {}
         }
         Ok(())

@@ -12,12 +12,11 @@ ghost use Rattle.lin_export.specs.Vcd.{counted, counted_all, count_group, entry_
 use crate::changes::{put_heard, put_number, put_unknown, put_waiting, put_written};
 use crate::fault::ExportFault;
 use crate::format::{Format, write_as};
-use crate::hearing::first_eight;
 use crate::slot::{Look, OpenSlot};
 use crate::track::Track;
 use crate::variables::put_head;
 use lin_core::{Event, Log, LogEntry, Reply, Step};
-use lin_frame::unpack;
+use lin_frame::{Answer, unpack};
 use lin_parts::Cluster;
 use lin_text::TextWriter;
 use std::alloc::Global;
@@ -81,12 +80,12 @@ fn put_slot<W: Write>(out: &mut TextWriter<'_, W>, number: u64, slot: &OpenSlot)
 }
 
 /// The signals of a frame, with their values in data bytes.
-fn put_frame<W: Write>(out: &mut TextWriter<'_, W>, cluster: &Cluster, frame: u16, answer: &[u8])
+fn put_frame<W: Write>(out: &mut TextWriter<'_, W>, cluster: &Cluster, frame: u16, answer: &Answer)
     requires { frame < length cluster.now.frames }
     ensures { Grows W.contents out.old out.new (frame_changes cluster.now frame answer.now) }
 {
     cluster.sound();
-    let data = first_eight(answer);
+    let data = answer.data();
     let layout = cluster.layout(frame);
     let signals = cluster.frame_signals(frame);
     for place in 0..signals.len() {
@@ -112,7 +111,7 @@ fn put_heard_frame<W: Write>(
         return;
     };
     put_stamp(out, last, end);
-    put_frame(out, cluster, frame, answer.as_slice());
+    put_frame(out, cluster, frame, answer);
 }
 
 /// A slot that ends.

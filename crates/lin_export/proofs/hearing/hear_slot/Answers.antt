@@ -1,11 +1,8 @@
-use Rattle.std.proofs.Common.{◌≡◌, ℕ, List, sym, ap, ◌∙◌}
-use Rattle.std.specs.Prelude.{Option, Some, option_map, take}
+use Rattle.std.proofs.Common.{◌≡◌, sym, ap, ◌∙◌}
+use Rattle.std.specs.Prelude.{Option, Some}
 use Rattle.lin_frame.specs.Words.{choose}
-use Rattle.lin_frame.specs.Bits.{unpacked}
 use Rattle.lin_frame.specs.declared.value.Value.{Value}
-use Rattle.lin_parts.specs.Cluster.{frame_of}
 use Rattle.lin_core.specs.History.{good, good_bytes}
-use Rattle.lin_core.specs.Signals.{place_in}
 use Rattle.lin_export.specs.Look.{looks}
 use Rattle.lin_export.specs.Open.{slot_in}
 use Rattle.lin_export.proofs.Rows.{hears-value}
@@ -19,5 +16,4 @@ returns-clause-heard c = λ g p s v at.
     let is_good : good slot ≡ Some bytes = ap good_bytes (sym c.look.ensures ∙ ap looks c.in-Good.is) in
     let is = hears-value x slot s bytes c.in-Some.frame is_good (sym c.carried.ensures.frame ∙ c.in-Some.is) in
     c.hear_frame.ensures.heard g p s v at
-    ∙ ap (λ (bs : List ℕ). choose (option_map (λ q. unpacked q (take 8 bs)) (place_in (frame_of x c.in-Some.frame) s)) (g s) (λ y. y)) c.as_slice.ensures.items
     ∙ ap (λ (o : Option Value). choose o (g s) (λ y. y)) (sym is)

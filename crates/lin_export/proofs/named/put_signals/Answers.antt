@@ -52,8 +52,8 @@ loop-place-preserved g c =
     = c.signal_name-name.ensures ∙ ap (λ (ss : List ℕ). (signal_of x (get_or ss i 0)).name) c.frame_signals-signals.ensures in
     let value : word_shown c.value_word.result ≡ value_word (unpacked (get_or places i no_place) (take 8 answer))
     = c.value_word.ensures
-    ∙ ap value_word (c.unpack-value.ensures no_place ∙ ap (λ (l : Layout). unpacked (get_or l.places i no_place) c.first_eight-data.result) c.layout-layout.ensures
-    ∙ unpacked-same (get_or places i no_place) c.first_eight-data.result (take 8 answer) c.first_eight-data.ensures) in
+    ∙ ap value_word (c.unpack-value.ensures no_place ∙ ap (λ (l : Layout). unpacked (get_or l.places i no_place) c.data-data.result) c.layout-layout.ensures
+    ∙ unpacked-same (get_or places i no_place) c.data-data.result (take 8 answer) c.data-data.ensures.each) in
     same-growth (sym text) (grows-more c.loop-place.invariant (rw (name, value) at c.put_words.ensures))
 
 pub returns : goal.returns

@@ -48,8 +48,8 @@ loop-place-preserved g c =
     let text : flat_map says (take (i + 1) pairs) ≡ flat_map says (take i pairs) ++ says item
     = texts-more says pairs i (0, no_place) (omega arith) ∙ ap (λ (p : ℕ × Place). flat_map says (take i pairs) ++ says p) at in
     let value : c.unpack-value.result ≡ unpacked (get_or places i no_place) (take 8 answer)
-    = c.unpack-value.ensures no_place ∙ ap (λ (l : Layout). unpacked (get_or l.places i no_place) c.first_eight-data.result) c.layout-layout.ensures
-    ∙ unpacked-same (get_or places i no_place) c.first_eight-data.result (take 8 answer) c.first_eight-data.ensures in
+    = c.unpack-value.ensures no_place ∙ ap (λ (l : Layout). unpacked (get_or l.places i no_place) c.data-data.result) c.layout-layout.ensures
+    ∙ unpacked-same (get_or places i no_place) c.data-data.result (take 8 answer) c.data-data.ensures.each in
     let change = ap (λ (ss : List ℕ). heard_change x (get_or ss i 0) c.unpack-value.result) c.frame_signals-signals.ensures ∙ ap (λ (v : Value). heard_change x (get_or signals i 0) v) value in
     same-growth (sym text) (grows-more c.loop-place.invariant (same-growth change c.put_heard.ensures))
 

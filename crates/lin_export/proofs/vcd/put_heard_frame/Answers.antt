@@ -5,7 +5,6 @@ use Rattle.lin_core.specs.Signals.{carried}
 use Rattle.lin_export.specs.Look.{looks}
 use Rattle.lin_export.specs.Open.{slot_in}
 use Rattle.lin_export.specs.Vcd.{frame_changes}
-use Rattle.lin_text.proofs.Growing.{same-growth}
 use Rattle.lin_export.proofs.Groups.{groups-one, heard-one, same-groups}
 use Rattle.lin_export.proofs.vcd.put_heard_frame.Goals as goal
 
@@ -18,4 +17,4 @@ returns g c =
     let frame : carried x slot ≡ Some c.in-Some.frame = sym c.carried.ensures.frame ∙ c.in-Some.is in
     same-groups (sym (heard-one x c.args.end slot bytes c.in-Some.frame is_good frame))
     (groups-one c.args.last.now c.put_stamp.new.last c.args.end (frame_changes x c.in-Some.frame bytes) c.put_stamp.ensures.text c.put_stamp.ensures.shown
-    (same-growth (ap (frame_changes x c.in-Some.frame) c.as_slice.ensures.items) c.put_frame.ensures))
+    c.put_frame.ensures)
