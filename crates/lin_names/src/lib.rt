@@ -8,4 +8,4 @@
 
 mod names;
 
-pub use names::Names;
+pub use names::{Names, entry_kind};

@@ -1,10 +1,11 @@
 //! Names of frames, by their numbers.
 
 ghost use Rattle.std.specs.Prelude.{◌≡◌, [], map, slice_index_or, IfOk};
-ghost use Rattle.lin_names.specs.Names.{names_of};
+ghost use Rattle.lin_names.specs.Names.{entry_kind, entry_name, event_name, frame_name, names_of, sporadic_name};
 
 use lin_description::{Description, EventFrame, Frame, Sporadic};
 use lin_lists::{Many, Text};
+use lin_parts::Entry;
 use std::alloc::{AllocError, Global};
 use std::marker::Model;
 
@@ -68,6 +69,21 @@ fn name_at(names: &[Text], number: u16) -> &[u8]
     }
 }
 
+/// What kind of frame an entry of a schedule table is for: `unconditional`, `sporadic`, `event`, `request`, `response`, or
+/// `configuration` (ISO 17987-3, frame slots).
+pub fn entry_kind(entry: Entry) -> &'static [u8]
+    ensures { result.now ≡ entry_kind entry }
+{
+    match entry {
+        Entry::Frame(_) => b"unconditional",
+        Entry::Sporadic(_) => b"sporadic",
+        Entry::Event(_) => b"event",
+        Entry::MasterReq => b"request",
+        Entry::SlaveResp => b"response",
+        Entry::Quiet => b"configuration",
+    }
+}
+
 impl Names {
     /// The names of a description; an error is want of memory.
     pub fn of(alloc: Global, description: &Description) -> Result<Names, AllocError>
@@ -85,23 +101,38 @@ impl Names {
 
     /// The name of an unconditional frame (LIN 2.2A, section 9.2.4.1); no bytes where none has this number.
     pub fn frame_name(&self, frame: u16) -> &[u8]
-        ensures { result.now ≡ slice_index_or self.now.frames frame [] }
+        ensures { result.now ≡ frame_name self.now frame }
     {
         name_at(self.frames.as_slice(), frame)
     }
 
     /// The name of a sporadic frame (LIN 2.2A, section 9.2.4.2); no bytes where none has this number.
     pub fn sporadic_name(&self, sporadic: u16) -> &[u8]
-        ensures { result.now ≡ slice_index_or self.now.sporadic sporadic [] }
+        ensures { result.now ≡ sporadic_name self.now sporadic }
     {
         name_at(self.sporadic.as_slice(), sporadic)
     }
 
     /// The name of an event-triggered frame (LIN 2.2A, section 9.2.4.3); no bytes where none has this number.
     pub fn event_name(&self, event: u16) -> &[u8]
-        ensures { result.now ≡ slice_index_or self.now.events event [] }
+        ensures { result.now ≡ event_name self.now event }
     {
         name_at(self.events.as_slice(), event)
+    }
+
+    /// The name of what an entry of a schedule table is for (LIN 2.2A, section 9.2.5): a frame's, `MasterReq` or `SlaveResp`,
+    /// and `-` for a configuration entry.
+    pub fn entry_name(&self, entry: Entry) -> &[u8]
+        ensures { result.now ≡ entry_name self.now entry }
+    {
+        match entry {
+            Entry::Frame(frame) => self.frame_name(frame),
+            Entry::Sporadic(sporadic) => self.sporadic_name(sporadic),
+            Entry::Event(event) => self.event_name(event),
+            Entry::MasterReq => b"MasterReq",
+            Entry::SlaveResp => b"SlaveResp",
+            Entry::Quiet => b"-",
+        }
     }
 
     /// The speed in bits per second (LIN 2.2A, section 9.2.1).
