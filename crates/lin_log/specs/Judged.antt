@@ -27,7 +27,8 @@ JudgeFaults TooLong r = ⊥
 JudgeFaults ReadFailed r = ⊥
 JudgeFaults OutOfMemory r = Unit {0}
 
-abbrev pub Judges : {X : Type 0} → (X → List (PortId × Step)) → Result X ScriptFault → Result (List (PortId × Step)) ℕ → Type 0
+abbrev pub Judges : {X : Type 0} → (X → List (PortId × Step)) → Result X ScriptFault
+    → Result (List (PortId × Step)) ℕ → Type 0
 Judges view (Ok x) r = r ≡ Ok (view x)
 Judges view (Err e) r = JudgeFaults e r
 
@@ -35,13 +36,16 @@ Judges view (Err e) r = JudgeFaults e r
 abbrev pub said : ScriptLines → Result (List (PortId × Step)) ℕ
 said lines = judged lines.number (lines_left lines.left)
 
--- what asking for the next step answers: of what the lines said, and of what those behind that step say
-abbrev pub NextStep : Result (Option (PortId × Step)) ScriptFault → Result (List (PortId × Step)) ℕ → Result (List (PortId × Step)) ℕ → Type 0
+-- what asking for the next step answers, where the lines said `old`; those after its line say `new`
+abbrev pub NextStep : Result (Option (PortId × Step)) ScriptFault → Result (List (PortId × Step)) ℕ
+    → Result (List (PortId × Step)) ℕ → Type 0
 NextStep (Ok None) old new = old ≡ Ok []
 NextStep (Ok (Some step)) old new = old ≡ prefixed (step ∷ []) new
 NextStep (Err e) old new = JudgeFaults e old
 
 -- what making the steps that lines say answers, and the log of those steps
-abbrev pub MakesLines : Parts → ℕ → ℕ → Result Unit ScriptFault → List LogEntry → Result (List (PortId × Step)) ℕ → Type 0
-MakesLines c opening capacity (Ok done) log r = (steps : List (PortId × Step)) × (r ≡ Ok steps) × (log ≡ log_of c opening capacity steps)
+abbrev pub MakesLines : Parts → ℕ → ℕ → Result Unit ScriptFault → List LogEntry
+    → Result (List (PortId × Step)) ℕ → Type 0
+MakesLines c opening capacity (Ok done) log r =
+    (steps : List (PortId × Step)) × (r ≡ Ok steps) × (log ≡ log_of c opening capacity steps)
 MakesLines c opening capacity (Err fault) log r = JudgeFaults fault r

@@ -13,7 +13,7 @@ abbrev pub Gives : {X Y : Type 0} → (X → Y) → Result X LineFault → Optio
 Gives view (Ok x) read = read ≡ Some (view x)
 Gives view (Err e) read = Fails e read
 
--- the first field, and the line behind it
+-- the first field, and the rest of the line
 abbrev pub Takes : Result (Bor (List ℕ) × Bor (List ℕ)) LineFault → List (List ℕ) → Type 0
 Takes (Ok x) fs = fs ≡ x.0.now ∷ fields x.1.now
 Takes (Err Bad) fs = fs ≡ []

@@ -29,21 +29,24 @@ abbrev pub IsScriptOf : List ℕ → List (PortId × Step) → Type 0
 IsScriptOf bytes said = IsShort bytes × (steps bytes ≡ Some said)
 
 -- what reading a script of these bytes answers
-abbrev pub ReadsScript : {X : Type 0} → (X → List (PortId × Step)) → Result X ScriptFault → List ℕ → Type 0
+abbrev pub ReadsScript : {X : Type 0} → (X → List (PortId × Step)) → Result X ScriptFault
+    → List ℕ → Type 0
 ReadsScript view (Ok x) bytes = IsScriptOf bytes (view x)
 ReadsScript view (Err e) bytes = ScriptFaults e bytes
 
--- when reading a script's bytes has this fault: what the reader has is told, or it isn't
+-- when reading a script's bytes has this fault; the reader's bytes, where they are known
 abbrev pub ByteFaults : ScriptFault → Option (List ℕ) → Type 0
-ByteFaults (BadLine n) told = ⊥
-ByteFaults TooLong told = IfSome told (λ bytes. 16777216 < length bytes)
-ByteFaults ReadFailed told = Unit {0}
-ByteFaults NoMemory told = Unit {0}
+ByteFaults (BadLine n) known = ⊥
+ByteFaults TooLong known = IfSome known (λ bytes. 16777216 < length bytes)
+ByteFaults ReadFailed known = Unit {0}
+ByteFaults NoMemory known = Unit {0}
 
--- the bytes of a script, as far as a reader tells them
-abbrev pub ReadsBytes : {X : Type 0} → (X → List ℕ) → Result X ScriptFault → Option (List ℕ) → Type 0
-ReadsBytes view (Ok x) told = IfSome told (λ bytes. view x ≡ bytes) × (length (view x) ≤ 16777216)
-ReadsBytes view (Err e) told = ByteFaults e told
+-- the bytes of a script, those of the reader where they are known
+abbrev pub ReadsBytes : {X : Type 0} → (X → List ℕ) → Result X ScriptFault → Option (List ℕ)
+    → Type 0
+ReadsBytes view (Ok x) known =
+    IfSome known (λ bytes. view x ≡ bytes) × (length (view x) ≤ 16777216)
+ReadsBytes view (Err e) known = ByteFaults e known
 
 -- the log of these steps, both the oldest first
 abbrev pub log_of : Parts → ℕ → ℕ → List (PortId × Step) → List LogEntry
@@ -57,21 +60,27 @@ replay_fault ReadFailed = Script ReadFailed
 replay_fault NoMemory = OutOfMemory
 
 -- what making the steps of a script of these bytes answers
-abbrev pub RunsScript : {X : Type 0} → Parts → ℕ → ℕ → (X → List LogEntry) → Result X ScriptFault → List ℕ → Type 0
-RunsScript c opening capacity view (Ok x) bytes = (said : List (PortId × Step)) × IsScriptOf bytes said × (view x ≡ log_of c opening capacity said)
+abbrev pub RunsScript : {X : Type 0} → Parts → ℕ → ℕ → (X → List LogEntry)
+    → Result X ScriptFault → List ℕ → Type 0
+RunsScript c opening capacity view (Ok x) bytes =
+    (said : List (PortId × Step)) × IsScriptOf bytes said
+    × (view x ≡ log_of c opening capacity said)
 RunsScript c opening capacity view (Err fault) bytes = ScriptFaults fault bytes
 
--- what a replay answers, and what the writer took: of the script's bytes where the reader tells them, and of some steps in any case
+-- what a replay answers, and what the writer took: of the script's bytes where they are known, and
+-- of some steps in any case
 abbrev pub IsReplay : {X : Type 0} → Parts → ℕ → ℕ → (X → List LogEntry) → Result X ReplayFault
     → Option (List ℕ) → Option (List ℕ) → Option (List ℕ) → Type 0
-IsReplay c opening capacity view (Ok x) told old new =
-    (said : List (PortId × Step)) × IfSome told (λ bytes. IsScriptOf bytes said)
+IsReplay c opening capacity view (Ok x) known old new =
+    (said : List (PortId × Step)) × IfSome known (λ bytes. IsScriptOf bytes said)
     × (view x ≡ log_of c opening capacity said) × Appends old new (text (view x))
-IsReplay c opening capacity view (Err (Script fault)) told old new = IfSome told (ScriptFaults fault) × Keeps old new
-IsReplay c opening capacity view (Err OutOfMemory) told old new = Keeps old new
-IsReplay c opening capacity view (Err WriteFailed) told old new =
-    (said : List (PortId × Step)) × IfSome told (λ bytes. IsScriptOf bytes said)
-    × (part rest : List ℕ) × (text (log_of c opening capacity said) ≡ part ++ rest) × Appends old new part
+IsReplay c opening capacity view (Err (Script fault)) known old new =
+    IfSome known (ScriptFaults fault) × Keeps old new
+IsReplay c opening capacity view (Err OutOfMemory) known old new = Keeps old new
+IsReplay c opening capacity view (Err WriteFailed) known old new =
+    (said : List (PortId × Step)) × IfSome known (λ bytes. IsScriptOf bytes said)
+    × (part rest : List ℕ) × (text (log_of c opening capacity said) ≡ part ++ rest)
+    × Appends old new part
 
 -- the text of these entries is a script of these steps
 abbrev pub ReadsAgain : List LogEntry → List (PortId × Step) → Type 0
@@ -80,4 +89,6 @@ ReadsAgain entries said = steps (text entries) ≡ Some said
 -- where the entries are a history, the log of these steps is those entries
 abbrev pub RunsAgain : List LogEntry → List (PortId × Step) → Type 0
 RunsAgain entries said =
-    (c : Parts) (opening capacity : ℕ) → reverse entries ≡ history c opening capacity (steps_of (reverse entries)) → log_of c opening capacity said ≡ entries
+    (c : Parts) (opening capacity : ℕ)
+    → reverse entries ≡ history c opening capacity (steps_of (reverse entries))
+    → log_of c opening capacity said ≡ entries

@@ -1,4 +1,4 @@
--- What a script says: lines end with LF, and their fields stand between spaces.
+-- What a script says: its lines end with LF, and spaces part their fields.
 use Rattle.std.specs.Prelude.{ℕ, ◌+◌, ◌-◌, ◌*◌, ◌==◌, ◌&&◌, ◌||◌, nat_le, nat_lt, Bool, true, false, if◌then◌else◌, List, [], ◌∷◌, ◌++◌, length, drop, filter, slice_index, Option, Some, None, Result, Ok, Err, codes, option_map}
 use Rattle.std.specs.List.{slice_split}
 use Rattle.std.specs.Str.{bytes_eq}
@@ -19,14 +19,15 @@ abbrev pub ◌>>=◌ : {A B : Type 0} → Option A → (A → Option B) → Opti
 Some x >>= f = f x
 None >>= f = None
 
--- the fields of a line: what stands between its spaces
+-- the fields of a line: what its spaces part
 abbrev pub fields : List ℕ → List (List ℕ)
 fields line = filter (λ f. nat_lt 0 (length f)) (slice_split (λ b. b == 32) line)
 
--- the number that decimal digits spell behind those of n
+-- the number that decimal digits spell after those of n
 abbrev pub number_after : ℕ → List ℕ → Option ℕ
 number_after n [] = Some n
-number_after n (c ∷ cs) = if nat_le 48 c && nat_le c 57 then number_after (n * 10 + (c - 48)) cs else None
+number_after n (c ∷ cs) =
+    if nat_le 48 c && nat_le c 57 then number_after (n * 10 + (c - 48)) cs else None
 
 -- 1 to 10 digits, at most a limit
 abbrev pub number : ℕ → List ℕ → Option ℕ
@@ -44,7 +45,8 @@ hex_bytes word =
 
 -- at most 8 bytes
 abbrev pub array_bytes : List ℕ → Option (List ℕ)
-array_bytes word = hex_bytes word >>= (λ bytes. if nat_le (length bytes) 8 then Some bytes else None)
+array_bytes word =
+    hex_bytes word >>= (λ bytes. if nat_le (length bytes) 8 then Some bytes else None)
 
 -- a number for a scalar, or `x` and at most 8 bytes for an array
 unfoldable pub value : List ℕ → Option Value
@@ -69,7 +71,8 @@ direction word =
     else None
 
 -- fields in turn: what the first one says, and the others
-abbrev pub field_by : {A : Type 0} → (List ℕ → Option A) → List (List ℕ) → Option (A × List (List ℕ))
+abbrev pub field_by : {A : Type 0} → (List ℕ → Option A) → List (List ℕ)
+    → Option (A × List (List ℕ))
 field_by reads [] = None
 field_by reads (f ∷ fs) = reads f >>= (λ x. Some (x, fs))
 
@@ -78,7 +81,7 @@ abbrev pub no_more : {A : Type 0} → A → List (List ℕ) → Option A
 no_more x [] = Some x
 no_more x (f ∷ fs) = None
 
--- the forms of the steps: the fields behind the step's word
+-- the forms of the steps: the fields after the step's word
 unfoldable pub send_form : List (List ℕ) → Option Step
 send_form fs = do
   from ← field_by (number 255) fs
@@ -114,7 +117,7 @@ node_form step fs = do
   node ← field_by (number 255) fs
   no_more (step node.0) node.1
 
--- the step that a word names, with the fields behind it
+-- the step that a word names, with the fields after it
 unfoldable pub form : List ℕ → List (List ℕ) → Option Step
 form word fs =
     if bytes_eq word (codes "send") then send_form fs
@@ -149,20 +152,25 @@ is_remark line = slice_index line 0 == 35 || slice_index line 0 == 62 || no_fiel
 
 -- the steps that a line says, none where it is in no form
 unfoldable pub line_steps : List ℕ → Option (List (PortId × Step))
-line_steps line = if is_remark line then Some [] else option_map (λ s. s ∷ []) (port_step (fields line))
+line_steps line =
+    if is_remark line then Some [] else option_map (λ s. s ∷ []) (port_step (fields line))
 
-abbrev pub prefixed : {E : Type 0} → List (PortId × Step) → Result (List (PortId × Step)) E → Result (List (PortId × Step)) E
+abbrev pub prefixed : {E : Type 0} → List (PortId × Step) → Result (List (PortId × Step)) E
+    → Result (List (PortId × Step)) E
 prefixed xs (Ok ys) = Ok (xs ++ ys)
 prefixed xs (Err e) = Err e
 
-abbrev pub or_bad : {A E : Type 0} → Option A → E → (A → Result (List (PortId × Step)) E) → Result (List (PortId × Step)) E
+abbrev pub or_bad : {A E : Type 0} → Option A → E → (A → Result (List (PortId × Step)) E)
+    → Result (List (PortId × Step)) E
 or_bad None e f = Err e
 or_bad (Some x) e f = f x
 
--- the steps of lines from number n on, or the number of the first line in no form; one CR before a line's end is dropped
+-- the steps of lines from number n on, or the number of the first line in no form; one CR before a
+-- line's end is dropped
 abbrev pub judged : ℕ → List (List ℕ) → Result (List (PortId × Step)) ℕ
 judged n [] = Ok []
-judged n (l ∷ ls) = or_bad (line_steps (strip_carriage_return l)) n (λ xs. prefixed xs (judged (n + 1) ls))
+judged n (l ∷ ls) =
+    or_bad (line_steps (strip_carriage_return l)) n (λ xs. prefixed xs (judged (n + 1) ls))
 
 -- the steps of a script, or the number of its first line in no form, counted from 1 over all lines
 unfoldable pub script : List ℕ → Result (List (PortId × Step)) ℕ

@@ -58,7 +58,8 @@ direction_word Up = codes "up"
 -- what a step is called, and its parts
 abbrev pub step_words : Step → List (List ℕ)
 step_words (Send from to message) = codes "send" ∷ decimal from ∷ decimal to ∷ hex_word message ∷ []
-step_words (Write by signal value) = codes "write" ∷ decimal by ∷ decimal signal ∷ value_word value ∷ []
+step_words (Write by signal value) =
+    codes "write" ∷ decimal by ∷ decimal signal ∷ value_word value ∷ []
 step_words Open = codes "open" ∷ []
 step_words (Answer node) = codes "answer" ∷ decimal node ∷ []
 step_words (Leave node) = codes "leave" ∷ decimal node ∷ []
@@ -92,13 +93,16 @@ cause_word cause.Slept = codes "slept"
 -- what an event is called, and its parts
 abbrev pub event_words : Event → List (List ℕ)
 event_words (event.Accepted host number) = codes "accepted" ∷ decimal host ∷ decimal number ∷ []
-event_words (event.Slot table entry header) = codes "slot" ∷ decimal table ∷ decimal entry ∷ header_word header ∷ []
+event_words (event.Slot table entry header) =
+    codes "slot" ∷ decimal table ∷ decimal entry ∷ header_word header ∷ []
 event_words (event.Due node) = codes "due" ∷ decimal node ∷ []
 event_words (event.Put node answer) = codes "put" ∷ decimal node ∷ hex_word answer ∷ []
 event_words (event.Seen s) = codes "seen" ∷ seen_words s
-event_words (event.Message from to bytes) = codes "message" ∷ decimal from ∷ decimal to ∷ hex_word bytes ∷ []
+event_words (event.Message from to bytes) =
+    codes "message" ∷ decimal from ∷ decimal to ∷ hex_word bytes ∷ []
 event_words (event.Sent host number) = codes "sent" ∷ decimal host ∷ decimal number ∷ []
-event_words (event.Lost host number why) = codes "lost" ∷ decimal host ∷ decimal number ∷ cause_word why ∷ []
+event_words (event.Lost host number why) =
+    codes "lost" ∷ decimal host ∷ decimal number ∷ cause_word why ∷ []
 event_words event.Asleep = codes "asleep" ∷ []
 
 -- a refusal's number

@@ -46,7 +46,7 @@ fn put_direction<W: Write>(writer: &mut TextWriter<'_, W>, direction: Direction)
     }
 }
 
-/// The rest of a step's line, behind its port.
+/// The rest of a step's line, after its port.
 fn put_step<W: Write>(writer: &mut TextWriter<'_, W>, step: &Step)
     ensures { Grows W.contents writer.old writer.new (ended (step_words step.now)) }
 {
@@ -89,7 +89,8 @@ fn put_header<W: Write>(writer: &mut TextWriter<'_, W>, header: Option<u8>)
 }
 
 fn put_seen<W: Write>(writer: &mut TextWriter<'_, W>, seen: &Seen)
-    ensures { Grows W.contents writer.old writer.new (reply_line (codes "seen" ∷ seen_words seen.now)) }
+    ensures { Grows W.contents writer.old writer.new
+        (reply_line (codes "seen" ∷ seen_words seen.now)) }
 {
     match seen {
         Seen::Silent => writer.put_text("> seen silent\n"),
@@ -115,7 +116,8 @@ fn put_cause<W: Write>(writer: &mut TextWriter<'_, W>, cause: Cause)
 
 /// What became of a host's message, with its number.
 fn put_fate<W: Write>(writer: &mut TextWriter<'_, W>, name: &str, host: u8, number: u32)
-    ensures { Grows W.contents writer.old writer.new (name.now ++ ended (decimal host ∷ decimal number ∷ [])) }
+    ensures { Grows W.contents writer.old writer.new
+        (name.now ++ ended (decimal host ∷ decimal number ∷ [])) }
 {
     writer.put_text(name);
     put_number(writer, host);
@@ -123,7 +125,8 @@ fn put_fate<W: Write>(writer: &mut TextWriter<'_, W>, name: &str, host: u8, numb
 }
 
 fn put_loss<W: Write>(writer: &mut TextWriter<'_, W>, host: u8, number: u32, cause: Cause)
-    ensures { Grows W.contents writer.old writer.new (reply_line (event_words (Lost host number cause))) }
+    ensures { Grows W.contents writer.old writer.new
+        (reply_line (event_words (Lost host number cause))) }
 {
     put_numbers(writer, "> lost", host, number);
     put_cause(writer, cause);
@@ -164,7 +167,8 @@ fn put_event<W: Write>(writer: &mut TextWriter<'_, W>, event: &Event)
 }
 
 fn put_events<W: Write>(writer: &mut TextWriter<'_, W>, events: &[Event])
-    ensures { Grows W.contents writer.old writer.new (flat_map (λ e. reply_line (event_words e)) events.now) }
+    ensures { Grows W.contents writer.old writer.new
+        (flat_map (λ e. reply_line (event_words e)) events.now) }
 {
     for event in events {
         put_event(writer, event);
@@ -205,15 +209,17 @@ fn put_entries<W: Write>(writer: &mut TextWriter<'_, W>, log: &Log)
     }
 }
 
-/// Writes the text of a log: per entry the line of its port and step, then a line per event or the refusal.
+/// Writes the text of a log: for each entry the line of its port and step, then a line for each
+/// event, or the line of its refusal.
 ///
 /// It goes through a buffer of 64 KiB and takes no memory. The writer isn't flushed.
 ///
 /// # Errors
-/// `WriteFailed` at the first error of the writer, an interrupted write too, and at the first write of 0 bytes.
-/// What was written then is the beginning of the text.
+/// `WriteFailed` at the first error of the writer, an interrupted write too, and at the first write
+/// of 0 bytes. What was written then is the beginning of the text.
 pub fn write_log<W: Write>(log: &Log, writer: &mut W) -> Result<(), WriteFailed>
-    ensures { WritesText (W.contents writer.old) (W.contents writer.new) result (text log.now.entries) }
+    ensures { WritesText (W.contents writer.old) (W.contents writer.new) result
+        (text log.now.entries) }
 {
     let mut lines = TextWriter::new(writer);
     put_entries(&mut lines, log);

@@ -14,7 +14,7 @@ pub enum ScriptFault {
     /// The text is longer than 16,777,216 bytes.
     #[error("script too long")]
     TooLong,
-    /// The reader answered an error; it was asked no second time.
+    /// The reader reported an error; it was asked no second time.
     #[error("read failed")]
     ReadFailed,
     #[error("out of memory")]

@@ -50,7 +50,7 @@ fn without_spaces(line: &[u8]) -> &[u8]
     rest
 }
 
-/// How many bytes stand before the first space.
+/// How many bytes there are before the first space.
 fn word_length(line: &[u8]) -> usize
     ensures within { result ≤ length line.now }
     ensures clean { All (λ x. (x == 32) ≡ false) (take result line.now) }
@@ -63,9 +63,10 @@ fn word_length(line: &[u8]) -> usize
     n
 }
 
-/// The first field of a line, and what stands behind it.
+/// The first field of a line, and the rest of the line.
 pub(crate) fn first_field(line: &[u8]) -> Option<(&[u8], &[u8])>
-    ensures { MatchOption result (fields line.now ≡ []) (λ x. fields line.now ≡ x.0.now ∷ fields x.1.now) }
+    ensures { MatchOption result (fields line.now ≡ [])
+        (λ x. fields line.now ≡ x.0.now ∷ fields x.1.now) }
 {
     let rest = without_spaces(line);
     if rest.is_empty() {
@@ -75,7 +76,7 @@ pub(crate) fn first_field(line: &[u8]) -> Option<(&[u8], &[u8])>
     Some(rest.split_at(end))
 }
 
-/// The first field of a line, where there is one, and what stands behind it.
+/// The first field of a line, where there is one, and the rest of the line.
 pub(crate) fn next_field(line: &[u8]) -> Result<(&[u8], &[u8]), LineFault>
     ensures { Takes result (fields line.now) }
 {
@@ -106,7 +107,8 @@ pub(crate) fn node_field(line: &[u8]) -> Result<(u8, &[u8]), LineFault>
 
 /// A field that is the number of a signal or a table.
 pub(crate) fn index_field(line: &[u8]) -> Result<(u16, &[u8]), LineFault>
-    ensures { Gives (λ x. (x.0, fields x.1.now)) result (field_by (number 65535) (fields line.now)) }
+    ensures { Gives (λ x. (x.0, fields x.1.now)) result
+        (field_by (number 65535) (fields line.now)) }
 {
     let (word, rest) = next_field(line)?;
     Ok((pair_number(word)?, rest))

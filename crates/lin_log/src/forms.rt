@@ -85,7 +85,7 @@ fn alone(line: &[u8], step: Step) -> Result<Step, LineFault>
     Ok(step)
 }
 
-/// The step that a word names, with what stands behind it.
+/// The step that a word names, with the rest of its line.
 #[tactic(auto, unfolding(crate::specs::Script::form))]
 fn form(alloc: Global, word: &[u8], rest: &[u8]) -> Result<Step, LineFault>
     ensures { Gives (λ x. x) result (form word.now (fields rest.now)) }

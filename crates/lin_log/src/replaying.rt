@@ -14,7 +14,7 @@ use lin_parts::Cluster;
 use std::alloc::{AllocError, Global};
 use std::io::{Read, Write};
 
-/// Makes one step and lets its entry be.
+/// Makes one step.
 fn make_step(core: &mut Core, by: PortId, step: Step) -> Result<(), AllocError>
     requires { length core.old.log < 2 ^ 32 - 1 }
     ensures made { OnOk result (core.new.log ≡ core.old.log ++ answered core.old by step ∷ []) }
@@ -31,7 +31,8 @@ fn make_step(core: &mut Core, by: PortId, step: Step) -> Result<(), AllocError>
 fn make_steps(alloc: Global, core: &mut Core, bytes: &[u8]) -> Result<(), ScriptFault>
     requires empty { core.old.log ≡ [] }
     requires few { length bytes.now ≤ 16777216 }
-    ensures log { MakesLines core.old.cluster core.old.opening core.old.capacity result core.new.log (script bytes.now) }
+    ensures log { MakesLines core.old.cluster core.old.opening core.old.capacity result
+        core.new.log (script bytes.now) }
     ensures alike { IsAlike core.old core.new }
 {
     let mut lines = ScriptLines::new(bytes);
@@ -50,10 +51,13 @@ fn make_steps(alloc: Global, core: &mut Core, bytes: &[u8]) -> Result<(), Script
 
 /// Makes each step of a script of these bytes, at most 16,777,216, on a new core.
 ///
-/// The core begins with schedule table `table` of the cluster; each host may have `capacity` messages waiting, 1 to 1,024.
+/// The core begins with schedule table `table` of the cluster; each host may have `capacity`
+/// messages waiting, 1 to 1,024.
 ///
 /// # Errors
-/// `BadLine` with the number of the first line that is in no form; `OutOfMemory`. The cluster is dropped then.
+/// The cluster is dropped after each of them.
+/// - `BadLine` with the number of the first line that is in no form;
+/// - `OutOfMemory`.
 pub fn run_script(
     alloc: Global,
     cluster: Cluster,
@@ -65,7 +69,8 @@ pub fn run_script(
     requires capacity { (1 ≤ capacity) × (capacity ≤ 1024) }
     requires few { length bytes.now ≤ 16777216 }
     ensures log { RunsScript cluster table capacity (λ core. core.log) result bytes.now }
-    ensures core { IfOk result (λ core. (core.cluster ≡ cluster) × (core.opening ≡ table) × (core.capacity ≡ capacity)) }
+    ensures core { IfOk result (λ core. (core.cluster ≡ cluster) × (core.opening ≡ table)
+        × (core.capacity ≡ capacity)) }
 {
     let Ok(mut core) = Core::new(alloc, cluster, table, capacity) else {
         return Err(ScriptFault::OutOfMemory);
@@ -76,9 +81,10 @@ pub fn run_script(
 
 /// Reads a script, makes each of its steps on a new core, and writes the core's log.
 ///
-/// The core begins with schedule table `table` of the cluster; each host may have `capacity` messages waiting, 1 to 1,024.
-/// What is written is the text of the log of the core that is answered, whatever the reader gave; where the reader tells
-/// its bytes, the log is that of the steps that these say.
+/// The core begins with schedule table `table` of the cluster; each host may have `capacity`
+/// messages waiting, 1 to 1,024. What is written is the text of the log of the core that is
+/// returned, whatever the reader gave; where the reader's bytes are known, the log is that of the
+/// steps of their lines.
 ///
 /// # Errors
 /// The cluster is dropped after each of them.
@@ -95,8 +101,10 @@ pub fn replay<R: Read, W: Write>(
 ) -> Result<Core, ReplayFault>
     requires table { table < length cluster.tables }
     requires capacity { (1 ≤ capacity) × (capacity ≤ 1024) }
-    ensures text { IsReplay cluster table capacity (λ core. core.log) result (R.remaining reader.old) (W.contents writer.old) (W.contents writer.new) }
-    ensures core { IfOk result (λ core. (core.cluster ≡ cluster) × (core.opening ≡ table) × (core.capacity ≡ capacity)) }
+    ensures text { IsReplay cluster table capacity (λ core. core.log) result
+        (R.remaining reader.old) (W.contents writer.old) (W.contents writer.new) }
+    ensures core { IfOk result (λ core. (core.cluster ≡ cluster) × (core.opening ≡ table)
+        × (core.capacity ≡ capacity)) }
 {
     let bytes = read_bytes(alloc, reader)?;
     let core = run_script(alloc, cluster, table, capacity, bytes.as_slice())?;

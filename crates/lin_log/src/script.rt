@@ -28,7 +28,7 @@ fn without_return(line: &[u8]) -> &[u8]
     }
 }
 
-/// How many bytes stand before the first LF.
+/// How many bytes there are before the first LF.
 fn line_length(text: &[u8]) -> usize
     ensures within { result ≤ length text.now }
     ensures clean { All (λ x. (x == 10) ≡ false) (take result text.now) }
@@ -41,7 +41,7 @@ fn line_length(text: &[u8]) -> usize
     n
 }
 
-/// The first line, and the text behind its end, if it has one.
+/// The first line, and the text after its end, if it has one.
 fn first_line(text: &[u8]) -> (&[u8], Option<&[u8]>)
     ensures lines { slice_split (λ b. b == 10) text.now ≡ result.0.now ∷ lines_left result.1 }
     ensures shorter { left_of result.1 ≤ length text.now }
@@ -77,8 +77,10 @@ impl<'a> ScriptLines<'a> {
     pub(crate) fn next_step(&mut self, alloc: Global) -> Result<Option<(PortId, Step)>, ScriptFault>
         requires { self.old.number + left_of self.old.left ≤ 16777218 }
         ensures step { NextStep result (said self.old) (said self.new) }
-        ensures bound { self.new.number + left_of self.new.left ≤ self.old.number + left_of self.old.left }
-        ensures passed { IfOk result (λ step. IfSome step (λ _. self.old.number + 1 ≤ self.new.number)) }
+        ensures bound { self.new.number + left_of self.new.left
+            ≤ self.old.number + left_of self.old.left }
+        ensures passed { IfOk result
+            (λ step. IfSome step (λ _. self.old.number + 1 ≤ self.new.number)) }
     {
         while let Some(text) = self.left {
             let (line, rest) = first_line(text);
@@ -141,7 +143,8 @@ pub fn read_script<R: Read>(
     alloc: Global,
     reader: &mut R,
 ) -> Result<Vec<(PortId, Step)>, ScriptFault>
-    ensures steps { IfSome (R.remaining reader.old) (λ bytes. ReadsScript (λ v. v.items) result bytes) }
+    ensures steps { IfSome (R.remaining reader.old)
+        (λ bytes. ReadsScript (λ v. v.items) result bytes) }
     ensures few { IfOk result (λ v. length v.items ≤ 16777217) }
 {
     let bytes = read_bytes(alloc, reader)?;

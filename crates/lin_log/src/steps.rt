@@ -22,11 +22,12 @@ fn port_of(entry: &LogEntry) -> PortId
     port
 }
 
-/// The ports and steps of a log, in order. The log's text, read as a script, gives the same list, and a new core
-/// over the same cluster, table and capacity that makes these steps has the same log.
+/// The ports and steps of a log, in order. The log's text, read as a script, gives the same list,
+/// and a new core over the same cluster, table and capacity that makes these steps has the same
+/// log.
 ///
 /// # Errors
-/// Want of memory.
+/// Out of memory.
 pub fn steps_of(alloc: Global, log: &Log) -> Result<Vec<(PortId, Step)>, AllocError>
     ensures steps { IfOk result (λ v. v.items ≡ steps_of log.now.entries) }
     ensures text { IfOk result (λ v. ReadsAgain log.now.entries v.items) }

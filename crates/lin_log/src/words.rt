@@ -25,7 +25,8 @@ pub(crate) fn put_numbers<W: Write, M: Integer, N: Integer>(
     first: M,
     second: N,
 )
-    ensures { Grows W.contents writer.old writer.new (name.now ++ (spaced (M.text first) ++ spaced (N.text second))) }
+    ensures { Grows W.contents writer.old writer.new
+        (name.now ++ (spaced (M.text first) ++ spaced (N.text second))) }
 {
     writer.put_text(name);
     put_number(writer, first);

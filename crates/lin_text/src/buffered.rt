@@ -25,8 +25,8 @@ static PAIRS: [u8; 512] = *b"000102030405060708090A0B0C0D0E0F1011121314151617181
 
 /// A writer, and what waits to be written to it, at most 65,536 bytes. It takes no memory.
 ///
-/// What is put waits until the buffer is full or the text is finished. The first failed write is kept: nothing is
-/// written after it, the writer isn't asked again, and `finish` answers it.
+/// What is put waits until the buffer is full or the text is finished. The first failed write is
+/// kept: nothing is written after it, the writer isn't asked again, and `finish` reports it.
 #[derive(Drop)]
 pub struct TextWriter<'a, W> {
     writer: &'a mut W,
@@ -76,7 +76,7 @@ impl<'a, W: Write> TextWriter<'a, W> {
         self.put_first(bytes);
     }
 
-    /// Puts these bytes behind what waits.
+    /// Puts these bytes after what waits.
     #[inline]
     pub fn put(&mut self, bytes: &[u8])
         ensures { Grows W.contents self.old self.new bytes.now }
@@ -129,8 +129,9 @@ impl<'a, W: Write> TextWriter<'a, W> {
     /// Writes what waits. The writer isn't flushed.
     ///
     /// # Errors
-    /// `WriteFailed` where this write or an earlier one failed, by an error of the writer, an interrupted write too,
-    /// or by a write of 0 bytes. What was written then is the beginning of the text.
+    /// `WriteFailed` where this write or an earlier one failed, by an error of the writer, an
+    /// interrupted write too, or by a write of 0 bytes. What was written then is the beginning of
+    /// the text.
     pub fn finish(self) -> Result<(), WriteFailed>
         ensures { Finishes W.contents self.entry (W.contents self.exit.0.now) result }
     {

@@ -5,11 +5,12 @@ ghost use Rattle.lin_text.specs.Written.{WritesText};
 use crate::fault::WriteFailed;
 use std::io::Write;
 
-/// Writes all of these bytes. (A library loop would ask an interrupted writer again.) The writer isn't flushed.
+/// Writes all of these bytes. The writer isn't flushed.
+/// (A library loop would ask an interrupted writer again.)
 ///
 /// # Errors
-/// `WriteFailed` at the first error of the writer, an interrupted write too, and at the first write of 0 bytes.
-/// What was written then is the beginning of the bytes.
+/// `WriteFailed` at the first error of the writer, an interrupted write too, and at the first write
+/// of 0 bytes. What was written then is the beginning of the bytes.
 pub fn write_out<W: Write>(writer: &mut W, bytes: &[u8]) -> Result<(), WriteFailed>
     ensures { WritesText (W.contents writer.old) (W.contents writer.new) result bytes.now }
 {

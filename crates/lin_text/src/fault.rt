@@ -2,7 +2,7 @@
 
 use thiserror::Error;
 
-/// The writer answered an error or took no byte; it was asked no second time.
+/// The writer reported an error or took no byte; it was asked no second time.
 /// What it took before is the beginning of the text.
 #[derive(Clone, Copy, Debug, Drop, Error)]
 #[error("write failed")]

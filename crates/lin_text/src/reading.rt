@@ -10,16 +10,18 @@ use std::io::Read;
 pub enum ReadFault {
     /// The text is longer than the limit.
     TooLong,
-    /// The reader answered an error; it was asked no second time.
+    /// The reader reported an error; it was asked no second time.
     ReadFailed,
     OutOfMemory,
 }
 
-/// The bytes that a reader gives up to its end, at most `limit`, by at most `limit + 1` reads of 64 KiB.
-/// (A library loop would ask an interrupted reader again.)
+/// The bytes that a reader gives up to its end, at most `limit`, by at most `limit + 1` reads of
+/// 64 KiB. (A library loop would ask an interrupted reader again.)
 ///
 /// # Errors
-/// `TooLong` where there are more; `ReadFailed` where the reader answers an error, whatever its kind; `OutOfMemory`.
+/// - `TooLong` where there are more;
+/// - `ReadFailed` where the reader reports an error, whatever its kind;
+/// - `OutOfMemory`.
 pub fn read_whole<R: Read>(
     alloc: Global,
     reader: &mut R,
