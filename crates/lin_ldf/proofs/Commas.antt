@@ -1,8 +1,8 @@
 -- Reading an item behind a comma.
 use Rattle.std.proofs.Common.{◌≡◌, ◌<◌, true, List, [], ◌∷◌, length, Option, refl, sym, ap, subst, ◌∙◌, arith}
 use Rattle.lin_ldf.specs.Symbols.{Symbol}
-use Rattle.lin_ldf.specs.Forms.{Form, ◌&>◌, Fails}
-use Rattle.lin_ldf.specs.Loops.{Shrinks, is_next, tail}
+use Rattle.lin_ldf.specs.Forms.{Form, ◌&>◌, Fails, tail}
+use Rattle.lin_ldf.specs.Loops.{Shrinks, is_next}
 use Rattle.lin_ldf.specs.Words.{comma}
 use Rattle.lin_ldf.specs.Laws.{bind_some, mark_takes}
 use Rattle.lin_ldf.specs.declared.fault.LdfFault.{LdfFault}

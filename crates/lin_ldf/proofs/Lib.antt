@@ -1,5 +1,7 @@
 pub mod Scan
 pub mod Lines
+pub mod Closes
+pub mod Failing
 pub mod Stream
 pub mod Runs
 pub mod TokenForms

@@ -1,7 +1,7 @@
 -- No file ends in a stop: its last token is a closing brace.
 use Rattle.std.proofs.Common.{◌≡◌, ℕ, zero, suc, true, false, List, [], ◌∷◌, ◌++◌, Option, Some, None, reverse, sym, ap, subst, ◌∙◌, append_assoc}
-use Rattle.std.proofs.lemmas.List.{reverse-append}
-use Rattle.lin_ldf.specs.Symbols.{Symbol, is_kind}
+use Rattle.std.proofs.lemmas.List.{reverse-append, map-append}
+use Rattle.lin_ldf.specs.Symbols.{Symbol, is_kind, symbol_in, symbols_in}
 use Rattle.lin_ldf.specs.Stream.{stop}
 use Rattle.lin_ldf.specs.Forms.{Form, never, as_value, ◌&>◌, ◌<&◌, ◌&=◌}
 use Rattle.lin_ldf.specs.Loops.{Steps}
@@ -16,6 +16,7 @@ use Rattle.lin_ldf.specs.declared.token.TokenKind.TheVariants as kinds
 use Rattle.lin_ldf.specs.declared.section.SectionWord.{SectionWord}
 use Rattle.lin_ldf.specs.declared.section.SectionWord.TheVariants as words_of
 use Rattle.lin_ldf.specs.declared.section.Sections.{Sections}
+use Rattle.lin_ldf.specs.declared.token.Token.{Token}
 use Rattle.lin_description.specs.declared.place.Place.{Place}
 use Rattle.lin_description.specs.declared.description.Name.{Name}
 use Rattle.lin_description.specs.declared.description.Description.{Description}
@@ -93,9 +94,9 @@ same_last xs ys s t e =
     let turned : s ∷ reverse xs ≡ t ∷ reverse ys = sym (reverse-append xs (s ∷ [])) ∙ ap (λ (x : List Symbol). reverse x) e ∙ reverse-append ys (t ∷ []) in
     cc
 
-pub never_stops : (ss xs : List Symbol) (p : Place) (d : Description) → Spells ss d → ss ≡ xs ++ stop p ∷ [] → ⊥
-never_stops ss xs p d h e =
-    let c = file_closes ss d h in
-    let same : c.1 ≡ stop p = same_last c.0 xs c.1 (stop p) (sym c.2 ∙ e) in
+pub never_stops : (source : List ℕ) (ts : List Token) (p : Place) (d : Description) → Spells (symbols_in source (ts ++ stop p ∷ [])) d → ⊥
+never_stops source ts p d h =
+    let c = file_closes (symbols_in source (ts ++ stop p ∷ [])) d h in
+    let same : c.1 ≡ symbol_in source (stop p) = same_last c.0 (symbols_in source ts) c.1 (symbol_in source (stop p)) (sym c.2 ∙ map-append (symbol_in source) ts (stop p ∷ [])) in
     let bad : false ≡ true = sym (ap (λ (t : Symbol). is_kind kinds.CloseBrace t.kind) same) ∙ c.3 in
     absurd cc

@@ -1,75 +1,138 @@
--- Symbols that are pulled from a text, one piece after the other.
-use Rattle.std.proofs.Common.{◌≡◌, ℕ, zero, suc, ◌-◌, ◌<◌, ◌≤◌, List, [], ◌∷◌, length, take, drop, refl, ap, arith}
-use Rattle.lin_ldf.specs.Symbols.{Symbol}
-use Rattle.lin_ldf.specs.Stream.{symbols_at, stop}
+-- Tokens that are pulled from a text, one piece after the other.
+use Rattle.std.proofs.Common.{◌≡◌, ℕ, zero, suc, ◌+◌, ◌-◌, ◌<◌, ◌≤◌, List, [], ◌∷◌, ◌++◌, length, take, drop, Option, Some, None, Ok, refl, sym, ap, subst, ◌∙◌, append_assoc, arith}
+use Rattle.std.proofs.lemmas.List.{drop-drop, length-drop, length-map, length-take}
+use Rattle.lin_ldf.specs.Symbols.{symbol_in, symbols_in}
+use Rattle.lin_ldf.specs.Stream.{Ahead, ahead_at, nothing, more, stopped, still, Pulls}
 use Rattle.lin_ldf.specs.Scanning.{front_piece, piece_at}
 use Rattle.lin_ldf.specs.Advance.{step, place_behind}
+use Rattle.lin_ldf.specs.declared.fault.LdfFault.TheVariants as faults
+use Rattle.lin_ldf.specs.declared.token.Token.{Token}
 use Rattle.lin_ldf.specs.declared.token.TokenKind.{TokenKind}
-use Rattle.lin_ldf.specs.declared.scanner.Scanned.{Scanned}
-use Rattle.lin_ldf.specs.declared.scanner.Scanned.TheVariants.{Gap, Token, Fault}
-use Rattle.lin_ldf.specs.declared.scanner.ScanFault.{ScanFault}
+use Rattle.lin_ldf.specs.declared.lexer.Scanned.{Scanned}
+use Rattle.lin_ldf.specs.declared.lexer.Lexer.{Lexer}
+use Rattle.lin_ldf.specs.declared.lexer.Scanned.TheVariants as pieces
 use Rattle.lin_description.specs.declared.place.Place.{Place}
 
--- bytes that are passed over only move the place
-passed : (n : ℕ) (p : Place) (text : List ℕ) → symbols_at n p text ≡ symbols_at 0 (place_behind p (take n text)) (drop n text)
-unfolding symbols_at
-passed zero p text = refl
-passed (suc n) p [] = refl
-passed (suc n) p (c ∷ cs) = passed n (step p c) cs
+-- bytes that are passed over only move the offset and the place
+passed : (n at : ℕ) (p : Place) (text : List ℕ) → ahead_at n at p text ≡ ahead_at 0 (at + length (take n text)) (place_behind p (take n text)) (drop n text)
+unfolding ahead_at
+passed zero at p text = let same : at ≡ at + 0 = omega arith in ap (λ (k : ℕ). ahead_at 0 k p text) same
+passed (suc n) at p [] = refl
+passed (suc n) at p (c ∷ cs) =
+    let same : at + 1 + length (take n cs) ≡ at + suc (length (take n cs)) = omega arith in
+    passed n (at + 1) (step p c) cs ∙ ap (λ (k : ℕ). ahead_at 0 k (place_behind (step p c) (take n cs)) (drop n cs)) same
 
-pub no_symbols : (p : Place) (rest : List ℕ) → length rest ≡ 0 → symbols_at 0 p rest ≡ []
-unfolding symbols_at
-no_symbols p [] e = refl
-no_symbols p (c ∷ cs) e = absurd (omega arith)
-
-pub gap_at : (p : Place) (c : ℕ) (cs : List ℕ) (n : ℕ) → 0 < n → piece_at c cs ≡ Gap n → symbols_at 0 p (c ∷ cs) ≡ symbols_at 0 (place_behind p (take n (c ∷ cs))) (drop n (c ∷ cs))
-unfolding symbols_at
-gap_at p c cs zero lt h = absurd (omega arith)
-gap_at p c cs (suc n) lt h = let same : suc n - 1 ≡ n = omega arith in rw (h, symbols_at, same) (passed n (step p c) cs)
-
-pub token_at : (k : TokenKind) (p : Place) (c : ℕ) (cs : List ℕ) (n : ℕ) → 0 < n → piece_at c cs ≡ Token k n
-    → symbols_at 0 p (c ∷ cs) ≡ record { kind = k; text = take n (c ∷ cs); line = p.line; column = p.column } ∷ symbols_at 0 (place_behind p (take n (c ∷ cs))) (drop n (c ∷ cs))
-unfolding symbols_at
-token_at k p c cs zero lt h = absurd (omega arith)
-token_at k p c cs (suc n) lt h =
+pub gap_at : (at : ℕ) (p : Place) (c : ℕ) (cs : List ℕ) (n : ℕ) → 0 < n → piece_at c cs ≡ pieces.Gap n → ahead_at 0 at p (c ∷ cs) ≡ ahead_at 0 (at + length (take n (c ∷ cs))) (place_behind p (take n (c ∷ cs))) (drop n (c ∷ cs))
+unfolding ahead_at
+gap_at at p c cs zero lt h = absurd (omega arith)
+gap_at at p c cs (suc n) lt h =
     let same : suc n - 1 ≡ n = omega arith in
-    rw (h, symbols_at, same) (ap (λ (ts : List Symbol). record { kind = k; text = take (suc n) (c ∷ cs); line = p.line; column = p.column } ∷ ts) (passed n (step p c) cs))
+    rw (h, ahead_at, same) (passed (suc n) at p (c ∷ cs))
 
-pub behind_gap : (p : Place) (rest piece behind : List ℕ) (n : ℕ) → 0 < n → n ≤ length rest → front_piece rest ≡ Gap n → piece ≡ take n rest → behind ≡ drop n rest → symbols_at 0 p rest ≡ symbols_at 0 (place_behind p piece) behind
-behind_gap p [] piece behind n lt le h e f = absurd (omega arith)
-behind_gap p (c ∷ cs) piece behind n lt le h e f = rw (e, f) (gap_at p c cs n lt h)
+abbrev pub token : TokenKind → ℕ → ℕ → Place → Token
+token kind at n p = record { kind = kind; start = at; end = at + n; line = p.line; column = p.column }
 
-pub behind_token : (p : Place) (rest piece behind : List ℕ) (k : TokenKind) (n : ℕ) → 0 < n → n ≤ length rest → front_piece rest ≡ Token k n → piece ≡ take n rest → behind ≡ drop n rest
-    → symbols_at 0 p rest ≡ record { kind = k; text = piece; line = p.line; column = p.column } ∷ symbols_at 0 (place_behind p piece) behind
-behind_token p [] piece behind k n lt le h e f = absurd (omega arith)
-behind_token p (c ∷ cs) piece behind k n lt le h e f = rw (e, f) (token_at k p c cs n lt h)
+pub token_at : (k : TokenKind) (at : ℕ) (p : Place) (c : ℕ) (cs : List ℕ) (n : ℕ) → 0 < n → piece_at c cs ≡ pieces.Token k n
+    → ahead_at 0 at p (c ∷ cs) ≡ more (token k at (length (take n (c ∷ cs))) p) (ahead_at 0 (at + length (take n (c ∷ cs))) (place_behind p (take n (c ∷ cs))) (drop n (c ∷ cs)))
+unfolding ahead_at
+token_at k at p c cs zero lt h = absurd (omega arith)
+token_at k at p c cs (suc n) lt h =
+    let same : suc n - 1 ≡ n = omega arith in
+    rw (h, ahead_at, same) (ap (λ (r : Ahead). more (token k at (length (take (suc n) (c ∷ cs))) p) r) (passed (suc n) at p (c ∷ cs)))
 
-pub at_fault : (p : Place) (rest : List ℕ) (f : ScanFault) → front_piece rest ≡ Fault f → symbols_at 0 p rest ≡ stop p ∷ []
-unfolding symbols_at
-at_fault p [] f h = absurd cc
-at_fault p (c ∷ cs) f h = rw (h, symbols_at) refl
+pub bad_byte_at : (at : ℕ) (p : Place) (c : ℕ) (cs : List ℕ) → piece_at c cs ≡ pieces.BadByte → ahead_at 0 at p (c ∷ cs) ≡ stopped (faults.BadByte p) p
+unfolding ahead_at
+bad_byte_at at p c cs h = rw (h, ahead_at) refl
 
-pub nothing_behind : (p : Place) → symbols_at 0 p [] ≡ []
-unfolding symbols_at
-nothing_behind p = refl
+pub open_comment_at : (at : ℕ) (p : Place) (c : ℕ) (cs : List ℕ) → piece_at c cs ≡ pieces.OpenComment → ahead_at 0 at p (c ∷ cs) ≡ stopped (faults.OpenComment p) p
+unfolding ahead_at
+open_comment_at at p c cs h = rw (h, ahead_at) refl
 
-abbrev shown : Scanned → Place → ℕ → List ℕ → List Symbol
-shown s p c cs = elim s [
-  | Gap k ↦ symbols_at (k - 1) (step p c) cs
-  | Token kind k ↦ record { kind = kind; text = take k (c ∷ cs); line = p.line; column = p.column } ∷ symbols_at (k - 1) (step p c) cs
-  | Fault f ↦ stop p ∷ []
+pub open_text_at : (at : ℕ) (p : Place) (c : ℕ) (cs : List ℕ) → piece_at c cs ≡ pieces.OpenText → ahead_at 0 at p (c ∷ cs) ≡ stopped (faults.OpenText p) p
+unfolding ahead_at
+open_text_at at p c cs h = rw (h, ahead_at) refl
+
+pub nothing_ahead : (n at : ℕ) (p : Place) → ahead_at n at p [] ≡ nothing
+unfolding ahead_at
+nothing_ahead n at p = refl
+
+-- ---- the same of a source, from an offset on
+
+pub at_end : (source : List ℕ) (at : ℕ) (p : Place) → length source ≤ at → ahead_at 0 at p (drop at source) ≡ nothing
+at_end source at p le = none (drop at source) (omega (arith, length-drop at source))
+  where
+    none : (rest : List ℕ) → length rest ≡ 0 → ahead_at 0 at p rest ≡ nothing
+    none [] e = nothing_ahead 0 at p
+    none (c ∷ cs) e = absurd (omega arith)
+
+pub behind_gap : (source rest : List ℕ) (at n : ℕ) (p : Place) → at < length source → rest ≡ drop at source → 0 < n → n ≤ length rest → front_piece rest ≡ pieces.Gap n
+    → ahead_at 0 at p (drop at source) ≡ ahead_at 0 (at + n) (place_behind p (take n (drop at source))) (drop (at + n) source)
+behind_gap source [] at n p lt e some within h = absurd (omega arith)
+behind_gap source (c ∷ cs) at n p lt e some within h =
+    let len : length (take n (c ∷ cs)) ≡ n = omega (arith, length-take n (c ∷ cs)) in
+    subst (λ (r : List ℕ). ahead_at 0 at p r ≡ ahead_at 0 (at + n) (place_behind p (take n r)) (drop (at + n) source)) e
+    (gap_at at p c cs n some h ∙ ap (λ (k : ℕ). ahead_at 0 (at + k) (place_behind p (take n (c ∷ cs))) (drop n (c ∷ cs))) len
+    ∙ ap (λ (r : List ℕ). ahead_at 0 (at + n) (place_behind p (take n (c ∷ cs))) r) (ap (drop n) e ∙ drop-drop n at source))
+
+pub behind_token : (source rest : List ℕ) (at n : ℕ) (k : TokenKind) (p : Place) → at < length source → rest ≡ drop at source → 0 < n → n ≤ length rest → front_piece rest ≡ pieces.Token k n
+    → ahead_at 0 at p (drop at source) ≡ more (token k at n p) (ahead_at 0 (at + n) (place_behind p (take n (drop at source))) (drop (at + n) source))
+behind_token source [] at n k p lt e some within h = absurd (omega arith)
+behind_token source (c ∷ cs) at n k p lt e some within h =
+    let len : length (take n (c ∷ cs)) ≡ n = omega (arith, length-take n (c ∷ cs)) in
+    subst (λ (r : List ℕ). ahead_at 0 at p r ≡ more (token k at n p) (ahead_at 0 (at + n) (place_behind p (take n r)) (drop (at + n) source))) e
+    (token_at k at p c cs n some h ∙ ap (λ (m : ℕ). more (token k at m p) (ahead_at 0 (at + m) (place_behind p (take n (c ∷ cs))) (drop n (c ∷ cs)))) len
+    ∙ ap (λ (r : List ℕ). more (token k at n p) (ahead_at 0 (at + n) (place_behind p (take n (c ∷ cs))) r)) (ap (drop n) e ∙ drop-drop n at source))
+
+pub at_bad_byte : (source rest : List ℕ) (at : ℕ) (p : Place) → rest ≡ drop at source → front_piece rest ≡ pieces.BadByte → ahead_at 0 at p (drop at source) ≡ stopped (faults.BadByte p) p
+at_bad_byte source [] at p e h = absurd cc
+at_bad_byte source (c ∷ cs) at p e h = subst (λ (r : List ℕ). ahead_at 0 at p r ≡ stopped (faults.BadByte p) p) e (bad_byte_at at p c cs h)
+
+pub at_open_comment : (source rest : List ℕ) (at : ℕ) (p : Place) → rest ≡ drop at source → front_piece rest ≡ pieces.OpenComment → ahead_at 0 at p (drop at source) ≡ stopped (faults.OpenComment p) p
+at_open_comment source [] at p e h = absurd cc
+at_open_comment source (c ∷ cs) at p e h = subst (λ (r : List ℕ). ahead_at 0 at p r ≡ stopped (faults.OpenComment p) p) e (open_comment_at at p c cs h)
+
+pub at_open_text : (source rest : List ℕ) (at : ℕ) (p : Place) → rest ≡ drop at source → front_piece rest ≡ pieces.OpenText → ahead_at 0 at p (drop at source) ≡ stopped (faults.OpenText p) p
+at_open_text source [] at p e h = absurd cc
+at_open_text source (c ∷ cs) at p e h = subst (λ (r : List ℕ). ahead_at 0 at p r ≡ stopped (faults.OpenText p) p) e (open_text_at at p c cs h)
+
+pub ruleset pulling = (at_end, behind_gap, behind_token, at_bad_byte, at_open_comment, at_open_text)
+
+-- these tokens before what is ahead
+abbrev pub added : List Token → Ahead → Ahead
+added ts r = record { tokens = ts ++ r.tokens; fault = r.fault }
+
+pub one_added : (ts : List Token) (t : Token) (r : Ahead) → added ts (more t r) ≡ added (ts ++ t ∷ []) r
+one_added ts t r = ap (λ (us : List Token). record { tokens = us; fault = r.fault }) (sym (append_assoc ts (t ∷ []) r.tokens))
+
+pub nothing_pulled : (o : Option Token) (old new : Lexer) → ((t : Token) → o ≡ Some t → ⊥) → Pulls (Ok o) old new → still old ≡ nothing
+nothing_pulled None old new none h = h
+nothing_pulled (Some t) old new none h = absurd (none t refl)
+
+-- ---- how many there are
+
+abbrev shown : Scanned → ℕ → Place → ℕ → List ℕ → Ahead
+shown s at p c cs = elim s [
+  | pieces.Gap k ↦ ahead_at (k - 1) (at + 1) (step p c) cs
+  | pieces.Token kind k ↦ more (token kind at (length (take k (c ∷ cs))) p) (ahead_at (k - 1) (at + 1) (step p c) cs)
+  | pieces.BadByte ↦ stopped (faults.BadByte p) p
+  | pieces.OpenComment ↦ stopped (faults.OpenComment p) p
+  | pieces.OpenText ↦ stopped (faults.OpenText p) p
 ]
 
--- no more symbols than bytes
-pub symbols_fit : (n : ℕ) (p : Place) (text : List ℕ) → length (symbols_at n p text) ≤ length text
-unfolding symbols_at
-symbols_fit zero p [] = omega arith
-symbols_fit (suc n) p [] = omega arith
-symbols_fit zero p (c ∷ cs) = elim (piece_at c cs) as (λ s. length (shown s p c cs) ≤ suc (length cs)) [
-  | Gap k ↦ let h = symbols_fit (k - 1) (step p c) cs in omega (arith, h)
-  | Token kind k ↦ let h = symbols_fit (k - 1) (step p c) cs in omega (arith, h)
-  | Fault f ↦ omega arith
+-- no more tokens than bytes
+tokens_fit : (n at : ℕ) (p : Place) (text : List ℕ) → length (ahead_at n at p text).tokens ≤ length text
+unfolding ahead_at
+tokens_fit zero at p [] = omega arith
+tokens_fit (suc n) at p [] = omega arith
+tokens_fit zero at p (c ∷ cs) = elim (piece_at c cs) as (λ s. length (shown s at p c cs).tokens ≤ suc (length cs)) [
+  | pieces.Gap k ↦ let h = tokens_fit (k - 1) (at + 1) (step p c) cs in omega (arith, h)
+  | pieces.Token kind k ↦ let h = tokens_fit (k - 1) (at + 1) (step p c) cs in omega (arith, h)
+  | pieces.BadByte ↦ omega arith
+  | pieces.OpenComment ↦ omega arith
+  | pieces.OpenText ↦ omega arith
 ]
-symbols_fit (suc n) p (c ∷ cs) = let h = symbols_fit n (step p c) cs in omega (arith, h)
+tokens_fit (suc n) at p (c ∷ cs) = let h = tokens_fit n (at + 1) (step p c) cs in omega (arith, h)
 
-pub ruleset pulling = (no_symbols, behind_gap, behind_token, at_fault, nothing_behind)
+pub symbols_fit : (source : List ℕ) (at : ℕ) (p : Place) → length (symbols_in source (ahead_at 0 at p (drop at source)).tokens) ≤ length source - at
+symbols_fit source at p =
+    omega (arith, tokens_fit 0 at p (drop at source), length-drop at source, length-map (ahead_at 0 at p (drop at source)).tokens (symbol_in source))

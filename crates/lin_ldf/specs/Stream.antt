@@ -1,42 +1,69 @@
--- The symbols of a text, as the parser pulls them one by one. The parser computes these; no public contract cites them.
-use Rattle.std.specs.Prelude.{◌≡◌, ℕ, zero, suc, ◌-◌, List, [], ◌∷◌, take, Option, Some, None}
-use Rattle.lin_ldf.specs.Symbols.{Symbol, symbol}
-use Rattle.lin_ldf.specs.Loops.{tail}
+-- The tokens of a text as the lexer gives them, one by one. The lexer computes these; no public contract cites them.
+use Rattle.std.specs.Prelude.{◌≡◌, ℕ, zero, suc, ◌+◌, ◌-◌, ◌≤◌, List, [], ◌∷◌, length, take, drop, Option, Some, None, Result, Ok, Err}
+use Rattle.lin_ldf.specs.Symbols.{Symbol, symbols_in}
 use Rattle.lin_ldf.specs.Scanning.{piece_at}
-use Rattle.lin_ldf.specs.Advance.{step}
-use Rattle.lin_ldf.specs.declared.lexeme.Lexeme.{Lexeme}
+use Rattle.lin_ldf.specs.Advance.{step, first_place}
+use Rattle.lin_ldf.specs.Tokens.{mark_len, behind_mark}
+use Rattle.lin_ldf.specs.declared.fault.LdfFault.{LdfFault}
+use Rattle.lin_ldf.specs.declared.fault.LdfFault.TheVariants as faults
+use Rattle.lin_ldf.specs.declared.token.Token.{Token}
 use Rattle.lin_ldf.specs.declared.token.TokenKind.{TokenKind}
 use Rattle.lin_ldf.specs.declared.token.TokenKind.TheVariants.{Other}
-use Rattle.lin_ldf.specs.declared.unread.Unread.{Unread}
-use Rattle.lin_ldf.specs.declared.scanner.Scanned.TheVariants.{Gap, Token, Fault}
+use Rattle.lin_ldf.specs.declared.lexer.Lexer.{Lexer}
+use Rattle.lin_ldf.specs.declared.lexer.Scanned.TheVariants as pieces
 use Rattle.lin_description.specs.declared.place.Place.{Place}
 
+-- what is ahead: tokens, and the fault that ends them
+pub record Ahead : Type 0 where
+  pub tokens : List Token
+  pub fault : Option LdfFault
+
+abbrev pub nothing : Ahead
+nothing = record { tokens = []; fault = None }
+
+abbrev pub more : Token → Ahead → Ahead
+more t r = record { tokens = t ∷ r.tokens; fault = r.fault }
+
 -- It stands where the lexer finds a fault: no file ends in it, so none is read over it.
-abbrev pub stop : Place → Symbol
-stop p = record { kind = Other; text = []; line = p.line; column = p.column }
+abbrev pub stop : Place → Token
+stop p = record { kind = Other; start = 0; end = 0; line = p.line; column = p.column }
 
--- The symbols of a text whose first byte, behind so many that are passed over, stands at this place; up to the first
--- fault of the lexer, and a stop there.
-unfoldable pub symbols_at : ℕ → Place → List ℕ → List Symbol
-symbols_at n p [] = []
-symbols_at zero p (c ∷ cs) = elim (piece_at c cs) [
-  | Gap k ↦ symbols_at (k - 1) (step p c) cs
-  | Token kind k ↦ record { kind = kind; text = take k (c ∷ cs); line = p.line; column = p.column } ∷ symbols_at (k - 1) (step p c) cs
-  | Fault f ↦ stop p ∷ []
+abbrev pub stopped : LdfFault → Place → Ahead
+stopped e p = record { tokens = stop p ∷ []; fault = Some e }
+
+-- What is ahead in a text whose first byte, behind so many that are passed over, stands at this offset and place.
+unfoldable pub ahead_at : ℕ → ℕ → Place → List ℕ → Ahead
+ahead_at n at p [] = nothing
+ahead_at zero at p (c ∷ cs) = elim (piece_at c cs) [
+  | pieces.Gap k ↦ ahead_at (k - 1) (at + 1) (step p c) cs
+  | pieces.Token kind k ↦ more (record { kind = kind; start = at; end = at + length (take k (c ∷ cs)); line = p.line; column = p.column }) (ahead_at (k - 1) (at + 1) (step p c) cs)
+  | pieces.BadByte ↦ stopped (faults.BadByte p) p
+  | pieces.OpenComment ↦ stopped (faults.OpenComment p) p
+  | pieces.OpenText ↦ stopped (faults.OpenText p) p
 ]
-symbols_at (suc n) p (c ∷ cs) = symbols_at n (step p c) cs
+ahead_at (suc n) at p (c ∷ cs) = ahead_at n (at + 1) (step p c) cs
 
--- the next symbol, and those behind it
-abbrev pub left : Option Lexeme → Unread → List Symbol
-left None behind = []
-left (Some t) behind = symbol t ∷ symbols_at 0 behind.at behind.text.now
+-- of a whole source
+abbrev pub start_of : List ℕ → Ahead
+start_of source = ahead_at 0 (mark_len source) first_place (behind_mark source)
 
--- the same with the next symbol in parts
-abbrev pub ahead : Option TokenKind → List ℕ → Place → Unread → List Symbol
-ahead None text start behind = []
-ahead (Some kind) text start behind = record { kind = kind; text = text; line = start.line; column = start.column } ∷ symbols_at 0 behind.at behind.text.now
+-- ---- the lexer
 
--- the next symbol is this token's, or there is none
-abbrev pub Fronts : Option Lexeme → List Symbol → Type 0
-Fronts None ts = ts ≡ []
-Fronts (Some t) ts = ts ≡ symbol t ∷ tail ts
+abbrev pub IsReady : Lexer → Type 0
+IsReady l = (l.offset ≤ length l.source.now) × (l.place.line ≤ l.offset + 1) × (l.place.column ≤ l.offset + 1)
+
+abbrev pub still : Lexer → Ahead
+still l = ahead_at 0 l.offset l.place (drop l.offset l.source.now)
+
+-- what a call gives of what was ahead
+abbrev pub Pulls : Result (Option Token) LdfFault → Lexer → Lexer → Type 0
+Pulls (Ok (Some t)) old new = (still old ≡ more t (still new)) × (t.start ≤ t.end) × (t.end ≤ length old.source.now)
+Pulls (Ok None) old new = still old ≡ nothing
+Pulls (Err e) old new = still old ≡ stopped e new.place
+
+-- ---- the parser
+
+-- the next token's kind, text and place, and what is ahead of the lexer
+abbrev pub symbols_left : Option TokenKind → List ℕ → Place → Lexer → List Symbol
+symbols_left None text place l = []
+symbols_left (Some kind) text place l = record { kind = kind; text = text; line = place.line; column = place.column } ∷ symbols_in l.source.now (still l).tokens

@@ -1,21 +1,339 @@
-//! The tokens of an LDF text.
+//! The tokens of an LDF text (LIN 2.2A, section 9, lexical rules): the longest piece at each place.
 
-ghost use Rattle.std.specs.Prelude.{◌≡◌, ◌+◌, ◌<◌, ◌≤◌, ◌^◌, length, List, All, IfOk, IfErr, IsErrAnd, MatchResult, ◌≢◌, ◌⊎◌, IfSome, Option, None};
-ghost use Rattle.lin_ldf.specs.Tokens.{mark_len, AreTokens, AreTokensIn, LiesIn, IsLexFault, IsFaultIn};
-ghost use Rattle.lin_ldf.specs.Advance.{fault_at};
+ghost use Rattle.std.specs.Prelude.{◌≡◌, ◌≢◌, ◌⊎◌, ◌+◌, ◌<◌, ◌≤◌, ◌^◌, ◌==◌, length, take, drop, List, All, IfOk, IfErr, IsErrAnd, MatchResult, IfSome};
+ghost use Rattle.std.specs.List.{prefix_len};
+ghost use Rattle.lin_ldf.specs.Bytes.{is_separator, is_letter, is_digit, is_hex_digit, is_word_byte, is_bad, is_not_newline, is_not_quote};
+ghost use Rattle.lin_ldf.specs.Scanning.{begins, close_at, single, slash_piece, text_piece, has_fraction, has_hex, fraction_len, number_len, piece_at, front_piece, IsWithin};
+ghost use Rattle.lin_ldf.specs.Advance.{first_place, place_behind};
+ghost use Rattle.lin_ldf.specs.Stream.{IsReady, Pulls, start_of, still};
+ghost use Rattle.lin_ldf.specs.Tokens.{mark_len, AreTokens, LiesIn, IsLexFault};
 ghost use Rattle.lin_ldf.specs.declared.fault.LdfFault.{LdfFault};
 ghost use Rattle.lin_ldf.specs.declared.fault.LdfFault.TheVariants.{OutOfMemory};
 ghost use Rattle.lin_ldf.specs.declared.token.Token.{Token};
 
 use crate::fault::LdfFault;
-use crate::scanner::{ScanFault, Scanned, front_piece};
-use crate::token::Token;
-use crate::unread::advanced;
+use crate::token::{Token, TokenKind};
 use lin_description::Place;
+use memchr::memchr;
 use std::alloc::Global;
 
+/// What begins at a byte: a piece, with the number of its bytes (a gap is a separator or a comment), or a fault.
+#[derive(Clone, Copy)]
+enum Scanned {
+    Gap(usize),
+    Token(TokenKind, usize),
+    BadByte,
+    OpenComment,
+    OpenText,
+}
+
+fn is_separator(c: u8) -> bool
+    ensures { result ≡ is_separator c }
+{
+    c == b' ' || c == b'\t' || c == b'\r' || c == b'\n'
+}
+
+fn is_letter(c: u8) -> bool
+    ensures { result ≡ is_letter c }
+{
+    (b'A' <= c && c <= b'Z') || (b'a' <= c && c <= b'z') || c == b'_'
+}
+
+fn is_digit(c: u8) -> bool
+    ensures { result ≡ is_digit c }
+{
+    b'0' <= c && c <= b'9'
+}
+
+fn is_hex_digit(c: u8) -> bool
+    ensures { result ≡ is_hex_digit c }
+{
+    is_digit(c) || (b'A' <= c && c <= b'F') || (b'a' <= c && c <= b'f')
+}
+
+fn is_word_byte(c: u8) -> bool
+    ensures { result ≡ is_word_byte c }
+{
+    is_letter(c) || is_digit(c)
+}
+
+fn is_bad(c: u8) -> bool
+    ensures { result ≡ is_bad c }
+{
+    !(b'!' <= c && c <= b'~') && !is_separator(c)
+}
+
+/// The kind of a byte that is a token alone.
+fn single(c: u8) -> TokenKind
+    ensures { result ≡ single c }
+{
+    match c {
+        b'{' => TokenKind::OpenBrace,
+        b'}' => TokenKind::CloseBrace,
+        b':' => TokenKind::Colon,
+        b';' => TokenKind::Semicolon,
+        b',' => TokenKind::Comma,
+        b'=' => TokenKind::Equals,
+        _ => TokenKind::Other,
+    }
+}
+
+#[tactic(auto, using(crate::proofs::Scan::lengths))]
+fn word_len(text: &[u8]) -> usize
+    ensures value { result ≡ prefix_len is_word_byte text.now }
+    ensures within { result ≤ length text.now }
+{
+    text.iter().take_while(|c| is_word_byte(**c)).count()
+}
+
+#[tactic(auto, using(crate::proofs::Scan::lengths))]
+fn digits_len(text: &[u8]) -> usize
+    ensures value { result ≡ prefix_len is_digit text.now }
+    ensures within { result ≤ length text.now }
+{
+    text.iter().take_while(|c| is_digit(**c)).count()
+}
+
+#[tactic(auto, using(crate::proofs::Scan::lengths))]
+fn hex_len(text: &[u8]) -> usize
+    ensures value { result ≡ prefix_len is_hex_digit text.now }
+    ensures within { result ≤ length text.now }
+{
+    text.iter().take_while(|c| is_hex_digit(**c)).count()
+}
+
+#[tactic(auto, using(crate::proofs::Scan::lengths, crate::proofs::Lines::no_line_feed, crate::proofs::Lines::line_feed))]
+fn line_len(text: &[u8]) -> usize
+    ensures value { result ≡ prefix_len is_not_newline text.now }
+    ensures within { result ≤ length text.now }
+{
+    match memchr(b'\n', text) {
+        Some(n) => n,
+        None => text.len(),
+    }
+}
+
+/// The text from its first line feed on.
+fn behind_line(text: &[u8]) -> &[u8]
+    ensures value { result.now ≡ drop (prefix_len is_not_newline text.now) text.now }
+    ensures within { length result.now ≤ length text.now }
+{
+    let (_, behind) = text.split_at(line_len(text));
+    behind
+}
+
+#[tactic(auto, using(crate::proofs::Scan::lengths))]
+fn unquoted_len(text: &[u8]) -> usize
+    ensures value { result ≡ prefix_len is_not_quote text.now }
+    ensures within { result ≤ length text.now }
+{
+    text.iter().take_while(|c| **c != b'"').count()
+}
+
+fn begins_digit(text: &[u8]) -> bool
+    ensures { result ≡ begins is_digit text.now }
+{
+    match text {
+        [c, ..] => is_digit(*c),
+        [] => false,
+    }
+}
+
+fn begins_hex_digit(text: &[u8]) -> bool
+    ensures { result ≡ begins is_hex_digit text.now }
+{
+    match text {
+        [c, ..] => is_hex_digit(*c),
+        [] => false,
+    }
+}
+
+/// Whether a point and a digit stand in front.
+fn has_fraction(text: &[u8]) -> bool
+    ensures { result ≡ has_fraction text.now }
+{
+    match text {
+        [c, rest @ ..] => *c == b'.' && begins_digit(rest),
+        [] => false,
+    }
+}
+
+/// Whether an `x` and a hexadecimal digit stand in front.
+fn has_hex(text: &[u8]) -> bool
+    ensures { result ≡ has_hex text.now }
+{
+    match text {
+        [c, rest @ ..] => (*c == b'x' || *c == b'X') && begins_hex_digit(rest),
+        [] => false,
+    }
+}
+
+fn fraction_len(rest: &[u8]) -> usize
+    ensures value { result ≡ fraction_len rest.now }
+    ensures within { result ≤ length rest.now }
+{
+    match rest {
+        [_, after @ ..] if has_fraction(rest) => digits_len(after) + 1,
+        _ => 0,
+    }
+}
+
+fn number_len(first: u8, rest: &[u8]) -> usize
+    ensures value { result ≡ number_len first rest.now }
+    ensures some { 0 < result }
+    ensures within { result ≤ length rest.now + 1 }
+{
+    match rest {
+        [_, digits @ ..] if first == b'0' && has_hex(rest) => hex_len(digits) + 2,
+        _ => {
+            let whole = digits_len(rest);
+            let (_, after) = rest.split_at(whole);
+            whole + 1 + fraction_len(after)
+        }
+    }
+}
+
+fn begins(text: &[u8], byte: u8) -> bool
+    ensures { result ≡ begins (λ c. c == byte) text.now }
+{
+    match text {
+        [c, ..] => *c == byte,
+        [] => false,
+    }
+}
+
+/// Where the first `*/` stands.
+fn close_at(text: &[u8]) -> Option<usize>
+    ensures value { result ≡ close_at text.now }
+    ensures within { IfSome result (λ i. i + 2 ≤ length text.now) }
+{
+    let mut rest = text;
+    let mut passed = 0;
+    while let Some(n) = memchr(b'*', rest) {
+        let (_, behind) = rest.split_at(n + 1);
+        if begins(behind, b'/') {
+            return Some(passed + n);
+        }
+        passed += n + 1;
+        rest = behind;
+    }
+    None
+}
+
+fn slash_piece(rest: &[u8]) -> Scanned
+    ensures value { result ≡ slash_piece rest.now }
+    ensures within { IsWithin result (length rest.now + 1) }
+{
+    match rest {
+        [b'/', body @ ..] => Scanned::Gap(line_len(body) + 2),
+        [b'*', body @ ..] => match close_at(body) {
+            Some(i) => Scanned::Gap(i + 4),
+            None => Scanned::OpenComment,
+        },
+        _ => Scanned::Token(TokenKind::Other, 1),
+    }
+}
+
+fn text_piece(rest: &[u8]) -> Scanned
+    ensures value { result ≡ text_piece rest.now }
+    ensures within { IsWithin result (length rest.now + 1) }
+{
+    let inside = unquoted_len(rest);
+    if inside == rest.len() {
+        Scanned::OpenText
+    } else {
+        Scanned::Token(TokenKind::Text, inside + 2)
+    }
+}
+
+#[inline(always)]
+fn piece_at(first: u8, rest: &[u8]) -> Scanned
+    ensures value { result ≡ piece_at first rest.now }
+    ensures within { IsWithin result (length rest.now + 1) }
+{
+    if is_separator(first) {
+        Scanned::Gap(1)
+    } else if first == b'/' {
+        slash_piece(rest)
+    } else if first == b'"' {
+        text_piece(rest)
+    } else if is_letter(first) {
+        Scanned::Token(TokenKind::Word, word_len(rest) + 1)
+    } else if is_digit(first) {
+        Scanned::Token(TokenKind::Number, number_len(first, rest))
+    } else if is_bad(first) {
+        Scanned::BadByte
+    } else {
+        Scanned::Token(single(first), 1)
+    }
+}
+
+/// The piece at the front of a text that isn't empty.
+#[inline(always)]
+fn front_piece(text: &[u8]) -> Scanned
+    requires { 0 < length text.now }
+    ensures value { result ≡ front_piece text.now }
+    ensures within { IsWithin result (length text.now) }
+{
+    match text {
+        [first, rest @ ..] => piece_at(*first, rest),
+        [] => Scanned::Gap(0),
+    }
+}
+
+/// From this many bytes on, a piece is searched for line feeds.
+const LONG: usize = 32;
+
+/// The place behind a piece that begins at this place.
+fn advanced(from: Place, piece: &[u8]) -> Place
+    requires line_fits { from.line + length piece.now < 2 ^ 64 }
+    requires column_fits { from.column + length piece.now < 2 ^ 64 }
+    ensures place { result ≡ place_behind from piece.now }
+    ensures line { result.line ≤ from.line + length piece.now }
+    ensures column { result.column ≤ from.column + length piece.now }
+{
+    let mut place = from;
+    for c in piece {
+        place = if *c == b'\n' {
+            Place {
+                line: place.line + 1,
+                column: 1,
+            }
+        } else {
+            Place {
+                line: place.line,
+                column: place.column + 1,
+            }
+        };
+    }
+    place
+}
+
+/// The same, line by line.
+fn advanced_by_lines(from: Place, piece: &[u8]) -> Place
+    requires line_fits { from.line + length piece.now < 2 ^ 64 }
+    requires column_fits { from.column + length piece.now < 2 ^ 64 }
+    ensures place { result ≡ place_behind from piece.now }
+    ensures line { result.line ≤ from.line + length piece.now }
+    ensures column { result.column ≤ from.column + length piece.now }
+{
+    let mut place = from;
+    let mut rest = piece;
+    while let [_, behind @ ..] = behind_line(rest) {
+        place = Place {
+            line: place.line + 1,
+            column: 1,
+        };
+        rest = behind;
+    }
+    Place {
+        line: place.line,
+        column: place.column + rest.len() as u64,
+    }
+}
+
 /// How many bytes of a byte-order mark stand at the start: EF BB BF or none.
-pub fn mark_len(source: &[u8]) -> usize
+fn mark_len(source: &[u8]) -> usize
     ensures value { result ≡ mark_len source.now }
     ensures within { result ≤ length source.now }
 {
@@ -26,69 +344,80 @@ pub fn mark_len(source: &[u8]) -> usize
     }
 }
 
-fn fault_at(fault: ScanFault, place: Place) -> LdfFault
-    ensures { result ≡ fault_at fault place }
-{
-    let Place { line, column } = place;
-    match fault {
-        ScanFault::BadByte => LdfFault::BadByte { line, column },
-        ScanFault::OpenComment => LdfFault::OpenComment { line, column },
-        ScanFault::OpenText => LdfFault::OpenText { line, column },
-    }
+/// A source that is read token by token: the offset of the next byte, and its line and column.
+#[derive(Clone, Copy)]
+pub struct Lexer<'a> {
+    pub source: &'a [u8],
+    pub offset: usize,
+    pub place: Place,
 }
 
-/// The tokens of a text whose first byte stands at this offset of the source, and at line 1, column 1.
-fn tokens_of(alloc: Global, start: usize, text: &[u8]) -> Result<Vec<Token>, LdfFault>
-    requires { start + length text.now < 2 ^ 63 }
-    ensures tokens { IfOk result (λ ts. AreTokensIn start text.now ts.items) }
-    ensures fault { IfErr result (IsFaultIn text.now) }
-{
-    let mut tokens = Vec::new(alloc);
-    let mut rest = text;
-    let mut at = start;
-    let mut place = Place { line: 1, column: 1 };
-    while !rest.is_empty() {
-        let size = match front_piece(rest) {
-            Scanned::Gap(size) => size,
-            Scanned::Token(kind, size) => {
-                tokens.push(Token {
-                    kind,
-                    start: at,
-                    end: at + size,
-                    line: place.line,
-                    column: place.column,
-                })?;
-                size
+impl<'a> Lexer<'a> {
+    pub fn new(source: &'a [u8]) -> Lexer<'a>
+        ensures start { still result ≡ start_of source.now }
+        ensures within { mark_len source.now ≤ length source.now }
+        ensures source { result.source.now ≡ source.now }
+        ensures ready { IsReady result }
+    {
+        Lexer {
+            source,
+            offset: mark_len(source),
+            place: Place { line: 1, column: 1 },
+        }
+    }
+
+    /// A piece of so many bytes is passed over.
+    #[inline(always)]
+    fn pass(&mut self, size: usize)
+        requires ready { IsReady self.old }
+        requires within { self.old.offset + size ≤ length self.old.source.now }
+        ensures ready { IsReady self.new }
+        ensures source { self.new.source.now ≡ self.old.source.now }
+        ensures offset { self.new.offset ≡ self.old.offset + size }
+        ensures place { self.new.place ≡ place_behind self.old.place (take size (drop self.old.offset self.old.source.now)) }
+    {
+        let (_, rest) = self.source.split_at(self.offset);
+        let (piece, _) = rest.split_at(size);
+        self.place = if size < LONG {
+            advanced(self.place, piece)
+        } else {
+            advanced_by_lines(self.place, piece)
+        };
+        self.offset += size;
+    }
+
+    /// The next token, or nothing at the end; or the fault that stands in its place, and stands there still at the next call.
+    #[tactic(auto, using(crate::proofs::Stream::pulling))]
+    #[inline(always)]
+    pub fn next(&mut self) -> Result<Option<Token>, LdfFault>
+        requires ready { IsReady self.old }
+        ensures ready { IsReady self.new }
+        ensures source { self.new.source.now ≡ self.old.source.now }
+        ensures pulls { Pulls result self.old self.new }
+    {
+        while self.offset < self.source.len() {
+            let start = self.offset;
+            let place = self.place;
+            let (_, rest) = self.source.split_at(start);
+            match front_piece(rest) {
+                Scanned::Gap(size) => self.pass(size),
+                Scanned::Token(kind, size) => {
+                    self.pass(size);
+                    return Ok(Some(Token {
+                        kind,
+                        start,
+                        end: start + size,
+                        line: place.line,
+                        column: place.column,
+                    }));
+                }
+                Scanned::BadByte => return Err(LdfFault::BadByte(place)),
+                Scanned::OpenComment => return Err(LdfFault::OpenComment(place)),
+                Scanned::OpenText => return Err(LdfFault::OpenText(place)),
             }
-            Scanned::Fault(fault) => return Err(fault_at(fault, place)),
-        };
-        let (piece, behind) = rest.split_at(size);
-        place = advanced(place, piece);
-        at += size;
-        rest = behind;
+        }
+        Ok(None)
     }
-    Ok(tokens)
-}
-
-/// The first fault of a text, which stands at line 1, column 1.
-pub fn first_fault(text: &[u8]) -> Option<LdfFault>
-    ensures fault { IfSome result (λ e. IsFaultIn text.now e) }
-    ensures other { IfSome result (λ e. e ≢ OutOfMemory) }
-    ensures none { result ≡ None → (ts : List Token) × AreTokensIn 0 text.now ts }
-{
-    let mut rest = text;
-    let mut place = Place { line: 1, column: 1 };
-    while !rest.is_empty() {
-        let size = match front_piece(rest) {
-            Scanned::Gap(size) => size,
-            Scanned::Token(_, size) => size,
-            Scanned::Fault(fault) => return Some(fault_at(fault, place)),
-        };
-        let (piece, behind) = rest.split_at(size);
-        place = advanced(place, piece);
-        rest = behind;
-    }
-    None
 }
 
 /// The tokens of an LDF text (LIN 2.2A, section 9, lexical rules), in order, without separators and comments.
@@ -102,12 +431,28 @@ pub fn lex(alloc: Global, source: &[u8]) -> Result<Vec<Token>, LdfFault>
     ensures within { IfOk result (λ ts. All (LiesIn source.now) ts.items) }
     ensures only { (ts : List Token) → AreTokens source.now ts
         → MatchResult result (λ found. found.items ≡ ts) (λ e. e ≡ OutOfMemory) }
-
     ensures fault { IfErr result (IsLexFault source.now) }
     ensures first { (e : LdfFault) → IsLexFault source.now e → e ≢ OutOfMemory
         → IsErrAnd result (λ found. (found ≡ e) ⊎ (found ≡ OutOfMemory)) }
 {
-    let skipped = mark_len(source);
-    let (_, text) = source.split_at(skipped);
-    tokens_of(alloc, skipped, text)
+    let mut tokens = Vec::new(alloc);
+    let mut lexer = Lexer::new(source);
+    while let Some(token) = lexer.next()? {
+        tokens.push(token)?;
+    }
+    Ok(tokens)
+}
+
+/// The first fault of the tokens of a text.
+pub fn first_fault(source: &[u8]) -> Option<LdfFault>
+    ensures { result ≡ (start_of source.now).fault }
+{
+    let mut lexer = Lexer::new(source);
+    loop {
+        match lexer.next() {
+            Ok(Some(_)) => {}
+            Ok(None) => return None,
+            Err(fault) => return Some(fault),
+        }
+    }
 }

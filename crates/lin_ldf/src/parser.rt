@@ -1,50 +1,52 @@
-//! Tokens that are left, and the steps over one of them.
+//! The description that an LDF text spells, read token by token.
 
-ghost use Rattle.std.specs.Prelude.{◌≡◌, ◌||◌, ◌++◌, ◌∷◌, ◌≤◌, [], length, IfOk};
+ghost use Rattle.std.specs.Prelude.{◌≡◌, ◌≢◌, ◌⊎◌, ◌++◌, ◌∷◌, ◌≤◌, [], true, length, IfOk, IsErrAnd, MatchResult};
 ghost use Rattle.std.specs.Str.{bytes_eq};
 ghost use Rattle.std.specs.List.{list_any};
-ghost use Rattle.lin_ldf.specs.Symbols.{is_kind, symbol};
-ghost use Rattle.lin_ldf.specs.Stream.{symbols_at, Fronts};
-ghost use Rattle.lin_ldf.specs.Advance.{first_place};
-ghost use Rattle.lin_ldf.specs.Forms.{Gives, mark, keyword, end};
-ghost use Rattle.lin_ldf.specs.Loops.{is_next, tail};
+ghost use Rattle.lin_ldf.specs.Symbols.{is_kind, symbols_in};
+ghost use Rattle.lin_ldf.specs.Stream.{start_of};
+ghost use Rattle.lin_ldf.specs.Tokens.{IsLexFault};
+ghost use Rattle.lin_ldf.specs.Describes.{Describes};
+ghost use Rattle.lin_ldf.specs.Forms.{Gives, has_front, front, tail, mark, keyword, end};
+ghost use Rattle.lin_ldf.specs.Loops.{is_next};
 ghost use Rattle.lin_ldf.specs.UpTo.{front_kind};
-ghost use Rattle.lin_ldf.specs.Words.{word, opening, declared, int, dec, is_word_next};
-ghost use Rattle.lin_ldf.specs.declared.token.TokenKind.TheVariants as kinds;
-ghost use Rattle.lin_ldf.specs.Grammar.{header_words, is_extra_word, is_extra_next, without_quotes, protocol_of, protocol_text, with_node, front_section};
+ghost use Rattle.lin_ldf.specs.Words.{word, name_of, place_of, opening, declared, int, dec, is_word_next};
+ghost use Rattle.lin_ldf.specs.Grammar.{header_words, is_extra_next, without_quotes, protocol_text, with_node, front_section};
+ghost use Rattle.lin_ldf.specs.declared.fault.LdfFault.{LdfFault};
+ghost use Rattle.lin_ldf.specs.declared.fault.LdfFault.TheVariants.{OutOfMemory};
+ghost use Rattle.lin_description.specs.declared.description.Description.{Description};
 
 use crate::fault::LdfFault;
-use crate::lexeme::Lexeme;
+use crate::lexer::{Lexer, first_fault};
 use crate::names::Names;
 use crate::node_attributes::NodeBlocks;
 use crate::number_values;
 use crate::section::{SectionWord, section_word};
 use crate::token::TokenKind;
-use crate::unread::Unread;
-use lin_description::{Name, Number, Place};
+use lin_description::{Description, Name, Number, Place};
 use lin_lists::Text;
-use std::alloc::Global;
+use std::alloc::{AllocError, Global};
 use std::marker::Model;
 
-/// The tokens that are left: the next one's kind, text and place, and what isn't read yet behind it.
+/// The tokens that are left: the next one's kind, text and place, and the lexer, which stands after it.
 #[derive(Drop)]
 pub struct Parser<'a> {
     kind: Option<TokenKind>,
     text: &'a [u8],
-    start: Place,
-    unread: Unread<'a>,
+    place: Place,
+    lexer: Lexer<'a>,
 }
 
 impl<'a> Model for Parser<'a> {
-    ghost use Rattle.std.specs.Prelude.{List, ◌+◌, ◌<◌, ◌^◌, length};
+    ghost use Rattle.std.specs.Prelude.{List};
     ghost use Rattle.lin_ldf.specs.Symbols.{Symbol};
-    ghost use Rattle.lin_ldf.specs.Stream.{ahead};
+    ghost use Rattle.lin_ldf.specs.Stream.{IsReady, symbols_left};
 
     ghost Value = { List Symbol };
 
-    ghost view = { λ p. ahead p.kind p.text.now p.start p.unread };
+    ghost view = { λ p. symbols_left p.kind p.text.now p.place p.lexer };
 
-    ghost invariant = { λ p. (p.unread.at.line + length p.unread.text.now < 2 ^ 64) × (p.unread.at.column + length p.unread.text.now < 2 ^ 64) };
+    ghost invariant = { λ p. IsReady p.lexer };
 }
 
 pub fn same_kind(a: TokenKind, b: TokenKind) -> bool
@@ -69,22 +71,6 @@ fn without_quotes(text: &[u8]) -> &[u8]
     }
 }
 
-fn is_protocol_text(kind: TokenKind) -> bool
-    ensures { result ≡ (is_kind kinds.Text kind || is_kind kinds.Number kind) }
-{
-    same_kind(TokenKind::Text, kind) || same_kind(TokenKind::Number, kind)
-}
-
-fn protocol_of<'a>(t: &Lexeme<'a>) -> &'a [u8]
-    ensures { result.now ≡ protocol_of (symbol t.now) }
-{
-    if same_kind(TokenKind::Text, t.kind) {
-        without_quotes(t.text)
-    } else {
-        t.text
-    }
-}
-
 fn is_header_word(word: &[u8]) -> bool
     ensures { result ≡ list_any (bytes_eq word.now) header_words }
 {
@@ -95,50 +81,40 @@ fn is_header_word(word: &[u8]) -> bool
         || is_word(word, b"Nodes")
 }
 
-fn is_extra_word(t: &Lexeme) -> bool
-    ensures { result ≡ is_extra_word (symbol t.now) }
-{
-    same_kind(TokenKind::Word, t.kind) && !is_header_word(t.text)
-}
-
 impl<'a> Parser<'a> {
-    pub fn new(text: &'a [u8]) -> Parser<'a>
-        ensures { result ≡ symbols_at 0 first_place text.now }
+    pub fn new(source: &'a [u8]) -> Parser<'a>
+        ensures { result ≡ symbols_in source.now (start_of source.now).tokens }
     {
-        let unread = Unread::new(text);
+        let lexer = Lexer::new(source);
         // (it stands before the first token)
         let nothing = Some(TokenKind::Other);
         let mut parser = Parser {
             kind: nothing,
             text: &[],
-            start: unread.at,
-            unread,
+            place: lexer.place,
+            lexer,
         };
         parser.skip();
         parser
     }
 
-    /// The next token.
-    #[inline(always)]
-    fn front(&self) -> Option<Lexeme<'a>>
-        ensures { Fronts result self.now }
+    /// The text of the next token.
+    fn text(&self) -> &'a [u8]
+        ensures { result.now ≡ (front self.now).text }
     {
         match self.kind {
-            Some(kind) => Some(Lexeme {
-                kind,
-                text: self.text,
-                line: self.start.line,
-                column: self.start.column,
-            }),
-            None => None,
+            Some(_) => self.text,
+            None => &[],
         }
     }
 
     /// The place of the next token, or behind the text.
-    pub fn place(&self) -> Place {
-        match self.front() {
-            Some(t) => t.place(),
-            None => self.unread.at,
+    pub fn place(&self) -> Place
+        ensures { has_front self.now ≡ true → result ≡ place_of (front self.now) }
+    {
+        match self.kind {
+            Some(_) => self.place,
+            None => self.lexer.place,
         }
     }
 
@@ -147,14 +123,23 @@ impl<'a> Parser<'a> {
     pub fn left(&self) -> usize
         ensures { length self.now ≤ result }
     {
-        self.unread.text.len() + 1
+        self.lexer.source.len() - self.lexer.offset + 1
+    }
+
+    pub fn front_kind(&self) -> Option<TokenKind>
+        ensures { result ≡ front_kind self.now }
+    {
+        match self.kind {
+            Some(kind) => Some(kind),
+            None => None,
+        }
     }
 
     pub fn is_at(&self, kind: TokenKind) -> bool
         ensures { result ≡ is_next kind self.now }
     {
-        match self.front() {
-            Some(t) => same_kind(kind, t.kind),
+        match self.kind {
+            Some(next) => same_kind(kind, next),
             None => false,
         }
     }
@@ -162,37 +147,36 @@ impl<'a> Parser<'a> {
     pub fn is_at_word(&self, word: &[u8]) -> bool
         ensures { result ≡ is_word_next word.now self.now }
     {
-        match self.front() {
-            Some(t) => same_kind(TokenKind::Word, t.kind) && t.text == word,
+        match self.kind {
+            Some(next) => same_kind(TokenKind::Word, next) && self.text == word,
             None => false,
         }
     }
 
-    pub fn front_kind(&self) -> Option<TokenKind>
-        ensures { result ≡ front_kind self.now }
-    {
-        match self.front() {
-            Some(t) => Some(t.kind),
-            None => None,
-        }
-    }
-
     /// The next token is passed over.
+    #[tactic(auto, using(crate::proofs::Stream::at_end))]
     #[inline(always)]
     pub fn advance(&mut self)
         ensures { self.new ≡ tail self.old }
     {
         if self.kind.is_some() {
-            match self.unread.next() {
-                Some(t) => {
+            match self.lexer.next() {
+                Ok(Some(t)) => {
                     self.kind = Some(t.kind);
-                    self.text = t.text;
-                    self.start = Place {
+                    self.text = &self.lexer.source[t.start..t.end];
+                    self.place = Place {
                         line: t.line,
                         column: t.column,
                     };
                 }
-                None => self.kind = None,
+                Ok(None) => self.kind = None,
+                // (a token that ends no file, and nothing behind it)
+                Err(_) => {
+                    self.kind = Some(TokenKind::Other);
+                    self.text = &[];
+                    self.place = self.lexer.place;
+                    self.lexer.offset = self.lexer.source.len();
+                }
             }
         }
     }
@@ -207,54 +191,57 @@ impl<'a> Parser<'a> {
     pub fn mark(&mut self, kind: TokenKind) -> Result<(), LdfFault>
         ensures { Gives result self.new ((mark kind).read self.old) }
     {
-        match self.front() {
-            Some(t) if same_kind(kind, t.kind) => {
-                self.skip();
-                Ok(())
-            }
-            _ => Err(LdfFault::unexpected(self.place())),
+        if !self.is_at(kind) {
+            return Err(LdfFault::Unexpected(self.place()));
         }
+        self.skip();
+        Ok(())
     }
 
     /// An opening brace, and its place.
     pub fn opening(&mut self) -> Result<Place, LdfFault>
         ensures { Gives result self.new (opening.read self.old) }
     {
-        match self.front() {
-            Some(t) if same_kind(TokenKind::OpenBrace, t.kind) => {
-                self.skip();
-                Ok(Place {
-                    line: t.line,
-                    column: t.column,
-                })
-            }
-            _ => Err(LdfFault::unexpected(self.place())),
+        let place = self.place();
+        if !self.is_at(TokenKind::OpenBrace) {
+            return Err(LdfFault::Unexpected(place));
         }
+        self.skip();
+        Ok(place)
     }
 
     pub fn keyword(&mut self, word: &[u8]) -> Result<(), LdfFault>
         ensures { Gives result self.new ((keyword word.now).read self.old) }
     {
-        match self.front() {
-            Some(t) if same_kind(TokenKind::Word, t.kind) && t.text == word => {
-                self.skip();
-                Ok(())
-            }
-            _ => Err(LdfFault::unexpected(self.place())),
+        if !self.is_at_word(word) {
+            return Err(LdfFault::Unexpected(self.place()));
         }
+        self.skip();
+        Ok(())
+    }
+
+    /// The next token as a name.
+    fn name(&self, alloc: Global) -> Result<Name, AllocError>
+        requires { has_front self.now ≡ true }
+        ensures { IfOk result (λ n. n ≡ name_of (front self.now)) }
+    {
+        let Place { line, column } = self.place();
+        Ok(Name {
+            text: Text::copied(alloc, self.text())?,
+            line,
+            column,
+        })
     }
 
     pub fn word(&mut self, alloc: Global) -> Result<Name, LdfFault>
         ensures { Gives result self.new (word.read self.old) }
     {
-        match self.front() {
-            Some(t) if same_kind(TokenKind::Word, t.kind) => {
-                let name = t.to_name(alloc)?;
-                self.skip();
-                Ok(name)
-            }
-            _ => Err(LdfFault::unexpected(self.place())),
+        if !self.is_at(TokenKind::Word) {
+            return Err(LdfFault::Unexpected(self.place()));
         }
+        let name = self.name(alloc)?;
+        self.skip();
+        Ok(name)
     }
 
     /// A name that is declared here. It must be new.
@@ -262,75 +249,15 @@ impl<'a> Parser<'a> {
         ensures read { Gives result self.new ((declared seen.old).read self.old) }
         ensures seen { IfOk result (λ n. seen.new ≡ seen.old ++ n.text ∷ []) }
     {
-        match self.front() {
-            Some(t) if same_kind(TokenKind::Word, t.kind) => {
-                if !seen.insert(t.text)? {
-                    return Err(LdfFault::name_twice(t.place()));
-                }
-                let name = t.to_name(alloc)?;
-                self.skip();
-                Ok(name)
-            }
-            _ => Err(LdfFault::unexpected(self.place())),
+        if !self.is_at(TokenKind::Word) {
+            return Err(LdfFault::Unexpected(self.place()));
         }
-    }
-
-    pub fn int(&mut self) -> Result<Number, LdfFault>
-        ensures { Gives result self.new (int.read self.old) }
-    {
-        match self.front() {
-            Some(t) if same_kind(TokenKind::Number, t.kind) && number_values::is_whole(t.text) => {
-                match number_values::int_value(t.text) {
-                    Some(value) => {
-                        self.skip();
-                        Ok(Number {
-                            value,
-                            line: t.line,
-                            column: t.column,
-                        })
-                    }
-                    None => Err(LdfFault::too_large(t.place())),
-                }
-            }
-            _ => Err(LdfFault::unexpected(self.place())),
+        if !seen.insert(self.text())? {
+            return Err(LdfFault::NameTwice(self.place()));
         }
-    }
-
-    pub fn dec(&mut self) -> Result<Number, LdfFault>
-        ensures { Gives result self.new (dec.read self.old) }
-    {
-        match self.front() {
-            Some(t)
-                if same_kind(TokenKind::Number, t.kind)
-                    && number_values::has_three_decimals(t.text) => {
-                match number_values::thousandths(t.text) {
-                    Some(value) => {
-                        self.skip();
-                        Ok(Number {
-                            value,
-                            line: t.line,
-                            column: t.column,
-                        })
-                    }
-                    None => Err(LdfFault::too_large(t.place())),
-                }
-            }
-            _ => Err(LdfFault::unexpected(self.place())),
-        }
-    }
-
-    /// The text of `LIN_protocol`: without its quotes, or a number as it is spelled.
-    pub fn protocol_text(&mut self, alloc: Global) -> Result<Text, LdfFault>
-        ensures { Gives result self.new (protocol_text.read self.old) }
-    {
-        match self.front() {
-            Some(t) if is_protocol_text(t.kind) => {
-                let text = Text::copied(alloc, protocol_of(&t))?;
-                self.skip();
-                Ok(text)
-            }
-            _ => Err(LdfFault::unexpected(self.place())),
-        }
+        let name = self.name(alloc)?;
+        self.skip();
+        Ok(name)
     }
 
     /// The name of a block of attributes. No block of that node may stand before.
@@ -342,27 +269,81 @@ impl<'a> Parser<'a> {
         ensures read { Gives result self.new ((declared blocks.old.seen).read self.old) }
         ensures blocks { IfOk result (λ n. blocks.new ≡ with_node blocks.old n.text) }
     {
-        match self.front() {
-            Some(t) if same_kind(TokenKind::Word, t.kind) => {
-                if blocks.seen.contains(t.text) {
-                    return Err(LdfFault::name_twice(t.place()));
-                }
-                blocks.add(t.text)?;
-                let name = t.to_name(alloc)?;
-                self.skip();
-                Ok(name)
-            }
-            _ => Err(LdfFault::unexpected(self.place())),
+        if !self.is_at(TokenKind::Word) {
+            return Err(LdfFault::Unexpected(self.place()));
         }
+        if blocks.seen.contains(self.text()) {
+            return Err(LdfFault::NameTwice(self.place()));
+        }
+        blocks.add(self.text())?;
+        let name = self.name(alloc)?;
+        self.skip();
+        Ok(name)
+    }
+
+    pub fn int(&mut self) -> Result<Number, LdfFault>
+        ensures { Gives result self.new (int.read self.old) }
+    {
+        if !self.is_at(TokenKind::Number) || !number_values::is_whole(self.text()) {
+            return Err(LdfFault::Unexpected(self.place()));
+        }
+        let Place { line, column } = self.place();
+        match number_values::int_value(self.text()) {
+            Some(value) => {
+                self.skip();
+                Ok(Number {
+                    value,
+                    line,
+                    column,
+                })
+            }
+            None => Err(LdfFault::NumberTooLarge(self.place())),
+        }
+    }
+
+    pub fn dec(&mut self) -> Result<Number, LdfFault>
+        ensures { Gives result self.new (dec.read self.old) }
+    {
+        if !self.is_at(TokenKind::Number) || !number_values::has_three_decimals(self.text()) {
+            return Err(LdfFault::Unexpected(self.place()));
+        }
+        let Place { line, column } = self.place();
+        match number_values::thousandths(self.text()) {
+            Some(value) => {
+                self.skip();
+                Ok(Number {
+                    value,
+                    line,
+                    column,
+                })
+            }
+            None => Err(LdfFault::NumberTooLarge(self.place())),
+        }
+    }
+
+    /// The text of `LIN_protocol`: without its quotes, or a number as it is spelled.
+    pub fn protocol_text(&mut self, alloc: Global) -> Result<Text, LdfFault>
+        ensures { Gives result self.new (protocol_text.read self.old) }
+    {
+        let text = if self.is_at(TokenKind::Text) {
+            without_quotes(self.text())
+        } else if self.is_at(TokenKind::Number) {
+            self.text()
+        } else {
+            return Err(LdfFault::Unexpected(self.place()));
+        };
+        let text = Text::copied(alloc, text)?;
+        self.skip();
+        Ok(text)
     }
 
     /// No token is left.
     pub fn end(&self) -> Result<(), LdfFault>
         ensures { Gives result self.now (end.read self.now) }
     {
-        match self.front() {
+        match self.kind {
             None => Ok(()),
-            Some(t) => Err(LdfFault::unexpected(t.place())),
+            Some(_) => Err(LdfFault::Unexpected(self.place())),
         }
     }
 
@@ -370,8 +351,8 @@ impl<'a> Parser<'a> {
     pub fn section_word(&self) -> SectionWord
         ensures { result ≡ front_section self.now }
     {
-        match self.front() {
-            Some(t) => section_word(t.text),
+        match self.kind {
+            Some(_) => section_word(self.text),
             None => SectionWord::Unused,
         }
     }
@@ -380,9 +361,35 @@ impl<'a> Parser<'a> {
     pub fn is_at_extra(&self) -> bool
         ensures { result ≡ is_extra_next self.now }
     {
-        match self.front() {
-            Some(t) => is_extra_word(&t),
+        match self.kind {
+            Some(kind) => same_kind(TokenKind::Word, kind) && !is_header_word(self.text),
             None => false,
         }
+    }
+}
+
+/// What an LDF text describes (LIN 2.2A, section 9).
+///
+/// Extra lines of the header, sections that aren't used, and attributes but `LIN_protocol` and `configured_NAD` are read
+/// over. The tokens are read one at a time, so that what is read over takes no memory.
+///
+/// An error is the first fault of the tokens (`BadByte`, `OpenComment` or `OpenText`); where there is none, the fault at
+/// the earliest token that breaks the grammar: `Unexpected`, `NumberTooLarge`, `SectionTwice` or `NameTwice`; or
+/// `OutOfMemory`. Nothing is left behind.
+pub fn parse(alloc: Global, source: &[u8]) -> Result<Description, LdfFault>
+    ensures found { IfOk result (Describes source.now) }
+    ensures only { (d : Description) → Describes source.now d → MatchResult result (λ found. found ≡ d) (λ e. e ≡ OutOfMemory) }
+    ensures one { (d e : Description) → Describes source.now d → Describes source.now e → d ≡ e }
+    ensures first { (e : LdfFault) → IsLexFault source.now e → e ≢ OutOfMemory
+        → IsErrAnd result (λ found. (found ≡ e) ⊎ (found ≡ OutOfMemory)) }
+{
+    let mut parser = Parser::new(source);
+    match parser.file(alloc) {
+        Ok(found) => Ok(found),
+        Err(LdfFault::OutOfMemory) => Err(LdfFault::OutOfMemory),
+        Err(fault) => match first_fault(source) {
+            Some(first) => Err(first),
+            None => Err(fault),
+        },
     }
 }

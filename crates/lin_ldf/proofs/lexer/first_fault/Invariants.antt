@@ -1,14 +1,12 @@
-use Rattle.std.proofs.Common.{ℕ, ◌+◌, ◌≤◌, List, length}
-use Rattle.lin_ldf.specs.declared.token.Token.{Token}
-use Rattle.lin_ldf.proofs.CutLaws.{GoesOn}
+use Rattle.std.proofs.Common.{◌≡◌, length}
+use Rattle.lin_ldf.specs.Stream.{IsReady, start_of, still}
 use Rattle.lin_ldf.proofs.lexer.first_fault.Given as goal
 
-abbrev pub invariant-loop-rest : goal.invariant-loop-rest
-invariant-loop-rest l = record {
-  cut : (ts : List Token) × (at : ℕ) × GoesOn l.text 0 ts at l.place l.rest;
-  line : l.place.line + length l.rest ≤ 1 + length l.text;
-  column : l.place.column + length l.rest ≤ 1 + length l.text;
+abbrev pub invariant-loop-fault : goal.invariant-loop-fault
+invariant-loop-fault l = record {
+  fault : (start_of l.source).fault ≡ (still l.lexer).fault;
+  ready : IsReady l.lexer;
 }
 
-abbrev pub decreases-loop-rest : goal.decreases-loop-rest
-decreases-loop-rest l = length l.rest
+abbrev pub decreases-loop-fault : goal.decreases-loop-fault
+decreases-loop-fault l = length (still l.lexer).tokens

@@ -2,7 +2,7 @@ use Rattle.std.proofs.Common.{◌≡◌, ◌+◌, ◌-◌, List, ℕ, length, ta
 use Rattle.std.proofs.lemmas.List.{length-drop, take_rest}
 use Rattle.lin_ldf.specs.Advance.{place_behind}
 use Rattle.lin_ldf.proofs.Lines.{next_line, last_line}
-use Rattle.lin_ldf.proofs.unread.advanced_by_lines.Goals as goal
+use Rattle.lin_ldf.proofs.lexer.advanced_by_lines.Goals as goal
 
 pub loop-rest-preserved : goal.loop-rest-preserved
 loop-rest-preserved c =

@@ -1,6 +1,6 @@
 use Rattle.std.proofs.Common.{◌≡◌, ◌+◌, ◌≤◌, length}
 use Rattle.lin_ldf.specs.Advance.{place_behind}
-use Rattle.lin_ldf.proofs.unread.advanced_by_lines.Given as goal
+use Rattle.lin_ldf.proofs.lexer.advanced_by_lines.Given as goal
 
 abbrev pub invariant-loop-rest : goal.invariant-loop-rest
 invariant-loop-rest l = record {
