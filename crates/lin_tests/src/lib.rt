@@ -17,3 +17,5 @@ mod runs;
 mod samples;
 #[cfg(test)]
 mod schedule;
+#[cfg(test)]
+mod text;

@@ -1,7 +1,8 @@
-//! Readers and writers that give and take one byte at a time, fail, and count.
+//! Readers and writers that give and take one byte at a time, fail, count, and note what they take.
 
 ghost use Rattle.std.specs.Prelude.{◌≡◌, IfOk, Some};
 
+use std::alloc::Global;
 use std::io::{Error, ErrorKind, Read, Result, Write};
 
 /// Gives one byte a read, and fails after some reads.
@@ -76,6 +77,35 @@ impl Read for Counted {
         self.spaces -= 1;
         buf[0] = b' ';
         Ok(1)
+    }
+}
+
+/// Takes each write whole, and notes its length.
+#[derive(Drop)]
+pub struct Pieces {
+    pub taken: Vec<u8>,
+    pub lengths: Vec<usize>,
+}
+
+impl Pieces {
+    pub fn new(alloc: Global) -> Pieces {
+        Pieces {
+            taken: Vec::new(alloc),
+            lengths: Vec::new(alloc),
+        }
+    }
+}
+
+impl Write for Pieces {
+    fn write(&mut self, buf: &[u8]) -> Result<usize> {
+        if self.lengths.push(buf.len()).is_err() || self.taken.extend_from_slice(buf).is_err() {
+            return Err(Error::from(ErrorKind::OutOfMemory));
+        }
+        Ok(buf.len())
+    }
+
+    fn flush(&mut self) -> Result<()> {
+        Ok(())
     }
 }
 
