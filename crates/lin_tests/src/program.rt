@@ -2,16 +2,18 @@
 
 use crate::log::fakes::Broken;
 use crate::samples::{BODY_CLUSTER, DOOR_CLUSTER, cluster_of, expect_text};
-use lin_tool::{Fault, cluster_of_reader, opening_table, read_text, replay_script, write_list};
+use lin_tool::{
+    Fault, Format, cluster_of_reader, opening_table, read_text, replay_script, write_list,
+};
 use std::alloc::Global;
 use std::io::ErrorKind;
 use std::process::Abort;
 use std::test::Fail;
 
 fn cluster_text(alloc: Global, mut rest: &[u8]) -> Result<Vec<u8>, Fault> {
-    let cluster = cluster_of_reader(alloc, &mut rest)?;
+    let described = cluster_of_reader(alloc, &mut rest)?;
     let mut text = Vec::new(alloc);
-    write_list(&cluster, &mut text)?;
+    write_list(&described.cluster, &mut text)?;
     Ok(text)
 }
 
@@ -29,9 +31,17 @@ fn replayed(alloc: Global, script: &[u8]) -> Result<Vec<u8>, Fault> {
     let mut rest = DOOR_CLUSTER;
     let mut reader = script;
     let mut text = Vec::new(alloc);
-    let cluster = cluster_of_reader(alloc, &mut rest)?;
-    let table = opening_table(&cluster, None)?;
-    replay_script(alloc, cluster, table, 16, &mut reader, &mut text)?;
+    let described = cluster_of_reader(alloc, &mut rest)?;
+    let table = opening_table(&described.cluster, None)?;
+    replay_script(
+        alloc,
+        described,
+        table,
+        16,
+        Format::Log,
+        &mut reader,
+        &mut text,
+    )?;
     Ok(text)
 }
 

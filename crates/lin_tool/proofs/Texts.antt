@@ -5,9 +5,9 @@ use Rattle.lin_ldf.specs.Tokens.{IsLexFault}
 use Rattle.lin_ldf.specs.declared.fault.LdfFault.{LdfFault}
 use Rattle.lin_ldf.specs.declared.fault.LdfFault.TheVariants as ldf
 use Rattle.lin_description.specs.declared.description.Description.{Description}
-use Rattle.lin_parts.specs.declared.parts.Parts.{Parts}
 use Rattle.lin_tool.specs.Clusters.{AnswersText, Tells, TextFaults}
 use Rattle.lin_tool.specs.Reading.{AnswersLdf, ReadFaults}
+use Rattle.lin_tool.specs.declared.describing.Described.{Described}
 use Rattle.lin_tool.specs.declared.fault.Fault.{Fault}
 use Rattle.lin_tool.specs.declared.fault.Fault.TheVariants.{Ldf, Findings, LdfTooLong, OutOfMemory, ReadFailed}
 
@@ -23,9 +23,9 @@ tells_fault text (Ldf f) fault (same, some) only first = record {
 tells_fault text OutOfMemory fault h only first = tt
 tells_fault text _ fault h only first = absurd h
 
-pub answers_read : (r : Result Parts Fault) (told : Option (List ℕ)) (text : List ℕ)
+pub answers_read : (r : Result Described Fault) (told : Option (List ℕ)) (text : List ℕ)
     → IfSome told (λ bytes. text ≡ bytes) → length text ≤ 4194304 → AnswersText r text → AnswersLdf r told
-answers_read (Ok parts) told text is short h = (text, is, short, h)
+answers_read (Ok answer) told text is short h = (text, is, short, h)
 answers_read (Err (Ldf f)) told text is short h = (text, is, short, h)
 answers_read (Err (Findings found)) told text is short h = (text, is, short, h)
 answers_read (Err OutOfMemory) told text is short h = tt
@@ -39,8 +39,8 @@ answers_unread OutOfMemory told h = tt
 answers_unread ReadFailed told h = tt
 answers_unread _ told h = absurd h
 
-pub answers_untold : (r : Result Parts Fault) (told : Option (List ℕ)) → AnswersLdf r told → AnswersLdf r None
-answers_untold (Ok parts) told (text, is, short, h) = (text, tt, short, h)
+pub answers_untold : (r : Result Described Fault) (told : Option (List ℕ)) → AnswersLdf r told → AnswersLdf r None
+answers_untold (Ok answer) told (text, is, short, h) = (text, tt, short, h)
 answers_untold (Err (Ldf f)) told (text, is, short, h) = (text, tt, short, h)
 answers_untold (Err (Findings found)) told (text, is, short, h) = (text, tt, short, h)
 answers_untold (Err LdfTooLong) told h = tt

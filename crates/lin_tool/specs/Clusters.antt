@@ -10,16 +10,18 @@ use Rattle.lin_cluster.specs.Described.{parts_of}
 use Rattle.lin_cluster.specs.Findings.{IsFree}
 use Rattle.lin_cluster.specs.declared.finding.CheckFault.TheVariants as check
 use Rattle.lin_cluster.specs.declared.finding.Finding.{Finding}
-use Rattle.lin_parts.specs.declared.parts.Parts.{Parts}
+use Rattle.lin_names.specs.Names.{names_of}
+use Rattle.lin_tool.specs.declared.describing.Described.{Described}
 use Rattle.lin_tool.specs.declared.fault.Fault.{Fault}
 use Rattle.lin_tool.specs.declared.fault.Fault.TheVariants.{Ldf, Findings, OutOfMemory}
 
--- These parts are those of what the text describes, in which nothing is found.
-pub record IsClusterOf (text : List ℕ) (parts : Parts) : Type 0 where
+-- These are the cluster and the names of what the text describes, in which nothing is found.
+pub record IsClusterOf (text : List ℕ) (answer : Described) : Type 0 where
   pub description : Description
   pub described : Describes text description
   pub free : IsFree description
-  pub said : parts ≡ parts_of description
+  pub said : answer.cluster ≡ parts_of description
+  pub named : answer.names ≡ names_of description
 
 -- The text describes nothing; where its tokens have a fault, it is this one.
 pub record IsTextFault (text : List ℕ) (fault : LdfFault) : Type 0 where
@@ -47,6 +49,6 @@ TextFaults OutOfMemory text = Unit {0}
 TextFaults _ text = ⊥
 
 -- what is answered to an LDF text
-abbrev pub AnswersText : Result Parts Fault → List ℕ → Type 0
-AnswersText (Ok parts) text = IsClusterOf text parts
+abbrev pub AnswersText : Result Described Fault → List ℕ → Type 0
+AnswersText (Ok answer) text = IsClusterOf text answer
 AnswersText (Err fault) text = TextFaults fault text

@@ -1,4 +1,6 @@
 pub mod Clusters
+pub mod Comparing
+pub mod Formats
 pub mod Listing
 pub mod Opening
 pub mod Reading

@@ -1,30 +1,57 @@
 -- What the program's replay answers.
-use Rattle.std.specs.Prelude.{◌≡◌, ℕ, List, Option, Result, Ok, Err}
+use Rattle.std.specs.Prelude.{◌≡◌, ◌≢◌, ◌⊎◌, ℕ, List, Option, IfSome, Result, Ok, Err}
+use Rattle.std.specs.Io.KnownBytes.{Keeps}
 use Rattle.lin_parts.specs.declared.parts.Parts.{Parts}
 use Rattle.lin_core.specs.declared.log.LogEntry.{LogEntry}
-use Rattle.lin_log.specs.Replay.{IsReplay}
+use Rattle.lin_core.specs.declared.port.PortId.{PortId}
+use Rattle.lin_core.specs.declared.step.Step.{Step}
+use Rattle.lin_log.specs.Replay.{IsScriptOf, ScriptFaults, log_of}
 use Rattle.lin_log.specs.declared.fault.ScriptFault.{ScriptFault}
 use Rattle.lin_log.specs.declared.fault.ScriptFault.TheVariants as script
-use Rattle.lin_log.specs.declared.fault.ReplayFault.{ReplayFault}
-use Rattle.lin_log.specs.declared.fault.ReplayFault.TheVariants as replay
+use Rattle.lin_tool.specs.Formats.{Begins, Shows, shown}
+use Rattle.lin_tool.specs.declared.describing.Described.{Described}
 use Rattle.lin_tool.specs.declared.fault.Fault.{Fault}
 use Rattle.lin_tool.specs.declared.fault.Fault.TheVariants.{BadLine, ScriptTooLong, OutOfMemory, ReadFailed, WriteFailed}
+use Rattle.lin_tool.specs.declared.formats.Format.{Format}
+use Rattle.lin_tool.specs.declared.formats.Format.TheVariants.{Log}
 
--- the program's fault for a fault of a script, and of a replay
+-- the program's fault for a fault of a script
 abbrev pub script_fault : ScriptFault → Fault
 script_fault (script.BadLine n) = BadLine n
 script_fault script.TooLong = ScriptTooLong
 script_fault script.ReadFailed = ReadFailed
 script_fault script.OutOfMemory = OutOfMemory
 
-abbrev pub replay_fault : ReplayFault → Fault
-replay_fault (replay.Script fault) = script_fault fault
-replay_fault replay.OutOfMemory = OutOfMemory
-replay_fault replay.WriteFailed = WriteFailed
+-- the log of the steps of a script: of its bytes where the reader tells them, and of some steps in
+-- any case
+abbrev pub IsLogOf : Parts → ℕ → ℕ → Option (List ℕ) → List LogEntry → Type 0
+IsLogOf c opening capacity told log =
+    (said : List (PortId × Step)) × IfSome told (λ bytes. IsScriptOf bytes said)
+    × (log ≡ log_of c opening capacity said)
 
--- what the program's replay answers, and what the writer took: as a replay does, with the program's faults and no core
-abbrev pub Replays : Parts → ℕ → ℕ → Result Unit Fault → Option (List ℕ) → Option (List ℕ) → Option (List ℕ) → Type 0
-Replays c opening capacity (Ok done) told old new =
-    (log : List LogEntry) × IsReplay c opening capacity (λ (l : List LogEntry). l) (Ok log) told old new
-Replays c opening capacity (Err fault) told old new =
-    (f : ReplayFault) × (fault ≡ replay_fault f) × IsReplay c opening capacity (λ (l : List LogEntry). l) (Err f) told old new
+-- the script has this fault, where the reader tells its bytes, and nothing was written
+abbrev pub IsRefused : ScriptFault → Option (List ℕ) → Option (List ℕ) → Option (List ℕ) → Type 0
+IsRefused fault told old new = IfSome told (ScriptFaults fault) × Keeps old new
+
+-- of the log in this format a beginning was written
+abbrev pub Stops : Format → Described → ℕ → ℕ
+    → Option (List ℕ) → Option (List ℕ) → Option (List ℕ) → Type 0
+Stops format d opening capacity told old new =
+    (log : List LogEntry) × IsLogOf d.cluster opening capacity told log
+    × Begins old new (shown format d.names d.cluster log)
+
+-- What a replay in this format answers, and what the writer took. (The log's own text takes no
+-- memory: where there isn't enough, nothing of it was written.)
+abbrev pub Replays : Format → Described → ℕ → ℕ → Result Unit Fault
+    → Option (List ℕ) → Option (List ℕ) → Option (List ℕ) → Type 0
+Replays format d opening capacity (Ok done) told old new =
+    (log : List LogEntry) × IsLogOf d.cluster opening capacity told log
+    × Shows old new (shown format d.names d.cluster log)
+Replays format d opening capacity (Err (BadLine n)) told old new = IsRefused (script.BadLine n) told old new
+Replays format d opening capacity (Err ScriptTooLong) told old new = IsRefused script.TooLong told old new
+Replays format d opening capacity (Err ReadFailed) told old new = Keeps old new
+Replays format d opening capacity (Err OutOfMemory) told old new =
+    Keeps old new ⊎ ((format ≢ Log) × Stops format d opening capacity told old new)
+Replays format d opening capacity (Err WriteFailed) told old new =
+    Stops format d opening capacity told old new
+Replays format d opening capacity (Err _) told old new = ⊥

@@ -1,10 +1,10 @@
 -- The exit status that the program ends with.
 use Rattle.std.specs.Prelude.{ℕ}
 use Rattle.lin_tool.specs.declared.fault.Fault.{Fault}
-use Rattle.lin_tool.specs.declared.fault.Fault.TheVariants.{BadLine, Ldf, Findings, LdfTooLong, ScriptTooLong, NotHostStep, NoSuchTable, OutOfMemory, ReadFailed, WriteFailed, TaskLimit, NoThread, LogFull}
+use Rattle.lin_tool.specs.declared.fault.Fault.TheVariants.{BadLine, Ldf, Findings, LdfTooLong, ScriptTooLong, NotHostStep, NoSuchTable, OutOfMemory, ReadFailed, WriteFailed, TaskLimit, NoThread, LogFull, LogDiffers}
 
--- 1 for a fault of the input, 3 for want of memory, 4 where standard input, a file or standard output failed, 5 where a
--- run met a limit
+-- 1 for a fault of the input, 3 for want of memory, 4 where standard input, a file or standard
+-- output failed, 5 where a run met a limit, 6 where a log isn't the text of its own history
 abbrev pub status_of : Fault → ℕ
 status_of (BadLine n) = 1
 status_of (Ldf f) = 1
@@ -19,3 +19,4 @@ status_of WriteFailed = 4
 status_of TaskLimit = 5
 status_of NoThread = 5
 status_of LogFull = 5
+status_of (LogDiffers line) = 6

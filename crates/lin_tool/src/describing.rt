@@ -1,4 +1,5 @@
-//! Clusters from LDF texts: that of a reader or a file is read, and that of the built-in cluster stands here.
+//! Clusters from LDF texts: that of a reader or a file is read, and that of the built-in cluster
+//! stands here.
 
 ghost use Rattle.std.specs.Prelude.{◌≡◌, IsSome};
 ghost use Rattle.lin_tool.specs.Clusters.{AnswersText, Tells};
@@ -8,6 +9,7 @@ use crate::fault::Fault;
 use crate::findings::Findings;
 use lin_cluster::{CheckFault, check};
 use lin_ldf::{LdfFault, parse};
+use lin_names::Names;
 use lin_parts::Cluster;
 use lin_text::{ReadFault, read_whole};
 use std::alloc::Global;
@@ -17,8 +19,9 @@ use std::io::Read;
 /// The most bytes that an LDF text may have.
 const LIMIT: usize = 4_194_304;
 
-/// The LDF text of the built-in cluster: the commander `cem`, the responder `door` with the diagnostic address 1, and the schedule table
-/// `diag` with a master request and a slave response, 10 ms each.
+/// The LDF text of the built-in cluster: the commander `cem`, the responder `door` with the
+/// diagnostic address 1, and the schedule table `diag` with a master request and a slave response,
+/// 10 ms each.
 pub const BUILT_IN: &[u8] = b"LIN_description_file;
 LIN_protocol_version = \"2.2\";
 LIN_language_version = \"2.2\";
@@ -28,11 +31,19 @@ Node_attributes { door { LIN_protocol = \"2.2\"; configured_NAD = 0x01; } }
 Schedule_tables { diag { MasterReq delay 10 ms; SlaveResp delay 10 ms; } }
 ";
 
+/// The cluster that an LDF text describes, and what the text says that a cluster doesn't keep.
+#[derive(Drop)]
+pub struct Described {
+    pub cluster: Cluster,
+    pub names: Names,
+}
+
 /// The bytes that a reader gives up to its end, at most 4,194,304.
 ///
 /// # Errors
-/// `LdfTooLong` where there are more; `OutOfMemory` where the program's own request for memory is refused; `ReadFailed` where the reader
-/// answers an error, whatever its kind, after which it is asked no second time.
+/// `LdfTooLong` where there are more; `OutOfMemory` where the program's own request for memory is
+/// refused; `ReadFailed` where the reader answers an error, whatever its kind, after which it is
+/// asked no second time.
 pub fn read_text<R: Read>(alloc: Global, reader: &mut R) -> Result<Vec<u8>, Fault>
     ensures { ReadsAll (λ v. v.items) result (R.remaining reader.old) }
 {
@@ -54,19 +65,21 @@ fn fault_of(fault: LdfFault) -> Fault
     }
 }
 
-/// The cluster that an LDF text describes.
+/// What an LDF text describes.
 ///
 /// # Errors
-/// `Ldf` for the first fault of the text; `Findings` for all the reasons why it describes no cluster; `OutOfMemory`.
-pub fn cluster_of_text(alloc: Global, text: &[u8]) -> Result<Cluster, Fault>
+/// `Ldf` for the first fault of the text; `Findings` for all the reasons why it describes no
+/// cluster; `OutOfMemory`.
+pub fn cluster_of_text(alloc: Global, text: &[u8]) -> Result<Described, Fault>
     ensures { AnswersText result text.now }
 {
     let description = match parse(alloc, text) {
         Ok(description) => description,
         Err(fault) => return Err(fault_of(fault)),
     };
+    let names = Names::of(alloc, &description)?;
     match check(alloc, description) {
-        Ok(cluster) => Ok(cluster),
+        Ok(cluster) => Ok(Described { cluster, names }),
         Err(CheckFault::OutOfMemory) => Err(Fault::OutOfMemory),
         Err(CheckFault::Findings(findings)) => Err(Fault::Findings(Findings(findings))),
     }
@@ -77,7 +90,7 @@ pub fn cluster_of_text(alloc: Global, text: &[u8]) -> Result<Cluster, Fault>
 /// # Errors
 /// Those of `read_text`, and of what was read those of `cluster_of_text`.
 #[tactic(auto, using(crate::proofs::Texts::answers_read, crate::proofs::Texts::answers_unread))]
-pub fn cluster_of_reader<R: Read>(alloc: Global, reader: &mut R) -> Result<Cluster, Fault>
+pub fn cluster_of_reader<R: Read>(alloc: Global, reader: &mut R) -> Result<Described, Fault>
     ensures { AnswersLdf result (R.remaining reader.old) }
 {
     let text = read_text(alloc, reader)?;
@@ -89,7 +102,10 @@ pub fn cluster_of_reader<R: Read>(alloc: Global, reader: &mut R) -> Result<Clust
 /// # Errors
 /// `ReadFailed` where the file can't be opened, and those of `cluster_of_reader`.
 #[tactic(auto, using(crate::proofs::Texts::answers_untold))]
-pub fn cluster_of_file<R: AllocGlobal + Files>(rt: &R, path: Option<&str>) -> Result<Cluster, Fault>
+pub fn cluster_of_file<R: AllocGlobal + Files>(
+    rt: &R,
+    path: Option<&str>,
+) -> Result<Described, Fault>
     ensures built_in { path.entry ≡ None → AnswersText result BUILT_IN.now }
     ensures file { IsSome path.entry → AnswersLdf result None }
 {

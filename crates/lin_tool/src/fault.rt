@@ -1,13 +1,16 @@
 //! Why the program ends early.
 
 ghost use Rattle.std.specs.Prelude.{◌≡◌};
-ghost use Rattle.lin_tool.specs.Replaying.{replay_fault, script_fault};
+ghost use Rattle.lin_tool.specs.Formats.{export_fault};
+ghost use Rattle.lin_tool.specs.Replaying.{script_fault};
 ghost use Rattle.lin_tool.specs.Running.{split_fault};
 ghost use Rattle.lin_tool.specs.Statuses.{status_of};
+ghost use Rattle.lin_tool.specs.declared.fault.Fault.TheVariants.{OutOfMemory};
 
 use crate::findings::Findings;
+use lin_export::ExportFault;
 use lin_ldf::LdfFault;
-use lin_log::{ReplayFault, ScriptFault};
+use lin_log::ScriptFault;
 use lin_threads::{RunFault, SplitFault};
 use std::alloc::{AllocError, AllocFailed};
 use thiserror::Error;
@@ -30,7 +33,8 @@ pub enum Fault {
     /// The script is longer than 16,777,216 bytes.
     #[error("{}", ScriptFault::TooLong)]
     ScriptTooLong,
-    /// The script's first step, counted from 0, that is none of a host of the cluster by its own port.
+    /// The script's first step, counted from 0, that is none of a host of the cluster by its own
+    /// port.
     #[error("script step {index} not a host step")]
     NotHostStep { index: usize },
     /// The cluster has no schedule table of the name that the command line gives.
@@ -53,11 +57,16 @@ pub enum Fault {
     /// The log has 4,294,967,295 entries, and takes no more.
     #[error("log full")]
     LogFull,
+    /// A script isn't the text of its own history. Here is its first line, counted from 1, that
+    /// differs from that text.
+    #[error("log {line} differs")]
+    LogDiffers { line: u64 },
 }
 
 impl Fault {
-    /// The exit status: 1 for a fault of the input, 3 for want of memory, 4 for a failed read or write, 5 where a run met a limit. (0 is
-    /// for a run without a fault, and 2 for a wrong command line.)
+    /// The exit status: 1 for a fault of the input, 3 where memory ran out, 4 for a failed read or
+    /// write, 5 where a run met a limit, 6 where a log isn't the text of its own history. (0 is for
+    /// a run without a fault, and 2 for a wrong command line.)
     pub fn status(&self) -> u8
         ensures { result ≡ status_of self.now }
     {
@@ -72,6 +81,7 @@ impl Fault {
             Fault::OutOfMemory => 3,
             Fault::ReadFailed | Fault::WriteFailed => 4,
             Fault::TaskLimit | Fault::NoThread | Fault::LogFull => 5,
+            Fault::LogDiffers { .. } => 6,
         }
     }
 }
@@ -110,19 +120,20 @@ impl From<RunFault> for Fault {
     }
 }
 
-impl From<ReplayFault> for Fault {
-    ghost from_gives = { λ x y. y ≡ replay_fault x };
+impl From<ExportFault> for Fault {
+    ghost from_gives = { λ x y. y ≡ export_fault x };
 
-    fn from(fault: ReplayFault) -> Fault {
+    fn from(fault: ExportFault) -> Fault {
         match fault {
-            ReplayFault::Script(fault) => Fault::from(fault),
-            ReplayFault::OutOfMemory => Fault::OutOfMemory,
-            ReplayFault::WriteFailed => Fault::WriteFailed,
+            ExportFault::OutOfMemory => Fault::OutOfMemory,
+            ExportFault::WriteFailed => Fault::WriteFailed,
         }
     }
 }
 
 impl From<AllocError> for Fault {
+    ghost from_gives = { λ x y. y ≡ OutOfMemory };
+
     fn from(_error: AllocError) -> Fault {
         Fault::OutOfMemory
     }

@@ -1,71 +1,84 @@
-//! `linsim replay`: makes the steps of a script and writes their log.
+//! `linsim replay`: makes the steps of a script and writes their log, in its own text or in another
+//! format.
 
 ghost use Rattle.std.specs.Prelude.{◌≤◌, ◌<◌, length};
 ghost use Rattle.lin_tool.specs.Replaying.{Replays};
 
-use crate::describing::cluster_of_file;
+use crate::describing::{Described, cluster_of_file};
 use crate::fault::Fault;
+use crate::formats::{Format, write_shown};
 use crate::opening::opening_table;
-use lin_parts::Cluster;
+use lin_log::{read_bytes, run_script};
 use std::alloc::Global;
 use std::fs::Files;
 use std::io::{self, Read, Write};
 use std::mem;
 
-/// Reads a script, makes its steps over a cluster, and writes their log.
+/// Reads a script, makes its steps over a cluster, and writes their log in a format.
 ///
-/// It begins with the schedule table `table`; each host may have `capacity` messages waiting, 1 to 1,024. (The core's memory is left
-/// to the end of the program: it would be let go of entry by entry.)
+/// It begins with the schedule table `table`; each host may have `capacity` messages waiting, 1 to
+/// 1,024. (The core's memory is left to the end of the program: it would be let go of entry by
+/// entry.)
 ///
 /// # Errors
-/// `BadLine` and `ScriptTooLong` for a fault of the script; `ReadFailed` where the reader answers an error; `OutOfMemory`. Nothing was
-/// written then. `WriteFailed`, where what was written is the beginning of the log.
+/// `BadLine` and `ScriptTooLong` for a fault of the script; `ReadFailed` where the reader answers
+/// an error. Nothing was written then. `OutOfMemory`, where nothing was written, or in a format
+/// other than the log's own text a beginning. `WriteFailed`, where what was written is the
+/// beginning of the whole.
 pub fn replay_script<R: Read, W: Write>(
     alloc: Global,
-    cluster: Cluster,
+    described: Described,
     table: u16,
     capacity: usize,
+    format: Format,
     reader: &mut R,
     writer: &mut W,
 ) -> Result<(), Fault>
-    requires table { table < length cluster.tables }
+    requires table { table < length described.cluster.tables }
     requires capacity { (1 ≤ capacity) × (capacity ≤ 1024) }
-    ensures { Replays cluster table capacity result (R.remaining reader.old) (W.contents writer.old) (W.contents writer.new) }
+    ensures { Replays format described table capacity result
+        (R.remaining reader.old) (W.contents writer.old) (W.contents writer.new) }
 {
-    match lin_log::replay(alloc, cluster, table, capacity, reader, writer) {
-        Ok(core) => {
-            mem::forget(core);
-            Ok(())
-        }
+    let Described { cluster, names } = described;
+    let bytes = read_bytes(alloc, reader)?;
+    let core = run_script(alloc, cluster, table, capacity, bytes.as_slice())?;
+    let written = write_shown(alloc, format, &names, &core, writer);
+    mem::forget(core);
+    match written {
+        Ok(()) => Ok(()),
         Err(fault) => Err(Fault::from(fault)),
     }
 }
 
-/// Reads the script on standard input, makes its steps over the cluster that the LDF text in the file at `path` describes, or without
-/// a path over the built-in one, and writes the log on standard output.
+/// Reads the script on standard input, makes its steps over the cluster that the LDF text in the
+/// file at `path` describes, or without a path over the built-in one, and writes the log on
+/// standard output in a format.
 ///
-/// It begins with the schedule table of the name `table`, or without a name with the first one; each host may have `capacity` messages
-/// waiting, 1 to 1,024.
+/// It begins with the schedule table of the name `table`, or without a name with the first one;
+/// each host may have `capacity` messages waiting, 1 to 1,024.
 ///
 /// # Errors
-/// Those of `cluster_of_file`, and `NoSuchTable`, after which nothing was written; those of `replay_script`.
+/// Those of `cluster_of_file`, and `NoSuchTable`, after which nothing was written; those of
+/// `replay_script`.
 pub fn replay<R: AllocGlobal + Files + Input + Print>(
     rt: &R,
     path: Option<&str>,
     table: Option<&str>,
     capacity: usize,
+    format: Format,
 ) -> Result<(), Fault>
     requires { (1 ≤ capacity) × (capacity ≤ 1024) }
 {
-    let cluster = cluster_of_file(rt, path)?;
-    let table = opening_table(&cluster, table)?;
+    let described = cluster_of_file(rt, path)?;
+    let table = opening_table(&described.cluster, table)?;
     let mut reader = rt.reader();
     let mut writer = io::writer(rt);
     replay_script(
         rt.alloc(),
-        cluster,
+        described,
         table,
         capacity,
+        format,
         &mut reader,
         &mut writer,
     )

@@ -1,15 +1,18 @@
-//! `linsim run`: runs slots of a cluster whose hosts put the steps of a script, with hosts and nodes in threads of their
-//! own, and writes the log.
+//! `linsim run`: runs slots of a cluster whose hosts put the steps of a script, with hosts and
+//! nodes in threads of their own, and writes the log.
 
 ghost use Rattle.std.specs.Prelude.{◌≡◌, ◌≤◌, ◌<◌, [], length, vec_len, IfOk, IfSome};
 ghost use Rattle.lin_parts.specs.Cluster.{nodes};
+ghost use Rattle.lin_tool.specs.Formats.{shown};
 ghost use Rattle.lin_tool.specs.Running.{ReadsHosts, WritesRun};
 
-use crate::describing::cluster_of_file;
+use crate::describing::{Described, cluster_of_file};
 use crate::fault::Fault;
+use crate::formats::{Format, write_shown};
 use crate::opening::opening_table;
 use lin_core::Core;
-use lin_log::{read_script, write_log};
+use lin_log::read_script;
+use lin_names::Names;
 use lin_parts::Cluster;
 use lin_threads::{
     Ended, HostStep, HostTask, Plan, RunReport, ScriptTask, run_cluster, split, wire,
@@ -33,8 +36,8 @@ const ROUNDS: u32 = 1_000_000;
 /// The steps of each host, from the script that a reader gives.
 ///
 /// # Errors
-/// `BadLine` and `ScriptTooLong`; `NotHostStep` for the first step that is no send, write or close of a host of the
-/// cluster by its own port; `ReadFailed`; `OutOfMemory`.
+/// `BadLine` and `ScriptTooLong`; `NotHostStep` for the first step that is no send, write or close
+/// of a host of the cluster by its own port; `ReadFailed`; `OutOfMemory`.
 fn host_steps<R: Read>(
     alloc: Global,
     reader: &mut R,
@@ -66,7 +69,8 @@ fn undisturbed(alloc: Global, slots: u32, nodes: usize) -> Result<Plan, AllocErr
     })
 }
 
-/// Runs the tasks, one for each host, as planned. (The core is owned here alone, since letting one go is long to prove.)
+/// Runs the tasks, one for each host, as planned. (The core is owned here alone, since letting one
+/// go is long to prove.)
 fn run_tasks<R: AllocGlobal + Threads + Wait>(
     rt: &R,
     cluster: Cluster,
@@ -108,35 +112,44 @@ fn run_steps<R: AllocGlobal + Threads + Wait>(
     run_tasks(rt, cluster, table, capacity, tasks, plan)
 }
 
-/// Writes the log of a run.
+/// Writes the log of a run in a format.
 ///
 /// # Errors
-/// `WriteFailed`, where what was written is the beginning of the log; `TaskLimit` after the whole log was written, where
-/// a task had all its turns before it was done.
-fn put_report<W: Write>(report: &RunReport, writer: &mut W) -> Result<(), Fault>
-    ensures { WritesRun (W.contents writer.old) (W.contents writer.new) result report.now.core.log report.now.ended.items }
+/// `WriteFailed`, and in a format other than the log's own text `OutOfMemory`, where what was
+/// written is the beginning of the whole; `TaskLimit` after all was written, where a task had all
+/// its turns before it was done.
+fn put_report<W: Write>(
+    alloc: Global,
+    format: Format,
+    names: &Names,
+    report: &RunReport,
+    writer: &mut W,
+) -> Result<(), Fault>
+    ensures { WritesRun format (shown format names.now report.now.core.cluster report.now.core.log)
+        report.now.ended.items (W.contents writer.old) (W.contents writer.new) result }
 {
-    if write_log(report.core.log(), writer).is_err() {
-        return Err(Fault::WriteFailed);
-    }
+    write_shown(alloc, format, names, &report.core, writer)?;
     if report.ended.contains(&Ended::Limit) {
         return Err(Fault::TaskLimit);
     }
     Ok(())
 }
 
-/// Runs the steps on standard input over a cluster. (The cluster is owned here, and the core above.)
+/// Runs the steps on standard input over a cluster. (The cluster is owned here, and the core
+/// above.)
 fn run_over<R: AllocGlobal + Input + Print + Eprint + Threads + Wait>(
     rt: &R,
-    cluster: Cluster,
+    described: Described,
     table: u16,
     capacity: usize,
     slots: u32,
+    format: Format,
     is_watched: bool,
 ) -> Result<(), Fault>
-    requires table { table < length cluster.tables }
+    requires table { table < length described.cluster.tables }
     requires capacity { (1 ≤ capacity) × (capacity ≤ 1024) }
 {
+    let Described { cluster, names } = described;
     let hosts = cluster.nodes();
     let mut reader = rt.reader();
     let lists = host_steps(rt.alloc(), &mut reader, hosts)?;
@@ -144,34 +157,37 @@ fn run_over<R: AllocGlobal + Input + Print + Eprint + Threads + Wait>(
         let _ = eprintln!(rt; "linsim: {slots} slots, {hosts} hosts");
     }
     let report = run_steps(rt, cluster, table, capacity, slots, lists)?;
-    let written = put_report(&report, &mut io::writer(rt));
+    let written = put_report(rt.alloc(), format, &names, &report, &mut io::writer(rt));
     mem::forget(report);
     written
 }
 
-/// Reads a script of hosts' steps on standard input, runs so many slots of the cluster that the LDF text in the file at
-/// `path` describes, while each host puts its steps and each node answers in a thread of its own, and writes the log on
-/// standard output.
+/// Reads a script of hosts' steps on standard input, runs so many slots of the cluster that the LDF
+/// text in the file at `path` describes, while each host puts its steps and each node answers in a
+/// thread of its own, and writes the log on standard output in a format.
 ///
-/// It begins with the schedule table of the name `table`, or without a name with the first one; each host may have
-/// `capacity` messages waiting, 1 to 1,024. Where standard error is watched, a line there says at the start how many
-/// slots and hosts run.
+/// It begins with the schedule table of the name `table`, or without a name with the first one;
+/// each host may have `capacity` messages waiting, 1 to 1,024. Where standard error is watched, a
+/// line there says at the start how many slots and hosts run.
 ///
 /// # Errors
-/// Those of `cluster_of_file`; `NoSuchTable`; `BadLine`, `ScriptTooLong` and `NotHostStep` for a fault of the script;
-/// `ReadFailed` where standard input couldn't be read; `OutOfMemory`; `NoThread`; `LogFull`. Nothing was written then.
-/// `WriteFailed`, where what was written is the beginning of the log. `TaskLimit`, after the log was written.
+/// Those of `cluster_of_file`; `NoSuchTable`; `BadLine`, `ScriptTooLong` and `NotHostStep` for a
+/// fault of the script; `ReadFailed` where standard input couldn't be read; `OutOfMemory`;
+/// `NoThread`; `LogFull`. Nothing was written then. `WriteFailed`, and in a format other than the
+/// log's own text `OutOfMemory`, where what was written is the beginning of the whole. `TaskLimit`,
+/// after all was written.
 pub fn run<R: AllocGlobal + Files + Input + Print + Eprint + Threads + Wait>(
     rt: &R,
     path: &str,
     slots: u32,
     table: Option<&str>,
     capacity: usize,
+    format: Format,
     is_watched: bool,
 ) -> Result<(), Fault>
     requires { (1 ≤ capacity) × (capacity ≤ 1024) }
 {
-    let cluster = cluster_of_file(rt, Some(path))?;
-    let table = opening_table(&cluster, table)?;
-    run_over(rt, cluster, table, capacity, slots, is_watched)
+    let described = cluster_of_file(rt, Some(path))?;
+    let table = opening_table(&described.cluster, table)?;
+    run_over(rt, described, table, capacity, slots, format, is_watched)
 }

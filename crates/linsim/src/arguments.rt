@@ -1,13 +1,14 @@
 //! The command line.
 
-use clap::{Arg, ArgMatches, Command, value_parser};
+use clap::{Arg, ArgAction, ArgMatches, Command, value_parser};
+use lin_tool::Format;
 use std::alloc::{AllocError, Global};
 
 const STATUS_NOTE: &str =
-    "Exit status: 0 done; 1 a fault of the input; 2 a wrong command line; 3 out of memory;\n4 a read or a write failed; 5 the run met a limit. A fault is one line on standard error.";
+    "Exit status: 0 done; 1 a fault of the input; 2 a wrong command line; 3 out of memory;\n4 a read or a write failed; 5 the run met a limit; 6 the log isn't that of its own steps (replay --same).\nA fault is one line on standard error.";
 
 const REPLAY_NOTE: &str =
-    "Without FILE the cluster is the built-in one: the commander cem, the responder door with the diagnostic\naddress 1, and the schedule table diag with a master request and a slave response, 10 ms each.";
+    "Without FILE the cluster is the built-in one: the commander cem, the responder door with the diagnostic\naddress 1, and the schedule table diag with a master request and a slave response, 10 ms each.\n\nExample: linsim replay door.ldf --to csv < door.script > door.csv";
 
 const RUN_NOTE: &str =
     "The script's steps are the hosts' own: sends, writes and closes, each by its host's port. They are put while the slots run,\nso where a step stands among the slots isn't fixed; the log, read by replay, is written again.";
@@ -36,6 +37,26 @@ fn capacity<'a>(alloc: Global) -> Arg<'a> {
         .help("How many messages of a host may wait, 1 to 1024")
 }
 
+/// The words for the formats.
+static FORMATS: [&str; 5] = ["log", "named", "csv", "pcap", "vcd"];
+
+fn format<'a>(alloc: Global) -> Arg<'a> {
+    Arg::new(alloc, "to")
+        .long("to")
+        .value_name("FORMAT")
+        .value_parser(FORMATS.as_slice())
+        .default_value("log")
+        .help("The format in which the log is written")
+}
+
+fn same<'a>(alloc: Global) -> Result<Arg<'a>, AllocError> {
+    Arg::new(alloc, "same")
+        .long("same")
+        .action(ArgAction::SetTrue)
+        .help("Writes nothing, and compares the script with its log")
+        .conflicts_with("to")
+}
+
 fn slots<'a>(alloc: Global) -> Arg<'a> {
     Arg::new(alloc, "slots")
         .long("slots")
@@ -53,7 +74,9 @@ fn replay<'a>(alloc: Global) -> Result<Command<'a>, AllocError> {
         .after_help(REPLAY_NOTE)
         .arg(file(alloc))?
         .arg(table(alloc))?
-        .arg(capacity(alloc))
+        .arg(capacity(alloc))?
+        .arg(format(alloc))?
+        .arg(same(alloc)?)
 }
 
 fn check<'a>(alloc: Global) -> Result<Command<'a>, AllocError> {
@@ -74,7 +97,8 @@ fn run<'a>(alloc: Global) -> Result<Command<'a>, AllocError> {
         .arg(file(alloc).required(true))?
         .arg(slots(alloc))?
         .arg(table(alloc))?
-        .arg(capacity(alloc))
+        .arg(capacity(alloc))?
+        .arg(format(alloc))
 }
 
 /// What the program takes.
@@ -96,19 +120,38 @@ pub(crate) enum Request<'a> {
     Check {
         file: &'a str,
     },
-    /// `linsim replay [FILE] [--table T] [--capacity N]`
+    /// `linsim replay [FILE] [--table T] [--capacity N] [--to FORMAT]`
     Replay {
         file: Option<&'a str>,
         table: Option<&'a str>,
         capacity: u16,
+        format: Format,
     },
-    /// `linsim run FILE --slots N [--table T] [--capacity N]`
+    /// `linsim replay [FILE] [--table T] [--capacity N] --same`
+    Compare {
+        file: Option<&'a str>,
+        table: Option<&'a str>,
+        capacity: u16,
+    },
+    /// `linsim run FILE --slots N [--table T] [--capacity N] [--to FORMAT]`
     Run {
         file: &'a str,
         slots: u32,
         table: Option<&'a str>,
         capacity: u16,
+        format: Format,
     },
+}
+
+/// The format of this word; the log's own text for any other.
+fn format_of(word: Option<&str>) -> Format {
+    match word {
+        Some("named") => Format::Named,
+        Some("csv") => Format::Csv,
+        Some("pcap") => Format::Pcap,
+        Some("vcd") => Format::Vcd,
+        _ => Format::Log,
+    }
 }
 
 fn request_of<'a>(matches: &ArgMatches<'a>) -> Option<Request<'a>> {
@@ -116,16 +159,23 @@ fn request_of<'a>(matches: &ArgMatches<'a>) -> Option<Request<'a>> {
         Some(("check", found)) => Some(Request::Check {
             file: found.get_str("file").unwrap_or(""),
         }),
+        Some(("replay", found)) if found.get_flag("same") => Some(Request::Compare {
+            file: found.get_str("file"),
+            table: found.get_str("table"),
+            capacity: found.get_one::<u16>("capacity").unwrap_or(16),
+        }),
         Some(("replay", found)) => Some(Request::Replay {
             file: found.get_str("file"),
             table: found.get_str("table"),
             capacity: found.get_one::<u16>("capacity").unwrap_or(16),
+            format: format_of(found.get_str("to")),
         }),
         Some(("run", found)) => Some(Request::Run {
             file: found.get_str("file").unwrap_or(""),
             slots: found.get_one::<u32>("slots").unwrap_or(1),
             table: found.get_str("table"),
             capacity: found.get_one::<u16>("capacity").unwrap_or(16),
+            format: format_of(found.get_str("to")),
         }),
         _ => None,
     }

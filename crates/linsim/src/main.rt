@@ -2,6 +2,8 @@
 //! `lin_tool`.
 #![tactic(auto)]
 
+ghost use Rattle.std.specs.Prelude.{◌≤◌};
+
 mod arguments;
 
 use crate::arguments::{Request, asked};
@@ -17,6 +19,13 @@ use std::thread::Threads;
 /// The exit status of a wrong command line.
 const COMMAND_LINE: u8 = 2;
 
+/// How many messages of a host may wait.
+fn within_limits(capacity: u16) -> usize
+    ensures { (1 ≤ result) × (result ≤ 1024) }
+{
+    usize::from(capacity.clamp(1, 1024))
+}
+
 /// Does what is asked for; where standard error is watched, a run says there that it begins.
 fn perform<R: AllocGlobal + Files + Input + Print + Eprint + Threads + Wait>(
     rt: &R,
@@ -29,18 +38,26 @@ fn perform<R: AllocGlobal + Files + Input + Print + Eprint + Threads + Wait>(
             file,
             table,
             capacity,
-        } => lin_tool::replay(rt, file, table, usize::from(capacity.clamp(1, 1024))),
+            format,
+        } => lin_tool::replay(rt, file, table, within_limits(capacity), format),
+        Request::Compare {
+            file,
+            table,
+            capacity,
+        } => lin_tool::compare(rt, file, table, within_limits(capacity)),
         Request::Run {
             file,
             slots,
             table,
             capacity,
+            format,
         } => lin_tool::run(
             rt,
             file,
             slots,
             table,
-            usize::from(capacity.clamp(1, 1024)),
+            within_limits(capacity),
+            format,
             is_watched,
         ),
     }

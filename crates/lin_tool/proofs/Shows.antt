@@ -1,0 +1,56 @@
+-- What was written of a log in a format.
+use Rattle.std.proofs.Common.{◌≡◌, inr, ℕ, List, Option, Some, None, IfSome, Result, Ok, Err, subst}
+use Rattle.std.specs.Io.KnownBytes.{Appends}
+use Rattle.lin_text.specs.Written.{WritesText}
+use Rattle.lin_parts.specs.declared.parts.Parts.{Parts}
+use Rattle.lin_core.specs.declared.log.LogEntry.{LogEntry}
+use Rattle.lin_core.specs.declared.port.PortId.{PortId}
+use Rattle.lin_core.specs.declared.step.Step.{Step}
+use Rattle.lin_log.specs.Replay.{IsScriptOf, log_of}
+use Rattle.lin_names.specs.Names.{NamesData}
+use Rattle.lin_export.specs.Vcd.{vcd}
+use Rattle.lin_export.specs.declared.fault.ExportFault.{ExportFault}
+use Rattle.lin_export.specs.declared.fault.ExportFault.TheVariants as export
+use Rattle.lin_tool.specs.Formats.{Begins, Shows, export_fault, shown}
+use Rattle.lin_tool.specs.Replaying.{IsLogOf, Replays, Stops}
+use Rattle.lin_tool.specs.declared.describing.Described.{Described}
+use Rattle.lin_tool.specs.declared.formats.Format.{Format}
+use Rattle.lin_tool.specs.declared.formats.Format.TheVariants.{Log, Vcd}
+
+pub shows : (E : Type 0) (old new : Option (List ℕ)) (whole : Option (List ℕ))
+    → IfSome whole (WritesText {E = E} old new (Ok tt)) → Shows old new whole
+shows E old new None h = tt
+shows E old new (Some bytes) h =
+    let P : List ℕ → Type 0 = λ b. Appends old new b in subst P h.all h.written
+
+pub begins : {E : Type 0} (old new : Option (List ℕ)) (whole : Option (List ℕ)) (fault : E)
+    → IfSome whole (WritesText old new (Err fault)) → Begins old new whole
+begins old new None fault h = tt
+begins old new (Some bytes) fault h = (h.part, h.rest, h.whole, h.written)
+
+-- a dump of a log over the same cluster
+pub shows-dump : {E : Type 0} (old new : Option (List ℕ)) (result : Result Unit E) (names : NamesData)
+    (a b : Parts) (xs ys : List LogEntry) → a ≡ b → xs ≡ ys
+    → WritesText old new result (vcd a xs) → IfSome (shown Vcd names b ys) (WritesText old new result)
+shows-dump old new result names a b xs ys cluster log h =
+    let P : List LogEntry → Type 0 = λ l. WritesText old new result (vcd a l) in
+    let Q : Parts → Type 0 = λ c. WritesText old new result (vcd c ys) in
+    subst Q cluster (subst P log h)
+
+-- the log of a script whose bytes were read
+pub log-of : (c : Parts) (opening capacity : ℕ) (told : Option (List ℕ)) (bytes : List ℕ)
+    (log : List LogEntry) → IfSome told (λ b. bytes ≡ b) → (said : List (PortId × Step))
+    → IsScriptOf bytes said → log ≡ log_of c opening capacity said
+    → IsLogOf c opening capacity told log
+log-of c opening capacity None bytes log is said script made = (said, tt, made)
+log-of c opening capacity (Some b) bytes log is said script made =
+    let P : List ℕ → Type 0 = λ x. IsScriptOf x said in (said, subst P is script, made)
+
+-- writing stopped early
+pub stopped : (format : Format) (d : Described) (opening capacity : ℕ)
+    (told old new : Option (List ℕ)) (fault : ExportFault)
+    → (format ≡ Log → fault ≡ export.WriteFailed) → Stops format d opening capacity told old new
+    → Replays format d opening capacity (Err (export_fault fault)) told old new
+stopped format d opening capacity told old new export.OutOfMemory memory stops =
+    inr ((λ is. let bad : export.OutOfMemory ≡ export.WriteFailed = memory is in cc), stops)
+stopped format d opening capacity told old new export.WriteFailed memory stops = stops

@@ -1,0 +1,38 @@
+-- What is written of a log in each format.
+use Rattle.std.specs.Prelude.{◌≡◌, ℕ, List, ◌++◌, Option, Some, IfSome}
+use Rattle.std.specs.Io.KnownBytes.{Appends}
+use Rattle.lin_parts.specs.declared.parts.Parts.{Parts}
+use Rattle.lin_core.specs.declared.log.LogEntry.{LogEntry}
+use Rattle.lin_log.specs.Words.{text}
+use Rattle.lin_names.specs.Names.{NamesData}
+use Rattle.lin_export.specs.Csv.{csv}
+use Rattle.lin_export.specs.Named.{named}
+use Rattle.lin_export.specs.Pcap.{pcap}
+use Rattle.lin_export.specs.Vcd.{vcd}
+use Rattle.lin_export.specs.declared.fault.ExportFault.{ExportFault}
+use Rattle.lin_export.specs.declared.fault.ExportFault.TheVariants as export
+use Rattle.lin_tool.specs.declared.fault.Fault.{Fault}
+use Rattle.lin_tool.specs.declared.fault.Fault.TheVariants.{OutOfMemory, WriteFailed}
+use Rattle.lin_tool.specs.declared.formats.Format.{Format}
+use Rattle.lin_tool.specs.declared.formats.Format.TheVariants.{Log, Named, Csv, Pcap, Vcd}
+
+-- a log in a format that has a definition
+abbrev pub shown : Format → NamesData → Parts → List LogEntry → Option (List ℕ)
+shown Log names c log = Some (text log)
+shown Named names c log = Some (named c names log)
+shown Csv names c log = Some (csv c names log)
+shown Pcap names c log = Some (pcap c log)
+shown Vcd names c log = Some (vcd c log)
+
+-- a text was written whole, or a beginning of it
+abbrev pub Shows : Option (List ℕ) → Option (List ℕ) → Option (List ℕ) → Type 0
+Shows old new whole = IfSome whole (Appends old new)
+
+abbrev pub Begins : Option (List ℕ) → Option (List ℕ) → Option (List ℕ) → Type 0
+Begins old new whole =
+    IfSome whole (λ bytes. (part rest : List ℕ) × (bytes ≡ part ++ rest) × Appends old new part)
+
+-- the program's fault for one of an export
+abbrev pub export_fault : ExportFault → Fault
+export_fault export.OutOfMemory = OutOfMemory
+export_fault export.WriteFailed = WriteFailed

@@ -1,0 +1,60 @@
+//! The formats in which the log of a run is written.
+
+ghost use Rattle.std.specs.Prelude.{◌≡◌, IfErr, IfSome};
+ghost use Rattle.lin_export.specs.declared.fault.ExportFault.TheVariants.{WriteFailed};
+ghost use Rattle.lin_text.specs.Written.{WritesText};
+ghost use Rattle.lin_tool.specs.Formats.{shown};
+ghost use Rattle.lin_tool.specs.declared.formats.Format.TheVariants.{Log};
+
+use lin_core::Core;
+use lin_export::{ExportFault, write_csv, write_named, write_pcap, write_vcd};
+use lin_log::write_log;
+use lin_names::Names;
+use std::alloc::Global;
+use std::io::Write;
+
+/// A format in which a log is written.
+#[derive(Clone, Copy, Debug, Drop, PartialEq)]
+pub enum Format {
+    /// The log's own text, which is a script of the same steps.
+    Log,
+    /// The log with names.
+    Named,
+    /// A table of the slots (RFC 4180).
+    Csv,
+    /// A capture of the frames (pcap, LINKTYPE_LIN).
+    Pcap,
+    /// A dump of changes over time (IEEE 1364-2005, section 18).
+    Vcd,
+}
+
+/// Writes the log of a core in a format. A log's own text takes no memory, and the others take
+/// little.
+///
+/// # Errors
+/// `OutOfMemory`, which a log's own text hasn't, and `WriteFailed`. What was written then is the
+/// beginning of the whole.
+pub fn write_shown<W: Write>(
+    alloc: Global,
+    format: Format,
+    names: &Names,
+    core: &Core,
+    writer: &mut W,
+) -> Result<(), ExportFault>
+    ensures text { IfSome (shown format names.now core.now.cluster core.now.log)
+        (WritesText (W.contents writer.old) (W.contents writer.new) result) }
+    ensures memory { format ≡ Log → IfErr result (λ fault. fault ≡ WriteFailed) }
+{
+    let cluster = core.cluster();
+    let log = core.log();
+    match format {
+        Format::Log => match write_log(log, writer) {
+            Ok(()) => Ok(()),
+            Err(_) => Err(ExportFault::WriteFailed),
+        },
+        Format::Named => write_named(alloc, cluster, names, log, writer),
+        Format::Csv => write_csv(alloc, cluster, names, log, writer),
+        Format::Pcap => write_pcap(alloc, cluster, log, writer),
+        Format::Vcd => write_vcd(alloc, cluster, log, writer),
+    }
+}
