@@ -85,77 +85,78 @@ refusal_field f =
     if is_number f then number_field 18 f >>= (λ n. or_bad (refusal_numbered n) TooSmall)
     else or_bad (refusal_named f) (NoRefusal f)
 
--- the forms of the expectations: the fields after the word. A wrong number of fields is no form
-abbrev pub signal_form : Parts → Reason → List (List ℕ) → Result Expected Reason
-signal_form c none (n ∷ s ∷ v ∷ []) = do
+-- the forms of the expectations: all fields after `expect`, which are shown where there is no form of them, and those
+-- after the first word. A wrong number of fields is no form
+abbrev pub signal_form : Parts → List (List ℕ) → List (List ℕ) → Result Expected Reason
+signal_form c all (n ∷ s ∷ v ∷ []) = do
   node ← node_field c n
   signal ← signal_field c s
   value ← value_field v
   Ok (expected.Signal node signal value)
-signal_form c none fs = Err none
+signal_form c all fs = Err (UnknownExpectation all)
 
-abbrev pub waiting_form : Parts → Reason → List (List ℕ) → Result Expected Reason
-waiting_form c none (n ∷ k ∷ []) = do
+abbrev pub waiting_form : Parts → List (List ℕ) → List (List ℕ) → Result Expected Reason
+waiting_form c all (n ∷ k ∷ []) = do
   host ← node_field c n
   count ← number_field 1024 k
   Ok (expected.Waiting host count)
-waiting_form c none fs = Err none
+waiting_form c all fs = Err (UnknownExpectation all)
 
-abbrev pub message_form : Parts → Reason → List (List ℕ) → Result Expected Reason
-message_form c none (from ∷ to ∷ f ∷ fs) = do
+abbrev pub message_form : Parts → List (List ℕ) → List (List ℕ) → Result Expected Reason
+message_form c all (from ∷ to ∷ f ∷ fs) = do
   sender ← node_field c from
   receiver ← node_field c to
   bytes ← bytes_fields (f ∷ fs)
   Ok (expected.Message sender receiver bytes)
-message_form c none fs = Err none
+message_form c all fs = Err (UnknownExpectation all)
 
-abbrev pub sent_form : Parts → Reason → List (List ℕ) → Result Expected Reason
-sent_form c none (n ∷ []) = node_field c n >>= (λ host. Ok (expected.Sent host))
-sent_form c none fs = Err none
+abbrev pub sent_form : Parts → List (List ℕ) → List (List ℕ) → Result Expected Reason
+sent_form c all (n ∷ []) = node_field c n >>= (λ host. Ok (expected.Sent host))
+sent_form c all fs = Err (UnknownExpectation all)
 
-abbrev pub lost_form : Parts → Reason → List (List ℕ) → Result Expected Reason
-lost_form c none (n ∷ why ∷ []) = do
+abbrev pub lost_form : Parts → List (List ℕ) → List (List ℕ) → Result Expected Reason
+lost_form c all (n ∷ why ∷ []) = do
   host ← node_field c n
-  how ← or_bad (cause_named why) none
+  how ← or_bad (cause_named why) (UnknownExpectation all)
   Ok (expected.Lost host how)
-lost_form c none fs = Err none
+lost_form c all fs = Err (UnknownExpectation all)
 
-abbrev pub seen_form : Reason → List (List ℕ) → Result Expected Reason
-seen_form none (word ∷ []) = or_bad (look_named word) none >>= (λ how. Ok (expected.Seen how))
-seen_form none fs = Err none
+abbrev pub seen_form : List (List ℕ) → List (List ℕ) → Result Expected Reason
+seen_form all (word ∷ []) = or_bad (look_named word) (UnknownExpectation all) >>= (λ how. Ok (expected.Seen how))
+seen_form all fs = Err (UnknownExpectation all)
 
-abbrev pub slot_form : Parts → Reason → List (List ℕ) → Result Expected Reason
-slot_form c none (t ∷ e ∷ []) = do
+abbrev pub slot_form : Parts → List (List ℕ) → List (List ℕ) → Result Expected Reason
+slot_form c all (t ∷ e ∷ []) = do
   table ← table_field c t
   entry ← number_field 1023 e
   Ok (expected.Slot table entry)
-slot_form c none fs = Err none
+slot_form c all fs = Err (UnknownExpectation all)
 
-abbrev pub refused_form : Reason → List (List ℕ) → Result Expected Reason
-refused_form none (f ∷ []) = refusal_field f >>= (λ why. Ok (expected.Refused why))
-refused_form none fs = Err none
+abbrev pub refused_form : List (List ℕ) → List (List ℕ) → Result Expected Reason
+refused_form all (f ∷ []) = refusal_field f >>= (λ why. Ok (expected.Refused why))
+refused_form all fs = Err (UnknownExpectation all)
 
-abbrev pub lone_form : Reason → Expected → List (List ℕ) → Result Expected Reason
-lone_form none what [] = Ok what
-lone_form none what (f ∷ fs) = Err none
+abbrev pub lone_form : List (List ℕ) → Expected → List (List ℕ) → Result Expected Reason
+lone_form all what [] = Ok what
+lone_form all what (f ∷ fs) = Err (UnknownExpectation all)
 
 -- the expectation that a word names, with the fields after it
-abbrev pub word_expectation : Parts → Reason → List ℕ → List (List ℕ) → Result Expected Reason
-word_expectation c none word fs =
-    if bytes_eq word (codes "signal") then signal_form c none fs
-    else if bytes_eq word (codes "waiting") then waiting_form c none fs
-    else if bytes_eq word (codes "message") then message_form c none fs
-    else if bytes_eq word (codes "sent") then sent_form c none fs
-    else if bytes_eq word (codes "lost") then lost_form c none fs
-    else if bytes_eq word (codes "seen") then seen_form none fs
-    else if bytes_eq word (codes "slot") then slot_form c none fs
-    else if bytes_eq word (codes "done") then lone_form none expected.Done fs
-    else if bytes_eq word (codes "refused") then refused_form none fs
-    else if bytes_eq word (codes "asleep") then lone_form none expected.Asleep fs
-    else if bytes_eq word (codes "awake") then lone_form none expected.Awake fs
-    else Err none
+abbrev pub word_expectation : Parts → List (List ℕ) → List ℕ → List (List ℕ) → Result Expected Reason
+word_expectation c all word fs =
+    if bytes_eq word (codes "signal") then signal_form c all fs
+    else if bytes_eq word (codes "waiting") then waiting_form c all fs
+    else if bytes_eq word (codes "message") then message_form c all fs
+    else if bytes_eq word (codes "sent") then sent_form c all fs
+    else if bytes_eq word (codes "lost") then lost_form c all fs
+    else if bytes_eq word (codes "seen") then seen_form all fs
+    else if bytes_eq word (codes "slot") then slot_form c all fs
+    else if bytes_eq word (codes "done") then lone_form all expected.Done fs
+    else if bytes_eq word (codes "refused") then refused_form all fs
+    else if bytes_eq word (codes "asleep") then lone_form all expected.Asleep fs
+    else if bytes_eq word (codes "awake") then lone_form all expected.Awake fs
+    else Err (UnknownExpectation all)
 
 -- what is expected, by the fields after `expect`
 unfoldable pub expectation : Parts → List (List ℕ) → Result Expected Reason
 expectation c [] = Err ExpectForm
-expectation c (word ∷ fs) = word_expectation c (UnknownExpectation (word ∷ fs)) word fs
+expectation c (word ∷ fs) = word_expectation c (word ∷ fs) word fs

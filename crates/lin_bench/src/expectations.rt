@@ -151,7 +151,7 @@ fn signal(
     all: &[&[u8]],
     fields: &[&[u8]],
 ) -> Result<Expected, LineFault>
-    ensures { Gives (λ e. e) result (signal_form cluster.now (Reason.UnknownExpectation (words all.now)) (words fields.now)) }
+    ensures { Gives (λ e. e) result (signal_form cluster.now (words all.now) (words fields.now)) }
 {
     match fields {
         [node, signal, value] => Ok(Expected::Signal {
@@ -169,7 +169,7 @@ fn waiting(
     all: &[&[u8]],
     fields: &[&[u8]],
 ) -> Result<Expected, LineFault>
-    ensures { Gives (λ e. e) result (waiting_form cluster.now (Reason.UnknownExpectation (words all.now)) (words fields.now)) }
+    ensures { Gives (λ e. e) result (waiting_form cluster.now (words all.now) (words fields.now)) }
 {
     match fields {
         [host, count] => Ok(Expected::Waiting {
@@ -186,7 +186,7 @@ fn message(
     all: &[&[u8]],
     fields: &[&[u8]],
 ) -> Result<Expected, LineFault>
-    ensures { Gives (λ e. e) result (message_form cluster.now (Reason.UnknownExpectation (words all.now)) (words fields.now)) }
+    ensures { Gives (λ e. e) result (message_form cluster.now (words all.now) (words fields.now)) }
 {
     match fields {
         [from, to, bytes @ ..] if !bytes.is_empty() => Ok(Expected::Message {
@@ -204,7 +204,7 @@ fn sent(
     all: &[&[u8]],
     fields: &[&[u8]],
 ) -> Result<Expected, LineFault>
-    ensures { Gives (λ e. e) result (sent_form cluster.now (Reason.UnknownExpectation (words all.now)) (words fields.now)) }
+    ensures { Gives (λ e. e) result (sent_form cluster.now (words all.now) (words fields.now)) }
 {
     match fields {
         [host] => Ok(Expected::Sent {
@@ -220,7 +220,7 @@ fn lost(
     all: &[&[u8]],
     fields: &[&[u8]],
 ) -> Result<Expected, LineFault>
-    ensures { Gives (λ e. e) result (lost_form cluster.now (Reason.UnknownExpectation (words all.now)) (words fields.now)) }
+    ensures { Gives (λ e. e) result (lost_form cluster.now (words all.now) (words fields.now)) }
 {
     let [host, why] = fields else {
         return Err(no_form(alloc, all)?);
@@ -233,7 +233,7 @@ fn lost(
 }
 
 fn seen(alloc: Global, all: &[&[u8]], fields: &[&[u8]]) -> Result<Expected, LineFault>
-    ensures { Gives (λ e. e) result (seen_form (Reason.UnknownExpectation (words all.now)) (words fields.now)) }
+    ensures { Gives (λ e. e) result (seen_form (words all.now) (words fields.now)) }
 {
     let [word] = fields else {
         return Err(no_form(alloc, all)?);
@@ -250,7 +250,7 @@ fn slot(
     all: &[&[u8]],
     fields: &[&[u8]],
 ) -> Result<Expected, LineFault>
-    ensures { Gives (λ e. e) result (slot_form cluster.now (Reason.UnknownExpectation (words all.now)) (words fields.now)) }
+    ensures { Gives (λ e. e) result (slot_form cluster.now (words all.now) (words fields.now)) }
 {
     match fields {
         [table, entry] => Ok(Expected::Slot {
@@ -262,7 +262,7 @@ fn slot(
 }
 
 fn refused(alloc: Global, all: &[&[u8]], fields: &[&[u8]]) -> Result<Expected, LineFault>
-    ensures { Gives (λ e. e) result (refused_form (Reason.UnknownExpectation (words all.now)) (words fields.now)) }
+    ensures { Gives (λ e. e) result (refused_form (words all.now) (words fields.now)) }
 {
     match fields {
         [why] => Ok(Expected::Refused(refusal_field(alloc, why)?)),
@@ -277,7 +277,7 @@ fn lone(
     all: &[&[u8]],
     fields: &[&[u8]],
 ) -> Result<Expected, LineFault>
-    ensures { Gives (λ e. e) result (lone_form (Reason.UnknownExpectation (words all.now)) what (words fields.now)) }
+    ensures { Gives (λ e. e) result (lone_form (words all.now) what (words fields.now)) }
 {
     match fields {
         [] => Ok(what),
@@ -293,7 +293,7 @@ fn of_word(
     word: &[u8],
     fields: &[&[u8]],
 ) -> Result<Expected, LineFault>
-    ensures { Gives (λ e. e) result (word_expectation cluster.now (Reason.UnknownExpectation (words all.now)) word.now (words fields.now)) }
+    ensures { Gives (λ e. e) result (word_expectation cluster.now (words all.now) word.now (words fields.now)) }
 {
     if word == b"signal".as_slice() {
         signal(alloc, cluster, all, fields)
