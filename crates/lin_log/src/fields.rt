@@ -19,7 +19,7 @@ pub(crate) enum LineFault {
 }
 
 /// The number that 1 to 10 digits spell, if it is at most a limit.
-fn number(word: &[u8], most: u32) -> Option<u32>
+pub fn number(word: &[u8], most: u32) -> Option<u32>
     ensures { result ≡ number most word.now }
 {
     if word.is_empty() || word.len() > 10 {

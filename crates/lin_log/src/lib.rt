@@ -17,7 +17,8 @@ mod words;
 
 pub use entries::write_log;
 pub use fault::{ReplayFault, ScriptFault};
+pub use fields::number;
 pub use lin_text::WriteFailed;
 pub use replaying::{replay, run_script};
-pub use script::{read_bytes, read_script};
+pub use script::{first_line, read_bytes, read_script, without_return};
 pub use steps::steps_of;

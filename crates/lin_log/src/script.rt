@@ -18,7 +18,8 @@ use std::io::Read;
 /// The most bytes that a script may have.
 const LIMIT: usize = 16_777_216;
 
-fn without_return(line: &[u8]) -> &[u8]
+/// A line without the CR at its end, if one stands there.
+pub fn without_return(line: &[u8]) -> &[u8]
     ensures { result.now ≡ strip_carriage_return line.now }
 {
     if !line.is_empty() && line[line.len() - 1] == b'\r' {
@@ -41,8 +42,8 @@ fn line_length(text: &[u8]) -> usize
     n
 }
 
-/// The first line, and the text after its end, if it has one.
-fn first_line(text: &[u8]) -> (&[u8], Option<&[u8]>)
+/// The first line, without its LF, and the text after that, where there is one.
+pub fn first_line(text: &[u8]) -> (&[u8], Option<&[u8]>)
     ensures lines { slice_split (λ b. b == 10) text.now ≡ result.0.now ∷ lines_left result.1 }
     ensures shorter { left_of result.1 ≤ length text.now }
 {

@@ -1,0 +1,15 @@
+use Rattle.std.proofs.Common.{◌≡◌, ◌+◌, ◌≤◌}
+use Rattle.lin_log.specs.Judged.{left_of}
+use Rattle.lin_bench.specs.Read.{said}
+use Rattle.lin_bench.proofs.script.LinesLeft.next_line.Given as goal
+
+abbrev pub invariant-loop-self : goal.invariant-loop-self
+invariant-loop-self l = record {
+  same : said l.cluster l.self ≡ said l.cluster l.fn.self;
+  bound : l.self.number + left_of l.self.left ≤ l.fn.self.number + left_of l.fn.self.left;
+  later : l.fn.self.number ≤ l.self.number;
+  few : l.fn.self.number + left_of l.fn.self.left ≤ 16777218;
+}
+
+abbrev pub decreases-loop-self : goal.decreases-loop-self
+decreases-loop-self l = left_of l.self.left

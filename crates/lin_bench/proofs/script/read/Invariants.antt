@@ -1,0 +1,16 @@
+use Rattle.std.proofs.Common.{◌≡◌, ◌+◌, ◌≤◌, length}
+use Rattle.lin_log.specs.Judged.{left_of}
+use Rattle.lin_bench.specs.Lines.{read}
+use Rattle.lin_bench.specs.Read.{said}
+use Rattle.lin_bench.proofs.Appending.{appended}
+use Rattle.lin_bench.proofs.script.read.Given as goal
+
+abbrev pub invariant-loop-lines : goal.invariant-loop-lines
+invariant-loop-lines l = record {
+  same : appended l.lines.items (said l.cluster l.left) ≡ read l.cluster l.text;
+  few : l.left.number + left_of l.left.left ≤ length l.text + 2;
+  most : length l.text ≤ 16777216;
+}
+
+abbrev pub decreases-loop-lines : goal.decreases-loop-lines
+decreases-loop-lines l = left_of l.left.left

@@ -1,0 +1,100 @@
+-- What the lines of a bench script say: steps, slots to be made, and expectations.
+use Rattle.std.specs.Prelude.{ℕ, ◌+◌, ◌==◌, ◌||◌, ◌&&◌, Bool, if◌then◌else◌, List, [], ◌∷◌, drop, slice_index, Option, Some, None, Result, Ok, Err, codes}
+use Rattle.std.specs.List.{slice_split}
+use Rattle.std.specs.Str.{bytes_eq}
+use Rattle.std.specs.Str.Lines.{strip_carriage_return}
+use Rattle.lin_parts.specs.declared.parts.Parts.{Parts}
+use Rattle.lin_core.specs.declared.port.PortId.TheVariants.{Bus}
+use Rattle.lin_bench.specs.Fields.{◌>>=◌, or_bad, fields, number_field}
+use Rattle.lin_bench.specs.Names.{node_field}
+use Rattle.lin_bench.specs.Values.{bytes_fields}
+use Rattle.lin_bench.specs.Steps.{is_port, port, step_form, step_after}
+use Rattle.lin_bench.specs.Expectations.{expectation}
+use Rattle.lin_bench.specs.declared.reason.Reason.{Reason}
+use Rattle.lin_bench.specs.declared.reason.Reason.TheVariants.{TooSmall, SlotsForm, SlotForm, LeaveForm}
+use Rattle.lin_bench.specs.declared.line.Disturbance.{Disturbance}
+use Rattle.lin_bench.specs.declared.line.Disturbance.TheVariants as slot
+use Rattle.lin_bench.specs.declared.line.Extent.{Extent}
+use Rattle.lin_bench.specs.declared.line.Extent.TheVariants as slots
+use Rattle.lin_bench.specs.declared.line.Line.{Line}
+use Rattle.lin_bench.specs.declared.line.Line.TheVariants as line
+
+-- 1 to 1,000,000
+abbrev pub count_field : List ℕ → Result ℕ Reason
+count_field f = number_field 1000000 f >>= (λ n. if n == 0 then Err TooSmall else Ok n)
+
+-- how many slots, for how many milliseconds of the schedule's time, or until no message waits, at most 10,000 where no number says how many
+unfoldable pub slots_form : List (List ℕ) → Result Extent Reason
+slots_form (f ∷ []) = if bytes_eq f (codes "idle") then Ok (slots.Idle 10000) else count_field f >>= (λ n. Ok (slots.Count n))
+slots_form (f ∷ g ∷ []) =
+    if bytes_eq f (codes "idle") then count_field g >>= (λ n. Ok (slots.Idle n))
+    else if bytes_eq g (codes "ms") then count_field f >>= (λ n. Ok (slots.Milliseconds n))
+    else Err SlotsForm
+slots_form fs = Err SlotsForm
+
+abbrev pub node_fields : Parts → List (List ℕ) → Result (List ℕ) Reason
+node_fields c [] = Ok []
+node_fields c (f ∷ fs) = do
+  node ← node_field c f
+  nodes ← node_fields c fs
+  Ok (node ∷ nodes)
+
+abbrev pub leave_form : Parts → List (List ℕ) → Result Disturbance Reason
+leave_form c [] = Err LeaveForm
+leave_form c (f ∷ fs) = node_fields c (f ∷ fs) >>= (λ nodes. Ok (slot.Leave nodes))
+
+-- how the slot of `slot` is disturbed
+unfoldable pub slot_form : Parts → List (List ℕ) → Result Disturbance Reason
+slot_form c [] = Ok slot.Undisturbed
+slot_form c (word ∷ fs) =
+    if bytes_eq word (codes "hurt") then bytes_fields fs >>= (λ bytes. Ok (slot.Hurt bytes))
+    else if bytes_eq word (codes "leave") then leave_form c fs
+    else Err (SlotForm word)
+
+-- what a line says, by its first field and those after it. Where no port stands before a step, the bus gives it
+unfoldable pub line_form : Parts → List ℕ → List (List ℕ) → Result Line Reason
+line_form c word fs =
+    if is_port word
+    then (do
+      by ← port c word
+      step ← step_after c fs
+      Ok (line.Step by step))
+    else if bytes_eq word (codes "slots") then slots_form fs >>= (λ extent. Ok (line.Slots extent))
+    else if bytes_eq word (codes "slot") then slot_form c fs >>= (λ how. Ok (line.Slot how))
+    else if bytes_eq word (codes "expect") then expectation c fs >>= (λ what. Ok (line.Expect what))
+    else step_form c word fs >>= (λ step. Ok (line.Step Bus step))
+
+abbrev pub of_fields : Parts → List (List ℕ) → Result (Option Line) Reason
+of_fields c [] = Ok None
+of_fields c (word ∷ fs) = line_form c word fs >>= (λ l. Ok (Some l))
+
+-- what a line says, nothing where it has no field or begins with `>`, as the replies of a log do
+unfoldable pub read_line : Parts → List ℕ → Result (Option Line) Reason
+read_line c l = if slice_index l 0 == 62 then Ok None else of_fields c (fields l)
+
+-- the lines that say something, with their numbers, or the first that is bad
+abbrev pub Script : Type 0
+Script = Result (List (ℕ × Line)) (ℕ × Reason)
+
+abbrev pub with_line : ℕ × Line → Script → Script
+with_line l (Ok ls) = Ok (l ∷ ls)
+with_line l (Err bad) = Err bad
+
+abbrev pub with_said : ℕ → Result (Option Line) Reason → Script → Script
+with_said n (Err why) more = Err (n, why)
+with_said n (Ok None) more = more
+with_said n (Ok (Some l)) more = with_line (n, l) more
+
+-- what lines from number n on say; one CR before a line's end is dropped
+abbrev pub read_lines : Parts → ℕ → List (List ℕ) → Script
+read_lines c n [] = Ok []
+read_lines c n (l ∷ ls) = with_said n (read_line c (strip_carriage_return l)) (read_lines c (n + 1) ls)
+
+-- a text without the mark EF BB BF at its start
+abbrev pub without_mark : List ℕ → List ℕ
+without_mark text =
+    if slice_index text 0 == 0xEF && slice_index text 1 == 0xBB && slice_index text 2 == 0xBF then drop 3 text else text
+
+-- what a bench script says, or its first bad line, counted from 1 over all lines
+unfoldable pub read : Parts → List ℕ → Script
+read c text = read_lines c 1 (slice_split (λ b. b == 10) (without_mark text))

@@ -1,0 +1,39 @@
+-- What reading a part of a line answers, beside what the definition reads.
+use Rattle.std.specs.Prelude.{◌≡◌, ℕ, List, [], Option, Some, None, Result, Ok, Err}
+use Rattle.lin_bench.specs.declared.fault.LineFault.{LineFault}
+use Rattle.lin_bench.specs.declared.fault.LineFault.TheVariants.{Bad, OutOfMemory}
+use Rattle.lin_bench.specs.declared.fault.ReadFault.{ReadFault}
+use Rattle.lin_bench.specs.declared.fault.ReadFault.TheVariants.{BadLine, OutOfMemory as NoMemory}
+use Rattle.lin_bench.specs.declared.line.Line.{Line}
+use Rattle.lin_bench.specs.declared.reason.Reason.{Reason}
+use Rattle.lin_bench.specs.declared.script.LinesLeft.{LinesLeft}
+use Rattle.lin_bench.specs.Lines.{Script, read_lines, with_line}
+use Rattle.lin_log.specs.Judged.{lines_left}
+use Rattle.lin_parts.specs.declared.parts.Parts.{Parts}
+
+abbrev pub Fails : {Y : Type 0} → LineFault → Result Y Reason → Type 0
+Fails (Bad why) read = read ≡ Err why
+Fails OutOfMemory read = Unit {0}
+
+abbrev pub Gives : {X Y : Type 0} → (X → Y) → Result X LineFault → Result Y Reason → Type 0
+Gives view (Ok x) read = read ≡ Ok (view x)
+Gives view (Err e) read = Fails e read
+
+-- what reading a bench script answers
+abbrev pub ReadFails : ReadFault → Script → Type 0
+ReadFails (BadLine n why) said = said ≡ Err (n, why)
+ReadFails NoMemory said = Unit {0}
+
+abbrev pub Reads : {X : Type 0} → (X → List (ℕ × Line)) → Result X ReadFault → Script → Type 0
+Reads view (Ok x) said = said ≡ Ok (view x)
+Reads view (Err e) said = ReadFails e said
+
+-- what the lines that are left say
+abbrev pub said : Parts → LinesLeft → Script
+said c lines = read_lines c lines.number (lines_left lines.left)
+
+-- what asking for the next line answers: of what the lines said, and of what those after it say
+abbrev pub NextLine : Result (Option (ℕ × Line)) ReadFault → Script → Script → Type 0
+NextLine (Ok None) old new = old ≡ Ok []
+NextLine (Ok (Some l)) old new = old ≡ with_line l new
+NextLine (Err e) old new = ReadFails e old

@@ -1,0 +1,338 @@
+//! The forms of expectations.
+
+ghost use Rattle.std.specs.Prelude.{◌≡◌, IfOk};
+ghost use Rattle.lin_bench.specs.Expectations.{cause_named, expectation, look_named, lone_form, lost_form, message_form, refusal_field, refusal_named, refusal_numbered, refused_form, seen_form, sent_form, signal_form, slot_form, waiting_form, word_expectation};
+ghost use Rattle.lin_bench.specs.Fields.{words};
+ghost use Rattle.lin_bench.specs.Read.{Gives};
+ghost use Rattle.lin_bench.specs.declared.fault.LineFault.{LineFault};
+ghost use Rattle.lin_bench.specs.declared.reason.Reason.{Reason};
+
+use crate::expected::{Expected, Look};
+use crate::fault::LineFault;
+use crate::fields::{copied, is_number, number_field};
+use crate::names::{node_field, signal_field, table_field};
+use crate::reason::Reason;
+use crate::values::{bytes_fields, value_field};
+use lin_core::{Cause, Refusal};
+use lin_lists::Text;
+use lin_parts::Cluster;
+use std::alloc::{AllocError, Global};
+
+fn cause_named(word: &[u8]) -> Option<Cause>
+    ensures { result ≡ cause_named word.now }
+{
+    if word == b"damaged".as_slice() {
+        Some(Cause::Damaged)
+    } else if word == b"timedout".as_slice() {
+        Some(Cause::TimedOut)
+    } else if word == b"slept".as_slice() {
+        Some(Cause::Slept)
+    } else {
+        None
+    }
+}
+
+fn look_named(word: &[u8]) -> Option<Look>
+    ensures { result ≡ look_named word.now }
+{
+    if word == b"silent".as_slice() {
+        Some(Look::Silent)
+    } else if word == b"none".as_slice() {
+        Some(Look::NoAnswer)
+    } else if word == b"good".as_slice() {
+        Some(Look::Good)
+    } else if word == b"damaged".as_slice() {
+        Some(Look::Damaged)
+    } else if word == b"collided".as_slice() {
+        Some(Look::Collided)
+    } else {
+        None
+    }
+}
+
+/// The refusal with this number, 1 to 18.
+fn refusal_numbered(number: u32) -> Option<Refusal>
+    ensures { result ≡ refusal_numbered number }
+{
+    match number {
+        1 => Some(Refusal::NoSuchNode),
+        2 => Some(Refusal::NoSuchSignal),
+        3 => Some(Refusal::NoSuchTable),
+        4 => Some(Refusal::NotPublisher),
+        5 => Some(Refusal::BadValue),
+        6 => Some(Refusal::NoAddress),
+        7 => Some(Refusal::BadLength),
+        8 => Some(Refusal::Closed),
+        9 => Some(Refusal::QueueFull),
+        10 => Some(Refusal::Asleep),
+        11 => Some(Refusal::Awake),
+        12 => Some(Refusal::SlotOpen),
+        13 => Some(Refusal::NoSlot),
+        14 => Some(Refusal::NotYours),
+        15 => Some(Refusal::Decided),
+        16 => Some(Refusal::NothingOnWire),
+        17 => Some(Refusal::PassesCheck),
+        18 => Some(Refusal::NoTransfer),
+        _ => None,
+    }
+}
+
+fn refusal_named(word: &[u8]) -> Option<Refusal>
+    ensures { result ≡ refusal_named word.now }
+{
+    if word == b"NoSuchNode".as_slice() {
+        Some(Refusal::NoSuchNode)
+    } else if word == b"NoSuchSignal".as_slice() {
+        Some(Refusal::NoSuchSignal)
+    } else if word == b"NoSuchTable".as_slice() {
+        Some(Refusal::NoSuchTable)
+    } else if word == b"NotPublisher".as_slice() {
+        Some(Refusal::NotPublisher)
+    } else if word == b"BadValue".as_slice() {
+        Some(Refusal::BadValue)
+    } else if word == b"NoAddress".as_slice() {
+        Some(Refusal::NoAddress)
+    } else if word == b"BadLength".as_slice() {
+        Some(Refusal::BadLength)
+    } else if word == b"Closed".as_slice() {
+        Some(Refusal::Closed)
+    } else if word == b"QueueFull".as_slice() {
+        Some(Refusal::QueueFull)
+    } else if word == b"Asleep".as_slice() {
+        Some(Refusal::Asleep)
+    } else if word == b"Awake".as_slice() {
+        Some(Refusal::Awake)
+    } else if word == b"SlotOpen".as_slice() {
+        Some(Refusal::SlotOpen)
+    } else if word == b"NoSlot".as_slice() {
+        Some(Refusal::NoSlot)
+    } else if word == b"NotYours".as_slice() {
+        Some(Refusal::NotYours)
+    } else if word == b"Decided".as_slice() {
+        Some(Refusal::Decided)
+    } else if word == b"NothingOnWire".as_slice() {
+        Some(Refusal::NothingOnWire)
+    } else if word == b"PassesCheck".as_slice() {
+        Some(Refusal::PassesCheck)
+    } else if word == b"NoTransfer".as_slice() {
+        Some(Refusal::NoTransfer)
+    } else {
+        None
+    }
+}
+
+/// A refusal, by its number or its name.
+#[tactic(auto, unfolding(crate::specs::Expectations::refusal_field))]
+fn refusal_field(alloc: Global, field: &[u8]) -> Result<Refusal, LineFault>
+    ensures { Gives (λ r. r) result (refusal_field field.now) }
+{
+    if is_number(field) {
+        return match refusal_numbered(number_field(alloc, field, 18)?) {
+            Some(refusal) => Ok(refusal),
+            None => Err(LineFault::Bad(Reason::TooSmall)),
+        };
+    }
+    match refusal_named(field) {
+        Some(refusal) => Ok(refusal),
+        None => Err(LineFault::Bad(Reason::NoRefusal(Text::copied(alloc, field)?))),
+    }
+}
+
+/// There is no form of these fields after `expect`.
+fn no_form(alloc: Global, all: &[&[u8]]) -> Result<LineFault, AllocError>
+    ensures { IfOk result (λ fault. fault ≡ LineFault.Bad (Reason.UnknownExpectation (words all.now))) }
+{
+    Ok(LineFault::Bad(Reason::UnknownExpectation(copied(alloc, all)?)))
+}
+
+fn signal(
+    alloc: Global,
+    cluster: &Cluster,
+    all: &[&[u8]],
+    fields: &[&[u8]],
+) -> Result<Expected, LineFault>
+    ensures { Gives (λ e. e) result (signal_form cluster.now (words all.now) (words fields.now)) }
+{
+    match fields {
+        [node, signal, value] => Ok(Expected::Signal {
+            node: node_field(alloc, cluster, node)?,
+            signal: signal_field(alloc, cluster, signal)?,
+            value: value_field(alloc, value)?,
+        }),
+        _ => Err(no_form(alloc, all)?),
+    }
+}
+
+fn waiting(
+    alloc: Global,
+    cluster: &Cluster,
+    all: &[&[u8]],
+    fields: &[&[u8]],
+) -> Result<Expected, LineFault>
+    ensures { Gives (λ e. e) result (waiting_form cluster.now (words all.now) (words fields.now)) }
+{
+    match fields {
+        [host, count] => Ok(Expected::Waiting {
+            host: node_field(alloc, cluster, host)?,
+            count: number_field(alloc, count, 1024)? as u16,
+        }),
+        _ => Err(no_form(alloc, all)?),
+    }
+}
+
+fn message(
+    alloc: Global,
+    cluster: &Cluster,
+    all: &[&[u8]],
+    fields: &[&[u8]],
+) -> Result<Expected, LineFault>
+    ensures { Gives (λ e. e) result (message_form cluster.now (words all.now) (words fields.now)) }
+{
+    match fields {
+        [from, to, bytes @ ..] if !bytes.is_empty() => Ok(Expected::Message {
+            from: node_field(alloc, cluster, from)?,
+            to: node_field(alloc, cluster, to)?,
+            bytes: bytes_fields(alloc, bytes)?,
+        }),
+        _ => Err(no_form(alloc, all)?),
+    }
+}
+
+fn sent(
+    alloc: Global,
+    cluster: &Cluster,
+    all: &[&[u8]],
+    fields: &[&[u8]],
+) -> Result<Expected, LineFault>
+    ensures { Gives (λ e. e) result (sent_form cluster.now (words all.now) (words fields.now)) }
+{
+    match fields {
+        [host] => Ok(Expected::Sent {
+            host: node_field(alloc, cluster, host)?,
+        }),
+        _ => Err(no_form(alloc, all)?),
+    }
+}
+
+fn lost(
+    alloc: Global,
+    cluster: &Cluster,
+    all: &[&[u8]],
+    fields: &[&[u8]],
+) -> Result<Expected, LineFault>
+    ensures { Gives (λ e. e) result (lost_form cluster.now (words all.now) (words fields.now)) }
+{
+    let [host, why] = fields else {
+        return Err(no_form(alloc, all)?);
+    };
+    let host = node_field(alloc, cluster, host)?;
+    match cause_named(why) {
+        Some(cause) => Ok(Expected::Lost { host, cause }),
+        None => Err(no_form(alloc, all)?),
+    }
+}
+
+fn seen(alloc: Global, all: &[&[u8]], fields: &[&[u8]]) -> Result<Expected, LineFault>
+    ensures { Gives (λ e. e) result (seen_form (words all.now) (words fields.now)) }
+{
+    let [word] = fields else {
+        return Err(no_form(alloc, all)?);
+    };
+    match look_named(word) {
+        Some(look) => Ok(Expected::Seen(look)),
+        None => Err(no_form(alloc, all)?),
+    }
+}
+
+fn slot(
+    alloc: Global,
+    cluster: &Cluster,
+    all: &[&[u8]],
+    fields: &[&[u8]],
+) -> Result<Expected, LineFault>
+    ensures { Gives (λ e. e) result (slot_form cluster.now (words all.now) (words fields.now)) }
+{
+    match fields {
+        [table, entry] => Ok(Expected::Slot {
+            table: table_field(alloc, cluster, table)?,
+            entry: number_field(alloc, entry, 1023)? as u16,
+        }),
+        _ => Err(no_form(alloc, all)?),
+    }
+}
+
+fn refused(alloc: Global, all: &[&[u8]], fields: &[&[u8]]) -> Result<Expected, LineFault>
+    ensures { Gives (λ e. e) result (refused_form (words all.now) (words fields.now)) }
+{
+    match fields {
+        [why] => Ok(Expected::Refused(refusal_field(alloc, why)?)),
+        _ => Err(no_form(alloc, all)?),
+    }
+}
+
+/// What is expected, where no field stands after its word.
+fn lone(
+    alloc: Global,
+    what: Expected,
+    all: &[&[u8]],
+    fields: &[&[u8]],
+) -> Result<Expected, LineFault>
+    ensures { Gives (λ e. e) result (lone_form (words all.now) what (words fields.now)) }
+{
+    match fields {
+        [] => Ok(what),
+        _ => Err(no_form(alloc, all)?),
+    }
+}
+
+/// The expectation that a word names, with the fields after it; `all` are the word and these.
+fn of_word(
+    alloc: Global,
+    cluster: &Cluster,
+    all: &[&[u8]],
+    word: &[u8],
+    fields: &[&[u8]],
+) -> Result<Expected, LineFault>
+    ensures { Gives (λ e. e) result (word_expectation cluster.now (words all.now) word.now (words fields.now)) }
+{
+    if word == b"signal".as_slice() {
+        signal(alloc, cluster, all, fields)
+    } else if word == b"waiting".as_slice() {
+        waiting(alloc, cluster, all, fields)
+    } else if word == b"message".as_slice() {
+        message(alloc, cluster, all, fields)
+    } else if word == b"sent".as_slice() {
+        sent(alloc, cluster, all, fields)
+    } else if word == b"lost".as_slice() {
+        lost(alloc, cluster, all, fields)
+    } else if word == b"seen".as_slice() {
+        seen(alloc, all, fields)
+    } else if word == b"slot".as_slice() {
+        slot(alloc, cluster, all, fields)
+    } else if word == b"done".as_slice() {
+        lone(alloc, Expected::Done, all, fields)
+    } else if word == b"refused".as_slice() {
+        refused(alloc, all, fields)
+    } else if word == b"asleep".as_slice() {
+        lone(alloc, Expected::Asleep, all, fields)
+    } else if word == b"awake".as_slice() {
+        lone(alloc, Expected::Awake, all, fields)
+    } else {
+        Err(no_form(alloc, all)?)
+    }
+}
+
+/// What is expected, by the fields after `expect`.
+#[tactic(auto, unfolding(crate::specs::Expectations::expectation))]
+pub(crate) fn expectation(
+    alloc: Global,
+    cluster: &Cluster,
+    fields: &[&[u8]],
+) -> Result<Expected, LineFault>
+    ensures { Gives (λ e. e) result (expectation cluster.now (words fields.now)) }
+{
+    match fields {
+        [] => Err(LineFault::Bad(Reason::ExpectForm)),
+        [word, rest @ ..] => of_word(alloc, cluster, fields, word, rest),
+    }
+}

@@ -1,0 +1,39 @@
+//! What is expected.
+
+use lin_core::{Cause, Payload, Refusal};
+use lin_frame::Value;
+
+/// How a slot is seen, whatever bytes it carries (ISO 17987-3, frame slots).
+#[derive(Clone, Copy, Debug, PartialEq, Eq)]
+pub enum Look {
+    Silent,
+    NoAnswer,
+    Good,
+    Damaged,
+    Collided,
+}
+
+/// What a bench script expects of the steps before.
+#[derive(Drop)]
+pub enum Expected {
+    /// A node sees this value of a signal (ISO 17987-3, signals).
+    Signal { node: u8, signal: u16, value: Value },
+    /// So many messages of a host wait.
+    Waiting { host: u8, count: u16 },
+    /// The next message from one host to another has these bytes (ISO 17987-2).
+    Message { from: u8, to: u8, bytes: Payload },
+    /// The next message of a host that waits no longer was sent.
+    Sent { host: u8 },
+    /// The next message of a host that waits no longer was lost.
+    Lost { host: u8, cause: Cause },
+    /// The last slot that ended was seen so.
+    Seen(Look),
+    /// The last slot that began was for this entry of a schedule table.
+    Slot { table: u16, entry: u16 },
+    /// The last step was done.
+    Done,
+    /// The last step was refused for this reason.
+    Refused(Refusal),
+    Asleep,
+    Awake,
+}

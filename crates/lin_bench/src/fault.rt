@@ -1,0 +1,30 @@
+//! Why a line or a script isn't read.
+
+ghost use Rattle.std.specs.Prelude.{◌≡◌};
+ghost use Rattle.lin_bench.specs.declared.fault.LineFault.TheVariants.{OutOfMemory};
+
+use crate::reason::Reason;
+use std::alloc::AllocError;
+
+/// A line is bad, or there was no memory for what it says.
+#[derive(Debug, Drop)]
+pub(crate) enum LineFault {
+    Bad(Reason),
+    OutOfMemory,
+}
+
+impl From<AllocError> for LineFault {
+    ghost from_gives = { λ _ e. e ≡ OutOfMemory };
+
+    fn from(_: AllocError) -> LineFault {
+        LineFault::OutOfMemory
+    }
+}
+
+/// Why a bench script isn't read.
+#[derive(Debug, Drop)]
+pub enum ReadFault {
+    /// The first line that is bad, counted from 1 over all lines.
+    BadLine { line: u64, reason: Reason },
+    OutOfMemory,
+}

@@ -1,0 +1,38 @@
+//! What a line says.
+
+use crate::expected::Expected;
+use lin_core::{Payload, PortId, Step};
+use lin_lists::Many;
+
+/// How one slot is disturbed.
+#[derive(Drop)]
+pub enum Disturbance {
+    Undisturbed,
+    /// The nodes see these bytes in place of the response.
+    Hurt(Payload),
+    /// These nodes leave their responses out where they are due.
+    Leave(Many<u8>),
+}
+
+/// How many slots are made.
+#[derive(Clone, Copy, Debug)]
+pub enum Extent {
+    /// So many, 1 to 1,000,000.
+    Count(u32),
+    /// As many as begin within so many milliseconds, 1 to 1,000,000, of the schedule's time.
+    Milliseconds(u32),
+    /// As many as begin while a message waits, at most so many, 1 to 1,000,000.
+    Idle(u32),
+}
+
+/// What a line of a bench script says.
+#[derive(Drop)]
+pub enum Line {
+    /// A step by a port.
+    Step(PortId, Step),
+    /// A slot, in which each node that is due answers.
+    Slot(Disturbance),
+    /// Slots, in which each node that is due answers.
+    Slots(Extent),
+    Expect(Expected),
+}

@@ -1,0 +1,138 @@
+//! The forms of lines.
+
+ghost use Rattle.std.specs.Prelude.{◌≡◌};
+ghost use Rattle.lin_bench.specs.Fields.{words};
+ghost use Rattle.lin_bench.specs.Lines.{count_field, leave_form, line_form, node_fields, of_fields, read_line, slot_form, slots_form};
+ghost use Rattle.lin_bench.specs.Read.{Gives};
+
+use crate::expectations::expectation;
+use crate::fault::LineFault;
+use crate::fields::{fields, number_field};
+use crate::line::{Disturbance, Extent, Line};
+use crate::names::node_field;
+use crate::reason::Reason;
+use crate::steps::{is_port, port, step, step_after};
+use crate::values::bytes_fields;
+use lin_core::PortId;
+use lin_lists::{Many, Text};
+use lin_parts::Cluster;
+use std::alloc::Global;
+
+/// How many slots are made where no message waits any more, and no number says how many at most.
+const IDLE: u32 = 10_000;
+
+/// A number from 1 to 1,000,000.
+fn count_field(alloc: Global, field: &[u8]) -> Result<u32, LineFault>
+    ensures { Gives (λ n. n) result (count_field field.now) }
+{
+    match number_field(alloc, field, 1_000_000)? {
+        0 => Err(LineFault::Bad(Reason::TooSmall)),
+        count => Ok(count),
+    }
+}
+
+/// How many slots are made, by the fields after `slots`.
+#[tactic(auto, unfolding(crate::specs::Lines::slots_form))]
+fn slots(alloc: Global, fields: &[&[u8]]) -> Result<Extent, LineFault>
+    ensures { Gives (λ e. e) result (slots_form (words fields.now)) }
+{
+    match fields {
+        [word] if *word == b"idle".as_slice() => Ok(Extent::Idle(IDLE)),
+        [count] => Ok(Extent::Count(count_field(alloc, count)?)),
+        [word, count] if *word == b"idle".as_slice() => Ok(Extent::Idle(count_field(
+            alloc, count,
+        )?)),
+        [count, word] if *word == b"ms".as_slice() => {
+            Ok(Extent::Milliseconds(count_field(alloc, count)?))
+        }
+        _ => Err(LineFault::Bad(Reason::SlotsForm)),
+    }
+}
+
+fn node_fields(alloc: Global, cluster: &Cluster, fields: &[&[u8]]) -> Result<Many<u8>, LineFault>
+    ensures { Gives (λ nodes. nodes) result (node_fields cluster.now (words fields.now)) }
+{
+    let mut nodes = Vec::new(alloc);
+    for field in fields {
+        let node = node_field(alloc, cluster, field)?;
+        if nodes.push(node).is_err() {
+            return Err(LineFault::OutOfMemory);
+        }
+    }
+    Ok(Many::new(nodes))
+}
+
+/// The nodes that leave their responses out.
+fn leave(alloc: Global, cluster: &Cluster, fields: &[&[u8]]) -> Result<Disturbance, LineFault>
+    ensures { Gives (λ d. d) result (leave_form cluster.now (words fields.now)) }
+{
+    if fields.is_empty() {
+        return Err(LineFault::Bad(Reason::LeaveForm));
+    }
+    Ok(Disturbance::Leave(node_fields(alloc, cluster, fields)?))
+}
+
+/// How a slot is disturbed, by the fields after `slot`.
+#[tactic(auto, unfolding(crate::specs::Lines::slot_form))]
+fn slot(alloc: Global, cluster: &Cluster, fields: &[&[u8]]) -> Result<Disturbance, LineFault>
+    ensures { Gives (λ d. d) result (slot_form cluster.now (words fields.now)) }
+{
+    match fields {
+        [] => Ok(Disturbance::Undisturbed),
+        [word, bytes @ ..] if *word == b"hurt".as_slice() => Ok(Disturbance::Hurt(bytes_fields(
+            alloc, bytes,
+        )?)),
+        [word, nodes @ ..] if *word == b"leave".as_slice() => leave(alloc, cluster, nodes),
+        [word, ..] => Err(LineFault::Bad(Reason::SlotForm(Text::copied(alloc, word)?))),
+    }
+}
+
+/// What a line says, by its first field and those after it.
+#[tactic(auto, unfolding(crate::specs::Lines::line_form))]
+fn of_word(
+    alloc: Global,
+    cluster: &Cluster,
+    word: &[u8],
+    fields: &[&[u8]],
+) -> Result<Line, LineFault>
+    ensures { Gives (λ l. l) result (line_form cluster.now word.now (words fields.now)) }
+{
+    if is_port(word) {
+        let by = port(alloc, cluster, word)?;
+        return Ok(Line::Step(by, step_after(alloc, cluster, fields)?));
+    }
+    if word == b"slots".as_slice() {
+        Ok(Line::Slots(slots(alloc, fields)?))
+    } else if word == b"slot".as_slice() {
+        Ok(Line::Slot(slot(alloc, cluster, fields)?))
+    } else if word == b"expect".as_slice() {
+        Ok(Line::Expect(expectation(alloc, cluster, fields)?))
+    } else {
+        Ok(Line::Step(PortId::Bus, step(alloc, cluster, word, fields)?))
+    }
+}
+
+fn of_fields(alloc: Global, cluster: &Cluster, fields: &[&[u8]]) -> Result<Option<Line>, LineFault>
+    ensures { Gives (λ l. l) result (of_fields cluster.now (words fields.now)) }
+{
+    match fields {
+        [] => Ok(None),
+        [word, rest @ ..] => Ok(Some(of_word(alloc, cluster, word, rest)?)),
+    }
+}
+
+/// What a line without its end says; nothing where it has no field or begins with `>`.
+#[tactic(auto, unfolding(crate::specs::Lines::read_line))]
+pub(crate) fn read_line(
+    alloc: Global,
+    cluster: &Cluster,
+    line: &[u8],
+) -> Result<Option<Line>, LineFault>
+    ensures { Gives (λ l. l) result (read_line cluster.now line.now) }
+{
+    if let [b'>', ..] = line {
+        return Ok(None);
+    }
+    let fields = fields(alloc, line)?;
+    of_fields(alloc, cluster, fields.as_slice())
+}

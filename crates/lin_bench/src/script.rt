@@ -1,0 +1,96 @@
+//! Bench scripts.
+
+ghost use Rattle.std.specs.Prelude.{◌≡◌, ◌≤◌, ◌+◌, length, IfOk, IfSome};
+ghost use Rattle.lin_log.specs.Judged.{left_of};
+ghost use Rattle.lin_parts.specs.declared.parts.Parts.{Parts};
+ghost use Rattle.lin_bench.specs.Lines.{read, without_mark};
+ghost use Rattle.lin_bench.specs.Read.{NextLine, Reads, said};
+
+use crate::fault::{LineFault, ReadFault};
+use crate::line::Line;
+use crate::lines::read_line;
+use lin_log::{first_line, without_return};
+use lin_parts::Cluster;
+use std::alloc::Global;
+
+/// A text without the mark EF BB BF at its start.
+fn without_mark(text: &[u8]) -> &[u8]
+    ensures same { result.now ≡ without_mark text.now }
+    ensures shorter { length result.now ≤ length text.now }
+{
+    match text {
+        [0xEF, 0xBB, 0xBF, rest @ ..] => rest,
+        _ => text,
+    }
+}
+
+/// The lines of a bench script that are left, and the number of the first of them.
+#[derive(Drop)]
+struct LinesLeft<'a> {
+    left: Option<&'a [u8]>,
+    number: u64,
+}
+
+impl<'a> LinesLeft<'a> {
+    #[tactic(auto, unfolding(crate::specs::Lines::read))]
+    fn new(text: &'a [u8]) -> LinesLeft<'a>
+        ensures said { (c : Parts) → said c result ≡ read c text.now }
+        ensures first { result.number ≡ 1 }
+        ensures left { left_of result.left ≤ length text.now + 1 }
+    {
+        LinesLeft {
+            left: Some(without_mark(text)),
+            number: 1,
+        }
+    }
+
+    /// The next line that says something; none where no line is left that does.
+    fn next_line(
+        &mut self,
+        alloc: Global,
+        cluster: &Cluster,
+    ) -> Result<Option<(u64, Line)>, ReadFault>
+        requires { self.old.number + left_of self.old.left ≤ 16777218 }
+        ensures line { NextLine result (said cluster.now self.old) (said cluster.now self.new) }
+        ensures bound { self.new.number + left_of self.new.left ≤ self.old.number + left_of self.old.left }
+        ensures passed { IfOk result (λ line. IfSome line (λ _. self.old.number + 1 ≤ self.new.number)) }
+    {
+        while let Some(text) = self.left {
+            let (line, rest) = first_line(text);
+            let number = self.number;
+            self.left = rest;
+            self.number = number + 1;
+            match read_line(alloc, cluster, without_return(line)) {
+                Err(LineFault::Bad(reason)) => {
+                    return Err(ReadFault::BadLine {
+                        line: number,
+                        reason,
+                    });
+                }
+                Err(LineFault::OutOfMemory) => return Err(ReadFault::OutOfMemory),
+                Ok(None) => {}
+                Ok(Some(line)) => return Ok(Some((number, line))),
+            }
+        }
+        Ok(None)
+    }
+}
+
+/// What the lines of a bench script say that say something, each with its number, counted from 1 over all lines.
+/// Nodes, signals and schedule tables are those of the cluster. The text has at most 16,777,216 bytes.
+///
+/// # Errors
+/// `BadLine` with the number of the first line that is bad, and why; `OutOfMemory`.
+pub fn read(alloc: Global, cluster: &Cluster, text: &[u8]) -> Result<Vec<(u64, Line)>, ReadFault>
+    requires { length text.now ≤ 16777216 }
+    ensures { Reads (λ v. v.items) result (read cluster.now text.now) }
+{
+    let mut left = LinesLeft::new(text);
+    let mut lines = Vec::new(alloc);
+    while let Some(line) = left.next_line(alloc, cluster)? {
+        if lines.push(line).is_err() {
+            return Err(ReadFault::OutOfMemory);
+        }
+    }
+    Ok(lines)
+}
