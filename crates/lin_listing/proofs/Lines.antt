@@ -1,0 +1,65 @@
+-- Lines as they are put, word by word and thing by thing.
+use Rattle.std.proofs.Common.{◌≡◌, ℕ, ◌+◌, ◌<◌, List, [], ◌∷◌, ◌++◌, Option, true, false, ◌==◌, length, get_or, take, map, flat_map, refl, sym, ap, ◌∙◌, append_assoc, append-nil, add-one, arith}
+use Rattle.std.proofs.lemmas.Bool.{eqb-true, eqb-false}
+use Rattle.std.proofs.lemmas.Grind.{flat_map-append}
+use Rattle.std.proofs.lemmas.List.{map-append, take_more}
+use Rattle.std.proofs.lemmas.Slice.Zip.{get_or-zip, length-zip}
+use Rattle.std.specs.Prelude.{zip}
+use Rattle.hex.specs.Hex.{encode_upper}
+use Rattle.lin_frame.specs.Words.{numbers}
+use Rattle.lin_frame.specs.declared.layout.Place.{Place}
+use Rattle.lin_log.specs.Words.{ended, hex_word, line, spaced}
+use Rattle.lin_text.proofs.Growing.{grows-more, same-growth}
+use Rattle.lin_text.specs.Written.{Grows}
+use Rattle.lin_text.specs.declared.buffered.TextWriter.{TextWriter}
+
+-- an array of no bytes, and one of some
+pub empty-word : (bytes : List ℕ) → (length bytes == 0) ≡ true → 120 ∷ 45 ∷ [] ≡ 120 ∷ hex_word bytes
+empty-word [] e = refl
+empty-word (b ∷ bs) e = let none : length (b ∷ bs) ≡ 0 = eqb-true (length (b ∷ bs)) 0 e in absurd (omega (arith, none))
+
+pub full-word : (bytes : List ℕ) → (length bytes == 0) ≡ false → 120 ∷ encode_upper bytes ≡ 120 ∷ hex_word bytes
+full-word [] e = absurd (eqb-false 0 0 e refl)
+full-word (b ∷ bs) e = refl
+
+-- words that end a line
+pub ended-flat : (ws : List (List ℕ)) → flat_map spaced ws ++ 10 ∷ [] ≡ ended ws
+ended-flat [] = refl
+ended-flat (w ∷ ws) = append_assoc (spaced w) (flat_map spaced ws) (10 ∷ []) ∙ ap (λ l. spaced w ++ l) (ended-flat ws)
+
+pub ended-both : (xs ys : List (List ℕ)) → flat_map spaced xs ++ ended ys ≡ ended (xs ++ ys)
+ended-both [] ys = refl
+ended-both (x ∷ xs) ys = append_assoc (spaced x) (flat_map spaced xs) (ended ys) ∙ ap (λ l. spaced x ++ l) (ended-both xs ys)
+
+-- one word more
+pub words-next : {X : Type 0} (f : X → List ℕ) (xs : List X) (i : ℕ) (d : X) → i < length xs
+    → flat_map spaced (map f (take (i + 1) xs)) ≡ flat_map spaced (map f (take i xs)) ++ spaced (f (get_or xs i d))
+words-next f xs i d lt =
+    ap (λ l. flat_map spaced (map f l)) (take_more xs i d lt)
+    ∙ ap (flat_map spaced) (map-append f (take i xs) (get_or xs i d ∷ []))
+    ∙ flat_map-append spaced (map f (take i xs)) (f (get_or xs i d) ∷ [])
+    ∙ ap (λ l. flat_map spaced (map f (take i xs)) ++ l) (append-nil (spaced (f (get_or xs i d))))
+
+-- the lines of one number more
+pub numbers-next : (f : ℕ → List ℕ) (i : ℕ) → flat_map f (numbers (i + 1)) ≡ flat_map f (numbers i) ++ f i
+numbers-next f i =
+    rw add-one (flat_map-append f (numbers i) (i ∷ []) ∙ ap (λ l. flat_map f (numbers i) ++ l) (append-nil (f i)))
+
+pub grows-number : {W : Type 0} {contents : W → Option (List ℕ)} {x y z : TextWriter W} (f : ℕ → List ℕ) (i : ℕ)
+    → Grows contents x y (flat_map f (numbers i)) → Grows contents y z (f i) → Grows contents x z (flat_map f (numbers (i + 1)))
+grows-number f i h k = same-growth (sym (numbers-next f i)) (grows-more h k)
+
+-- what a line begins with, and the words that end it
+pub head-and-members : (kind : List ℕ) (head members : List (List ℕ)) → (kind ++ flat_map spaced head) ++ ended members ≡ line (kind ∷ (head ++ members))
+head-and-members kind head members = append_assoc kind (flat_map spaced head) (ended members) ∙ ap (λ l. kind ++ l) (ended-both head members)
+
+-- what is read behind the end of a frame's places
+abbrev pub no_place : Place
+no_place = record { offset = 0; size = 0; array = false }
+
+-- two lists item by item
+pub zip-at : {X Y : Type 0} (xs : List X) (ys : List Y) (i : ℕ) (x : X) (y : Y) → i < length xs → i < length ys → get_or (zip xs ys) i (x, y) ≡ (get_or xs i x, get_or ys i y)
+zip-at xs ys i x y h k = get_or-zip xs ys i (x, y) h k
+
+pub zip-long : {X Y : Type 0} (xs : List X) (ys : List Y) → length xs ≡ length ys → length (zip xs ys) ≡ length xs
+zip-long xs ys same = let h = length-zip xs ys in omega (arith, same, h)

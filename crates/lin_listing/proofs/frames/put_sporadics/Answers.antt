@@ -1,0 +1,10 @@
+use Rattle.lin_text.proofs.Growing.{grows-nothing}
+use Rattle.lin_listing.specs.Frames.{sporadic_line}
+use Rattle.lin_listing.proofs.Lines.{grows-number}
+use Rattle.lin_listing.proofs.frames.put_sporadics.Goals as goal
+
+pub loop-sporadic-init : goal.loop-sporadic-init
+loop-sporadic-init g c = grows-nothing c.args.out.now
+
+pub loop-sporadic-preserved : goal.loop-sporadic-preserved
+loop-sporadic-preserved g c = grows-number (sporadic_line c.args.cluster.now c.args.names.now) c.loop-sporadic.sporadic c.loop-sporadic.invariant c.put_sporadic.ensures

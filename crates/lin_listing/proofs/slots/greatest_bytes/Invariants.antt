@@ -1,0 +1,6 @@
+use Rattle.std.proofs.Common.{◌≡◌, take}
+use Rattle.lin_listing.specs.Slots.{greatest_bytes}
+use Rattle.lin_listing.proofs.slots.greatest_bytes.Given as goal
+
+abbrev pub invariant-loop-frame : goal.invariant-loop-frame
+invariant-loop-frame l = l.greatest ≡ greatest_bytes l.fn.cluster (take l.frame-index l.frames)

@@ -1,0 +1,15 @@
+use Rattle.std.proofs.Common.{ap, sym, ◌++◌, ◌∙◌, append_assoc, flat_map, map, take, arith}
+use Rattle.lin_log.specs.Words.{spaced}
+use Rattle.lin_text.proofs.Growing.{grows-more, same-growth}
+use Rattle.lin_listing.specs.Shown.{shown}
+use Rattle.lin_listing.proofs.Lines.{words-next}
+use Rattle.lin_listing.proofs.words.put_head.Goals as goal
+
+pub loop-word-preserved : goal.loop-word-preserved
+loop-word-preserved g c =
+    let i = c.loop-word.word-index in
+    let words = c.args.words.now in
+    let before = flat_map spaced (map shown (take i words)) in
+    same-growth
+    (append_assoc c.args.kind.now before _ ∙ ap (λ l. c.args.kind.now ++ l) (sym (words-next shown words i _ (omega arith))))
+    (grows-more c.loop-word.invariant c.put_spaced.ensures)

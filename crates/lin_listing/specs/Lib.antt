@@ -1,0 +1,3 @@
+pub mod Shown
+pub mod Frames
+pub mod Slots
