@@ -1,4 +1,4 @@
--- The events of an entry, as they are held.
+-- Promises rest on this: the events of an entry, as they are held.
 use Rattle.std.specs.Prelude.{List, [], ◌∷◌}
 use Rattle.lin_core.specs.declared.event.Event.{Event}
 use Rattle.lin_core.specs.declared.payload.Held.{Held}

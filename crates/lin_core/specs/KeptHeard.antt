@@ -1,4 +1,5 @@
--- What the receivers of a core have heard: each stands for what its link's receiver is given.
+-- No promise rests on this: what the receivers of a core have heard: each stands for what its
+-- link's receiver is given.
 use Rattle.std.specs.Prelude.{◌≡◌, ℕ, true, List, ◌∷◌, length, slice_get, slice_set, Option, Some, is_some}
 use Rattle.lin_transport.specs.Transport.{Heard}
 use Rattle.lin_transport.specs.Transport.Heard.{Reset}

@@ -1,5 +1,6 @@
--- What a core keeps of its log beside slots, queues and signals: the cluster's mode, and of each host whether it is closed and how far the
--- message is that it has begun.
+-- No promise rests on this: what a core keeps of its log beside slots, queues and signals: the
+-- cluster's mode, and of each host whether it is closed and how far the message is that it has
+-- begun.
 use Rattle.std.specs.Prelude.{◌≡◌, ◌≤◌, ◌<◌, ⊤, ℕ, Bool, true, false, ◌==◌, nat_le, nat_lt, if◌then◌else◌, List, [], length, filter, slice_get, slice_index, Option, Some, None, option_map}
 use Rattle.lin_frame.specs.Words.{choose}
 use Rattle.lin_transport.specs.Transport.{frame, frame_count}
@@ -34,7 +35,8 @@ pub record KeepsLate (c : Parts) (past : List LogEntry) (mode : Mode) (hosts : L
   pub mode_is : KeepsMode c past mode
   pub each_sender : (h : ℕ) (host : Host) → slice_get hosts h ≡ Some host → KeepsSender c past h host
 
--- the data bytes that come next of a host, by the message that waits first, the sender of what is begun, and whether the sleep frame goes first
+-- the data bytes that come next of a host, by the message that waits first, the sender of what is
+-- begun, and whether the sleep frame goes first
 abbrev pub bytes_next : Parts → Option Message → Option Sender → Bool → List ℕ
 bytes_next c None (Some s) sleeping = []
 bytes_next c (Some m) (Some s) sleeping = frame s.nad m.bytes s.sent

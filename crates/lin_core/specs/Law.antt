@@ -1,4 +1,4 @@
--- The laws that hold of every history of a cluster.
+-- Promises rest on this: the laws that hold of every history of a cluster.
 use Rattle.std.specs.Prelude.{◌≡◌, ℕ, ◌==◌, ⊤, Bool, true, false, ◌&&◌, ◌||◌, not, List, [], ◌∷◌, ◌++◌, map, filter}
 use Rattle.lin_transport.specs.Transport.{frames}
 use Rattle.lin_parts.specs.declared.parts.Parts.{Parts}

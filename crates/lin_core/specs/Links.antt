@@ -1,4 +1,5 @@
--- Messages on their links: what was accepted, what was put, and what became of it (ISO 17987-2, transport layer).
+-- Promises rest on this: messages on their links: what was accepted, what was put, and what became
+-- of it (ISO 17987-2, transport layer).
 use Rattle.std.specs.Prelude.{ℕ, suc, ◌==◌, Bool, true, false, ◌&&◌, if◌then◌else◌, List, [], ◌∷◌, ◌++◌, map, find, filter, length, reverse, take, slice_index, slice_index_or, Option, Some, None, is_some}
 use Rattle.std.specs.List.{list_any, list_all, cons_option}
 use Rattle.lin_frame.specs.Words.{choose}
@@ -112,8 +113,8 @@ in_last s [] = (s ∷ []) ∷ []
 in_last s (b ∷ []) = (b ++ s ∷ []) ∷ []
 in_last s (b ∷ d ∷ bs) = b ∷ in_last s (d ∷ bs)
 
--- the blocks: the frames that were put, cut before each that begins a message, with the marks that stand behind them. A frame before
--- the first that begins a message starts a block too
+-- the blocks: the frames that were put, cut before each that begins a message, with the marks that
+-- stand behind them. A frame before the first that begins a message starts a block too
 abbrev pub blocks_of : List Sign → List (List Sign)
 blocks_of [] = []
 blocks_of (Put f how ∷ earlier) = if begins f then blocks_of earlier ++ (Put f how ∷ []) ∷ [] else in_last (Put f how) (blocks_of earlier)
@@ -176,8 +177,9 @@ pub record Sending : Type 0 where
 abbrev pub nad_on : Parts → Link → ℕ
 nad_on c l = choose (nad c l.node) 0 (λ n. n)
 
--- the messages of a host with their numbers and blocks: a message has the place among the blocks of its link
--- that it has among the messages of its link. `before` is the messages that were accepted earlier
+-- the messages of a host with their numbers and blocks: a message has the place among the blocks of
+-- its link that it has among the messages of its link. `before` is the messages that were accepted
+-- earlier
 abbrev pub sendings_from : (Link → List (List Sign)) → List Message → List Message → List Sending
 sendings_from blocks before [] = []
 sendings_from blocks before (m ∷ ms) =

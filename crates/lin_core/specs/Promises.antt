@@ -1,4 +1,5 @@
--- What holds of every log of a core: the laws, each as one statement over its history.
+-- Promises rest on this: what holds of every log of a core: the laws, each as one statement over
+-- its history.
 use Rattle.std.specs.Prelude.{◌≡◌, ℕ, ⊤, true, List, [], ◌∷◌, is_some}
 use Rattle.lin_parts.specs.Cluster.{nad}
 use Rattle.lin_parts.specs.declared.parts.Parts.{Parts}
@@ -9,13 +10,13 @@ use Rattle.lin_core.specs.Links.{Link, accepted, blocks, nad_on}
 use Rattle.lin_core.specs.Reports.{ReportsFates, TellsReading}
 use Rattle.lin_core.specs.declared.log.LogEntry.{LogEntry}
 
--- exact delivery: the receiver of each link reads the messages that were accepted for it and sent, in order and each once,
--- and the message events of the link are these
+-- exact delivery: the receiver of each link reads the messages that were accepted for it and sent,
+-- in order and each once, and the message events of the link are these
 abbrev pub DeliversExactly : Parts → List LogEntry → Type 0
 DeliversExactly c past = (l : Link) → is_some (nad c l.node) ≡ true → ReadsSent c past l × TellsReading c past l
 
--- blocks are prefixes: no link has more blocks than messages; each block is a beginning of its message's frames; where
--- another one follows, its message waits no longer
+-- blocks are prefixes: no link has more blocks than messages; each block is a beginning of its
+-- message's frames; where another one follows, its message waits no longer
 abbrev pub PutsInOrder : Parts → List LogEntry → Type 0
 PutsInOrder c past = (l : Link) → is_some (nad c l.node) ≡ true → InOrder (nad_on c l) (accepted past l) (blocks c past l)
 
@@ -24,13 +25,14 @@ abbrev pub AllStay : Parts → List LogEntry → ℕ → Type 0
 AllStay c [] h = ⊤
 AllStay c (e ∷ past) h = Stays (outcomes_of c past h) (outcomes_of c (e ∷ past) h) × AllStay c past h
 
--- one final fate per message: a fate that isn't Waiting never changes, and each host is told once of each of its messages
--- that waits no longer
+-- one final fate per message: a fate that isn't Waiting never changes, and each host is told once
+-- of each of its messages that waits no longer
 abbrev pub FatesAreFinal : Parts → List LogEntry → Type 0
 FatesAreFinal c past = (h : ℕ) → AllStay c past h × ReportsFates c past h
 
--- every slot carries its frame: each slot event has the due entry and its header, and behind it stands a due event for each node
--- that is due, in order; each put has the bytes of the slot's entry
+-- every slot carries its frame: each slot event has the due entry and its header, and behind it
+-- stands a due event for each node that is due, in order; each put has the bytes of the slot's
+-- entry
 abbrev pub CarriesFrames : Parts → ℕ → List LogEntry → Type 0
 CarriesFrames c opening [] = ⊤
 CarriesFrames c opening (e ∷ past) = AreDefined c opening (done e) past (events e) × TellsDue c e past × CarriesFrames c opening past
@@ -40,7 +42,8 @@ abbrev pub StaysClosed : List LogEntry → Type 0
 StaysClosed [] = ⊤
 StaysClosed (e ∷ past) = ((h : ℕ) → NoSendAfterClose e past h) × StaysClosed past
 
--- lossless runs deliver everything: where no hurt and no timeout was done and there is no sleep mark, no message is lost, and where nothing
--- of a host waits, all that was accepted from it was read
+-- lossless runs deliver everything: where no hurt and no timeout was done and there is no sleep
+-- mark, no message is lost, and where nothing of a host waits, all that was accepted from it was
+-- read
 abbrev pub LosesNothing : Parts → List LogEntry → Type 0
 LosesNothing c past = is_calm past ≡ true → ((h : ℕ) → NoneLost (outcomes_of c past h)) × ((l : Link) → is_some (nad c l.node) ≡ true → ReadsAll c past l)

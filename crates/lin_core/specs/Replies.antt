@@ -1,4 +1,4 @@
--- What each step is answered.
+-- Promises rest on this: what each step is answered.
 use Rattle.std.specs.Prelude.{ℕ, suc, ◌-◌, ◌==◌, nat_le, nat_lt, Bool, true, false, ◌&&◌, ◌||◌, not, if◌then◌else◌, List, [], ◌∷◌, ◌++◌, map, find, flat_map, zip, length, drop, Option, is_some, is_none, option_map, filter}
 use Rattle.std.specs.List.{list_any}
 use Rattle.lin_frame.specs.Words.{numbers, choose}
@@ -50,7 +50,8 @@ in_slot past test = choose (open_slot past) false test
 abbrev pub link_at : ℕ → Direction → Link
 link_at n d = record { node = n; dir = d }
 
--- whether bytes pass the check of an answer in a slot: its length, and its checksum in the model of the slot's entry over the slot's header
+-- whether bytes pass the check of an answer in a slot: its length, and its checksum in the model of
+-- the slot's entry over the slot's header
 abbrev pub passes_in : Parts → OpenSlot → List ℕ → List ℕ → Bool
 passes_in c s answer bytes = choose s.header false (λ h. is_answer (model_of c (line_of c s.table s.entry).entry h) h (length answer - 1) bytes)
 

@@ -1,4 +1,5 @@
--- What a slot is for: its header, who is due in it, and what an answer puts (ISO 17987-3, frame transfer; ISO 17987-2, diagnostic schedules).
+-- Promises rest on this: what a slot is for: its header, who is due in it, and what an answer puts
+-- (ISO 17987-3, frame transfer; ISO 17987-2, diagnostic schedules).
 use Rattle.std.specs.Prelude.{ℕ, ◌==◌, nat_le, nat_lt, Bool, false, ◌&&◌, ◌||◌, if◌then◌else◌, List, [], ◌∷◌, ◌++◌, filter, find, length, replicate, slice_index, Option, Some, None, is_some, option_map}
 use Rattle.std.specs.List.{list_any, cons_option}
 use Rattle.lin_frame.specs.Words.{numbers, choose}
@@ -53,8 +54,8 @@ selected c (e ∷ past) =
     if is_sleep_mark e past then None
     else choose (choose (finished e past) None (addressed c)) (selected c past) (λ n. n)
 
--- the header of a slot for an entry: of a sporadic frame that of its first pending member, of the master request frame its own where a
--- message waits or sleep is asked
+-- the header of a slot for an entry: of a sporadic frame that of its first pending member, of the
+-- master request frame its own where a message waits or sleep is asked
 abbrev pub header : Parts → List LogEntry → Entry → Option ℕ
 header c past (Frame f) = Some (frame_of c f).pid
 header c past (Sporadic k) = option_map (λ f. (frame_of c f).pid) (find (pending c past) (sporadic_of c k))
@@ -63,8 +64,9 @@ header c past MasterReq = if nat_lt 0 (length (waiting c past 0)) || asked past 
 header c past SlaveResp = Some 0x7D
 header c past Quiet = None
 
--- whether a node is due in a slot for an entry: under an event-triggered header each publisher whose frame is pending, in a slave response
--- the selected responder where one of its messages waits
+-- whether a node is due in a slot for an entry: under an event-triggered header each publisher
+-- whose frame is pending, in a slave response the selected responder where one of its messages
+-- waits
 abbrev pub is_due : Parts → List LogEntry → Entry → ℕ → Bool
 is_due c past (Frame f) n = n == (frame_of c f).publisher
 is_due c past (Sporadic k) n = n == 0 && is_some (header c past (Sporadic k))
@@ -88,8 +90,8 @@ abbrev pub first_frame : Parts → List Sending → List ℕ
 first_frame c [] = []
 first_frame c (s ∷ ss) = frame_at c s 0
 
--- the data bytes that a host's node puts: the next frame of what is begun, failing that the sleep frame where sleep is asked, failing that the
--- first frame of what waits
+-- the data bytes that a host's node puts: the next frame of what is begun, failing that the sleep
+-- frame where sleep is asked, failing that the first frame of what waits
 abbrev pub next_frame : Parts → List LogEntry → ℕ → Bool → List ℕ
 next_frame c past h sleeping =
     choose (begun c past h)
@@ -100,7 +102,8 @@ next_frame c past h sleeping =
 abbrev pub with_classic : List ℕ → List ℕ
 with_classic bytes = bytes ++ classic bytes ∷ []
 
--- the member of a sporadic frame with this header, and the member of an event-triggered frame that a node publishes
+-- the member of a sporadic frame with this header, and the member of an event-triggered frame that
+-- a node publishes
 abbrev pub member_under : Parts → ℕ → ℕ → ℕ
 member_under c k h = choose (find (λ f. h == (frame_of c f).pid) (sporadic_of c k)) 0 (λ f. f)
 

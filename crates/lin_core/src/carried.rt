@@ -35,7 +35,8 @@ fn frame_from(cluster: &Cluster, frames: &[u16], node: u8) -> Option<u16>
         .find(|frame| node == cluster.frame_publisher(*frame))
 }
 
-/// The frame that a node's response carries in a slot for an entry, under its header; none where it carries a frame of a message.
+/// The frame that a node's response carries in a slot for an entry, under its header; none where it
+/// carries a frame of a message.
 pub(crate) fn frame_by(cluster: &Cluster, entry: Entry, header: u8, node: u8) -> Option<u16>
     requires { IsEntry cluster.now entry }
     ensures frame { result ≡ frame_by cluster.now entry header node }

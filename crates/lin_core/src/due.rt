@@ -1,4 +1,5 @@
-//! What a slot is for: its header, and who is due in it (ISO 17987-3, frame transfer; ISO 17987-2, diagnostic schedules).
+//! What a slot is for: its header, and who is due in it (ISO 17987-3, frame transfer; ISO 17987-2,
+//! diagnostic schedules).
 
 ghost use Rattle.std.specs.Prelude.{◌≡◌, ◌==◌, ◌&&◌, ◌||◌, ◌<◌, ◌≤◌, All, filter, length, slice_index_or, false};
 ghost use Rattle.std.specs.List.{list_any};

@@ -27,7 +27,8 @@ pub enum Event {
         host: u8,
         number: u32,
     },
-    /// A slot was opened for an entry of a schedule table; the header is a protected identifier, or there is none.
+    /// A slot was opened for an entry of a schedule table; the header is a protected identifier, or
+    /// there is none.
     Slot {
         table: u16,
         entry: u16,

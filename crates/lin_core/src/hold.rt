@@ -2,7 +2,8 @@
 
 use crate::step::Step;
 
-/// A step that was neither done nor refused. It is handed back as it was given; nothing is logged or changed.
+/// A step that was neither done nor refused. It is handed back as it was given; nothing is logged
+/// or changed.
 #[derive(Drop)]
 pub enum Hold {
     /// The log has 4,294,967,295 entries.

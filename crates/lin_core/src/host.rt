@@ -10,9 +10,10 @@ use circular_buffer::HeapCircularBuffer;
 use lin_transport::Sender;
 use std::alloc::{AllocError, Global};
 
-/// The messages of a host: how many of them are settled, and where those that wait stand in the log, the next one first. So
-/// the number of the next one is one more than `settled`. Where the next one is begun, its sender has the frames that were seen good. A
-/// closed host sends no more messages.
+/// The messages of a host: how many of them are settled, and where those that wait stand in the
+/// log, the next one first. So the number of the next one is one more than `settled`. Where the
+/// next one is begun, its sender has the frames that were seen good. A closed host sends no more
+/// messages.
 #[derive(Drop)]
 pub(crate) struct Host {
     pub(crate) settled: u32,
@@ -40,7 +41,8 @@ impl Host {
         self.sender = None;
     }
 
-    /// A frame of the next message, to this address and of this length in bytes, is seen good, and more of them follow.
+    /// A frame of the next message, to this address and of this length in bytes, is seen good, and
+    /// more of them follow.
     pub(crate) fn go_on(&mut self, address: u8, len: usize)
         requires some { 1 ≤ len }
         requires few { len ≤ 4095 }
@@ -125,7 +127,8 @@ pub(crate) fn begun_by(hosts: &[Host], host: u8) -> bool
     }
 }
 
-/// Where a host's next message stands in the log; 0 where none waits, and for a number that is no host's.
+/// Where a host's next message stands in the log; 0 where none waits, and for a number that is no
+/// host's.
 pub(crate) fn next_by(hosts: &[Host], host: u8) -> u32
     ensures { (kept : Host) (place : ℕ) → slice_get hosts.now host ≡ Some kept → slice_get kept.queue.items 0 ≡ Some place → result ≡ place }
 {
@@ -135,7 +138,8 @@ pub(crate) fn next_by(hosts: &[Host], host: u8) -> u32
     }
 }
 
-/// The responder that is due in a slave response, where this one is selected: one of its messages waits.
+/// The responder that is due in a slave response, where this one is selected: one of its messages
+/// waits.
 pub(crate) fn responder(hosts: &[Host], selected: Option<u8>) -> Option<u8>
     ensures none { selected ≡ None → result ≡ None }
     ensures some { (node : ℕ) (kept : Host) → selected ≡ Some node → slice_get hosts.now node ≡ Some kept → result ≡ (if nat_lt 0 (length kept.queue.items) then Some node else None) }

@@ -1,4 +1,5 @@
-//! What holds of every history: of each list of steps, by any ports, in any order, refused ones included.
+//! What holds of every history: of each list of steps, by any ports, in any order, refused ones
+//! included.
 
 ghost use Rattle.std.specs.Prelude.{ℕ, List};
 ghost use Rattle.lin_parts.specs.Sound.{IsSound};
@@ -8,8 +9,8 @@ ghost use Rattle.lin_core.specs.Runs.{history};
 ghost use Rattle.lin_core.specs.declared.port.PortId.{PortId};
 ghost use Rattle.lin_core.specs.declared.step.Step.{Step};
 
-/// The receiver of each link reads the messages that were accepted for it and sent, in order and each once, and is told of
-/// these alone.
+/// The receiver of each link reads the messages that were accepted for it and sent, in order and
+/// each once, and is told of these alone.
 pub fn delivers_exactly()
     ensures { (c : Parts) (opening capacity : ℕ) (steps : List (PortId × Step)) → IsSound c → DeliversExactly c (history c opening capacity steps) }
 {}
@@ -34,7 +35,8 @@ pub fn stays_closed()
     ensures { (c : Parts) (opening capacity : ℕ) (steps : List (PortId × Step)) → StaysClosed (history c opening capacity steps) }
 {}
 
-/// Where nothing is disturbed, no message is lost, and where nothing of a host waits, all that was accepted from it was read.
+/// Where nothing is disturbed, no message is lost, and where nothing of a host waits, all that was
+/// accepted from it was read.
 pub fn loses_nothing()
     ensures { (c : Parts) (opening capacity : ℕ) (steps : List (PortId × Step)) → IsSound c → LosesNothing c (history c opening capacity steps) }
 {}

@@ -1,14 +1,15 @@
 //! The links that messages go over, and why a message is cut short.
 
-/// Which way a diagnostic message goes: down from host 0 to a responder, or up from a responder's host to host 0
-/// (ISO 17987-2, transport layer).
+/// Which way a diagnostic message goes: down from host 0 to a responder, or up from a responder's
+/// host to host 0 (ISO 17987-2, transport layer).
 #[derive(Clone, Copy, Debug, PartialEq, Eq)]
 pub enum Direction {
     Down,
     Up,
 }
 
-/// A link: the messages between host 0 and a responder, in a direction (ISO 17987-2, transport layer).
+/// A link: the messages between host 0 and a responder, in a direction (ISO 17987-2, transport
+/// layer).
 #[derive(Clone, Copy)]
 pub(crate) struct Link {
     pub(crate) node: u8,
@@ -68,7 +69,8 @@ impl Link {
     }
 }
 
-/// Why a message is lost: one of its frames was damaged, its transfer timed out, or the cluster was put to sleep.
+/// Why a message is lost: one of its frames was damaged, its transfer timed out, or the cluster was
+/// put to sleep.
 #[derive(Clone, Copy, Debug, PartialEq, Eq)]
 pub enum Cause {
     Damaged,

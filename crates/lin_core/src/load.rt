@@ -6,7 +6,8 @@ ghost use Rattle.lin_core.specs.Loads.{load_of};
 
 use crate::slot::{MASTER_REQUEST, OpenSlot, SLAVE_RESPONSE};
 
-/// What a slot carries of the transport: nothing, the sleep frame, or a frame of a host's message (ISO 17987-2, transport layer).
+/// What a slot carries of the transport: nothing, the sleep frame, or a frame of a host's message
+/// (ISO 17987-2, transport layer).
 #[derive(Drop)]
 pub(crate) enum Load {
     Nothing,

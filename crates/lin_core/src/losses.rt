@@ -43,8 +43,8 @@ fn lose_begun(hosts: &mut Vec<Host>, events: &mut Vec<Event>)
     }
 }
 
-/// The cluster goes to sleep at the end of a slot that is seen so: the message that each host has begun is lost. The events, in the room that was
-/// made for them.
+/// The cluster goes to sleep at the end of a slot that is seen so: the message that each host has
+/// begun is lost. The events, in the room that was made for them.
 pub(crate) fn sleep_events(room: Vec<Event>, seen: Seen, hosts: &mut Vec<Host>) -> Events
     requires empty { room.items ≡ [] }
     requires few { length hosts.old.items ≤ 16 }

@@ -30,8 +30,9 @@ use lin_schedule::Walker;
 use std::alloc::{AllocError, Global};
 use std::marker::Model;
 
-/// The core: a cluster, and the log of the steps that were made on it. Contracts see the cluster, the table that the schedule opened
-/// with, the capacity of the queues, the log (the oldest entry first) and how much room was made.
+/// The core: a cluster, and the log of the steps that were made on it. Contracts see the cluster,
+/// the table that the schedule opened with, the capacity of the queues, the log (the oldest entry
+/// first) and how much room was made.
 pub struct Core {
     setup: Setup,
     log: Log,
@@ -103,7 +104,9 @@ impl Core {
     ghost use Rattle.lin_core.specs.Links.{waiting};
     ghost use Rattle.lin_core.specs.Core.{past_of, IsAlike, IsHistory, IsLogFull, IsOutOfMemory, IsSmall, IsStepped};
 
-    /// A core with an empty log, on a cluster whose schedule opens with this table. At most `capacity` messages of a host (1 to 1,024) wait. An error is want of memory, and the cluster is dropped.
+    /// A core with an empty log, on a cluster whose schedule opens with this table. At most
+    /// `capacity` messages of a host (1 to 1,024) wait. An error is want of memory, and the cluster
+    /// is dropped.
     pub fn new(
         alloc: Global,
         cluster: Cluster,
@@ -139,10 +142,11 @@ impl Core {
         })
     }
 
-    /// The log, of which the laws hold: the receivers read exactly the messages that were sent whole and are told of these alone; each
-    /// link carries its messages' frames in order; each message has one final fate, which its host is told once; each slot carries the
-    /// frame that the schedule names and tells each node that is due; nothing of a host is accepted after its close; and where nothing is
-    /// disturbed no message is lost.
+    /// The log, of which the laws hold: the receivers read exactly the messages that were sent
+    /// whole and are told of these alone; each link carries its messages' frames in order; each
+    /// message has one final fate, which its host is told once; each slot carries the frame that
+    /// the schedule names and tells each node that is due; nothing of a host is accepted after its
+    /// close; and where nothing is disturbed no message is lost.
     pub fn log(&self) -> &Log
         ensures entries { result.now.entries ≡ self.now.log }
         ensures history { IsHistory self.now }
@@ -185,8 +189,9 @@ impl Core {
         self.state.hosts[host as usize].queue.len()
     }
 
-    /// The value of a signal that a node sees: its publisher the one that was written last, each other node the one in the last good frame that has
-    /// the signal; the initial value before (ISO 17987-3, signals).
+    /// The value of a signal that a node sees: its publisher the one that was written last, each
+    /// other node the one in the last good frame that has the signal; the initial value before (ISO
+    /// 17987-3, signals).
     pub fn signal(&self, node: u8, signal: u16) -> Value
         requires node { node < nodes self.now.cluster }
         requires signal { signal < length self.now.cluster.signals }
@@ -211,8 +216,8 @@ impl Core {
         0
     }
 
-    /// Makes room, so that the next step isn't held for want of memory, unless it is an open or a finish. It changes nothing
-    /// else; an error is want of memory.
+    /// Makes room, so that the next step isn't held for want of memory, unless it is an open or a
+    /// finish. It changes nothing else; an error is want of memory.
     pub fn make_room(&mut self) -> Result<(), AllocError>
         ensures alike { IsAlike self.old self.new }
         ensures log { self.new.log ≡ self.old.log }
@@ -222,9 +227,10 @@ impl Core {
         Ok(())
     }
 
-    /// Makes a step by a port (ISO 17987-3, frame transfer; ISO 17987-2, diagnostic schedules): it is done or refused, and logged
-    /// with its reply, which `newest` then lends. A refused step changes nothing but the log. An error hands the step back, and
-    /// nothing is logged or changed: the log is full, with 4,294,967,295 entries, or there was no memory.
+    /// Makes a step by a port (ISO 17987-3, frame transfer; ISO 17987-2, diagnostic schedules): it
+    /// is done or refused, and logged with its reply, which `newest` then lends. A refused step
+    /// changes nothing but the log. An error hands the step back, and nothing is logged or changed:
+    /// the log is full, with 4,294,967,295 entries, or there was no memory.
     pub fn step(&mut self, by: PortId, step: Step) -> Result<(), Hold>
         ensures stepped { IsStepped self.old by step result self.new }
         ensures full { IsLogFull result ↔ (length self.old.log ≡ 2 ^ 32 - 1) }

@@ -15,8 +15,8 @@ use crate::step::Step;
 use lin_parts::Cluster;
 use lin_transport::Sender;
 
-/// A message, lent from the entry of the log that accepted it: the link that it goes over, its bytes, and the address on
-/// the link.
+/// A message, lent from the entry of the log that accepted it: the link that it goes over, its
+/// bytes, and the address on the link.
 #[derive(Drop)]
 pub(crate) struct Message<'a> {
     pub(crate) link: Link,
@@ -60,8 +60,9 @@ fn sleep_bytes() -> [u8; 8]
     [0, 255, 255, 255, 255, 255, 255, 255]
 }
 
-/// The data bytes that come next of a host whose first message that waits stands at a place in the log: the next frame of what is begun; failing
-/// that the sleep frame, where it is asked for; failing that the message's first frame.
+/// The data bytes that come next of a host whose first message that waits stands at a place in the
+/// log: the next frame of what is begun; failing that the sleep frame, where it is asked for;
+/// failing that the message's first frame.
 pub(crate) fn next_bytes(
     cluster: &Cluster,
     log: &Log,

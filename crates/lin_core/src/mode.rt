@@ -46,7 +46,8 @@ pub fn node_with(cluster: &Cluster, address: u8) -> Option<u8>
     found
 }
 
-/// The first byte of a master request that was seen good, the slot's only response; none of another slot.
+/// The first byte of a master request that was seen good, the slot's only response; none of another
+/// slot.
 fn request_byte(slot: &OpenSlot) -> Option<u8>
     ensures { result ≡ option_map (λ bytes. slice_index bytes 0) (good_under 0x3C (slot_in slot.now)) }
 {
@@ -56,8 +57,9 @@ fn request_byte(slot: &OpenSlot) -> Option<u8>
     Some(slot.puts[0].answer.as_slice().first().copied().unwrap_or(0))
 }
 
-/// Whether the cluster is asleep, whether it is asked to go to sleep, and which responder is selected, as the core keeps them
-/// (ISO 17987-3, go-to-sleep and wake-up; ISO 17987-2, diagnostic schedules).
+/// Whether the cluster is asleep, whether it is asked to go to sleep, and which responder is
+/// selected, as the core keeps them (ISO 17987-3, go-to-sleep and wake-up; ISO 17987-2, diagnostic
+/// schedules).
 #[derive(Drop)]
 pub(crate) struct Mode {
     pub(crate) asleep: bool,
@@ -77,7 +79,8 @@ impl Mode {
         }
     }
 
-    /// A slot ends: a good master request selects a responder by its address, and the sleep frame puts the cluster to sleep.
+    /// A slot ends: a good master request selects a responder by its address, and the sleep frame
+    /// puts the cluster to sleep.
     pub(crate) fn finish(&mut self, cluster: &Cluster, slot: &OpenSlot)
         ensures { self.new ≡ mode_after cluster.now (slot_in slot.now) self.old }
     {

@@ -1,4 +1,5 @@
-//! The receivers of the links: each reassembles the messages of its link from the frames that it hears.
+//! The receivers of the links: each reassembles the messages of its link from the frames that it
+//! hears.
 
 ghost use Rattle.std.specs.Prelude.{◌≡◌, ◌<◌, ℕ, [], List, length, option_map, slice_get, Some, IfOk, OnErr};
 ghost use Rattle.lin_transport.specs.Receiver.{Hears, Stands};
@@ -12,8 +13,9 @@ use lin_parts::Cluster;
 use lin_transport::Receiver;
 use std::alloc::{AllocError, Global};
 
-/// The receivers of the two links of a node (ISO 17987-2, transport layer): its own, of the messages down to it, and the one of host 0, of
-/// the messages up from it. A node without an address has no links, and its two hear nothing.
+/// The receivers of the two links of a node (ISO 17987-2, transport layer): its own, of the
+/// messages down to it, and the one of host 0, of the messages up from it. A node without an
+/// address has no links, and its two hear nothing.
 #[derive(Drop)]
 pub(crate) struct Receivers {
     pub(crate) down: Receiver,
@@ -21,8 +23,8 @@ pub(crate) struct Receivers {
 }
 
 impl Receivers {
-    /// The receiver of the link in a direction hears the data bytes of a good frame, and gives the message that the frame completes. An
-    /// error is want of memory, and nothing is heard.
+    /// The receiver of the link in a direction hears the data bytes of a good frame, and gives the
+    /// message that the frame completes. An error is want of memory, and nothing is heard.
     pub(crate) fn hear(
         &mut self,
         dir: Direction,
@@ -58,7 +60,8 @@ impl Receivers {
     }
 }
 
-/// The receivers of a cluster's links, by node, which have heard nothing. An error is want of memory.
+/// The receivers of a cluster's links, by node, which have heard nothing. An error is want of
+/// memory.
 pub(crate) fn fresh_receivers(
     alloc: Global,
     cluster: &Cluster,
@@ -76,8 +79,8 @@ pub(crate) fn fresh_receivers(
     Ok(made)
 }
 
-/// The receiver of a link hears the data bytes of a good frame, and gives the message that the frame completes. An error is want of memory, and
-/// nothing is heard.
+/// The receiver of a link hears the data bytes of a good frame, and gives the message that the
+/// frame completes. An error is want of memory, and nothing is heard.
 pub(crate) fn hear(
     receivers: &mut Vec<Receivers>,
     link: Link,

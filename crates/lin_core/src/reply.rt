@@ -2,8 +2,8 @@
 
 use crate::payload::Events;
 
-/// Why a step is refused. A step for which several reasons hold is refused for the first of them, in this order. A refused
-/// step is logged and changes nothing else.
+/// Why a step is refused. A step for which several reasons hold is refused for the first of them,
+/// in this order. A refused step is logged and changes nothing else.
 #[derive(Clone, Copy, Debug, PartialEq, Eq)]
 pub enum Refusal {
     /// 1: a number in the step is no node's.
@@ -14,8 +14,8 @@ pub enum Refusal {
     NoSuchTable,
     /// 4: the node doesn't publish the signal.
     NotPublisher,
-    /// 5: the value isn't of the signal's kind or size: an array for a scalar signal or the other way round, a scalar with more bits, an array of
-    /// another length.
+    /// 5: the value isn't of the signal's kind or size: an array for a scalar signal or the other
+    /// way round, a scalar with more bits, an array of another length.
     BadValue,
     /// 6: not exactly one of sender and receiver is host 0, or the other one has no address.
     NoAddress,
@@ -35,7 +35,8 @@ pub enum Refusal {
     NoSlot,
     /// 14: the port may not give this step, or the node isn't due in the open slot.
     NotYours,
-    /// 15: the node has answered in this slot already, or left its response out; or the response was disturbed already.
+    /// 15: the node has answered in this slot already, or left its response out; or the response
+    /// was disturbed already.
     Decided,
     /// 16: the slot has no response, or more than one.
     NothingOnWire,

@@ -46,9 +46,10 @@ fn room_for_frames(alloc: Global, cluster: &Cluster) -> Result<Vec<Value>, Alloc
     Ok(room)
 }
 
-/// What is kept of signals and frames: the value of each signal that its publisher sees, the one that the other nodes see, and for each
-/// unconditional frame whether it is pending (ISO 17987-3, signals, sporadic and event-triggered frames). A response ends its frame's being pending
-/// when it is made; the open slot keeps that it did, until it is seen good.
+/// What is kept of signals and frames: the value of each signal that its publisher sees, the one
+/// that the other nodes see, and for each unconditional frame whether it is pending (ISO 17987-3,
+/// signals, sporadic and event-triggered frames). A response ends its frame's being pending when it
+/// is made; the open slot keeps that it did, until it is seen good.
 #[derive(Drop)]
 pub(crate) struct Signals {
     pub(crate) values: Vec<Value>,
@@ -88,7 +89,8 @@ impl Signals {
         mark(&mut self.pending, cluster, signal);
     }
 
-    /// A response with a frame is made: the frame is pending no longer. The frame, if it was pending.
+    /// A response with a frame is made: the frame is pending no longer. The frame, if it was
+    /// pending.
     pub(crate) fn clear(&mut self, frame: u16) -> Option<u16>
         requires { frame < length self.old.pending.items }
         ensures values { self.new.values ≡ self.old.values }
@@ -102,7 +104,8 @@ impl Signals {
         was.then_some(frame)
     }
 
-    /// The slot ends: its values are heard where it was seen good, and otherwise the frames that it carried are pending again.
+    /// The slot ends: its values are heard where it was seen good, and otherwise the frames that it
+    /// carried are pending again.
     pub(crate) fn finish(&mut self, cluster: &Cluster, slot: &OpenSlot)
         requires slot { IsOpen cluster.now slot.now }
         requires heard { length self.old.heard.items ≡ length cluster.now.signals }

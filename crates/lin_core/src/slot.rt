@@ -17,7 +17,8 @@ use lin_parts::{Cluster, Entry};
 use std::alloc::{AllocError, Global};
 use std::marker::Model;
 
-/// The protected identifiers of the diagnostic frames (ISO 17987-3: 60, master request, and 61, slave response).
+/// The protected identifiers of the diagnostic frames (ISO 17987-3: 60, master request, and 61,
+/// slave response).
 pub(crate) const MASTER_REQUEST: u8 = 0x3C;
 
 pub(crate) const SLAVE_RESPONSE: u8 = 0x7D;
@@ -41,9 +42,9 @@ impl Default for Put {
     }
 }
 
-/// The open slot: its place in the schedule and what that entry is for, its header, who is due, who put what, in the
-/// order of the responses, who left its response out, and whether the response was disturbed. A cluster has at most 16
-/// nodes, and each decides at most once.
+/// The open slot: its place in the schedule and what that entry is for, its header, who is due, who
+/// put what, in the order of the responses, who left its response out, and whether the response was
+/// disturbed. A cluster has at most 16 nodes, and each decides at most once.
 #[derive(Drop)]
 pub(crate) struct OpenSlot {
     pub(crate) table: u16,
@@ -70,8 +71,8 @@ fn has_left(left: &[u8], node: u8) -> bool
     left.iter().any(|other| *other == node)
 }
 
-/// The events of an open of a slot for an entry of a table, under a header, in which these nodes are due. An error is want
-/// of memory.
+/// The events of an open of a slot for an entry of a table, under a header, in which these nodes
+/// are due. An error is want of memory.
 pub(crate) fn opening_events(
     alloc: Global,
     place: (u16, u16),
@@ -125,7 +126,8 @@ impl OpenSlot {
         count
     }
 
-    /// Whether the slot is seen good when it ends: it has a header and one response, which wasn't disturbed.
+    /// Whether the slot is seen good when it ends: it has a header and one response, which wasn't
+    /// disturbed.
     pub(crate) fn is_good(&self) -> bool
         ensures { result ≡ is_some (good (slot_in self.now)) }
     {
@@ -173,16 +175,16 @@ pub(crate) fn is_clash(seen: &Seen) -> bool
     matches!(seen, Seen::Damaged | Seen::Collided)
 }
 
-/// Whether the commander puts the sleep frame in a slot with this header, unless a message is begun: sleep is asked for, and the header is the
-/// master request's.
+/// Whether the commander puts the sleep frame in a slot with this header, unless a message is
+/// begun: sleep is asked for, and the header is the master request's.
 pub(crate) fn is_sleep_asked(header: u8, asked: bool) -> bool
     ensures { result ≡ (header == 0x3C && asked) }
 {
     header == MASTER_REQUEST && asked
 }
 
-/// The place of a slot, which is open or not: what a closed one keeps counts for nothing. Contracts see the slot, if it is
-/// open.
+/// The place of a slot, which is open or not: what a closed one keeps counts for nothing. Contracts
+/// see the slot, if it is open.
 #[derive(Drop)]
 pub(crate) struct Slot {
     is_open: bool,

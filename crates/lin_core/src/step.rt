@@ -21,7 +21,8 @@ pub enum Step {
     Hurt { bytes: Payload },
     /// The open slot ends.
     Finish,
-    /// The message that is begun between host 0 and a responder, in a direction, takes too long (ISO 17987-2, timing).
+    /// The message that is begun between host 0 and a responder, in a direction, takes too long
+    /// (ISO 17987-2, timing).
     Timeout { node: u8, dir: Direction },
     /// The schedule goes on with the first entry of a table (ISO 17987-3, schedule tables).
     Switch { table: u16 },

@@ -59,7 +59,8 @@ impl State {
         Ok(two_events(room, Event::Seen(seen), lost))
     }
 
-    /// A finish of a slot with a good frame of a host's message: the message goes on, or it is whole, and its receiver is told of it.
+    /// A finish of a slot with a good frame of a host's message: the message goes on, or it is
+    /// whole, and its receiver is told of it.
     fn finish_good(
         &mut self,
         setup: &Setup,
@@ -100,7 +101,8 @@ impl State {
         Ok(Events::one(Event::Seen(seen)))
     }
 
-    /// A finish of a slot with the sleep frame, seen good: the cluster goes to sleep, and each message that is begun is lost.
+    /// A finish of a slot with the sleep frame, seen good: the cluster goes to sleep, and each
+    /// message that is begun is lost.
     pub(super) fn finish_sleep(
         &mut self,
         setup: &Setup,

@@ -100,8 +100,8 @@ impl State {
         }
     }
 
-    /// An answer with a frame of signals: the node puts it as the values stand, and the frame is pending no longer, unless the slot is
-    /// then seen otherwise than good.
+    /// An answer with a frame of signals: the node puts it as the values stand, and the frame is
+    /// pending no longer, unless the slot is then seen otherwise than good.
     fn answer_frame(&mut self, setup: &Setup, log: &Log, by: PortId, node: u8, frame: u16) -> Events
         requires ready { IsReady (stage setup.now log.now self.old) by (Step.Answer node) }
         requires carried { frame_answered setup.now.cluster (reverse log.now.entries) node ≡ Some frame }
@@ -127,7 +127,8 @@ impl State {
         Events::one(Event::Put { node, answer })
     }
 
-    /// An answer in a diagnostic slot: the node puts what comes next of its host's messages, or the commander the sleep frame.
+    /// An answer in a diagnostic slot: the node puts what comes next of its host's messages, or the
+    /// commander the sleep frame.
     fn answer_message(&mut self, setup: &Setup, log: &Log, by: PortId, node: u8) -> Events
         requires ready { IsReady (stage setup.now log.now self.old) by (Step.Answer node) }
         requires none { frame_answered setup.now.cluster (reverse log.now.entries) node ≡ None }
@@ -147,7 +148,8 @@ impl State {
         Events::one(Event::Put { node, answer })
     }
 
-    /// Makes a step that isn't refused: the events of it. An error is want of memory, and nothing is changed.
+    /// Makes a step that isn't refused: the events of it. An error is want of memory, and nothing
+    /// is changed.
     pub(super) fn make(
         &mut self,
         setup: &Setup,

@@ -38,7 +38,8 @@ impl Core {
 impl State {
     ghost use Rattle.lin_core.specs.Stages.{stage, IsMade, IsReady};
 
-    /// A timeout: the message that is begun there is lost, and its receiver forgets what it heard of it.
+    /// A timeout: the message that is begun there is lost, and its receiver forgets what it heard
+    /// of it.
     pub(super) fn time_out(&mut self, setup: &Setup, log: &Log, by: PortId, link: Link) -> Events
         requires { IsReady (stage setup.now log.now self.old) by (Step.Timeout link.node link.dir) }
         ensures { IsMade (stage setup.now log.now self.old) by (Step.Timeout link.node link.dir) result self.new }

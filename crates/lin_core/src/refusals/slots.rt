@@ -64,8 +64,8 @@ pub(crate) fn refuse_answer(cluster: &Cluster, slot: &Slot, by: PortId, node: u8
     None
 }
 
-/// Whether bytes pass the check of an answer in a slot: its length, and its checksum by the model of the slot's entry over the slot's header
-/// (ISO 17987-3, checksum).
+/// Whether bytes pass the check of an answer in a slot: its length, and its checksum by the model
+/// of the slot's entry over the slot's header (ISO 17987-3, checksum).
 fn passes_in(cluster: &Cluster, slot: &OpenSlot, answer: &[u8], bytes: &[u8]) -> bool
     requires there { IsOpen cluster.now slot.now }
     ensures { result ≡ passes_in cluster.now (slot_in slot.now) answer.now bytes.now }
