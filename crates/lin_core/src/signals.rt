@@ -77,6 +77,7 @@ impl Signals {
     /// The publisher of a signal gives it a value.
     pub(crate) fn write(&mut self, cluster: &Cluster, signal: u16, value: Value)
         requires known { signal < length self.old.values.items }
+        requires there { signal < length cluster.now.signals }
         requires frames { length self.old.pending.items ≡ length cluster.now.frames }
         ensures values { self.new.values.items ≡ slice_set self.old.values.items signal value }
         ensures heard { self.new.heard ≡ self.old.heard }
@@ -85,7 +86,7 @@ impl Signals {
         ensures pending { (f : ℕ) → f < length cluster.now.frames → slice_index_or self.new.pending.items f false ≡ (if is_in (frame_of cluster.now f).signals signal then true else slice_index_or self.old.pending.items f false) }
     {
         self.values[signal as usize] = value;
-        mark(&mut self.pending, cluster, signal);
+        mark(&mut self.pending, cluster.frames_with(signal));
     }
 
     /// A response with a frame is made: the frame is pending no longer. The frame, if it was pending.
@@ -122,28 +123,14 @@ impl Signals {
     }
 }
 
-/// Whether a frame has a signal.
-fn has_signal(cluster: &Cluster, frame: u16, signal: u16) -> bool
-    requires { frame < length cluster.now.frames }
-    ensures { result ≡ is_in (frame_of cluster.now frame).signals signal }
+/// These frames are pending.
+fn mark(pending: &mut Vec<bool>, frames: &[u16])
+    requires { All (λ f. f < length pending.old.items) frames.now }
+    ensures frames { length pending.new.items ≡ length pending.old.items }
+    ensures pending { (f : ℕ) → slice_index_or pending.new.items f false ≡ (if is_in frames.now f then true else slice_index_or pending.old.items f false) }
 {
-    cluster
-        .frame_signals(frame)
-        .iter()
-        .any(|other| *other == signal)
-}
-
-/// The frames with a signal are pending.
-fn mark(pending: &mut Vec<bool>, cluster: &Cluster, signal: u16)
-    requires { length pending.old.items ≡ length cluster.now.frames }
-    ensures frames { length pending.new.items ≡ length cluster.now.frames }
-    ensures pending { (f : ℕ) → f < length cluster.now.frames → slice_index_or pending.new.items f false ≡ (if is_in (frame_of cluster.now f).signals signal then true else slice_index_or pending.old.items f false) }
-{
-    cluster.sound();
-    for frame in 0..cluster.frames() as u16 {
-        if has_signal(cluster, frame, signal) {
-            pending[frame as usize] = true;
-        }
+    for frame in frames {
+        pending[*frame as usize] = true;
     }
 }
 
