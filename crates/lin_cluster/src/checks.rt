@@ -27,7 +27,7 @@ fn cluster_of(alloc: Global, description: &Description) -> Result<Cluster, Alloc
     requires { IsFree description.now }
     ensures { IfOk result (λ cluster. cluster ≡ parts_of description.now) }
 {
-    Ok(Cluster::new(parts_of(alloc, description)?))
+    Cluster::new(alloc, parts_of(alloc, description)?)
 }
 
 // What is answered where this is all that is found.

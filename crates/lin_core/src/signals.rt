@@ -1,6 +1,8 @@
 //! What the core keeps of signals and frames.
 
-ghost use Rattle.std.specs.Prelude.{◌≡◌, ◌<◌, ◌≤◌, ◌||◌, ◌==◌, ℕ, true, false, [], length, map, All, IfOk, IfSome, Some, None, is_some, vec_capacity, replicate, slice_set, slice_index_or, if◌then◌else◌};
+ghost use Rattle.std.specs.Prelude.{◌≡◌, ◌<◌, ◌≤◌, ◌||◌, ◌==◌, ℕ, true, false, [], length, map};
+ghost use Rattle.std.specs.Prelude.{All, IfOk, IfSome, Some, None, is_some, vec_capacity};
+ghost use Rattle.std.specs.Prelude.{replicate, slice_set, slice_index_or, if◌then◌else◌};
 ghost use Rattle.lin_parts.specs.Cluster.{frame_of};
 ghost use Rattle.lin_frame.specs.Words.{choose};
 ghost use Rattle.lin_core.specs.History.{good, is_in};
@@ -15,7 +17,8 @@ use std::alloc::{AllocError, Global};
 
 /// The initial values of all signals, by number (ISO 17987-3, signals). An error is want of memory.
 pub fn initial_values(alloc: Global, cluster: &Cluster) -> Result<Vec<Value>, AllocError>
-    ensures { IfOk result (λ values. values.items ≡ map (λ signal. signal.initial) cluster.now.signals) }
+    ensures { IfOk result
+        (λ values. values.items ≡ map (λ signal. signal.initial) cluster.now.signals) }
 {
     let mut values = Vec::new(alloc);
     for signal in 0..cluster.signals() as u16 {
@@ -36,7 +39,9 @@ fn none_pending(alloc: Global, count: usize) -> Result<Vec<bool>, AllocError>
 /// Room for the values of each frame's signals. An error is want of memory.
 fn room_for_frames(alloc: Global, cluster: &Cluster) -> Result<Vec<Value>, AllocError>
     ensures empty { IfOk result (λ room. room.items ≡ []) }
-    ensures room { IfOk result (λ room. (f : ℕ) → f < length cluster.now.frames → length (frame_of cluster.now f).signals ≤ vec_capacity room) }
+    ensures room { IfOk result
+        (λ room. (f : ℕ) → f < length cluster.now.frames
+        → length (frame_of cluster.now f).signals ≤ vec_capacity room) }
 {
     cluster.sound();
     let mut room = Vec::new(alloc);
@@ -61,11 +66,16 @@ pub(crate) struct Signals {
 impl Signals {
     /// As they stand at the start. An error is want of memory.
     pub(crate) fn new(alloc: Global, cluster: &Cluster) -> Result<Signals, AllocError>
-        ensures values { IfOk result (λ s. s.values.items ≡ map (λ signal. signal.initial) cluster.now.signals) }
-        ensures heard { IfOk result (λ s. s.heard.items ≡ map (λ signal. signal.initial) cluster.now.signals) }
-        ensures pending { IfOk result (λ s. s.pending.items ≡ replicate (length cluster.now.frames) false) }
+        ensures values { IfOk result
+            (λ s. s.values.items ≡ map (λ signal. signal.initial) cluster.now.signals) }
+        ensures heard { IfOk result
+            (λ s. s.heard.items ≡ map (λ signal. signal.initial) cluster.now.signals) }
+        ensures pending { IfOk result
+            (λ s. s.pending.items ≡ replicate (length cluster.now.frames) false) }
         ensures empty { IfOk result (λ s. s.room.items ≡ []) }
-        ensures room { IfOk result (λ s. (f : ℕ) → f < length cluster.now.frames → length (frame_of cluster.now f).signals ≤ vec_capacity s.room) }
+        ensures room { IfOk result
+            (λ s. (f : ℕ) → f < length cluster.now.frames
+            → length (frame_of cluster.now f).signals ≤ vec_capacity s.room) }
     {
         Ok(Signals {
             values: initial_values(alloc, cluster)?,
@@ -78,15 +88,19 @@ impl Signals {
     /// The publisher of a signal gives it a value.
     pub(crate) fn write(&mut self, cluster: &Cluster, signal: u16, value: Value)
         requires known { signal < length self.old.values.items }
+        requires there { signal < length cluster.now.signals }
         requires frames { length self.old.pending.items ≡ length cluster.now.frames }
         ensures values { self.new.values.items ≡ slice_set self.old.values.items signal value }
         ensures heard { self.new.heard ≡ self.old.heard }
         ensures room { self.new.room ≡ self.old.room }
         ensures frames { length self.new.pending.items ≡ length cluster.now.frames }
-        ensures pending { (f : ℕ) → f < length cluster.now.frames → slice_index_or self.new.pending.items f false ≡ (if is_in (frame_of cluster.now f).signals signal then true else slice_index_or self.old.pending.items f false) }
+        ensures pending { (f : ℕ) → f < length cluster.now.frames
+            → slice_index_or self.new.pending.items f false
+            ≡ (if is_in (frame_of cluster.now f).signals signal
+            then true else slice_index_or self.old.pending.items f false) }
     {
         self.values[signal as usize] = value;
-        mark(&mut self.pending, cluster, signal);
+        mark(&mut self.pending, cluster.frames_with(signal));
     }
 
     /// A response with a frame is made: the frame is pending no longer. The frame, if it was
@@ -97,7 +111,8 @@ impl Signals {
         ensures heard { self.new.heard ≡ self.old.heard }
         ensures room { self.new.room ≡ self.old.room }
         ensures pending { self.new.pending.items ≡ slice_set self.old.pending.items frame false }
-        ensures cleared { result ≡ (if slice_index_or self.old.pending.items frame false then Some frame else None) }
+        ensures cleared { result
+            ≡ (if slice_index_or self.old.pending.items frame false then Some frame else None) }
     {
         let was = self.pending[frame as usize];
         self.pending[frame as usize] = false;
@@ -109,13 +124,21 @@ impl Signals {
     pub(crate) fn finish(&mut self, cluster: &Cluster, slot: &OpenSlot)
         requires slot { IsOpen cluster.now slot.now }
         requires heard { length self.old.heard.items ≡ length cluster.now.signals }
-        requires cleared { All (λ put. IfSome put.cleared (λ f. f < length self.old.pending.items)) slot.now.puts.items }
+        requires cleared { All
+            (λ put. IfSome put.cleared
+            (λ f. f < length self.old.pending.items)) slot.now.puts.items }
         ensures values { self.new.values ≡ self.old.values }
         ensures room { self.new.room ≡ self.old.room }
         ensures signals { length self.new.heard.items ≡ length self.old.heard.items }
         ensures frames { length self.new.pending.items ≡ length self.old.pending.items }
-        ensures heard { (g : ℕ → Value) → ArePointwise g self.old.heard.items → ArePointwise (λ s. choose (value_in cluster.now (slot_in slot.now) s) (g s) (λ v. v)) self.new.heard.items }
-        ensures pending { (f : ℕ) → slice_index_or self.new.pending.items f false ≡ (if is_some (good (slot_in slot.now)) then slice_index_or self.old.pending.items f false else (slice_index_or self.old.pending.items f false || is_cleared slot.now.puts.items f)) }
+        ensures heard { (g : ℕ → Value) → ArePointwise g self.old.heard.items
+            → ArePointwise (λ s. choose (value_in cluster.now (slot_in slot.now) s) (g s)
+            (λ v. v)) self.new.heard.items }
+        ensures pending { (f : ℕ)
+            → slice_index_or self.new.pending.items f false
+            ≡ (if is_some (good (slot_in slot.now))
+            then slice_index_or self.old.pending.items f false else
+            (slice_index_or self.old.pending.items f false || is_cleared slot.now.puts.items f)) }
     {
         if slot.is_good() {
             hear_slot(&mut self.heard, cluster, slot);
@@ -125,28 +148,16 @@ impl Signals {
     }
 }
 
-/// Whether a frame has a signal.
-fn has_signal(cluster: &Cluster, frame: u16, signal: u16) -> bool
-    requires { frame < length cluster.now.frames }
-    ensures { result ≡ is_in (frame_of cluster.now frame).signals signal }
+/// These frames are pending.
+fn mark(pending: &mut Vec<bool>, frames: &[u16])
+    requires { All (λ f. f < length pending.old.items) frames.now }
+    ensures frames { length pending.new.items ≡ length pending.old.items }
+    ensures pending { (f : ℕ)
+        → slice_index_or pending.new.items f false
+        ≡ (if is_in frames.now f then true else slice_index_or pending.old.items f false) }
 {
-    cluster
-        .frame_signals(frame)
-        .iter()
-        .any(|other| *other == signal)
-}
-
-/// The frames with a signal are pending.
-fn mark(pending: &mut Vec<bool>, cluster: &Cluster, signal: u16)
-    requires { length pending.old.items ≡ length cluster.now.frames }
-    ensures frames { length pending.new.items ≡ length cluster.now.frames }
-    ensures pending { (f : ℕ) → f < length cluster.now.frames → slice_index_or pending.new.items f false ≡ (if is_in (frame_of cluster.now f).signals signal then true else slice_index_or pending.old.items f false) }
-{
-    cluster.sound();
-    for frame in 0..cluster.frames() as u16 {
-        if has_signal(cluster, frame, signal) {
-            pending[frame as usize] = true;
-        }
+    for frame in frames {
+        pending[*frame as usize] = true;
     }
 }
 
@@ -154,7 +165,9 @@ fn mark(pending: &mut Vec<bool>, cluster: &Cluster, signal: u16)
 fn restore_one(pending: &mut Vec<bool>, cleared: Option<u16>)
     requires { IfSome cleared (λ f. f < length pending.old.items) }
     ensures frames { length pending.new.items ≡ length pending.old.items }
-    ensures pending { (f : ℕ) → slice_index_or pending.new.items f false ≡ (slice_index_or pending.old.items f false || choose cleared false (λ g. g == f)) }
+    ensures pending { (f : ℕ)
+        → slice_index_or pending.new.items f false
+        ≡ (slice_index_or pending.old.items f false || choose cleared false (λ g. g == f)) }
 {
     if let Some(frame) = cleared {
         pending[frame as usize] = true;
@@ -165,7 +178,9 @@ fn restore_one(pending: &mut Vec<bool>, cleared: Option<u16>)
 fn restore(pending: &mut Vec<bool>, puts: &[Put])
     requires { All (λ put. IfSome put.cleared (λ f. f < length pending.old.items)) puts.now }
     ensures frames { length pending.new.items ≡ length pending.old.items }
-    ensures pending { (f : ℕ) → slice_index_or pending.new.items f false ≡ (slice_index_or pending.old.items f false || is_cleared puts.now f) }
+    ensures pending { (f : ℕ)
+        → slice_index_or pending.new.items f false
+        ≡ (slice_index_or pending.old.items f false || is_cleared puts.now f) }
 {
     for put in puts {
         restore_one(pending, put.cleared);

@@ -2,3 +2,4 @@ pub mod Identifiers
 pub mod Limits
 pub mod Pairs
 pub mod SoundClusters
+pub mod Carrying

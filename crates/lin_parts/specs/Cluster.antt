@@ -1,6 +1,8 @@
 -- The parts of a cluster by their numbers. A number out of range gives a part that breaks no rule
 -- of clusters.
-use Rattle.std.specs.Prelude.{ℕ, List, [], length, slice_index_or, position, Option, None}
+use Rattle.std.specs.Prelude.{ℕ, ◌==◌, Bool, List, [], filter, length, slice_index_or, position}
+use Rattle.std.specs.Prelude.{Option, None}
+use Rattle.std.specs.List.{list_any, range_with_len}
 use Rattle.std.specs.Str.{bytes_eq}
 use Rattle.lin_frame.specs.declared.sums.SumKind.TheVariants.{Enhanced}
 use Rattle.lin_frame.specs.declared.value.Value.TheVariants.{Scalar}
@@ -32,6 +34,14 @@ signal_of c s =
 -- out of range: a frame of identifier 0, whose protected identifier is 80
 abbrev pub frame_of : Parts → ℕ → SignalFrame
 frame_of c f = slice_index_or c.frames f (record { pid = 0x80; model = Enhanced; publisher = 0; layout = record { len = 1; pid = None; places = [] }; signals = [] })
+
+-- whether a frame has a signal
+abbrev pub has_signal : Parts → ℕ → ℕ → Bool
+has_signal c s f = list_any (λ x. x == s) (frame_of c f).signals
+
+-- the frames that have a signal, by rising numbers
+abbrev pub frames_with : Parts → ℕ → List ℕ
+frames_with c s = filter (has_signal c s) (range_with_len 0 (length c.frames))
 
 -- the frames of a sporadic frame
 abbrev pub sporadic_of : Parts → ℕ → List ℕ

@@ -1,3 +1,4 @@
 pub mod Cluster
+pub mod Carriers
 pub mod Rules
 pub mod Sound

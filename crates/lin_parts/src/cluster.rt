@@ -1,20 +1,27 @@
 //! A cluster and its reads.
 
-ghost use Rattle.std.specs.Prelude.{◌≡◌, ◌+◌, ◌<◌, ◌≤◌, length, position, IfSome};
+ghost use Rattle.std.specs.Prelude.{ℕ, ◌≡◌, ◌==◌, ◌+◌, ◌<◌, ◌≤◌, length, position, All, IfOk};
+ghost use Rattle.std.specs.Prelude.{IfSome};
+ghost use Rattle.std.specs.List.{list_any};
 ghost use Rattle.std.specs.Str.{bytes_eq};
-ghost use Rattle.lin_parts.specs.Cluster.{nodes, nad, node_of, signal_of, frame_of, sporadic_of};
-ghost use Rattle.lin_parts.specs.Cluster.{event_of, named_table, table_of, line_of, first_table};
+ghost use Rattle.lin_parts.specs.Cluster.{has_signal, nodes, nad, node_of, signal_of, frame_of};
+ghost use Rattle.lin_parts.specs.Cluster.{frames_with, sporadic_of, event_of, named_table};
+ghost use Rattle.lin_parts.specs.Cluster.{table_of, line_of, first_table};
 ghost use Rattle.lin_parts.specs.Rules.{IsCluster, IsDelay};
 ghost use Rattle.lin_parts.specs.Sound.{IsSound};
 
+use crate::carriers::all_carriers;
 use crate::parts::{Entry, EventFrame, Line, Node, Parts, Signal, SignalFrame, Table};
 use lin_frame::{Layout, SumKind, Value};
+use lin_lists::Many;
+use std::alloc::{AllocError, Global};
 use std::marker::Model;
 
 /// A LIN cluster. Contracts see its parts. Nodes, signals, frames of each kind and tables are read
 /// by their numbers, which begin at 0; each read's condition is that the number is in range.
 pub struct Cluster {
     parts: Parts,
+    carriers: Vec<Many<u16>>,
 }
 
 impl Model for Cluster {
@@ -25,14 +32,19 @@ impl Model for Cluster {
     ghost view = { λ c. c.parts };
 
     ghost use Rattle.lin_parts.specs.Rules.{IsCluster};
+    ghost use Rattle.lin_parts.specs.Carriers.{all_carriers};
+    ghost use Rattle.std.specs.Prelude.{◌≡◌};
 
-    ghost invariant = { λ c. IsCluster c.parts };
+    ghost invariant = { λ c. IsCluster c.parts × (c.carriers.items ≡ all_carriers c.parts) };
 }
 
 // Written out, so that what owns a cluster lets it go in one step of its proof.
 impl Drop for Cluster {
     fn drop(self) {
-        let Cluster { parts: _parts } = self;
+        let Cluster {
+            parts: _parts,
+            carriers: _carriers,
+        } = self;
     }
 }
 
@@ -49,11 +61,15 @@ fn first_named(tables: &[Table], name: &[u8]) -> Option<usize>
 impl Cluster {
     /// The cluster of these parts. The condition is that they keep the rules of every cluster;
     /// `check` makes such parts of a description.
-    pub fn new(parts: Parts) -> Cluster
+    ///
+    /// # Errors
+    /// Out of memory; the parts are dropped then.
+    pub fn new(alloc: Global, parts: Parts) -> Result<Cluster, AllocError>
         requires { IsCluster parts }
-        ensures { result ≡ parts }
+        ensures { IfOk result (λ cluster. cluster ≡ parts) }
     {
-        Cluster { parts }
+        let carriers = all_carriers(alloc, &parts)?;
+        Ok(Cluster { parts, carriers })
     }
 
     /// What every cluster has: this call does nothing, and its caller knows the rules of clusters
@@ -231,6 +247,17 @@ impl Cluster {
         ensures { result.now ≡ (frame_of self.now frame).signals }
     {
         self.frame(frame).signals.as_slice()
+    }
+
+    /// The unconditional frames that have a signal, by rising numbers.
+    pub fn frames_with(&self, signal: u16) -> &[u16]
+        requires { signal < length self.now.signals }
+        ensures frames { result.now ≡ frames_with self.now signal }
+        ensures there { All (λ f. f < length self.now.frames) result.now }
+        ensures each { (f : ℕ) → f < length self.now.frames
+            → list_any (λ g. g == f) result.now ≡ has_signal self.now signal f }
+    {
+        self.carriers.as_slice()[signal as usize].as_slice()
     }
 
     /// How many sporadic frames the cluster has.

@@ -7,6 +7,7 @@
 //! ```
 #![tactic(auto)]
 
+mod carriers;
 mod cluster;
 mod parts;
 
