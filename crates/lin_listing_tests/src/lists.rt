@@ -1,0 +1,68 @@
+//! Each sample in both lists.
+
+use crate::samples;
+use lin_cluster::check;
+use lin_ldf::parse;
+use lin_listing::{write_frames, write_slots};
+use lin_names::Names;
+use std::alloc::Global;
+use std::process::Abort;
+use std::test::Fail;
+
+/// Compares what was written.
+fn expect_bytes(rt: &impl Abort, found: &[u8], want: &[u8], case: &str) {
+    let text = std::str::from_utf8(found).unwrap_or("no text");
+    assert!(rt; found == want, "{case}: {text}");
+}
+
+fn expect_lists(
+    rt: &impl Abort,
+    alloc: Global,
+    ldf: &[u8],
+    frames: &[u8],
+    slots: &[u8],
+) -> Result<(), Fail> {
+    let description = parse(alloc, ldf)?;
+    let names = Names::of(alloc, &description)?;
+    let cluster = check(alloc, description)?;
+    let mut found = Vec::new(alloc);
+    write_frames(&cluster, &names, &mut found)?;
+    expect_bytes(rt, &found, frames, "frames");
+    let mut found = Vec::new(alloc);
+    write_slots(&cluster, &names, &mut found)?;
+    expect_bytes(rt, &found, slots, "slots");
+    Ok(())
+}
+
+#[test]
+fn built_in(rt: HostRuntime) -> Result<(), Fail> {
+    expect_lists(
+        &rt,
+        rt.alloc(),
+        samples::BUILT_IN,
+        samples::BUILT_IN_FRAMES,
+        samples::BUILT_IN_SLOTS,
+    )
+}
+
+#[test]
+fn lights(rt: HostRuntime) -> Result<(), Fail> {
+    expect_lists(
+        &rt,
+        rt.alloc(),
+        samples::LIGHTS,
+        samples::LIGHTS_FRAMES,
+        samples::LIGHTS_SLOTS,
+    )
+}
+
+#[test]
+fn door_zone(rt: HostRuntime) -> Result<(), Fail> {
+    expect_lists(
+        &rt,
+        rt.alloc(),
+        samples::DOOR_ZONE,
+        samples::DOOR_ZONE_FRAMES,
+        samples::DOOR_ZONE_SLOTS,
+    )
+}
