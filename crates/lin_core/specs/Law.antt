@@ -1,19 +1,15 @@
 -- Promises rest on this: the laws that hold of every history of a cluster.
 use Rattle.std.specs.Prelude.{◌≡◌, ℕ, ◌==◌, ⊤, Bool, true, false, ◌&&◌, ◌||◌, not, List, [], ◌∷◌, ◌++◌, map, filter}
 use Rattle.lin_transport.specs.Transport.{frames}
-use Rattle.lin_parts.specs.declared.parts.Parts.{Parts}
-use Rattle.lin_core.specs.History.{did, closed, is_sleep_mark}
+use Rattle.lin_core.specs.History.{did, closed, is_sleep_mark, LogEntry, Step, Parts}
 use Rattle.lin_core.specs.Links.{Link, same_link, host_of, Sign, Fate, fate, is_waiting, frames_of, Message, Sending, sendings, fate_of, reading, waiting, accepted}
 use Rattle.lin_core.specs.Links.Fate.{Waiting, Sent, Lost}
-use Rattle.lin_core.specs.declared.log.LogEntry.{LogEntry}
-use Rattle.lin_core.specs.declared.step.Step.{Step}
 use Rattle.lin_core.specs.declared.step.Step.TheVariants.{Send, Hurt, Timeout}
 
 abbrev pub is_sent : Fate → Bool
 is_sent Sent = true
 is_sent fate = false
 
--- whether a message went over a link and was sent
 abbrev pub sent_over : Parts → Link → Sending → Bool
 sent_over c l s = same_link s.message.link l && is_sent (fate_of c s)
 

@@ -1,17 +1,14 @@
 -- Promises rest on this: messages on their links: what was accepted, what was put, and what became
 -- of it (ISO 17987-2, transport layer).
-use Rattle.std.specs.Prelude.{ℕ, suc, ◌==◌, Bool, true, false, ◌&&◌, if◌then◌else◌, List, [], ◌∷◌, ◌++◌, map, find, filter, length, reverse, take, slice_index, slice_index_or, Option, Some, None, is_some}
+use Rattle.std.specs.Prelude.{ℕ, suc, ◌==◌, eqb, Bool, true, false, ◌&&◌, if◌then◌else◌, List, [], ◌∷◌, ◌++◌, map, find, filter, length, reverse, take, slice_index, slice_index_or, Option, Some, None, is_some}
 use Rattle.std.specs.List.{list_any, list_all, cons_option}
+use Rattle.std.specs.Cmp.Lexicographic.{pointwise}
 use Rattle.lin_frame.specs.Words.{choose}
 use Rattle.lin_transport.specs.Words.{with_last}
-use Rattle.lin_core.specs.Words.{same_frames}
 use Rattle.lin_transport.specs.Transport.{frames, begins, Heard, messages_in}
 use Rattle.lin_transport.specs.Transport.Heard.{Frame, Reset}
 use Rattle.lin_parts.specs.Cluster.{nad}
-use Rattle.lin_parts.specs.declared.parts.Parts.{Parts}
-use Rattle.lin_core.specs.History.{Slot, open_slot, finished, done, did, seen, good_under, header_is, is_sleep_mark}
-use Rattle.lin_core.specs.declared.log.LogEntry.{LogEntry}
-use Rattle.lin_core.specs.declared.step.Step.{Step}
+use Rattle.lin_core.specs.History.{Slot, open_slot, finished, done, did, seen, good_under, header_is, is_sleep_mark, LogEntry, Step, Parts}
 use Rattle.lin_core.specs.declared.step.Step.TheVariants.{Send, Timeout}
 use Rattle.lin_core.specs.declared.link.Direction.{Direction}
 use Rattle.lin_core.specs.declared.link.Link.{Link as DeclaredLink}
@@ -114,7 +111,7 @@ in_last s (b ∷ []) = (b ++ s ∷ []) ∷ []
 in_last s (b ∷ d ∷ bs) = b ∷ in_last s (d ∷ bs)
 
 -- the blocks: the frames that were put, cut before each that begins a message, with the marks that
--- stand behind them. A frame before the first that begins a message starts a block too
+-- stand after them. A frame before the first that begins a message starts a block too
 abbrev pub blocks_of : List Sign → List (List Sign)
 blocks_of [] = []
 blocks_of (Put f how ∷ earlier) = if begins f then blocks_of earlier ++ (Put f how ∷ []) ∷ [] else in_last (Put f how) (blocks_of earlier)
@@ -123,7 +120,6 @@ blocks_of (Mark cause ∷ earlier) = with_last (λ b. b ++ Mark cause ∷ []) (b
 abbrev pub blocks : Parts → List LogEntry → Link → List (List Sign)
 blocks c past l = blocks_of (all_signs c past l)
 
--- the frames of a block
 abbrev pub frames_of : List Sign → List (List ℕ)
 frames_of [] = []
 frames_of (Put f how ∷ b) = f ∷ frames_of b
@@ -151,6 +147,9 @@ is_good sign = false
 abbrev pub begins_good : List Sign → Bool
 begins_good [] = false
 begins_good (s ∷ b) = is_good s
+
+abbrev pub same_frames : List (List ℕ) → List (List ℕ) → Bool
+same_frames = pointwise (pointwise eqb)
 
 pub data Fate : Type 0 where
   Waiting : Fate
@@ -212,14 +211,14 @@ begun c past h = find (is_begun c) (sendings c past h)
 abbrev pub heard_good : ℕ → List ℕ → List Heard
 heard_good k bytes = if slice_index bytes 0 == k then Frame (take 8 bytes) ∷ [] else []
 
-abbrev pub header_for : Direction → ℕ
-header_for Down = 0x3C
-header_for Up = 0x7D
+abbrev pub diagnostic_header : Direction → ℕ
+diagnostic_header Down = 0x3C
+diagnostic_header Up = 0x7D
 
 abbrev pub heard_at : Parts → Link → LogEntry → List LogEntry → List Heard
 heard_at c l e past =
     (if is_some (mark l e past) then Reset ∷ [] else [])
-    ++ choose (choose (finished e past) None (good_under (header_for l.dir))) [] (heard_good (nad_on c l))
+    ++ choose (choose (finished e past) None (good_under (diagnostic_header l.dir))) [] (heard_good (nad_on c l))
 
 abbrev pub heard_on : Parts → List LogEntry → Link → List Heard
 heard_on c [] l = []

@@ -1,14 +1,11 @@
--- Promises rest on this: what holds of every log of a core: the laws, each as one statement over
--- its history.
+-- Promises rest on this: the laws, each as one statement over the history of a log.
 use Rattle.std.specs.Prelude.{◌≡◌, ℕ, ⊤, true, List, [], ◌∷◌, is_some}
 use Rattle.lin_parts.specs.Cluster.{nad}
-use Rattle.lin_parts.specs.declared.parts.Parts.{Parts}
 use Rattle.lin_core.specs.Defined.{AreDefined, TellsDue}
-use Rattle.lin_core.specs.History.{done, events}
+use Rattle.lin_core.specs.History.{done, events, LogEntry, Parts}
 use Rattle.lin_core.specs.Law.{InOrder, NoneLost, NoSendAfterClose, ReadsAll, ReadsSent, Stays, is_calm, outcomes_of}
 use Rattle.lin_core.specs.Links.{Link, accepted, blocks, nad_on}
 use Rattle.lin_core.specs.Reports.{ReportsFates, TellsReading}
-use Rattle.lin_core.specs.declared.log.LogEntry.{LogEntry}
 
 -- exact delivery: the receiver of each link reads the messages that were accepted for it and sent,
 -- in order and each once, and the message events of the link are these
@@ -30,7 +27,7 @@ AllStay c (e ∷ past) h = Stays (outcomes_of c past h) (outcomes_of c (e ∷ pa
 abbrev pub FatesAreFinal : Parts → List LogEntry → Type 0
 FatesAreFinal c past = (h : ℕ) → AllStay c past h × ReportsFates c past h
 
--- every slot carries its frame: each slot event has the due entry and its header, and behind it
+-- every slot carries its frame: each slot event has the due entry and its header, and after it
 -- stands a due event for each node that is due, in order; each put has the bytes of the slot's
 -- entry
 abbrev pub CarriesFrames : Parts → ℕ → List LogEntry → Type 0

@@ -6,17 +6,14 @@ use Rattle.lin_frame.specs.Frame.{is_answer}
 use Rattle.lin_frame.specs.Bits.{fits_place}
 use Rattle.lin_parts.specs.Cluster.{nodes, nad, line_of, signal_of}
 use Rattle.lin_parts.specs.Rules.{place_at}
-use Rattle.lin_parts.specs.declared.parts.Parts.{Parts}
-use Rattle.lin_core.specs.History.{Slot as OpenSlot, open_slot, asleep, closed, seen, is_in, is_sleep_slot, has_decided}
+use Rattle.lin_core.specs.History.{Slot as OpenSlot, open_slot, asleep, closed, seen, is_in, is_sleep_slot, has_decided, LogEntry, Step, Parts}
 use Rattle.lin_core.specs.Links.{Link, Sending, Fate, accepted_from, host_of, same_link, waiting, is_begun, sendings, fate_of, waits, reading}
 use Rattle.lin_core.specs.Links.Fate.{Waiting, Sent as IsSent, Lost as IsLost}
 use Rattle.lin_core.specs.Slots.{next_due, header, due_nodes, put, model_of}
-use Rattle.lin_core.specs.declared.log.LogEntry.{LogEntry}
 use Rattle.lin_core.specs.declared.port.PortId.{PortId}
 use Rattle.lin_core.specs.declared.port.PortId.TheVariants.{Bus, Host, Node}
 use Rattle.lin_core.specs.declared.link.Direction.{Direction}
 use Rattle.lin_core.specs.declared.link.Direction.TheVariants.{Down, Up}
-use Rattle.lin_core.specs.declared.step.Step.{Step}
 use Rattle.lin_core.specs.declared.step.Step.TheVariants.{Send, Write, Open, Answer, Leave, Hurt, Finish, Timeout, Switch, AskSleep, Wake, Close}
 use Rattle.lin_core.specs.declared.event.Event.{Event}
 use Rattle.lin_core.specs.declared.event.Event.TheVariants.{Accepted, Slot, Due, Put, Seen, Message, Sent, Lost, Asleep as SleepEvent}
@@ -59,6 +56,15 @@ passes_in c s answer bytes = choose s.header false (λ h. is_answer (model_of c 
 abbrev pub begun_on : Parts → List LogEntry → ℕ → Direction → Option Sending
 begun_on c past n d = find (λ s. same_link s.message.link (link_at n d) && is_begun c s) (sendings c past (host_of (link_at n d)))
 
+-- of an answer, and of a response left out, which this port may give or not
+abbrev pub response_refusals : Parts → List LogEntry → Bool → ℕ → List (Refusal × Bool)
+response_refusals c past allowed node =
+    (NoSuchNode, nat_le (nodes c) node)
+    ∷ (NoSlot, not (is_open past))
+    ∷ (NotYours, not allowed || not (in_slot past (λ s. is_in s.due node)))
+    ∷ (Decided, in_slot past (λ s. has_decided s node))
+    ∷ []
+
 -- the conditions under which a step is refused, in the order of their numbers
 abbrev pub refusals : Parts → ℕ → List LogEntry → PortId → Step → List (Refusal × Bool)
 refusals c capacity past port (Send from to message) =
@@ -77,18 +83,8 @@ refusals c capacity past port (Write by signal value) =
     ∷ (NotYours, not (may port (Write by signal value)))
     ∷ []
 refusals c capacity past port Open = (Asleep, asleep past) ∷ (SlotOpen, is_open past) ∷ (NotYours, not (may port Open)) ∷ []
-refusals c capacity past port (Answer node) =
-    (NoSuchNode, nat_le (nodes c) node)
-    ∷ (NoSlot, not (is_open past))
-    ∷ (NotYours, not (may port (Answer node)) || not (in_slot past (λ s. is_in s.due node)))
-    ∷ (Decided, in_slot past (λ s. has_decided s node))
-    ∷ []
-refusals c capacity past port (Leave node) =
-    (NoSuchNode, nat_le (nodes c) node)
-    ∷ (NoSlot, not (is_open past))
-    ∷ (NotYours, not (may port (Leave node)) || not (in_slot past (λ s. is_in s.due node)))
-    ∷ (Decided, in_slot past (λ s. has_decided s node))
-    ∷ []
+refusals c capacity past port (Answer node) = response_refusals c past (may port (Answer node)) node
+refusals c capacity past port (Leave node) = response_refusals c past (may port (Leave node)) node
 refusals c capacity past port (Hurt bytes) =
     (NoSlot, not (is_open past))
     ∷ (NotYours, not (may port (Hurt bytes)))
@@ -114,7 +110,6 @@ refusals c capacity past port (Close host) =
 abbrev pub refusal : Parts → ℕ → List LogEntry → PortId → Step → Option Refusal
 refusal c capacity past port step = option_map (λ (r : Refusal × Bool). r.0) (find (λ (r : Refusal × Bool). r.1) (refusals c capacity past port step))
 
--- the events of an open
 abbrev pub opening_events : Parts → ℕ → List LogEntry → List Event
 opening_events c opening past =
     let at : ℕ × ℕ = next_due c opening past
@@ -160,7 +155,6 @@ quiet_entry port step = record { port = port; step = step; reply = Done [] }
 abbrev pub sleeps : List LogEntry → Bool
 sleeps past = choose (open_slot past) false is_sleep_slot
 
--- the events of a finish
 abbrev pub finish_events : Parts → PortId → List LogEntry → List Event
 finish_events c port past =
     let e : LogEntry = quiet_entry port Finish
@@ -169,7 +163,6 @@ finish_events c port past =
     ++ (if sleeps past then SleepEvent ∷ [] else [])
     ++ all_reports c e past
 
--- the events of a step that is done
 abbrev pub done_events : Parts → ℕ → List LogEntry → PortId → Step → List Event
 done_events c opening past port (Send from to message) = Accepted from (suc (length (accepted_from past from))) ∷ []
 done_events c opening past port Open = opening_events c opening past

@@ -8,16 +8,13 @@ use Rattle.lin_frame.specs.declared.sums.SumKind.{SumKind}
 use Rattle.lin_frame.specs.declared.sums.SumKind.TheVariants.{Classic}
 use Rattle.lin_transport.specs.Transport.{frame}
 use Rattle.lin_parts.specs.Cluster.{nad, nodes, frame_of, sporadic_of, event_of}
-use Rattle.lin_parts.specs.declared.parts.Parts.{Parts}
 use Rattle.lin_parts.specs.declared.parts.Entry.{Entry}
 use Rattle.lin_parts.specs.declared.parts.Entry.TheVariants.{Frame, Sporadic, Event, MasterReq, SlaveResp, Quiet}
 use Rattle.lin_schedule.specs.Schedule.{Move, standing, due}
 use Rattle.lin_schedule.specs.Schedule.Move.{Slot as SlotMove, Switch as SwitchMove, Restart}
-use Rattle.lin_core.specs.History.{Slot, asked, done, finished, good_under, is_clash, is_sleep_mark}
+use Rattle.lin_core.specs.History.{Slot, asked, done, finished, good_under, is_clash, is_sleep_mark, LogEntry, Step, Parts}
 use Rattle.lin_core.specs.Links.{Sending, waiting, begun, frames_of, nad_on}
 use Rattle.lin_core.specs.Signals.{pending, signal_bytes}
-use Rattle.lin_core.specs.declared.log.LogEntry.{LogEntry}
-use Rattle.lin_core.specs.declared.step.Step.{Step}
 use Rattle.lin_core.specs.declared.step.Step.TheVariants.{Switch, Wake}
 
 -- how a step that isn't of a slot moves the schedule on
@@ -38,7 +35,6 @@ moves (e ∷ past) = moves_at e past ++ moves past
 abbrev pub next_due : Parts → ℕ → List LogEntry → ℕ × ℕ
 next_due c opening past = due c (standing c opening (moves past))
 
--- the node with an address, if there is one
 abbrev pub node_with : Parts → ℕ → Option ℕ
 node_with c k = find (λ n. choose (nad c n) false (λ own. own == k)) (numbers (nodes c))
 
@@ -124,6 +120,4 @@ abbrev pub model_of : Parts → Entry → ℕ → SumKind
 model_of c (Frame f) h = (frame_of c f).model
 model_of c (Sporadic k) h = (frame_of c (member_under c k h)).model
 model_of c (Event e) h = (event_of c e).model
-model_of c MasterReq h = Classic
-model_of c SlaveResp h = Classic
-model_of c Quiet h = Classic
+model_of c entry h = Classic

@@ -1,7 +1,7 @@
 //! Copies of steps and events.
 
-ghost use Rattle.std.specs.Prelude.{◌≡◌, ◌≤◌, length};
-ghost use Rattle.lin_core.specs.Fits.{AreBytes, FitsValue};
+ghost use Rattle.std.specs.Prelude.{◌≡◌, ◌≤◌, length, IfOk};
+ghost use Rattle.lin_core.specs.Fits.{AreBytes, FitsStep, FitsValue};
 
 use crate::event::Event;
 use crate::payload::Payload;
@@ -11,10 +11,7 @@ use lin_frame::{Value, ValueBytes};
 use std::alloc::{AllocError, Global};
 
 impl Payload {
-    ghost use Rattle.std.specs.Prelude.{◌≡◌, IfOk};
-    ghost use Rattle.lin_core.specs.Fits.{AreBytes};
-
-    /// Equal bytes; an error is want of memory.
+    /// Equal bytes; an error is out of memory.
     pub(crate) fn copy(&self, alloc: Global) -> Result<Payload, AllocError>
         ensures same { IfOk result (λ p. p ≡ self.now) }
         ensures fits { AreBytes self.now }
@@ -48,10 +45,7 @@ fn copied(value: &Value) -> Value
 }
 
 impl Step {
-    ghost use Rattle.std.specs.Prelude.{◌≡◌, IfOk};
-    ghost use Rattle.lin_core.specs.Fits.{FitsStep};
-
-    /// An equal step; an error is want of memory.
+    /// An equal step; an error is out of memory.
     pub fn copy(&self, alloc: Global) -> Result<Step, AllocError>
         ensures same { IfOk result (λ s. s ≡ self.now) }
         ensures fits { FitsStep self.now }
@@ -87,49 +81,42 @@ impl Step {
 }
 
 impl Event {
-    ghost use Rattle.std.specs.Prelude.{◌≡◌, IfOk};
-
-    /// An equal event; an error is want of memory.
+    /// An equal event; an error is out of memory.
     pub fn copy(&self, alloc: Global) -> Result<Event, AllocError>
         ensures { IfOk result (λ e. e ≡ self.now) }
     {
-        match self {
-            Event::Accepted { host, number } => Ok(Event::Accepted {
-                host: *host,
-                number: *number,
-            }),
+        match *self {
+            Event::Accepted { host, number } => Ok(Event::Accepted { host, number }),
             Event::Slot {
                 table,
                 entry,
                 header,
             } => Ok(Event::Slot {
-                table: *table,
-                entry: *entry,
-                header: *header,
+                table,
+                entry,
+                header,
             }),
-            Event::Due { node } => Ok(Event::Due { node: *node }),
-            Event::Put { node, answer } => Ok(Event::Put {
-                node: *node,
-                answer: *answer,
-            }),
-            Event::Seen(seen) => Ok(Event::Seen(*seen)),
-            Event::Message { from, to, bytes } => Ok(Event::Message {
-                from: *from,
-                to: *to,
+            Event::Due { node } => Ok(Event::Due { node }),
+            Event::Put { node, answer } => Ok(Event::Put { node, answer }),
+            Event::Seen(seen) => Ok(Event::Seen(seen)),
+            Event::Message {
+                from,
+                to,
+                ref bytes,
+            } => Ok(Event::Message {
+                from,
+                to,
                 bytes: bytes.copy(alloc)?,
             }),
-            Event::Sent { host, number } => Ok(Event::Sent {
-                host: *host,
-                number: *number,
-            }),
+            Event::Sent { host, number } => Ok(Event::Sent { host, number }),
             Event::Lost {
                 host,
                 number,
                 cause,
             } => Ok(Event::Lost {
-                host: *host,
-                number: *number,
-                cause: *cause,
+                host,
+                number,
+                cause,
             }),
             Event::Asleep => Ok(Event::Asleep),
         }

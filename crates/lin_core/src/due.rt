@@ -5,9 +5,9 @@ ghost use Rattle.std.specs.Prelude.{◌≡◌, ◌==◌, ◌&&◌, ◌||◌, ◌
 ghost use Rattle.std.specs.List.{list_any};
 ghost use Rattle.lin_frame.specs.Words.{numbers};
 ghost use Rattle.lin_parts.specs.Cluster.{frame_of, nodes};
-ghost use Rattle.lin_core.specs.Dues.{header_of, is_due_of, HasDue};
+ghost use Rattle.lin_core.specs.kept.Slots.{header_of, is_due_of, HasDue};
 
-use crate::slot::{MASTER_REQUEST, SLAVE_RESPONSE};
+use crate::slot::{MASTER_REQUEST, NODES, SLAVE_RESPONSE};
 use arrayvec::ArrayVec;
 use lin_parts::Cluster;
 use lin_schedule::Due;
@@ -20,7 +20,7 @@ pub(crate) fn has_request(waits: bool, asked: bool) -> bool
 }
 
 /// The header of a slot, where the commander has something to request or doesn't.
-pub(crate) fn header_for(cluster: &Cluster, due: Due, waits: bool) -> Option<u8>
+pub(crate) fn header_of(cluster: &Cluster, due: Due, waits: bool) -> Option<u8>
     requires { HasDue cluster.now due }
     ensures { result ≡ header_of cluster.now waits due }
 {
@@ -76,7 +76,7 @@ pub(crate) fn due_nodes(
     waits: bool,
     responder: Option<u8>,
     pending: &[bool],
-) -> ArrayVec<u8, 16>
+) -> ArrayVec<u8, NODES>
     requires there { HasDue cluster.now due }
     requires count { length pending.now ≡ length cluster.now.frames }
     ensures due { result.items ≡ filter (is_due_of cluster.now pending.now waits responder due) (numbers (nodes cluster.now)) }

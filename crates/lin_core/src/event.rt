@@ -20,7 +20,7 @@ pub enum Seen {
 }
 
 /// What a step that is done tells.
-#[derive(Drop)]
+#[derive(Debug, PartialEq, Drop)]
 pub enum Event {
     /// The message of a host was accepted under this number; a host's messages are numbered from 1.
     Accepted {

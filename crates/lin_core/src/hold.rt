@@ -4,7 +4,7 @@ use crate::step::Step;
 
 /// A step that was neither done nor refused. It is handed back as it was given; nothing is logged
 /// or changed.
-#[derive(Drop)]
+#[derive(Debug, PartialEq, Drop)]
 pub enum Hold {
     /// The log has 4,294,967,295 entries.
     LogFull(Step),

@@ -1,7 +1,7 @@
 //! What the core keeps of a host.
 
 ghost use Rattle.std.specs.Prelude.{◌≡◌, ◌<◌, ◌+◌, ◌^◌, ◌≤◌, ℕ, IfOk, All, IsTrue, ◌↔◌, length, slice_get, is_some, nat_lt, if◌then◌else◌, None, Some, false};
-ghost use Rattle.lin_core.specs.Hosts.{fresh, gone_on, queued, sent_of, settled, size_of};
+ghost use Rattle.lin_core.specs.kept.Hosts.{fresh, gone_on, queued, sent_of, settled, size_of};
 ghost use Rattle.lin_transport.specs.Sender.{Sending};
 ghost use Rattle.lin_transport.specs.Transport.{frame_count};
 ghost use Rattle.lin_core.specs.declared.host.Host.{Host};
@@ -9,6 +9,9 @@ ghost use Rattle.lin_core.specs.declared.host.Host.{Host};
 use circular_buffer::HeapCircularBuffer;
 use lin_transport::Sender;
 use std::alloc::{AllocError, Global};
+
+/// The most bytes of a message in a single frame (ISO 17987-2, transport layer).
+const SINGLE_FRAME: usize = 6;
 
 /// The messages of a host: how many of them are settled, and where those that wait stand in the
 /// log, the next one first. So the number of the next one is one more than `settled`. Where the
@@ -63,7 +66,7 @@ impl Host {
     {
         match &self.sender {
             Some(sender) => sender.is_last(),
-            None => len <= 6,
+            None => len <= SINGLE_FRAME,
         }
     }
 
@@ -78,7 +81,7 @@ impl Host {
     }
 }
 
-/// So many hosts of which none has sent a message. An error is want of memory.
+/// So many hosts of which none has sent a message. An error is out of memory.
 pub(crate) fn hosts(alloc: Global, count: usize, capacity: usize) -> Result<Vec<Host>, AllocError>
     requires { count ≤ 16 }
     ensures count { IfOk result (λ hosts. length hosts.items ≡ count) }

@@ -9,7 +9,7 @@ use std::alloc::{AllocError, Global};
 use std::marker::Model;
 
 /// An entry of the log: a step, who gave it, and what it was answered.
-#[derive(Drop)]
+#[derive(Debug, PartialEq, Drop)]
 pub struct LogEntry {
     pub port: PortId,
     pub step: Step,
@@ -17,7 +17,7 @@ pub struct LogEntry {
 }
 
 /// The log of a core: each step that was done or refused, the oldest first.
-#[derive(Drop)]
+#[derive(Debug, Drop)]
 pub struct Log {
     entries: Vec<LogEntry>,
 }
@@ -84,5 +84,21 @@ impl Log {
         ensures { self.new.entries ≡ self.old.entries ++ entry ∷ [] }
     {
         self.entries.push(entry).unwrap();
+    }
+}
+
+impl PartialEq for Log {
+    ghost use Rattle.std.specs.Cmp.{on_per};
+    ghost use Rattle.std.specs.Cmp.Lexicographic.{lists_per, pointwise};
+    ghost use Rattle.lin_core.specs.Logs.{LogData};
+    ghost use Rattle.lin_core.specs.contracts.log.LogEntryPartialEq.TheImpl as entry;
+    ghost use Rattle.lin_core.specs.contracts.log.LogEntryPartialEq.TheImpl.Laws.{laws-law};
+
+    ghost eq = { λ a b. pointwise (entry.ghosts).eq a.entries b.entries };
+
+    ghost laws = { on_per (λ (l : LogData). l.entries) (lists_per laws-law) };
+
+    fn eq(&self, other: &Log) -> bool {
+        self.entries.as_slice() == other.entries.as_slice()
     }
 }

@@ -2,19 +2,16 @@
 
 ghost use Rattle.std.specs.Prelude.{◌≡◌, ◌≤◌, ◌∷◌, [], vec_capacity};
 
-mod close;
-mod disturbed;
 mod finish;
 mod make;
 mod refused;
-mod sleep;
 mod timeout;
 
+use crate::bus_state::BusState;
 use crate::event::Event;
 use crate::hold::Hold;
 use crate::host::hosts;
 use crate::log::{Log, LogEntry};
-use crate::mode::Mode;
 use crate::payload::Events;
 use crate::port::PortId;
 use crate::receivers::fresh_receivers;
@@ -30,6 +27,9 @@ use lin_schedule::Walker;
 use std::alloc::{AllocError, Global};
 use std::marker::Model;
 
+/// The most entries of a log: each has a place of 32 bits.
+const MOST_ENTRIES: usize = 0xffff_ffff;
+
 /// The core: a cluster, and the log of the steps that were made on it. Contracts see the cluster,
 /// the table that the schedule opened with, the capacity of the queues, the log (the oldest entry
 /// first) and how much room was made.
@@ -41,11 +41,11 @@ pub struct Core {
 
 impl Model for Core {
     ghost use Rattle.std.specs.Prelude.{◌≡◌, ◌<◌, ◌≤◌, ◌-◌, ◌^◌, [], length, vec_capacity};
-    ghost use Rattle.lin_core.specs.Core.{CoreData};
+    ghost use Rattle.lin_core.specs.Core.{CoreData, core_data};
 
     ghost Value = { CoreData };
 
-    ghost use Rattle.lin_core.specs.Whole.{core_data, IsWhole};
+    ghost use Rattle.lin_core.specs.kept.State.{IsWhole};
 
     ghost view = { core_data };
 
@@ -105,7 +105,7 @@ impl Core {
     ghost use Rattle.lin_core.specs.Core.{past_of, IsAlike, IsHistory, IsLogFull, IsOutOfMemory, IsSmall, IsStepped};
 
     /// A core with an empty log, on a cluster whose schedule opens with this table. At most
-    /// `capacity` messages of a host (1 to 1,024) wait. An error is want of memory, and the cluster
+    /// `capacity` messages of a host (1 to 1,024) wait. An error is out of memory, and the cluster
     /// is dropped.
     pub fn new(
         alloc: Global,
@@ -137,7 +137,11 @@ impl Core {
                 hosts,
                 receivers,
                 signals,
-                mode: Mode::new(),
+                bus: BusState {
+                    asleep: false,
+                    asked: false,
+                    selected: None,
+                },
             },
         })
     }
@@ -178,7 +182,7 @@ impl Core {
     pub fn asleep(&self) -> bool
         ensures { result ≡ asleep (past_of self.now) }
     {
-        self.state.mode.asleep
+        self.state.bus.asleep
     }
 
     /// How many messages of a host were accepted and neither sent nor lost.
@@ -216,8 +220,8 @@ impl Core {
         0
     }
 
-    /// Makes room, so that the next step isn't held for want of memory, unless it is an open or a
-    /// finish. It changes nothing else; an error is want of memory.
+    /// Makes room, so that the next step isn't held because of memory, unless it is an open or a
+    /// finish. It changes nothing else; an error is out of memory.
     pub fn make_room(&mut self) -> Result<(), AllocError>
         ensures alike { IsAlike self.old self.new }
         ensures log { self.new.log ≡ self.old.log }
@@ -236,7 +240,7 @@ impl Core {
         ensures full { IsLogFull result ↔ (length self.old.log ≡ 2 ^ 32 - 1) }
         ensures room { 1 ≤ self.old.spare → IsSmall step → IsOutOfMemory result → ⊥ }
     {
-        if self.log.len() >= 0xffff_ffff {
+        if self.log.len() >= MOST_ENTRIES {
             return Err(Hold::LogFull(step));
         }
         let refusal = self.refusal_of(by, &step);

@@ -3,10 +3,8 @@
 ghost use Rattle.std.specs.Prelude.{◌≡◌, ◌<◌, Some, is_some, true};
 ghost use Rattle.lin_frame.specs.Words.{choose};
 ghost use Rattle.lin_parts.specs.Cluster.{nad, nodes};
-ghost use Rattle.lin_core.specs.Kept.{message_at};
-ghost use Rattle.lin_core.specs.KeptLate.{bytes_next, HasNext};
+ghost use Rattle.lin_core.specs.kept.Hosts.{message_at, bytes_next, HasNext};
 ghost use Rattle.lin_core.specs.Links.{nad_on};
-ghost use Rattle.lin_core.specs.Slots.{sleep_frame};
 
 use crate::host::Host;
 use crate::link::Link;
@@ -54,11 +52,7 @@ pub(crate) fn message_at<'a>(cluster: &Cluster, log: &'a Log, place: usize) -> M
 }
 
 /// The frame that puts the cluster to sleep (ISO 17987-3, go-to-sleep).
-fn sleep_bytes() -> [u8; 8]
-    ensures { result ≡ sleep_frame }
-{
-    [0, 255, 255, 255, 255, 255, 255, 255]
-}
+const SLEEP_FRAME: [u8; 8] = [0, 255, 255, 255, 255, 255, 255, 255];
 
 /// The data bytes that come next of a host whose first message that waits stands at a place in the
 /// log: the next frame of what is begun; failing that the sleep frame, where it is asked for;
@@ -77,7 +71,7 @@ pub(crate) fn next_bytes(
         return sender.next(message_at(cluster, log, place).bytes);
     }
     if sleeping {
-        return sleep_bytes();
+        return SLEEP_FRAME;
     }
     let message = message_at(cluster, log, place);
     Sender::begin(message.address, message.bytes.len()).next(message.bytes)

@@ -4,10 +4,10 @@ ghost use Rattle.std.specs.Prelude.{◌≡◌, ◌∷◌, [], ℕ, List};
 
 use crate::event::Event;
 use std::marker::Model;
-use std::slice;
+use std::{fmt, slice};
 
 /// The bytes of a message. Contracts see them as a list.
-#[derive(Drop)]
+#[derive(Debug, Drop)]
 pub struct Payload {
     bytes: Vec<u8>,
 }
@@ -33,6 +33,21 @@ impl Payload {
         ensures { result.now ≡ self.now }
     {
         self.bytes.as_slice()
+    }
+}
+
+impl PartialEq for Payload {
+    ghost use Rattle.std.specs.Prelude.{◌==◌};
+    ghost use Rattle.std.proofs.Common.{rules};
+    ghost use Rattle.std.specs.Cmp.Lexicographic.{pointwise};
+    ghost use Rattle.std.specs.Cmp.Rules.{comparing};
+
+    ghost eq = { pointwise ◌==◌ };
+
+    ghost laws = { Prim.search (comparing, rules) };
+
+    fn eq(&self, other: &Payload) -> bool {
+        self.as_slice() == other.as_slice()
     }
 }
 
@@ -87,5 +102,25 @@ impl Events {
             Held::One(event) => slice::from_ref(event),
             Held::Listed(events) => events.as_slice(),
         }
+    }
+}
+
+impl PartialEq for Events {
+    ghost use Rattle.std.specs.Cmp.Lexicographic.{lists_per, pointwise};
+    ghost use Rattle.lin_core.specs.contracts.event.EventPartialEq.TheImpl as event;
+    ghost use Rattle.lin_core.specs.contracts.event.EventPartialEq.TheImpl.Laws.{laws-law};
+
+    ghost eq = { pointwise (event.ghosts).eq };
+
+    ghost laws = { lists_per laws-law };
+
+    fn eq(&self, other: &Events) -> bool {
+        self.as_slice() == other.as_slice()
+    }
+}
+
+impl fmt::Debug for Events {
+    fn fmt<W: fmt::Write>(&self, f: &mut fmt::Formatter<W>) -> fmt::Result {
+        fmt::Debug::fmt(self.as_slice(), f)
     }
 }

@@ -4,7 +4,7 @@
 ghost use Rattle.std.specs.Prelude.{◌≡◌, ◌<◌, ℕ, [], List, length, option_map, slice_get, Some, IfOk, OnErr};
 ghost use Rattle.lin_transport.specs.Receiver.{Hears, Stands};
 ghost use Rattle.lin_transport.specs.Transport.{Heard};
-ghost use Rattle.lin_core.specs.KeptHeard.{opposite, receiver_in, AreReset, HearsOn, IsReset, KeepsHeard};
+ghost use Rattle.lin_core.specs.kept.Receivers.{opposite, receiver_in, AreReset, HearsOn, IsReset, KeepsHeard};
 ghost use Rattle.lin_core.specs.declared.receivers.Receivers.{Receivers};
 
 use crate::link::{Direction, Link};
@@ -24,7 +24,7 @@ pub(crate) struct Receivers {
 
 impl Receivers {
     /// The receiver of the link in a direction hears the data bytes of a good frame, and gives the
-    /// message that the frame completes. An error is want of memory, and nothing is heard.
+    /// message that the frame completes. An error is out of memory, and nothing is heard.
     pub(crate) fn hear(
         &mut self,
         dir: Direction,
@@ -80,7 +80,7 @@ pub(crate) fn fresh_receivers(
 }
 
 /// The receiver of a link hears the data bytes of a good frame, and gives the message that the
-/// frame completes. An error is want of memory, and nothing is heard.
+/// frame completes. An error is out of memory, and nothing is heard.
 pub(crate) fn hear(
     receivers: &mut Vec<Receivers>,
     link: Link,

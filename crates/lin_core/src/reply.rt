@@ -47,7 +47,7 @@ pub enum Refusal {
 }
 
 /// What a step is answered: it was done with these events, or refused.
-#[derive(Drop)]
+#[derive(Debug, PartialEq, Drop)]
 pub enum Reply {
     Done(Events),
     Refused(Refusal),

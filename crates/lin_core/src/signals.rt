@@ -6,16 +6,17 @@ ghost use Rattle.std.specs.Prelude.{replicate, slice_set, slice_index_or, if◌t
 ghost use Rattle.lin_parts.specs.Cluster.{frame_of};
 ghost use Rattle.lin_frame.specs.Words.{choose};
 ghost use Rattle.lin_core.specs.History.{good, is_in};
-ghost use Rattle.lin_core.specs.Kept.{is_cleared, slot_in, IsOpen};
+ghost use Rattle.lin_core.specs.kept.Signals.{is_cleared};
+ghost use Rattle.lin_core.specs.kept.Slots.{slot_in, IsOpen};
 ghost use Rattle.lin_core.specs.Signals.{value_in, ArePointwise};
 
-use crate::heard::hear_slot;
+use crate::signal_frames::hear_slot;
 use crate::slot::{OpenSlot, Put};
 use lin_frame::Value;
 use lin_parts::Cluster;
 use std::alloc::{AllocError, Global};
 
-/// The initial values of all signals, by number (ISO 17987-3, signals). An error is want of memory.
+/// The initial values of all signals, by number (ISO 17987-3, signals). An error is out of memory.
 pub fn initial_values(alloc: Global, cluster: &Cluster) -> Result<Vec<Value>, AllocError>
     ensures { IfOk result
         (λ values. values.items ≡ map (λ signal. signal.initial) cluster.now.signals) }
@@ -27,7 +28,7 @@ pub fn initial_values(alloc: Global, cluster: &Cluster) -> Result<Vec<Value>, Al
     Ok(values)
 }
 
-/// No frame is pending, of so many frames. An error is want of memory.
+/// No frame is pending, of so many frames. An error is out of memory.
 fn none_pending(alloc: Global, count: usize) -> Result<Vec<bool>, AllocError>
     ensures { IfOk result (λ flags. flags.items ≡ replicate count false) }
 {
@@ -36,7 +37,7 @@ fn none_pending(alloc: Global, count: usize) -> Result<Vec<bool>, AllocError>
     Ok(flags)
 }
 
-/// Room for the values of each frame's signals. An error is want of memory.
+/// Room for the values of each frame's signals. An error is out of memory.
 fn room_for_frames(alloc: Global, cluster: &Cluster) -> Result<Vec<Value>, AllocError>
     ensures empty { IfOk result (λ room. room.items ≡ []) }
     ensures room { IfOk result
@@ -64,7 +65,7 @@ pub(crate) struct Signals {
 }
 
 impl Signals {
-    /// As they stand at the start. An error is want of memory.
+    /// As they stand at the start. An error is out of memory.
     pub(crate) fn new(alloc: Global, cluster: &Cluster) -> Result<Signals, AllocError>
         ensures values { IfOk result
             (λ s. s.values.items ≡ map (λ signal. signal.initial) cluster.now.signals) }

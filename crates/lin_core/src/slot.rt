@@ -5,7 +5,7 @@ ghost use Rattle.std.specs.Prelude.{IfOk, Some, None, is_some, map, take};
 ghost use Rattle.std.specs.List.{list_any};
 ghost use Rattle.lin_schedule.specs.Walker.{HasEntry};
 ghost use Rattle.lin_core.specs.History.{good, has_decided, is_clash_seen, is_in, seen};
-ghost use Rattle.lin_core.specs.Kept.{opened, slot_in};
+ghost use Rattle.lin_core.specs.kept.Slots.{opened, slot_in};
 ghost use Rattle.lin_core.specs.declared.slot.OpenSlot.{OpenSlot};
 ghost use Rattle.lin_core.specs.declared.slot.Put.{Put};
 
@@ -22,6 +22,9 @@ use std::marker::Model;
 pub(crate) const MASTER_REQUEST: u8 = 0x3C;
 
 pub(crate) const SLAVE_RESPONSE: u8 = 0x7D;
+
+/// The most nodes of a cluster (ISO 17987-2, node addresses).
+pub(crate) const NODES: usize = 16;
 
 /// A response, the node that put it, and the frame that was pending until then, if it carries one.
 #[derive(Drop)]
@@ -51,9 +54,9 @@ pub(crate) struct OpenSlot {
     pub(crate) entry: u16,
     pub(crate) kind: Entry,
     pub(crate) header: Option<u8>,
-    pub(crate) due: ArrayVec<u8, 16>,
-    pub(crate) puts: ArrayVec<Put, 16>,
-    pub(crate) left: ArrayVec<u8, 16>,
+    pub(crate) due: ArrayVec<u8, NODES>,
+    pub(crate) puts: ArrayVec<Put, NODES>,
+    pub(crate) left: ArrayVec<u8, NODES>,
     pub(crate) hurt: bool,
 }
 
@@ -72,7 +75,7 @@ fn has_left(left: &[u8], node: u8) -> bool
 }
 
 /// The events of an open of a slot for an entry of a table, under a header, in which these nodes
-/// are due. An error is want of memory.
+/// are due. An error is out of memory.
 pub(crate) fn opening_events(
     alloc: Global,
     place: (u16, u16),
@@ -241,7 +244,7 @@ impl Slot {
         cluster: &Cluster,
         place: (u16, u16),
         header: Option<u8>,
-        due: ArrayVec<u8, 16>,
+        due: ArrayVec<u8, NODES>,
     )
         requires { HasEntry cluster.now place }
         ensures { self.new ≡ Some (opened cluster.now place header due.items) }

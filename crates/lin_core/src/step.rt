@@ -5,7 +5,7 @@ use crate::payload::Payload;
 use lin_frame::Value;
 
 /// A step of the cluster.
-#[derive(Drop)]
+#[derive(Debug, PartialEq, Drop)]
 pub enum Step {
     /// Host `from` sends `message` to host `to`.
     Send { from: u8, to: u8, message: Payload },

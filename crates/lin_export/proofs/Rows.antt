@@ -15,8 +15,7 @@ use Rattle.lin_parts.specs.declared.parts.Entry.{Entry}
 use Rattle.lin_parts.specs.declared.parts.Entry.TheVariants as entries
 use Rattle.lin_names.specs.Names.{NamesData}
 use Rattle.lin_core.specs.History.{Slot, done_step, good, is_sleep_slot, open_slot, time}
-use Rattle.lin_core.specs.Kept.{ArePointwise}
-use Rattle.lin_core.specs.Signals.{carried, carried_by, heard, place_in, value_in}
+use Rattle.lin_core.specs.Signals.{ArePointwise, carried, carried_by, heard, place_in, value_in}
 use Rattle.lin_core.specs.declared.event.Event.{Event}
 use Rattle.lin_core.specs.declared.log.LogEntry.{LogEntry}
 use Rattle.lin_core.specs.declared.reply.Reply.{Reply}

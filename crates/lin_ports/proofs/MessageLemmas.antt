@@ -20,7 +20,7 @@ use Rattle.lin_core.specs.declared.port.PortId.{PortId}
 use Rattle.lin_core.specs.declared.reply.Reply.{Reply}
 use Rattle.lin_core.specs.declared.reply.Reply.TheVariants.{Done, Refused}
 use Rattle.lin_core.specs.declared.step.Step.{Step}
-use Rattle.lin_core.proofs.Laws.{history-delivers, log-delivers}
+use Rattle.lin_core.proofs.laws.Laws.{history-delivers, log-delivers}
 use Rattle.lin_ports.specs.Messages.{message_from, messages_from, port_on, TellsGrowth, BeginsGrowth, BeginsGrowths}
 use Rattle.lin_ports.specs.Steps.{notes, notes_in, reply_notes, event_notes, is_note_for, same_port}
 use Rattle.lin_ports.specs.declared.steps.Note.{Note}

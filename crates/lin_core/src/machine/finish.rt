@@ -4,30 +4,29 @@ ghost use Rattle.std.specs.Prelude.{◌≡◌, Some, true, false, reverse};
 
 use crate::event::Event;
 use crate::link::Cause;
-use crate::load::Load;
 use crate::log::Log;
-use crate::losses::sleep_events;
 use crate::machine::{three_events, two_events};
 use crate::messages::message_at;
 use crate::payload::{Events, Payload};
+use crate::pdu::Pdu;
 use crate::port::PortId;
 use crate::receivers::{hear, reset_all};
 use crate::setup::Setup;
+use crate::sleep_losses::sleep_events;
 use crate::state::State;
 use crate::step::Step;
 use std::alloc::AllocError;
 
 impl State {
-    ghost use Rattle.std.specs.Prelude.{◌≡◌, Some, true, false, reverse};
-    ghost use Rattle.lin_core.specs.Stages.{stage, IsMade, IsReady, Makes};
+    ghost use Rattle.lin_core.specs.kept.State.{stage, IsMade, IsReady, Makes};
     ghost use Rattle.lin_core.specs.History.{open_slot, Slot as OpenedSlot};
-    ghost use Rattle.lin_core.specs.Loads.{is_still, load_of, IsCarried};
-    ghost use Rattle.lin_core.specs.declared.load.Load.TheVariants.{Carried, Sleep};
+    ghost use Rattle.lin_core.specs.kept.Slots.{is_still, pdu_of, IsCarried};
+    ghost use Rattle.lin_core.specs.declared.pdu.Pdu.TheVariants.{OfMessage, Sleep};
 
     /// A finish of a slot by which no message moves on, and the cluster stays awake.
     pub(super) fn finish_plain(&mut self, setup: &Setup, log: &Log, by: PortId) -> Events
         requires ready { IsReady (stage setup.now log.now self.old) by Step.Finish }
-        requires still { (s : OpenedSlot) → open_slot (reverse log.now.entries) ≡ Some s → is_still (load_of s) s.hurt ≡ true }
+        requires still { (s : OpenedSlot) → open_slot (reverse log.now.entries) ≡ Some s → is_still (pdu_of s) s.hurt ≡ true }
         ensures { IsMade (stage setup.now log.now self.old) by Step.Finish result self.new }
     {
         let seen = self.pass_slot(&setup.cluster);
@@ -43,7 +42,7 @@ impl State {
         sender: u8,
     ) -> Result<Events, AllocError>
         requires ready { IsReady (stage setup.now log.now self.old) by Step.Finish }
-        requires carried { (s : OpenedSlot) → open_slot (reverse log.now.entries) ≡ Some s → (load_of s ≡ Carried sender) × (s.hurt ≡ true) }
+        requires carried { (s : OpenedSlot) → open_slot (reverse log.now.entries) ≡ Some s → (pdu_of s ≡ OfMessage sender) × (s.hurt ≡ true) }
         ensures { Makes (stage setup.now log.now self.old) by Step.Finish result self.new }
     {
         let room = Vec::with_capacity(setup.alloc, 2)?;
@@ -110,7 +109,7 @@ impl State {
         by: PortId,
     ) -> Result<Events, AllocError>
         requires ready { IsReady (stage setup.now log.now self.old) by Step.Finish }
-        requires asleep { (s : OpenedSlot) → open_slot (reverse log.now.entries) ≡ Some s → (load_of s ≡ Sleep) × (s.hurt ≡ false) }
+        requires asleep { (s : OpenedSlot) → open_slot (reverse log.now.entries) ≡ Some s → (pdu_of s ≡ Sleep) × (s.hurt ≡ false) }
         ensures { Makes (stage setup.now log.now self.old) by Step.Finish result self.new }
     {
         let room = Vec::with_capacity(setup.alloc, 2 + self.hosts.len())?;
@@ -131,22 +130,22 @@ impl State {
     {
         let slot = self.slot.open();
         let hurt = slot.hurt;
-        match slot.load() {
-            Load::Carried { host } => {
+        match slot.pdu() {
+            Pdu::OfMessage { host } => {
                 if hurt {
                     self.finish_damaged(setup, log, by, host)
                 } else {
                     self.finish_good(setup, log, by, host)
                 }
             }
-            Load::Sleep => {
+            Pdu::Sleep => {
                 if hurt {
                     Ok(self.finish_plain(setup, log, by))
                 } else {
                     self.finish_sleep(setup, log, by)
                 }
             }
-            Load::Nothing => Ok(self.finish_plain(setup, log, by)),
+            Pdu::Nothing => Ok(self.finish_plain(setup, log, by)),
         }
     }
 }

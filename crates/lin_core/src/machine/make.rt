@@ -2,9 +2,8 @@
 
 ghost use Rattle.std.specs.Prelude.{◌≡◌, ◌<◌, reverse, length, Some, None, IsOk};
 
-use crate::due::{due_nodes, has_request, header_for};
+use crate::due::{due_nodes, has_request, header_of};
 use crate::event::Event;
-use crate::heard::frame_answer;
 use crate::host::responder;
 use crate::link::Link;
 use crate::log::Log;
@@ -13,6 +12,7 @@ use crate::messages::next_bytes;
 use crate::payload::{Events, Payload};
 use crate::port::PortId;
 use crate::setup::Setup;
+use crate::signal_frames::frame_answer;
 use crate::slot::{Put, is_sleep_asked, opening_events};
 use crate::state::State;
 use crate::step::Step;
@@ -20,10 +20,9 @@ use lin_frame::{SumKind, Value, answer};
 use std::alloc::AllocError;
 
 impl State {
-    ghost use Rattle.std.specs.Prelude.{◌≡◌, ◌<◌, reverse, length, Some, None, IsOk};
-    ghost use Rattle.lin_core.specs.Dues.{frame_answered};
+    ghost use Rattle.lin_core.specs.kept.Slots.{frame_answered};
     ghost use Rattle.lin_core.specs.Core.{IsSmall};
-    ghost use Rattle.lin_core.specs.Stages.{stage, IsMade, IsReady, Makes};
+    ghost use Rattle.lin_core.specs.kept.State.{stage, IsMade, IsReady, Makes};
 
     /// A send that is accepted: its place in the log joins the sender's queue.
     fn send(
@@ -78,11 +77,11 @@ impl State {
     {
         let place = self.walker.place();
         let waits = !self.hosts[0].queue.is_empty();
-        let requests = has_request(waits, self.mode.asked);
-        let responder = responder(self.hosts.as_slice(), self.mode.selected);
+        let requests = has_request(waits, self.bus.asked);
+        let responder = responder(self.hosts.as_slice(), self.bus.selected);
         let pending = self.signals.pending.as_slice();
         let due = self.walker.due(&setup.cluster, pending);
-        let header = header_for(&setup.cluster, due, requests);
+        let header = header_of(&setup.cluster, due, requests);
         let nodes = due_nodes(&setup.cluster, due, requests, responder, pending);
         let events = opening_events(setup.alloc, place, header, nodes.as_slice())?;
         self.slot.begin(&setup.cluster, place, header, nodes);
@@ -110,7 +109,7 @@ impl State {
     {
         let slot = self.slot.open();
         let header = slot.header();
-        let model = slot.model_of(&setup.cluster, frame);
+        let model = slot.frame_model(&setup.cluster, frame);
         let answer = frame_answer(
             &setup.cluster,
             self.signals.values.as_slice(),
@@ -135,7 +134,7 @@ impl State {
         ensures { IsMade (stage setup.now log.now self.old) by (Step.Answer node) result self.new }
     {
         let header = self.slot.open().header();
-        let sleeping = is_sleep_asked(header, self.mode.asked);
+        let sleeping = is_sleep_asked(header, self.bus.asked);
         let host = &self.hosts[node as usize];
         let place = host.next() as usize;
         let data = next_bytes(&setup.cluster, log, host, place, sleeping);
@@ -148,7 +147,53 @@ impl State {
         Events::one(Event::Put { node, answer })
     }
 
-    /// Makes a step that isn't refused: the events of it. An error is want of memory, and nothing
+    /// A node leaves its response out.
+    fn leave(&mut self, setup: &Setup, log: &Log, by: PortId, node: u8) -> Events
+        requires { IsReady (stage setup.now log.now self.old) by (Step.Leave node) }
+        ensures { IsMade (stage setup.now log.now self.old) by (Step.Leave node) result self.new }
+    {
+        self.slot.leave(node);
+        no_events(setup)
+    }
+
+    /// The one response in the slot is disturbed.
+    fn hurt(&mut self, setup: &Setup, log: &Log, by: PortId, bytes: &Payload) -> Events
+        requires { IsReady (stage setup.now log.now self.old) by (Step.Hurt bytes.now) }
+        ensures { IsMade (stage setup.now log.now self.old) by (Step.Hurt bytes.now) result self.new }
+    {
+        self.slot.hurt();
+        no_events(setup)
+    }
+
+    /// An ask for sleep: the next frame of a message that isn't begun gives way to the sleep frame.
+    fn ask_sleep(&mut self, setup: &Setup, log: &Log, by: PortId) -> Events
+        requires { IsReady (stage setup.now log.now self.old) by Step.AskSleep }
+        ensures { IsMade (stage setup.now log.now self.old) by Step.AskSleep result self.new }
+    {
+        self.bus.asked = true;
+        no_events(setup)
+    }
+
+    /// A wake: the schedule's table starts again.
+    fn wake(&mut self, setup: &Setup, log: &Log, by: PortId) -> Events
+        requires { IsReady (stage setup.now log.now self.old) by Step.Wake }
+        ensures { IsMade (stage setup.now log.now self.old) by Step.Wake result self.new }
+    {
+        self.walker.restart();
+        self.bus.asleep = false;
+        no_events(setup)
+    }
+
+    /// A close: the host sends no more messages.
+    fn close(&mut self, setup: &Setup, log: &Log, by: PortId, host: u8) -> Events
+        requires { IsReady (stage setup.now log.now self.old) by (Step.Close host) }
+        ensures { IsMade (stage setup.now log.now self.old) by (Step.Close host) result self.new }
+    {
+        self.hosts[host as usize].closed = true;
+        no_events(setup)
+    }
+
+    /// Makes a step that isn't refused: the events of it. An error is out of memory, and nothing
     /// is changed.
     pub(super) fn make(
         &mut self,

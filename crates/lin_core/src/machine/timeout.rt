@@ -15,7 +15,6 @@ use crate::state::State;
 use crate::step::Step;
 
 impl Core {
-    ghost use Rattle.std.specs.Prelude.{◌≡◌, ◌<◌, None, is_some};
     ghost use Rattle.lin_parts.specs.Cluster.{nodes};
     ghost use Rattle.lin_core.specs.Core.{past_of};
     ghost use Rattle.lin_core.specs.History.{open_slot};
@@ -36,7 +35,7 @@ impl Core {
 }
 
 impl State {
-    ghost use Rattle.lin_core.specs.Stages.{stage, IsMade, IsReady};
+    ghost use Rattle.lin_core.specs.kept.State.{stage, IsMade, IsReady};
 
     /// A timeout: the message that is begun there is lost, and its receiver forgets what it heard
     /// of it.

@@ -6,27 +6,17 @@ ghost use Rattle.lin_parts.specs.Cluster.{signal_of};
 ghost use Rattle.lin_parts.specs.Rules.{place_at};
 ghost use Rattle.lin_parts.specs.declared.parts.Parts.{Parts};
 ghost use Rattle.lin_core.specs.History.{asleep, open_slot};
-ghost use Rattle.lin_core.specs.Kept.{slot_in};
-ghost use Rattle.lin_core.specs.Replies.{refusal, may};
+ghost use Rattle.lin_core.specs.kept.Slots.{slot_in};
+ghost use Rattle.lin_core.specs.Replies.{refusal};
 ghost use Rattle.lin_core.specs.declared.log.LogEntry.{LogEntry};
 
 use crate::port::PortId;
+use crate::refusals::may_act;
 use crate::reply::Refusal;
 use crate::slot::Slot;
 use crate::step::Step;
 use lin_frame::{Place, Value};
 use lin_parts::Cluster;
-
-/// Whether a port may write a node's signals.
-fn may_write(by: PortId, node: u8) -> bool
-    ensures { (signal : ℕ) (value : Value) → result ≡ may by (Step.Write node signal value) }
-{
-    match by {
-        PortId::Bus => true,
-        PortId::Host(host) => node == host,
-        PortId::Node(_) => false,
-    }
-}
 
 /// Whether a value has the kind and the size of a signal.
 fn fits_signal(cluster: &Cluster, signal: u16, value: &Value) -> bool
@@ -63,7 +53,7 @@ pub(crate) fn refuse_write(
     if !fits_signal(cluster, signal, value) {
         return Some(Refusal::BadValue);
     }
-    if !may_write(by, node) {
+    if !may_act(by, node) {
         return Some(Refusal::NotYours);
     }
     None
@@ -86,7 +76,7 @@ pub(crate) fn refuse_switch(
     }
     match by {
         PortId::Bus => None,
-        PortId::Host(_) | PortId::Node(_) => Some(Refusal::NotYours),
+        _ => Some(Refusal::NotYours),
     }
 }
 
@@ -99,7 +89,7 @@ pub(crate) fn refuse_ask_sleep(sleeping: bool, by: PortId) -> Option<Refusal>
     }
     match by {
         PortId::Bus => None,
-        PortId::Host(_) | PortId::Node(_) => Some(Refusal::NotYours),
+        _ => Some(Refusal::NotYours),
     }
 }
 
@@ -112,6 +102,6 @@ pub(crate) fn refuse_wake(sleeping: bool, by: PortId) -> Option<Refusal>
     }
     match by {
         PortId::Bus => None,
-        PortId::Host(_) | PortId::Node(_) => Some(Refusal::NotYours),
+        _ => Some(Refusal::NotYours),
     }
 }

@@ -3,14 +3,15 @@
 ghost use Rattle.std.specs.Prelude.{◌≡◌, ℕ, ◌<◌, List, None, length, option_map, is_some};
 ghost use Rattle.lin_parts.specs.Cluster.{nodes};
 ghost use Rattle.lin_core.specs.History.{closed, open_slot};
-ghost use Rattle.lin_core.specs.Kept.{slot_in};
+ghost use Rattle.lin_core.specs.kept.Slots.{slot_in};
 ghost use Rattle.lin_core.specs.Links.{waiting};
-ghost use Rattle.lin_core.specs.Replies.{begun_on, has_address, may, refusal};
+ghost use Rattle.lin_core.specs.Replies.{begun_on, has_address, refusal};
 ghost use Rattle.lin_core.specs.declared.log.LogEntry.{LogEntry};
 
 use crate::link::Link;
 use crate::payload::Payload;
 use crate::port::PortId;
+use crate::refusals::may_act;
 use crate::reply::Refusal;
 use crate::slot::Slot;
 use crate::step::Step;
@@ -18,28 +19,6 @@ use lin_parts::Cluster;
 
 /// The most bytes that a message has (ISO 17987-2, transport layer).
 const MESSAGE_BYTES: usize = 4095;
-
-/// Whether a port may send from a host.
-fn may_send(by: PortId, from: u8) -> bool
-    ensures { (to : ℕ) (message : List ℕ) → result ≡ may by (Step.Send from to message) }
-{
-    match by {
-        PortId::Bus => true,
-        PortId::Host(host) => from == host,
-        PortId::Node(_) => false,
-    }
-}
-
-/// Whether a port may close a host.
-fn may_close(by: PortId, host: u8) -> bool
-    ensures { result ≡ may by (Step.Close host) }
-{
-    match by {
-        PortId::Bus => true,
-        PortId::Host(own) => host == own,
-        PortId::Node(_) => false,
-    }
-}
 
 /// Whether exactly one of sender and receiver is host 0, and the other one has an address.
 fn has_address(cluster: &Cluster, from: u8, to: u8) -> bool
@@ -81,7 +60,7 @@ pub(crate) fn refuse_send(
     if queued >= capacity {
         return Some(Refusal::QueueFull);
     }
-    if !may_send(by, from) {
+    if !may_act(by, from) {
         return Some(Refusal::NotYours);
     }
     None
@@ -122,7 +101,7 @@ pub(crate) fn refuse_close(cluster: &Cluster, shut: bool, by: PortId, host: u8) 
     if shut {
         return Some(Refusal::Closed);
     }
-    if !may_close(by, host) {
+    if !may_act(by, host) {
         return Some(Refusal::NotYours);
     }
     None

@@ -2,14 +2,14 @@
 
 ghost use Rattle.std.specs.Prelude.{◌≡◌, ℕ, ◌<◌, List, length, option_map};
 ghost use Rattle.lin_core.specs.History.{asleep, open_slot};
-ghost use Rattle.lin_core.specs.Kept.{slot_in, IsOpen, IsThere};
+ghost use Rattle.lin_core.specs.kept.Slots.{slot_in, IsOpen, IsThere};
 ghost use Rattle.lin_core.specs.Replies.{refusal, may, passes_in};
 ghost use Rattle.lin_parts.specs.declared.parts.Parts.{Parts};
 ghost use Rattle.lin_core.specs.declared.log.LogEntry.{LogEntry};
 
-use crate::carried::model_under;
 use crate::port::PortId;
 use crate::reply::Refusal;
+use crate::response_frames::model_under;
 use crate::slot::{OpenSlot, Slot};
 use crate::step::Step;
 use lin_frame::passes;
@@ -39,7 +39,7 @@ pub(crate) fn refuse_open(slot: &Slot, sleeping: bool, by: PortId) -> Option<Ref
     }
     match by {
         PortId::Bus => None,
-        PortId::Host(_) | PortId::Node(_) => Some(Refusal::NotYours),
+        _ => Some(Refusal::NotYours),
     }
 }
 
@@ -117,6 +117,6 @@ pub(crate) fn refuse_finish(slot: &Slot, by: PortId) -> Option<Refusal>
     }
     match by {
         PortId::Bus => None,
-        PortId::Host(_) | PortId::Node(_) => Some(Refusal::NotYours),
+        _ => Some(Refusal::NotYours),
     }
 }

@@ -1,6 +1,6 @@
 use Rattle.std.proofs.Common.{◌≡◌, ◌≤◌, length, filter}
 use Rattle.lin_frame.specs.Words.{numbers}
-use Rattle.lin_core.specs.Dues.{is_due_of}
+use Rattle.lin_core.specs.kept.Slots.{is_due_of}
 use Rattle.lin_core.proofs.due.due_nodes.Given as goal
 
 abbrev pub invariant-loop-node : goal.invariant-loop-node

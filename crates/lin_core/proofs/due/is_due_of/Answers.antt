@@ -1,6 +1,6 @@
 use Rattle.std.proofs.Common.{subst}
-use Rattle.lin_core.specs.Dues.{HasDue}
-use Rattle.lin_core.proofs.ClusterFrames.{event-there}
+use Rattle.lin_core.specs.kept.Slots.{HasDue}
+use Rattle.lin_core.proofs.slots.ClusterFrames.{event-there}
 use Rattle.lin_core.proofs.due.is_due_of.Goals as goal
 
 pub publishes_pending-requires-clause-there : goal.publishes_pending-requires-clause-there

@@ -1,6 +1,6 @@
 use Rattle.std.proofs.Common.{◌≡◌, length}
 use Rattle.std.specs.Prelude.{All}
-use Rattle.lin_core.specs.Hosts.{fresh}
+use Rattle.lin_core.specs.kept.Hosts.{fresh}
 use Rattle.lin_core.proofs.host.hosts.Given as goal
 
 abbrev pub invariant-loop : goal.invariant-loop

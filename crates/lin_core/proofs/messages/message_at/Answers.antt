@@ -1,4 +1,4 @@
-use Rattle.lin_core.proofs.Places.{message-there}
+use Rattle.lin_core.proofs.kept.Places.{message-there}
 use Rattle.lin_core.proofs.messages.message_at.Goals as goal
 
 pub entry-requires : goal.entry-requires

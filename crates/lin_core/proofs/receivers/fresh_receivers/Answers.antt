@@ -4,7 +4,7 @@ use Rattle.lin_frame.specs.Words.{choose}
 use Rattle.lin_parts.specs.Cluster.{nad, nodes}
 use Rattle.lin_parts.specs.declared.parts.Parts.{Parts}
 use Rattle.lin_transport.specs.Receiver.{Reception, Stands}
-use Rattle.lin_core.specs.KeptHeard.{receiver_in, KeepsReceiver}
+use Rattle.lin_core.specs.kept.Receivers.{receiver_in, KeepsReceiver}
 use Rattle.lin_core.specs.Replies.{link_at}
 use Rattle.lin_core.specs.declared.link.Direction.{Direction}
 use Rattle.lin_core.specs.declared.link.Direction.TheVariants.{Down, Up}

@@ -1,6 +1,6 @@
 use Rattle.std.proofs.Common.{◌≡◌, ℕ, [], length}
 use Rattle.std.specs.Prelude.{slice_get, Some}
-use Rattle.lin_core.specs.KeptHeard.{receiver_in, KeepsReceiver}
+use Rattle.lin_core.specs.kept.Receivers.{receiver_in, KeepsReceiver}
 use Rattle.lin_core.specs.Replies.{link_at}
 use Rattle.lin_core.specs.declared.link.Direction.{Direction}
 use Rattle.lin_core.specs.declared.receivers.Receivers.{Receivers}

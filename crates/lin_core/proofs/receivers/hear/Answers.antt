@@ -2,7 +2,7 @@ use Rattle.std.proofs.Common.{◌≡◌, refl, ap, ◌∙◌, List, length}
 use Rattle.std.specs.Prelude.{OnErr, Result, Ok, Err, Some, slice_get, slice_set}
 use Rattle.std.proofs.lemmas.Option.{slice_get_read}
 use Rattle.lin_core.specs.declared.receivers.Receivers.{Receivers}
-use Rattle.lin_core.proofs.Places.{set-same}
+use Rattle.lin_core.proofs.kept.Places.{set-same}
 use Rattle.lin_core.proofs.receivers.hear.Goals as goal
 
 on-error : {X Y A B : Type 0} → (r : Result X Y) → (A → B) → OnErr r A → OnErr r B

@@ -3,9 +3,9 @@ use Rattle.std.specs.Prelude.{Some, slice_get, slice_set}
 use Rattle.std.proofs.Math.ListN.{length-set}
 use Rattle.std.proofs.lemmas.Bool.Decides.{eqb_tells}
 use Rattle.std.proofs.lemmas.Option.{slice_get_read, slice_get_within}
-use Rattle.lin_core.specs.KeptHeard.{AreReset}
+use Rattle.lin_core.specs.kept.Receivers.{AreReset}
 use Rattle.lin_core.specs.declared.receivers.Receivers.{Receivers}
-use Rattle.lin_core.proofs.Places.{set-other, set-own}
+use Rattle.lin_core.proofs.kept.Places.{set-other, set-own}
 use Rattle.lin_core.proofs.receivers.reset_all.Goals as goal
 
 pub loop-node-preserved : goal.loop-node-preserved
@@ -21,7 +21,7 @@ loop-node-preserved c =
     let end = c.len-node-end.ensures in
     let below : i < length xs = omega arith in
     let here : slice_get xs i ≡ Some was = slice_get_read xs (length xs) i was refl below c.index_mut.ensures.value in
-    let before : slice_get ys i ≡ Some was = sym (v.behind i (omega arith)) ∙ here in
+    let before : slice_get ys i ≡ Some was = sym (v.after i (omega arith)) ∙ here in
     record {
       count = length-set xs i is ∙ v.count;
       before = λ h old new l a b. elim (eqb_tells i h) [
@@ -35,7 +35,7 @@ loop-node-preserved c =
             subst (λ (x : Receivers). AreReset x new) old_is (subst (λ (x : Receivers). AreReset was x) new_is c.reset_both.ensures)
         | inr differ ↦ v.before h old new (let d = differ.1 in omega arith) a (sym (set-other xs i h is differ.1) ∙ b)
       ];
-      behind = λ h l. set-other xs i h is (λ e. omega arith) ∙ v.behind h (omega arith);
+      after = λ h l. set-other xs i h is (λ e. omega arith) ∙ v.after h (omega arith);
     }
 
 pub returns-clause-each : goal.returns-clause-each

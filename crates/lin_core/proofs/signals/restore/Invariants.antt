@@ -1,6 +1,6 @@
 use Rattle.std.proofs.Common.{◌≡◌, ℕ, false, length, take}
 use Rattle.std.specs.Prelude.{◌||◌, slice_index_or}
-use Rattle.lin_core.specs.Kept.{is_cleared}
+use Rattle.lin_core.specs.kept.Signals.{is_cleared}
 use Rattle.lin_core.proofs.signals.restore.Given as goal
 
 abbrev pub invariant-loop-put : goal.invariant-loop-put

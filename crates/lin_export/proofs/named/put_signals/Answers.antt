@@ -5,8 +5,8 @@ use Rattle.lin_frame.specs.Bits.{unpacked}
 use Rattle.lin_frame.specs.declared.layout.Layout.{Layout}
 use Rattle.lin_frame.specs.declared.layout.Place.{Place}
 use Rattle.lin_parts.specs.Cluster.{frame_of, signal_of}
-use Rattle.lin_core.proofs.ClusterFrames.{FrameIs, frame-is}
-use Rattle.lin_core.proofs.Hearing.{no_place, unpacked-same}
+use Rattle.lin_core.proofs.slots.ClusterFrames.{FrameIs, frame-is}
+use Rattle.lin_core.proofs.slots.Hearing.{no_place, unpacked-same}
 use Rattle.lin_log.specs.Words.{spaced, value_word}
 use Rattle.lin_text.proofs.Growing.{grows-more, same-growth}
 use Rattle.lin_export.specs.Named.{signal_words}

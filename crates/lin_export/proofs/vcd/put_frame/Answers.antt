@@ -6,8 +6,8 @@ use Rattle.lin_frame.specs.declared.layout.Layout.{Layout}
 use Rattle.lin_frame.specs.declared.layout.Place.{Place}
 use Rattle.lin_frame.specs.declared.value.Value.{Value}
 use Rattle.lin_parts.specs.Cluster.{frame_of}
-use Rattle.lin_core.proofs.ClusterFrames.{FrameIs, frame-is}
-use Rattle.lin_core.proofs.Hearing.{no_place, unpacked-same}
+use Rattle.lin_core.proofs.slots.ClusterFrames.{FrameIs, frame-is}
+use Rattle.lin_core.proofs.slots.Hearing.{no_place, unpacked-same}
 use Rattle.lin_text.proofs.Growing.{grows-more, same-growth}
 use Rattle.lin_export.specs.Vcd.{heard_change, place_change}
 use Rattle.lin_export.proofs.Lines.{length-zip, zip-at}

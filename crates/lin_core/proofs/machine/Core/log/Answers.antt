@@ -1,8 +1,7 @@
 use Rattle.std.proofs.Common.{subst}
-use Rattle.lin_core.specs.Core.{CoreData, past_of}
+use Rattle.lin_core.specs.Core.{CoreData, past_of, core_data}
 use Rattle.lin_core.specs.Promises.{CarriesFrames, DeliversExactly, FatesAreFinal, LosesNothing, PutsInOrder, StaysClosed}
-use Rattle.lin_core.specs.Whole.{core_data}
-use Rattle.lin_core.proofs.Laws.{log-carries, log-closed, log-delivers, log-final, log-in-order, log-loses-nothing}
+use Rattle.lin_core.proofs.laws.Laws.{log-carries, log-closed, log-delivers, log-final, log-in-order, log-loses-nothing}
 use Rattle.lin_core.proofs.machine.Core.log.Goals as goal
 
 pub returns-clause-exact_delivery : goal.returns-clause-exact_delivery

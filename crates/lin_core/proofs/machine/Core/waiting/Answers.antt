@@ -4,8 +4,8 @@ use Rattle.std.specs.Prelude.{slice_get, Some}
 use Rattle.std.proofs.lemmas.Option.{slice_get_read}
 use Rattle.lin_core.specs.Core.{CoreData, past_of}
 use Rattle.lin_core.specs.Links.{waiting}
-use Rattle.lin_core.specs.Stages.{stage}
-use Rattle.lin_core.proofs.Keeping.{queue-length}
+use Rattle.lin_core.specs.kept.State.{stage}
+use Rattle.lin_core.proofs.kept.Keeping.{queue-length}
 use Rattle.lin_core.proofs.machine.Core.waiting.Goals as goal
 
 pub returns : goal.returns

@@ -1,4 +1,4 @@
-use Rattle.lin_core.proofs.OpenSlots.{decided-left, decided-put}
+use Rattle.lin_core.proofs.slots.OpenSlots.{decided-left, decided-put}
 use Rattle.lin_core.proofs.slot.OpenSlot.has_decided.Goals as goal
 
 pub returns-then-has_put : goal.returns-then-has_put

@@ -1,6 +1,6 @@
 use Rattle.std.proofs.Common.{◌≡◌, ◌≤◌, not, length, filter, take}
 use Rattle.lin_core.specs.History.{has_decided}
-use Rattle.lin_core.specs.Kept.{slot_in}
+use Rattle.lin_core.specs.kept.Slots.{slot_in}
 use Rattle.lin_core.proofs.slot.OpenSlot.undecided.Given as goal
 
 abbrev pub invariant-loop-node : goal.invariant-loop-node

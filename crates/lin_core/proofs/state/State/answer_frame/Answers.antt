@@ -4,25 +4,24 @@ use Rattle.lin_frame.specs.Words.{choose}
 use Rattle.lin_frame.specs.Frame.{answer_of}
 use Rattle.lin_frame.specs.declared.sums.SumKind.{SumKind}
 use Rattle.lin_parts.specs.Cluster.{line_of}
-use Rattle.lin_core.specs.Dues.{frame_by, model_by}
+use Rattle.lin_core.specs.kept.Slots.{frame_by, frame_model}
 use Rattle.lin_core.specs.History.{open_slot}
-use Rattle.lin_core.specs.Kept.{ArePointwise, Keeps}
+use Rattle.lin_core.specs.Signals.{ArePointwise, signal_bytes, value}
+use Rattle.lin_core.specs.kept.State.{Keeps, Stage, stage}
 use Rattle.lin_frame.specs.declared.value.Value.{Value}
 use Rattle.lin_core.specs.Replies.{put_event}
-use Rattle.lin_core.specs.Signals.{signal_bytes, value}
-use Rattle.lin_core.specs.Stages.{Stage, stage}
 use Rattle.lin_core.specs.declared.event.Event.{Event}
 use Rattle.lin_core.specs.declared.event.Event.TheVariants.{Put}
 use Rattle.lin_core.specs.declared.log.LogEntry.{LogEntry}
 use Rattle.lin_core.specs.declared.slot.OpenSlot.{OpenSlot}
 use Rattle.lin_core.specs.declared.slot.Put.{Put as KeptPut}
 use Rattle.lin_core.specs.declared.step.Step.TheVariants.{Answer}
-use Rattle.lin_core.proofs.Keeping.{done_entry, answer-keeps}
-use Rattle.lin_core.proofs.LateKeeping.{answer-late}
-use Rattle.lin_core.proofs.Making.{Allowed, allowed-ready, past_in}
-use Rattle.lin_core.proofs.Answering.{AnswerSlot, answer-slot, answered-by, put-told, frame-answers, header-there, open-there, same-header, same-model}
-use Rattle.lin_core.proofs.Opening.{put-room}
-use Rattle.lin_core.proofs.Receiving.{heard-same}
+use Rattle.lin_core.proofs.kept.Keeping.{done_entry, answer-keeps}
+use Rattle.lin_core.proofs.kept.BusAndSenders.{answer-late}
+use Rattle.lin_core.proofs.steps.Making.{Allowed, allowed-ready, past_in}
+use Rattle.lin_core.proofs.steps.Answering.{AnswerSlot, answer-slot, answered-by, put-told, frame-answers, header-there, open-there, same-header, same-model}
+use Rattle.lin_core.proofs.slots.Opening.{put-room}
+use Rattle.lin_core.proofs.kept.Receiving.{heard-same}
 use Rattle.lin_core.proofs.state.State.answer_frame.Goals.{After-one}
 use Rattle.lin_core.proofs.state.State.answer_frame.Goals as goal
 
@@ -39,8 +38,8 @@ header-header-requires c =
     let a = stage c.args.setup.now c.args.log.now c.args.self.now in
     header-there a c.args.node (answer-slot a c.args.by c.args.node c.requires.ready.whole (allowed-ready a c.args.by (Answer c.args.node) c.requires.ready)) c.open-slot.result.now c.open-slot.ensures
 
-pub model_of-model-requires-clause-slot : goal.model_of-model-requires-clause-slot
-model_of-model-requires-clause-slot c =
+pub frame_model-model-requires-clause-slot : goal.frame_model-model-requires-clause-slot
+frame_model-model-requires-clause-slot c =
     let a = stage c.args.setup.now c.args.log.now c.args.self.now in
     open-there a c.args.node (answer-slot a c.args.by c.args.node c.requires.ready.whole (allowed-ready a c.args.by (Answer c.args.node) c.requires.ready)) c.open-slot.result.now c.open-slot.ensures
 
@@ -76,12 +75,12 @@ entry c = done_entry c.args.by (Answer c.args.node) (events c)
 answer-same : (m m' : SumKind) (h h' : ℕ) (bytes : List ℕ) → m ≡ m' → h ≡ h' → answer_of m h bytes ≡ answer_of m' h' bytes
 answer-same m m' h h' bytes e f = rw (e, f) refl
 
-made : (c : After-one) → c.frame_answer-answer.result ≡ answer_of (model_by (here c).cluster (line_of (here c).cluster (at c).slot.table (at c).slot.entry).entry c.args.frame) (at c).can.0 (signal_bytes (here c).cluster (past_in (here c)) c.args.frame)
+made : (c : After-one) → c.frame_answer-answer.result ≡ answer_of (frame_model (here c).cluster (line_of (here c).cluster (at c).slot.table (at c).slot.entry).entry c.args.frame) (at c).can.0 (signal_bytes (here c).cluster (past_in (here c)) c.args.frame)
 made c =
     let a = here c in
     let s = at c in
     c.frame_answer-answer.ensures.answer (value a.cluster (past_in a)) (subst (λ (vs : List Value). ArePointwise (value a.cluster (past_in a)) vs) (sym c.as_slice.ensures.value) c.requires.ready.whole.kept.signals_are.each_value)
-    ∙ answer-same _ _ _ _ (signal_bytes a.cluster (past_in a) c.args.frame) (c.model_of-model.ensures ∙ same-model a c.args.node s c.open-slot.result.now c.args.frame c.open-slot.ensures) (same-header a c.args.node s c.open-slot.result.now c.header-header.result c.open-slot.ensures c.header-header.ensures)
+    ∙ answer-same _ _ _ _ (signal_bytes a.cluster (past_in a) c.args.frame) (c.frame_model-model.ensures ∙ same-model a c.args.node s c.open-slot.result.now c.args.frame c.open-slot.ensures) (same-header a c.args.node s c.open-slot.result.now c.header-header.result c.open-slot.ensures c.header-header.ensures)
 
 told : (c : After-one) → Put c.args.node c.frame_answer-answer.result ∷ [] ≡ events c
 told c = let s = at c in put-told (here c).cluster (past_in (here c)) s.slot s.can.0 c.args.node c.args.frame c.frame_answer-answer.result s.is s.can.1 (by c) (made c)
@@ -113,6 +112,6 @@ returns c =
     record {
       told = c.one.ensures ∙ told c;
       kept = kept c;
-      late = answer-late a.cluster a.capacity (past_in a) c.args.by c.args.node a.state.mode a.state.hosts.items w.sound s.known s.allowed w.late;
+      late = answer-late a.cluster a.capacity (past_in a) c.args.by c.args.node a.state.bus a.state.hosts.items w.sound s.known s.allowed w.late;
       heard = heard-same a.cluster (past_in a) (entry c ∷ past_in a) a.state.receivers.items (λ l i. refl) w.heard;
     }

@@ -2,23 +2,22 @@ use Rattle.std.proofs.Common.{refl, ◌≡◌, ◌<◌, ℕ, List, [], ◌∷◌
 use Rattle.std.specs.Prelude.{Option, Some, None, is_some}
 use Rattle.lin_frame.specs.Words.{choose}
 use Rattle.lin_core.specs.History.{open_slot}
-use Rattle.lin_core.specs.Kept.{Keeps}
+use Rattle.lin_core.specs.kept.State.{Keeps, Stage, stage}
 use Rattle.lin_core.specs.Replies.{put_event}
 use Rattle.lin_core.specs.Slots.{with_classic}
-use Rattle.lin_core.specs.Stages.{Stage, stage}
 use Rattle.lin_core.specs.declared.event.Event.{Event}
 use Rattle.lin_core.specs.declared.event.Event.TheVariants.{Put}
 use Rattle.lin_core.specs.declared.log.LogEntry.{LogEntry}
 use Rattle.lin_core.specs.declared.slot.OpenSlot.{OpenSlot}
 use Rattle.lin_core.specs.declared.slot.Put.{Put as KeptPut}
 use Rattle.lin_core.specs.declared.step.Step.TheVariants.{Answer}
-use Rattle.lin_core.proofs.Answering.{answer-slot, answered-by, header-there, request-answers}
-use Rattle.lin_core.proofs.Keeping.{done_entry, answer-keeps}
-use Rattle.lin_core.proofs.LateKeeping.{answer-late}
-use Rattle.lin_core.proofs.Making.{allowed-ready, past_in}
-use Rattle.lin_core.proofs.Opening.{put-room, with_put}
-use Rattle.lin_core.proofs.Transporting.{AnswersNext, answers-next}
-use Rattle.lin_core.proofs.Receiving.{heard-same}
+use Rattle.lin_core.proofs.steps.Answering.{answer-slot, answered-by, header-there, request-answers}
+use Rattle.lin_core.proofs.kept.Keeping.{done_entry, answer-keeps}
+use Rattle.lin_core.proofs.kept.BusAndSenders.{answer-late}
+use Rattle.lin_core.proofs.steps.Making.{allowed-ready, past_in}
+use Rattle.lin_core.proofs.slots.Opening.{put-room, with_put}
+use Rattle.lin_core.proofs.steps.Transporting.{AnswersNext, answers-next}
+use Rattle.lin_core.proofs.kept.Receiving.{heard-same}
 use Rattle.lin_core.proofs.state.State.answer_message.Goals.{After-one}
 use Rattle.lin_core.proofs.state.State.answer_message.Goals as goal
 
@@ -92,6 +91,6 @@ returns c =
     record {
       told = c.one.ensures ∙ told c;
       kept = kept c;
-      late = answer-late a.cluster a.capacity (past_in a) c.args.by c.args.node a.state.mode a.state.hosts.items w.sound s.known s.allowed w.late;
+      late = answer-late a.cluster a.capacity (past_in a) c.args.by c.args.node a.state.bus a.state.hosts.items w.sound s.known s.allowed w.late;
       heard = heard-same a.cluster (past_in a) (entry c ∷ past_in a) a.state.receivers.items (λ l i. refl) w.heard;
     }

@@ -1,24 +1,22 @@
 use Rattle.std.proofs.Common.{refl, ◌≡◌, ◌+◌, [], ◌∷◌, ◌++◌, ap, sym, ◌∙◌, arith}
-use Rattle.lin_core.specs.Kept.{Keeps, slot_in}
+use Rattle.lin_core.specs.kept.State.{Keeps, Stage, stage, KeepsLate, Passes}
+use Rattle.lin_core.specs.kept.Slots.{slot_in, pdu_of}
 use Rattle.lin_core.specs.Replies.{finish_events}
-use Rattle.lin_core.specs.Stages.{Stage, stage}
 use Rattle.lin_core.specs.declared.event.Event.TheVariants.{Seen, Lost}
 use Rattle.lin_core.specs.declared.log.LogEntry.{LogEntry}
 use Rattle.std.specs.Prelude.{slice_set, true, is_some}
 use Rattle.std.proofs.Math.ListN.{length-set}
-use Rattle.lin_core.specs.Hosts.{settled}
+use Rattle.lin_core.specs.kept.Hosts.{settled}
 use Rattle.lin_core.specs.declared.link.Cause.TheVariants.{Damaged}
-use Rattle.lin_core.specs.declared.load.Load.TheVariants.{Carried}
-use Rattle.lin_core.proofs.Settled.{DamagedIs, damaged-inside}
-use Rattle.lin_core.proofs.Settling.{settled-hosts, settled-late}
-use Rattle.lin_core.proofs.FinishCases.{host-carried, known_behind}
-use Rattle.lin_core.specs.KeptLate.{KeepsLate, KeepsMode}
-use Rattle.lin_core.specs.Loads.{load_of}
-use Rattle.lin_core.specs.Passes.{Passes}
-use Rattle.lin_core.proofs.Passing.{finish_of, passed-keeps, passed-mode}
-use Rattle.lin_core.proofs.Making.{OpenIs, open-ready, past_in}
-use Rattle.lin_core.specs.KeptHeard.{KeepsHeard}
-use Rattle.lin_core.proofs.Receiving.{carries-frame, heard-same, hurt-heard}
+use Rattle.lin_core.specs.declared.pdu.Pdu.TheVariants.{OfMessage}
+use Rattle.lin_core.proofs.steps.Settled.{DamagedIs, damaged-inside}
+use Rattle.lin_core.proofs.kept.Settling.{settled-hosts, settled-late}
+use Rattle.lin_core.proofs.steps.FinishCases.{host-carried, known_after}
+use Rattle.lin_core.specs.kept.Bus.{KeepsBus}
+use Rattle.lin_core.proofs.kept.Passing.{finish_of, passed-keeps, passed-bus}
+use Rattle.lin_core.proofs.steps.Making.{OpenIs, open-ready, past_in}
+use Rattle.lin_core.specs.kept.Receivers.{KeepsHeard}
+use Rattle.lin_core.proofs.kept.Receiving.{carries-frame, heard-same, hurt-heard}
 use Rattle.lin_core.proofs.state.State.finish_damaged.Goals.{After-two_events}
 use Rattle.lin_core.proofs.state.State.finish_damaged.Goals as goal
 
@@ -60,7 +58,7 @@ pass_slot-seen-requires-clause-open c = ap is_some (open-ready (stage c.args.set
 opened : (c : After-two_events) → OpenIs (here c) c.args.by
 opened c = open-ready (here c) c.args.by c.requires.ready
 
-carries : (c : After-two_events) → (load_of (slot_in (opened c).slot) ≡ Carried c.args.sender) × ((slot_in (opened c).slot).hurt ≡ true)
+carries : (c : After-two_events) → (pdu_of (slot_in (opened c).slot) ≡ OfMessage c.args.sender) × ((slot_in (opened c).slot).hurt ≡ true)
 carries c =
     let o = opened c in
     c.requires.carried (slot_in o.slot) o.is
@@ -85,12 +83,12 @@ kept c =
     rw (c.pass_slot-seen.ensures.hosts, c.settle.ensures)
     (passed-keeps a c.args.by o c.pass_slot-seen.new.self (slice_set a.state.hosts.items c.args.sender (settled host)) w (passes c)
     (length-set a.state.hosts.items c.args.sender (settled host))
-    (settled-hosts a.cluster a.capacity a.log (past_in a) (entry c) c.args.sender host a.state.hosts.items w.sound o.step.known (known_behind a.cluster (past_in a) c.args.by es w.sound o.step.known) (x.done.settles es) x.own.here w.kept.each_host))
+    (settled-hosts a.cluster a.capacity a.log (past_in a) (entry c) c.args.sender host a.state.hosts.items w.sound o.step.known (known_after a.cluster (past_in a) c.args.by es w.sound o.step.known) (x.done.settles es) x.own.here w.kept.each_host))
 
-mode_is : (c : After-two_events) → KeepsMode (here c).cluster (entry c ∷ past_in (here c)) c.pass_slot-seen.new.self.mode
-mode_is c = passed-mode (here c) c.args.by (opened c) c.pass_slot-seen.new.self c.requires.ready.whole (passes c)
+bus_is : (c : After-two_events) → KeepsBus (here c).cluster (entry c ∷ past_in (here c)) c.pass_slot-seen.new.self.bus
+bus_is c = passed-bus (here c) c.args.by (opened c) c.pass_slot-seen.new.self c.requires.ready.whole (passes c)
 
-late : (c : After-two_events) → KeepsLate (here c).cluster (entry c ∷ past_in (here c)) c.pass_slot-seen.new.self.mode (slice_set c.pass_slot-seen.new.self.hosts.items c.args.sender c.settle.new.self)
+late : (c : After-two_events) → KeepsLate (here c).cluster (entry c ∷ past_in (here c)) c.pass_slot-seen.new.self.bus (slice_set c.pass_slot-seen.new.self.hosts.items c.args.sender c.settle.new.self)
 late c =
     let a = here c in
     let w = c.requires.ready.whole in
@@ -99,7 +97,7 @@ late c =
     let x = damaged c in
     let es = finish_events a.cluster c.args.by (past_in a) in
     rw (c.pass_slot-seen.ensures.hosts, c.settle.ensures)
-    (settled-late a.cluster (past_in a) (entry c) c.args.sender host a.state.mode c.pass_slot-seen.new.self.mode a.state.hosts.items w.sound o.step.known (known_behind a.cluster (past_in a) c.args.by es w.sound o.step.known) (x.done.settles es) x.own.here (λ y. refl) (mode_is c) w.late)
+    (settled-late a.cluster (past_in a) (entry c) c.args.sender host a.state.bus c.pass_slot-seen.new.self.bus a.state.hosts.items w.sound o.step.known (known_after a.cluster (past_in a) c.args.by es w.sound o.step.known) (x.done.settles es) x.own.here (λ y. refl) (bus_is c) w.late)
 
 heard : (c : After-two_events) → KeepsHeard (here c).cluster (entry c ∷ past_in (here c)) c.pass_slot-seen.new.self.receivers.items
 heard c =

@@ -2,30 +2,29 @@ use Rattle.std.proofs.Common.{refl, ◌≡◌, ℕ, suc, length, List, [], ◌�
 use Rattle.std.specs.Prelude.{Some, false, is_some, option_map, slice_set, true}
 use Rattle.std.proofs.Math.ListN.{length-set}
 use Rattle.lin_core.specs.History.{seen}
-use Rattle.lin_core.specs.Hosts.{gone_on, settled}
-use Rattle.lin_core.specs.Kept.{message_at, slot_in}
-use Rattle.lin_core.specs.KeptHeard.{KeepsHeard}
-use Rattle.lin_core.specs.KeptLate.{KeepsMode}
+use Rattle.lin_core.specs.kept.Hosts.{gone_on, settled, message_at}
+use Rattle.lin_core.specs.kept.Slots.{slot_in}
+use Rattle.lin_core.specs.kept.Receivers.{KeepsHeard}
+use Rattle.lin_core.specs.kept.Bus.{KeepsBus}
 use Rattle.lin_core.specs.Links.{Message, nad_on}
-use Rattle.lin_core.specs.Passes.{Passes}
+use Rattle.lin_core.specs.kept.State.{Passes, Stage, stage}
 use Rattle.lin_core.specs.Replies.{finish_events, receiver_of}
-use Rattle.lin_core.specs.Stages.{Stage, stage}
 use Rattle.lin_core.specs.declared.event.Event.TheVariants.{Message as MessageEvent, Seen, Sent}
 use Rattle.lin_core.specs.declared.event.Seen.{Seen as HowSeen}
 use Rattle.lin_core.specs.declared.host.Host.{Host}
 use Rattle.lin_core.specs.declared.log.LogEntry.{LogEntry}
-use Rattle.lin_core.proofs.FinishCases.{Done, Part, finishes-part, finishes-whole, known_behind}
-use Rattle.lin_core.proofs.Going.{GoesOn, going-hosts, going-late}
-use Rattle.lin_core.proofs.Goods.{GoodIs, carried-slot, good-inside, host-there, last-inside, more-frames, same-host}
-use Rattle.lin_core.proofs.Making.{OpenIs, known-inside, open-ready, past_in}
-use Rattle.lin_core.proofs.Moves.{is_last}
-use Rattle.lin_core.proofs.Passing.{finish_of, passed-keeps, passed-mode, passes-as}
-use Rattle.lin_core.proofs.Places.{lent-is}
-use Rattle.lin_core.proofs.Reassembling.{given-inside, heard-inside, items-given, some-given}
-use Rattle.lin_core.proofs.Receiving.{HeardFrame}
-use Rattle.lin_core.proofs.Settled.{SettlesHost, settles-host}
-use Rattle.lin_core.proofs.Settling.{settled-hosts, settled-late}
-use Rattle.lin_core.proofs.state.State.finish_good.Goals.{After-index_mut-host, After-one, After-three_events}
+use Rattle.lin_core.proofs.steps.FinishCases.{Done, Part, finishes-part, finishes-whole, known_after}
+use Rattle.lin_core.proofs.kept.Going.{GoesOn, going-hosts, going-late}
+use Rattle.lin_core.proofs.steps.Goods.{GoodIs, carried-slot, good-inside, host-there, last-inside, more-frames, same-host}
+use Rattle.lin_core.proofs.steps.Making.{OpenIs, known-inside, open-ready, past_in}
+use Rattle.lin_core.proofs.sendings.Moves.{is_last}
+use Rattle.lin_core.proofs.kept.Passing.{finish_of, passed-keeps, passed-bus, passes-as}
+use Rattle.lin_core.proofs.kept.Places.{lent-is}
+use Rattle.lin_core.proofs.steps.Reassembling.{given-inside, heard-inside, items-given, some-given}
+use Rattle.lin_core.proofs.kept.Receiving.{HeardFrame}
+use Rattle.lin_core.proofs.steps.Settled.{SettlesHost, settles-host}
+use Rattle.lin_core.proofs.kept.Settling.{settled-hosts, settled-late}
+use Rattle.lin_core.proofs.state.State.finish_good.Goals.{After-index_mut-host}
 use Rattle.lin_core.proofs.state.State.finish_good.Goals as goal
 
 pub index-host-requires : goal.index-host-requires
@@ -69,7 +68,7 @@ index_mut-host-requires c =
     let below = i.below in
     rw c.pass_slot-seen.ensures.hosts (omega arith)
 
--- == behind the slot
+-- == after the slot
 abbrev here : After-index_mut-host → Stage
 here c = stage c.args.setup.now c.args.log.now c.args.self.now
 
@@ -100,8 +99,8 @@ entry c = finish_of (here c) c.args.by
 passes : (c : After-index_mut-host) → Passes (here c).cluster (opened c).slot (here c).state c.pass_slot-seen.new.self
 passes c = passes-as (here c).cluster (opened c).slot (here c).state c.pass_slot-seen.new.self c.hear.new.receivers (c.pass_slot-seen.ensures.passes (opened c).slot (opened c).at)
 
-mode_is : (c : After-index_mut-host) → KeepsMode (here c).cluster (entry c ∷ past_in (here c)) c.pass_slot-seen.new.self.mode
-mode_is c = passed-mode (here c) c.args.by (opened c) c.pass_slot-seen.new.self c.requires.ready.whole (passes c)
+bus_is : (c : After-index_mut-host) → KeepsBus (here c).cluster (entry c ∷ past_in (here c)) c.pass_slot-seen.new.self.bus
+bus_is c = passed-bus (here c) c.args.by (opened c) c.pass_slot-seen.new.self c.requires.ready.whole (passes c)
 
 heard_frame : (c : After-index_mut-host) → HeardFrame (here c).cluster (past_in (here c)) (entry c ∷ past_in (here c)) (good c).message.link (option_map (λ v. v.items) c.in_ok-whole.whole) c.hear.new.receivers.items
 heard_frame c =
@@ -122,7 +121,7 @@ part c more =
     let s = carried-slot (past_in (here c)) c.args.sender false (slot_in o.slot) o.is c.requires.carried in
     finishes-part (here c).cluster (past_in (here c)) c.args.by (slot_in o.slot) c.requires.ready.whole.sound o.step.known c.args.sender g.message g.later o.is s.0 s.1 g.first (last c ∙ more)
 
-goes : (c : After-index_mut-host) → c.is_last-last.result ≡ false → GoesOn (here c).cluster (past_in (here c)) (entry c) (opened c).step.known (known_behind (here c).cluster (past_in (here c)) c.args.by (finish_events (here c).cluster c.args.by (past_in (here c))) c.requires.ready.whole.sound (opened c).step.known) c.args.sender
+goes : (c : After-index_mut-host) → c.is_last-last.result ≡ false → GoesOn (here c).cluster (past_in (here c)) (entry c) (opened c).step.known (known_after (here c).cluster (past_in (here c)) c.args.by (finish_events (here c).cluster c.args.by (past_in (here c))) c.requires.ready.whole.sound (opened c).step.known) c.args.sender
 goes c more = (part c more).goes (finish_events (here c).cluster c.args.by (past_in (here c)))
 
 gone-same : (host other : Host) (n k len size : ℕ) → host ≡ other → n ≡ k → len ≡ size → gone_on host n len ≡ gone_on other k size
@@ -161,14 +160,14 @@ returns c =
     let m = (goes b more).message in
     let new : Host = gone_on host (nad_on a.cluster m.link) (length m.bytes) in
     let es = finish_events a.cluster c.args.by (past_in a) in
-    let k = known_behind a.cluster (past_in a) c.args.by es w.sound o.step.known in
+    let k = known_after a.cluster (past_in a) c.args.by es w.sound o.step.known in
     record {
       told = c.one.ensures ∙ ap (λ (s : _). Seen s ∷ []) (seen_is b) ∙ sym (part b more).told;
       kept = rw (c.pass_slot-seen.ensures.hosts, c.go_on.ensures, after b more)
           (passed-keeps a c.args.by o c.pass_slot-seen.new.self (slice_set a.state.hosts.items c.args.sender new) w (passes b) (length-set a.state.hosts.items c.args.sender new)
           (going-hosts a.cluster a.capacity a.log (past_in a) (entry b) c.args.sender host a.state.hosts.items new.sender w.sound o.step.known k (goes b more) (good b).here w.kept.each_host));
       late = rw (c.pass_slot-seen.ensures.hosts, c.go_on.ensures, after b more)
-          (going-late a.cluster (past_in a) (entry b) c.args.sender host a.state.mode c.pass_slot-seen.new.self.mode a.state.hosts.items w.sound o.step.known k (goes b more) (good b).here (λ y. refl) (mode_is b) w.late);
+          (going-late a.cluster (past_in a) (entry b) c.args.sender host a.state.bus c.pass_slot-seen.new.self.bus a.state.hosts.items w.sound o.step.known k (goes b more) (good b).here (λ y. refl) (bus_is b) w.late);
       heard = heard b;
     }
 
@@ -206,7 +205,7 @@ returns-then-last-2 c =
     let host = c.index_mut-host.result.now in
     let is = c.if-last-2.true in
     let es = finish_events a.cluster c.args.by (past_in a) in
-    let k = known_behind a.cluster (past_in a) c.args.by es w.sound o.step.known in
+    let k = known_after a.cluster (past_in a) c.args.by es w.sound o.step.known in
     record {
       told = c.three_events.ensures
           ∙ three-events _ _ _ _ _ _ _ _ _ (seen_is b) (c.receiver-to.ensures ∙ ap (λ (m : Message). receiver_of m.link.dir m.link.node) (lent b)) (c.new-bytes.ensures ∙ items-given c.in_ok-whole.whole c.unwrap.result (good b).message.bytes c.unwrap.ensures (given b is)) (own b).number
@@ -215,6 +214,6 @@ returns-then-last-2 c =
           (passed-keeps a c.args.by o c.pass_slot-seen.new.self (slice_set a.state.hosts.items c.args.sender (settled host)) w (passes b) (length-set a.state.hosts.items c.args.sender (settled host))
           (settled-hosts a.cluster a.capacity a.log (past_in a) (entry b) c.args.sender host a.state.hosts.items w.sound o.step.known k ((done b is).settles es) (own b).here w.kept.each_host));
       late = rw (c.pass_slot-seen.ensures.hosts, c.settle.ensures)
-          (settled-late a.cluster (past_in a) (entry b) c.args.sender host a.state.mode c.pass_slot-seen.new.self.mode a.state.hosts.items w.sound o.step.known k ((done b is).settles es) (own b).here (λ y. refl) (mode_is b) w.late);
+          (settled-late a.cluster (past_in a) (entry b) c.args.sender host a.state.bus c.pass_slot-seen.new.self.bus a.state.hosts.items w.sound o.step.known k ((done b is).settles es) (own b).here (λ y. refl) (bus_is b) w.late);
       heard = heard b;
     }

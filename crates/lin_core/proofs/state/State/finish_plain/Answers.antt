@@ -1,21 +1,19 @@
 use Rattle.std.proofs.Common.{refl, ◌≡◌, [], ◌∷◌, ◌++◌, ap, sym, ◌∙◌}
-use Rattle.lin_core.specs.Kept.{Keeps, slot_in}
+use Rattle.lin_core.specs.kept.State.{Keeps, Stage, stage, KeepsLate, Passes}
+use Rattle.lin_core.specs.kept.Slots.{slot_in, is_still, pdu_of}
 use Rattle.lin_core.specs.Replies.{finish_events}
-use Rattle.lin_core.specs.Stages.{Stage, stage}
 use Rattle.lin_core.specs.declared.event.Event.TheVariants.{Seen}
 use Rattle.lin_core.specs.declared.log.LogEntry.{LogEntry}
-use Rattle.lin_core.proofs.FinishCases.{Still, finishes-quiet, known_behind}
-use Rattle.lin_core.proofs.Keeping.{same-hosts}
-use Rattle.lin_core.proofs.LateKeeping.{still-late}
-use Rattle.lin_core.specs.KeptLate.{KeepsLate, KeepsMode}
-use Rattle.lin_core.specs.Loads.{is_still, load_of}
+use Rattle.lin_core.proofs.steps.FinishCases.{Still, finishes-quiet, known_after}
+use Rattle.lin_core.proofs.kept.Keeping.{same-hosts}
+use Rattle.lin_core.proofs.kept.BusAndSenders.{still-late}
+use Rattle.lin_core.specs.kept.Bus.{KeepsBus}
 use Rattle.std.specs.Prelude.{true, is_some}
-use Rattle.lin_core.proofs.Hosts.{HostState}
-use Rattle.lin_core.specs.Passes.{Passes}
-use Rattle.lin_core.proofs.Passing.{finish_of, passed-keeps, passed-mode}
-use Rattle.lin_core.proofs.Making.{OpenIs, open-ready, past_in}
-use Rattle.lin_core.specs.KeptHeard.{KeepsHeard}
-use Rattle.lin_core.proofs.Receiving.{heard-same, still-heard}
+use Rattle.lin_core.proofs.sendings.Hosts.{HostState}
+use Rattle.lin_core.proofs.kept.Passing.{finish_of, passed-keeps, passed-bus}
+use Rattle.lin_core.proofs.steps.Making.{OpenIs, open-ready, past_in}
+use Rattle.lin_core.specs.kept.Receivers.{KeepsHeard}
+use Rattle.lin_core.proofs.kept.Receiving.{heard-same, still-heard}
 use Rattle.lin_core.proofs.state.State.finish_plain.Goals.{After-one}
 use Rattle.lin_core.proofs.state.State.finish_plain.Goals as goal
 
@@ -28,7 +26,7 @@ pass_slot-seen-requires-clause-open c = ap is_some (open-ready (stage c.args.set
 opened : (c : After-one) → OpenIs (here c) c.args.by
 opened c = open-ready (here c) c.args.by c.requires.ready
 
-still : (c : After-one) → is_still (load_of (slot_in (opened c).slot)) (opened c).slot.hurt ≡ true
+still : (c : After-one) → is_still (pdu_of (slot_in (opened c).slot)) (opened c).slot.hurt ≡ true
 still c =
     let o = opened c in
     c.requires.still (slot_in o.slot) o.is
@@ -51,20 +49,20 @@ kept c =
     let o = opened c in
     rw c.pass_slot-seen.ensures.hosts
     (passed-keeps a c.args.by o c.pass_slot-seen.new.self a.state.hosts.items w (passes c) refl
-    (λ h host there. same-hosts a.cluster a.capacity a.log (past_in a) (entry c) w.sound o.step.known (known_behind a.cluster (past_in a) c.args.by (finish_events a.cluster c.args.by (past_in a)) w.sound o.step.known)
+    (λ h host there. same-hosts a.cluster a.capacity a.log (past_in a) (entry c) w.sound o.step.known (known_after a.cluster (past_in a) c.args.by (finish_events a.cluster c.args.by (past_in a)) w.sound o.step.known)
     (λ x. ap (λ (s : HostState). s.rest) ((quiet c).same (finish_events a.cluster c.args.by (past_in a)) x)) (λ x. refl) h host (w.kept.each_host h host there)))
 
-mode_is : (c : After-one) → KeepsMode (here c).cluster (entry c ∷ past_in (here c)) c.pass_slot-seen.new.self.mode
-mode_is c = passed-mode (here c) c.args.by (opened c) c.pass_slot-seen.new.self c.requires.ready.whole (passes c)
+bus_is : (c : After-one) → KeepsBus (here c).cluster (entry c ∷ past_in (here c)) c.pass_slot-seen.new.self.bus
+bus_is c = passed-bus (here c) c.args.by (opened c) c.pass_slot-seen.new.self c.requires.ready.whole (passes c)
 
-late : (c : After-one) → KeepsLate (here c).cluster (entry c ∷ past_in (here c)) c.pass_slot-seen.new.self.mode c.pass_slot-seen.new.self.hosts.items
+late : (c : After-one) → KeepsLate (here c).cluster (entry c ∷ past_in (here c)) c.pass_slot-seen.new.self.bus c.pass_slot-seen.new.self.hosts.items
 late c =
     let a = here c in
     let w = c.requires.ready.whole in
     let o = opened c in
     let es = finish_events a.cluster c.args.by (past_in a) in
     rw c.pass_slot-seen.ensures.hosts
-    (still-late a.cluster (past_in a) (entry c) a.state.mode c.pass_slot-seen.new.self.mode a.state.hosts.items w.sound o.step.known (known_behind a.cluster (past_in a) c.args.by es w.sound o.step.known) ((quiet c).same es) (λ x. refl) (mode_is c) w.late)
+    (still-late a.cluster (past_in a) (entry c) a.state.bus c.pass_slot-seen.new.self.bus a.state.hosts.items w.sound o.step.known (known_after a.cluster (past_in a) c.args.by es w.sound o.step.known) ((quiet c).same es) (λ x. refl) (bus_is c) w.late)
 
 heard : (c : After-one) → KeepsHeard (here c).cluster (entry c ∷ past_in (here c)) c.pass_slot-seen.new.self.receivers.items
 heard c =

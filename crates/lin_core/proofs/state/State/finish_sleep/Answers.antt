@@ -1,23 +1,21 @@
 use Rattle.std.proofs.Common.{refl, ◌≡◌, List, [], ◌∷◌, ◌++◌, ap, sym, ◌∙◌}
 use Rattle.lin_core.specs.History.{seen}
-use Rattle.lin_core.specs.Kept.{Keeps, slot_in}
+use Rattle.lin_core.specs.kept.State.{Keeps, Stage, stage, KeepsLate, Passes}
+use Rattle.lin_core.specs.kept.Slots.{slot_in, pdu_of}
 use Rattle.lin_core.specs.Replies.{finish_events}
-use Rattle.lin_core.specs.Stages.{Stage, stage}
 use Rattle.lin_core.specs.declared.event.Event.{Event}
 use Rattle.lin_core.specs.declared.event.Event.TheVariants.{Asleep as SleepEvent, Seen}
 use Rattle.lin_core.specs.declared.log.LogEntry.{LogEntry}
 use Rattle.std.specs.Prelude.{false, is_some}
-use Rattle.lin_core.specs.Hosts.{losses}
-use Rattle.lin_core.specs.Loads.{load_of}
-use Rattle.lin_core.specs.declared.load.Load.TheVariants.{Sleep}
-use Rattle.lin_core.proofs.FinishCases.{Sleeps, finishes-asleep, known_behind}
-use Rattle.lin_core.proofs.Sleeping.{losses-are, settled-small, sleeping-hosts, sleeping-late}
-use Rattle.lin_core.specs.KeptLate.{KeepsLate, KeepsMode}
-use Rattle.lin_core.specs.Passes.{Passes}
-use Rattle.lin_core.proofs.Passing.{finish_of, passed-keeps, passed-mode}
-use Rattle.lin_core.proofs.Making.{OpenIs, open-ready, past_in}
-use Rattle.lin_core.specs.KeptHeard.{KeepsHeard}
-use Rattle.lin_core.proofs.Receiving.{heard-reset, sleep-heard}
+use Rattle.lin_core.specs.kept.Hosts.{losses}
+use Rattle.lin_core.specs.declared.pdu.Pdu.TheVariants.{Sleep}
+use Rattle.lin_core.proofs.steps.FinishCases.{Sleeps, finishes-asleep, known_after}
+use Rattle.lin_core.proofs.kept.Sleeping.{losses-are, settled-small, sleeping-hosts, sleeping-late}
+use Rattle.lin_core.specs.kept.Bus.{KeepsBus}
+use Rattle.lin_core.proofs.kept.Passing.{finish_of, passed-keeps, passed-bus}
+use Rattle.lin_core.proofs.steps.Making.{OpenIs, open-ready, past_in}
+use Rattle.lin_core.specs.kept.Receivers.{KeepsHeard}
+use Rattle.lin_core.proofs.kept.Receiving.{heard-reset, sleep-heard}
 use Rattle.lin_core.proofs.state.State.finish_sleep.Goals.{After-sleep_events}
 use Rattle.lin_core.proofs.state.State.finish_sleep.Goals as goal
 
@@ -36,7 +34,7 @@ pass_slot-seen-requires-clause-open c = ap is_some (open-ready (stage c.args.set
 opened : (c : After-sleep_events) → OpenIs (here c) c.args.by
 opened c = open-ready (here c) c.args.by c.requires.ready
 
-asleep : (c : After-sleep_events) → (load_of (slot_in (opened c).slot) ≡ Sleep) × ((slot_in (opened c).slot).hurt ≡ false)
+asleep : (c : After-sleep_events) → (pdu_of (slot_in (opened c).slot) ≡ Sleep) × ((slot_in (opened c).slot).hurt ≡ false)
 asleep c =
     let o = opened c in
     c.requires.asleep (slot_in o.slot) o.is
@@ -62,18 +60,18 @@ kept c =
     let es = finish_events a.cluster c.args.by (past_in a) in
     (passed-keeps a c.args.by o c.pass_slot-seen.new.self c.sleep_events.new.hosts.items w (passes c)
     (rw c.pass_slot-seen.ensures.hosts at c.sleep_events.ensures.count)
-    (sleeping-hosts a.cluster a.capacity a.log (past_in a) (entry c) a.state.mode a.state.hosts.items c.sleep_events.new.hosts.items w.sound o.step.known (known_behind a.cluster (past_in a) c.args.by es w.sound o.step.known) ((sleeps c).states_are es) (λ x. refl) (rw c.pass_slot-seen.ensures.hosts at c.sleep_events.ensures.hosts) w.kept.each_host w.late))
+    (sleeping-hosts a.cluster a.capacity a.log (past_in a) (entry c) a.state.bus a.state.hosts.items c.sleep_events.new.hosts.items w.sound o.step.known (known_after a.cluster (past_in a) c.args.by es w.sound o.step.known) ((sleeps c).states_are es) (λ x. refl) (rw c.pass_slot-seen.ensures.hosts at c.sleep_events.ensures.hosts) w.kept.each_host w.late))
 
-mode_is : (c : After-sleep_events) → KeepsMode (here c).cluster (entry c ∷ past_in (here c)) c.pass_slot-seen.new.self.mode
-mode_is c = passed-mode (here c) c.args.by (opened c) c.pass_slot-seen.new.self c.requires.ready.whole (passes c)
+bus_is : (c : After-sleep_events) → KeepsBus (here c).cluster (entry c ∷ past_in (here c)) c.pass_slot-seen.new.self.bus
+bus_is c = passed-bus (here c) c.args.by (opened c) c.pass_slot-seen.new.self c.requires.ready.whole (passes c)
 
-late : (c : After-sleep_events) → KeepsLate (here c).cluster (entry c ∷ past_in (here c)) c.pass_slot-seen.new.self.mode c.sleep_events.new.hosts.items
+late : (c : After-sleep_events) → KeepsLate (here c).cluster (entry c ∷ past_in (here c)) c.pass_slot-seen.new.self.bus c.sleep_events.new.hosts.items
 late c =
     let a = here c in
     let w = c.requires.ready.whole in
     let o = opened c in
     let es = finish_events a.cluster c.args.by (past_in a) in
-    sleeping-late a.cluster a.capacity a.log (past_in a) (entry c) a.state.mode c.pass_slot-seen.new.self.mode a.state.hosts.items c.sleep_events.new.hosts.items w.sound o.step.known (known_behind a.cluster (past_in a) c.args.by es w.sound o.step.known) ((sleeps c).states_are es) (λ x. refl) (λ x. refl) (rw c.pass_slot-seen.ensures.hosts at c.sleep_events.ensures.hosts) w.kept.each_host (mode_is c) w.late
+    sleeping-late a.cluster a.capacity a.log (past_in a) (entry c) a.state.bus c.pass_slot-seen.new.self.bus a.state.hosts.items c.sleep_events.new.hosts.items w.sound o.step.known (known_after a.cluster (past_in a) c.args.by es w.sound o.step.known) ((sleeps c).states_are es) (λ x. refl) (λ x. refl) (rw c.pass_slot-seen.ensures.hosts at c.sleep_events.ensures.hosts) w.kept.each_host (bus_is c) w.late
 
 heard : (c : After-sleep_events) → KeepsHeard (here c).cluster (entry c ∷ past_in (here c)) c.reset_all.new.receivers.items
 heard c =

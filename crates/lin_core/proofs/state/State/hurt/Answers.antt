@@ -1,11 +1,11 @@
 use Rattle.std.proofs.Common.{refl, ◌∷◌, ap}
 use Rattle.std.specs.Prelude.{is_some}
-use Rattle.lin_core.specs.Stages.{done_of, stage}
+use Rattle.lin_core.specs.kept.State.{done_of, stage}
 use Rattle.lin_core.specs.declared.step.Step.TheVariants.{Hurt}
-use Rattle.lin_core.proofs.LateKeeping.{hurt-keeps, hurt-late}
-use Rattle.lin_core.proofs.LateMaking.{hurt-inside}
-use Rattle.lin_core.proofs.Making.{allowed-ready, known-inside, past_in}
-use Rattle.lin_core.proofs.Receiving.{heard-same}
+use Rattle.lin_core.proofs.kept.BusAndSenders.{hurt-keeps, hurt-late}
+use Rattle.lin_core.proofs.steps.Allowed.{hurt-inside}
+use Rattle.lin_core.proofs.steps.Making.{allowed-ready, known-inside, past_in}
+use Rattle.lin_core.proofs.kept.Receiving.{heard-same}
 use Rattle.lin_core.proofs.state.State.hurt.Goals as goal
 
 pub hurt-requires : goal.hurt-requires
@@ -23,6 +23,6 @@ returns c =
       told = c.no_events.ensures;
       kept = rw (c.hurt.ensures o.slot o.at)
           (hurt-keeps a.cluster a.opening a.capacity a.log (past_in a) o.slot a.state.time a.state.walker a.state.hosts.items a.state.signals c.args.by c.args.bytes.now w.sound k o.kept);
-      late = hurt-late a.cluster (past_in a) c.args.by c.args.bytes.now a.state.mode a.state.hosts.items w.sound k w.late;
+      late = hurt-late a.cluster (past_in a) c.args.by c.args.bytes.now a.state.bus a.state.hosts.items w.sound k w.late;
       heard = heard-same a.cluster (past_in a) (done_of a c.args.by (Hurt c.args.bytes.now) ∷ past_in a) a.state.receivers.items (λ l i. refl) w.heard;
     }

@@ -1,11 +1,11 @@
 use Rattle.std.proofs.Common.{◌≡◌, refl, ◌∷◌, ◌∙◌, ap, sym}
 use Rattle.std.specs.Prelude.{Some, is_some}
-use Rattle.lin_core.specs.Stages.{done_of, stage}
+use Rattle.lin_core.specs.kept.State.{done_of, stage}
 use Rattle.lin_core.specs.declared.step.Step.TheVariants.{Leave}
-use Rattle.lin_core.proofs.LateKeeping.{leave-keeps, leave-late}
-use Rattle.lin_core.proofs.LateMaking.{leave-inside, leave-room}
-use Rattle.lin_core.proofs.Making.{allowed-ready, known-inside, past_in}
-use Rattle.lin_core.proofs.Receiving.{heard-same}
+use Rattle.lin_core.proofs.kept.BusAndSenders.{leave-keeps, leave-late}
+use Rattle.lin_core.proofs.steps.Allowed.{leave-inside, leave-room}
+use Rattle.lin_core.proofs.steps.Making.{allowed-ready, known-inside, past_in}
+use Rattle.lin_core.proofs.kept.Receiving.{heard-same}
 use Rattle.lin_core.proofs.state.State.leave.Goals as goal
 
 pub leave-requires-clause-open : goal.leave-requires-clause-open
@@ -30,6 +30,6 @@ returns c =
       told = c.no_events.ensures;
       kept = rw (c.leave.ensures o.slot o.at)
           (leave-keeps a.cluster a.opening a.capacity a.log (past_in a) o.slot a.state.time a.state.walker a.state.hosts.items a.state.signals c.args.by c.args.node w.sound k c.requires.allowed o.is o.kept);
-      late = leave-late a.cluster (past_in a) c.args.by c.args.node a.state.mode a.state.hosts.items w.sound k w.late;
+      late = leave-late a.cluster (past_in a) c.args.by c.args.node a.state.bus a.state.hosts.items w.sound k w.late;
       heard = heard-same a.cluster (past_in a) (done_of a c.args.by (Leave c.args.node) ∷ past_in a) a.state.receivers.items (λ l i. refl) w.heard;
     }

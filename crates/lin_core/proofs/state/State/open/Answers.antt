@@ -4,16 +4,15 @@ use Rattle.lin_parts.specs.Cluster.{line_of, nodes}
 use Rattle.lin_frame.specs.Words.{numbers}
 use Rattle.lin_schedule.specs.Due.{due_for}
 use Rattle.lin_schedule.proofs.Clusters.{line-entry}
-use Rattle.lin_core.specs.Dues.{HasDue, is_due_of}
-use Rattle.lin_core.specs.Kept.{opened}
-use Rattle.lin_core.proofs.Opening.{has-due}
-use Rattle.lin_core.specs.Stages.{done_of, IsKept, Stage, stage}
+use Rattle.lin_core.specs.kept.Slots.{HasDue, is_due_of, opened}
+use Rattle.lin_core.proofs.slots.Opening.{has-due}
+use Rattle.lin_core.specs.kept.State.{done_of, IsKept, Stage, stage}
 use Rattle.lin_core.specs.declared.step.Step.TheVariants.{Open}
-use Rattle.lin_core.proofs.Keeping.{open-keeps, opening-is, Opens}
-use Rattle.lin_core.proofs.LateKeeping.{open-late}
-use Rattle.lin_core.proofs.Making.{allowed-ready, opens-inside, past_in}
-use Rattle.lin_core.proofs.Selected.{responder-inside}
-use Rattle.lin_core.proofs.Receiving.{heard-same}
+use Rattle.lin_core.proofs.kept.Keeping.{open-keeps, opening-is, Opens}
+use Rattle.lin_core.proofs.kept.BusAndSenders.{open-late}
+use Rattle.lin_core.proofs.steps.Making.{allowed-ready, opens-inside, past_in}
+use Rattle.lin_core.proofs.slots.Selected.{responder-inside}
+use Rattle.lin_core.proofs.kept.Receiving.{heard-same}
 use Rattle.lin_core.specs.declared.slot.OpenSlot.{OpenSlot}
 use Rattle.lin_schedule.specs.declared.due.Due.{Due}
 use Rattle.lin_core.proofs.state.State.open.Goals as goal
@@ -23,8 +22,8 @@ due-there a flags due w e =
     subst (HasDue a.cluster) (sym e)
     (has-due a.cluster flags (line_of a.cluster a.state.walker.place.0 a.state.walker.place.1).entry w.rules (line-entry a.cluster w.rules a.state.walker.place w.kept.walks.place))
 
-pub header_for-header-requires : goal.header_for-header-requires
-header_for-header-requires c = due-there (stage c.args.setup.now c.args.log.now c.args.self.now) c.as_slice-pending.result.now c.due-due.result c.requires.ready.whole c.due-due.ensures.entry
+pub header_of-header-requires : goal.header_of-header-requires
+header_of-header-requires c = due-there (stage c.args.setup.now c.args.log.now c.args.self.now) c.as_slice-pending.result.now c.due-due.result c.requires.ready.whole c.due-due.ensures.entry
 
 pub due_nodes-nodes-requires-clause-there : goal.due_nodes-nodes-requires-clause-there
 due_nodes-nodes-requires-clause-there c = due-there (stage c.args.setup.now c.args.log.now c.args.self.now) c.as_slice-pending.result.now c.due-due.result c.requires.ready.whole c.due-due.ensures.entry
@@ -37,18 +36,18 @@ returns c =
     let flags : c.as_slice-pending.result.now ≡ a.state.signals.pending.items = c.as_slice-pending.ensures.value in
     let due : c.due-due.result ≡ due_for a.cluster a.state.signals.pending.items (line_of a.cluster a.state.walker.place.0 a.state.walker.place.1).entry
     = c.due-due.ensures.entry ∙ ap (λ (bs : List Bool). due_for a.cluster bs (line_of a.cluster a.state.walker.place.0 a.state.walker.place.1).entry) flags in
-    let slot : OpenSlot = opened a.cluster c.place-place.result c.header_for-header.result c.due_nodes-nodes.result.items in
+    let slot : OpenSlot = opened a.cluster c.place-place.result c.header_of-header.result c.due_nodes-nodes.result.items in
     let nodes : c.due_nodes-nodes.result.items ≡ filter (is_due_of a.cluster a.state.signals.pending.items c.has_request-requests.result c.responder-responder.result c.due-due.result) (numbers (nodes a.cluster))
     = c.due_nodes-nodes.ensures.due ∙ ap (λ (bs : List Bool). filter (is_due_of a.cluster bs c.has_request-requests.result c.responder-responder.result c.due-due.result) (numbers (nodes a.cluster))) flags in
     let opens : Opens a.cluster a.opening (past_in a) slot
     = opens-inside a c.args.by c.index.result.now slot c.has_request-requests.result c.responder-responder.result c.place-place.result c.due-due.result w s c.index.ensures
-    (c.has_request-requests.ensures ∙ ap (λ (b : Bool). not b || a.state.mode.asked) c.is_empty-waits.ensures)
+    (c.has_request-requests.ensures ∙ ap (λ (b : Bool). not b || a.state.bus.asked) c.is_empty-waits.ensures)
     (responder-inside a c.as_slice.result.now c.responder-responder.result w c.as_slice.ensures.value c.responder-responder.ensures.none c.responder-responder.ensures.some) c.place-place.ensures.value due
-    (rw (c.header_for-header.ensures, nodes) refl)
+    (rw (c.header_of-header.ensures, nodes) refl)
     refl c.due_nodes-nodes.ensures.few refl refl refl in
     record {
       told = (rw c.as_slice-2.ensures.value at c.in_ok-events.ensures) ∙ opening-is a.cluster a.opening (past_in a) slot opens;
       kept = rw c.begin.ensures (open-keeps a.cluster a.opening a.capacity a.log (past_in a) a.state.slot slot a.state.time a.state.walker a.state.hosts.items a.state.signals c.args.by w.sound s.known s.allowed opens w.kept);
-      late = open-late a.cluster a.opening a.capacity (past_in a) c.args.by a.state.mode a.state.hosts.items w.sound s.known s.allowed w.late;
+      late = open-late a.cluster a.opening a.capacity (past_in a) c.args.by a.state.bus a.state.hosts.items w.sound s.known s.allowed w.late;
       heard = heard-same a.cluster (past_in a) (done_of a c.args.by Open ∷ past_in a) a.state.receivers.items (λ l i. refl) w.heard;
     }

@@ -2,13 +2,13 @@ use Rattle.lin_core.specs.Links.{accepted_from}
 use Rattle.lin_core.specs.declared.event.Event.TheVariants.{Accepted}
 use Rattle.std.proofs.Common.{suc, refl, ℕ, ◌≡◌, ◌+◌, length, [], ◌∷◌, ap, ◌∙◌, arith}
 use Rattle.std.specs.Prelude.{slice_set}
-use Rattle.lin_core.specs.Hosts.{queued}
-use Rattle.lin_core.specs.Stages.{done_of, Stage, stage}
+use Rattle.lin_core.specs.kept.Hosts.{queued}
+use Rattle.lin_core.specs.kept.State.{done_of, Stage, stage}
 use Rattle.lin_core.specs.declared.step.Step.TheVariants.{Send}
-use Rattle.lin_core.proofs.Keeping.{send-keeps}
-use Rattle.lin_core.proofs.LateKeeping.{send-late}
-use Rattle.lin_core.proofs.Making.{Allowed, allowed-ready, Sender, sender-inside, past_in}
-use Rattle.lin_core.proofs.Receiving.{heard-same}
+use Rattle.lin_core.proofs.kept.Keeping.{send-keeps}
+use Rattle.lin_core.proofs.kept.BusAndSenders.{send-late}
+use Rattle.lin_core.proofs.steps.Making.{Allowed, allowed-ready, Sender, sender-inside, past_in}
+use Rattle.lin_core.proofs.kept.Receiving.{heard-same}
 use Rattle.lin_core.proofs.state.State.send.Goals.{After-len, After-one}
 use Rattle.lin_core.proofs.state.State.send.Goals as goal
 
@@ -54,7 +54,7 @@ returns c =
       told = c.one.ensures ∙ ap (λ (n : ℕ). Accepted c.args.from n ∷ []) number;
       kept = send-keeps a.cluster a.opening a.capacity a.log (past_in a) a.state.slot a.state.time a.state.walker a.state.hosts.items _ a.state.signals host c.args.by c.args.from c.args.to c.args.message.now (suc (length (accepted_from (past_in a) c.args.from)))
           w.sound (allowed c).known (allowed c).allowed s.at (ap (slice_set a.state.hosts.items c.args.from) queue) w.kept;
-      late = send-late a.cluster a.capacity (past_in a) c.args.by c.args.from c.args.to c.args.message.now _ (length a.log) host a.state.mode a.state.hosts.items _ w.sound (allowed c).known (allowed c).allowed s.at
+      late = send-late a.cluster a.capacity (past_in a) c.args.by c.args.from c.args.to c.args.message.now _ (length a.log) host a.state.bus a.state.hosts.items _ w.sound (allowed c).known (allowed c).allowed s.at
           (ap (slice_set a.state.hosts.items c.args.from) queue) w.late;
       heard = heard-same a.cluster (past_in a) (done_of a c.args.by (Send c.args.from c.args.to c.args.message.now) ∷ past_in a) a.state.receivers.items (λ l i. refl) w.heard;
     }

@@ -2,16 +2,16 @@ use Rattle.std.proofs.Common.{◌≡◌, ◌∷◌, ◌∙◌, sym, arith}
 use Rattle.std.specs.Prelude.{List, Some, slice_get, slice_set}
 use Rattle.std.proofs.lemmas.Option.{slice_get_read}
 use Rattle.lin_parts.specs.Cluster.{nodes}
-use Rattle.lin_core.specs.KeptHeard.{KeepsHeard}
-use Rattle.lin_core.proofs.Receiving.{timeout-heard}
+use Rattle.lin_core.specs.kept.Receivers.{KeepsHeard}
+use Rattle.lin_core.proofs.kept.Receiving.{timeout-heard}
 use Rattle.lin_core.specs.Replies.{all_reports, quiet_entry}
-use Rattle.lin_core.specs.Stages.{Stage, stage}
+use Rattle.lin_core.specs.kept.State.{Stage, stage}
 use Rattle.lin_core.specs.declared.event.Event.{Event}
 use Rattle.lin_core.specs.declared.log.LogEntry.{LogEntry}
 use Rattle.lin_core.specs.declared.step.Step.TheVariants.{Timeout}
-use Rattle.lin_core.proofs.Keeping.{done_entry}
-use Rattle.lin_core.proofs.Making.{Allowed, allowed-ready, past_in}
-use Rattle.lin_core.proofs.Timeouts.{TimesOut, times-out, timeout-keeps, timeout-late}
+use Rattle.lin_core.proofs.kept.Keeping.{done_entry}
+use Rattle.lin_core.proofs.steps.Making.{Allowed, allowed-ready, past_in}
+use Rattle.lin_core.proofs.steps.Timeouts.{TimesOut, times-out, timeout-keeps, timeout-late}
 use Rattle.lin_core.proofs.state.State.time_out.Goals.{After-one}
 use Rattle.lin_core.proofs.state.State.time_out.Goals as goal
 
@@ -81,6 +81,6 @@ returns c =
           (timeout-keeps a.cluster a.opening a.capacity a.log (past_in a) a.state.slot a.state.time a.state.walker a.state.hosts.items a.state.signals c.index_mut-kept.result.now c.args.by c.args.link.node c.args.link.dir (events c)
           w.sound o.known o.none o.here (o.settles (events c)) w.kept);
       late = rw (c.sender-host.ensures, c.settle.ensures)
-          (timeout-late a.cluster (past_in a) a.state.mode a.state.hosts.items c.index_mut-kept.result.now c.args.by c.args.link.node c.args.link.dir (events c) w.sound o.known o.none o.here (o.settles (events c)) w.late);
+          (timeout-late a.cluster (past_in a) a.state.bus a.state.hosts.items c.index_mut-kept.result.now c.args.by c.args.link.node c.args.link.dir (events c) w.sound o.known o.none o.here (o.settles (events c)) w.late);
       heard = heard c;
     }

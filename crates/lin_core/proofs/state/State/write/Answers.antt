@@ -1,10 +1,10 @@
 use Rattle.std.proofs.Common.{refl, ◌∷◌}
-use Rattle.lin_core.specs.Stages.{done_of, stage}
+use Rattle.lin_core.specs.kept.State.{done_of, stage}
 use Rattle.lin_core.specs.declared.step.Step.TheVariants.{Write}
-use Rattle.lin_core.proofs.Keeping.{write-keeps}
-use Rattle.lin_core.proofs.LateKeeping.{write-late}
-use Rattle.lin_core.proofs.Making.{known-inside, past_in}
-use Rattle.lin_core.proofs.Receiving.{heard-same}
+use Rattle.lin_core.proofs.kept.Keeping.{write-keeps}
+use Rattle.lin_core.proofs.kept.BusAndSenders.{write-late}
+use Rattle.lin_core.proofs.steps.Making.{known-inside, past_in}
+use Rattle.lin_core.proofs.kept.Receiving.{heard-same}
 use Rattle.lin_core.proofs.state.State.write.Goals as goal
 
 pub returns : goal.returns
@@ -17,6 +17,6 @@ returns c =
       kept = write-keeps a.cluster a.opening a.capacity a.log (past_in a) a.state.slot a.state.time a.state.walker a.state.hosts.items a.state.signals c.write.new.self c.args.by c.args.node c.args.signal c.args.value.now
           w.sound k c.requires.allowed
           (record { values = c.write.ensures.values; heard = c.write.ensures.heard; room = c.write.ensures.room; count = c.write.ensures.frames; pending = c.write.ensures.pending }) w.kept;
-      late = write-late a.cluster (past_in a) c.args.by c.args.node c.args.signal c.args.value.now a.state.mode a.state.hosts.items w.sound k w.late;
+      late = write-late a.cluster (past_in a) c.args.by c.args.node c.args.signal c.args.value.now a.state.bus a.state.hosts.items w.sound k w.late;
       heard = heard-same a.cluster (past_in a) (done_of a c.args.by (Write c.args.node c.args.signal c.args.value.now) ∷ past_in a) a.state.receivers.items (λ l i. refl) w.heard;
     }

@@ -1,0 +1,4 @@
+-- Worked examples, by computation.
+pub mod Rows
+pub mod SignalRows
+pub mod TransportRows

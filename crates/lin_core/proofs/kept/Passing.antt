@@ -1,0 +1,41 @@
+-- What the end of a slot leaves inside a core.
+use Rattle.std.proofs.Common.{◌≡◌, ℕ, List, [], ◌∷◌, ◌++◌, length, subst}
+use Rattle.std.specs.Prelude.{Option, Some, slice_get}
+use Rattle.std.specs.Global.{Vec}
+use Rattle.lin_parts.specs.declared.parts.Parts.{Parts}
+use Rattle.lin_core.specs.declared.receivers.Receivers.{Receivers}
+use Rattle.lin_core.specs.kept.State.{Keeps, Passes, IsKept, Stage}
+use Rattle.lin_core.specs.kept.Hosts.{KeepsHost}
+use Rattle.lin_core.specs.kept.Slots.{slot_in}
+use Rattle.lin_core.specs.kept.Bus.{KeepsBus}
+use Rattle.lin_core.specs.Replies.{finish_events}
+use Rattle.lin_core.specs.Slots.{moves}
+use Rattle.lin_core.specs.declared.host.Host.{Host}
+use Rattle.lin_core.specs.declared.log.LogEntry.{LogEntry}
+use Rattle.lin_core.specs.declared.port.PortId.{PortId}
+use Rattle.lin_core.specs.declared.slot.OpenSlot.{OpenSlot}
+use Rattle.lin_core.specs.declared.state.State.{State}
+use Rattle.lin_core.proofs.kept.Keeping.{finished_entry, finish-keeps}
+use Rattle.lin_core.proofs.steps.Making.{OpenIs, past_in}
+use Rattle.lin_core.proofs.kept.Bus.{finish-bus}
+
+-- the entry of the finish
+abbrev pub finish_of : Stage → PortId → LogEntry
+finish_of a by = finished_entry a.cluster (past_in a) by
+
+-- what the receivers are doesn't matter
+pub passes-as : (c : Parts) (slot : OpenSlot) (old new : State) (rs : Vec Receivers) → Passes c slot (record old { receivers = rs }) new → Passes c slot old new
+passes-as c slot old new rs p = record { shut = p.shut; clock = p.clock; few = p.few; stands = p.stands; walks = p.walks; signals = p.signals; bus = p.bus }
+
+pub passed-keeps : (a : Stage) (by : PortId) (o : OpenIs a by) (new : State) (hosts : List Host) → IsKept a → Passes a.cluster o.slot a.state new → length hosts ≡ length a.state.hosts.items
+    → ((h : ℕ) (host : Host) → slice_get hosts h ≡ Some host → KeepsHost a.cluster a.capacity (a.log ++ finish_of a by ∷ []) (finish_of a by ∷ past_in a) h host)
+    → Keeps a.cluster a.opening a.capacity (a.log ++ finish_of a by ∷ []) (finish_of a by ∷ past_in a) new.slot new.time new.walker hosts new.signals
+passed-keeps a by o new hosts w p count each =
+    rw p.shut
+    (finish-keeps a.cluster a.opening a.capacity a.log (past_in a) o.slot a.state.time new.time a.state.walker new.walker a.state.hosts.items hosts a.state.signals new.signals by
+    (record { clock_is = p.clock; few = p.few; stands = p.stands a.opening (moves (past_in a)) w.kept.stands; walks = p.walks })
+    p.signals count each
+    (subst (λ (s : Option OpenSlot). Keeps a.cluster a.opening a.capacity a.log (past_in a) s a.state.time a.state.walker a.state.hosts.items a.state.signals) o.at w.kept))
+
+pub passed-bus : (a : Stage) (by : PortId) (o : OpenIs a by) (new : State) → IsKept a → Passes a.cluster o.slot a.state new → KeepsBus a.cluster (finish_of a by ∷ past_in a) new.bus
+passed-bus a by o new w p = rw p.bus (finish-bus a.cluster (past_in a) by (finish_events a.cluster by (past_in a)) (slot_in o.slot) a.state.bus o.is w.late.bus_is)

@@ -1,0 +1,260 @@
+-- What the receivers of the links hear of each step.
+use Rattle.std.proofs.Common.{◌≡◌, ◌≢◌, ℕ, ◌<◌, Bool, true, false, List, [], ◌∷◌, ◌++◌, length, refl, ap, sym, ◌∙◌, subst, arith, inl, inr}
+use Rattle.std.specs.Prelude.{Option, Some, None, drop, if◌then◌else◌, is_some, option_to_list, slice_get, slice_index, slice_set}
+use Rattle.std.proofs.Math.ListN.{length-set}
+use Rattle.std.proofs.lemmas.Bool.Decides.{eqb_tells}
+use Rattle.std.proofs.lemmas.List.{drop_at}
+use Rattle.std.proofs.lemmas.Option.{slice_get_within}
+use Rattle.lin_transport.specs.Transport.{Heard, frame, heard_with, messages_in}
+use Rattle.lin_transport.specs.Transport.Heard.{Frame, Reset}
+use Rattle.lin_transport.specs.Receiver.{Hears, Reception, Stands}
+use Rattle.lin_parts.specs.Cluster.{nad}
+use Rattle.lin_parts.specs.Sound.{IsSound}
+use Rattle.lin_parts.specs.declared.parts.Parts.{Parts}
+use Rattle.lin_core.specs.History.{Slot, asked, open_slot}
+use Rattle.lin_core.specs.kept.Receivers.{AreReset, HearsOn, IsReset, KeepsHeard, KeepsReceiver, opposite, receiver_in}
+use Rattle.lin_core.specs.Links.{Link, Message, accepted_from, heard_on, nad_on, reading, same_link, signs}
+use Rattle.lin_core.specs.kept.Slots.{is_still, pdu_of}
+use Rattle.lin_core.specs.Replies.{link_at}
+use Rattle.lin_core.specs.Slots.{with_classic}
+use Rattle.lin_core.specs.declared.event.Event.{Event}
+use Rattle.lin_core.specs.declared.link.Direction.{Direction}
+use Rattle.lin_core.specs.declared.link.Direction.TheVariants.{Down, Up}
+use Rattle.lin_core.specs.declared.pdu.Pdu.{Pdu}
+use Rattle.lin_core.specs.declared.pdu.Pdu.TheVariants.{OfMessage, Nothing, Sleep}
+use Rattle.lin_core.specs.declared.log.LogEntry.{LogEntry}
+use Rattle.lin_core.specs.declared.port.PortId.{PortId}
+use Rattle.lin_core.specs.declared.receivers.Receivers.{Receivers}
+use Rattle.lin_core.specs.declared.step.Step.TheVariants.{Finish, Timeout}
+use Rattle.lin_transport.proofs.Frames.{frame-address}
+use Rattle.lin_core.proofs.links.Finishes.{HasNad, IsFrameOf, empty-quiet, finish-heard, frame-adds, frame-is, frame_slot, nad-is, other-quiet, same-cond, sleep-good, sleep-hurt, sleep_slot, slot_of}
+use Rattle.lin_core.proofs.sendings.Hosts.{CanGo, IsLink, eqb-self, same-self}
+use Rattle.lin_core.proofs.steps.Known.{Known, SlotIs, entry_is, has-nad}
+use Rattle.lin_core.proofs.steps.Known.SlotIs.{carries, closed, master, other, slave, sleep}
+use Rattle.lin_core.proofs.sendings.Moves.{heard_by, record_of, same-is}
+use Rattle.lin_core.proofs.kept.Places.{get-there, set-other, set-own}
+use Rattle.lin_core.proofs.steps.Steps.{first-go}
+use Rattle.lin_core.proofs.sendings.Turns.{pdu-frame, other-pdu}
+
+-- == nothing is heard
+receiver-same : (c : Parts) (past past' : List LogEntry) (l : Link) (r : Reception) → heard_on c past' l ≡ heard_on c past l → KeepsReceiver c past l r → KeepsReceiver c past' l r
+receiver-same c past past' l r e k = record { nad_is = k.nad_is; stands = subst (λ (x : List Heard). Stands r x) (sym e) k.stands }
+
+pub heard-same : (c : Parts) (past past' : List LogEntry) (rs : List Receivers) → ((l : Link) → is_some (nad c l.node) ≡ true → heard_on c past' l ≡ heard_on c past l) → KeepsHeard c past rs → KeepsHeard c past' rs
+heard-same c past past' rs same k = record {
+  count = k.count;
+  each = λ h r d at a. receiver-same c past past' (link_at h d) (receiver_in d r) (same (link_at h d) a) (k.each h r d at a);
+}
+
+-- == one link's receiver hears something
+by-dir : (c : Parts) (past past' : List LogEntry) (n : ℕ) (e d : Direction) (own new : Receivers) → KeepsReceiver c past' (link_at n e) (receiver_in e new) → receiver_in (opposite e) new ≡ receiver_in (opposite e) own
+    → ((x : Link) → x ≢ link_at n e → x.node ≡ n → heard_on c past' x ≡ heard_on c past x) → KeepsReceiver c past (link_at n d) (receiver_in d own) → KeepsReceiver c past' (link_at n d) (receiver_in d new)
+by-dir c past past' n Down Down own new k o same was = k
+by-dir c past past' n Up Up own new k o same was = k
+by-dir c past past' n Down Up own new k o same was =
+    subst (KeepsReceiver c past' (link_at n Up)) (sym o) (receiver-same c past past' (link_at n Up) own.up (same (link_at n Up) (λ e. let bad : Up ≡ Down = ap (λ (l : Link). l.dir) e in cc) refl) was)
+by-dir c past past' n Up Down own new k o same was =
+    subst (KeepsReceiver c past' (link_at n Down)) (sym o) (receiver-same c past past' (link_at n Down) own.down (same (link_at n Down) (λ e. let bad : Down ≡ Up = ap (λ (l : Link). l.dir) e in cc) refl) was)
+
+pub heard-one : (c : Parts) (past past' : List LogEntry) (rs : List Receivers) (l : Link) (own new : Receivers) → slice_get rs l.node ≡ Some own → KeepsReceiver c past' l (receiver_in l.dir new)
+    → receiver_in (opposite l.dir) new ≡ receiver_in (opposite l.dir) own → ((x : Link) → is_some (nad c x.node) ≡ true → x ≢ l → heard_on c past' x ≡ heard_on c past x) → KeepsHeard c past rs → KeepsHeard c past' (slice_set rs l.node new)
+heard-one c past past' rs l own new at keeps o same k = record {
+  count = length-set rs l.node new ∙ k.count;
+  each = λ h r d there a. elim (eqb_tells l.node h) [
+    | inl hit ↦
+        let here : slice_get (slice_set rs l.node new) h ≡ Some new = subst (λ (n : ℕ). slice_get (slice_set rs l.node new) n ≡ Some new) hit.1 (set-own rs l.node own new at) in
+        let both : Some r ≡ Some new = sym there ∙ here in
+        let is : r ≡ new = cc in
+        let own_nad : is_some (nad c l.node) ≡ true = subst (λ (n : ℕ). is_some (nad c n) ≡ true) (sym hit.1) a in
+        subst (λ (y : Receivers). KeepsReceiver c past' (link_at h d) (receiver_in d y)) (sym is)
+        (subst (λ (n : ℕ). KeepsReceiver c past' (link_at n d) (receiver_in d new)) hit.1
+        (by-dir c past past' l.node l.dir d own new keeps o (λ x differ e. same x (subst (λ (n : ℕ). is_some (nad c n) ≡ true) (sym e) own_nad) differ) (k.each l.node own d at own_nad)))
+    | inr differ ↦
+        let was : slice_get rs h ≡ Some r = sym (set-other rs l.node h new differ.1) ∙ there in
+        receiver-same c past past' (link_at h d) (receiver_in d r) (same (link_at h d) a (λ e. differ.1 (sym (ap (λ (x : Link). x.node) e)))) (k.each h r d was a)
+  ];
+}
+
+-- == receivers that are reset
+reset-of : (d : Direction) (x y : Receivers) → AreReset x y → IsReset (receiver_in d x) (receiver_in d y)
+reset-of Down x y r = r.down
+reset-of Up x y r = r.up
+
+pub receiver-reset : (c : Parts) (past past' : List LogEntry) (l : Link) (old new : Reception) → IsReset old new → heard_on c past' l ≡ Reset ∷ heard_on c past l → KeepsReceiver c past l old → KeepsReceiver c past' l new
+receiver-reset c past past' l old new r e k = record { nad_is = r.address ∙ k.nad_is; stands = subst (λ (x : List Heard). Stands new x) (sym e) (r.stands (heard_on c past l) k.stands) }
+
+pub heard-reset : (c : Parts) (past past' : List LogEntry) (rs new : List Receivers) → length new ≡ length rs → ((h : ℕ) (x y : Receivers) → slice_get rs h ≡ Some x → slice_get new h ≡ Some y → AreReset x y)
+    → ((l : Link) → is_some (nad c l.node) ≡ true → heard_on c past' l ≡ Reset ∷ heard_on c past l) → KeepsHeard c past rs → KeepsHeard c past' new
+heard-reset c past past' rs new count resets heard k = record {
+  count = count ∙ k.count;
+  each = λ h y d at a.
+      let below : h < length new = slice_get_within new h y at in
+      let x = get-there rs h (omega arith) in
+      receiver-reset c past past' (link_at h d) (receiver_in d x.0) (receiver_in d y) (reset-of d x.0 y (resets h x.0 y x.1 at)) (heard (link_at h d) a) (k.each h x.0 d x.1 a);
+}
+
+-- == what a finish adds
+-- the slot carries this frame of the first message of a host
+pub record CarriesFrame (c : Parts) (past : List LogEntry) (by : PortId) (k : Known c past) (s : Slot) (h : ℕ) : Type 0 where
+  pub message : Message
+  pub later : List Message
+  pub first : (k.states h).rest ≡ message ∷ later
+  pub link : IsLink c h message.link
+  pub puts : s.puts ≡ (h, with_classic (frame (nad_on c message.link) message.bytes (k.states h).count)) ∷ []
+  pub heard : (es : List Event) (l : Link) → is_some (nad c l.node) ≡ true
+      → heard_on c (entry_is by Finish es ∷ past) l ≡ (if same_link message.link l then heard_by s.hurt (frame (nad_on c message.link) message.bytes (k.states h).count) else []) ++ heard_on c past l
+
+frame-by : (c : Parts) (past : List LogEntry) (by : PortId) (sound : IsSound c) (k : Known c past) (o : Option Slot) (s : Slot) (h : ℕ) → open_slot past ≡ o → SlotIs c (asked past) k.states o → o ≡ Some s → pdu_of s ≡ OfMessage h → CarriesFrame c past by k s h
+frame-by c past by sound k None s h is closed e pdu = cc
+frame-by c past by sound k (Some _) s h is (other t p q) e pdu = absurd (let same : t ≡ s = cc in let bad : Nothing ≡ OfMessage h = sym (other-pdu t p q) ∙ ap pdu_of same ∙ pdu in cc)
+frame-by c past by sound k (Some _) s h is (master table entry due left hurt line only w) e pdu =
+    absurd (let t : Slot = slot_of table entry (Some 0x3C) due [] left hurt in let same : t ≡ s = cc in let bad : Nothing ≡ OfMessage h = ap pdu_of same ∙ pdu in cc)
+frame-by c past by sound k (Some _) s h is (slave table entry due left hurt g line only w) e pdu =
+    absurd (let t : Slot = slot_of table entry (Some 0x7D) due [] left hurt in let same : t ≡ s = cc in let bad : Nothing ≡ OfMessage h = ap pdu_of same ∙ pdu in cc)
+frame-by c past by sound k (Some _) s h is (sleep table entry due left hurt only) e pdu =
+    absurd (let t : Slot = sleep_slot table entry due left hurt in let same : t ≡ s = cc in let bad : Sleep ≡ OfMessage h = ap pdu_of same ∙ pdu in cc)
+frame-by c past by sound k (Some _) s h is (carries table entry due left hurt g m ms j only host r n) e pdu =
+    let f : List ℕ = frame (nad_on c m.link) m.bytes j
+    in let t : Slot = frame_slot table entry due left hurt m.link f
+    in let go : CanGo c g m = first-go c g (accepted_from past g) (heard_on c past) (signs c past) (k.states g) m ms r (k.hosts g)
+    in let a : HasNad c m.link.node = has-nad c m.link.node go.link.address
+    in let frame_of_it : IsFrameOf a.n f = subst (λ (x : ℕ). IsFrameOf x f) (nad-is c m.link a.n a.is) (frame-is (nad_on c m.link) m.bytes j)
+    in let same : t ≡ s = cc
+    in let pdu_is : pdu_of t ≡ OfMessage g = pdu-frame table entry due left hurt m.link.node m.link.dir f a.n (sound.some m.link.node a.n a.is) frame_of_it ∙ ap OfMessage host
+    in let both : OfMessage g ≡ OfMessage h = sym pdu_is ∙ ap pdu_of same ∙ pdu
+    in let hosts : g ≡ h = cc
+    in let own : CarriesFrame c past by k t g = record {
+      message = m;
+      later = ms;
+      first = r;
+      link = go.link;
+      puts = rw n (ap (λ (x : ℕ). (x, with_classic f) ∷ []) host);
+      heard = λ es l b. rw n (finish-heard c past by es t l is ∙ ap (λ (x : List Heard). x ++ heard_on c past l) (frame-adds c table entry due left hurt m.link l f sound a (has-nad c l.node b) (frame-is (nad_on c m.link) m.bytes j)).heard);
+    }
+    in subst (λ (x : ℕ). CarriesFrame c past by k s x) hosts (subst (λ (y : Slot). CarriesFrame c past by k y g) same own)
+
+pub carries-frame : (c : Parts) (past : List LogEntry) (by : PortId) (sound : IsSound c) (k : Known c past) (s : Slot) (h : ℕ) → open_slot past ≡ Some s → pdu_of s ≡ OfMessage h → CarriesFrame c past by k s h
+carries-frame c past by sound k s h is pdu = frame-by c past by sound k (open_slot past) s h refl k.slot is pdu
+
+-- a damaged one isn't heard
+pub hurt-heard : (c : Parts) (past : List LogEntry) (by : PortId) (k : Known c past) (s : Slot) (h : ℕ) → CarriesFrame c past by k s h → s.hurt ≡ true → (es : List Event) (l : Link) → is_some (nad c l.node) ≡ true
+    → heard_on c (entry_is by Finish es ∷ past) l ≡ heard_on c past l
+hurt-heard c past by k s h i hurt es l a = i.heard es l a ∙ rw (hurt, same-cond (same_link i.message.link l)) refl
+
+-- a slot by which nothing moves adds nothing
+still-by : (c : Parts) (past : List LogEntry) (by : PortId) (es : List Event) (sound : IsSound c) (k : Known c past) (o : Option Slot) (s : Slot) → open_slot past ≡ o → SlotIs c (asked past) k.states o → o ≡ Some s → is_still (pdu_of s) s.hurt ≡ true
+    → (l : Link) → is_some (nad c l.node) ≡ true → heard_on c (entry_is by Finish es ∷ past) l ≡ heard_on c past l
+still-by c past by es sound k None s is closed e still l a = cc
+still-by c past by es sound k (Some _) s is (other t p q) e still l a = finish-heard c past by es t l is ∙ ap (λ (x : List Heard). x ++ heard_on c past l) (other-quiet c t l.node l.dir p q).heard
+still-by c past by es sound k (Some _) s is (master table entry due left hurt line only w) e still l a =
+    finish-heard c past by es (slot_of table entry (Some 0x3C) due [] left hurt) l is ∙ ap (λ (x : List Heard). x ++ heard_on c past l) (empty-quiet c table entry (Some 0x3C) due left hurt l.node l.dir).heard
+still-by c past by es sound k (Some _) s is (slave table entry due left hurt g line only w) e still l a =
+    finish-heard c past by es (slot_of table entry (Some 0x7D) due [] left hurt) l is ∙ ap (λ (x : List Heard). x ++ heard_on c past l) (empty-quiet c table entry (Some 0x7D) due left hurt l.node l.dir).heard
+still-by c past by es sound k (Some _) s is (sleep table entry due left true only) e still l a =
+    finish-heard c past by es (sleep_slot table entry due left true) l is ∙ ap (λ (x : List Heard). x ++ heard_on c past l) (sleep-hurt c table entry due left l.node l.dir sound (has-nad c l.node a)).heard
+still-by c past by es sound k (Some _) s is (sleep table entry due left false only) e still l a =
+    absurd (let t : Slot = sleep_slot table entry due left false in let same : t ≡ s = cc in let bad : false ≡ true = ap (λ (y : Slot). is_still (pdu_of y) y.hurt) same ∙ still in cc)
+still-by c past by es sound k (Some _) s is (carries table entry due left hurt g m ms j only host r n) e still l a =
+    absurd (
+    let f : List ℕ = frame (nad_on c m.link) m.bytes j
+    in let t : Slot = frame_slot table entry due left hurt m.link f
+    in let go : CanGo c g m = first-go c g (accepted_from past g) (heard_on c past) (signs c past) (k.states g) m ms r (k.hosts g)
+    in let b : HasNad c m.link.node = has-nad c m.link.node go.link.address
+    in let frame_of_it : IsFrameOf b.n f = subst (λ (x : ℕ). IsFrameOf x f) (nad-is c m.link b.n b.is) (frame-is (nad_on c m.link) m.bytes j)
+    in let same : t ≡ s = cc
+    in let pdu_is = pdu-frame table entry due left hurt m.link.node m.link.dir f b.n (sound.some m.link.node b.n b.is) frame_of_it
+    in let bad : false ≡ true = sym (ap (λ (x : Pdu). is_still x hurt) pdu_is) ∙ ap (λ (y : Slot). is_still (pdu_of y) y.hurt) same ∙ still
+    in cc
+    )
+
+pub still-heard : (c : Parts) (past : List LogEntry) (by : PortId) (es : List Event) (sound : IsSound c) (k : Known c past) (s : Slot) → open_slot past ≡ Some s → is_still (pdu_of s) s.hurt ≡ true
+    → (l : Link) → is_some (nad c l.node) ≡ true → heard_on c (entry_is by Finish es ∷ past) l ≡ heard_on c past l
+still-heard c past by es sound k s is still l a = still-by c past by es sound k (open_slot past) s refl k.slot is still l a
+
+-- the sleep frame resets each receiver
+sleep-by : (c : Parts) (past : List LogEntry) (by : PortId) (es : List Event) (sound : IsSound c) (k : Known c past) (o : Option Slot) (s : Slot) → open_slot past ≡ o → SlotIs c (asked past) k.states o → o ≡ Some s → pdu_of s ≡ Sleep → s.hurt ≡ false
+    → (l : Link) → is_some (nad c l.node) ≡ true → heard_on c (entry_is by Finish es ∷ past) l ≡ Reset ∷ heard_on c past l
+sleep-by c past by es sound k None s is closed e pdu calm l a = cc
+sleep-by c past by es sound k (Some _) s is (other t p q) e pdu calm l a = absurd (let same : t ≡ s = cc in let bad : Nothing ≡ Sleep = sym (other-pdu t p q) ∙ ap pdu_of same ∙ pdu in cc)
+sleep-by c past by es sound k (Some _) s is (master table entry due left hurt line only w) e pdu calm l a =
+    absurd (let t : Slot = slot_of table entry (Some 0x3C) due [] left hurt in let same : t ≡ s = cc in let bad : Nothing ≡ Sleep = ap pdu_of same ∙ pdu in cc)
+sleep-by c past by es sound k (Some _) s is (slave table entry due left hurt g line only w) e pdu calm l a =
+    absurd (let t : Slot = slot_of table entry (Some 0x7D) due [] left hurt in let same : t ≡ s = cc in let bad : Nothing ≡ Sleep = ap pdu_of same ∙ pdu in cc)
+sleep-by c past by es sound k (Some _) s is (sleep table entry due left true only) e pdu calm l a =
+    absurd (let t : Slot = sleep_slot table entry due left true in let same : t ≡ s = cc in let bad : true ≡ false = ap (λ (y : Slot). y.hurt) same ∙ calm in cc)
+sleep-by c past by es sound k (Some _) s is (sleep table entry due left false only) e pdu calm l a =
+    finish-heard c past by es (sleep_slot table entry due left false) l is ∙ ap (λ (x : List Heard). x ++ heard_on c past l) (sleep-good c table entry due left l.node l.dir sound (has-nad c l.node a)).heard
+sleep-by c past by es sound k (Some _) s is (carries table entry due left hurt g m ms j only host r n) e pdu calm l a =
+    absurd (
+    let f : List ℕ = frame (nad_on c m.link) m.bytes j
+    in let t : Slot = frame_slot table entry due left hurt m.link f
+    in let go : CanGo c g m = first-go c g (accepted_from past g) (heard_on c past) (signs c past) (k.states g) m ms r (k.hosts g)
+    in let b : HasNad c m.link.node = has-nad c m.link.node go.link.address
+    in let frame_of_it : IsFrameOf b.n f = subst (λ (x : ℕ). IsFrameOf x f) (nad-is c m.link b.n b.is) (frame-is (nad_on c m.link) m.bytes j)
+    in let same : t ≡ s = cc
+    in let pdu_is = pdu-frame table entry due left hurt m.link.node m.link.dir f b.n (sound.some m.link.node b.n b.is) frame_of_it
+    in let bad : OfMessage _ ≡ Sleep = sym pdu_is ∙ ap pdu_of same ∙ pdu
+    in cc
+    )
+
+pub sleep-heard : (c : Parts) (past : List LogEntry) (by : PortId) (es : List Event) (sound : IsSound c) (k : Known c past) (s : Slot) → open_slot past ≡ Some s → pdu_of s ≡ Sleep → s.hurt ≡ false
+    → (l : Link) → is_some (nad c l.node) ≡ true → heard_on c (entry_is by Finish es ∷ past) l ≡ Reset ∷ heard_on c past l
+sleep-heard c past by es sound k s is pdu calm l a = sleep-by c past by es sound k (open_slot past) s refl k.slot is pdu calm l a
+
+-- == what a timeout adds
+timeout-other : (c : Parts) (past : List LogEntry) (by : PortId) (node : ℕ) (dir : Direction) (es : List Event) (l : Link) (b : Bool) → same_link l (record_of node dir) ≡ b → l ≢ link_at node dir → heard_on c (entry_is by (Timeout node dir) es ∷ past) l ≡ heard_on c past l
+timeout-other c past by node dir es l true e differ = absurd (differ (same-is l (record_of node dir) e))
+timeout-other c past by node dir es l false e differ = rw e refl
+
+timeout-own : (c : Parts) (past : List LogEntry) (by : PortId) (node : ℕ) (dir : Direction) (es : List Event) → same_link (link_at node dir) (link_at node dir) ≡ true → heard_on c (entry_is by (Timeout node dir) es ∷ past) (link_at node dir) ≡ Reset ∷ heard_on c past (link_at node dir)
+timeout-own c past by node dir es e = rw e refl
+
+-- == a good frame is heard
+with-nad : (n : ℕ) (f : List ℕ) (heard : List Heard) → slice_index f 0 ≡ n → heard_with n f heard ≡ Frame f ∷ heard
+with-nad n f heard e = rw (e, eqb-self n) refl
+
+other-link : (l x : Link) (b : Bool) → same_link l x ≡ b → x ≢ l → b ≡ false
+other-link l x true e differ = absurd (differ (sym (same-is l x e)))
+other-link l x false e differ = refl
+
+-- what the receivers stand for then, and what the link's receiver gave
+pub record HeardFrame (c : Parts) (past past' : List LogEntry) (l : Link) (given : Option (List ℕ)) (rs : List Receivers) : Type 0 where
+  pub keeps : KeepsHeard c past' rs
+  pub gains : drop (length (reading c past l)) (reading c past' l) ≡ option_to_list given
+
+pub heard-frame : (c : Parts) (past : List LogEntry) (by : PortId) (es : List Event) (k : Known c past) (s : Slot) (h : ℕ) (i : CarriesFrame c past by k s h) (given : Option (List ℕ)) (rs rs' : List Receivers) → s.hurt ≡ false
+    → HearsOn i.message.link (frame (nad_on c i.message.link) i.message.bytes (k.states h).count) given rs rs' → KeepsHeard c past rs → HeardFrame c past (entry_is by Finish es ∷ past) i.message.link given rs'
+heard-frame c past by es k s h i given rs rs' calm on kept =
+    let l : Link = i.message.link
+    in let n : ℕ = nad_on c l
+    in let f : List ℕ = frame n i.message.bytes (k.states h).count
+    in let past' : List LogEntry = entry_is by Finish es ∷ past
+    in let before : List Heard = heard_on c past l
+    in let heard : heard_on c past' l ≡ Frame f ∷ before = i.heard es l i.link.address ∙ rw (same-self l, calm) refl
+    in let was : KeepsReceiver c past l (receiver_in l.dir on.was) = kept.each l.node on.was l.dir on.there i.link.address
+    in let hears : Hears (receiver_in l.dir on.was) f before given (receiver_in l.dir on.is) = on.hears before was.stands
+    in let all : heard_with n f before ≡ heard_on c past' l = with-nad n f before (frame-address n i.message.bytes (k.states h).count) ∙ sym heard
+    in let read : messages_in n (heard_with n f before) ≡ messages_in n before ++ option_to_list given
+    = subst (λ (x : ℕ). messages_in x (heard_with x f before) ≡ messages_in x before ++ option_to_list given) was.nad_is hears.reads
+    in let reads : reading c past' l ≡ reading c past l ++ option_to_list given = ap (messages_in n) (sym all) ∙ read
+    in let stands : Stands (receiver_in l.dir on.is) (heard_on c past' l)
+    = subst (λ (x : List Heard). Stands (receiver_in l.dir on.is) x) all (subst (λ (x : ℕ). Stands (receiver_in l.dir on.is) (heard_with x f before)) was.nad_is hears.stands)
+    in record {
+      keeps = rw on.set (heard-one c past past' rs l on.was on.is on.there (record { nad_is = hears.address ∙ was.nad_is; stands = stands }) on.other
+          (λ x a differ. i.heard es x a ∙ rw (other-link l x (same_link l x) refl differ) refl) kept);
+      gains = ap (drop (length (reading c past l))) reads ∙ drop_at (reading c past l) (option_to_list given) (length (reading c past l)) refl;
+    }
+
+-- the message that was given, where it is the one that is gained
+pub only-given : (o : Option (List ℕ)) (m : List ℕ) → option_to_list o ≡ m ∷ [] → o ≡ Some m
+only-given None m e = cc
+only-given (Some x) m e = cc
+
+-- == a timeout
+pub timeout-heard : (c : Parts) (past : List LogEntry) (by : PortId) (node : ℕ) (dir : Direction) (es : List Event) (rs : List Receivers) (was is : Receivers) → slice_get rs node ≡ Some was → is_some (nad c node) ≡ true
+    → IsReset (receiver_in dir was) (receiver_in dir is) → receiver_in (opposite dir) is ≡ receiver_in (opposite dir) was → KeepsHeard c past rs → KeepsHeard c (entry_is by (Timeout node dir) es ∷ past) (slice_set rs node is)
+timeout-heard c past by node dir es rs was is there a reset o kept =
+    let l : Link = link_at node dir
+    in let past' : List LogEntry = entry_is by (Timeout node dir) es ∷ past
+    in heard-one c past past' rs l was is there (receiver-reset c past past' l (receiver_in dir was) (receiver_in dir is) reset (timeout-own c past by node dir es (same-self l)) (kept.each node was dir there a)) o
+    (λ x b differ. timeout-other c past by node dir es x (same_link x l) refl differ) kept

@@ -1,0 +1,197 @@
+-- What is known of each history, and how each step keeps it.
+use Rattle.lin_frame.specs.declared.value.Value.{Value}
+use Rattle.std.proofs.Common.{◌≡◌, ◌≢◌, ℕ, Bool, true, false, List, [], ◌∷◌, ◌++◌, refl, ap, sym, ◌∙◌, subst, inl, inr}
+use Rattle.std.specs.Prelude.{Option, Some, None, ◌||◌, ◌==◌, if◌then◌else◌, is_some, option_map}
+use Rattle.std.proofs.lemmas.Bool.Decides.{eqb_tells}
+use Rattle.lin_transport.specs.Transport.{frame, Heard}
+use Rattle.lin_parts.specs.declared.parts.Parts.{Parts}
+use Rattle.lin_parts.specs.Cluster.{nad, line_of}
+use Rattle.lin_core.specs.History.{Slot, open_slot, leave, hurt, header_is, asked, is_in}
+use Rattle.lin_core.specs.Links.{Link, same_link, Message, host_of, accepted_from, Sign, nad_on, signs, heard_on}
+use Rattle.lin_parts.specs.Sound.{IsSound}
+use Rattle.lin_core.specs.declared.log.LogEntry.{LogEntry}
+use Rattle.lin_core.specs.declared.port.PortId.{PortId}
+use Rattle.lin_core.specs.declared.step.Step.{Step}
+use Rattle.lin_core.specs.declared.step.Step.TheVariants.{Write, Leave, Hurt, Switch, AskSleep, Wake, Close}
+use Rattle.lin_core.specs.declared.event.Event.{Event}
+use Rattle.lin_parts.specs.declared.parts.Entry.TheVariants.{MasterReq, SlaveResp}
+use Rattle.lin_core.specs.declared.reply.Reply.TheVariants.{Done, Refused}
+use Rattle.lin_core.specs.declared.reply.Refusal.{Refusal}
+use Rattle.lin_core.specs.declared.link.Cause.TheVariants.{Slept}
+use Rattle.lin_core.proofs.sendings.Hosts.{HostState, HostIs}
+use Rattle.lin_core.proofs.sendings.Moves.{Puts, advanced, is_last, marked, host-put, host-same, host-mark, same-is}
+use Rattle.lin_core.proofs.links.Finishes.{finish_entry, slot_of, sleep_slot, frame_slot, finish-signs, finish-heard, IsQuiet, other-quiet, empty-quiet, sleep-hurt, sleep-good, Sleeps, HasNad, value-of, Adds, frame-adds, frame-is}
+
+-- whether a host has something that waits
+abbrev pub has_rest : List Message → Bool
+has_rest [] = false
+has_rest (m ∷ ms) = true
+
+abbrev pub OnlyDue : List ℕ → ℕ → Type 0
+OnlyDue due h = (n : ℕ) → is_in due n ≡ true → n ≡ h
+
+-- the shapes of the open slot
+pub data SlotIs (c : Parts) (asked : Bool) (states : ℕ → HostState) : Option Slot → Type 0 where
+  closed : SlotIs c asked states None
+  other : (s : Slot) → header_is 0x3C s.header ≡ false → header_is 0x7D s.header ≡ false → SlotIs c asked states (Some s)
+  master : (table entry : ℕ) (due left : List ℕ) (hurt : Bool) → (line_of c table entry).entry ≡ MasterReq → OnlyDue due 0 → (has_rest (states 0).rest || asked) ≡ true
+      → SlotIs c asked states (Some (slot_of table entry (Some 0x3C) due [] left hurt))
+  slave : (table entry : ℕ) (due left : List ℕ) (hurt : Bool) (h : ℕ) → (line_of c table entry).entry ≡ SlaveResp → OnlyDue due h → (is_in due h ≡ true → (h ≢ 0) × (has_rest (states h).rest ≡ true))
+      → SlotIs c asked states (Some (slot_of table entry (Some 0x7D) due [] left hurt))
+  sleep : (table entry : ℕ) (due left : List ℕ) (hurt : Bool) → OnlyDue due 0 → SlotIs c asked states (Some (sleep_slot table entry due left hurt))
+  carries : (table entry : ℕ) (due left : List ℕ) (hurt : Bool) (h : ℕ) (m : Message) (ms : List Message) (k : ℕ) → OnlyDue due h → host_of m.link ≡ h → (states h).rest ≡ m ∷ ms → (states h).count ≡ k
+      → SlotIs c asked states (Some (frame_slot table entry due left hurt m.link (frame (nad_on c m.link) m.bytes k)))
+
+pub record Known (c : Parts) (past : List LogEntry) : Type 0 where
+  pub states : ℕ → HostState
+  pub hosts : (h : ℕ) → HostIs c h (accepted_from past h) (heard_on c past) (signs c past) (states h)
+  pub slot : SlotIs c (asked past) states (open_slot past)
+
+abbrev pub entry_is : PortId → Step → List Event → LogEntry
+entry_is port step es = record { port = port; step = step; reply = Done es }
+
+-- steps that leave all as it was
+abbrev pub refused-known : (c : Parts) (past : List LogEntry) (port : PortId) (step : Step) (r : Refusal) → Known c past → Known c (record { port = port; step = step; reply = Refused r } ∷ past)
+refused-known c past port step r k = record { states = k.states; hosts = k.hosts; slot = k.slot }
+
+abbrev pub write-known : (c : Parts) (past : List LogEntry) (port : PortId) (by signal : ℕ) (value : Value) → Known c past → Known c (entry_is port (Write by signal value) [] ∷ past)
+write-known c past port by signal value k = record { states = k.states; hosts = k.hosts; slot = k.slot }
+
+abbrev pub switch-known : (c : Parts) (past : List LogEntry) (port : PortId) (table : ℕ) → Known c past → Known c (entry_is port (Switch table) [] ∷ past)
+switch-known c past port table k = record { states = k.states; hosts = k.hosts; slot = k.slot }
+
+abbrev pub wake-known : (c : Parts) (past : List LogEntry) (port : PortId) (es : List Event) → Known c past → Known c (entry_is port Wake es ∷ past)
+wake-known c past port es k = record { states = k.states; hosts = k.hosts; slot = k.slot }
+
+abbrev pub close-known : (c : Parts) (past : List LogEntry) (port : PortId) (host : ℕ) (es : List Event) → Known c past → Known c (entry_is port (Close host) es ∷ past)
+close-known c past port host es k = record { states = k.states; hosts = k.hosts; slot = k.slot }
+
+-- an ask for sleep
+pub or-right : (a : Bool) → (a || true) ≡ true
+or-right true = refl
+or-right false = refl
+
+pub slot-asked : (c : Parts) (a : Bool) (states : ℕ → HostState) (o : Option Slot) → SlotIs c a states o → SlotIs c true states o
+slot-asked c a states None closed = closed
+slot-asked c a states (Some _) (other s p q) = other s p q
+slot-asked c a states (Some _) (master table entry due left hurt line only w) = master table entry due left hurt line only (or-right (has_rest (states 0).rest))
+slot-asked c a states (Some _) (slave table entry due left hurt h line only w) = slave table entry due left hurt h line only w
+slot-asked c a states (Some _) (sleep table entry due left hurt only) = sleep table entry due left hurt only
+slot-asked c a states (Some _) (carries table entry due left hurt h m ms k only at r n) = carries table entry due left hurt h m ms k only at r n
+
+abbrev pub ask-known : (c : Parts) (past : List LogEntry) (port : PortId) (es : List Event) → Known c past → Known c (entry_is port AskSleep es ∷ past)
+ask-known c past port es k = record { states = k.states; hosts = k.hosts; slot = slot-asked c (asked past) k.states (open_slot past) k.slot }
+
+-- a leave and a hurt
+pub slot-left : (c : Parts) (a : Bool) (states : ℕ → HostState) (node : ℕ) (o : Option Slot) → SlotIs c a states o → SlotIs c a states (option_map (leave node) o)
+slot-left c a states node None closed = closed
+slot-left c a states node (Some _) (other s p q) = other (leave node s) p q
+slot-left c a states node (Some _) (master table entry due left hurt line only w) = master table entry due (left ++ node ∷ []) hurt line only w
+slot-left c a states node (Some _) (slave table entry due left hurt h line only w) = slave table entry due (left ++ node ∷ []) hurt h line only w
+slot-left c a states node (Some _) (sleep table entry due left hurt only) = sleep table entry due (left ++ node ∷ []) hurt only
+slot-left c a states node (Some _) (carries table entry due left hurt h m ms k only at r n) = carries table entry due (left ++ node ∷ []) hurt h m ms k only at r n
+
+abbrev pub leave-known : (c : Parts) (past : List LogEntry) (port : PortId) (node : ℕ) (es : List Event) → Known c past → Known c (entry_is port (Leave node) es ∷ past)
+leave-known c past port node es k = record { states = k.states; hosts = k.hosts; slot = slot-left c (asked past) k.states node (open_slot past) k.slot }
+
+pub slot-hurt : (c : Parts) (a : Bool) (states : ℕ → HostState) (o : Option Slot) → SlotIs c a states o → SlotIs c a states (option_map hurt o)
+slot-hurt c a states None closed = closed
+slot-hurt c a states (Some _) (other s p q) = other (hurt s) p q
+slot-hurt c a states (Some _) (master table entry due left x line only w) = master table entry due left true line only w
+slot-hurt c a states (Some _) (slave table entry due left x h line only w) = slave table entry due left true h line only w
+slot-hurt c a states (Some _) (sleep table entry due left x only) = sleep table entry due left true only
+slot-hurt c a states (Some _) (carries table entry due left x h m ms k only at r n) = carries table entry due left true h m ms k only at r n
+
+abbrev pub hurt-known : (c : Parts) (past : List LogEntry) (port : PortId) (bytes : List ℕ) (es : List Event) → Known c past → Known c (entry_is port (Hurt bytes) es ∷ past)
+hurt-known c past port bytes es k = record { states = k.states; hosts = k.hosts; slot = slot-hurt c (asked past) k.states (open_slot past) k.slot }
+
+-- a finish
+pub as-state : (c : Parts) (h : ℕ) (accepted : List Message) (heard : Link → List Heard) (signs : Link → List Sign) (s : HostState) (rest : List Message) (k : ℕ)
+    → s.rest ≡ rest → s.count ≡ k → HostIs c h accepted heard signs s → HostIs c h accepted heard signs (record { done = s.done; rest = rest; count = k })
+as-state c h accepted heard signs s rest k p q i =
+    subst (λ (j : ℕ). HostIs c h accepted heard signs (record { done = s.done; rest = rest; count = j })) q
+    (subst (λ (r : List Message). HostIs c h accepted heard signs (record { done = s.done; rest = r; count = s.count })) p i)
+
+abbrev pub none-known : (c : Parts) (past : List LogEntry) (port : PortId) (es : List Event) → open_slot past ≡ None → Known c past → Known c (finish_entry port es ∷ past)
+none-known c past port es is k = record {
+  states = k.states;
+  hosts = λ h. host-same c h (accepted_from past h) (heard_on c past) (heard_on c (finish_entry port es ∷ past)) (signs c past) (signs c (finish_entry port es ∷ past)) (k.states h) (k.hosts h)
+      (λ l i. (rw is, rw is));
+  slot = closed;
+}
+
+abbrev pub quiet-known : (c : Parts) (past : List LogEntry) (port : PortId) (es : List Event) (s : Slot) → open_slot past ≡ Some s → ((l : Link) → is_some (nad c l.node) ≡ true → IsQuiet c s l) → Known c past → Known c (finish_entry port es ∷ past)
+quiet-known c past port es s is q k = record {
+  states = k.states;
+  hosts = λ h. host-same c h (accepted_from past h) (heard_on c past) (heard_on c (finish_entry port es ∷ past)) (signs c past) (signs c (finish_entry port es ∷ past)) (k.states h) (k.hosts h)
+      (λ l i. (finish-heard c past port es s l is ∙ ap (λ (x : List Heard). x ++ heard_on c past l) (q l i.address).heard, finish-signs c past port es s l is ∙ ap (λ (x : List Sign). x ++ signs c past l) (q l i.address).signs));
+  slot = closed;
+}
+
+pub has-nad : (c : Parts) (node : ℕ) → is_some (nad c node) ≡ true → HasNad c node
+has-nad c node h = let v = value-of (nad c node) h in record { n = v.0; is = v.1 }
+
+abbrev pub sleep-known : (c : Parts) (past : List LogEntry) (port : PortId) (es : List Event) (table entry : ℕ) (due left : List ℕ) → IsSound c → open_slot past ≡ Some (sleep_slot table entry due left false)
+    → Known c past → Known c (finish_entry port es ∷ past)
+sleep-known c past port es table entry due left sound is k =
+    let s : Slot = sleep_slot table entry due left false
+    in record {
+      states = λ h. marked (λ l. true) Slept (k.states h).done (k.states h).rest (k.states h).count;
+      hosts = λ h. host-mark c h (accepted_from past h) (heard_on c past) (heard_on c (finish_entry port es ∷ past)) (signs c past) (signs c (finish_entry port es ∷ past)) (k.states h).done (k.states h).rest (k.states h).count (λ l. true) Slept (k.hosts h)
+          (λ l i. let sl : Sleeps c s l = sleep-good c table entry due left l.node l.dir sound (has-nad c l.node i.address)
+          in record { heard_is = finish-heard c past port es s l is ∙ ap (λ (x : List Heard). x ++ heard_on c past l) sl.heard; signs_is = finish-signs c past port es s l is ∙ ap (λ (x : List Sign). x ++ signs c past l) sl.signs });
+      slot = closed;
+    }
+
+-- the frame on the links of its host, and of others
+pub puts-by : (c : Parts) (past : List LogEntry) (port : PortId) (es : List Event) (table entry : ℕ) (due left : List ℕ) (hurt : Bool) (m l : Link) (f : List ℕ) (n : ℕ)
+    → open_slot past ≡ Some (frame_slot table entry due left hurt m f) → Adds c (frame_slot table entry due left hurt m f) l (same_link m l) hurt f
+    → Puts n (same_link m l) hurt f (heard_on c past l) (heard_on c (finish_entry port es ∷ past) l) (signs c past l) (signs c (finish_entry port es ∷ past) l)
+puts-by c past port es table entry due left hurt m l f n is a =
+    let s : Slot = frame_slot table entry due left hurt m f
+    in record {
+      heard_is = finish-heard c past port es s l is ∙ ap (λ (x : List Heard). x ++ heard_on c past l) a.heard;
+      signs_is = finish-signs c past port es s l is ∙ ap (λ (x : List Sign). x ++ signs c past l) a.signs;
+    }
+
+pub other-host : (m l : Link) (b : Bool) → same_link m l ≡ b → host_of m ≢ host_of l → b ≡ false
+other-host m l true e differ = absurd (differ (ap host_of (same-is m l e)))
+other-host m l false e differ = refl
+
+pub puts-none : (n : ℕ) (b hurt : Bool) (f : List ℕ) (heard heard' : List Heard) (signs signs' : List Sign) → b ≡ false → Puts n b hurt f heard heard' signs signs' → (heard' ≡ heard) × (signs' ≡ signs)
+puts-none n true hurt f heard heard' signs signs' e p = cc
+puts-none n false hurt f heard heard' signs signs' e p = (p.heard_is, p.signs_is)
+
+pub host-frame : (c : Parts) (past : List LogEntry) (port : PortId) (es : List Event) (table entry : ℕ) (due left : List ℕ) (hurt : Bool) (h : ℕ) (m : Message) (ms : List Message) (j x : ℕ)
+    → IsSound c → host_of m.link ≡ h → (states : ℕ → HostState) → (states h).rest ≡ m ∷ ms → (states h).count ≡ j
+    → open_slot past ≡ Some (frame_slot table entry due left hurt m.link (frame (nad_on c m.link) m.bytes j))
+    → ((y : ℕ) → HostIs c y (accepted_from past y) (heard_on c past) (signs c past) (states y))
+    → HostIs c x (accepted_from past x) (heard_on c (finish_entry port es ∷ past)) (signs c (finish_entry port es ∷ past)) (if h == x then advanced hurt (is_last m.bytes j) (states h).done m ms j else states x)
+host-frame c past port es table entry due left hurt h m ms j x sound host states r n is k =
+    let f : List ℕ = frame (nad_on c m.link) m.bytes j
+    in let own : HostIs c h (accepted_from past h) (heard_on c past) (signs c past) (record { done = (states h).done; rest = m ∷ ms; count = j }) = as-state c h (accepted_from past h) (heard_on c past) (signs c past) (states h) (m ∷ ms) j r n (k h)
+    in let nad_m : HasNad c m.link.node = has-nad c m.link.node own.can_go.0.link.address
+    in elim (eqb_tells h x) [
+      | inl same ↦
+          rw same.0 (subst (λ (y : ℕ). HostIs c y (accepted_from past y) (heard_on c (finish_entry port es ∷ past)) (signs c (finish_entry port es ∷ past)) (advanced hurt (is_last m.bytes j) (states h).done m ms j)) same.1
+          (host-put c h (accepted_from past h) (heard_on c past) (heard_on c (finish_entry port es ∷ past)) (signs c past) (signs c (finish_entry port es ∷ past)) (states h).done m ms j hurt own
+          (λ l i. puts-by c past port es table entry due left hurt m.link l f (nad_on c m.link) is (frame-adds c table entry due left hurt m.link l f sound nad_m (has-nad c l.node i.address) (frame-is (nad_on c m.link) m.bytes j)))))
+      | inr differ ↦
+          rw differ.0 (host-same c x (accepted_from past x) (heard_on c past) (heard_on c (finish_entry port es ∷ past)) (signs c past) (signs c (finish_entry port es ∷ past)) (states x) (k x)
+          (λ l i. puts-none (nad_on c m.link) (same_link m.link l) hurt f (heard_on c past l) (heard_on c (finish_entry port es ∷ past) l) (signs c past l) (signs c (finish_entry port es ∷ past) l)
+          (other-host m.link l (same_link m.link l) refl (λ e. differ.1 (sym host ∙ e ∙ i.host)))
+          (puts-by c past port es table entry due left hurt m.link l f (nad_on c m.link) is (frame-adds c table entry due left hurt m.link l f sound nad_m (has-nad c l.node i.address) (frame-is (nad_on c m.link) m.bytes j)))))
+    ]
+
+abbrev pub finish-known : (c : Parts) (past : List LogEntry) (port : PortId) (es : List Event) → IsSound c → (k : Known c past) → (o : Option Slot) → open_slot past ≡ o → SlotIs c (asked past) k.states o → Known c (finish_entry port es ∷ past)
+finish-known c past port es sound k None is closed = none-known c past port es is k
+finish-known c past port es sound k (Some _) is (other s p q) = quiet-known c past port es s is (λ l i. other-quiet c s l.node l.dir p q) k
+finish-known c past port es sound k (Some _) is (master table entry due left hurt line only w) = quiet-known c past port es _ is (λ l i. empty-quiet c table entry (Some 0x3C) due left hurt l.node l.dir) k
+finish-known c past port es sound k (Some _) is (slave table entry due left hurt h line only w) = quiet-known c past port es _ is (λ l i. empty-quiet c table entry (Some 0x7D) due left hurt l.node l.dir) k
+finish-known c past port es sound k (Some _) is (sleep table entry due left true only) = quiet-known c past port es _ is (λ l i. sleep-hurt c table entry due left l.node l.dir sound (has-nad c l.node i)) k
+finish-known c past port es sound k (Some _) is (sleep table entry due left false only) = sleep-known c past port es table entry due left sound is k
+finish-known c past port es sound k (Some _) is (carries table entry due left hurt h m ms j only host r n) = record {
+  states = λ x. if h == x then advanced hurt (is_last m.bytes j) (k.states h).done m ms j else k.states x;
+  hosts = λ x. host-frame c past port es table entry due left hurt h m ms j x sound host k.states r n is k.hosts;
+  slot = closed;
+}

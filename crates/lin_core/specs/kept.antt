@@ -1,0 +1,7 @@
+-- No promise rests on these: what the core keeps of its log.
+pub mod Slots
+pub mod Signals
+pub mod Hosts
+pub mod Receivers
+pub mod Bus
+pub mod State
