@@ -10,6 +10,7 @@ pub mod Comments
 pub mod Places
 pub mod CutLaws
 pub mod Pieces
+pub mod OneLine
 pub mod Ranges
 pub mod Unique
 pub mod Outcomes

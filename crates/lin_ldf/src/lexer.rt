@@ -10,9 +10,10 @@ ghost use Rattle.lin_ldf.specs.Tokens.{mark_len, AreTokens, LiesIn, IsLexFault};
 ghost use Rattle.lin_ldf.specs.declared.fault.LdfFault.{LdfFault};
 ghost use Rattle.lin_ldf.specs.declared.fault.LdfFault.TheVariants.{OutOfMemory};
 ghost use Rattle.lin_ldf.specs.declared.token.Token.{Token};
+ghost use Rattle.lin_ldf.specs.declared.lexer.Scanned.TheVariants as pieces;
 
 use crate::fault::LdfFault;
-use crate::token::{Token, TokenKind};
+use crate::token::{Token, TokenKind, same_kind};
 use lin_description::Place;
 use memchr::memchr;
 use std::alloc::Global;
@@ -386,6 +387,25 @@ impl<'a> Lexer<'a> {
         self.offset += size;
     }
 
+    /// The token at the front is passed over. Only a text can have line feeds in it.
+    #[inline(always)]
+    fn pass_token(&mut self, kind: TokenKind, size: usize)
+        requires ready { IsReady self.old }
+        requires within { self.old.offset + size ≤ length self.old.source.now }
+        requires front { front_piece (drop self.old.offset self.old.source.now) ≡ pieces.Token kind size }
+        ensures ready { IsReady self.new }
+        ensures source { self.new.source.now ≡ self.old.source.now }
+        ensures offset { self.new.offset ≡ self.old.offset + size }
+        ensures place { self.new.place ≡ place_behind self.old.place (take size (drop self.old.offset self.old.source.now)) }
+    {
+        if same_kind(TokenKind::Text, kind) {
+            self.pass(size);
+        } else {
+            self.place.column += size as u64;
+            self.offset += size;
+        }
+    }
+
     /// The next token, or nothing at the end; or the fault that stands in its place, and stands there still at the next call.
     #[tactic(auto, using(crate::proofs::Stream::pulling))]
     #[inline(always)]
@@ -402,7 +422,7 @@ impl<'a> Lexer<'a> {
             match front_piece(rest) {
                 Scanned::Gap(size) => self.pass(size),
                 Scanned::Token(kind, size) => {
-                    self.pass(size);
+                    self.pass_token(kind, size);
                     return Ok(Some(Token {
                         kind,
                         start,

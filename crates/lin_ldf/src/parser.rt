@@ -3,7 +3,7 @@
 ghost use Rattle.std.specs.Prelude.{◌≡◌, ◌≢◌, ◌⊎◌, ◌++◌, ◌∷◌, ◌≤◌, [], true, length, IfOk, IsErrAnd, MatchResult};
 ghost use Rattle.std.specs.Str.{bytes_eq};
 ghost use Rattle.std.specs.List.{list_any};
-ghost use Rattle.lin_ldf.specs.Symbols.{is_kind, symbols_in};
+ghost use Rattle.lin_ldf.specs.Symbols.{symbols_in};
 ghost use Rattle.lin_ldf.specs.Stream.{start_of};
 ghost use Rattle.lin_ldf.specs.Tokens.{IsLexFault};
 ghost use Rattle.lin_ldf.specs.Describes.{Describes};
@@ -22,7 +22,7 @@ use crate::names::Names;
 use crate::node_attributes::NodeBlocks;
 use crate::number_values;
 use crate::section::{SectionWord, section_word};
-use crate::token::TokenKind;
+use crate::token::{TokenKind, same_kind};
 use lin_description::{Description, Name, Number, Place};
 use lin_lists::Text;
 use std::alloc::{AllocError, Global};
@@ -47,12 +47,6 @@ impl<'a> Model for Parser<'a> {
     ghost view = { λ p. symbols_left p.kind p.text.now p.place p.lexer };
 
     ghost invariant = { λ p. IsReady p.lexer };
-}
-
-pub fn same_kind(a: TokenKind, b: TokenKind) -> bool
-    ensures { result ≡ is_kind a b }
-{
-    a == b
 }
 
 pub fn is_word(text: &[u8], word: &[u8]) -> bool

@@ -1,38 +1,58 @@
 //! Texts and lists as fields of public types: contracts see them as lists.
 
-ghost use Rattle.std.specs.Prelude.{◌≡◌, ◌≤◌, ◌∷◌, length, IfOk};
+ghost use Rattle.std.specs.Prelude.{◌≡◌, ◌≤◌, ◌∷◌, length, IfOk, IsOk};
 
 use std::alloc::{AllocError, Global};
 use std::marker::Model;
 
+/// The most bytes that lie in a text's own place.
+const SHORT: usize = 14;
+
+/// The bytes of a text: few in its own place, which takes no memory, more in a list elsewhere. The list is boxed so that a
+/// text takes 16 bytes.
+#[derive(Debug, Drop)]
+pub(crate) enum Kept {
+    Short { len: u8, bytes: [u8; SHORT] },
+    Long(Box<Vec<u8>>),
+}
+
 /// Bytes of a text, as a name. Contracts see them as a list.
 #[derive(Debug, Drop)]
 pub struct Text {
-    bytes: Vec<u8>,
+    kept: Kept,
 }
 
 impl Model for Text {
     ghost use Rattle.std.specs.Prelude.{List, ℕ};
+    ghost use Rattle.lin_lists.specs.Kept.{bytes_in, IsKept};
 
     ghost Value = { List ℕ };
 
-    ghost view = { λ t. t.bytes.items };
+    ghost view = { λ t. bytes_in t.kept };
+
+    ghost invariant = { λ t. IsKept t.kept };
 }
 
 impl Text {
-    /// These bytes.
-    pub fn new(bytes: Vec<u8>) -> Text
-        ensures { result ≡ bytes.items }
-    {
-        Text { bytes }
-    }
-
-    /// A copy of these bytes; an error means out of memory.
+    /// A copy of these bytes; an error means out of memory, which 14 bytes or fewer never are.
     pub fn copied(alloc: Global, bytes: &[u8]) -> Result<Text, AllocError>
-        ensures { IfOk result (λ t. t ≡ bytes.now) }
+        ensures copy { IfOk result (λ t. t ≡ bytes.now) }
+        ensures short { length bytes.now ≤ 14 → IsOk result }
     {
+        let len = bytes.len();
+        if len <= SHORT {
+            let mut place = [0; SHORT];
+            place[..len].copy_from_slice(bytes);
+            return Ok(Text {
+                kept: Kept::Short {
+                    len: len as u8,
+                    bytes: place,
+                },
+            });
+        }
+        let list = Vec::from_slice(alloc, bytes)?;
         Ok(Text {
-            bytes: Vec::from_slice(alloc, bytes)?,
+            kept: Kept::Long(Box::new(alloc, list)?),
         })
     }
 
@@ -40,7 +60,10 @@ impl Text {
     pub fn as_slice(&self) -> &[u8]
         ensures { result.now ≡ self.now }
     {
-        self.bytes.as_slice()
+        match &self.kept {
+            Kept::Short { len, bytes } => &bytes[..*len as usize],
+            Kept::Long(bytes) => bytes.as_slice(),
+        }
     }
 }
 

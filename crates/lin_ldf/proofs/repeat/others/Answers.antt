@@ -21,8 +21,8 @@ loop-alloc-preserved g c =
     let at = sym c.is_at.ensures ∙ c.loop-alloc-test.true in
     let read = gives_behind (i.form c.loop-alloc.state) c.loop-alloc.parser c.skip.new.self _ at c.skip.ensures c.in_ok-item.ensures.read in
     record {
-      read = rw (c.in_ok-push.ensures.items, c.in_ok-item.ensures.state) (several_goes_on no_comma i.next (λ s. (comma &> i.form s).read) (λ s. comma_shrinks (i.form s) (i.shrinks s)) c.loop-alloc.state c.loop-alloc.items.items c.loop-alloc.parser c.in_ok-item.item c.parse.new.parser ((others i.next i.form c.args.state.now).read c.args.parser.now) (ap not at) read c.loop-alloc.invariant.read);
-      state = rw c.in_ok-push.ensures.items (c.in_ok-item.ensures.state ∙ ap (λ x. i.next x c.in_ok-item.item) c.loop-alloc.invariant.state ∙ sym (fold-append i.next c.args.state.now c.loop-alloc.items.items (c.in_ok-item.item ∷ [])));
+      read = rw (c.in_ok-push.ensures, c.in_ok-item.ensures.state) (several_goes_on no_comma i.next (λ s. (comma &> i.form s).read) (λ s. comma_shrinks (i.form s) (i.shrinks s)) c.loop-alloc.state c.loop-alloc.items.items c.loop-alloc.parser c.in_ok-item.item c.parse.new.parser ((others i.next i.form c.args.state.now).read c.args.parser.now) (ap not at) read c.loop-alloc.invariant.read);
+      state = rw c.in_ok-push.ensures (c.in_ok-item.ensures.state ∙ ap (λ x. i.next x c.in_ok-item.item) c.loop-alloc.invariant.state ∙ sym (fold-append i.next c.args.state.now c.loop-alloc.items.items (c.in_ok-item.item ∷ [])));
     }
 
 pub returns-clause-read : goal.returns-clause-read

@@ -17,7 +17,7 @@ pub returns-in-Token-clause-pulls : goal.returns-in-Token-clause-pulls
 returns-in-Token-clause-pulls c =
     let before = c.loop-self.self in
     let within = c.in-Token.ensures.within in
-    let passed = c.pass-in-Token in
+    let passed = c.pass_token in
     let behind = behind_token before.source.now c.split_at.result.1.now before.offset c.in-Token.size c.in-Token.kind before.place (omega arith) c.split_at.ensures.back within.0 within.1 (sym c.in-Token.ensures.value) in (
       rw (passed.ensures.offset, passed.ensures.place, passed.ensures.source) (sym c.loop-self.invariant.ahead ∙ behind),
       omega arith,
