@@ -1,6 +1,6 @@
 //! The log.
 
-ghost use Rattle.std.specs.Prelude.{◌≡◌, ◌≤◌, ◌<◌, ◌+◌, ◌-◌, ◌++◌, ◌∷◌, ◌^◌, [], List, length, OnOk, IsOk, slice_index_or};
+ghost use Rattle.std.specs.Prelude.{◌≡◌, ◌≤◌, ◌<◌, ◌+◌, ◌-◌, ◌++◌, ◌∷◌, ◌^◌, [], length, OnOk, IsOk, slice_index_or};
 
 use crate::port::PortId;
 use crate::reply::Reply;
@@ -57,14 +57,6 @@ impl Log {
         ensures { result.now ≡ slice_index_or self.now.entries index result.now }
     {
         &self.entries[index]
-    }
-
-    /// The newest entry.
-    pub(crate) fn last(&self) -> &LogEntry
-        requires { 0 < length self.now.entries }
-        ensures { result.now ≡ slice_index_or self.now.entries (length self.now.entries - 1) result.now }
-    {
-        &self.entries[self.entries.len() - 1]
     }
 
     /// Makes room for one entry.

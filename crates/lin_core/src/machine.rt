@@ -267,6 +267,6 @@ impl Core {
         requires { 0 < length self.now.log }
         ensures { result.now ≡ slice_index_or self.now.log (length self.now.log - 1) result.now }
     {
-        self.log.last()
+        self.log.entry(self.log.len() - 1)
     }
 }

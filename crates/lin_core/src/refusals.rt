@@ -1,11 +1,11 @@
 //! When a step is refused: the first reason that holds, in the order of their numbers.
 
+ghost use Rattle.std.specs.Prelude.{◌≡◌, ℕ, List};
+ghost use Rattle.lin_core.specs.Replies.{may};
+
 pub(crate) mod cluster;
 pub(crate) mod messages;
 pub(crate) mod slots;
-
-ghost use Rattle.std.specs.Prelude.{◌≡◌, ℕ, List};
-ghost use Rattle.lin_core.specs.Replies.{may};
 
 use crate::port::PortId;
 use crate::step::Step;

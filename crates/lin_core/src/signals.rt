@@ -28,15 +28,6 @@ pub fn initial_values(alloc: Global, cluster: &Cluster) -> Result<Vec<Value>, Al
     Ok(values)
 }
 
-/// No frame is pending, of so many frames. An error is out of memory.
-fn none_pending(alloc: Global, count: usize) -> Result<Vec<bool>, AllocError>
-    ensures { IfOk result (λ flags. flags.items ≡ replicate count false) }
-{
-    let mut flags = Vec::new(alloc);
-    flags.resize(count, false)?;
-    Ok(flags)
-}
-
 /// Room for the values of each frame's signals. An error is out of memory.
 fn room_for_frames(alloc: Global, cluster: &Cluster) -> Result<Vec<Value>, AllocError>
     ensures empty { IfOk result (λ room. room.items ≡ []) }
@@ -78,10 +69,12 @@ impl Signals {
             (λ s. (f : ℕ) → f < length cluster.now.frames
             → length (frame_of cluster.now f).signals ≤ vec_capacity s.room) }
     {
+        let mut pending = Vec::new(alloc);
+        pending.resize(cluster.frames(), false)?;
         Ok(Signals {
             values: initial_values(alloc, cluster)?,
             heard: initial_values(alloc, cluster)?,
-            pending: none_pending(alloc, cluster.frames())?,
+            pending,
             room: room_for_frames(alloc, cluster)?,
         })
     }

@@ -1,9 +1,6 @@
 //! When a write, a switch, an ask for sleep or a wake is refused.
 
-ghost use Rattle.std.specs.Prelude.{◌≡◌, ℕ, ◌<◌, List, length, option_map};
-ghost use Rattle.lin_frame.specs.Bits.{fits_place};
-ghost use Rattle.lin_parts.specs.Cluster.{signal_of};
-ghost use Rattle.lin_parts.specs.Rules.{place_at};
+ghost use Rattle.std.specs.Prelude.{◌≡◌, ℕ, List, option_map};
 ghost use Rattle.lin_parts.specs.declared.parts.Parts.{Parts};
 ghost use Rattle.lin_core.specs.History.{asleep, open_slot};
 ghost use Rattle.lin_core.specs.kept.Slots.{slot_in};
@@ -17,19 +14,6 @@ use crate::slot::Slot;
 use crate::step::Step;
 use lin_frame::{Place, Value};
 use lin_parts::Cluster;
-
-/// Whether a value has the kind and the size of a signal.
-fn fits_signal(cluster: &Cluster, signal: u16, value: &Value) -> bool
-    requires { signal < length cluster.now.signals }
-    ensures { result ≡ fits_place (place_at 0 (signal_of cluster.now signal)) value.now }
-{
-    let place = Place {
-        offset: 0,
-        size: cluster.signal_size(signal),
-        array: matches!(cluster.initial(signal), Value::Bytes(_)),
-    };
-    place.fits(value)
-}
 
 /// Why a write is refused.
 pub(crate) fn refuse_write(
@@ -50,7 +34,12 @@ pub(crate) fn refuse_write(
     if node != cluster.publisher(signal) {
         return Some(Refusal::NotPublisher);
     }
-    if !fits_signal(cluster, signal, value) {
+    let place = Place {
+        offset: 0,
+        size: cluster.signal_size(signal),
+        array: matches!(cluster.initial(signal), Value::Bytes(_)),
+    };
+    if !place.fits(value) {
         return Some(Refusal::BadValue);
     }
     if !may_act(by, node) {

@@ -1,6 +1,6 @@
 //! When a step of a slot is refused.
 
-ghost use Rattle.std.specs.Prelude.{◌≡◌, ℕ, ◌<◌, List, length, option_map};
+ghost use Rattle.std.specs.Prelude.{◌≡◌, ℕ, ◌<◌, List, option_map};
 ghost use Rattle.lin_core.specs.History.{asleep, open_slot};
 ghost use Rattle.lin_core.specs.kept.Slots.{slot_in, IsOpen, IsThere};
 ghost use Rattle.lin_core.specs.Replies.{refusal, may, passes_in};
