@@ -12,7 +12,7 @@ cut-suc (e ∷ es) (suc i) d h = ap (λ l. e ∷ l) (cut-suc es i d (omega arith
 cut : (es : List LogEntry) (i : ℕ) (d : LogEntry) → i < length es → es ≡ take i es ++ get_or es i d ∷ drop (i + 1) es
 cut es i d h = rw (add-one) (cut-suc es i d h)
 
-each-append : (says : LogEntry → List LogEntry → List ℕ) (past xs ys : List LogEntry)
+pub each-append : (says : LogEntry → List LogEntry → List ℕ) (past xs ys : List LogEntry)
     → each_entry says past (xs ++ ys) ≡ each_entry says past xs ++ each_entry says (reverse xs ++ past) ys
 each-append says past [] ys = refl
 each-append says past (x ∷ xs) ys =

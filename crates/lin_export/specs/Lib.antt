@@ -5,6 +5,7 @@ pub mod Shown
 pub mod Telling
 pub mod Putting
 pub mod Pcap
+pub mod Captured
 pub mod Csv
 pub mod Cells
 pub mod Named

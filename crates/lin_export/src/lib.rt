@@ -12,6 +12,8 @@ mod csv;
 mod fault;
 mod format;
 mod hearing;
+mod html;
+mod law;
 mod named;
 mod naming;
 mod pcap;
@@ -23,6 +25,8 @@ mod words;
 
 pub use csv::write_csv;
 pub use fault::ExportFault;
+pub use html::write_html;
+pub use law::captures_what_was_seen;
 pub use named::write_named;
 pub use pcap::write_pcap;
 pub use vcd::write_vcd;

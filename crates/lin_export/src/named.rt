@@ -44,7 +44,7 @@ fn put_lettered<W: Write>(out: &mut TextWriter<'_, W>, cluster: &Cluster, letter
     }
 }
 
-fn put_port<W: Write>(out: &mut TextWriter<'_, W>, cluster: &Cluster, port: PortId)
+pub(crate) fn put_port<W: Write>(out: &mut TextWriter<'_, W>, cluster: &Cluster, port: PortId)
     ensures { Grows W.contents out.old out.new (named_port cluster.now port) }
 {
     match port {
@@ -63,7 +63,11 @@ fn word_of_direction(direction: Direction) -> Word<'static>
     }
 }
 
-fn put_step<'a, W: Write>(out: &mut TextWriter<'_, W>, cluster: &'a Cluster, step: &'a Step)
+pub(crate) fn put_step<'a, W: Write>(
+    out: &mut TextWriter<'_, W>,
+    cluster: &'a Cluster,
+    step: &'a Step,
+)
     ensures { Grows W.contents out.old out.new (flat_map spaced (named_step cluster.now step.now)) }
 {
     match step {
@@ -197,7 +201,7 @@ fn word_of_cause(cause: Cause) -> Word<'static>
     }
 }
 
-fn put_event<'a, W: Write>(
+pub(crate) fn put_event<'a, W: Write>(
     out: &mut TextWriter<'_, W>,
     cluster: &'a Cluster,
     names: &'a Names,
@@ -426,7 +430,7 @@ fn put_events<W: Write>(
 }
 
 /// The number and the name of a refusal.
-fn refusal_words(refusal: Refusal) -> (u64, &'static str)
+pub(crate) fn refusal_words(refusal: Refusal) -> (u64, &'static str)
     ensures number { result.0 ≡ refusal_number refusal }
     ensures name { result.1.now ≡ refusal_name refusal }
 {
