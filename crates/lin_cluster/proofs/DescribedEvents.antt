@@ -39,7 +39,7 @@ use Rattle.lin_parts.proofs.Pairs.{pairs-map}
 part-publisher : (d : Description) (m : Name) → frame_number d m < length d.frames → (frame_of (parts_of d) (frame_number d m)).publisher ≡ node_number d (the_frame d m).publisher
 part-publisher d m lt = ap (λ (f : SignalFrame). f.publisher) (frame-part d (frame_number d m) lt)
 
-part-size : (d : Description) (m : Name) → frame_number d m < length d.frames → (frame_of (parts_of d) (frame_number d m)).layout.len ≡ (the_frame d m).size.value
+pub part-size : (d : Description) (m : Name) → frame_number d m < length d.frames → (frame_of (parts_of d) (frame_number d m)).layout.len ≡ (the_frame d m).size.value
 part-size d m lt = ap (λ (f : SignalFrame). f.layout.len) (frame-part d (frame_number d m) lt)
 
 part-model : (d : Description) (m : Name) → frame_number d m < length d.frames → (frame_of (parts_of d) (frame_number d m)).model ≡ frame_model d (the_frame d m)
@@ -175,7 +175,7 @@ publishers-apart d none members each i j x lt in' =
 -- ---- the table that resolves collisions
 
 -- a name is found where its number is in range
-found-number : {X : Type 0} (p : X → Bool) (xs : List X) → is_some (find p xs) ≡ nat_lt (position_or_len p xs) (length xs)
+pub found-number : {X : Type 0} (p : X → Bool) (xs : List X) → is_some (find p xs) ≡ nat_lt (position_or_len p xs) (length xs)
 found-number p [] = refl
 found-number p (x ∷ xs) =
     elim (cases_lt (position_or_len p (x ∷ xs)) (length (x ∷ xs))) as (λ _. is_some (find p (x ∷ xs)) ≡ nat_lt (position_or_len p (x ∷ xs)) (length (x ∷ xs))) [

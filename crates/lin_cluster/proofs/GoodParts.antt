@@ -17,8 +17,8 @@ use Rattle.std.specs.Option.{option_map_or}
 use Rattle.lin_cluster.specs.Described.{signal_number, frame_number, table_number}
 use Rattle.lin_cluster.specs.Findings.{in_signal, in_placed, in_frame, in_sporadic_member, in_sporadic, in_event_member, in_event, in_entry, in_table}
 use Rattle.lin_cluster.specs.FindingsFrames.{unknown_node, unknown_signal, unknown_member, unknown_table, unknown_entry, wrong_publisher_at, is_published_elsewhere, ids, bad_id, bad_signal_size, bad_frame_size, is_good_size, is_frame_size, outside_at, is_outside, overlap_at, is_overlapping, bad_init, init_place, is_good_init}
-use Rattle.lin_cluster.specs.FindingsNames.{is_node, signal_named, frame_named, table_named, is_any_frame, is_event_entry, knows, at_name, at_number, at_place}
-use Rattle.lin_cluster.specs.FindingsTables.{responder_limits, frame_limits, time_limits, past, short_slot_at, zero_delay, empty_table, long_delay, long_table, bad_member_at, bad_sporadic_at, is_responders, is_bad_member, nested_at, is_mixed, mixed_at}
+use Rattle.lin_cluster.specs.FindingsNames.{is_node, signal_named, frame_named, table_named, is_any_frame, is_event_entry, carries_frame, knows, when, at_name, at_number, at_place}
+use Rattle.lin_cluster.specs.FindingsTables.{responder_limits, frame_limits, time_limits, past, short_slot_at, zero_delay, empty_table, long_delay, long_table, bad_member_at, bad_sporadic_at, is_responders, is_bad_member, is_speed, too_long, nested_at, is_mixed, mixed_at}
 use Rattle.lin_cluster.specs.declared.finding.FindingKind.TheVariants.{UnknownName, WrongPublisher, BadId, BadSize, SignalOutside, SignalsOverlap, BadInit, ZeroDelay, BadEventFrame, BadSporadic, NestedCollision, EmptyTable, LimitPassed, MixedChecksum}
 use Rattle.lin_cluster.specs.declared.finding.Finding.{Finding}
 use Rattle.lin_cluster.proofs.KnownNames.{no_frame, no_table, the_signal, signal-within, signal-at, frame-found, table-within, table-found}
@@ -36,6 +36,7 @@ pub record WithinLimits (d : Description) : Type 0 where
   pub sporadic : length d.sporadic ≤ 256
   pub events : length d.events ≤ 60
   pub tables : length d.tables ≤ 256
+  pub speed : is_speed d.speed.value ≡ true
 
 some-length : {X : Type 0} (xs : List X) → (length xs == 0) ≡ false → 1 ≤ length xs
 some-length [] e = absurd (cc)
@@ -59,6 +60,7 @@ limit-parts d none = four (responder_limits d) (frame_limits d) (past (λ t. t.n
 pub within-limits : (d : Description) → NothingFound d → WithinLimits d
 within-limits d none =
     let parts = limit-parts d none
+    in let times = three (when (not (is_speed d.speed.value)) (at_number LimitPassed d.speed)) (too_long d.time_base) (too_long d.jitter) parts.3
     in let kinds = four (past (λ (s : Signal). s.name) (slice_get d.signals 1024)) (past (λ (f : Frame). f.name) (slice_get d.frames 60)) (past (λ (f : Sporadic). f.name) (slice_get d.sporadic 256)) (past (λ (e : EventFrame). e.name) (slice_get d.events 60)) parts.1
     in record {
       slaves = within-limit (λ n. n) d.slaves 15 parts.0;
@@ -67,6 +69,7 @@ within-limits d none =
       sporadic = within-limit (λ f. f.name) d.sporadic 256 kinds.2;
       events = within-limit (λ e. e.name) d.events 60 kinds.3;
       tables = within-limit (λ t. t.name) d.tables 256 parts.2;
+      speed = not-false (is_speed d.speed.value) (when-nil _ (at_number LimitPassed d.speed) times.0);
     }
 
 -- ---- signals
@@ -229,14 +232,16 @@ good-events d none k e lt =
 
 -- ---- tables
 
-pub record GoodLine (x : TableEntry) : Type 0 where
+pub record GoodLine (d : Description) (x : TableEntry) : Type 0 where
+  pub known : (carries_frame x && not (is_any_frame d x.name)) ≡ false
+  pub long : short_slot_at d x ≡ []
   pub some : 1 ≤ x.delay.value
   pub few : x.delay.value ≤ 1000000000
 
-pub record GoodTable (t : Table) : Type 0 where
+pub record GoodTable (d : Description) (t : Table) : Type 0 where
   pub some : 1 ≤ length t.entries
   pub few : length t.entries ≤ 1024
-  pub lines : All GoodLine t.entries
+  pub lines : All (GoodLine d) t.entries
 
 pub some-tables : (d : Description) → NothingFound d → 1 ≤ length d.tables
 some-tables d none = some-length d.tables (when-nil _ _ none.some_table)
@@ -245,7 +250,7 @@ some-delay : (n : ℕ) → (n == 0) ≡ false → 1 ≤ n
 some-delay zero e = absurd (cc)
 some-delay (suc n) e = omega arith
 
-pub good-tables : (d : Description) → NothingFound d → All GoodTable d.tables
+pub good-tables : (d : Description) → NothingFound d → All (GoodTable d) d.tables
 good-tables d none k t lt =
     let here = get_or d.tables k t
     in let parts = three (empty_table here) (long_table here) (flat_map (in_entry d) here.entries) (each-nil (in_table d) d.tables none.tables k t lt)
@@ -256,6 +261,8 @@ good-tables d none k t lt =
           let entry = get_or here.entries i x
           in let each = four (unknown_entry d entry) (short_slot_at d entry) (zero_delay entry) (long_delay entry) (each-nil (in_entry d) here.entries parts.2 i x in')
           in record {
+            known = when-nil _ (at_name UnknownName entry.name) each.0;
+            long = each.1;
             some = some-delay entry.delay.value (when-nil _ (at_number ZeroDelay entry.delay) each.2);
             few = ltb-false 1000000000 entry.delay.value (when-nil _ (at_number LimitPassed entry.delay) each.3);
           };

@@ -34,6 +34,7 @@ use limits::limits_passed;
 use lin_description::Description;
 use lin_frame::SumKind;
 use std::alloc::{AllocError, Global};
+pub use slots::needed_us;
 use tables::no_table;
 use walk::made_of_each;
 

@@ -1,13 +1,16 @@
 -- How much time the slots of schedule tables leave (ISO 17987-3, frame slots; LIN 2.2A, section 9.2.5), as lines.
-use Rattle.std.specs.Prelude.{ℕ, ◌+◌, ◌-◌, ◌*◌, ◌/◌, List, [], ◌∷◌, ◌++◌, length, max, fold, sum_by, flat_map, slice_index, codes}
+use Rattle.std.specs.Prelude.{◌≡◌, ◌≤◌, All, ℕ, ◌+◌, ◌-◌, ◌*◌, ◌/◌, List, [], ◌∷◌, ◌++◌, length, max, fold, sum_by, flat_map, slice_index, codes}
 use Rattle.std.specs.Fmt.{decimal}
+use Rattle.lin_cluster.specs.Described.{parts_of}
+use Rattle.lin_cluster.specs.Findings.{IsFree}
 use Rattle.lin_cluster.specs.FindingsTables.{needed_us}
+use Rattle.lin_description.specs.declared.description.Description.{Description}
 use Rattle.lin_frame.specs.Words.{numbers}
 use Rattle.lin_parts.specs.Cluster.{event_of, frame_of, line_of, named_table, sporadic_of, table_of}
 use Rattle.lin_parts.specs.declared.parts.Entry.{Entry}
 use Rattle.lin_parts.specs.declared.parts.Entry.TheVariants.{Frame, Sporadic, Event, MasterReq, SlaveResp, Quiet}
 use Rattle.lin_parts.specs.declared.parts.Parts.{Parts}
-use Rattle.lin_names.specs.Names.{NamesData, entry_kind, entry_name}
+use Rattle.lin_names.specs.Names.{NamesData, entry_kind, entry_name, names_of}
 use Rattle.lin_log.specs.Words.{line}
 
 -- ---- the slot of an entry
@@ -48,6 +51,17 @@ slot_line c names t e =
     ∷ decimal (needed c names entry)
     ∷ decimal (delay - needed c names entry)
     ∷ [])
+
+-- a cluster and names of one description, in which nothing is found
+pub record AreOfOneDescription (c : Parts) (names : NamesData) : Type 0 where
+  pub description : Description
+  pub free : IsFree description
+  pub said : c ≡ parts_of description
+  pub named : names ≡ names_of description
+
+-- each slot is as long as it needs, so that what is left isn't negative
+abbrev pub NoSlotIsShort : Parts → NamesData → Type 0
+NoSlotIsShort c names = All (λ t. All (λ l. needed c names l.entry ≤ l.delay_us) t.lines) c.tables
 
 -- ---- the load of a table
 

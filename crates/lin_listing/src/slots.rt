@@ -1,28 +1,18 @@
 //! How much time the slots of schedule tables leave, as lines.
 
 ghost use Rattle.std.specs.Prelude.{◌≡◌, ◌<◌, ◌≤◌, All, flat_map, length, slice_index};
-ghost use Rattle.lin_cluster.specs.FindingsTables.{needed_us};
 ghost use Rattle.lin_frame.specs.Words.{numbers};
 ghost use Rattle.lin_parts.specs.Cluster.{frame_of, line_of, table_of};
 ghost use Rattle.lin_parts.specs.Rules.{IsEntry};
 ghost use Rattle.lin_text.specs.Written.{Grows, WritesText};
-ghost use Rattle.lin_listing.specs.Slots.{bits_of, delay_of, frame_bytes, greatest_bytes, load_line, nominal_bits, permille, slot_bytes, slot_line, slots, table_lines};
+ghost use Rattle.lin_listing.specs.Slots.{AreOfOneDescription, NoSlotIsShort, bits_of, delay_of, frame_bytes, greatest_bytes, load_line, nominal_bits, permille, slot_bytes, slot_line, slots, table_lines};
 
 use crate::words::{Word, put_line};
+use lin_cluster::needed_us;
 use lin_names::{Names, entry_kind};
 use lin_parts::{Cluster, Entry};
 use lin_text::{TextWriter, WriteFailed};
 use std::io::Write;
-
-/// The time in microseconds that a slot of so many data bytes takes at most (ISO 17987-3, frame slots).
-fn needed_us(names: &Names, bytes: u8) -> u64
-    ensures { result ≡ needed_us names.now.jitter_us names.now.speed bytes }
-{
-    let bits = 34 + 10 * (u64::from(bytes) + 1);
-    let speed = u64::from(names.speed());
-    let rounded_up = (1_400_000 * bits + speed.saturating_sub(1)).checked_div(speed);
-    u64::from(names.jitter_us()) + rounded_up.unwrap_or(0)
-}
 
 fn greatest_bytes(cluster: &Cluster, frames: &[u16]) -> u8
     requires { All (λ f. f < length cluster.now.frames) frames.now }
@@ -67,13 +57,14 @@ fn put_slot<'a, W: Write>(
 )
     requires table { table < length cluster.now.tables }
     requires entry { number < length (table_of cluster.now table) }
+    requires together { AreOfOneDescription cluster.now names.now }
     ensures { Grows W.contents out.old out.new (slot_line cluster.now names.now table number) }
 {
     cluster.sound();
     let entry = cluster.entry(table, number);
     let bytes = slot_bytes(cluster, entry);
     let delay = u64::from(cluster.delay_us(table, number));
-    let needed = needed_us(names, bytes);
+    let needed = needed_us(names.jitter_us(), names.speed(), u32::from(bytes));
     put_line(
         out,
         b"slot",
@@ -85,7 +76,7 @@ fn put_slot<'a, W: Write>(
             Word::Number(u64::from(bytes)),
             Word::Number(delay),
             Word::Number(needed),
-            Word::Number(delay.saturating_sub(needed)),
+            Word::Number(delay - needed),
         ],
     );
 }
@@ -96,7 +87,8 @@ fn put_table_slots<W: Write>(
     names: &Names,
     table: u16,
 )
-    requires { table < length cluster.now.tables }
+    requires table { table < length cluster.now.tables }
+    requires together { AreOfOneDescription cluster.now names.now }
     ensures { Grows W.contents out.old out.new (flat_map (slot_line cluster.now names.now table) (numbers (length (table_of cluster.now table)))) }
 {
     for entry in 0..cluster.entries(table) as u16 {
@@ -175,7 +167,8 @@ fn put_load<'a, W: Write>(
 }
 
 fn put_table<W: Write>(out: &mut TextWriter<'_, W>, cluster: &Cluster, names: &Names, table: u16)
-    requires { table < length cluster.now.tables }
+    requires table { table < length cluster.now.tables }
+    requires together { AreOfOneDescription cluster.now names.now }
     ensures { Grows W.contents out.old out.new (table_lines cluster.now names.now table) }
 {
     put_table_slots(out, cluster, names, table);
@@ -183,6 +176,7 @@ fn put_table<W: Write>(out: &mut TextWriter<'_, W>, cluster: &Cluster, names: &N
 }
 
 fn put_slots<W: Write>(out: &mut TextWriter<'_, W>, cluster: &Cluster, names: &Names)
+    requires { AreOfOneDescription cluster.now names.now }
     ensures { Grows W.contents out.old out.new (slots cluster.now names.now) }
 {
     for table in 0..cluster.tables() as u16 {
@@ -192,7 +186,7 @@ fn put_slots<W: Write>(out: &mut TextWriter<'_, W>, cluster: &Cluster, names: &N
 
 /// Writes for each schedule table a line for each slot, with the time that it needs and its slack in microseconds, and
 /// then one for the table's load (ISO 17987-3, frame slots). The names are those of the description that the cluster was
-/// made of.
+/// made of; since nothing was found in that, no slack is negative.
 ///
 /// It goes through a buffer of fixed size, and takes no memory. The writer isn't flushed.
 ///
@@ -204,8 +198,11 @@ pub fn write_slots<W: Write>(
     names: &Names,
     writer: &mut W,
 ) -> Result<(), WriteFailed>
-    ensures { WritesText (W.contents writer.old) (W.contents writer.new) result (slots cluster.now names.now) }
+    requires { AreOfOneDescription cluster.now names.now }
+    ensures lines { WritesText (W.contents writer.old) (W.contents writer.new) result (slots cluster.now names.now) }
+    ensures slack { NoSlotIsShort cluster.now names.now }
 {
+    cluster.sound();
     let mut out = TextWriter::new(writer);
     put_slots(&mut out, cluster, names);
     out.finish()

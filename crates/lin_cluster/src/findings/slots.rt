@@ -12,7 +12,9 @@ use crate::finding::{Finding, FindingKind};
 use lin_description::{Name, TableEntry};
 use std::alloc::AllocError;
 
-fn needed_us(jitter: u32, speed: u32, size: u32) -> u64
+/// The time in microseconds that the slot of a frame of `size` data bytes takes at most, at a speed in bits per second, with
+/// the jitter in microseconds: 1.4 times its nominal time (ISO 17987-3, frame slots).
+pub fn needed_us(jitter: u32, speed: u32, size: u32) -> u64
     requires speed { 0 < speed }
     ensures { result ≡ needed_us jitter speed size }
 {
