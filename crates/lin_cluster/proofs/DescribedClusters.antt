@@ -10,7 +10,7 @@ use Rattle.lin_description.specs.declared.description.Init.TheVariants.{Scalar, 
 use Rattle.lin_description.specs.declared.description.Number.{Number}
 use Rattle.lin_cluster.specs.Described.{described_nad, parts_of}
 use Rattle.lin_cluster.specs.Findings.{IsFree}
-use Rattle.lin_cluster.specs.FindingsFrames as found
+use Rattle.lin_cluster.specs.Sizes as sizes
 use Rattle.lin_cluster.specs.Fitting.{FitsInitial, FitsSignal, FitsFrame, FitsParts, HasMembers}
 use Rattle.lin_parts.specs.Rules.{IsCluster, IsAddress}
 use Rattle.lin_cluster.proofs.DescribedEvents.{described-sporadic, described-events}
@@ -35,7 +35,7 @@ small-items items e k n lt =
     in let h = ltb-false 255 (get_or items k n).value few
     in omega (arith, h)
 
-fits-initial : (init : Init) (size : ℕ) → size_fits init size ≡ true → found.is_good_init size init ≡ true → FitsInitial init
+fits-initial : (init : Init) (size : ℕ) → size_fits init size ≡ true → sizes.is_good_init size init ≡ true → FitsInitial init
 fits-initial (Scalar n) size h e = small-power size n.value (leb-true size 16 (and_parts (nat_le 1 size) (nat_le size 16) h).1) (ltb-true n.value (2 ^ size) e)
 fits-initial (Array place items) size h e =
     let parts = and_parts (length items == size / 8) (not (list_any (λ (n : Number). nat_lt 255 n.value) items)) e
@@ -65,7 +65,7 @@ fits-frames d none k f lt =
       offsets = λ i p in'.
           let placed = get_or here.placed i p
           in let s = the_signal d placed
-          in let inside = ltb-false (8 * here.size.value) (placed.offset.value + s.size.value) (or_parts (nat_lt (8 * here.size.value) (placed.offset.value + s.size.value)) (found.is_array s.init && not (placed.offset.value % 8 == 0)) (good.placed i p in').inside).0
+          in let inside = ltb-false (8 * here.size.value) (placed.offset.value + s.size.value) (or_parts (nat_lt (8 * here.size.value) (placed.offset.value + s.size.value)) (sizes.is_array s.init && not (placed.offset.value % 8 == 0)) (good.placed i p in').inside).0
           in omega (arith, few, inside);
     }
 

@@ -1,4 +1,5 @@
--- The sporadic and event-triggered frames of a description without findings keep the rules of clusters.
+-- The sporadic and event-triggered frames of a description without findings keep the rules of
+-- clusters.
 use Rattle.std.proofs.Common.{◌≡◌, ◌<◌, ◌≤◌, ◌==◌, nat_lt, ℕ, Bool, true, false, not, ◌&&◌, ◌||◌, if◌then◌else◌, List, [], ◌∷◌, length, get_or, take, map, refl, sym, subst, ap, ◌∙◌, inl, inr, arith}
 use Rattle.std.specs.Prelude.{All, AllPairs, codes, find, is_some, Some}
 use Rattle.std.specs.Option.{option_map, option_map_or}
@@ -17,7 +18,7 @@ use Rattle.lin_description.specs.declared.description.TableEntry.{TableEntry}
 use Rattle.lin_parts.specs.Cluster.{frame_of, table_of}
 use Rattle.lin_cluster.specs.Described.{node_number, frame_number, sporadic_number, event_number, table_number, members_of, described_event, described_entry, described_line, described_table, parts_of}
 use Rattle.lin_cluster.specs.FindingsNames.{is_node, same_name, sporadic_named, event_named, is_event_entry}
-use Rattle.lin_cluster.specs.FindingsTables.{is_responders, is_bad_member, has_publisher, differs_from_first, is_in_front, is_mixed}
+use Rattle.lin_cluster.specs.Members.{is_responders, is_bad_member, has_publisher, differs_from_first, is_in_front, is_mixed}
 use Rattle.lin_cluster.specs.Fitting.{HasMembers}
 use Rattle.lin_cluster.specs.Models.{frame_model, model_named, first_model, differ}
 use Rattle.lin_parts.specs.Rules.{AreSporadic, AreEvents, IsCommanders, IsResponders, HaveOwnPublishers, HaveOneSize, is_event}
@@ -110,7 +111,7 @@ responders-frame d members earlier m good = (
   λ e. not-commander d (the_frame d m).publisher good.responders (sym (part-publisher d m good.within) ∙ e),
 )
 
--- a member and one behind it have different publishers
+-- a member and one after it have different publishers
 own-publishers : (d : Description) → NothingFound d → (members earlier others : List Name) (m n : Name) → EventMember d members others m → EventMember d members earlier n → has_publisher d (the_frame d n).publisher m ≡ false → HaveOwnPublishers (parts_of d) (frame_number d m) (frame_number d n)
 own-publishers d none members earlier others m n before here differ same =
     let f = the_frame d m

@@ -21,9 +21,10 @@ use Rattle.lin_description.specs.declared.description.PlacedSignal.{PlacedSignal
 use Rattle.lin_description.specs.declared.description.Signal as declared_signal
 use Rattle.lin_parts.specs.Cluster.{nodes}
 use Rattle.lin_cluster.specs.Described.{initial_of, described_signal, node_number, signal_number, frame_number, frames_of, is_member, described_place, described_layout, described_frame, parts_of}
-use Rattle.lin_cluster.specs.FindingsFrames as found
+use Rattle.lin_cluster.specs.Sizes as sizes
+use Rattle.lin_cluster.specs.Overlaps as overlaps
 use Rattle.lin_cluster.specs.FindingsNames.{is_node, same_name}
-use Rattle.lin_cluster.specs.FindingsTables.{is_in_front, has_publisher, differs_from_first}
+use Rattle.lin_cluster.specs.Members.{is_in_front, has_publisher, differs_from_first}
 use Rattle.lin_parts.specs.Rules.{AreFrames, IsSignalAt, is_array, place_at}
 use Rattle.lin_parts.specs.declared.parts.Signal.{Signal}
 use Rattle.lin_parts.specs.declared.parts.SignalFrame.{SignalFrame}
@@ -56,7 +57,7 @@ lies first end p size from to =
 place-lies : (d : Description) → NothingFound d → (f : Frame) (p : PlacedSignal) (first : ℕ) → GoodPlaced d f p → first ≤ p.offset.value → lies_in first (8 * f.size.value) (described_place d p) ≡ true
 place-lies d none f p first good from =
     let s = the_signal d p
-    in let inside = inside-parts (8 * f.size.value) (p.offset.value + s.size.value) (found.is_array s.init && not (p.offset.value % 8 == 0)) good.inside
+    in let inside = inside-parts (8 * f.size.value) (p.offset.value + s.size.value) (sizes.is_array s.init && not (p.offset.value % 8 == 0)) good.inside
     in subst (λ (q : Place). lies_in first (8 * f.size.value) q ≡ true) (sym (place-is d p good.within))
     (lies first (8 * f.size.value) (placed_at p s) (good-size s.init s.size.value p.offset.value (the-signal-good d none p good.within).size inside.1) from inside.0)
 
@@ -67,25 +68,25 @@ some-bits false size e = leb-true 1 size (and_parts (nat_le 1 size) (nat_le size
 
 -- ---- two signals of a frame
 
-no-share : (a m b n : ℕ) → 1 ≤ m → 1 ≤ n → found.share_bit a m b n ≡ false → (nat_le (b + n) a || nat_le (a + m) b) ≡ true
+no-share : (a m b n : ℕ) → 1 ≤ m → 1 ≤ n → overlaps.share_bit a m b n ≡ false → (nat_le (b + n) a || nat_le (a + m) b) ≡ true
 no-share a m b n some other e = grind (arith, nat_tests)
 
--- an earlier signal, and one behind it
+-- an earlier signal, and one after it
 record Apart (d : Description) (q p : PlacedSignal) : Type 0 where
   names : same_name q.signal p.signal ≡ false
   places : are_apart (described_place d q) (described_place d p) ≡ true
 
-apart-from : (d : Description) → NothingFound d → (f : Frame) (q p : PlacedSignal) → GoodPlaced d f q → GoodPlaced d f p → found.meets d p (the_signal d p).size.value q ≡ false → Apart d q p
+apart-from : (d : Description) → NothingFound d → (f : Frame) (q p : PlacedSignal) → GoodPlaced d f q → GoodPlaced d f p → overlaps.meets d p (the_signal d p).size.value q ≡ false → Apart d q p
 apart-from d none f q p earlier good e =
     let s = the_signal d p
     in let t = the_signal d q
     in let parts = or_parts (same_name q.signal p.signal) _ e
-    in let shares : found.share_bit p.offset.value s.size.value q.offset.value t.size.value ≡ false = rw (signal-at d q earlier.within) at parts.1
+    in let shares : overlaps.share_bit p.offset.value s.size.value q.offset.value t.size.value ≡ false = rw (signal-at d q earlier.within) at parts.1
     in record {
       names = parts.0;
       places = subst (λ (x : Place). are_apart x (described_place d p) ≡ true) (sym (place-is d q earlier.within))
           (subst (λ (y : Place). are_apart (placed_at q t) y ≡ true) (sym (place-is d p good.within))
-          (no-share p.offset.value s.size.value q.offset.value t.size.value (some-bits (found.is_array s.init) s.size.value (the-signal-good d none p good.within).size) (some-bits (found.is_array t.init) t.size.value (the-signal-good d none q earlier.within).size) shares));
+          (no-share p.offset.value s.size.value q.offset.value t.size.value (some-bits (sizes.is_array s.init) s.size.value (the-signal-good d none p good.within).size) (some-bits (sizes.is_array t.init) t.size.value (the-signal-good d none q earlier.within).size) shares));
     }
 
 pairs-apart : (d : Description) → NothingFound d → (f : Frame) → GoodFrame d f → AllPairs (Apart d) f.placed
@@ -93,9 +94,9 @@ pairs-apart d none f good i j x lt in' =
     let p = get_or f.placed j x
     in let q = get_or f.placed i x
     in let here = good.placed j x in'
-    in let overlap : list_any (found.meets d p (the_signal d p).size.value) (take j f.placed) ≡ false = rw (signal-at d p here.within) at (good.apart j x in')
-    in let each = none-has (found.meets d p (the_signal d p).size.value) (take j f.placed) overlap
-    in let meets : found.meets d p (the_signal d p).size.value (get_or (take j f.placed) i x) ≡ false = each i x (omega (arith, length-take-le j f.placed (omega arith)))
+    in let overlap : list_any (overlaps.meets d p (the_signal d p).size.value) (take j f.placed) ≡ false = rw (signal-at d p here.within) at (good.apart j x in')
+    in let each = none-has (overlaps.meets d p (the_signal d p).size.value) (take j f.placed) overlap
+    in let meets : overlaps.meets d p (the_signal d p).size.value (get_or (take j f.placed) i x) ≡ false = each i x (omega (arith, length-take-le j f.placed (omega arith)))
     in apart-from d none f q p (good.placed i x (omega arith)) here (rw (get_or-take j f.placed i x lt) at meets)
 
 all-apart : (xs : List Place) → AllPairs (λ p q. are_apart p q ≡ true) xs → all_apart xs ≡ true
@@ -129,10 +130,10 @@ left-false true true e h = absurd (cc)
 left-false true false e h = absurd (cc)
 left-false false b e h = refl
 
-behind : (d : Description) → NothingFound d → (p : PlacedSignal) → signal_number d p.signal < length d.signals → is_in_front d p ≡ false → 8 ≤ p.offset.value
-behind d none p within front =
+after : (d : Description) → NothingFound d → (p : PlacedSignal) → signal_number d p.signal < length d.signals → is_in_front d p ≡ false → 8 ≤ p.offset.value
+after d none p within front =
     let s = the_signal d p
-    in let some = some-bits (found.is_array s.init) s.size.value (the-signal-good d none p within).size
+    in let some = some-bits (sizes.is_array s.init) s.size.value (the-signal-good d none p within).size
     in let both : (nat_lt p.offset.value 8 && nat_lt 0 s.size.value) ≡ false = rw (signal-at d p within) at front
     in ltb-false p.offset.value 8 (left-false (nat_lt p.offset.value 8) (nat_lt 0 s.size.value) (lt-ltb 0 s.size.value (omega (arith, some))) both)
 
@@ -152,12 +153,12 @@ all-lie d none k f good front =
     (λ i x lt.
     let p = get_or f.placed i x
     in let placed = good.placed i x lt
-    in place-lies d none f p (first_bit (layout_of d k f)) placed (first-free (is_member d k) (pid f.id.value) p.offset.value (λ listed. behind d none p placed.within (front listed i x lt)))))
+    in place-lies d none f p (first_bit (layout_of d k f)) placed (first-free (is_member d k) (pid f.id.value) p.offset.value (λ listed. after d none p placed.within (front listed i x lt)))))
 
 layout-good : (d : Description) → NothingFound d → (k : ℕ) (f : Frame) → GoodFrame d f → (is_member d k ≡ true → All (λ p. is_in_front d p ≡ false) f.placed) → good_layout (layout_of d k f) ≡ true
 layout-good d none k f good front =
     and_from _ (all_apart (map (described_place d) f.placed))
-    (and_from (found.is_frame_size f.size.value) (list_all (lies_in (first_bit (layout_of d k f)) (8 * f.size.value)) (map (described_place d) f.placed)) good.size (all-lie d none k f good front))
+    (and_from (sizes.is_frame_size f.size.value) (list_all (lies_in (first_bit (layout_of d k f)) (8 * f.size.value)) (map (described_place d) f.placed)) good.size (all-lie d none k f good front))
     (all-apart (map (described_place d) f.placed) (pairs-map (λ (p q : Place). are_apart p q ≡ true) (described_place d) f.placed (λ i j x lt in'. (pairs-apart d none f good i j x lt in').places)))
 
 same-publisher : (known published same : Bool) → known ≡ true → published ≡ true → (known && published && not same) ≡ false → same ≡ true

@@ -11,7 +11,7 @@ use Rattle.lin_description.specs.declared.description.EventFrame as declared_eve
 use Rattle.lin_description.specs.declared.description.Frame.{Frame}
 use Rattle.lin_description.specs.declared.description.Number.{Number}
 use Rattle.lin_cluster.specs.Described.{frame_number, is_member, described_frame, described_event, events_of, parts_of}
-use Rattle.lin_cluster.specs.FindingsFrames.{ids, bad_id, is_up_to, is_repeated, id_twice}
+use Rattle.lin_cluster.specs.Identifiers.{ids, bad_id, is_up_to, is_repeated, id_twice}
 use Rattle.lin_cluster.specs.FindingsNames.{at_number}
 use Rattle.lin_parts.specs.Rules.{AreIdentifiers, CarriesSignals, HasOwnPid, is_listed, pids}
 use Rattle.lin_parts.specs.declared.parts.EventFrame.{EventFrame}

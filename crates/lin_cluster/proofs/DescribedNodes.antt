@@ -15,7 +15,7 @@ use Rattle.lin_description.specs.declared.description.Description.{Description}
 use Rattle.lin_description.specs.declared.description.Name.{Name}
 use Rattle.lin_description.specs.declared.description.Number.{Number}
 use Rattle.lin_cluster.specs.Described.{node_number, is_block_of, configured_nad, described_nad, responder, nodes_of, parts_of}
-use Rattle.lin_cluster.specs.FindingsFrames.{address, addresses, bad_nad, nad_twice}
+use Rattle.lin_cluster.specs.Addresses.{address, addresses, bad_nad, nad_twice}
 use Rattle.lin_cluster.specs.FindingsNames.{is_responder, at_number}
 use Rattle.lin_cluster.specs.Fitting.{HasMembers}
 use Rattle.lin_parts.specs.Rules.{AreNodes, IsAddress, HaveOwnAddresses}
@@ -88,15 +88,15 @@ block-of d n a is =
 within-any : {X : Type 0} (p : X → Bool) (xs : List X) (d : X) → position_or_len p xs < length xs → list_any p xs ≡ true
 within-any p xs d lt = list_any_at p xs (position_or_len p xs) d lt (passes_at_first p xs d lt)
 
-behind-first : {X : Type 0} (p : X → Bool) (x : X) (xs : List X) (d : X) → 1 ≤ position_or_len p (x ∷ xs) → position_or_len p (x ∷ xs) ≤ length xs → (not (p x) && list_any p xs) ≡ true
-behind-first p x xs d some few =
+after-first : {X : Type 0} (p : X → Bool) (x : X) (xs : List X) (d : X) → 1 ≤ position_or_len p (x ∷ xs) → position_or_len p (x ∷ xs) ≤ length xs → (not (p x) && list_any p xs) ≡ true
+after-first p x xs d some few =
     elim (p x) as (λ b. 1 ≤ cond (not b) (1 + position_or_len p xs) 0 → cond (not b) (1 + position_or_len p xs) 0 ≤ length xs → (not b && list_any p xs) ≡ true) [
       | true ↦ λ low high. absurd (omega arith)
       | false ↦ λ low high. within-any p xs d (omega arith)
     ] some few
 
 known-responder : (d : Description) (name : Name) → 1 ≤ node_number d name → node_number d name ≤ length d.slaves → is_responder d name ≡ true
-known-responder d name some few = behind-first (λ n. bytes_eq n.text name.text) d.master d.slaves no_name some few
+known-responder d name some few = after-first (λ n. bytes_eq n.text name.text) d.master d.slaves no_name some few
 
 given-address : (d : Description) (n a : ℕ) → 1 ≤ n → n ≤ length d.slaves → (b : BlockOf d n a) → address d (block_at d b.place) ≡ Some b.number
 given-address d n a some few b =

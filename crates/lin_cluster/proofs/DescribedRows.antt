@@ -1,5 +1,5 @@
--- Worked examples of the cluster that a description says: lights of the commander, and keys of two responders that share an
--- event-triggered frame.
+-- Worked examples of the cluster that a description says: lights of the commander, and keys of two
+-- responders that share an event-triggered frame.
 use Rattle.std.proofs.Common.{◌≡◌, ℕ, List, [], ◌∷◌, ◌++◌, true, false, refl}
 use Rattle.std.specs.Prelude.{codes, Some, None, map, slice_index_or}
 use Rattle.lin_frame.specs.declared.sums.SumKind.{SumKind}
@@ -132,7 +132,7 @@ unknown-frame-row = refl
 unknown-node-row : node_number body (name (codes "ghost")) ≡ 3
 unknown-node-row = refl
 
--- ---- checksum models: those of the frames, and behind them those of the event-triggered ones
+-- ---- checksum models: those of the frames, and after them those of the event-triggered ones
 
 abbrev of_version : List ℕ → List ℕ → Attributes
 of_version node version = record { node = name node; protocol = Some version; configured_nad = None }
@@ -142,7 +142,8 @@ models blocks signals =
     let d = record body { attributes = blocks; signals = signals }
     in map (λ f. f.model) (frames_of d) ++ map (λ e. e.model) (events_of d)
 
--- the first block with a node's name tells its version, and one of a name that is no node's tells nothing
+-- the first block with a node's name tells its version, and one of a name that is no node's tells
+-- nothing
 publisher-of-lin-1-row : models (of_version (codes "ghost") (codes "1.3") ∷ of_version (codes "lsm") (codes "1.3") ∷ of_version (codes "lsm") (codes "2.2") ∷ []) body.signals ≡ Enhanced ∷ Classic ∷ Enhanced ∷ Classic ∷ []
 publisher-of-lin-1-row = refl
 

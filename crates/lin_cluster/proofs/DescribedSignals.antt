@@ -12,7 +12,7 @@ use Rattle.lin_description.specs.declared.description.Init.TheVariants as inits
 use Rattle.lin_description.specs.declared.description.Number.{Number}
 use Rattle.lin_parts.specs.Cluster.{nodes}
 use Rattle.lin_cluster.specs.Described.{initial_of, described_signal, parts_of}
-use Rattle.lin_cluster.specs.FindingsFrames as found
+use Rattle.lin_cluster.specs.Sizes as sizes
 use Rattle.lin_parts.specs.Rules.{AreSignals, is_array, place_at}
 use Rattle.lin_parts.specs.declared.parts.Signal.{Signal}
 use Rattle.lin_cluster.proofs.GoodParts.{good-signals, within-limits}
@@ -28,9 +28,9 @@ arrange false many whole at h e = absurd (cc)
 
 -- a place of a good size
 abbrev pub size_fits : Init → ℕ → Bool
-size_fits init size = if found.is_array init then nat_le 8 size && nat_le size 64 && size % 8 == 0 else nat_le 1 size && nat_le size 16
+size_fits init size = if sizes.is_array init then nat_le 8 size && nat_le size 64 && size % 8 == 0 else nat_le 1 size && nat_le size 16
 
-pub good-size : (init : Init) (size offset : ℕ) → size_fits init size ≡ true → (found.is_array init && not (offset % 8 == 0)) ≡ false → has_good_size (record { offset = offset; size = size; array = is_array (initial_of init) }) ≡ true
+pub good-size : (init : Init) (size offset : ℕ) → size_fits init size ≡ true → (sizes.is_array init && not (offset % 8 == 0)) ≡ false → has_good_size (record { offset = offset; size = size; array = is_array (initial_of init) }) ≡ true
 good-size (inits.Scalar n) size offset h e = h
 good-size (inits.Array place items) size offset h e = arrange (nat_le 8 size) (nat_le size 64) (size % 8 == 0) (offset % 8 == 0) h e
 
@@ -40,7 +40,7 @@ good-length items size count whole =
     in let bytes : size % 8 ≡ 0 = eqb-true (size % 8) 0 whole
     in eq-eqb (8 * length (map (λ (n : Number). n.value) items)) size (omega (arith, length-map items (λ (n : Number). n.value)))
 
-pub good-initial : (init : Init) (size : ℕ) → size_fits init size ≡ true → found.is_good_init size init ≡ true → fits_place (record { offset = 0; size = size; array = is_array (initial_of init) }) (initial_of init) ≡ true
+pub good-initial : (init : Init) (size : ℕ) → size_fits init size ≡ true → sizes.is_good_init size init ≡ true → fits_place (record { offset = 0; size = size; array = is_array (initial_of init) }) (initial_of init) ≡ true
 good-initial (inits.Scalar n) size h e = e
 good-initial (inits.Array place items) size h e =
     let count = and_parts (length items == size / 8) (not (list_any (λ (n : Number). nat_lt 255 n.value) items)) e
@@ -55,7 +55,7 @@ described-signals d none =
       publishers = All-map (λ (s : Signal). s.publisher < nodes (parts_of d)) (described_signal d) d.signals
           (λ k s lt. rw (nodes-count d) (node-within d (get_or d.signals k s).publisher (good k s lt).publisher));
       sizes = All-map (λ (s : Signal). IsTrue (has_good_size (place_at 0 s))) (described_signal d) d.signals
-          (λ k s lt. let here = get_or d.signals k s in good-size here.init here.size.value 0 (good k s lt).size (and_right (found.is_array here.init) false refl));
+          (λ k s lt. let here = get_or d.signals k s in good-size here.init here.size.value 0 (good k s lt).size (and_right (sizes.is_array here.init) false refl));
       initials = All-map (λ (s : Signal). IsTrue (fits_place (place_at 0 s) s.initial)) (described_signal d) d.signals
           (λ k s lt. let here = get_or d.signals k s in good-initial here.init here.size.value (good k s lt).size (good k s lt).init);
     }

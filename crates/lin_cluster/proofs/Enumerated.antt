@@ -24,13 +24,14 @@ pushed f n xs i x k y front before after lt is at made so grown =
     in rw (mapped_more f n xs i x lt)
     (grown ∙ (ap (λ zs. zs ++ y ∷ []) so ∙ (append_assoc front (map f (enumerate_from n (take i xs))) (y ∷ []) ∙ ap (λ z. front ++ (map f (enumerate_from n (take i xs)) ++ z ∷ [])) same)))
 
--- the same for a list whose items are made without their numbers, and of which each item has something
+-- the same for a list whose items are made without their numbers, and of which each item has
+-- something
 pub both-pushed : {X Y : Type 0} (f : X → Y) (P : X → Type 0) (xs : List X) (i : ℕ) (x : X) (y : Y) (before after : List Y) → i < length xs → x ≡ get_or xs i x → y ≡ f x → P x → (before ≡ map f (take i xs)) × All P (take i xs) → after ≡ before ++ y ∷ [] → (after ≡ map f (take (i + 1) xs)) × All P (take (i + 1) xs)
 both-pushed f P xs i x y before after lt at made here so grown = (
   grown ∙ (ap (λ zs. zs ++ y ∷ []) so.0 ∙ (ap (λ z. map f (take i xs) ++ z ∷ []) (made ∙ ap f at) ∙ sym (map_more f xs i x lt))),
   All-more P xs i x lt so.1 (subst P at here),
 )
 
--- a number of a name is at most that behind the last
+-- a number of a name is at most that after the last
 pub number_within : {X : Type 0} (p : X → Bool) (xs : List X) → prefix_len p xs ≤ length xs
 number_within p xs = prefix_len-le-length p xs

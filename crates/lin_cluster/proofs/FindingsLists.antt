@@ -5,7 +5,7 @@ use Rattle.std.proofs.lemmas.List.{take_more, take_all}
 use Rattle.std.proofs.lemmas.Grind.{flat_map-append}
 use Rattle.std.proofs.lemmas.List.FromFn.{length-enumerate_from, get_or-enumerate_from}
 use Rattle.std.proofs.lemmas.Option.{slice_get_past}
-use Rattle.lin_cluster.specs.FindingsTables.{past}
+use Rattle.lin_cluster.specs.Limits.{past}
 use Rattle.lin_cluster.specs.declared.finding.Finding.{Finding}
 use Rattle.lin_description.specs.declared.description.Name.{Name}
 
@@ -33,7 +33,7 @@ each_step f xs i d before found more h so here =
 pub each_step_at : {A B : Type 0} (f : ℕ × A → List B) (xs : List A) (i : ℕ) (x : A) (before found more : List B) → i < length xs → get_or xs i x ≡ x → found ≡ before ++ flat_map f (take i (enumerate_from 0 xs)) → more ≡ found ++ f (i, x) → more ≡ before ++ flat_map f (take (i + 1) (enumerate_from 0 xs))
 each_step_at f xs i x before found more h is so here = each_step f xs i x before found more h so (here ∙ ap (λ y. found ++ f (i, y)) (sym is))
 
--- four findings, one behind another
+-- four findings, one after another
 pub four_more : {A : Type 0} (before one two three a b c x : List A) → one ≡ before ++ a → two ≡ one ++ b → three ≡ two ++ c → three ++ x ≡ before ++ (a ++ b ++ c ++ x)
 four_more before one two three a b c x first second third =
     ap (λ l. l ++ x) (third ∙ ap (λ l. l ++ c) (second ∙ ap (λ l. l ++ b) first ∙ append_assoc before a b) ∙ append_assoc before (a ++ b) c) ∙ append_assoc before (a ++ b ++ c) x

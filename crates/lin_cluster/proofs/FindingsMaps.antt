@@ -35,13 +35,3 @@ or_by true true = refl
 or_by true false = refl
 or_by false true = refl
 or_by false false = refl
-
-either_is : {V : Type 0} (b : Bool) (v : V) (o : Option V) → is_some (or_else o (if b then Some v else None)) ≡ (is_some o || b)
-either_is true v (Some w) = refl
-either_is true v None = refl
-either_is false v (Some w) = refl
-either_is false v None = refl
-
--- a set of texts with one more text
-pub text_more : {V : Type 0} (b : Bool) (v : V) (old new : Option V) → new ≡ or_else old (if b then Some v else None) → is_some new ≡ (is_some old || b)
-text_more b v old new here = ap is_some here ∙ either_is b v old

@@ -1,16 +1,16 @@
 -- Publishers that are compared by the numbers of their nodes.
 use Rattle.std.proofs.Common.{◌≡◌, ◌<◌, ◌≤◌, ℕ, ◌+◌, Bool, true, false, cond, List, length, refl, sym, ap, subst, ◌∙◌, arith, one-add}
-use Rattle.std.specs.Prelude.{Option, Some, None, is_some, not, ◌==◌, ◌&&◌, ◌||◌, nat_lt}
+use Rattle.std.specs.Prelude.{Some, None, is_some, not, ◌==◌, ◌&&◌, ◌||◌, nat_lt}
 use Rattle.std.specs.List.{list_any, position_or_len}
 use Rattle.std.specs.Str.{bytes_eq}
 use Rattle.std.proofs.lemmas.Bool.{eqb-true, eq-eqb, lt-ltb}
 use Rattle.std.proofs.Math.Dec.{eqb-suc-zero}
 use Rattle.lin_cluster.specs.Described.{node_names, node_number}
-use Rattle.lin_cluster.specs.FindingsFrames.{wrong_publisher_at}
+use Rattle.lin_cluster.specs.Places.{wrong_publisher_at}
 use Rattle.lin_cluster.specs.FindingsNames.{at_name, when, same_name, is_node, is_responder, signal_named, frame_named, knows}
-use Rattle.lin_cluster.specs.FindingsNodes.{node_of, is_number, is_behind_commander, are_two, wrong_publisher_by}
-use Rattle.lin_cluster.specs.FindingsTables.{has_publisher}
-use Rattle.lin_cluster.proofs.KnownNames.{node-same, same-node}
+use Rattle.lin_cluster.specs.FindingsNodes.{node_of, is_number, is_responder_number, are_two, wrong_publisher_by}
+use Rattle.lin_cluster.specs.Members.{has_publisher}
+use Rattle.lin_cluster.proofs.KnownNames.{alike, node-same, same-node}
 use Rattle.lin_cluster.specs.declared.finding.FindingKind.TheVariants.{WrongPublisher}
 use Rattle.lin_cluster.proofs.Named.{same-text, text-same, within-any, past-any}
 use Rattle.lin_description.specs.declared.description.Description.{Description}
@@ -44,38 +44,33 @@ some-by false x = refl
 pub some-node : (d : Description) (n : Name) → is_some (node_of d n) ≡ is_node d n
 some-node d n = some-by (is_node d n) (node_number d n)
 
-behind-by : (b : Bool) (k : ℕ) → knows (cond b (Some (1 + k)) None) (λ n. nat_lt 0 n) ≡ b
-behind-by true k = lt-ltb 0 (1 + k) (omega arith)
-behind-by false k = refl
+number-by : (b : Bool) (k : ℕ) → knows (cond b (Some (1 + k)) None) (λ n. nat_lt 0 n) ≡ b
+number-by true k = lt-ltb 0 (1 + k) (omega arith)
+number-by false k = refl
 
 responder-by : (b rest : Bool) (k : ℕ) → knows (cond (b || rest) (Some (cond (not b) (1 + k) 0)) None) (λ n. nat_lt 0 n) ≡ (not b && rest)
 responder-by true rest k = refl
-responder-by false rest k = behind-by rest k
+responder-by false rest k = number-by rest k
 
--- a node behind the commander is a responder
-pub behind-responder : (d : Description) (n : Name) → is_behind_commander (node_of d n) ≡ is_responder d n
-behind-responder d n = responder-by (same_name d.master n) (list_any (λ m. same_name m n) d.slaves) (position_or_len (λ m. bytes_eq m.text n.text) d.slaves)
-
-alike : (a b : Bool) → (a ≡ true → b ≡ true) → (b ≡ true → a ≡ true) → a ≡ b
-alike true b there back = sym (there refl)
-alike false true there back = back refl
-alike false false there back = refl
+-- a node after the commander is a responder
+pub responder-is : (d : Description) (n : Name) → is_responder_number (node_of d n) ≡ is_responder d n
+responder-is d n = responder-by (same_name d.master n) (list_any (λ m. same_name m n) d.slaves) (position_or_len (λ m. bytes_eq m.text n.text) d.slaves)
 
 same-names : (a b : Name) → same_name a b ≡ same_name b a
 same-names a b = alike (same_name a b) (same_name b a) (λ e. text-same b.text a.text (sym (same-text a.text b.text e))) (λ e. text-same a.text b.text (sym (same-text b.text a.text e)))
 
-behind-same : (b rest other : Bool) → other ≡ b → (not b && rest) ≡ ((b || rest) && not other)
-behind-same true rest true e = refl
-behind-same true true false e = absurd (cc)
-behind-same true false false e = absurd (cc)
-behind-same false true true e = absurd (cc)
-behind-same false false true e = refl
-behind-same false true false e = refl
-behind-same false false false e = refl
+no-commander-by : (b rest other : Bool) → other ≡ b → (not b && rest) ≡ ((b || rest) && not other)
+no-commander-by true rest true e = refl
+no-commander-by true true false e = absurd (cc)
+no-commander-by true false false e = absurd (cc)
+no-commander-by false true true e = absurd (cc)
+no-commander-by false false true e = refl
+no-commander-by false true false e = refl
+no-commander-by false false false e = refl
 
 -- and is a node that the commander isn't
-pub behind-commander : (d : Description) (n : Name) → is_behind_commander (node_of d n) ≡ (is_node d n && not (same_name n d.master))
-behind-commander d n = behind-responder d n ∙ behind-same (same_name d.master n) (list_any (λ m. same_name m n) d.slaves) (same_name n d.master) (same-names n d.master)
+pub no-commander : (d : Description) (n : Name) → is_responder_number (node_of d n) ≡ (is_node d n && not (same_name n d.master))
+no-commander d n = responder-is d n ∙ no-commander-by (same_name d.master n) (list_any (λ m. same_name m n) d.slaves) (same_name n d.master) (same-names n d.master)
 
 -- ---- two publishers
 

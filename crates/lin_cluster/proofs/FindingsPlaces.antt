@@ -1,27 +1,24 @@
 -- What the signals of a frame take up, with one more signal.
 use Rattle.std.proofs.Common.{◌≡◌, ℕ, ◌+◌, ◌<◌, ◌≤◌, Bool, true, false, List, [], ◌∷◌, length, take, get_or, Option, Some, None, sym, ap, refl, subst, ◌∙◌, ◌⊎◌, inl, inr, arith}
-use Rattle.std.specs.Prelude.{◌↔◌, ◌||◌, ◌&&◌, nat_lt}
+use Rattle.std.specs.Prelude.{◌↔◌, ◌||◌, ◌&&◌, ◌==◌, nat_lt, IsSome}
 use Rattle.std.specs.BTreeMap.{BTreeMap}
 use Rattle.std.specs.List.{list_any}
-use Rattle.std.specs.Str.{bytes_eq}
-use Rattle.indexmap.specs.IndexMap.{IndexMap}
+use Rattle.std.specs.Option.{option_map}
 use Rattle.std.proofs.lemmas.Bool.{lt-ltb, cases_lt}
 use Rattle.std.proofs.lemmas.Bool.Decides.{nat_tests}
 use Rattle.std.proofs.lemmas.List.Folds.{list_any_more}
-use Rattle.lin_cluster.specs.FindingsFrames.{meets, share_bit}
-use Rattle.lin_cluster.specs.FindingsMembers.{has_text}
+use Rattle.lin_cluster.specs.Described.{signal_number}
+use Rattle.lin_cluster.specs.Overlaps.{meets, share_bit}
 use Rattle.lin_cluster.specs.FindingsNames.{knows, signal_named, same_name}
 use Rattle.lin_cluster.specs.FindingsPlaces.{IsTaken, lies_in}
 use Rattle.lin_cluster.specs.FindingsRanges.{Meets}
+use Rattle.lin_cluster.specs.Known.{signal_facts}
+use Rattle.lin_cluster.specs.declared.findings.facts.SignalFacts.{SignalFacts}
+use Rattle.lin_cluster.proofs.KnownNames.{same-number}
+use Rattle.lin_cluster.proofs.Made.{some-made}
+use Rattle.lin_cluster.proofs.Named.{found-within}
 use Rattle.lin_description.specs.declared.description.Description.{Description}
 use Rattle.lin_description.specs.declared.description.PlacedSignal.{PlacedSignal}
-use Rattle.lin_description.specs.declared.description.Signal.{Signal}
-use denote.Ref.{Bor}
-
-pub same_answer : (a b : Bool) → (a ≡ true → b ≡ true) → (b ≡ true → a ≡ true) → a ≡ b
-same_answer true b there back = sym (there refl)
-same_answer false true there back = back refl
-same_answer false false there back = refl
 
 either : (a b : Bool) → (a || b) ≡ true → (a ≡ true) ⊎ (b ≡ true)
 either true b h = inl refl
@@ -73,24 +70,30 @@ bits_taken d ranges a m xs so =
           (λ h. absurd (let no : true ≡ false = sym h ∙ e in cc), λ met. absurd (let low : 0 < m = met.0 in omega arith))
     ]
 
-pub taken : {V S : Type 0} (d : Description) (names : IndexMap (Bor (List ℕ)) V S) (ranges : BTreeMap ℕ ℕ) (xs : List PlacedSignal) (p : PlacedSignal) (size : ℕ)
-    → ((q : List ℕ) → has_text names q ≡ list_any (λ x. bytes_eq x.signal.text q) xs)
+pub taken : (d : Description) (ranges : BTreeMap ℕ ℕ) (xs : List PlacedSignal) (p : PlacedSignal) (size : ℕ) (twice : Bool) → signal_number d p.signal < length d.signals
+    → twice ≡ list_any (λ q. signal_number d q.signal == signal_number d p.signal) xs
     → ((b e : ℕ) → b < e → Meets ranges b e ↔ (list_any (λ q. knows (signal_named d q.signal) (λ t. lies_in b e q t.size.value)) xs ≡ true))
-    → (list_any (meets d p size) xs ≡ true) ↔ IsTaken names ranges p size
-taken d names ranges xs p size named so =
+    → (list_any (meets d p size) xs ≡ true) ↔ IsTaken twice ranges p size
+taken d ranges xs p size twice lt numbered so =
     let f : PlacedSignal → Bool = λ q. same_name q.signal p.signal in
     let g : PlacedSignal → Bool = λ q. knows (signal_named d q.signal) (λ t. share_bit p.offset.value size q.offset.value t.size.value) in
     let e : list_any (meets d p size) xs ≡ (list_any f xs || list_any g xs) = any_either f g xs in
+    let named : list_any f xs ≡ twice = (λ i. list_any (λ q. same-number d p q lt i) xs) ∙ sym numbered in
     let bits = bits_taken d ranges p.offset.value size xs so in (
-      λ h. elim (either (list_any f xs) (list_any g xs) (sym e ∙ h)) as (λ _. IsTaken names ranges p size) [
-        | inl name ↦ inl (named p.signal.text ∙ name)
+      λ h. elim (either (list_any f xs) (list_any g xs) (sym e ∙ h)) as (λ _. IsTaken twice ranges p size) [
+        | inl name ↦ inl (sym named ∙ name)
         | inr bit ↦ inr (bits.0 bit)
       ],
       λ h. e ∙ elim h as (λ _. (list_any f xs || list_any g xs) ≡ true) [
-        | inl name ↦ first_of_two (list_any f xs) (list_any g xs) (sym (named p.signal.text) ∙ name)
+        | inl again ↦ first_of_two (list_any f xs) (list_any g xs) (named ∙ again)
         | inr met ↦ second_of_two (list_any f xs) (list_any g xs) (bits.1 met)
       ],
     )
+
+-- a signal of which something is known is found
+pub placed_found : (d : Description) (p : PlacedSignal) (signal : Option SignalFacts) → signal ≡ option_map (signal_facts d) (signal_named d p.signal) → IsSome signal → signal_number d p.signal < length d.signals
+placed_found d p signal here some =
+    found-within (λ s. same_name s.name p.signal) d.signals (some-made (signal_facts d) (signal_named d p.signal) (subst (λ o. IsSome o) here some))
 
 pub more_bits : {A : Type 0} (old new : Type 0) (p : A → Bool) (xs : List A) (i : ℕ) (d : A) → i < length xs → get_or xs i d ≡ d → (old ↔ (list_any p (take i xs) ≡ true)) → (new ↔ (old ⊎ (p d ≡ true))) → new ↔ (list_any p (take (i + 1) xs) ≡ true)
 more_bits old new p xs i d lt is so here =
@@ -105,26 +108,26 @@ more_bits old new p xs i d lt is so here =
       ],
     )
 
-named_never : {V S : Type 0} (names : IndexMap (Bor (List ℕ)) V S) (q : List ℕ) → false ≡ has_text names q → has_text names q ≡ true → ⊥
-named_never names q unnamed named = absurd (let e : false ≡ true = unnamed ∙ named in cc)
+once : (twice : Bool) → twice ≡ false → twice ≡ true → ⊥
+once twice new again = absurd (let e : false ≡ true = sym new ∙ again in cc)
 
-pub taken_by_bits : {V S : Type 0} (names : IndexMap (Bor (List ℕ)) V S) (ranges : BTreeMap ℕ ℕ) (p : PlacedSignal) (bits start size : ℕ) (b : Bool) → false ≡ has_text names p.signal.text → start ≡ p.offset.value → size ≡ bits → 0 < size
-    → ((b ≡ true) ↔ Meets ranges start (start + size)) → (b ≡ true) ↔ IsTaken names ranges p bits
-taken_by_bits names ranges p bits start size b unnamed at wide some met =
+pub taken_by_bits : (twice : Bool) (ranges : BTreeMap ℕ ℕ) (p : PlacedSignal) (bits start size : ℕ) (b : Bool) → twice ≡ false → start ≡ p.offset.value → size ≡ bits → 0 < size
+    → ((b ≡ true) ↔ Meets ranges start (start + size)) → (b ≡ true) ↔ IsTaken twice ranges p bits
+taken_by_bits twice ranges p bits start size b new at wide some met =
     let there = subst (λ (xy : ℕ × ℕ). Meets ranges xy.0 (xy.0 + xy.1)) (λ i. (at i, wide i)) in
     let back = subst (λ (xy : ℕ × ℕ). Meets ranges xy.0 (xy.0 + xy.1)) (λ i. (sym at i, sym wide i)) in (
       λ e. inr (subst (λ n. 0 < n) wide some, there (met.0 e)),
       λ t. elim t as (λ _. b ≡ true) [
-        | inl name ↦ absurd (named_never names p.signal.text unnamed name)
+        | inl again ↦ absurd (once twice new again)
         | inr here ↦ met.1 (back here.1)
       ],
     )
 
-pub taken_by_none : {V S : Type 0} (names : IndexMap (Bor (List ℕ)) V S) (ranges : BTreeMap ℕ ℕ) (p : PlacedSignal) (bits size : ℕ) → false ≡ has_text names p.signal.text → size ≡ bits → size ≤ 0 → (nat_lt 0 size ≡ true) ↔ IsTaken names ranges p bits
-taken_by_none names ranges p bits size unnamed wide none = (
+pub taken_by_none : (twice : Bool) (ranges : BTreeMap ℕ ℕ) (p : PlacedSignal) (bits size : ℕ) → twice ≡ false → size ≡ bits → size ≤ 0 → (nat_lt 0 size ≡ true) ↔ IsTaken twice ranges p bits
+taken_by_none twice ranges p bits size new wide none = (
   λ e. absurd (let never : true ≡ false = sym e ∙ no_bits size none in cc),
   λ t. elim t as (λ _. nat_lt 0 size ≡ true) [
-    | inl name ↦ absurd (named_never names p.signal.text unnamed name)
+    | inl again ↦ absurd (once twice new again)
     | inr here ↦ absurd (let some : 0 < bits = here.0 in omega arith)
   ],
 )

@@ -3,7 +3,7 @@ use Rattle.std.proofs.Common.{◌≡◌, ℕ, ◌+◌, ◌<◌, Bool, true, fals
 use Rattle.std.specs.Prelude.{◌||◌, ◌&&◌, nat_eq, nat_lt, count_by}
 use Rattle.std.proofs.lemmas.Bool.Decides.{nat_tests}
 use Rattle.std.proofs.lemmas.List.Sums.{count_by_more_no, count_by_more_yes}
-use Rattle.lin_cluster.specs.FindingsFrames.{is_up_to}
+use Rattle.lin_cluster.specs.Identifiers.{is_up_to}
 use Rattle.lin_cluster.specs.FindingsRepeats.{has_one, has_two, is_use}
 use Rattle.lin_cluster.specs.declared.findings.repeats.Uses.{Uses}
 use Rattle.lin_description.specs.declared.description.Number.{Number}

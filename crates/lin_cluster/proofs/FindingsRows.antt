@@ -1,8 +1,9 @@
--- Worked examples of findings: a description in which nothing is found, and others that differ in one place.
+-- Worked examples of findings: a description in which nothing is found, and others that differ in
+-- one place.
 use Rattle.std.proofs.Common.{◌≡◌, ℕ, List, [], ◌∷◌, false, refl}
 use Rattle.std.specs.Prelude.{◌+◌, codes, Some, None}
 use Rattle.lin_cluster.specs.Findings.{candidates}
-use Rattle.lin_cluster.specs.FindingsFrames.{ids_twice}
+use Rattle.lin_cluster.specs.Identifiers.{ids_twice}
 use Rattle.lin_cluster.specs.declared.finding.FindingKind.TheVariants.{SlotTooShort, UnknownName, WrongPublisher, BadId, IdTwice, BadSize, SignalOutside, SignalsOverlap, BadInit, ZeroDelay, BadNad, NadTwice, BadEventFrame, BadSporadic, NestedCollision, EmptyTable, LimitPassed, MixedChecksum}
 use Rattle.lin_cluster.specs.Kinds.{finding_at}
 use Rattle.lin_description.specs.declared.description.Attributes.{Attributes}
@@ -110,7 +111,7 @@ last-identifier = refl
 pub bad-identifier : candidates (record body { frames = (record light { id = number 60 11 10 }) ∷ left ∷ [] }) ≡ finding_at BadId 11 10 ∷ []
 bad-identifier = refl
 
--- the event-triggered frame stands behind the frame; in the other order the frame is the later one
+-- the event-triggered frame stands after the frame; in the other order the frame is the later one
 pub identifier-twice : candidates (record body { events = (record keys { id = number 2 21 20 }) ∷ [] }) ≡ finding_at IdTwice 21 20 ∷ []
 identifier-twice = refl
 

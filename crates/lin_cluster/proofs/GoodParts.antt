@@ -16,9 +16,16 @@ use Rattle.std.specs.Str.{bytes_eq}
 use Rattle.std.specs.Option.{option_map_or}
 use Rattle.lin_cluster.specs.Described.{signal_number, frame_number, table_number}
 use Rattle.lin_cluster.specs.Findings.{in_signal, in_placed, in_frame, in_sporadic_member, in_sporadic, in_event_member, in_event, in_entry, in_table}
-use Rattle.lin_cluster.specs.FindingsFrames.{unknown_node, unknown_signal, unknown_member, unknown_table, unknown_entry, wrong_publisher_at, is_published_elsewhere, ids, bad_id, bad_signal_size, bad_frame_size, is_good_size, is_frame_size, outside_at, is_outside, overlap_at, is_overlapping, bad_init, init_place, is_good_init}
+use Rattle.lin_cluster.specs.Identifiers.{ids, bad_id}
+use Rattle.lin_cluster.specs.Overlaps.{overlap_at, is_overlapping}
+use Rattle.lin_cluster.specs.Places.{wrong_publisher_at, is_published_elsewhere, outside_at, is_outside}
+use Rattle.lin_cluster.specs.Sizes.{bad_signal_size, bad_frame_size, is_good_size, is_frame_size, bad_init, init_place, is_good_init}
+use Rattle.lin_cluster.specs.UnknownNames.{unknown_node, unknown_signal, unknown_member, unknown_table, unknown_entry}
 use Rattle.lin_cluster.specs.FindingsNames.{is_node, signal_named, frame_named, table_named, is_any_frame, is_event_entry, carries_frame, knows, when, at_name, at_number, at_place}
-use Rattle.lin_cluster.specs.FindingsTables.{responder_limits, frame_limits, time_limits, past, short_slot_at, zero_delay, empty_table, long_delay, long_table, bad_member_at, bad_sporadic_at, is_responders, is_bad_member, is_speed, too_long, nested_at, is_mixed, mixed_at}
+use Rattle.lin_cluster.specs.Limits.{responder_limits, frame_limits, time_limits, past, long_delay, long_table, too_long}
+use Rattle.lin_cluster.specs.Members.{bad_member_at, bad_sporadic_at, is_responders, is_bad_member, is_mixed, mixed_at}
+use Rattle.lin_cluster.specs.Slots.{short_slot_at, zero_delay, is_speed}
+use Rattle.lin_cluster.specs.Tables.{empty_table, nested_at}
 use Rattle.lin_cluster.specs.declared.finding.FindingKind.TheVariants.{UnknownName, WrongPublisher, BadId, BadSize, SignalOutside, SignalsOverlap, BadInit, ZeroDelay, BadEventFrame, BadSporadic, NestedCollision, EmptyTable, LimitPassed, MixedChecksum}
 use Rattle.lin_cluster.specs.declared.finding.Finding.{Finding}
 use Rattle.lin_cluster.proofs.KnownNames.{no_frame, no_table, the_signal, signal-within, signal-at, frame-found, table-within, table-found}

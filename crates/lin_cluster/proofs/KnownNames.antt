@@ -1,8 +1,9 @@
 -- The numbers of names that a description knows.
 use Rattle.std.proofs.Common.{◌≡◌, ◌≢◌, ◌<◌, ◌+◌, ℕ, suc, Bool, true, false, List, [], ◌∷◌, length, get_or, refl, sym, subst, ap, ◌∙◌, arith}
-use Rattle.std.specs.Prelude.{Option, Some, None, is_some, is_none}
+use Rattle.std.specs.Prelude.{◌==◌, Option, Some, None, is_some, is_none}
 use Rattle.std.specs.List.{enumerate_from, position_or_len}
 use Rattle.std.specs.Str.{bytes_eq}
+use Rattle.std.proofs.lemmas.Bool.{eqb-true, eq-eqb}
 use Rattle.std.proofs.lemmas.List.{get_or-map, length-map}
 use Rattle.std.proofs.lemmas.List.FromFn.{length-enumerate_from, get_or-enumerate_from}
 use Rattle.lin_description.specs.declared.description.Description.{Description}
@@ -17,6 +18,11 @@ use Rattle.lin_parts.specs.Cluster.{nodes, signal_of, frame_of}
 use Rattle.lin_cluster.specs.Described.{node_names, node_number, signal_number, frame_number, table_number, responder, described_signal, described_frame, parts_of}
 use Rattle.lin_cluster.specs.FindingsNames.{is_node, signal_named, frame_named, table_named, same_name}
 use Rattle.lin_cluster.proofs.Named.{number_by, same-text, text-same, has-text, one-text, any-within, found-within, found-at}
+
+pub alike : (a b : Bool) → (a ≡ true → b ≡ true) → (b ≡ true → a ≡ true) → a ≡ b
+alike true b there back = sym (there refl)
+alike false true there back = back refl
+alike false false there back = refl
 
 abbrev pub no_name : Name
 no_name = record { text = []; line = 0; column = 0 }
@@ -87,6 +93,15 @@ signal_text s = s.name.text
 
 pub same-signal : (d : Description) (p q : PlacedSignal) → signal_number d p.signal < length d.signals → signal_number d p.signal ≡ signal_number d q.signal → same_name p.signal q.signal ≡ true
 same-signal d p q lt same = text-same p.signal.text q.signal.text (one-text signal_text d.signals p.signal.text q.signal.text lt same)
+
+-- where a signal is found, those of its number are those of its name
+pub same-number : (d : Description) (p q : PlacedSignal) → signal_number d p.signal < length d.signals → same_name q.signal p.signal ≡ (signal_number d q.signal == signal_number d p.signal)
+same-number d p q lt =
+    let name = same_name q.signal p.signal
+    in let number = signal_number d q.signal == signal_number d p.signal
+    in alike name number
+    (λ e. eq-eqb (signal_number d q.signal) (signal_number d p.signal) (ap (λ t. number_by signal_text d.signals t) (same-text q.signal.text p.signal.text e)))
+    (λ e. text-same q.signal.text p.signal.text (sym (same-text p.signal.text q.signal.text (same-signal d p q lt (sym (eqb-true (signal_number d q.signal) (signal_number d p.signal) e))))))
 
 -- ---- frames and tables
 

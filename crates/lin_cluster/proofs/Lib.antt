@@ -10,6 +10,7 @@ pub mod DescribedTables
 pub mod Enumerated
 pub mod FindingsLists
 pub mod FindingsMaps
+pub mod FindingsModels
 pub mod FindingsNodes
 pub mod FindingsOrder
 pub mod FindingsPlaces

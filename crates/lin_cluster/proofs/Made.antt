@@ -1,16 +1,18 @@
 -- What is known by facts that were worked out once.
-use Rattle.std.proofs.Common.{◌≡◌, ℕ, Bool, true, false, List, [], ◌∷◌, ◌++◌, take, refl, sym, ap, subst, ◌∙◌, ◌⊎◌}
-use Rattle.std.specs.Prelude.{◌↔◌, Option, Some, None, is_some, is_none, not, ◌==◌, ◌&&◌, ◌||◌, nat_lt, slice_get, option_and_then, if◌then◌else◌}
+use Rattle.std.proofs.Common.{◌≡◌, ℕ, Bool, true, false, List, ◌++◌, take, refl, ap, subst, ◌∙◌, ◌⊎◌}
+use Rattle.std.specs.Prelude.{◌↔◌, Option, Some, None, is_some, is_none, IsSome, not, ◌==◌, ◌&&◌, ◌||◌, slice_get, option_and_then, if◌then◌else◌}
 use Rattle.std.specs.List.{list_any}
 use Rattle.std.specs.Option.{option_map, option_map_or}
 use Rattle.lin_frame.specs.declared.sums.SumKind.{SumKind}
 use Rattle.lin_cluster.specs.Findings.{in_event_member, in_sporadic_member}
-use Rattle.lin_cluster.specs.FindingsFrames.{unknown_signal, wrong_publisher_at, is_outside, outside_at}
-use Rattle.lin_cluster.specs.FindingsMembers.{is_bad_behind, is_wrong_behind, is_mixed_behind, in_member_behind}
-use Rattle.lin_cluster.specs.FindingsNames.{when, knows, at_name, at_number, same_name, is_node, is_any_frame, signal_named, frame_named, carries_frame}
-use Rattle.lin_cluster.specs.FindingsNodes.{node_of, is_number, is_behind_commander, are_two}
+use Rattle.lin_cluster.specs.Places.{wrong_publisher_at, is_outside, outside_at}
+use Rattle.lin_cluster.specs.UnknownNames.{unknown_signal}
+use Rattle.lin_cluster.specs.FindingsMembers.{is_bad_after, is_wrong_after, is_mixed_after, in_member_after}
+use Rattle.lin_cluster.specs.FindingsNames.{when, knows, at_name, at_number, is_any_frame, signal_named, frame_named}
+use Rattle.lin_cluster.specs.FindingsNodes.{node_of, is_number, is_responder_number, are_two}
 use Rattle.lin_cluster.specs.FindingsPlaces.{is_outside_by, in_placed_by}
-use Rattle.lin_cluster.specs.FindingsTables.{is_in_front, is_bad_member, is_wrong_member, is_mixed, is_responders, differs_from_first, has_publisher, size_of, slot_size}
+use Rattle.lin_cluster.specs.Members.{is_in_front, is_bad_member, is_wrong_member}
+use Rattle.lin_cluster.specs.Slots.{size_of}
 use Rattle.lin_cluster.specs.Known.{signal_facts, frame_facts, size_named}
 use Rattle.lin_cluster.specs.Models.{frame_model, model_named, first_model, differ}
 use Rattle.lin_cluster.specs.Names.{or_else}
@@ -23,8 +25,7 @@ use Rattle.lin_description.specs.declared.description.Frame.{Frame}
 use Rattle.lin_description.specs.declared.description.Name.{Name}
 use Rattle.lin_description.specs.declared.description.PlacedSignal.{PlacedSignal}
 use Rattle.lin_description.specs.declared.description.Signal.{Signal}
-use Rattle.lin_description.specs.declared.description.TableEntry.{TableEntry}
-use Rattle.lin_cluster.proofs.FindingsNodes.{publishes, published-same, commanders, behind-commander, wrong-by}
+use Rattle.lin_cluster.proofs.FindingsNodes.{publishes, published-same, commanders, no-commander, wrong-by}
 
 -- ---- tests of what is made of something
 
@@ -42,6 +43,10 @@ map_or_made f t None b = refl
 
 pub knows_made : {A V : Type 0} (f : A → V) (t : V → Bool) (o : Option A) → knows (option_map f o) t ≡ knows o (λ x. t (f x))
 knows_made f t o = map_or_made f t o false
+
+pub some-made : {A V : Type 0} (f : A → V) (o : Option A) → IsSome (option_map f o) → is_some o ≡ true
+some-made f (Some x) h = refl
+some-made f None h = h
 
 value_made : {A V : Type 0} (f : A → V) (x : A) (v : V) → Some v ≡ option_map f (Some x) → v ≡ f x
 value_made f x v h = ap (λ m. option_map_or (λ y. y) m v) h
@@ -71,7 +76,7 @@ bits_same d t old new o m here same = subst (λ b. new ↔ (old ⊎ (b ≡ true)
 -- ---- members of event-triggered frames
 
 bad_same : (d : Description) (members earlier : List Name) (published : ℕ → Bool) (f : Frame) → ((k : ℕ) → published k ≡ publishes d earlier k)
-    → is_bad_behind (option_map (frame_facts d) (option_and_then (frame_named d) (slice_get members 0))) published (frame_facts d f) ≡ is_bad_member d members earlier f
+    → is_bad_after (option_map (frame_facts d) (option_and_then (frame_named d) (slice_get members 0))) published (frame_facts d f) ≡ is_bad_member d members earlier f
 bad_same d members earlier published f so = λ i.
     commanders d f.publisher i
     || published-same d earlier published f.publisher so i
@@ -79,10 +84,10 @@ bad_same d members earlier published f so = λ i.
     || list_any (is_in_front d) f.placed
 
 wrong_same : (d : Description) (members earlier : List Name) (published : ℕ → Bool) (n : Name) → ((k : ℕ) → published k ≡ publishes d earlier k)
-    → is_wrong_behind (option_map (frame_facts d) (option_and_then (frame_named d) (slice_get members 0))) published (is_any_frame d n) (option_map (frame_facts d) (frame_named d n)) ≡ is_wrong_member d members earlier n
+    → is_wrong_after (option_map (frame_facts d) (option_and_then (frame_named d) (slice_get members 0))) published (is_any_frame d n) (option_map (frame_facts d) (frame_named d n)) ≡ is_wrong_member d members earlier n
 wrong_same d members earlier published n so =
     let first : Option FrameFacts = option_map (frame_facts d) (option_and_then (frame_named d) (slice_get members 0)) in
-    ap (λ b. is_any_frame d n && b) (map_or_made (frame_facts d) (is_bad_behind first published) (frame_named d n) true)
+    ap (λ b. is_any_frame d n && b) (map_or_made (frame_facts d) (is_bad_after first published) (frame_named d n) true)
     ∙ (λ i. is_any_frame d n && option_map_or (λ f. bad_same d members earlier published f so i) (frame_named d n) true)
 
 model_same : (d : Description) (m : SumKind) (o : Option Frame) → knows (option_map (frame_facts d) o) (λ g. differ m g.model) ≡ knows (option_map (frame_model d) o) (differ m)
@@ -93,15 +98,15 @@ first_same : (d : Description) (m : SumKind) (o : Option Name) → knows (option
 first_same d m (Some n) = model_same d m (frame_named d n)
 first_same d m None = refl
 
-mixed_by : (d : Description) (members : List Name) (o : Option Frame) → is_mixed_behind (option_map (frame_facts d) (option_and_then (frame_named d) (slice_get members 0))) (option_map (frame_facts d) o) ≡ knows (option_map (frame_model d) o) (λ model. knows (first_model d members) (differ model))
+mixed_by : (d : Description) (members : List Name) (o : Option Frame) → is_mixed_after (option_map (frame_facts d) (option_and_then (frame_named d) (slice_get members 0))) (option_map (frame_facts d) o) ≡ knows (option_map (frame_model d) o) (λ model. knows (first_model d members) (differ model))
 mixed_by d members (Some x) = first_same d (frame_model d x) (slice_get members 0)
 mixed_by d members None = refl
 
 pub member_same : (d : Description) (members : List Name) (i : ℕ) (n : Name) (first m : Option FrameFacts) (published : ℕ → Bool) (known : Bool)
     → first ≡ option_map (frame_facts d) (option_and_then (frame_named d) (slice_get members 0)) → m ≡ option_map (frame_facts d) (frame_named d n) → known ≡ is_any_frame d n
-    → ((k : ℕ) → published k ≡ publishes d (take i members) k) → in_member_behind first published known m n ≡ in_event_member d members (i, n)
+    → ((k : ℕ) → published k ≡ publishes d (take i members) k) → in_member_after first published known m n ≡ in_event_member d members (i, n)
 member_same d members i n first m published known is here there so =
-    (λ j. in_member_behind (is j) published (there j) (here j) n)
+    (λ j. in_member_after (is j) published (there j) (here j) n)
     ∙ (λ j. when (not (is_any_frame d n)) (at_name UnknownName n) ++ when (wrong_same d members (take i members) published n so j) (at_name BadEventFrame n) ++ when (mixed_by d members (frame_named d n) j) (at_name MixedChecksum n))
 
 -- the publisher of a member
@@ -111,11 +116,11 @@ publisher_same d q n m here = ap (λ o. knows o (λ f. is_number q f.publisher))
 -- ---- members of sporadic frames
 
 pub sporadic_same : (d : Description) (n : Name) (m : Option FrameFacts) (known : Bool) → m ≡ option_map (frame_facts d) (frame_named d n) → known ≡ is_any_frame d n
-    → when (not known) (at_name UnknownName n) ++ when (known && option_map_or (λ f. is_behind_commander f.publisher) m true) (at_name BadSporadic n) ≡ in_sporadic_member d n
+    → when (not known) (at_name UnknownName n) ++ when (known && option_map_or (λ f. is_responder_number f.publisher) m true) (at_name BadSporadic n) ≡ in_sporadic_member d n
 sporadic_same d n m known here there =
-    (λ i. when (not (there i)) (at_name UnknownName n) ++ when (there i && option_map_or (λ f. is_behind_commander f.publisher) (here i) true) (at_name BadSporadic n))
-    ∙ (λ i. when (not (is_any_frame d n)) (at_name UnknownName n) ++ when (is_any_frame d n && map_or_made (frame_facts d) (λ f. is_behind_commander f.publisher) (frame_named d n) true i) (at_name BadSporadic n))
-    ∙ (λ i. when (not (is_any_frame d n)) (at_name UnknownName n) ++ when (is_any_frame d n && option_map_or (λ f. behind-commander d f.publisher i) (frame_named d n) true) (at_name BadSporadic n))
+    (λ i. when (not (there i)) (at_name UnknownName n) ++ when (there i && option_map_or (λ f. is_responder_number f.publisher) (here i) true) (at_name BadSporadic n))
+    ∙ (λ i. when (not (is_any_frame d n)) (at_name UnknownName n) ++ when (is_any_frame d n && map_or_made (frame_facts d) (λ f. is_responder_number f.publisher) (frame_named d n) true i) (at_name BadSporadic n))
+    ∙ (λ i. when (not (is_any_frame d n)) (at_name UnknownName n) ++ when (is_any_frame d n && option_map_or (λ f. no-commander d f.publisher i) (frame_named d n) true) (at_name BadSporadic n))
 
 -- ---- slots
 

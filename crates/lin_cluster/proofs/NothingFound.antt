@@ -2,8 +2,10 @@
 use Rattle.std.proofs.Common.{◌≡◌, List, [], ◌++◌}
 use Rattle.std.specs.List.{flat_map}
 use Rattle.lin_cluster.specs.Findings.{IsFree, in_declarations, in_signal, in_frame, in_sporadic, in_event, in_attributes, in_table}
-use Rattle.lin_cluster.specs.FindingsFrames.{bad_ids, ids_twice, bad_nads, nads_twice}
-use Rattle.lin_cluster.specs.FindingsTables.{no_table, limits_passed}
+use Rattle.lin_cluster.specs.Addresses.{bad_nads, nads_twice}
+use Rattle.lin_cluster.specs.Identifiers.{bad_ids, ids_twice}
+use Rattle.lin_cluster.specs.Limits.{limits_passed}
+use Rattle.lin_cluster.specs.Tables.{no_table}
 use Rattle.lin_cluster.specs.declared.finding.Finding.{Finding}
 use Rattle.lin_description.specs.declared.description.Description.{Description}
 use Rattle.lin_cluster.proofs.NothingIn.{nil-parts}

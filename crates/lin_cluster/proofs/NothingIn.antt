@@ -5,7 +5,7 @@ use Rattle.std.specs.List.{flat_map, list_any, enumerate_from, AllZip}
 use Rattle.std.proofs.lemmas.List.Elements.{All-nil, All-cons, All-head, All-tail}
 use Rattle.std.proofs.lemmas.List.Sums.{sum_by-cons, get_or-le-sum_by}
 use Rattle.lin_cluster.specs.FindingsNames.{when}
-use Rattle.lin_cluster.specs.FindingsTables.{past}
+use Rattle.lin_cluster.specs.Limits.{past}
 use Rattle.lin_cluster.specs.declared.finding.Finding.{Finding}
 use Rattle.lin_description.specs.declared.description.Name.{Name}
 
@@ -23,7 +23,7 @@ pub when-nil : (b : Bool) (f : Finding) → when b f ≡ [] → b ≡ false
 when-nil true f e = absurd (cc)
 when-nil false f e = refl
 
--- nothing behind the limit
+-- nothing after the limit
 pub within-limit : {X : Type 0} (name : X → Name) (xs : List X) (n : ℕ) → past name (slice_get xs n) ≡ [] → length xs ≤ n
 within-limit name [] n e = omega arith
 within-limit name (x ∷ xs) zero e = absurd (cc)

@@ -1,5 +1,6 @@
--- The cluster that an LDF description says (LIN 2.2A, section 9). Things of each kind are numbered in file order, and a name
--- means the first that has it. A name that nothing has means the number behind the last; such a description has a finding.
+-- The cluster that an LDF description says (LIN 2.2A, section 9). Things of each kind are numbered
+-- in file order, and a name means the first that has it. A name that nothing has means the number
+-- after the last; such a description has a finding.
 use Rattle.std.specs.Prelude.{ℕ, Bool, List, [], ◌∷◌, length, map, find, slice_index_or, Option, Some, None, option_and_then, ◌==◌, nat_lt, if◌then◌else◌, codes}
 use Rattle.std.specs.List.{list_any, enumerate_from, position_or_len}
 use Rattle.std.specs.Option.{option_map, option_map_or}

@@ -1,10 +1,19 @@
--- What is wrong with a description: what each condition finds, declaration by declaration, in the order of the places.
+-- What is wrong with a description: what each condition finds, declaration by declaration, in the
+-- order of the places.
 use Rattle.std.specs.Prelude.{◌≡◌, ℕ, List, [], ◌++◌, flat_map, IsPermutation, IsSorted}
 use Rattle.std.specs.List.{enumerate_from}
 use Rattle.std.specs.declared.cmp.Ordering.{Ordering}
 use Rattle.std.specs.Ordering.{nat_cmp, ordering_then}
-use Rattle.lin_cluster.specs.FindingsFrames.{unknown_node, unknown_member, unknown_signal, unknown_table, unknown_entry, wrong_publisher_at, bad_ids, ids_twice, bad_signal_size, bad_frame_size, outside_at, overlap_at, bad_init, bad_nads, nads_twice}
-use Rattle.lin_cluster.specs.FindingsTables.{short_slot_at, zero_delay, bad_member_at, bad_sporadic_at, nested_at, empty_table, no_table, long_delay, long_table, limits_passed, mixed_at}
+use Rattle.lin_cluster.specs.Addresses.{bad_nads, nads_twice}
+use Rattle.lin_cluster.specs.Identifiers.{bad_ids, ids_twice}
+use Rattle.lin_cluster.specs.Overlaps.{overlap_at}
+use Rattle.lin_cluster.specs.Places.{wrong_publisher_at, outside_at}
+use Rattle.lin_cluster.specs.Sizes.{bad_signal_size, bad_frame_size, bad_init}
+use Rattle.lin_cluster.specs.UnknownNames.{unknown_node, unknown_member, unknown_signal, unknown_table, unknown_entry}
+use Rattle.lin_cluster.specs.Limits.{long_delay, long_table, limits_passed}
+use Rattle.lin_cluster.specs.Members.{bad_member_at, bad_sporadic_at, mixed_at}
+use Rattle.lin_cluster.specs.Slots.{short_slot_at, zero_delay}
+use Rattle.lin_cluster.specs.Tables.{nested_at, empty_table, no_table}
 use Rattle.lin_cluster.specs.declared.finding.Finding.{Finding}
 use Rattle.lin_description.specs.declared.description.Attributes.{Attributes}
 use Rattle.lin_description.specs.declared.description.Description.{Description}

@@ -1,8 +1,7 @@
--- What is wrong with a member of an event-triggered frame, by the first member and by the numbers of the publishers of those before it.
-use Rattle.std.specs.Prelude.{ℕ, List, ◌++◌, Option, is_some, Bool, true, not, ◌==◌, ◌&&◌, ◌||◌}
+-- What is wrong with a member of an event-triggered frame, by the first member and by the numbers
+-- of the publishers of those before it.
+use Rattle.std.specs.Prelude.{ℕ, List, ◌++◌, Option, Bool, true, not, ◌==◌, ◌&&◌, ◌||◌}
 use Rattle.std.specs.Option.{option_map_or}
-use Rattle.std.specs.Str.{bytes_eq}
-use Rattle.indexmap.specs.IndexMap.{IndexMap, get_by}
 use Rattle.lin_cluster.specs.FindingsNames.{at_name, when, knows}
 use Rattle.lin_cluster.specs.FindingsNodes.{is_number}
 use Rattle.lin_cluster.specs.Models.{differ}
@@ -10,29 +9,24 @@ use Rattle.lin_cluster.specs.declared.finding.Finding.{Finding}
 use Rattle.lin_cluster.specs.declared.finding.FindingKind.TheVariants.{UnknownName, BadEventFrame, MixedChecksum}
 use Rattle.lin_cluster.specs.declared.findings.facts.FrameFacts.{FrameFacts}
 use Rattle.lin_description.specs.declared.description.Name.{Name}
-use denote.Ref.{Bor}
-
--- whether a text is among those of a map
-abbrev pub has_text : {V S : Type 0} → IndexMap (Bor (List ℕ)) V S → List ℕ → Bool
-has_text m q = is_some (get_by (λ k. bytes_eq q k.now) m)
 
 -- by the first member where that is a frame, and whether a node has published a member before it
-abbrev pub is_bad_behind : Option FrameFacts → (ℕ → Bool) → FrameFacts → Bool
-is_bad_behind first published f =
+abbrev pub is_bad_after : Option FrameFacts → (ℕ → Bool) → FrameFacts → Bool
+is_bad_after first published f =
     is_number 0 f.publisher
     || knows f.publisher published
     || knows first (λ g. not (g.size == f.size))
     || f.has_front
 
 -- the same of what a member names, if it is known, where that is a frame
-abbrev pub is_wrong_behind : Option FrameFacts → (ℕ → Bool) → Bool → Option FrameFacts → Bool
-is_wrong_behind first published known m = known && option_map_or (is_bad_behind first published) m true
+abbrev pub is_wrong_after : Option FrameFacts → (ℕ → Bool) → Bool → Option FrameFacts → Bool
+is_wrong_after first published known m = known && option_map_or (is_bad_after first published) m true
 
 -- another checksum model than the first member
-abbrev pub is_mixed_behind : Option FrameFacts → Option FrameFacts → Bool
-is_mixed_behind first m = knows m (λ f. knows first (λ g. differ f.model g.model))
+abbrev pub is_mixed_after : Option FrameFacts → Option FrameFacts → Bool
+is_mixed_after first m = knows m (λ f. knows first (λ g. differ f.model g.model))
 
-abbrev pub in_member_behind : Option FrameFacts → (ℕ → Bool) → Bool → Option FrameFacts → Name → List Finding
-in_member_behind first published known m n =
-    when (not known) (at_name UnknownName n) ++ when (is_wrong_behind first published known m) (at_name BadEventFrame n)
-    ++ when (is_mixed_behind first m) (at_name MixedChecksum n)
+abbrev pub in_member_after : Option FrameFacts → (ℕ → Bool) → Bool → Option FrameFacts → Name → List Finding
+in_member_after first published known m n =
+    when (not known) (at_name UnknownName n) ++ when (is_wrong_after first published known m) (at_name BadEventFrame n)
+    ++ when (is_mixed_after first m) (at_name MixedChecksum n)

@@ -1,4 +1,5 @@
--- What the names in a description name, and where findings stand. A name names the first declaration that has it.
+-- What the names in a description name, and where findings stand. A name names the first
+-- declaration that has it.
 use Rattle.std.specs.Prelude.{List, ◌∷◌, [], codes, find, Option, is_some, Bool, false, not, if◌then◌else◌, ◌&&◌, ◌||◌}
 use Rattle.std.specs.List.{list_any}
 use Rattle.std.specs.Option.{option_map_or}
@@ -73,7 +74,8 @@ knows o test = option_map_or test o false
 abbrev pub is_diagnostic : Name → Bool
 is_diagnostic n = bytes_eq n.text (codes "MasterReq") || bytes_eq n.text (codes "SlaveResp")
 
--- an entry for a frame of one of the three kinds, not a diagnostic one nor one for the configuration of nodes
+-- an entry for a frame of one of the three kinds, not a diagnostic one nor one for the
+-- configuration of nodes
 abbrev pub carries_frame : TableEntry → Bool
 carries_frame e = not e.has_group && not (is_diagnostic e.name)
 

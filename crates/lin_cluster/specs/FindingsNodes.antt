@@ -15,8 +15,8 @@ node_of d n = if is_node d n then Some (node_number d n) else None
 abbrev pub is_number : ℕ → Option ℕ → Bool
 is_number k o = knows o (λ n. n == k)
 
-abbrev pub is_behind_commander : Option ℕ → Bool
-is_behind_commander o = knows o (λ n. nat_lt 0 n)
+abbrev pub is_responder_number : Option ℕ → Bool
+is_responder_number o = knows o (λ n. nat_lt 0 n)
 
 -- two nodes, and not the same
 abbrev pub are_two : Option ℕ → Option ℕ → Bool

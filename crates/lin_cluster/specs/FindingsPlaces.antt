@@ -1,8 +1,6 @@
--- What the signals of a frame take up: their names, and the ranges of their bits.
+-- What the signals of a frame take up: their numbers, and the ranges of their bits.
 use Rattle.std.specs.Prelude.{◌≡◌, ◌<◌, ◌+◌, ◌*◌, ◌%◌, ◌⊎◌, ◌++◌, ℕ, List, Option, is_none, Bool, true, not, ◌&&◌, ◌||◌, ◌==◌, nat_lt}
 use Rattle.std.specs.BTreeMap.{BTreeMap}
-use Rattle.indexmap.specs.IndexMap.{IndexMap}
-use Rattle.lin_cluster.specs.FindingsMembers.{has_text}
 use Rattle.lin_cluster.specs.FindingsNames.{at_name, at_number, when, knows}
 use Rattle.lin_cluster.specs.FindingsNodes.{are_two}
 use Rattle.lin_cluster.specs.FindingsRanges.{Meets}
@@ -11,17 +9,17 @@ use Rattle.lin_cluster.specs.declared.finding.FindingKind.TheVariants.{UnknownNa
 use Rattle.lin_cluster.specs.declared.findings.facts.SignalFacts.{SignalFacts}
 use Rattle.lin_description.specs.declared.description.Frame.{Frame}
 use Rattle.lin_description.specs.declared.description.PlacedSignal.{PlacedSignal}
-use denote.Ref.{Bor}
 
--- a signal of so many bits of which the name is there, or a bit
-abbrev pub IsTaken : {V S : Type 0} → IndexMap (Bor (List ℕ)) V S → BTreeMap ℕ ℕ → PlacedSignal → ℕ → Type 0
-IsTaken names ranges p size = (has_text names p.signal.text ≡ true) ⊎ ((0 < size) × Meets ranges p.offset.value (p.offset.value + size))
+-- a signal of so many bits that is there already, or of which a bit is
+abbrev pub IsTaken : Bool → BTreeMap ℕ ℕ → PlacedSignal → ℕ → Type 0
+IsTaken twice ranges p size = (twice ≡ true) ⊎ ((0 < size) × Meets ranges p.offset.value (p.offset.value + size))
 
 -- whether a signal of so many bits has one of the range from a to b
 abbrev pub lies_in : ℕ → ℕ → PlacedSignal → ℕ → Bool
 lies_in a b q size = nat_lt 0 size && nat_lt a (q.offset.value + size) && nat_lt q.offset.value b
 
--- what is wrong with a signal in a frame, by what is known of the signal and by the number of the frame's publisher
+-- what is wrong with a signal in a frame, by what is known of the signal and by the number of the
+-- frame's publisher
 abbrev pub is_outside_by : Frame → PlacedSignal → SignalFacts → Bool
 is_outside_by f p s = nat_lt (8 * f.size.value) (p.offset.value + s.size) || (s.is_array && not (p.offset.value % 8 == 0))
 

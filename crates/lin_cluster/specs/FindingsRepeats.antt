@@ -1,7 +1,7 @@
 -- The first two of the numbers that have one value, in place of all of them.
 use Rattle.std.specs.Prelude.{◌≡◌, ℕ, List, count_by, Option, Bool, ◌==◌, ◌&&◌, nat_lt, nat_eq}
 use Rattle.indexmap.specs.IndexMap.{IndexMap, get}
-use Rattle.lin_cluster.specs.FindingsFrames.{is_up_to}
+use Rattle.lin_cluster.specs.Identifiers.{is_up_to}
 use Rattle.lin_cluster.specs.FindingsNames.{knows}
 use Rattle.lin_cluster.specs.declared.findings.repeats.Uses.{Uses}
 use Rattle.lin_description.specs.declared.description.Number.{Number}

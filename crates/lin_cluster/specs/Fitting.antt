@@ -1,4 +1,5 @@
--- When the numbers of a description fit the types of a cluster's parts, as they do where nothing is found.
+-- When the numbers of a description fit the types of a cluster's parts, as they do where nothing is
+-- found.
 use Rattle.std.specs.Prelude.{ℕ, ◌<◌, ◌≤◌, ◌^◌, length, All, IfSome}
 use Rattle.lin_description.specs.declared.description.Description.{Description}
 use Rattle.lin_description.specs.declared.description.Frame.{Frame}

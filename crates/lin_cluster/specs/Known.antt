@@ -1,12 +1,14 @@
--- What is known of a description: its declarations, found by their names, and what is worked out of each of them once.
+-- What is known of a description: its declarations, found by their names, and what is worked out of
+-- each of them once.
 use Rattle.std.specs.Prelude.{◌≡◌, ℕ, List, Option, Bool, map}
 use Rattle.std.specs.List.{list_any}
 use Rattle.std.specs.Option.{option_map}
 use Rattle.lin_cluster.specs.FindingsNames.{frame_named, sporadic_named, event_named, is_event_entry}
 use Rattle.lin_cluster.specs.FindingsNodes.{node_of}
-use Rattle.lin_cluster.specs.FindingsFrames.{is_array}
-use Rattle.lin_cluster.specs.FindingsTables.{good_size, greatest_size, first_size, is_in_front}
-use Rattle.lin_cluster.specs.Models.{has_lin_1, frame_model}
+use Rattle.lin_cluster.specs.Sizes.{is_array}
+use Rattle.lin_cluster.specs.Members.{is_in_front}
+use Rattle.lin_cluster.specs.Slots.{good_size, greatest_size, first_size}
+use Rattle.lin_cluster.specs.Models.{has_version_1, has_lin_1, frame_model}
 use Rattle.lin_cluster.specs.Names.{or_else}
 use Rattle.lin_cluster.specs.declared.findings.facts.FrameFacts.{FrameFacts}
 use Rattle.lin_cluster.specs.declared.findings.facts.SignalFacts.{SignalFacts}
@@ -19,11 +21,12 @@ use Rattle.lin_description.specs.declared.description.Signal.{Signal}
 use Rattle.lin_description.specs.declared.description.Sporadic.{Sporadic}
 use Rattle.lin_description.specs.declared.description.Table.{Table}
 
--- the lists by whose names things are found are those of the description
-abbrev pub IsKnown : Description → List Name → List Signal → List Frame → List Sporadic → List EventFrame → List Table → List Attributes → Type 0
-IsKnown d slaves signals frames sporadic events tables blocks =
+-- the lists by whose names things are found are those of the description, and whether a node of LIN
+-- 1.x may be there is known
+abbrev pub IsKnown : Description → List Name → List Signal → List Frame → List Sporadic → List EventFrame → List Table → List Attributes → Bool → Type 0
+IsKnown d slaves signals frames sporadic events tables blocks told =
     (slaves ≡ d.slaves) × (signals ≡ d.signals) × (frames ≡ d.frames) × (sporadic ≡ d.sporadic) × (events ≡ d.events) × (tables ≡ d.tables)
-    × (blocks ≡ d.attributes)
+    × (blocks ≡ d.attributes) × (told ≡ has_version_1 d)
 
 -- what is asked of a signal wherever a frame places it
 abbrev pub signal_facts : Description → Signal → SignalFacts

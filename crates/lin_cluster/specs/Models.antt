@@ -1,4 +1,5 @@
--- Which frames have the classic checksum: those that a node of LIN 1.x sends or reads, since it knows no other (LIN 2.2A, section 2.3.1.5).
+-- Which frames have the classic checksum: those that a node of LIN 1.x sends or reads, since it
+-- knows no other (LIN 2.2A, section 2.3.1.5).
 use Rattle.std.specs.Prelude.{ℕ, List, Option, find, slice_get, codes, Bool, true, false, if◌then◌else◌, ◌&&◌, ◌||◌, nat_eq, option_and_then}
 use Rattle.std.specs.List.{list_any, starts_with}
 use Rattle.std.specs.Option.{option_map}
@@ -18,6 +19,10 @@ is_version_1 version = starts_with nat_eq version (codes "1.")
 
 abbrev pub tells_version_1 : Attributes → Bool
 tells_version_1 a = knows a.protocol is_version_1
+
+-- whether any block of attributes tells one
+abbrev pub has_version_1 : Description → Bool
+has_version_1 d = list_any tells_version_1 d.attributes
 
 -- the first block of attributes with this name
 abbrev pub block_named : Description → Name → Option Attributes

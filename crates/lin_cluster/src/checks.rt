@@ -1,15 +1,17 @@
 //! The check of a description: the cluster that it says, or all that is wrong with it.
 
-ghost use Rattle.std.specs.Prelude.{◌≡◌, IfErr, IfOk};
+ghost use Rattle.std.specs.Prelude.{◌≡◌, map, IfErr, IfOk};
 ghost use Rattle.lin_cluster.specs.Checks.{IsFaultOf};
 ghost use Rattle.lin_cluster.specs.Described.{parts_of};
 ghost use Rattle.lin_cluster.specs.Findings.{AreFindings, IsFree};
+ghost use Rattle.lin_cluster.specs.Models.{frame_model};
 ghost use Rattle.lin_cluster.specs.declared.finding.CheckFault.TheVariants.{OutOfMemory};
 
 use crate::described::parts_of;
 use crate::finding::{CheckFault, Finding};
-use crate::findings::findings;
+use crate::findings::{Examined, examine};
 use lin_description::Description;
+use lin_frame::SumKind;
 use lin_lists::Many;
 use lin_parts::Cluster;
 use std::alloc::{AllocError, Global};
@@ -23,11 +25,16 @@ impl From<AllocError> for CheckFault {
 }
 
 // The cluster of a description in which nothing is found.
-fn cluster_of(alloc: Global, description: &Description) -> Result<Cluster, AllocError>
-    requires { IsFree description.now }
+fn cluster_of(
+    alloc: Global,
+    description: &Description,
+    models: &[SumKind],
+) -> Result<Cluster, AllocError>
+    requires free { IsFree description.now }
+    requires models { models.now ≡ map (frame_model description.now) description.now.frames }
     ensures { IfOk result (λ cluster. cluster ≡ parts_of description.now) }
 {
-    Cluster::new(alloc, parts_of(alloc, description)?)
+    Cluster::new(alloc, parts_of(alloc, description, models)?)
 }
 
 // What is answered where this is all that is found.
@@ -35,13 +42,15 @@ fn answer_to(
     alloc: Global,
     description: &Description,
     found: Vec<Finding>,
+    models: &[SumKind],
 ) -> Result<Cluster, CheckFault>
-    requires { AreFindings description.now found.items }
+    requires found { AreFindings description.now found.items }
+    requires models { models.now ≡ map (frame_model description.now) description.now.frames }
     ensures ok { IfOk result (λ cluster. IsFree description.now × (cluster ≡ parts_of description.now)) }
     ensures findings { IfErr result (IsFaultOf description.now) }
 {
     if found.as_slice().is_empty() {
-        return Ok(cluster_of(alloc, description)?);
+        return Ok(cluster_of(alloc, description, models)?);
     }
     Err(CheckFault::Findings(Many::new(found)))
 }
@@ -49,12 +58,12 @@ fn answer_to(
 /// The cluster that a description says, where nothing is wrong with it (LIN 2.2A, section 9).
 ///
 /// # Errors
-/// All that is wrong, by place and then by number; or want of memory, which says nothing of the description. The description is
-/// used up either way.
+/// All that is wrong, by place and then by number; or out of memory, which says nothing of the
+/// description. The description is used up either way.
 pub fn check(alloc: Global, description: Description) -> Result<Cluster, CheckFault>
     ensures ok { IfOk result (λ cluster. IsFree description × (cluster ≡ parts_of description)) }
     ensures findings { IfErr result (IsFaultOf description) }
 {
-    let found = findings(alloc, &description)?;
-    answer_to(alloc, &description, found)
+    let Examined { found, models } = examine(alloc, &description)?;
+    answer_to(alloc, &description, found, models.as_slice())
 }

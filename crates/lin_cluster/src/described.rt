@@ -1,12 +1,14 @@
-//! The cluster that an LDF description says: a function for each kind of part. These are called where nothing was found, so that
-//! every number fits; names are looked up one by one, since a cluster's limits are small.
+//! The cluster that an LDF description says: a function for each kind of part. These are called
+//! where nothing was found, so that every number fits; names are looked up one by one, since a
+//! cluster's limits are small.
 
-ghost use Rattle.std.specs.Prelude.{◌≡◌, IfOk, OnOk};
+ghost use Rattle.std.specs.Prelude.{◌≡◌, map, IfOk, OnOk};
 ghost use Rattle.lin_cluster.specs.Described.{parts_of};
 ghost use Rattle.lin_cluster.specs.Fitting.{FitsParts, HasMembers};
+ghost use Rattle.lin_cluster.specs.Models.{frame_model};
 
-use crate::findings::models_of;
 use lin_description::Description;
+use lin_frame::SumKind;
 use lin_parts::Parts;
 use std::alloc::{AllocError, Global};
 
@@ -16,22 +18,26 @@ mod numbers;
 mod signals;
 mod tables;
 
-/// The parts of the cluster that a description says; an error is want of memory. With them its caller knows that no list of names
-/// is empty.
-pub(crate) fn parts_of(alloc: Global, d: &Description) -> Result<Parts, AllocError>
-    requires { FitsParts d.now }
+/// The parts of the cluster that a description says; an error is out of memory. With them its
+/// caller knows that no list of names is empty.
+pub(crate) fn parts_of(
+    alloc: Global,
+    d: &Description,
+    models: &[SumKind],
+) -> Result<Parts, AllocError>
+    requires fits { FitsParts d.now }
+    requires models { models.now ≡ map (frame_model d.now) d.now.frames }
     ensures parts { IfOk result (λ parts. parts ≡ parts_of d.now) }
     ensures members { OnOk result (HasMembers d.now) }
 {
     let signals = signals::signals_of(alloc, d, d.signals())?;
-    let models = models_of(alloc, d)?;
-    let frames = frames::frames_of(alloc, d, signals.as_slice(), models.as_slice(), d.frames())?;
+    let frames = frames::frames_of(alloc, d, signals.as_slice(), models, d.frames())?;
     Ok(Parts {
         nodes: nodes::nodes_of(alloc, d, d.slaves())?,
         signals,
         frames,
         sporadic: frames::sporadic_frames_of(alloc, d, d.sporadic())?,
-        events: frames::events_of(alloc, d, models.as_slice(), d.events())?,
+        events: frames::events_of(alloc, d, models, d.events())?,
         tables: tables::tables_of(alloc, d, d.tables())?,
     })
 }

@@ -79,8 +79,9 @@ impl fmt::Display for FindingKind {
     }
 }
 
-/// What is wrong, and where: the finding's number (1 to 18), line and column, and for a slot that is too short (9) the time in
-/// microseconds that it needs; otherwise 0. Findings are ordered by place, then by number.
+/// What is wrong, and where: the finding's number (1 to 18), line and column, and for a slot that
+/// is too short (9) the time in microseconds that it needs; otherwise 0. Findings are ordered by
+/// place, then by number.
 #[derive(Clone, Copy, Debug, PartialEq, Eq, PartialOrd, Ord)]
 pub struct Finding {
     pub line: u64,
@@ -133,7 +134,7 @@ impl Finding {
     }
 }
 
-/// Why a description gives no cluster: all that is wrong with it, or want of memory.
+/// Why a description gives no cluster: all that is wrong with it, or out of memory.
 #[derive(Debug, Drop)]
 pub enum CheckFault {
     Findings(Many<Finding>),

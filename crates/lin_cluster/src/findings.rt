@@ -26,17 +26,22 @@ ghost use Rattle.lin_cluster.specs.Models.{frame_model};
 use crate::finding::Finding;
 use addresses::bad_addresses;
 use declarations::in_declarations;
-use facts::Signals;
 use identifiers::bad_identifiers;
 use judged::Judged;
 use known::Known;
 use limits::limits_passed;
 use lin_description::Description;
 use lin_frame::SumKind;
-use std::alloc::{AllocError, Global};
 pub use slots::needed_us;
+use std::alloc::{AllocError, Global};
 use tables::no_table;
-use walk::made_of_each;
+
+/// All that is wrong with a description, and the checksum model of each of its frames.
+#[derive(Drop)]
+pub(crate) struct Examined {
+    pub(crate) found: Vec<Finding>,
+    pub(crate) models: Vec<SumKind>,
+}
 
 fn gathered(alloc: Global, judged: &Judged) -> Result<Vec<Finding>, AllocError>
     ensures { IfOk result (λ found. found.items ≡ candidates judged.now) }
@@ -51,20 +56,31 @@ fn gathered(alloc: Global, judged: &Judged) -> Result<Vec<Finding>, AllocError>
     Ok(found)
 }
 
-fn of_known(alloc: Global, known: &Known) -> Result<Vec<Finding>, AllocError>
-    ensures { IfOk result (λ found. found.items ≡ candidates known.now) }
+fn of_judged(alloc: Global, judged: &Judged) -> Result<Examined, AllocError>
+    ensures found { IfOk result (λ x. x.found.items ≡ candidates judged.now) }
+    ensures models { IfOk result (λ x. x.models.items ≡ map (frame_model judged.now) judged.now.frames) }
 {
-    let judged = Judged::new(alloc, known)?;
-    let found = gathered(alloc, &judged)?;
-    Ok(found)
+    let found = gathered(alloc, judged)?;
+    let models = judged.models()?;
+    Ok(Examined { found, models })
 }
 
-fn unordered(alloc: Global, description: &Description) -> Result<Vec<Finding>, AllocError>
-    ensures { IfOk result (λ found. found.items ≡ candidates description.now) }
+fn of_known(alloc: Global, known: &Known) -> Result<Examined, AllocError>
+    ensures found { IfOk result (λ x. x.found.items ≡ candidates known.now) }
+    ensures models { IfOk result (λ x. x.models.items ≡ map (frame_model known.now) known.now.frames) }
+{
+    let judged = Judged::new(alloc, known)?;
+    let examined = of_judged(alloc, &judged)?;
+    Ok(examined)
+}
+
+fn unordered(alloc: Global, description: &Description) -> Result<Examined, AllocError>
+    ensures found { IfOk result (λ x. x.found.items ≡ candidates description.now) }
+    ensures models { IfOk result (λ x. x.models.items ≡ map (frame_model description.now) description.now.frames) }
 {
     let known = Known::new(alloc, description)?;
-    let found = of_known(alloc, &known)?;
-    Ok(found)
+    let examined = of_known(alloc, &known)?;
+    Ok(examined)
 }
 
 fn sort(found: &mut Vec<Finding>) -> Result<(), AllocError>
@@ -74,39 +90,22 @@ fn sort(found: &mut Vec<Finding>) -> Result<(), AllocError>
     found.sort()
 }
 
-fn ordered(alloc: Global, description: &Description) -> Result<Vec<Finding>, AllocError>
-    ensures { IfOk result (λ found. AreFindings description.now found.items) }
+fn ordered(alloc: Global, description: &Description) -> Result<Examined, AllocError>
+    ensures found { IfOk result (λ x. AreFindings description.now x.found.items) }
+    ensures models { IfOk result (λ x. x.models.items ≡ map (frame_model description.now) description.now.frames) }
 {
-    let mut found = unordered(alloc, description)?;
+    let Examined { mut found, models } = unordered(alloc, description)?;
     sort(&mut found)?;
-    Ok(found)
+    Ok(Examined { found, models })
 }
 
-fn models_of_known(alloc: Global, known: &Known) -> Result<Vec<SumKind>, AllocError>
-    ensures { IfOk result (λ v. v.items ≡ map (frame_model known.now) known.now.frames) }
+/// All that is wrong with a description, by place and number, and no other list is that; and the
+/// checksum model of each frame. An error is out of memory.
+pub(crate) fn examine(alloc: Global, description: &Description) -> Result<Examined, AllocError>
+    ensures all { IfOk result (λ x. AreFindings description.now x.found.items) }
+    ensures only { IfOk result (λ x. (found : List Finding) → AreFindings description.now found → x.found.items ≡ found) }
+    ensures models { IfOk result (λ x. x.models.items ≡ map (frame_model description.now) description.now.frames) }
 {
-    let signals = Signals::new(alloc, known)?;
-    let models = made_of_each(alloc, &signals, known.description().frames())?;
-    Ok(models)
-}
-
-/// The checksum model of each frame; an error is want of memory.
-pub(crate) fn models_of(
-    alloc: Global,
-    description: &Description,
-) -> Result<Vec<SumKind>, AllocError>
-    ensures { IfOk result (λ v. v.items ≡ map (frame_model description.now) description.now.frames) }
-{
-    let known = Known::new(alloc, description)?;
-    let models = models_of_known(alloc, &known)?;
-    Ok(models)
-}
-
-/// All that is wrong with a description, by place and number, and no other list is that; an error is want of memory.
-pub(crate) fn findings(alloc: Global, description: &Description) -> Result<Vec<Finding>, AllocError>
-    ensures all { IfOk result (λ found. AreFindings description.now found.items) }
-    ensures only { IfOk result (λ answer. (found : List Finding) → AreFindings description.now found → answer.items ≡ found) }
-{
-    let found = ordered(alloc, description)?;
-    Ok(found)
+    let examined = ordered(alloc, description)?;
+    Ok(examined)
 }

@@ -1,4 +1,5 @@
-//! The check of a description: all that is wrong with it, or the LIN cluster that it says (LIN 2.2A, section 9).
+//! The check of a description: all that is wrong with it, or the LIN cluster that it says (LIN
+//! 2.2A, section 9).
 //!
 //! ```
 //! // a cluster, or all findings

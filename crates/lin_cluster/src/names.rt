@@ -1,4 +1,5 @@
-//! What has a name, and the numbers of names: that of the first declaration that has the name, or the one behind the last.
+//! What has a name, and the numbers of names: that of the first declaration that has the name, or
+//! the one after the last.
 
 ghost use Rattle.std.specs.Prelude.{◌≡◌, List, ℕ, OnOk, IfOk, Some, None, find, if◌then◌else◌};
 ghost use Rattle.std.specs.List.{position_or_len};
@@ -9,7 +10,7 @@ ghost use Rattle.lin_cluster.specs.FindingsNames.{same_name};
 ghost use Rattle.lin_cluster.specs.Names.{or_else, NumbersFirst};
 
 use indexmap::IndexMap;
-use lin_description::{Attributes, EventFrame, Frame, Name, Signal, Sporadic, Table, TableEntry};
+use lin_description::{Attributes, Name};
 use std::alloc::{AllocError, Global};
 use std::marker::Model;
 
@@ -28,54 +29,6 @@ impl Named for Name {
 
     fn name(&self) -> &Name {
         self
-    }
-}
-
-impl Named for Signal {
-    ghost name_of = { λ s. s.name };
-
-    fn name(&self) -> &Name {
-        &self.name
-    }
-}
-
-impl Named for Frame {
-    ghost name_of = { λ f. f.name };
-
-    fn name(&self) -> &Name {
-        &self.name
-    }
-}
-
-impl Named for Sporadic {
-    ghost name_of = { λ f. f.name };
-
-    fn name(&self) -> &Name {
-        &self.name
-    }
-}
-
-impl Named for EventFrame {
-    ghost name_of = { λ e. e.name };
-
-    fn name(&self) -> &Name {
-        &self.name
-    }
-}
-
-impl Named for Table {
-    ghost name_of = { λ t. t.name };
-
-    fn name(&self) -> &Name {
-        &self.name
-    }
-}
-
-impl Named for TableEntry {
-    ghost name_of = { λ e. e.name };
-
-    fn name(&self) -> &Name {
-        &self.name
     }
 }
 
@@ -142,7 +95,7 @@ impl<'a, T: Named> Drop for ByName<'a, T> {
 }
 
 impl<'a, T: Named> ByName<'a, T> {
-    /// Each name is looked at once; an error is want of memory.
+    /// Each name is looked at once; an error is out of memory.
     pub(crate) fn new(alloc: Global, all: &'a [T]) -> Result<ByName<'a, T>, AllocError>
         ensures { IfOk result (λ b. b ≡ all.now) }
     {
@@ -150,7 +103,7 @@ impl<'a, T: Named> ByName<'a, T> {
         Ok(ByName { all, numbers })
     }
 
-    /// The number of the first that has the name, or the one behind the last.
+    /// The number of the first that has the name, or the one after the last.
     pub(crate) fn number(&self, name: &Name) -> usize
         ensures { result ≡ position_or_len (λ x. same_name (T.name_of x) name.now) self.now }
     {

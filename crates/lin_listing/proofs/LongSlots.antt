@@ -16,7 +16,7 @@ use Rattle.lin_description.specs.declared.description.TableEntry.{TableEntry}
 use Rattle.lin_cluster.specs.Described.{described_entry, described_event, described_line, described_table, event_number, frame_number, members_of, parts_of, sporadic_number}
 use Rattle.lin_cluster.specs.Findings.{IsFree}
 use Rattle.lin_cluster.specs.FindingsNames.{carries_frame, event_named, frame_named, is_any_frame, sporadic_named, at_name}
-use Rattle.lin_cluster.specs.FindingsTables.{first_size, frame_size, good_size, greatest_size, is_speed, needed_us, slot_size}
+use Rattle.lin_cluster.specs.Slots.{first_size, frame_size, good_size, greatest_size, is_speed, needed_us, slot_size}
 use Rattle.lin_cluster.specs.declared.finding.Finding.{Finding}
 use Rattle.lin_cluster.specs.declared.finding.FindingKind.TheVariants.{SlotTooShort}
 use Rattle.lin_cluster.proofs.DescribedEvents.{found-number, part-size}

@@ -3,7 +3,7 @@ use Rattle.std.specs.Prelude.{◌≡◌, ◌≤◌, All, ℕ, ◌+◌, ◌-◌, 
 use Rattle.std.specs.Fmt.{decimal}
 use Rattle.lin_cluster.specs.Described.{parts_of}
 use Rattle.lin_cluster.specs.Findings.{IsFree}
-use Rattle.lin_cluster.specs.FindingsTables.{needed_us}
+use Rattle.lin_cluster.specs.Slots.{needed_us}
 use Rattle.lin_description.specs.declared.description.Description.{Description}
 use Rattle.lin_frame.specs.Words.{numbers}
 use Rattle.lin_parts.specs.Cluster.{event_of, frame_of, line_of, named_table, sporadic_of, table_of}

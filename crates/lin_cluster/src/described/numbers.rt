@@ -1,4 +1,4 @@
-//! The numbers of names: that of the first that has the name, or the one behind the last.
+//! The numbers of names: that of the first that has the name, or the one after the last.
 
 ghost use Rattle.std.specs.Prelude.{◌≡◌, ◌≤◌, length};
 ghost use Rattle.std.specs.List.{position_or_len};

@@ -3,7 +3,7 @@
 ghost use Rattle.std.specs.Prelude.{◌≡◌, ◌++◌, OnOk, IfOk, nat_eq};
 ghost use Rattle.std.specs.List.{flat_map, filter_map, enumerate_from};
 ghost use Rattle.indexmap.specs.IndexSet.{contains};
-ghost use Rattle.lin_cluster.specs.FindingsFrames.{address, bad_nads, nad_twice, nads_twice};
+ghost use Rattle.lin_cluster.specs.Addresses.{address, bad_nads, nad_twice, nads_twice};
 ghost use Rattle.lin_cluster.specs.FindingsNames.{at_number, when};
 ghost use Rattle.lin_cluster.specs.declared.finding.FindingKind.TheVariants.{NadTwice};
 
@@ -38,7 +38,7 @@ fn addresses(alloc: Global, known: &Known, blocks: &[Attributes]) -> Result<Vec<
 struct EachAddress;
 
 impl Finds<Number> for EachAddress {
-    ghost use Rattle.lin_cluster.specs.FindingsFrames.{bad_nad};
+    ghost use Rattle.lin_cluster.specs.Addresses.{bad_nad};
 
     ghost finds = { λ addresses nad. bad_nad nad };
 

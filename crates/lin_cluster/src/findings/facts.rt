@@ -3,21 +3,23 @@
 ghost use Rattle.std.specs.Prelude.{◌≡◌, IfOk, slice_get};
 ghost use Rattle.std.specs.List.{list_any};
 ghost use Rattle.std.specs.Option.{option_map};
+ghost use Rattle.lin_cluster.specs.Described.{signal_number};
 ghost use Rattle.lin_cluster.specs.FindingsNames.{signal_named};
-ghost use Rattle.lin_cluster.specs.FindingsTables.{is_in_front};
+ghost use Rattle.lin_cluster.specs.Members.{is_in_front};
 ghost use Rattle.lin_cluster.specs.Known.{signal_facts};
-ghost use Rattle.lin_cluster.specs.Models.{has_lin_1, carries_to_lin_1, is_classic};
+ghost use Rattle.lin_cluster.specs.Models.{is_lin_1, has_lin_1, carries_to_lin_1, is_classic, frame_model};
 
 use super::known::Known;
 use super::sizes::is_array;
 use super::walk::{Makes, made_of_each};
+use crate::names::Named;
 use lin_description::{Frame, Name, PlacedSignal, Signal};
 use lin_frame::SumKind;
 use std::alloc::{AllocError, Global};
 use std::marker::Model;
 
-/// What is asked of a signal wherever a frame places it: its size in bits, the number of the node that publishes it, where
-/// there is one, and whether a node of LIN 1.x subscribes it.
+/// What is asked of a signal wherever a frame places it: its size in bits, the number of the node
+/// that publishes it, where there is one, and whether a node of LIN 1.x subscribes it.
 #[derive(Clone, Copy)]
 pub(super) struct SignalFacts {
     pub(super) size: u32,
@@ -26,8 +28,9 @@ pub(super) struct SignalFacts {
     pub(super) is_read_by_lin_1: bool,
 }
 
-/// What is asked of a frame wherever a member or an entry names it: its size in bytes, the number of the node that publishes
-/// it, where there is one, whether a signal begins in its data byte 0, and its checksum model.
+/// What is asked of a frame wherever a member or an entry names it: its size in bytes, the number
+/// of the node that publishes it, where there is one, whether a signal begins in its data byte 0,
+/// and its checksum model.
 #[derive(Clone, Copy)]
 pub(super) struct FrameFacts {
     pub(super) size: u32,
@@ -46,14 +49,26 @@ pub(super) fn at<V: Copy>(values: &[V], number: usize) -> Option<V>
     }
 }
 
+fn are_any_lin_1(known: &Known, nodes: &[Name]) -> bool
+    ensures { result ≡ list_any (is_lin_1 known.now) nodes.now }
+{
+    nodes.iter().any(|node| known.is_lin_1(node))
+}
+
+// Where no version of LIN 1.x is told, the subscribers aren't looked up.
+#[tactic(auto, using(crate::proofs::FindingsModels::untold_signal))]
 fn has_lin_1(known: &Known, signal: &Signal) -> bool
     ensures { result ≡ has_lin_1 known.now signal.now }
 {
-    signal
-        .subscribers
-        .as_slice()
-        .iter()
-        .any(|node| known.is_lin_1(node))
+    known.has_version_1() && are_any_lin_1(known, signal.subscribers.as_slice())
+}
+
+impl Named for Signal {
+    ghost name_of = { λ s. s.name };
+
+    fn name(&self) -> &Name {
+        &self.name
+    }
 }
 
 impl<'a> Makes<Signal, SignalFacts> for Known<'a> {
@@ -99,7 +114,7 @@ impl<'k, 'a> Drop for Signals<'k, 'a> {
 }
 
 impl<'k, 'a> Signals<'k, 'a> {
-    /// An error is want of memory.
+    /// An error is out of memory.
     pub(super) fn new(alloc: Global, known: &'k Known<'a>) -> Result<Signals<'k, 'a>, AllocError>
         ensures { IfOk result (λ s. s ≡ known.now) }
     {
@@ -113,11 +128,20 @@ impl<'k, 'a> Signals<'k, 'a> {
         self.known
     }
 
-    /// The facts of the signal with this name, where there is one.
-    pub(super) fn named(&self, name: &Name) -> Option<SignalFacts>
+    /// The number of the signal with this name, or the one after the last, and the facts of the
+    /// signal, where there is one.
+    pub(super) fn numbered(&self, name: &Name) -> (usize, Option<SignalFacts>)
+        ensures number { result.0 ≡ signal_number self.now name.now }
+        ensures facts { result.1 ≡ option_map (signal_facts self.now) (signal_named self.now name.now) }
+    {
+        let number = self.known.signal_number(name);
+        (number, at(self.facts.as_slice(), number))
+    }
+
+    fn named(&self, name: &Name) -> Option<SignalFacts>
         ensures { result ≡ option_map (signal_facts self.now) (signal_named self.now name.now) }
     {
-        at(self.facts.as_slice(), self.known.signal_number(name))
+        self.numbered(name).1
     }
 
     fn is_in_front(&self, placed: &PlacedSignal) -> bool
@@ -149,10 +173,29 @@ impl<'k, 'a> Signals<'k, 'a> {
             .any(|placed| self.carries_to_lin_1(placed))
     }
 
-    fn is_classic(&self, frame: &Frame) -> bool
+    // A frame with a node of LIN 1.x at one of its ends.
+    fn joins_lin_1(&self, frame: &Frame) -> bool
         ensures { result ≡ is_classic self.now frame.now }
     {
         self.known().is_lin_1(&frame.publisher) || self.carry_to_lin_1(frame.placed.as_slice())
+    }
+
+    // Where no version of LIN 1.x is told, the signals aren't looked up.
+    #[tactic(auto, using(crate::proofs::FindingsModels::untold_frame))]
+    fn is_classic(&self, frame: &Frame) -> bool
+        ensures { result ≡ is_classic self.now frame.now }
+    {
+        self.known().has_version_1() && self.joins_lin_1(frame)
+    }
+
+    fn model(&self, frame: &Frame) -> SumKind
+        ensures { result ≡ frame_model self.now frame.now }
+    {
+        if self.is_classic(frame) {
+            SumKind::Classic
+        } else {
+            SumKind::Enhanced
+        }
     }
 
     fn has_front(&self, frame: &Frame) -> bool
@@ -163,17 +206,11 @@ impl<'k, 'a> Signals<'k, 'a> {
     }
 }
 
-impl<'k, 'a> Makes<Frame, SumKind> for Signals<'k, 'a> {
-    ghost use Rattle.lin_cluster.specs.Models.{frame_model};
+impl Named for Frame {
+    ghost name_of = { λ f. f.name };
 
-    ghost makes = { frame_model };
-
-    fn make(&self, frame: &Frame) -> SumKind {
-        if self.is_classic(frame) {
-            SumKind::Classic
-        } else {
-            SumKind::Enhanced
-        }
+    fn name(&self) -> &Name {
+        &self.name
     }
 }
 
@@ -183,12 +220,11 @@ impl<'k, 'a> Makes<Frame, FrameFacts> for Signals<'k, 'a> {
     ghost makes = { frame_facts };
 
     fn make(&self, frame: &Frame) -> FrameFacts {
-        let model: SumKind = self.make(frame);
         FrameFacts {
             size: frame.size.value,
             publisher: self.known().node(&frame.publisher),
             has_front: self.has_front(frame),
-            model,
+            model: self.model(frame),
         }
     }
 }

@@ -1,7 +1,7 @@
 //! Bad identifier (3) and identifier twice (4), of frames and of event-triggered frames.
 
 ghost use Rattle.std.specs.Prelude.{◌≡◌, ◌++◌, OnOk, IfOk, map};
-ghost use Rattle.lin_cluster.specs.FindingsFrames.{ids, bad_ids, ids_twice};
+ghost use Rattle.lin_cluster.specs.Identifiers.{ids, bad_ids, ids_twice};
 
 use super::known::Known;
 use super::repeats::Repeats;
@@ -25,7 +25,7 @@ fn ids_of(alloc: Global, frames: &[Frame], events: &[EventFrame]) -> Result<Vec<
 struct EachIdentifier;
 
 impl Finds<Number> for EachIdentifier {
-    ghost use Rattle.lin_cluster.specs.FindingsFrames.{bad_id};
+    ghost use Rattle.lin_cluster.specs.Identifiers.{bad_id};
 
     ghost finds = { λ identifiers id. bad_id id };
 
@@ -35,7 +35,7 @@ impl Finds<Number> for EachIdentifier {
 }
 
 impl Finds<Number> for Repeats {
-    ghost use Rattle.lin_cluster.specs.FindingsFrames.{id_twice};
+    ghost use Rattle.lin_cluster.specs.Identifiers.{id_twice};
 
     ghost finds = { id_twice };
 

@@ -1,17 +1,20 @@
 //! What is known of the names of a description, and of what they name.
 
-ghost use Rattle.std.specs.Prelude.{◌≡◌, ◌&&◌, IfOk, not, is_some};
+ghost use Rattle.std.specs.Prelude.{◌≡◌, ◌&&◌, IfOk, map, not, is_some};
 ghost use Rattle.std.specs.List.{list_any};
 ghost use Rattle.std.specs.Option.{option_map};
 ghost use Rattle.lin_cluster.specs.FindingsNames.{frame_named, sporadic_named, event_named, table_named, is_any_frame, is_event_entry, carries_frame};
-ghost use Rattle.lin_cluster.specs.FindingsTables.{greatest_size, first_size, slot_size};
+ghost use Rattle.lin_cluster.specs.Slots.{greatest_size, first_size, slot_size};
 ghost use Rattle.lin_cluster.specs.Known.{frame_facts, size_named};
+ghost use Rattle.lin_cluster.specs.Models.{frame_model};
 
 use super::facts::{FrameFacts, Signals, at};
 use super::known::{Known, carries_frame};
 use super::slots::{first_size, good_size, greatest_size};
 use super::walk::{Makes, made_of_each};
+use crate::names::Named;
 use lin_description::{EventFrame, Name, Sporadic, Table, TableEntry};
+use lin_frame::SumKind;
 use std::alloc::{AllocError, Global};
 use std::marker::Model;
 
@@ -22,8 +25,16 @@ struct Sizes {
     events: Vec<Option<u32>>,
 }
 
+impl Named for Sporadic {
+    ghost name_of = { λ f. f.name };
+
+    fn name(&self) -> &Name {
+        &self.name
+    }
+}
+
 impl<'a> Makes<Sporadic, Option<u32>> for Known<'a> {
-    ghost use Rattle.lin_cluster.specs.FindingsTables.{greatest_size};
+    ghost use Rattle.lin_cluster.specs.Slots.{greatest_size};
 
     ghost makes = { λ d f. greatest_size d f.members };
 
@@ -32,13 +43,29 @@ impl<'a> Makes<Sporadic, Option<u32>> for Known<'a> {
     }
 }
 
+impl Named for EventFrame {
+    ghost name_of = { λ e. e.name };
+
+    fn name(&self) -> &Name {
+        &self.name
+    }
+}
+
 impl<'a> Makes<EventFrame, Option<u32>> for Known<'a> {
-    ghost use Rattle.lin_cluster.specs.FindingsTables.{first_size};
+    ghost use Rattle.lin_cluster.specs.Slots.{first_size};
 
     ghost makes = { λ d e. first_size d e.members };
 
     fn make(&self, event: &EventFrame) -> Option<u32> {
         first_size(self, event.members.as_slice())
+    }
+}
+
+impl Named for Table {
+    ghost name_of = { λ t. t.name };
+
+    fn name(&self) -> &Name {
+        &self.name
     }
 }
 
@@ -55,7 +82,16 @@ impl<'a> Makes<Table, bool> for Known<'a> {
     }
 }
 
-/// What an entry says of its slot: whether it names nothing, and the data bytes that the slot has to hold.
+impl<'k, 'a> Makes<FrameFacts, SumKind> for Judged<'k, 'a> {
+    ghost makes = { λ j f. f.model };
+
+    fn make(&self, frame: &FrameFacts) -> SumKind {
+        frame.model
+    }
+}
+
+/// What an entry says of its slot: whether it names nothing, and the data bytes that the slot has
+/// to hold.
 #[derive(Clone, Copy)]
 pub(super) struct Slot {
     pub(super) is_unknown: bool,
@@ -96,7 +132,7 @@ impl<'k, 'a> Drop for Judged<'k, 'a> {
 }
 
 impl<'k, 'a> Judged<'k, 'a> {
-    /// An error is want of memory.
+    /// An error is out of memory.
     pub(super) fn new(alloc: Global, known: &'k Known<'a>) -> Result<Judged<'k, 'a>, AllocError>
         ensures { IfOk result (λ j. j ≡ known.now) }
     {
@@ -113,6 +149,13 @@ impl<'k, 'a> Judged<'k, 'a> {
             sizes: Sizes { sporadic, events },
             nested,
         })
+    }
+
+    /// The checksum model of each frame; an error is out of memory.
+    pub(super) fn models(&self) -> Result<Vec<SumKind>, AllocError>
+        ensures { IfOk result (λ v. v.items ≡ map (frame_model self.now) self.now.frames) }
+    {
+        made_of_each(self.alloc, self, self.frames.as_slice())
     }
 
     pub(super) fn alloc(&self) -> Global {
@@ -141,7 +184,8 @@ impl<'k, 'a> Judged<'k, 'a> {
         )
     }
 
-    /// Whether a name that may be a frame's, with these facts, is that of a frame of any of the three kinds.
+    /// Whether a name that may be a frame's, with these facts, is that of a frame of any of the
+    /// three kinds.
     pub(super) fn is_any_frame(&self, frame: Option<FrameFacts>, name: &Name) -> bool
         requires { frame ≡ option_map (frame_facts self.now) (frame_named self.now name.now) }
         ensures { result ≡ is_any_frame self.now name.now }

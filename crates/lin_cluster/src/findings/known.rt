@@ -4,8 +4,8 @@ ghost use Rattle.std.specs.Prelude.{◌≡◌, ◌||◌, IfOk, is_some};
 ghost use Rattle.std.specs.Option.{option_copied};
 ghost use Rattle.lin_cluster.specs.Described.{signal_number, frame_number, sporadic_number, event_number, table_number};
 ghost use Rattle.lin_cluster.specs.FindingsNames.{is_node, is_responder, frame_named, sporadic_named, event_named, is_diagnostic, carries_frame, is_event_entry};
-ghost use Rattle.lin_cluster.specs.FindingsNodes.{node_of, is_behind_commander};
-ghost use Rattle.lin_cluster.specs.Models.{tells_version_1, block_named, is_lin_1};
+ghost use Rattle.lin_cluster.specs.FindingsNodes.{node_of, is_responder_number};
+ghost use Rattle.lin_cluster.specs.Models.{tells_version_1, has_version_1, block_named, is_lin_1};
 
 use crate::names::ByName;
 use lin_description::{
@@ -29,8 +29,8 @@ pub(super) fn carries_frame(entry: &TableEntry) -> bool
 }
 
 /// Whether there is a node, and it isn't the commander.
-pub(super) fn is_behind_commander(node: Option<usize>) -> bool
-    ensures { result ≡ is_behind_commander node }
+pub(super) fn is_responder_number(node: Option<usize>) -> bool
+    ensures { result ≡ is_responder_number node }
 {
     match node {
         Some(number) => 0 < number,
@@ -46,6 +46,15 @@ fn tells_version_1(block: &Attributes) -> bool
         Some(version) => version.as_slice().starts_with(b"1.".as_slice()),
         None => false,
     }
+}
+
+fn has_version_1(description: &Description) -> bool
+    ensures { result ≡ has_version_1 description.now }
+{
+    description
+        .attributes()
+        .iter()
+        .any(|block| tells_version_1(block))
 }
 
 /// The frames of the three kinds by their names.
@@ -97,6 +106,7 @@ pub(super) struct Known<'a> {
     signals: ByName<'a, Signal>,
     kinds: FrameNames<'a>,
     tables: ByName<'a, Table>,
+    has_version_1: bool,
 }
 
 impl<'a> Model for Known<'a> {
@@ -107,7 +117,7 @@ impl<'a> Model for Known<'a> {
 
     ghost view = { λ k. k.description.now };
 
-    ghost invariant = { λ k. IsKnown k.description.now k.nodes.slaves k.signals k.kinds.frames k.kinds.sporadic k.kinds.events k.tables k.nodes.blocks };
+    ghost invariant = { λ k. IsKnown k.description.now k.nodes.slaves k.signals k.kinds.frames k.kinds.sporadic k.kinds.events k.tables k.nodes.blocks k.has_version_1 };
 }
 
 // Written out, so that what owns one lets it go in one step.
@@ -119,12 +129,13 @@ impl<'a> Drop for Known<'a> {
             signals: _signals,
             kinds: _kinds,
             tables: _tables,
+            has_version_1: _,
         } = self;
     }
 }
 
 impl<'a> Known<'a> {
-    /// What its names name is looked up once; an error is want of memory.
+    /// What its names name is looked up once; an error is out of memory.
     pub(super) fn new(alloc: Global, description: &'a Description) -> Result<Known<'a>, AllocError>
         ensures { IfOk result (λ k. k ≡ description.now) }
     {
@@ -132,12 +143,14 @@ impl<'a> Known<'a> {
         let nodes = node_names(alloc, description)?;
         let signals = ByName::new(alloc, description.signals())?;
         let tables = ByName::new(alloc, description.tables())?;
+        let has_version_1 = has_version_1(description);
         Ok(Known {
             description,
             nodes,
             signals,
             kinds,
             tables,
+            has_version_1,
         })
     }
 
@@ -171,13 +184,20 @@ impl<'a> Known<'a> {
     pub(super) fn is_responder(&self, name: &Name) -> bool
         ensures { result ≡ is_responder self.now name.now }
     {
-        is_behind_commander(self.node(name))
+        is_responder_number(self.node(name))
     }
 
     fn block(&self, name: &Name) -> Option<&'a Attributes>
         ensures { option_copied result ≡ block_named self.now name.now }
     {
         self.nodes.blocks.find(name)
+    }
+
+    /// Whether any block of attributes tells a version of LIN 1.x.
+    pub(super) fn has_version_1(&self) -> bool
+        ensures { result ≡ has_version_1 self.now }
+    {
+        self.has_version_1
     }
 
     /// Whether there is a node with this name, and it is of LIN 1.x.

@@ -1,15 +1,23 @@
 //! Limit passed (17): of what is counted the first one too many is found.
 
 ghost use Rattle.std.specs.Prelude.{◌≡◌, ◌++◌, OnOk, slice_get};
-ghost use Rattle.lin_cluster.specs.FindingsTables.{past, too_long, long_table, responder_limits, frame_limits, time_limits, limits_passed};
+ghost use Rattle.lin_cluster.specs.Limits.{past, too_long, long_table, responder_limits, frame_limits, time_limits, limits_passed};
 
 use super::known::Known;
 use super::slots::is_speed;
 use super::walk::{at_name, at_number, push_when};
 use crate::finding::{Finding, FindingKind};
 use crate::names::Named;
-use lin_description::{Number, Table};
+use lin_description::{Name, Number, Table, TableEntry};
 use std::alloc::AllocError;
+
+impl Named for TableEntry {
+    ghost name_of = { λ e. e.name };
+
+    fn name(&self) -> &Name {
+        &self.name
+    }
+}
 
 #[tactic(auto, using(crate::proofs::FindingsLists::past_none))]
 fn past<T: Named>(found: &mut Vec<Finding>, all: &[T], limit: usize) -> Result<(), AllocError>

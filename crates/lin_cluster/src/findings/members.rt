@@ -1,20 +1,20 @@
-//! Members of event-triggered and of sporadic frames: unknown name (1), bad event-triggered frame (13), bad sporadic frame (14) and
-//! mixed checksum (18).
+//! Members of event-triggered and of sporadic frames: unknown name (1), bad event-triggered frame
+//! (13), bad sporadic frame (14) and mixed checksum (18).
 
 ghost use Rattle.std.specs.Prelude.{◌≡◌, ◌++◌, ◌||◌, ℕ, OnOk, true, not, nat_eq, nat_lt, slice_get, option_and_then};
 ghost use Rattle.std.specs.List.{flat_map, enumerate_from};
 ghost use Rattle.std.specs.Option.{option_map, option_map_or};
 ghost use Rattle.indexmap.specs.IndexSet.{contains};
 ghost use Rattle.lin_cluster.specs.Findings.{in_event_member};
-ghost use Rattle.lin_cluster.specs.FindingsMembers.{is_bad_behind, is_wrong_behind, is_mixed_behind, in_member_behind};
+ghost use Rattle.lin_cluster.specs.FindingsMembers.{is_bad_after, is_wrong_after, is_mixed_after, in_member_after};
 ghost use Rattle.lin_cluster.specs.FindingsNames.{frame_named, knows};
-ghost use Rattle.lin_cluster.specs.FindingsNodes.{is_number, is_behind_commander};
+ghost use Rattle.lin_cluster.specs.FindingsNodes.{is_number, is_responder_number};
 ghost use Rattle.lin_cluster.specs.Known.{frame_facts};
 ghost use Rattle.lin_cluster.specs.Models.{differ};
 
 use super::facts::FrameFacts;
 use super::judged::Judged;
-use super::known::is_behind_commander;
+use super::known::is_responder_number;
 use super::walk::{Finds, at_name, push_when};
 use crate::finding::{Finding, FindingKind};
 use indexmap::IndexSet;
@@ -73,7 +73,7 @@ fn has_published(publishers: &IndexSet<usize>, publisher: Option<usize>) -> bool
 }
 
 fn is_bad_frame(first: Option<FrameFacts>, publishers: &IndexSet<usize>, frame: FrameFacts) -> bool
-    ensures { result ≡ is_bad_behind first (contains nat_eq publishers.now) frame }
+    ensures { result ≡ is_bad_after first (contains nat_eq publishers.now) frame }
 {
     is_number_of(0, frame.publisher)
         || has_published(publishers, frame.publisher)
@@ -87,7 +87,7 @@ fn is_wrong_member(
     is_known: bool,
     frame: Option<FrameFacts>,
 ) -> bool
-    ensures { result ≡ is_wrong_behind first (contains nat_eq publishers.now) is_known frame }
+    ensures { result ≡ is_wrong_after first (contains nat_eq publishers.now) is_known frame }
 {
     match frame {
         Some(frame) => is_known && is_bad_frame(first, publishers, frame),
@@ -106,7 +106,7 @@ fn differ(model: SumKind, other: SumKind) -> bool
 }
 
 fn is_mixed(first: Option<FrameFacts>, frame: Option<FrameFacts>) -> bool
-    ensures { result ≡ is_mixed_behind first frame }
+    ensures { result ≡ is_mixed_after first frame }
 {
     match (frame, first) {
         (Some(frame), Some(first)) => differ(frame.model, first.model),
@@ -122,7 +122,7 @@ fn find_member(
     frame: Option<FrameFacts>,
     member: &Name,
 ) -> Result<(), AllocError>
-    ensures { OnOk result (found.new.items ≡ found.old.items ++ in_member_behind first (contains nat_eq publishers.now) is_known frame member.now) }
+    ensures { OnOk result (found.new.items ≡ found.old.items ++ in_member_after first (contains nat_eq publishers.now) is_known frame member.now) }
 {
     let is_wrong = is_wrong_member(first, publishers, is_known, frame);
     push_when(found, !is_known, at_name(FindingKind::UnknownName, member))?;
@@ -156,10 +156,10 @@ pub(super) fn members_in_order(
 }
 
 fn is_no_commanders(frame: Option<FrameFacts>) -> bool
-    ensures { result ≡ option_map_or (λ f. is_behind_commander f.publisher) frame true }
+    ensures { result ≡ option_map_or (λ f. is_responder_number f.publisher) frame true }
 {
     match frame {
-        Some(frame) => is_behind_commander(frame.publisher),
+        Some(frame) => is_responder_number(frame.publisher),
         None => true,
     }
 }

@@ -1,8 +1,7 @@
 //! Signals overlap (7): they share bits of their frame, or stand in it twice.
 
-ghost use Rattle.std.specs.Prelude.{◌≡◌, ◌++◌, ◌+◌, ◌<◌, ◌||◌, ◌↔◌, ◌⊎◌, ℕ, List, Bool, true, OnOk};
-ghost use Rattle.std.specs.Str.{bytes_eq};
-ghost use Rattle.lin_cluster.specs.FindingsMembers.{has_text};
+ghost use Rattle.std.specs.Prelude.{◌≡◌, ◌++◌, ◌+◌, ◌<◌, ◌||◌, ◌↔◌, ◌⊎◌, ℕ, Bool, true, nat_eq, IfOk, IsSome, OnOk};
+ghost use Rattle.indexmap.specs.IndexSet.{contains};
 ghost use Rattle.lin_cluster.specs.FindingsNames.{at_number, knows, when};
 ghost use Rattle.lin_cluster.specs.FindingsRanges.{Meets, AreApart};
 ghost use Rattle.lin_cluster.specs.FindingsPlaces.{IsTaken, lies_in};
@@ -12,39 +11,46 @@ use super::facts::SignalFacts;
 use super::ranges::{Ranges, add_range, is_met};
 use super::walk::{at_number, push_when};
 use crate::finding::{Finding, FindingKind};
-use indexmap::IndexMap;
+use indexmap::IndexSet;
 use lin_description::PlacedSignal;
 use std::alloc::AllocError;
 
-/// The names of some signals of a frame.
-pub(super) type Names<'a> = IndexMap<&'a [u8], ()>;
+/// Adds the number of a signal of a frame, and says whether it is there already.
+pub(super) fn stands_twice(numbers: &mut IndexSet<usize>, number: usize) -> Result<bool, AllocError>
+    ensures twice { IfOk result (λ twice. twice ≡ contains nat_eq numbers.old number) }
+    ensures added { OnOk result ((q : ℕ) → contains nat_eq numbers.new q ≡ (contains nat_eq numbers.old q || nat_eq number q)) }
+{
+    let is_new = numbers.insert(number)?;
+    Ok(!is_new)
+}
 
-// Whether one of the names is that of the signal, or one of the ranges has a bit of it.
-fn is_taken(names: &Names, ranges: &Ranges, placed: &PlacedSignal, size: u32) -> bool
+// Whether the signal stands in its frame already, or one of the ranges has a bit of it.
+fn is_taken(twice: bool, ranges: &Ranges, placed: &PlacedSignal, size: u32) -> bool
     requires { AreApart ranges.now }
-    ensures { (result ≡ true) ↔ IsTaken names.now ranges.now placed.now size }
+    ensures { (result ≡ true) ↔ IsTaken twice ranges.now placed.now size }
 {
     let start = u64::from(placed.offset.value);
     let size = u64::from(size);
-    if names.contains_key(&placed.signal.text.as_slice()) {
+    if twice {
         return true;
     }
     0 < size && is_met(ranges, start, start + size)
 }
 
-/// A signal, by what is known of it, that stands in its frame a second time, or shares a bit with an earlier one.
+/// A signal, by what is known of it, that stands in its frame already, or shares a bit with an
+/// earlier one.
 pub(super) fn overlap(
     found: &mut Vec<Finding>,
-    names: &Names,
+    twice: bool,
     ranges: &Ranges,
     placed: &PlacedSignal,
     signal: Option<SignalFacts>,
 ) -> Result<(), AllocError>
     requires { AreApart ranges.now }
-    ensures { OnOk result ((taken : ℕ → Bool) → ((size : ℕ) → (taken size ≡ true) ↔ IsTaken names.now ranges.now placed.now size) → found.new.items ≡ found.old.items ++ when (knows signal (λ s. taken s.size)) (at_number SignalsOverlap placed.now.offset)) }
+    ensures { OnOk result ((taken : ℕ → Bool) → (IsSome signal → (size : ℕ) → (taken size ≡ true) ↔ IsTaken twice ranges.now placed.now size) → found.new.items ≡ found.old.items ++ when (knows signal (λ s. taken s.size)) (at_number SignalsOverlap placed.now.offset)) }
 {
     if let Some(signal) = signal {
-        let is_wrong = is_taken(names, ranges, placed, signal.size);
+        let is_wrong = is_taken(twice, ranges, placed, signal.size);
         push_when(
             found,
             is_wrong,

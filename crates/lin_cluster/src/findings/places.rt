@@ -1,4 +1,5 @@
-//! Signals in their frames: unknown name (1), wrong publisher (2), signal outside (6) and, by `overlaps`, signals overlap (7).
+//! Signals in their frames: unknown name (1), wrong publisher (2), signal outside (6) and, by
+//! `overlaps`, signals overlap (7).
 
 ghost use Rattle.std.specs.Prelude.{◌≡◌, ◌++◌, ◌<◌, ◌↔◌, ℕ, List, true, OnOk};
 ghost use Rattle.std.specs.List.{flat_map, enumerate_from};
@@ -7,11 +8,10 @@ ghost use Rattle.lin_cluster.specs.FindingsNodes.{are_two};
 ghost use Rattle.lin_cluster.specs.FindingsPlaces.{is_outside_by, in_placed_by};
 
 use super::facts::{SignalFacts, Signals};
-use super::overlaps::{add_bits, overlap};
+use super::overlaps::{add_bits, overlap, stands_twice};
 use super::walk::{at_name, at_number, push_when};
 use crate::finding::{Finding, FindingKind};
-use crate::names::add;
-use indexmap::IndexMap;
+use indexmap::IndexSet;
 use lin_description::{Frame, PlacedSignal};
 use std::alloc::{AllocError, Global};
 use std::collections::BTreeMap;
@@ -73,13 +73,13 @@ pub(super) fn signals_in_order(
     ensures { OnOk result (found.new.items ≡ found.old.items ++ flat_map (in_placed signals.now frame.now all_placed.now) (enumerate_from 0 all_placed.now)) }
 {
     let publisher = signals.known().node(&frame.publisher);
-    let mut names = IndexMap::new(alloc);
+    let mut numbers = IndexSet::new(alloc);
     let mut ranges = BTreeMap::new(alloc);
     for placed in all_placed {
-        let signal = signals.named(&placed.signal);
+        let (number, signal) = signals.numbered(&placed.signal);
+        let twice = stands_twice(&mut numbers, number)?;
         find_placed(found, frame, publisher, placed, signal)?;
-        overlap(found, &names, &ranges, placed, signal)?;
-        add(&mut names, placed.signal.text.as_slice(), ())?;
+        overlap(found, twice, &ranges, placed, signal)?;
         add_bits(&mut ranges, placed, signal)?;
     }
     Ok(())

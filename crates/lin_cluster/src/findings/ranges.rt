@@ -51,23 +51,23 @@ fn merged(ranges: &mut Ranges, start: u64, end: u64) -> (u64, u64)
     ensures same { (a b : ℕ) → a < b → Covers ranges.new result.0 result.1 a b ↔ Covers ranges.old start end a b }
 {
     let mut first = start;
-    let mut behind = end;
-    while let Some((other, last)) = meeting(ranges, first, behind) {
+    let mut after = end;
+    while let Some((other, last)) = meeting(ranges, first, after) {
         ranges.remove(&other);
         first = first.min(other);
-        behind = behind.max(last);
+        after = after.max(last);
     }
-    (first, behind)
+    (first, after)
 }
 
-/// Adds the bits of one more range; an error is want of memory.
+/// Adds the bits of one more range; an error is out of memory.
 pub(super) fn add_range(ranges: &mut Ranges, start: u64, end: u64) -> Result<(), AllocError>
     requires apart { AreApart ranges.old }
     requires some { start < end }
     ensures apart { OnOk result (AreApart ranges.new) }
     ensures meets { OnOk result ((a b : ℕ) → a < b → Meets ranges.new a b ↔ Covers ranges.old start end a b) }
 {
-    let (first, behind) = merged(ranges, start, end);
-    ranges.insert(first, behind)?;
+    let (first, after) = merged(ranges, start, end);
+    ranges.insert(first, after)?;
     Ok(())
 }

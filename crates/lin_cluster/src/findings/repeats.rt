@@ -3,7 +3,7 @@
 ghost use Rattle.std.specs.Prelude.{◌≡◌, ◌&&◌, ◌||◌, List, OnOk, IfOk, nat_eq};
 ghost use Rattle.std.specs.Option.{option_copied};
 ghost use Rattle.indexmap.specs.IndexMap.{get};
-ghost use Rattle.lin_cluster.specs.FindingsFrames.{is_up_to, is_repeated};
+ghost use Rattle.lin_cluster.specs.Identifiers.{is_up_to, is_repeated};
 ghost use Rattle.lin_cluster.specs.FindingsRepeats.{has_one, has_two, is_use, CountsUses};
 ghost use Rattle.lin_cluster.specs.FindingsNames.{knows};
 ghost use Rattle.lin_description.specs.declared.description.Number.{Number};
@@ -106,7 +106,7 @@ fn counted(alloc: Global, ids: &[Number]) -> Result<IndexMap<u32, Uses>, AllocEr
 }
 
 impl Repeats {
-    /// An error is want of memory.
+    /// An error is out of memory.
     pub(super) fn new(alloc: Global, all: Vec<Number>) -> Result<Repeats, AllocError>
         ensures { IfOk result (λ r. r ≡ all.items) }
     {

@@ -3,7 +3,7 @@
 ghost use Rattle.std.specs.Prelude.{◌≡◌, ◌++◌, ◌<◌, OnOk, fold, max, is_some};
 ghost use Rattle.std.specs.List.{list_all};
 ghost use Rattle.std.specs.Option.{option_map_or};
-ghost use Rattle.lin_cluster.specs.FindingsTables.{needed_us, is_speed, good_size, frame_size, greatest_size, first_size, short_slot, zero_delay};
+ghost use Rattle.lin_cluster.specs.Slots.{needed_us, is_speed, good_size, frame_size, greatest_size, first_size, short_slot, zero_delay};
 
 use super::known::Known;
 use super::sizes::is_frame_size;
@@ -12,8 +12,9 @@ use crate::finding::{Finding, FindingKind};
 use lin_description::{Name, TableEntry};
 use std::alloc::AllocError;
 
-/// The time in microseconds that the slot of a frame of `size` data bytes takes at most, at a speed in bits per second, with
-/// the jitter in microseconds: 1.4 times its nominal time (ISO 17987-3, frame slots).
+/// The time in microseconds that the slot of a frame of `size` data bytes takes at most, at a speed
+/// in bits per second, with the jitter in microseconds: 1.4 times its nominal time (ISO 17987-3,
+/// frame slots).
 pub fn needed_us(jitter: u32, speed: u32, size: u32) -> u64
     requires speed { 0 < speed }
     ensures { result ≡ needed_us jitter speed size }
@@ -119,7 +120,8 @@ fn short_slot_of(
     Ok(())
 }
 
-/// A slot of this number of data bytes, where that is known, whose delay is below the time that it takes at most.
+/// A slot of this number of data bytes, where that is known, whose delay is below the time that it
+/// takes at most.
 pub(super) fn short_slot(
     found: &mut Vec<Finding>,
     known: &Known,

@@ -1,9 +1,10 @@
-//! Resolving tables of event-triggered frames: unknown name (1) and nested collision (15); empty table (16).
+//! Resolving tables of event-triggered frames: unknown name (1) and nested collision (15); empty
+//! table (16).
 
 ghost use Rattle.std.specs.Prelude.{◌≡◌, ◌++◌, ◌==◌, OnOk, length};
-ghost use Rattle.lin_cluster.specs.FindingsFrames.{unknown_table};
+ghost use Rattle.lin_cluster.specs.UnknownNames.{unknown_table};
 ghost use Rattle.lin_cluster.specs.FindingsNames.{when};
-ghost use Rattle.lin_cluster.specs.FindingsTables.{nested_at, empty_table};
+ghost use Rattle.lin_cluster.specs.Tables.{nested_at, empty_table};
 ghost use Rattle.lin_cluster.specs.Kinds.{finding_at};
 ghost use Rattle.lin_cluster.specs.declared.finding.FindingKind.TheVariants.{EmptyTable};
 

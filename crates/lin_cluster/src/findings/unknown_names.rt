@@ -1,7 +1,8 @@
-//! Unknown name (1): the names of nodes that nothing has. Those of signals, frames and tables are found where they are looked up.
+//! Unknown name (1): the names of nodes that nothing has. Those of signals, frames and tables are
+//! found where they are looked up.
 
 ghost use Rattle.std.specs.Prelude.{◌≡◌, ◌++◌, OnOk};
-ghost use Rattle.lin_cluster.specs.FindingsFrames.{unknown_node};
+ghost use Rattle.lin_cluster.specs.UnknownNames.{unknown_node};
 
 use super::judged::Judged;
 use super::walk::{Finds, at_name, push_when};
@@ -31,7 +32,7 @@ pub(super) struct Nodes<'j, 'k, 'a> {
 }
 
 impl<'j, 'k, 'a> Finds<Name> for Nodes<'j, 'k, 'a> {
-    ghost use Rattle.lin_cluster.specs.FindingsFrames.{unknown_node};
+    ghost use Rattle.lin_cluster.specs.UnknownNames.{unknown_node};
 
     ghost finds = { λ nodes name. unknown_node nodes.judged.now name };
 

@@ -1,5 +1,5 @@
-//! Findings at places, the one walk over items that adds what is found of each, and the one that makes a list of what is worked out
-//! of each.
+//! Findings at places, the one walk over items that adds what is found of each, and the one that
+//! makes a list of what is worked out of each.
 
 ghost use Rattle.std.specs.Prelude.{◌≡◌, ◌++◌, OnOk, IfOk, map};
 ghost use Rattle.std.specs.List.{flat_map};
@@ -16,12 +16,12 @@ pub(super) trait Finds<T> {
 
     ghost finds: { Self → T → List Finding };
 
-    /// Adds what is wrong with the item; an error is want of memory.
+    /// Adds what is wrong with the item; an error is out of memory.
     fn find(&self, found: &mut Vec<Finding>, item: &T) -> Result<(), AllocError>
         ensures { OnOk result (found.new.items ≡ found.old.items ++ finds self.now item.now) };
 }
 
-/// Adds what is wrong with each item, in order; an error is want of memory.
+/// Adds what is wrong with each item, in order; an error is out of memory.
 pub(super) fn each<T, F: Finds<T>>(
     found: &mut Vec<Finding>,
     finder: &F,
@@ -43,7 +43,7 @@ pub(super) trait Makes<T, V> {
         ensures { result ≡ makes self.now item.now };
 }
 
-/// What is worked out of each item, in order; an error is want of memory.
+/// What is worked out of each item, in order; an error is out of memory.
 pub(super) fn made_of_each<T, V, M: Makes<T, V>>(
     alloc: Global,
     maker: &M,
@@ -84,7 +84,7 @@ pub(super) fn at_number(kind: FindingKind, place: &Number) -> Finding
     )
 }
 
-/// Adds the finding where the condition holds; an error is want of memory.
+/// Adds the finding where the condition holds; an error is out of memory.
 pub(super) fn push_when(
     found: &mut Vec<Finding>,
     holds: bool,

@@ -1,7 +1,7 @@
 use Rattle.std.proofs.Common.{ap, refl, ◌∙◌, ◌++◌, get_or}
 use Rattle.std.specs.Prelude.{◌==◌, nat_eq}
 use Rattle.indexmap.specs.IndexSet.{contains}
-use Rattle.lin_cluster.specs.FindingsFrames.{nad_twice}
+use Rattle.lin_cluster.specs.Addresses.{nad_twice}
 use Rattle.lin_cluster.specs.FindingsNames.{when, at_number}
 use Rattle.lin_description.specs.declared.description.Number.{Number}
 use Rattle.lin_cluster.proofs.FindingsLists.{each_step}

@@ -3,7 +3,7 @@ use Rattle.std.specs.Prelude.{◌==◌, nat_eq}
 use Rattle.std.specs.List.{flat_map, list_any}
 use Rattle.std.specs.List.{enumerate_from}
 use Rattle.indexmap.specs.IndexSet.{contains}
-use Rattle.lin_cluster.specs.FindingsFrames.{nad_twice}
+use Rattle.lin_cluster.specs.Addresses.{nad_twice}
 use Rattle.lin_cluster.proofs.findings.addresses.nads_twice.Given as goal
 
 abbrev pub invariant-loop-nad : goal.invariant-loop-nad

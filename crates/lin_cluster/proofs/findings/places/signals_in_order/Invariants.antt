@@ -1,10 +1,10 @@
-use Rattle.std.proofs.Common.{◌≡◌, ◌++◌, ◌<◌, ℕ, List, true, take}
-use Rattle.std.specs.Prelude.{◌↔◌}
+use Rattle.std.proofs.Common.{◌≡◌, ◌++◌, ◌<◌, ℕ, true, take}
+use Rattle.std.specs.Prelude.{◌↔◌, ◌==◌, nat_eq}
 use Rattle.std.specs.List.{flat_map, list_any}
 use Rattle.std.specs.List.{enumerate_from}
-use Rattle.std.specs.Str.{bytes_eq}
+use Rattle.indexmap.specs.IndexSet.{contains}
+use Rattle.lin_cluster.specs.Described.{signal_number}
 use Rattle.lin_cluster.specs.Findings.{in_placed}
-use Rattle.lin_cluster.specs.FindingsMembers.{has_text}
 use Rattle.lin_cluster.specs.FindingsNames.{knows, signal_named}
 use Rattle.lin_cluster.specs.FindingsPlaces.{lies_in}
 use Rattle.lin_cluster.specs.FindingsRanges.{Meets, AreApart}
@@ -14,6 +14,6 @@ abbrev pub invariant-loop-placed : goal.invariant-loop-placed
 invariant-loop-placed l = record {
   found : l.found.items ≡ l.fn.found.items ++ flat_map (in_placed l.signals l.frame l.all_placed) (take l.placed-index (enumerate_from 0 l.all_placed));
   apart : AreApart l.ranges;
-  names : (q : List ℕ) → has_text l.names q ≡ list_any (λ p. bytes_eq p.signal.text q) (take l.placed-index l.all_placed);
+  numbers : (q : ℕ) → contains nat_eq l.numbers q ≡ list_any (λ p. signal_number l.signals p.signal == q) (take l.placed-index l.all_placed);
   ranges : (a b : ℕ) → a < b → Meets l.ranges a b ↔ (list_any (λ p. knows (signal_named l.signals p.signal) (λ t. lies_in a b p t.size.value)) (take l.placed-index l.all_placed) ≡ true);
 }

@@ -7,8 +7,8 @@ use Rattle.lin_cluster.proofs.findings.ranges.merged.Given as goal
 abbrev pub invariant-loop-other : goal.invariant-loop-other
 invariant-loop-other l = record {
   apart : AreApart l.ranges;
-  some : l.first < l.behind;
-  same : (a b : ℕ) → a < b → Covers l.ranges l.first l.behind a b ↔ Covers l.fn.ranges l.start l.end a b;
+  some : l.first < l.after;
+  same : (a b : ℕ) → a < b → Covers l.ranges l.first l.after a b ↔ Covers l.fn.ranges l.start l.end a b;
 }
 
 abbrev pub decreases-loop-other : goal.decreases-loop-other

@@ -1,7 +1,7 @@
 use Rattle.std.proofs.Common.{◌≡◌, take}
 use Rattle.std.specs.Prelude.{fold, max}
 use Rattle.std.specs.Option.{option_map_or}
-use Rattle.lin_cluster.specs.FindingsTables.{frame_size}
+use Rattle.lin_cluster.specs.Slots.{frame_size}
 use Rattle.lin_cluster.proofs.findings.slots.greatest.Given as goal
 
 abbrev pub invariant-loop-member : goal.invariant-loop-member

@@ -1,7 +1,8 @@
 use Rattle.std.proofs.Common.{◌≡◌, ◌++◌, ap, subst, ◌∙◌}
 use Rattle.std.specs.Prelude.{OnOk}
 use Rattle.std.specs.List.{flat_map}
-use Rattle.lin_cluster.specs.FindingsFrames.{unknown_node, bad_signal_size, bad_init}
+use Rattle.lin_cluster.specs.Sizes.{bad_signal_size, bad_init}
+use Rattle.lin_cluster.specs.UnknownNames.{unknown_node}
 use Rattle.lin_cluster.proofs.FindingsLists.{four_more}
 use Rattle.lin_cluster.proofs.findings.declarations.JudgedFindsSignal.find.Goals as goal
 

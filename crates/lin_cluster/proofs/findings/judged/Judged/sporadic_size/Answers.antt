@@ -1,6 +1,6 @@
 use Rattle.std.proofs.Common.{ap, ◌∙◌}
 use Rattle.std.specs.List.{position_or_len}
-use Rattle.lin_cluster.specs.FindingsTables.{greatest_size}
+use Rattle.lin_cluster.specs.Slots.{greatest_size}
 use Rattle.lin_cluster.proofs.Named.{made_of}
 use Rattle.lin_cluster.specs.FindingsNames.{same_name}
 use Rattle.lin_cluster.proofs.findings.judged.Judged.sporadic_size.Goals as goal

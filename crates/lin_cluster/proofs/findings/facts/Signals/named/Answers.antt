@@ -1,8 +1,0 @@
-use Rattle.std.proofs.Common.{◌∙◌}
-use Rattle.lin_cluster.specs.FindingsNames.{same_name}
-use Rattle.lin_cluster.specs.Known.{signal_facts}
-use Rattle.lin_cluster.proofs.Named.{made_of}
-use Rattle.lin_cluster.proofs.findings.facts.Signals.named.Goals as goal
-
-pub returns : goal.returns
-returns c = rw (← c.self.view_is) (c.at.ensures ∙ made_of (signal_facts c.self.inside.known.now) (λ x. same_name x.name c.args.name.now) c.self.inside.known.now.signals c.signal_number.result c.as_slice.result.now _ c.as_slice.ensures.value c.self.invariant c.signal_number.ensures)
