@@ -10,7 +10,7 @@ ghost use Rattle.lin_ldf.specs.Describes.{Describes};
 ghost use Rattle.lin_ldf.specs.Forms.{Gives, has_front, front, tail, mark, keyword, end};
 ghost use Rattle.lin_ldf.specs.Loops.{is_next};
 ghost use Rattle.lin_ldf.specs.UpTo.{front_kind};
-ghost use Rattle.lin_ldf.specs.Words.{word, name_of, place_of, opening, declared, int, dec, is_word_next};
+ghost use Rattle.lin_ldf.specs.Words.{word, name_of, place_of, opening, declared, number_at, int, dec, is_word_next};
 ghost use Rattle.lin_ldf.specs.Grammar.{header_words, is_extra_next, without_quotes, protocol_text, with_node, front_section};
 ghost use Rattle.lin_ldf.specs.declared.fault.LdfFault.{LdfFault};
 ghost use Rattle.lin_ldf.specs.declared.fault.LdfFault.TheVariants.{OutOfMemory};
@@ -28,9 +28,11 @@ use lin_lists::Text;
 use std::alloc::{AllocError, Global};
 use std::marker::Model;
 
-/// The tokens that are left: the next one's kind, text and place, and the lexer, which stands after it.
+/// The tokens that are left: the next one's kind, text and place, and the lexer, which stands after it. What is read takes
+/// memory of `alloc`.
 #[derive(Drop)]
 pub struct Parser<'a> {
+    alloc: Global,
     kind: Option<TokenKind>,
     text: &'a [u8],
     place: Place,
@@ -76,13 +78,14 @@ fn is_header_word(word: &[u8]) -> bool
 }
 
 impl<'a> Parser<'a> {
-    pub fn new(source: &'a [u8]) -> Parser<'a>
+    pub fn new(alloc: Global, source: &'a [u8]) -> Parser<'a>
         ensures { result ≡ symbols_in source.now (start_of source.now).tokens }
     {
         let lexer = Lexer::new(source);
         // (it stands before the first token)
         let nothing = Some(TokenKind::Other);
         let mut parser = Parser {
+            alloc,
             kind: nothing,
             text: &[],
             place: lexer.place,
@@ -90,6 +93,10 @@ impl<'a> Parser<'a> {
         };
         parser.skip();
         parser
+    }
+
+    pub fn alloc(&self) -> Global {
+        self.alloc
     }
 
     /// The text of the next token.
@@ -215,31 +222,31 @@ impl<'a> Parser<'a> {
     }
 
     /// The next token as a name.
-    fn name(&self, alloc: Global) -> Result<Name, AllocError>
+    fn name(&self) -> Result<Name, AllocError>
         requires { has_front self.now ≡ true }
         ensures { IfOk result (λ n. n ≡ name_of (front self.now)) }
     {
         let Place { line, column } = self.place();
         Ok(Name {
-            text: Text::copied(alloc, self.text())?,
+            text: Text::copied(self.alloc, self.text())?,
             line,
             column,
         })
     }
 
-    pub fn word(&mut self, alloc: Global) -> Result<Name, LdfFault>
+    pub fn word(&mut self) -> Result<Name, LdfFault>
         ensures { Gives result self.new (word.read self.old) }
     {
         if !self.is_at(TokenKind::Word) {
             return Err(LdfFault::Unexpected(self.place()));
         }
-        let name = self.name(alloc)?;
+        let name = self.name()?;
         self.skip();
         Ok(name)
     }
 
     /// A name that is declared here. It must be new.
-    pub fn declared(&mut self, alloc: Global, seen: &mut Names<'a>) -> Result<Name, LdfFault>
+    pub fn declared(&mut self, seen: &mut Names<'a>) -> Result<Name, LdfFault>
         ensures read { Gives result self.new ((declared seen.old).read self.old) }
         ensures seen { IfOk result (λ n. seen.new ≡ seen.old ++ n.text ∷ []) }
     {
@@ -249,17 +256,13 @@ impl<'a> Parser<'a> {
         if !seen.insert(self.text())? {
             return Err(LdfFault::NameTwice(self.place()));
         }
-        let name = self.name(alloc)?;
+        let name = self.name()?;
         self.skip();
         Ok(name)
     }
 
     /// The name of a block of attributes. No block of that node may stand before.
-    pub fn node_of_block(
-        &mut self,
-        alloc: Global,
-        blocks: &mut NodeBlocks<'a>,
-    ) -> Result<Name, LdfFault>
+    pub fn node_of_block(&mut self, blocks: &mut NodeBlocks<'a>) -> Result<Name, LdfFault>
         ensures read { Gives result self.new ((declared blocks.old.seen).read self.old) }
         ensures blocks { IfOk result (λ n. blocks.new ≡ with_node blocks.old n.text) }
     {
@@ -270,9 +273,28 @@ impl<'a> Parser<'a> {
             return Err(LdfFault::NameTwice(self.place()));
         }
         blocks.add(self.text())?;
-        let name = self.name(alloc)?;
+        let name = self.name()?;
         self.skip();
         Ok(name)
+    }
+
+    /// The next token, a number with this value where that is within the limit.
+    fn number(&mut self, value: Option<u32>) -> Result<Number, LdfFault>
+        requires { has_front self.old ≡ true }
+        ensures { Gives result self.new (number_at value self.old) }
+    {
+        let Place { line, column } = self.place();
+        match value {
+            Some(value) => {
+                self.skip();
+                Ok(Number {
+                    value,
+                    line,
+                    column,
+                })
+            }
+            None => Err(LdfFault::NumberTooLarge(self.place())),
+        }
     }
 
     pub fn int(&mut self) -> Result<Number, LdfFault>
@@ -281,18 +303,7 @@ impl<'a> Parser<'a> {
         if !self.is_at(TokenKind::Number) || !number_values::is_whole(self.text()) {
             return Err(LdfFault::Unexpected(self.place()));
         }
-        let Place { line, column } = self.place();
-        match number_values::int_value(self.text()) {
-            Some(value) => {
-                self.skip();
-                Ok(Number {
-                    value,
-                    line,
-                    column,
-                })
-            }
-            None => Err(LdfFault::NumberTooLarge(self.place())),
-        }
+        self.number(number_values::int_value(self.text()))
     }
 
     pub fn dec(&mut self) -> Result<Number, LdfFault>
@@ -301,22 +312,11 @@ impl<'a> Parser<'a> {
         if !self.is_at(TokenKind::Number) || !number_values::has_three_decimals(self.text()) {
             return Err(LdfFault::Unexpected(self.place()));
         }
-        let Place { line, column } = self.place();
-        match number_values::thousandths(self.text()) {
-            Some(value) => {
-                self.skip();
-                Ok(Number {
-                    value,
-                    line,
-                    column,
-                })
-            }
-            None => Err(LdfFault::NumberTooLarge(self.place())),
-        }
+        self.number(number_values::thousandths(self.text()))
     }
 
     /// The text of `LIN_protocol`: without its quotes, or a number as it is spelled.
-    pub fn protocol_text(&mut self, alloc: Global) -> Result<Text, LdfFault>
+    pub fn protocol_text(&mut self) -> Result<Text, LdfFault>
         ensures { Gives result self.new (protocol_text.read self.old) }
     {
         let text = if self.is_at(TokenKind::Text) {
@@ -326,7 +326,7 @@ impl<'a> Parser<'a> {
         } else {
             return Err(LdfFault::Unexpected(self.place()));
         };
-        let text = Text::copied(alloc, text)?;
+        let text = Text::copied(self.alloc, text)?;
         self.skip();
         Ok(text)
     }
@@ -377,8 +377,8 @@ pub fn parse(alloc: Global, source: &[u8]) -> Result<Description, LdfFault>
     ensures first { (e : LdfFault) → IsLexFault source.now e → e ≢ OutOfMemory
         → IsErrAnd result (λ found. (found ≡ e) ⊎ (found ≡ OutOfMemory)) }
 {
-    let mut parser = Parser::new(source);
-    match parser.file(alloc) {
+    let mut parser = Parser::new(alloc, source);
+    match parser.file() {
         Ok(found) => Ok(found),
         Err(LdfFault::OutOfMemory) => Err(LdfFault::OutOfMemory),
         Err(fault) => match first_fault(source) {
