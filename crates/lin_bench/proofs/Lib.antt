@@ -1,2 +1,7 @@
 pub mod Appending
 pub mod Found
+pub mod Makes
+pub mod SlotSteps
+pub mod Events
+pub mod Hosts
+pub mod Runs

@@ -5,3 +5,8 @@ pub mod Steps
 pub mod Expectations
 pub mod Lines
 pub mod Read
+pub mod Slots
+pub mod Verdicts
+pub mod Played
+pub mod Making
+pub mod Plays

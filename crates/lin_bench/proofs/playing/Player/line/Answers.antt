@@ -1,0 +1,6 @@
+use Rattle.std.proofs.Common.{refl}
+use Rattle.lin_bench.proofs.Runs.{step-played}
+use Rattle.lin_bench.proofs.playing.Player.line.Goals as goal
+
+pub returns-in_ok-make-in-Step : goal.returns-in_ok-make-in-Step
+returns-in_ok-make-in-Step c = step-played c.args.self.now _ c.args.number c.in-Step.by c.in-Step.step c.args.line c.in-Step.is c.in_ok-make-in-Step.ensures refl refl refl

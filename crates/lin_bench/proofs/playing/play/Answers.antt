@@ -1,0 +1,35 @@
+use Rattle.std.proofs.Common.{◌≡◌, ◌∙◌, [], ◌∷◌, ◌++◌, ap, sym, append_assoc, refl, rules}
+use Rattle.lin_bench.proofs.Makes.{append-nothing}
+use Rattle.lin_bench.proofs.Runs.{all-come, come-first, come-more, line-fails, nothing-left}
+use Rattle.lin_bench.proofs.playing.play.Goals as goal
+
+pub loop-number-init : goal.loop-number-init
+loop-number-init c =
+    let e = c.in_ok-new.ensures in
+    record {
+      come = come-first c.args.cluster c.args.table c.args.capacity _ e.0 e.1 e.2 e.3 refl (search rules) (search rules);
+      whole = search rules;
+    }
+
+pub loop-number-preserved : goal.loop-number-preserved
+loop-number-preserved c =
+    let at = c.loop-number in
+    let next : at.number-iterator.rest.items ≡ (c.in-Some.number, c.in-Some.line) ∷ c.next.new.self.rest.items = search rules in
+    record {
+      come = come-more c.args.cluster c.args.table c.args.capacity at.yielded at.player c.line.new.self c.in-Some.number c.in-Some.line at.invariant.come c.in-Ok.ensures;
+      whole = append_assoc at.yielded ((c.in-Some.number, c.in-Some.line) ∷ []) c.next.new.self.rest.items ∙ ap (λ r. at.yielded ++ r) (sym next) ∙ at.invariant.whole;
+    }
+
+pub returns-in-Err : goal.returns-in-Err
+returns-in-Err c =
+    let at = c.loop-number in
+    let next : at.number-iterator.rest.items ≡ (c.in-Some.number, c.in-Some.line) ∷ c.next.new.self.rest.items = search rules in
+    line-fails c.args.cluster c.args.table c.args.capacity at.yielded c.next.new.self.rest.items c.args.lines.items at.player c.in-Some.number c.in-Some.line c.in-Err.fault
+    (ap (λ r. at.yielded ++ r) (sym next) ∙ at.invariant.whole) at.invariant.come c.in-Err.ensures
+
+pub returns : goal.returns
+returns c =
+    let at = c.loop-number in
+    let rest : at.number-iterator.rest.items ≡ [] = nothing-left _ (sym at.number-iterator.rest.ok.0 ∙ c.in-None.ensures.steps.0) in
+    all-come c.args.cluster c.args.table c.args.capacity at.yielded c.args.lines.items at.player _
+    (sym (append-nothing at.yielded) ∙ ap (λ r. at.yielded ++ r) (sym rest) ∙ at.invariant.whole) at.invariant.come refl c.new-4.ensures

@@ -1,0 +1,114 @@
+-- What lines of slots stand for, given the history before them: the entries of a log, the newest first.
+use Rattle.std.specs.Prelude.{ℕ, suc, zero, ◌+◌, ◌-◌, ◌*◌, Bool, true, false, nat_lt, if◌then◌else◌, List, [], ◌∷◌, ◌++◌, map, filter, length, Option, Some, None}
+use Rattle.std.specs.List.{list_any, filter_map}
+use Rattle.lin_frame.specs.Words.{numbers}
+use Rattle.lin_parts.specs.Cluster.{nodes}
+use Rattle.lin_parts.specs.declared.parts.Parts.{Parts}
+use Rattle.lin_core.specs.History.{is_finish, is_in, time}
+use Rattle.lin_core.specs.Links.{waiting}
+use Rattle.lin_core.specs.Replies.{reply}
+use Rattle.lin_core.specs.Runs.{entry_of}
+use Rattle.lin_core.specs.declared.event.Event.{Event}
+use Rattle.lin_core.specs.declared.event.Event.TheVariants.{Due}
+use Rattle.lin_core.specs.declared.log.LogEntry.{LogEntry}
+use Rattle.lin_core.specs.declared.port.PortId.{PortId}
+use Rattle.lin_core.specs.declared.port.PortId.TheVariants.{Bus}
+use Rattle.lin_core.specs.declared.reply.Reply.{Reply}
+use Rattle.lin_core.specs.declared.reply.Reply.TheVariants.{Done, Refused}
+use Rattle.lin_core.specs.declared.step.Step.{Step}
+use Rattle.lin_core.specs.declared.step.Step.TheVariants.{Open, Answer, Leave, Hurt, Finish}
+use Rattle.lin_bench.specs.declared.line.Disturbance.{Disturbance}
+use Rattle.lin_bench.specs.declared.line.Disturbance.TheVariants as slot
+use Rattle.lin_bench.specs.declared.line.Extent.{Extent}
+use Rattle.lin_bench.specs.declared.line.Extent.TheVariants as slots
+
+-- the history after more steps
+abbrev pub after : Parts → ℕ → ℕ → List LogEntry → List (PortId × Step) → List LogEntry
+after c opening capacity past [] = past
+after c opening capacity past (s ∷ ss) =
+    after c opening capacity (entry_of c opening capacity past s ∷ past) ss
+
+abbrev pub due_node : Event → Option ℕ
+due_node (Due node) = Some node
+due_node event = None
+
+-- the nodes that are due in the slot that an open was done for, none where it was refused
+abbrev pub due_in : Reply → Option (List ℕ)
+due_in (Done events) = Some (filter_map due_node events)
+due_in (Refused why) = None
+
+-- the nodes that leave their responses out
+abbrev pub leaving : Disturbance → List ℕ
+leaving (slot.Leave nodes) = nodes
+leaving how = []
+
+abbrev pub hurt_steps : Disturbance → List (PortId × Step)
+hurt_steps (slot.Hurt bytes) = (Bus, Hurt bytes) ∷ []
+hurt_steps how = []
+
+-- a node that is due answers, or leaves its response out where it is to
+abbrev pub decision : Disturbance → ℕ → PortId × Step
+decision how node = (Bus, if is_in (leaving how) node then Leave node else Answer node)
+
+-- the steps of a slot after its open; none where that was refused
+abbrev pub slot_rest : Disturbance → Option (List ℕ) → List (PortId × Step)
+slot_rest how None = []
+slot_rest how (Some due) = map (decision how) due ++ (hurt_steps how ++ (Bus, Finish) ∷ [])
+
+-- the nodes that are due in a slot that is opened now, none where it can't be
+abbrev pub due_now : Parts → ℕ → ℕ → List LogEntry → Option (List ℕ)
+due_now c opening capacity past = due_in (reply c opening capacity past Bus Open)
+
+-- the steps of a slot (ISO 17987-3, frame slots)
+unfoldable pub slot_steps : Parts → ℕ → ℕ → Disturbance → List LogEntry → List (PortId × Step)
+slot_steps c opening capacity how past =
+    (Bus, Open) ∷ slot_rest how (due_now c opening capacity past)
+
+abbrev pub is_opened : Option (List ℕ) → Bool
+is_opened None = false
+is_opened (Some due) = true
+
+-- the steps of slots: at most n, while a test of the history holds, ended at the first open that is refused
+unfoldable pub slots_steps : Parts → ℕ → ℕ → Disturbance → (List LogEntry → Bool) → ℕ → List LogEntry
+    → List (PortId × Step)
+slots_steps c opening capacity how goes zero past = []
+slots_steps c opening capacity how goes (suc n) past =
+    let steps = slot_steps c opening capacity how past
+    in if goes past
+    then steps ++ (if is_opened (due_now c opening capacity past)
+    then slots_steps c opening capacity how goes n (after c opening capacity past steps)
+    else [])
+    else []
+
+-- the hosts of which messages wait, and how many
+abbrev pub hosts_waiting : Parts → List LogEntry → List (ℕ × ℕ)
+hosts_waiting c past =
+    filter (λ (h : ℕ × ℕ). nat_lt 0 h.1) (map (λ h. (h, length (waiting c past h))) (numbers (nodes c)))
+
+abbrev pub some_wait : Parts → List LogEntry → Bool
+some_wait c past = list_any (λ h. nat_lt 0 (length (waiting c past h))) (numbers (nodes c))
+
+-- whether one more slot is to be made, by the time in microseconds at the line's beginning
+abbrev pub goes_on : Parts → Extent → ℕ → List LogEntry → Bool
+goes_on c (slots.Count n) began past = true
+goes_on c (slots.Milliseconds n) began past = nat_lt (time c past - began) (1000 * n)
+goes_on c (slots.Idle n) began past = some_wait c past
+
+-- how many slots lines of slots may make in a run
+abbrev pub slot_limit : ℕ
+slot_limit = 1000000
+
+-- how many slots at most: as many as a number says, and for a time one more than a run may make
+abbrev pub most : Extent → ℕ
+most (slots.Count n) = n
+most (slots.Milliseconds n) = slot_limit + 1
+most (slots.Idle n) = n
+
+-- the steps of a line of slots
+unfoldable pub extent_steps : Parts → ℕ → ℕ → Disturbance → Extent → List LogEntry → List (PortId × Step)
+extent_steps c opening capacity how extent past =
+    slots_steps c opening capacity how (goes_on c extent (time c past)) (most extent) past
+
+-- how many slots end by these steps
+abbrev pub slots_in : List (PortId × Step) → ℕ
+slots_in steps = length (filter (λ (s : PortId × Step). is_finish s.1) steps)

@@ -1,0 +1,183 @@
+-- Whether what a bench script expects is so, given the history before it: the entries of a log, the newest first.
+use Rattle.std.specs.Prelude.{ℕ, ◌==◌, ◌&&◌, Bool, true, false, nat_lt, if◌then◌else◌, List, [], ◌∷◌, ◌++◌, filter, length, slice_get, Option, Some, None, count_by, find, reverse, codes}
+use Rattle.std.specs.Str.{bytes_eq}
+use Rattle.lin_frame.specs.declared.value.Value.{Value}
+use Rattle.lin_frame.specs.declared.value.Value.TheVariants.{Scalar, Bytes}
+use Rattle.lin_parts.specs.Cluster.{nodes}
+use Rattle.lin_parts.specs.declared.parts.Parts.{Parts}
+use Rattle.lin_core.specs.History.{asleep, events}
+use Rattle.lin_core.specs.Links.{waiting}
+use Rattle.lin_core.specs.Signals.{value_at}
+use Rattle.lin_core.specs.declared.event.Event.{Event}
+use Rattle.lin_core.specs.declared.event.Event.TheVariants as event
+use Rattle.lin_core.specs.declared.event.Seen.{Seen}
+use Rattle.lin_core.specs.declared.event.Seen.TheVariants as seen
+use Rattle.lin_core.specs.declared.link.Cause.{Cause}
+use Rattle.lin_core.specs.declared.log.LogEntry.{LogEntry}
+use Rattle.lin_core.specs.declared.reply.Refusal.{Refusal}
+use Rattle.lin_core.specs.declared.reply.Refusal.TheVariants as refusal
+use Rattle.lin_core.specs.declared.reply.Reply.{Reply}
+use Rattle.lin_core.specs.declared.reply.Reply.TheVariants.{Done, Refused}
+use Rattle.lin_log.specs.Words.{cause_word}
+use Rattle.lin_bench.specs.declared.expected.Look.{Look}
+use Rattle.lin_bench.specs.declared.expected.Look.TheVariants as look
+use Rattle.lin_bench.specs.declared.expected.Expected.{Expected}
+use Rattle.lin_bench.specs.declared.expected.Expected.TheVariants as expected
+use Rattle.lin_bench.specs.declared.got.Got.{Got}
+use Rattle.lin_bench.specs.declared.got.Got.TheVariants as got
+use Rattle.lin_bench.specs.declared.taken.EventKind.{EventKind}
+use Rattle.lin_bench.specs.declared.taken.EventKind.TheVariants.{Messages, Fates, Ends, Begins}
+
+-- the word of how a slot is seen, and the name of a refusal
+abbrev pub look_word : Look → List ℕ
+look_word look.Silent = codes "silent"
+look_word look.NoAnswer = codes "none"
+look_word look.Good = codes "good"
+look_word look.Damaged = codes "damaged"
+look_word look.Collided = codes "collided"
+
+abbrev pub refusal_word : Refusal → List ℕ
+refusal_word refusal.NoSuchNode = codes "NoSuchNode"
+refusal_word refusal.NoSuchSignal = codes "NoSuchSignal"
+refusal_word refusal.NoSuchTable = codes "NoSuchTable"
+refusal_word refusal.NotPublisher = codes "NotPublisher"
+refusal_word refusal.BadValue = codes "BadValue"
+refusal_word refusal.NoAddress = codes "NoAddress"
+refusal_word refusal.BadLength = codes "BadLength"
+refusal_word refusal.Closed = codes "Closed"
+refusal_word refusal.QueueFull = codes "QueueFull"
+refusal_word refusal.Asleep = codes "Asleep"
+refusal_word refusal.Awake = codes "Awake"
+refusal_word refusal.SlotOpen = codes "SlotOpen"
+refusal_word refusal.NoSlot = codes "NoSlot"
+refusal_word refusal.NotYours = codes "NotYours"
+refusal_word refusal.Decided = codes "Decided"
+refusal_word refusal.NothingOnWire = codes "NothingOnWire"
+refusal_word refusal.PassesCheck = codes "PassesCheck"
+refusal_word refusal.NoTransfer = codes "NoTransfer"
+
+abbrev pub look_of : Seen → Look
+look_of seen.Silent = look.Silent
+look_of seen.NoAnswer = look.NoAnswer
+look_of (seen.Good answer) = look.Good
+look_of seen.Damaged = look.Damaged
+look_of seen.Collided = look.Collided
+
+abbrev pub same_value : Value → Value → Bool
+same_value (Scalar a) (Scalar b) = a == b
+same_value (Scalar a) (Bytes b) = false
+same_value (Bytes a) (Scalar b) = false
+same_value (Bytes a) (Bytes b) = bytes_eq a b
+
+-- ---- events that expectations speak of: messages from one host to another, what became of a host's messages, how
+-- slots were seen, and which slots began
+abbrev pub is_of : EventKind → Event → Bool
+is_of (Messages from to) (event.Message sender receiver bytes) = sender == from && receiver == to
+is_of (Fates host) (event.Sent h number) = h == host
+is_of (Fates host) (event.Lost h number cause) = h == host
+is_of Ends (event.Seen how) = true
+is_of Begins (event.Slot table entry header) = true
+is_of kind event = false
+
+-- the events of a history, the oldest first
+abbrev pub all_events : List LogEntry → List Event
+all_events [] = []
+all_events (e ∷ past) = all_events past ++ events e
+
+-- the last event of a kind
+abbrev pub last_event : List LogEntry → EventKind → Option Event
+last_event past kind = find (is_of kind) (reverse (all_events past))
+
+-- ---- events that expectations take, each once
+abbrev pub same_kind : EventKind → EventKind → Bool
+same_kind (Messages from to) (Messages f t) = from == f && to == t
+same_kind (Fates host) (Fates h) = host == h
+same_kind Ends Ends = true
+same_kind Begins Begins = true
+same_kind kind other = false
+
+-- the oldest event of a kind that no expectation has taken
+abbrev pub next_event : List LogEntry → List EventKind → EventKind → Option Event
+next_event past taken kind = slice_get (filter (is_of kind) (all_events past)) (count_by (same_kind kind) taken)
+
+abbrev pub with_taken : Option Event → EventKind → List EventKind → List EventKind
+with_taken None kind taken = taken
+with_taken (Some e) kind taken = taken ++ kind ∷ []
+
+-- the kind of event that an expectation takes, if it takes one
+abbrev pub kind_taken : Expected → Option EventKind
+kind_taken (expected.Message from to bytes) = Some (Messages from to)
+kind_taken (expected.Sent host) = Some (Fates host)
+kind_taken (expected.Lost host cause) = Some (Fates host)
+kind_taken what = None
+
+-- what expectations have taken after one more, met or not
+abbrev pub taking : List LogEntry → List EventKind → Option EventKind → List EventKind
+taking past taken None = taken
+taking past taken (Some kind) = with_taken (next_event past taken kind) kind taken
+
+-- ---- verdicts: none where the expectation is met, otherwise what is so
+abbrev pub unless : Bool → Got → Option Got
+unless met what = if met then None else Some what
+
+abbrev pub signal_verdict : Parts → List LogEntry → ℕ → ℕ → Value → Option Got
+signal_verdict c past node signal value =
+    if nat_lt node (nodes c) && nat_lt signal (length c.signals)
+    then unless (same_value (value_at c past node signal) value) (got.Value (value_at c past node signal))
+    else Some got.NoNodeOrSignal
+
+abbrev pub waiting_verdict : Parts → List LogEntry → ℕ → ℕ → Option Got
+waiting_verdict c past host count =
+    if nat_lt host (nodes c)
+    then unless (length (waiting c past host) == count) (got.Waiting (length (waiting c past host)))
+    else Some got.NoNode
+
+abbrev pub message_verdict : List ℕ → Option Event → Option Got
+message_verdict bytes (Some (event.Message from to b)) = unless (bytes_eq b bytes) (got.Message b)
+message_verdict bytes other = Some got.NoEvent
+
+abbrev pub sent_verdict : Option Event → Option Got
+sent_verdict (Some (event.Sent host number)) = None
+sent_verdict (Some (event.Lost host number cause)) = Some (got.Lost number cause)
+sent_verdict other = Some got.NoEvent
+
+abbrev pub lost_verdict : Cause → Option Event → Option Got
+lost_verdict cause (Some (event.Sent host number)) = Some (got.Sent number)
+lost_verdict cause (Some (event.Lost host number why)) =
+    unless (bytes_eq (cause_word why) (cause_word cause)) (got.Lost number why)
+lost_verdict cause other = Some got.NoEvent
+
+abbrev pub seen_verdict : Look → Option Event → Option Got
+seen_verdict how (Some (event.Seen s)) = unless (bytes_eq (look_word (look_of s)) (look_word how)) (got.Seen (look_of s))
+seen_verdict how other = Some got.NoSlot
+
+abbrev pub slot_verdict : ℕ → ℕ → Option Event → Option Got
+slot_verdict table entry (Some (event.Slot t e header)) = unless (t == table && e == entry) (got.Slot t e)
+slot_verdict table entry other = Some got.NoSlot
+
+abbrev pub newest_reply : List LogEntry → Option Reply
+newest_reply [] = None
+newest_reply (e ∷ past) = Some e.reply
+
+abbrev pub done_verdict : Option Reply → Option Got
+done_verdict None = Some got.NoStep
+done_verdict (Some (Done es)) = None
+done_verdict (Some (Refused r)) = Some (got.Refused r)
+
+abbrev pub refused_verdict : Refusal → Option Reply → Option Got
+refused_verdict why None = Some got.NoStep
+refused_verdict why (Some (Done es)) = Some got.Done
+refused_verdict why (Some (Refused r)) = unless (bytes_eq (refusal_word r) (refusal_word why)) (got.Refused r)
+
+unfoldable pub verdict : Parts → List LogEntry → List EventKind → Expected → Option Got
+verdict c past taken (expected.Signal node signal value) = signal_verdict c past node signal value
+verdict c past taken (expected.Waiting host count) = waiting_verdict c past host count
+verdict c past taken (expected.Message from to bytes) = message_verdict bytes (next_event past taken (Messages from to))
+verdict c past taken (expected.Sent host) = sent_verdict (next_event past taken (Fates host))
+verdict c past taken (expected.Lost host cause) = lost_verdict cause (next_event past taken (Fates host))
+verdict c past taken (expected.Seen how) = seen_verdict how (last_event past Ends)
+verdict c past taken (expected.Slot table entry) = slot_verdict table entry (last_event past Begins)
+verdict c past taken expected.Done = done_verdict (newest_reply past)
+verdict c past taken (expected.Refused why) = refused_verdict why (newest_reply past)
+verdict c past taken expected.Asleep = unless (asleep past) got.Awake
+verdict c past taken expected.Awake = if asleep past then Some got.Asleep else None

@@ -1,0 +1,117 @@
+//! Events that expectations speak of.
+
+ghost use Rattle.std.specs.Prelude.{◌≡◌, ◌++◌, List, filter, find, option_map, reverse, slice_get};
+ghost use Rattle.lin_core.specs.History.{events};
+ghost use Rattle.lin_core.specs.declared.event.Event.{Event};
+ghost use Rattle.lin_bench.specs.Making.{skipped};
+ghost use Rattle.lin_bench.specs.Verdicts.{all_events, is_of, same_kind};
+
+use lin_core::{Event, Log, LogEntry, Reply};
+
+/// A kind of events that expectations speak of.
+#[derive(Clone, Copy)]
+pub(crate) enum EventKind {
+    /// Messages from one host to another.
+    Messages { from: u8, to: u8 },
+    /// What became of a host's messages.
+    Fates { host: u8 },
+    /// How slots were seen.
+    Ends,
+    /// Which slots began.
+    Begins,
+}
+
+impl EventKind {
+    /// Whether it is this one.
+    pub(crate) fn is(self, other: EventKind) -> bool
+        ensures { result ≡ same_kind self other }
+    {
+        match (self, other) {
+            (EventKind::Messages { from, to }, EventKind::Messages { from: f, to: t }) => {
+                from == f && to == t
+            }
+            (EventKind::Fates { host }, EventKind::Fates { host: h }) => host == h,
+            (EventKind::Ends, EventKind::Ends) | (EventKind::Begins, EventKind::Begins) => true,
+            _ => false,
+        }
+    }
+
+    /// Whether an event is of this kind.
+    fn has(self, event: &Event) -> bool
+        ensures { result ≡ is_of self event.now }
+    {
+        match (self, event) {
+            (EventKind::Messages { from, to }, Event::Message { from: f, to: t, .. }) => {
+                *f == from && *t == to
+            }
+            (
+                EventKind::Fates { host },
+                Event::Sent { host: h, .. } | Event::Lost { host: h, .. },
+            ) => { *h == host }
+            (EventKind::Ends, Event::Seen(_)) | (EventKind::Begins, Event::Slot { .. }) => true,
+            _ => false,
+        }
+    }
+}
+
+/// The events of an entry.
+fn events_of(entry: &LogEntry) -> &[Event]
+    ensures { result.now ≡ events entry.now }
+{
+    match &entry.reply {
+        Reply::Done(events) => events.as_slice(),
+        Reply::Refused(_) => &[],
+    }
+}
+
+/// The event of a kind after so many others of it, or how many of these are left to skip.
+fn skipped(events: &[Event], kind: EventKind, skip: usize) -> Result<&Event, usize>
+    ensures { (more : List Event) → slice_get (filter (is_of kind) events.now ++ more) skip ≡ skipped (λ e. e.now) result more }
+{
+    let mut skip = skip;
+    for event in events {
+        if kind.has(event) {
+            if skip == 0 {
+                return Ok(event);
+            }
+            skip -= 1;
+        }
+    }
+    Err(skip)
+}
+
+/// The event of a kind in a log after so many others of it.
+pub(crate) fn event_after(log: &Log, kind: EventKind, skip: usize) -> Option<&Event>
+    ensures { option_map (λ e. e.now) result ≡ slice_get (filter (is_of kind) (all_events (reverse log.now.entries))) skip }
+{
+    let mut skip = skip;
+    for index in 0..log.len() {
+        match skipped(events_of(log.entry(index)), kind, skip) {
+            Ok(event) => return Some(event),
+            Err(left) => skip = left,
+        }
+    }
+    None
+}
+
+/// The last event of a kind among events.
+fn last_in(events: &[Event], kind: EventKind) -> Option<&Event>
+    ensures { option_map (λ e. e.now) result ≡ find (is_of kind) (reverse events.now) }
+{
+    events.iter().rev().find(|event| kind.has(event))
+}
+
+/// The last event of a kind in a log.
+pub(crate) fn last_event(log: &Log, kind: EventKind) -> Option<&Event>
+    ensures { option_map (λ e. e.now) result ≡ find (is_of kind) (reverse (all_events (reverse log.now.entries))) }
+{
+    let mut left = log.len();
+    while left > 0 {
+        left -= 1;
+        match last_in(events_of(log.entry(left)), kind) {
+            Some(event) => return Some(event),
+            None => {}
+        }
+    }
+    None
+}

@@ -1,0 +1,319 @@
+//! Verdicts on what is expected.
+
+ghost use Rattle.std.specs.Prelude.{◌≡◌, ◌==◌, ◌<◌, ◌≤◌, ◌&&◌, IfOk, OnOk, None, option_map, count_by};
+ghost use Rattle.lin_core.specs.Core.{past_of};
+ghost use Rattle.lin_log.specs.Words.{cause_word};
+ghost use Rattle.lin_bench.specs.Verdicts.{same_kind, done_verdict, kind_taken, last_event, look_of, look_word, lost_verdict, message_verdict, newest_reply, next_event, refusal_word, refused_verdict, same_value, seen_verdict, sent_verdict, signal_verdict, slot_verdict, taking, verdict, waiting_verdict, with_taken};
+
+use crate::expected::{Expected, Look};
+use crate::got::Got;
+use crate::taken::{EventKind, event_after, last_event};
+use lin_core::{Cause, Core, Event, Payload, Refusal, Reply, Seen};
+use lin_frame::Value;
+use std::alloc::{AllocError, Global};
+
+impl Look {
+    /// Its word.
+    pub(crate) fn word(self) -> &'static [u8]
+        ensures { result.now ≡ look_word self }
+    {
+        match self {
+            Look::Silent => b"silent",
+            Look::NoAnswer => b"none",
+            Look::Good => b"good",
+            Look::Damaged => b"damaged",
+            Look::Collided => b"collided",
+        }
+    }
+
+    fn of(seen: &Seen) -> Look
+        ensures { result ≡ look_of seen.now }
+    {
+        match seen {
+            Seen::Silent => Look::Silent,
+            Seen::NoAnswer => Look::NoAnswer,
+            Seen::Good(_) => Look::Good,
+            Seen::Damaged => Look::Damaged,
+            Seen::Collided => Look::Collided,
+        }
+    }
+}
+
+/// The word of why a message is lost.
+pub(crate) fn cause_word(cause: Cause) -> &'static [u8]
+    ensures { result.now ≡ cause_word cause }
+{
+    match cause {
+        Cause::Damaged => b"damaged",
+        Cause::TimedOut => b"timedout",
+        Cause::Slept => b"slept",
+    }
+}
+
+/// The name of a refusal.
+pub(crate) fn refusal_word(refusal: Refusal) -> &'static [u8]
+    ensures { result.now ≡ refusal_word refusal }
+{
+    match refusal {
+        Refusal::NoSuchNode => b"NoSuchNode",
+        Refusal::NoSuchSignal => b"NoSuchSignal",
+        Refusal::NoSuchTable => b"NoSuchTable",
+        Refusal::NotPublisher => b"NotPublisher",
+        Refusal::BadValue => b"BadValue",
+        Refusal::NoAddress => b"NoAddress",
+        Refusal::BadLength => b"BadLength",
+        Refusal::Closed => b"Closed",
+        Refusal::QueueFull => b"QueueFull",
+        Refusal::Asleep => b"Asleep",
+        Refusal::Awake => b"Awake",
+        Refusal::SlotOpen => b"SlotOpen",
+        Refusal::NoSlot => b"NoSlot",
+        Refusal::NotYours => b"NotYours",
+        Refusal::Decided => b"Decided",
+        Refusal::NothingOnWire => b"NothingOnWire",
+        Refusal::PassesCheck => b"PassesCheck",
+        Refusal::NoTransfer => b"NoTransfer",
+    }
+}
+
+fn same_value(a: &Value, b: &Value) -> bool
+    ensures { result ≡ same_value a.now b.now }
+{
+    match (a, b) {
+        (Value::Scalar(a), Value::Scalar(b)) => *a == *b,
+        (Value::Bytes(a), Value::Bytes(b)) => a.as_slice() == b.as_slice(),
+        _ => false,
+    }
+}
+
+fn signal(core: &Core, node: u8, signal: u16, value: &Value) -> Option<Got>
+    ensures { result ≡ signal_verdict core.now.cluster (past_of core.now) node signal value.now }
+{
+    let cluster = core.cluster();
+    if (node as usize) < cluster.nodes() && (signal as usize) < cluster.signals() {
+        let seen = core.signal(node, signal);
+        if same_value(&seen, value) {
+            None
+        } else {
+            Some(Got::Value(seen))
+        }
+    } else {
+        Some(Got::NoNodeOrSignal)
+    }
+}
+
+fn waiting(core: &Core, host: u8, count: u16) -> Option<Got>
+    ensures { result ≡ waiting_verdict core.now.cluster (past_of core.now) host count }
+{
+    if (host as usize) < core.cluster().nodes() {
+        let waiting = core.waiting(host);
+        if waiting == count as usize {
+            None
+        } else {
+            Some(Got::Waiting(waiting))
+        }
+    } else {
+        Some(Got::NoNode)
+    }
+}
+
+fn message(alloc: Global, event: Option<&Event>, bytes: &[u8]) -> Result<Option<Got>, AllocError>
+    ensures { IfOk result (λ v. v ≡ message_verdict bytes.now (option_map (λ e. e.now) event.entry)) }
+{
+    match event {
+        Some(Event::Message { bytes: got, .. }) => {
+            if got.as_slice() == bytes {
+                Ok(None)
+            } else {
+                Ok(Some(Got::Message(Payload::new(Vec::from_slice(alloc, got.as_slice())?))))
+            }
+        }
+        _ => Ok(Some(Got::NoEvent)),
+    }
+}
+
+fn sent(event: Option<&Event>) -> Option<Got>
+    ensures { result ≡ sent_verdict (option_map (λ e. e.now) event.entry) }
+{
+    match event {
+        Some(Event::Sent { .. }) => None,
+        Some(Event::Lost { number, cause, .. }) => Some(Got::Lost {
+            number: *number,
+            cause: *cause,
+        }),
+        _ => Some(Got::NoEvent),
+    }
+}
+
+fn lost(event: Option<&Event>, why: Cause) -> Option<Got>
+    ensures { result ≡ lost_verdict why (option_map (λ e. e.now) event.entry) }
+{
+    match event {
+        Some(Event::Sent { number, .. }) => Some(Got::Sent { number: *number }),
+        Some(Event::Lost { number, cause, .. }) => {
+            if cause_word(*cause) == cause_word(why) {
+                None
+            } else {
+                Some(Got::Lost {
+                    number: *number,
+                    cause: *cause,
+                })
+            }
+        }
+        _ => Some(Got::NoEvent),
+    }
+}
+
+fn seen(event: Option<&Event>, how: Look) -> Option<Got>
+    ensures { result ≡ seen_verdict how (option_map (λ e. e.now) event.entry) }
+{
+    match event {
+        Some(Event::Seen(seen)) => {
+            let look = Look::of(seen);
+            if look.word() == how.word() {
+                None
+            } else {
+                Some(Got::Seen(look))
+            }
+        }
+        _ => Some(Got::NoSlot),
+    }
+}
+
+fn slot(event: Option<&Event>, table: u16, entry: u16) -> Option<Got>
+    ensures { result ≡ slot_verdict table entry (option_map (λ e. e.now) event.entry) }
+{
+    match event {
+        Some(
+            Event::Slot {
+                table: t,
+                entry: e,
+                ..
+            },
+        ) => {
+            if *t == table && *e == entry {
+                None
+            } else {
+                Some(Got::Slot {
+                    table: *t,
+                    entry: *e,
+                })
+            }
+        }
+        _ => Some(Got::NoSlot),
+    }
+}
+
+/// What the last step was answered.
+fn newest_reply(core: &Core) -> Option<&Reply>
+    ensures { option_map (λ r. r.now) result ≡ newest_reply (past_of core.now) }
+{
+    if core.log().len() == 0 {
+        None
+    } else {
+        Some(&core.newest().reply)
+    }
+}
+
+fn done(reply: Option<&Reply>) -> Option<Got>
+    ensures { result ≡ done_verdict (option_map (λ r. r.now) reply.entry) }
+{
+    match reply {
+        None => Some(Got::NoStep),
+        Some(Reply::Done(_)) => None,
+        Some(Reply::Refused(refusal)) => Some(Got::Refused(*refusal)),
+    }
+}
+
+fn refused(reply: Option<&Reply>, why: Refusal) -> Option<Got>
+    ensures { result ≡ refused_verdict why (option_map (λ r. r.now) reply.entry) }
+{
+    match reply {
+        None => Some(Got::NoStep),
+        Some(Reply::Done(_)) => Some(Got::Done),
+        Some(Reply::Refused(refusal)) => {
+            if refusal_word(*refusal) == refusal_word(why) {
+                None
+            } else {
+                Some(Got::Refused(*refusal))
+            }
+        }
+    }
+}
+
+/// How many events of a kind were taken.
+fn taken_of(taken: &[EventKind], kind: EventKind) -> usize
+    ensures { result ≡ count_by (same_kind kind) taken.now }
+{
+    taken.iter().filter(|other| kind.is(**other)).count()
+}
+
+/// The oldest event of a kind that no expectation has taken, which is taken now.
+fn take_next<'a>(
+    core: &'a Core,
+    taken: &mut Vec<EventKind>,
+    kind: EventKind,
+) -> Result<Option<&'a Event>, AllocError>
+    ensures event { IfOk result (λ e. option_map (λ e. e.now) e ≡ next_event (past_of core.now) taken.old.items kind) }
+    ensures taken { OnOk result (taken.new.items ≡ with_taken (next_event (past_of core.now) taken.old.items kind) kind taken.old.items) }
+{
+    let event = event_after(core.log(), kind, taken_of(taken.as_slice(), kind));
+    if event.is_some() {
+        taken.push(kind)?;
+    }
+    Ok(event)
+}
+
+/// Whether what is expected is so, and what is so where it isn't; the event that it speaks of is taken.
+#[tactic(auto, unfolding(crate::specs::Verdicts::verdict))]
+pub(crate) fn verdict(
+    alloc: Global,
+    core: &Core,
+    taken: &mut Vec<EventKind>,
+    expected: &Expected,
+) -> Result<Option<Got>, AllocError>
+    ensures verdict { IfOk result (λ v. v ≡ verdict core.now.cluster (past_of core.now) taken.old.items expected.now) }
+    ensures taken { OnOk result (taken.new.items ≡ taking (past_of core.now) taken.old.items (kind_taken expected.now)) }
+{
+    match expected {
+        Expected::Signal {
+            node,
+            signal: number,
+            value,
+        } => Ok(signal(core, *node, *number, value)),
+        Expected::Waiting { host, count } => Ok(waiting(core, *host, *count)),
+        Expected::Message { from, to, bytes } => {
+            let kind = EventKind::Messages {
+                from: *from,
+                to: *to,
+            };
+            let event = take_next(core, taken, kind)?;
+            message(alloc, event, bytes.as_slice())
+        }
+        Expected::Sent { host } => {
+            let event = take_next(core, taken, EventKind::Fates { host: *host })?;
+            Ok(sent(event))
+        }
+        Expected::Lost { host, cause } => {
+            let event = take_next(core, taken, EventKind::Fates { host: *host })?;
+            Ok(lost(event, *cause))
+        }
+        Expected::Seen(how) => Ok(seen(last_event(core.log(), EventKind::Ends), *how)),
+        Expected::Slot { table, entry } => {
+            let event = last_event(core.log(), EventKind::Begins);
+            Ok(slot(event, *table, *entry))
+        }
+        Expected::Done => Ok(done(newest_reply(core))),
+        Expected::Refused(why) => Ok(refused(newest_reply(core), *why)),
+        Expected::Asleep => Ok(if core.asleep() {
+            None
+        } else {
+            Some(Got::Awake)
+        }),
+        Expected::Awake => Ok(if core.asleep() {
+            Some(Got::Asleep)
+        } else {
+            None
+        }),
+    }
+}
