@@ -24,7 +24,7 @@ use Rattle.lin_core.specs.declared.port.PortId.{PortId}
 use Rattle.lin_core.specs.declared.reply.Refusal.{Refusal}
 use Rattle.lin_core.specs.declared.step.Step.{Step}
 use Rattle.lin_core.specs.declared.step.Step.TheVariants.{Send, Write, Open, Answer, Leave, Hurt, Finish, Timeout, Switch, AskSleep, Wake, Close}
-use Rattle.lin_core.proofs.ClusterFrames.{all-cons}
+use Rattle.lin_core.proofs.slots.ClusterFrames.{all-cons}
 use Rattle.lin_export.specs.Captured.{IsCaptured, NeverFall, Packet, good_answer, packet_bytes, seen_answer, seen_answers, time_in, word_in}
 use Rattle.lin_export.specs.Pcap.{bus_event, file_header, filled, finish_packets, frame_body, framing, bad_checksum, goes_to_sleep, model_number, no_response, packet, packets, seen_packet, wakes, word}
 use Rattle.lin_export.specs.Shown.{checksum_in, data_of}

@@ -19,7 +19,7 @@ use Rattle.lin_core.specs.declared.reply.Reply.{Reply}
 use Rattle.lin_core.specs.declared.reply.Reply.TheVariants.{Done, Refused}
 use Rattle.lin_core.specs.declared.step.Step.{Step}
 use Rattle.lin_core.specs.declared.step.Step.TheVariants.{Send, Write, Open, Answer, Leave, Hurt, Finish, Timeout, Switch, AskSleep, Wake, Close}
-use Rattle.lin_core.proofs.Steps.{told-due}
+use Rattle.lin_core.proofs.steps.Steps.{told-due}
 
 -- the reply to a step that is refused for this reason, if there is one
 abbrev pub given : Parts → ℕ → List LogEntry → PortId → Step → Option Refusal → Reply

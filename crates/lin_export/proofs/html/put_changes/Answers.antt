@@ -1,5 +1,5 @@
 use Rattle.std.proofs.Common.{◌≡◌, ◌<◌, length, get_or, sym, arith}
-use Rattle.lin_core.proofs.ClusterFrames.{FrameIs, frame-is}
+use Rattle.lin_core.proofs.slots.ClusterFrames.{FrameIs, frame-is}
 use Rattle.lin_parts.specs.Cluster.{frame_of}
 use Rattle.lin_export.proofs.html.put_changes.Goals as goal
 
