@@ -1,9 +1,11 @@
 //! What the program does with readers and writers that tell their bytes, and with such as fail.
 
-use crate::log::fakes::Broken;
+use crate::log::fakes::{Broken, Refusing};
 use crate::samples::{BODY_CLUSTER, DOOR_CLUSTER, cluster_of, expect_text};
+use lin_log::run_script;
 use lin_tool::{
-    Fault, Format, cluster_of_reader, opening_table, read_text, replay_script, write_list,
+    Described, Fault, Format, Lists, Notes, Wanted, cluster_of_reader, cluster_of_text,
+    opening_table, read_text, replay_script, write_list, write_lists, write_shown,
 };
 use std::alloc::Global;
 use std::io::ErrorKind;
@@ -11,7 +13,8 @@ use std::process::Abort;
 use std::test::Fail;
 
 fn cluster_text(alloc: Global, mut rest: &[u8]) -> Result<Vec<u8>, Fault> {
-    let described = cluster_of_reader(alloc, &mut rest)?;
+    let mut notes = Notes::new(alloc, Wanted::default());
+    let described = cluster_of_reader(alloc, &mut rest, &mut notes)?;
     let mut text = Vec::new(alloc);
     write_list(&described.cluster, &mut text)?;
     Ok(text)
@@ -31,7 +34,8 @@ fn replayed(alloc: Global, script: &[u8]) -> Result<Vec<u8>, Fault> {
     let mut rest = DOOR_CLUSTER;
     let mut reader = script;
     let mut text = Vec::new(alloc);
-    let described = cluster_of_reader(alloc, &mut rest)?;
+    let mut notes = Notes::new(alloc, Wanted::default());
+    let described = cluster_of_reader(alloc, &mut rest, &mut notes)?;
     let table = opening_table(&described.cluster, None)?;
     replay_script(
         alloc,
@@ -41,6 +45,7 @@ fn replayed(alloc: Global, script: &[u8]) -> Result<Vec<u8>, Fault> {
         Format::Log,
         &mut reader,
         &mut text,
+        &mut notes,
     )?;
     Ok(text)
 }
@@ -76,8 +81,66 @@ fn list_is_written_once_where_that_fails(rt: HostRuntime) -> Result<(), Fail> {
     for kind in [Some(ErrorKind::Interrupted), None] {
         let mut writer = Broken { kind, calls: 0 };
         let listed = write_list(&cluster, &mut writer);
-        assert!(rt; matches!(listed, Err(Fault::WriteFailed)));
+        assert!(rt; listed.is_err());
         assert!(rt; writer.calls == 1);
+    }
+    Ok(())
+}
+
+#[test]
+fn lists_end_where_a_write_fails(rt: HostRuntime) -> Result<(), Fail> {
+    let alloc = rt.alloc();
+    let described = cluster_of_text(alloc, BODY_CLUSTER)?;
+    let all = Lists {
+        frames: true,
+        slots: true,
+    };
+    let mut whole = Vec::new(alloc);
+    write_lists(&described, all, &mut whole)?;
+    for good in 0..whole.len() {
+        let mut writer = Refusing {
+            taken: Vec::new(alloc),
+            good,
+        };
+        assert!(rt; write_lists(&described, all, &mut writer).is_err());
+        expect_text(
+            &rt,
+            &writer.taken,
+            &whole[..good],
+            "a beginning of the lists",
+        );
+    }
+    Ok(())
+}
+
+/// A message, a signal that isn't there, and a slot that is open at the end.
+const STEPS: &[u8] =
+    b"h0 send 0 1 22062E\nbus open\nn0 answer 0\nbus finish\nbus write 0 0 1\nbus open\n";
+
+#[test]
+fn formats_end_where_a_write_fails(rt: HostRuntime) -> Result<(), Fail> {
+    let alloc = rt.alloc();
+    let Described { cluster, names } = cluster_of_text(alloc, DOOR_CLUSTER)?;
+    let table = opening_table(&cluster, None)?;
+    let core = run_script(alloc, cluster, table, 16, STEPS)?;
+    for format in [
+        Format::Log,
+        Format::Named,
+        Format::Csv,
+        Format::Pcap,
+        Format::Vcd,
+    ] {
+        let mut whole = Vec::new(alloc);
+        write_shown(alloc, format, &names, &core, &mut whole)?;
+        for good in 0..whole.len() {
+            let mut writer = Refusing {
+                taken: Vec::new(alloc),
+                good,
+            };
+            let written = write_shown(alloc, format, &names, &core, &mut writer);
+            assert!(rt; written.is_err());
+            expect_text(&rt, &writer.taken, &whole[..good], "a beginning");
+        }
     }
     Ok(())
 }

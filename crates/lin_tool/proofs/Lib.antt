@@ -1,3 +1,4 @@
 pub mod Texts
 pub mod Lines
 pub mod Shows
+pub mod Written

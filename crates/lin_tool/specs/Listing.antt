@@ -1,14 +1,15 @@
 -- What a cluster has, as lines.
-use Rattle.std.specs.Prelude.{◌≡◌, ℕ, ◌+◌, List, [], ◌∷◌, ◌++◌, length, Option, Some, None, Result, Ok, Err, codes}
+use Rattle.std.specs.Prelude.{ℕ, ◌+◌, Bool, List, [], ◌∷◌, ◌++◌, length, if◌then◌else◌, Option, Some, None, codes}
 use Rattle.std.specs.Fmt.{decimal}
-use Rattle.std.specs.Io.KnownBytes.{Appends}
 use Rattle.lin_parts.specs.declared.parts.Node.{Node}
 use Rattle.lin_parts.specs.declared.parts.Parts.{Parts}
 use Rattle.lin_parts.specs.declared.parts.Signal.{Signal}
 use Rattle.lin_parts.specs.declared.parts.Table.{Table}
 use Rattle.lin_log.specs.Words.{line}
-use Rattle.lin_tool.specs.declared.fault.Fault.{Fault}
-use Rattle.lin_tool.specs.declared.fault.Fault.TheVariants.{WriteFailed}
+use Rattle.lin_listing.specs.Frames.{frames}
+use Rattle.lin_listing.specs.Slots.{slots}
+use Rattle.lin_tool.specs.declared.describing.Described.{Described}
+use Rattle.lin_tool.specs.declared.listing.Lists.{Lists}
 
 -- a diagnostic address, and `-` for none
 abbrev pub address_word : Option ℕ → List ℕ
@@ -33,8 +34,14 @@ numbered f n (x ∷ xs) = f n x ++ numbered f (n + 1) xs
 abbrev pub listing : Parts → List ℕ
 listing c = numbered node_line 0 c.nodes ++ numbered signal_line 0 c.signals ++ numbered table_line 0 c.tables
 
--- what writing that list answers, and what the writer took
-abbrev pub Lists : Parts → Result Unit Fault → Option (List ℕ) → Option (List ℕ) → Type 0
-Lists c (Ok done) old new = Appends old new (listing c)
-Lists c (Err WriteFailed) old new = (part rest : List ℕ) × (listing c ≡ part ++ rest) × Appends old new part
-Lists c (Err _) old new = ⊥
+-- the lines of frames and their places, and those of slots and loads, where they are wanted
+abbrev pub listed_frames : Described → Bool → List ℕ
+listed_frames d is_wanted = if is_wanted then frames d.cluster d.names else []
+
+abbrev pub listed_slots : Described → Bool → List ℕ
+listed_slots d is_wanted = if is_wanted then slots d.cluster d.names else []
+
+-- that list, and after it those that are wanted
+abbrev pub listed : Described → Lists → List ℕ
+listed d wanted =
+    listing d.cluster ++ listed_frames d wanted.frames ++ listed_slots d wanted.slots

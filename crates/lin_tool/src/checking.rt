@@ -1,22 +1,28 @@
 //! `linsim check`: lists what a cluster has.
 
-use crate::describing::{cluster_of_file, cluster_of_reader};
+use crate::describing::{cluster_of_file, cluster_of_input};
 use crate::fault::Fault;
-use crate::listing::write_list;
+use crate::listing::{Lists, write_lists};
+use crate::notes::Notes;
 use std::fs::Files;
 use std::io;
 
 /// Writes on standard output a line for each node, each signal and each schedule table of the
-/// cluster that the LDF text in the file at `path` describes; where the path is `-`, that on
-/// standard input.
+/// cluster that the LDF text in the file at `path` describes, and after them the lists that are
+/// wanted; where the path is `-`, that on standard input.
 ///
 /// # Errors
-/// Those of `cluster_of_file`, after which nothing was written; those of `write_list`.
-pub fn check<R: AllocGlobal + Files + Input + Print>(rt: &R, path: &str) -> Result<(), Fault> {
+/// Those of `cluster_of_file`, after which nothing was written; those of `write_lists`.
+pub fn check<R: AllocGlobal + Files + Input + Print>(
+    rt: &R,
+    path: &str,
+    lists: Lists,
+    notes: &mut Notes<'_>,
+) -> Result<(), Fault> {
     let described = if path == "-" {
-        cluster_of_reader(rt.alloc(), &mut rt.reader())?
+        cluster_of_input(rt, notes)?
     } else {
-        cluster_of_file(rt, Some(path))?
+        cluster_of_file(rt, Some(path), notes)?
     };
-    write_list(&described.cluster, &mut io::writer(rt))
+    Ok(write_lists(&described, lists, &mut io::writer(rt))?)
 }

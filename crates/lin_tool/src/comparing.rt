@@ -5,8 +5,10 @@ ghost use Rattle.lin_tool.specs.Comparing.{Compares, PartInLine};
 
 use crate::describing::cluster_of_file;
 use crate::fault::Fault;
-use crate::opening::opening_table;
-use lin_log::{read_bytes, run_script, write_log};
+use crate::notes::Notes;
+use crate::opening::noted_table;
+use crate::scripts::{noted_bytes, noted_run};
+use lin_log::write_log;
 use lin_parts::Cluster;
 use std::alloc::Global;
 use std::fs::Files;
@@ -53,13 +55,14 @@ pub fn compare_script<R: Read>(
     table: u16,
     capacity: usize,
     reader: &mut R,
+    notes: &mut Notes<'_>,
 ) -> Result<(), Fault>
     requires table { table < length cluster.tables }
     requires capacity { (1 ≤ capacity) × (capacity ≤ 1024) }
     ensures { IfSome (R.remaining reader.old) (Compares cluster table capacity result) }
 {
-    let bytes = read_bytes(alloc, reader)?;
-    let core = run_script(alloc, cluster, table, capacity, bytes.as_slice())?;
+    let bytes = noted_bytes(alloc, reader, notes)?;
+    let core = noted_run(alloc, cluster, table, capacity, bytes.as_slice(), notes)?;
     let mut text = Vec::new(alloc);
     let written = write_log(core.log(), &mut text);
     mem::forget(core);
@@ -84,16 +87,18 @@ pub fn compare<R: AllocGlobal + Files + Input>(
     path: Option<&str>,
     table: Option<&str>,
     capacity: usize,
+    notes: &mut Notes<'_>,
 ) -> Result<(), Fault>
     requires { (1 ≤ capacity) × (capacity ≤ 1024) }
 {
-    let described = cluster_of_file(rt, path)?;
-    let table = opening_table(&described.cluster, table)?;
+    let described = cluster_of_file(rt, path, notes)?;
+    let table = noted_table(&described.cluster, table, notes)?;
     compare_script(
         rt.alloc(),
         described.cluster,
         table,
         capacity,
         &mut rt.reader(),
+        notes,
     )
 }

@@ -7,6 +7,7 @@ ghost use Rattle.lin_tool.specs.Reading.{AnswersLdf, ReadsAll};
 
 use crate::fault::Fault;
 use crate::findings::Findings;
+use crate::notes::Notes;
 use lin_cluster::{CheckFault, check};
 use lin_ldf::{LdfFault, parse};
 use lin_names::Names;
@@ -85,16 +86,43 @@ pub fn cluster_of_text(alloc: Global, text: &[u8]) -> Result<Described, Fault>
     }
 }
 
-/// The cluster that the LDF text of a reader describes.
+/// The cluster that the LDF text of a reader describes. Where the text is at fault, the notes tell
+/// where.
 ///
 /// # Errors
 /// Those of `read_text`, and of what was read those of `cluster_of_text`.
 #[tactic(auto, using(crate::proofs::Texts::answers_read, crate::proofs::Texts::answers_unread))]
-pub fn cluster_of_reader<R: Read>(alloc: Global, reader: &mut R) -> Result<Described, Fault>
+pub fn cluster_of_reader<R: Read>(
+    alloc: Global,
+    reader: &mut R,
+    notes: &mut Notes<'_>,
+) -> Result<Described, Fault>
     ensures { AnswersLdf result (R.remaining reader.old) }
 {
     let text = read_text(alloc, reader)?;
-    cluster_of_text(alloc, text.as_slice())
+    let answer = cluster_of_text(alloc, text.as_slice());
+    if let Err(fault) = &answer {
+        notes.add_text(alloc, text.as_slice(), fault)?;
+    }
+    answer
+}
+
+/// The cluster that the LDF text on standard input describes.
+///
+/// # Errors
+/// Those of `cluster_of_reader`.
+#[tactic(auto, using(crate::proofs::Texts::answers_untold))]
+pub fn cluster_of_input<R: AllocGlobal + Input>(
+    rt: &R,
+    notes: &mut Notes<'_>,
+) -> Result<Described, Fault>
+    ensures { AnswersLdf result None }
+{
+    let answer = cluster_of_reader(rt.alloc(), &mut rt.reader(), notes);
+    if let Err(Fault::ReadFailed) = &answer {
+        notes.add_file(None);
+    }
+    answer
 }
 
 /// The cluster that the LDF text in the file at `path` describes; without a path the built-in one.
@@ -105,6 +133,7 @@ pub fn cluster_of_reader<R: Read>(alloc: Global, reader: &mut R) -> Result<Descr
 pub fn cluster_of_file<R: AllocGlobal + Files>(
     rt: &R,
     path: Option<&str>,
+    notes: &mut Notes<'_>,
 ) -> Result<Described, Fault>
     ensures built_in { path.entry ≡ None → AnswersText result BUILT_IN.now }
     ensures file { IsSome path.entry → AnswersLdf result None }
@@ -112,10 +141,14 @@ pub fn cluster_of_file<R: AllocGlobal + Files>(
     match path {
         None => cluster_of_text(rt.alloc(), BUILT_IN),
         Some(path) => {
-            let Ok(mut file) = fs::open(rt, path) else {
-                return Err(Fault::ReadFailed);
+            let answer = match fs::open(rt, path) {
+                Ok(mut file) => cluster_of_reader(rt.alloc(), &mut file, notes),
+                Err(_) => Err(Fault::ReadFailed),
             };
-            cluster_of_reader(rt.alloc(), &mut file)
+            if let Err(Fault::ReadFailed) = &answer {
+                notes.add_file(Some(path));
+            }
+            answer
         }
     }
 }

@@ -11,6 +11,7 @@ use crate::findings::Findings;
 use lin_export::ExportFault;
 use lin_ldf::LdfFault;
 use lin_log::ScriptFault;
+use lin_text::WriteFailed;
 use lin_threads::{RunFault, SplitFault};
 use std::alloc::{AllocError, AllocFailed};
 use thiserror::Error;
@@ -46,7 +47,7 @@ pub enum Fault {
     #[error("{}", ScriptFault::ReadFailed)]
     ReadFailed,
     /// Standard output didn't take what was written.
-    #[error("{}", lin_log::WriteFailed)]
+    #[error("{}", lin_text::WriteFailed)]
     WriteFailed,
     /// A host's task had all its turns before it was done. The log was written.
     #[error("task limit")]
@@ -128,6 +129,12 @@ impl From<ExportFault> for Fault {
             ExportFault::OutOfMemory => Fault::OutOfMemory,
             ExportFault::WriteFailed => Fault::WriteFailed,
         }
+    }
+}
+
+impl From<WriteFailed> for Fault {
+    fn from(_error: WriteFailed) -> Fault {
+        Fault::WriteFailed
     }
 }
 

@@ -2,6 +2,7 @@
 //! subcommand does with one, and why it ends early.
 //!
 //! ```
+//! let mut notes = Notes::new(alloc, wanted);
 //! let described = cluster_of_text(alloc, text)?;
 //! let table = opening_table(&described.cluster, Some("diag"))?;
 //! replay_script(alloc, described, table, 16, Format::Log, &mut reader, &mut writer)?;
@@ -11,23 +12,30 @@
 mod checking;
 mod comparing;
 mod describing;
+mod explaining;
 mod fault;
 mod findings;
 mod formats;
 mod listing;
+mod locating;
+mod meanings;
+mod notes;
 mod opening;
 mod replaying;
 mod running;
+mod scripts;
 
 pub use checking::check;
 pub use comparing::{compare, compare_script, first_difference};
 pub use describing::{
-    BUILT_IN, Described, cluster_of_file, cluster_of_reader, cluster_of_text, read_text,
+    BUILT_IN, Described, cluster_of_file, cluster_of_input, cluster_of_reader, cluster_of_text,
+    read_text,
 };
 pub use fault::Fault;
 pub use findings::Findings;
 pub use formats::{Format, write_shown};
-pub use listing::write_list;
+pub use listing::{Lists, write_list, write_lists};
+pub use notes::{Notes, Wanted};
 pub use opening::opening_table;
 pub use replaying::{replay, replay_script};
 pub use running::run;

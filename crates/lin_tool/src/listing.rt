@@ -3,13 +3,23 @@
 ghost use Rattle.std.specs.Prelude.{◌<◌, ◌∷◌, ◌++◌, length};
 ghost use Rattle.std.specs.Fmt.{decimal};
 ghost use Rattle.lin_parts.specs.Cluster.{named_table, node_of, nodes, signal_of};
-ghost use Rattle.lin_text.specs.Written.{Grows};
-ghost use Rattle.lin_tool.specs.Listing.{Lists, listing, node_line, numbered, signal_line, table_line};
+ghost use Rattle.lin_text.specs.Written.{Grows, WritesText};
+ghost use Rattle.lin_tool.specs.Listing.{listed, listed_frames, listed_slots, listing, node_line, numbered, signal_line, table_line};
 
-use crate::fault::Fault;
+use crate::describing::Described;
+use lin_listing::{write_frames, write_slots};
 use lin_parts::Cluster;
-use lin_text::TextWriter;
+use lin_text::{TextWriter, WriteFailed};
 use std::io::Write;
+
+/// Which lists of a cluster are wanted after that of its nodes, signals and schedule tables.
+#[derive(Clone, Copy, Debug, Drop, PartialEq)]
+pub struct Lists {
+    /// Its frames, with the places of their signals.
+    pub frames: bool,
+    /// The slots of its schedule tables, with the time that they need, and the load of each table.
+    pub slots: bool,
+}
 
 /// The words that each line begins with.
 fn put_name<W: Write>(writer: &mut TextWriter<'_, W>, kind: &str, number: u16, name: &[u8])
@@ -87,18 +97,68 @@ fn put_cluster<W: Write>(writer: &mut TextWriter<'_, W>, cluster: &Cluster)
     put_tables(writer, cluster);
 }
 
-/// Writes a line for each node with its name and its diagnostic address, for each signal with its name, and for each
-/// schedule table with its name and the number of its entries. It takes no memory.
+/// Writes a line for each node with its name and its diagnostic address, for each signal with its
+/// name, and for each schedule table with its name and the number of its entries. It takes no
+/// memory.
 ///
 /// # Errors
-/// `WriteFailed`, where what was written is the beginning of the lines. A failed write is tried once.
-pub fn write_list<W: Write>(cluster: &Cluster, writer: &mut W) -> Result<(), Fault>
-    ensures { Lists cluster.now result (W.contents writer.old) (W.contents writer.new) }
+/// `WriteFailed`, where what was written is the beginning of the lines. A failed write is tried
+/// once.
+pub fn write_list<W: Write>(cluster: &Cluster, writer: &mut W) -> Result<(), WriteFailed>
+    ensures { WritesText (W.contents writer.old) (W.contents writer.new) result (listing cluster.now) }
 {
     let mut lines = TextWriter::new(writer);
     put_cluster(&mut lines, cluster);
-    match lines.finish() {
-        Ok(()) => Ok(()),
-        Err(_) => Err(Fault::WriteFailed),
+    lines.finish()
+}
+
+/// Writes the lines of frames and their places, where they are wanted.
+fn write_wanted_frames<W: Write>(
+    described: &Described,
+    is_wanted: bool,
+    writer: &mut W,
+) -> Result<(), WriteFailed>
+    ensures { WritesText (W.contents writer.old) (W.contents writer.new) result
+        (listed_frames described.now is_wanted) }
+{
+    if is_wanted {
+        write_frames(&described.cluster, &described.names, writer)
+    } else {
+        Ok(())
     }
+}
+
+/// Writes the lines of slots and loads, where they are wanted.
+fn write_wanted_slots<W: Write>(
+    described: &Described,
+    is_wanted: bool,
+    writer: &mut W,
+) -> Result<(), WriteFailed>
+    ensures { WritesText (W.contents writer.old) (W.contents writer.new) result
+        (listed_slots described.now is_wanted) }
+{
+    if is_wanted {
+        write_slots(&described.cluster, &described.names, writer)
+    } else {
+        Ok(())
+    }
+}
+
+/// Writes the list of `write_list`, and after it those that are wanted: frames, and then slots. It
+/// takes no memory.
+///
+/// # Errors
+/// `WriteFailed`, where what was written is the beginning of the lines. A failed write is tried
+/// once.
+pub fn write_lists<W: Write>(
+    described: &Described,
+    lists: Lists,
+    writer: &mut W,
+) -> Result<(), WriteFailed>
+    ensures { WritesText (W.contents writer.old) (W.contents writer.new) result
+        (listed described.now lists) }
+{
+    write_list(&described.cluster, writer)?;
+    write_wanted_frames(described, lists.frames, writer)?;
+    write_wanted_slots(described, lists.slots, writer)
 }

@@ -4,6 +4,7 @@ ghost use Rattle.std.specs.Prelude.{◌<◌, length, IfOk};
 ghost use Rattle.lin_tool.specs.Opening.{Opens, opening_of};
 
 use crate::fault::Fault;
+use crate::notes::Notes;
 use lin_parts::Cluster;
 
 /// The number of the cluster's schedule table of this name; of the first one, where no name is given.
@@ -19,4 +20,22 @@ pub fn opening_table(cluster: &Cluster, name: Option<&str>) -> Result<u16, Fault
         None if cluster.tables() > 0 => Ok(0),
         None => Err(Fault::NoSuchTable),
     }
+}
+
+/// The same. Where there is no such table, the notes tell the names of those that there are.
+///
+/// # Errors
+/// `NoSuchTable`, as of `opening_table`.
+pub(crate) fn noted_table(
+    cluster: &Cluster,
+    name: Option<&str>,
+    notes: &mut Notes<'_>,
+) -> Result<u16, Fault>
+    ensures { IfOk result (λ table. table < length cluster.now.tables) }
+{
+    let table = opening_table(cluster, name);
+    if table.is_err() {
+        notes.add_tables(cluster);
+    }
+    table
 }

@@ -7,14 +7,16 @@ ghost use Rattle.lin_tool.specs.Replaying.{Replays};
 use crate::describing::{Described, cluster_of_file};
 use crate::fault::Fault;
 use crate::formats::{Format, write_shown};
-use crate::opening::opening_table;
-use lin_log::{read_bytes, run_script};
+use crate::notes::Notes;
+use crate::opening::noted_table;
+use crate::scripts::{noted_bytes, noted_run};
 use std::alloc::Global;
 use std::fs::Files;
 use std::io::{self, Read, Write};
 use std::mem;
 
-/// Reads a script, makes its steps over a cluster, and writes their log in a format.
+/// Reads a script, makes its steps over a cluster, and writes their log in a format. The notes tell
+/// which steps were refused.
 ///
 /// It begins with the schedule table `table`; each host may have `capacity` messages waiting, 1 to
 /// 1,024. (The core's memory is left to the end of the program: it would be let go of entry by
@@ -33,6 +35,7 @@ pub fn replay_script<R: Read, W: Write>(
     format: Format,
     reader: &mut R,
     writer: &mut W,
+    notes: &mut Notes<'_>,
 ) -> Result<(), Fault>
     requires table { table < length described.cluster.tables }
     requires capacity { (1 ≤ capacity) × (capacity ≤ 1024) }
@@ -40,9 +43,10 @@ pub fn replay_script<R: Read, W: Write>(
         (R.remaining reader.old) (W.contents writer.old) (W.contents writer.new) }
 {
     let Described { cluster, names } = described;
-    let bytes = read_bytes(alloc, reader)?;
-    let core = run_script(alloc, cluster, table, capacity, bytes.as_slice())?;
+    let bytes = noted_bytes(alloc, reader, notes)?;
+    let core = noted_run(alloc, cluster, table, capacity, bytes.as_slice(), notes)?;
     let written = write_shown(alloc, format, &names, &core, writer);
+    notes.add_refusals(core.log());
     mem::forget(core);
     match written {
         Ok(()) => Ok(()),
@@ -66,11 +70,12 @@ pub fn replay<R: AllocGlobal + Files + Input + Print>(
     table: Option<&str>,
     capacity: usize,
     format: Format,
+    notes: &mut Notes<'_>,
 ) -> Result<(), Fault>
     requires { (1 ≤ capacity) × (capacity ≤ 1024) }
 {
-    let described = cluster_of_file(rt, path)?;
-    let table = opening_table(&described.cluster, table)?;
+    let described = cluster_of_file(rt, path, notes)?;
+    let table = noted_table(&described.cluster, table, notes)?;
     let mut reader = rt.reader();
     let mut writer = io::writer(rt);
     replay_script(
@@ -81,5 +86,6 @@ pub fn replay<R: AllocGlobal + Files + Input + Print>(
         format,
         &mut reader,
         &mut writer,
+        notes,
     )
 }

@@ -9,9 +9,10 @@ ghost use Rattle.lin_tool.specs.Running.{ReadsHosts, WritesRun};
 use crate::describing::{Described, cluster_of_file};
 use crate::fault::Fault;
 use crate::formats::{Format, write_shown};
-use crate::opening::opening_table;
+use crate::notes::Notes;
+use crate::opening::noted_table;
+use crate::scripts::noted_script;
 use lin_core::Core;
-use lin_log::read_script;
 use lin_names::Names;
 use lin_parts::Cluster;
 use lin_threads::{
@@ -42,11 +43,12 @@ fn host_steps<R: Read>(
     alloc: Global,
     reader: &mut R,
     hosts: usize,
+    notes: &mut Notes<'_>,
 ) -> Result<Vec<Vec<HostStep>>, Fault>
     ensures lists { IfSome (R.remaining reader.old) (λ bytes. ReadsHosts hosts result bytes) }
     ensures count { IfOk result (λ lists. vec_len lists ≡ hosts) }
 {
-    let steps = read_script(alloc, reader)?;
+    let steps = noted_script(alloc, reader, notes)?;
     Ok(split(alloc, steps, hosts)?)
 }
 
@@ -145,6 +147,7 @@ fn run_over<R: AllocGlobal + Input + Print + Eprint + Threads + Wait>(
     slots: u32,
     format: Format,
     is_watched: bool,
+    notes: &mut Notes<'_>,
 ) -> Result<(), Fault>
     requires table { table < length described.cluster.tables }
     requires capacity { (1 ≤ capacity) × (capacity ≤ 1024) }
@@ -152,12 +155,13 @@ fn run_over<R: AllocGlobal + Input + Print + Eprint + Threads + Wait>(
     let Described { cluster, names } = described;
     let hosts = cluster.nodes();
     let mut reader = rt.reader();
-    let lists = host_steps(rt.alloc(), &mut reader, hosts)?;
+    let lists = host_steps(rt.alloc(), &mut reader, hosts, notes)?;
     if is_watched {
         let _ = eprintln!(rt; "linsim: {slots} slots, {hosts} hosts");
     }
     let report = run_steps(rt, cluster, table, capacity, slots, lists)?;
     let written = put_report(rt.alloc(), format, &names, &report, &mut io::writer(rt));
+    notes.add_refusals(report.core.log());
     mem::forget(report);
     written
 }
@@ -184,10 +188,13 @@ pub fn run<R: AllocGlobal + Files + Input + Print + Eprint + Threads + Wait>(
     capacity: usize,
     format: Format,
     is_watched: bool,
+    notes: &mut Notes<'_>,
 ) -> Result<(), Fault>
     requires { (1 ≤ capacity) × (capacity ≤ 1024) }
 {
-    let described = cluster_of_file(rt, Some(path))?;
-    let table = opening_table(&described.cluster, table)?;
-    run_over(rt, described, table, capacity, slots, format, is_watched)
+    let described = cluster_of_file(rt, Some(path), notes)?;
+    let table = noted_table(&described.cluster, table, notes)?;
+    run_over(
+        rt, described, table, capacity, slots, format, is_watched, notes,
+    )
 }

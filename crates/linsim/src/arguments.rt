@@ -1,11 +1,11 @@
 //! The command line.
 
 use clap::{Arg, ArgAction, ArgMatches, Command, value_parser};
-use lin_tool::Format;
+use lin_tool::{Format, Lists, Wanted};
 use std::alloc::{AllocError, Global};
 
 const STATUS_NOTE: &str =
-    "Exit status: 0 done; 1 a fault of the input; 2 a wrong command line; 3 out of memory;\n4 a read or a write failed; 5 the run met a limit; 6 the log isn't that of its own steps (replay --same).\nA fault is one line on standard error.";
+    "Exit status: 0 done; 1 a fault of the input; 2 a wrong command line; 3 out of memory;\n4 a read or a write failed; 5 the run met a limit; 6 the log isn't that of its own steps (replay --same).\nA fault is one line on standard error; with --explain, lines below it say more.";
 
 const REPLAY_NOTE: &str =
     "Without FILE the cluster is the built-in one: the commander cem, the responder door with the diagnostic\naddress 1, and the schedule table diag with a master request and a slave response, 10 ms each.\n\nExample: linsim replay door.ldf --to csv < door.script > door.csv";
@@ -49,12 +49,38 @@ fn format<'a>(alloc: Global) -> Arg<'a> {
         .help("The format in which the log is written")
 }
 
-fn same<'a>(alloc: Global) -> Result<Arg<'a>, AllocError> {
-    Arg::new(alloc, "same")
-        .long("same")
+/// An option without a value.
+fn flag<'a>(alloc: Global, name: &'a str, help: &'a str) -> Arg<'a> {
+    Arg::new(alloc, name)
+        .long(name)
         .action(ArgAction::SetTrue)
-        .help("Writes nothing, and compares the script with its log")
-        .conflicts_with("to")
+        .help(help)
+}
+
+fn same<'a>(alloc: Global) -> Result<Arg<'a>, AllocError> {
+    let help = "Writes nothing, and compares the script with its log";
+    flag(alloc, "same", help).conflicts_with("to")
+}
+
+fn listed_frames<'a>(alloc: Global) -> Arg<'a> {
+    let help = "Lists the frames with the places of their signals, too";
+    flag(alloc, "frames", help)
+}
+
+fn listed_slots<'a>(alloc: Global) -> Arg<'a> {
+    let help = "Lists the slots with the time that they need, and the load of each table, too";
+    flag(alloc, "slots", help)
+}
+
+fn places<'a>(alloc: Global) -> Arg<'a> {
+    let help =
+        "Begins the lines of faults and findings with FILE:LINE:COLUMN, and ends them with the token there";
+    flag(alloc, "where", help)
+}
+
+fn explain<'a>(alloc: Global) -> Arg<'a> {
+    let help = "Says more of faults, findings and refused steps, on standard error";
+    flag(alloc, "explain", help)
 }
 
 fn slots<'a>(alloc: Global) -> Arg<'a> {
@@ -76,7 +102,8 @@ fn replay<'a>(alloc: Global) -> Result<Command<'a>, AllocError> {
         .arg(table(alloc))?
         .arg(capacity(alloc))?
         .arg(format(alloc))?
-        .arg(same(alloc)?)
+        .arg(same(alloc)?)?
+        .arg(explain(alloc))
 }
 
 fn check<'a>(alloc: Global) -> Result<Command<'a>, AllocError> {
@@ -85,7 +112,11 @@ fn check<'a>(alloc: Global) -> Result<Command<'a>, AllocError> {
             "Checks an LDF file, and lists the nodes, signals and schedule tables of its cluster",
         )
         .after_help(CHECK_NOTE)
-        .arg(file(alloc).required(true))
+        .arg(file(alloc).required(true))?
+        .arg(listed_frames(alloc))?
+        .arg(listed_slots(alloc))?
+        .arg(places(alloc))?
+        .arg(explain(alloc))
 }
 
 fn run<'a>(alloc: Global) -> Result<Command<'a>, AllocError> {
@@ -98,7 +129,8 @@ fn run<'a>(alloc: Global) -> Result<Command<'a>, AllocError> {
         .arg(slots(alloc))?
         .arg(table(alloc))?
         .arg(capacity(alloc))?
-        .arg(format(alloc))
+        .arg(format(alloc))?
+        .arg(explain(alloc))
 }
 
 /// What the program takes.
@@ -113,12 +145,20 @@ fn command<'a>(alloc: Global) -> Result<Command<'a>, AllocError> {
         .subcommand(run(alloc)?)
 }
 
+/// What the command line asks for, and what it wants on standard error.
+#[derive(Clone, Copy)]
+pub(crate) struct Asked<'a> {
+    pub request: Request<'a>,
+    pub wanted: Wanted<'a>,
+}
+
 /// What the command line asks for.
 #[derive(Clone, Copy)]
 pub(crate) enum Request<'a> {
-    /// `linsim check FILE`
+    /// `linsim check FILE [--frames] [--slots]`
     Check {
         file: &'a str,
+        lists: Lists,
     },
     /// `linsim replay [FILE] [--table T] [--capacity N] [--to FORMAT]`
     Replay {
@@ -154,10 +194,29 @@ fn format_of(word: Option<&str>) -> Format {
     }
 }
 
+/// What is wanted on standard error: `[--explain]` of each subcommand, `[--where]` of `check`.
+fn wanted_of<'a>(matches: &ArgMatches<'a>) -> Wanted<'a> {
+    match matches.subcommand() {
+        Some((name, found)) => Wanted {
+            explained: found.get_flag("explain"),
+            file: if name == "check" && found.get_flag("where") {
+                found.get_str("file")
+            } else {
+                None
+            },
+        },
+        None => Wanted::default(),
+    }
+}
+
 fn request_of<'a>(matches: &ArgMatches<'a>) -> Option<Request<'a>> {
     match matches.subcommand() {
         Some(("check", found)) => Some(Request::Check {
             file: found.get_str("file").unwrap_or(""),
+            lists: Lists {
+                frames: found.get_flag("frames"),
+                slots: found.get_flag("slots"),
+            },
         }),
         Some(("replay", found)) if found.get_flag("same") => Some(Request::Compare {
             file: found.get_str("file"),
@@ -185,16 +244,19 @@ fn request_of<'a>(matches: &ArgMatches<'a>) -> Option<Request<'a>> {
 ///
 /// # Errors
 /// What clap answers in place of matches: a mistake in the words, a text that they ask for, or want of memory.
-pub(crate) fn asked<'a>(
+pub(crate) fn read_words<'a>(
     alloc: Global,
     words: &'a [String],
-) -> Result<Option<Request<'a>>, clap::Error> {
+) -> Result<Option<Asked<'a>>, clap::Error> {
     let command = match command(alloc) {
         Ok(command) => command,
         Err(error) => return Err(clap::Error::from(error)),
     };
     match command.try_get_matches_from(words) {
-        Ok(matches) => Ok(request_of(&matches)),
+        Ok(matches) => Ok(request_of(&matches).map(|request| Asked {
+            request,
+            wanted: wanted_of(&matches),
+        })),
         Err(error) => Err(error),
     }
 }

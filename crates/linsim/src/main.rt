@@ -6,9 +6,9 @@ ghost use Rattle.std.specs.Prelude.{◌≤◌};
 
 mod arguments;
 
-use crate::arguments::{Request, asked};
+use crate::arguments::{Asked, Request, read_words};
 use clap::error::ErrorKind;
-use lin_tool::Fault;
+use lin_tool::{Fault, Notes};
 use std::env::Env;
 use std::fs::Files;
 use std::io::{self, IsTerminal};
@@ -26,25 +26,33 @@ fn within_limits(capacity: u16) -> usize
     usize::from(capacity.clamp(1, 1024))
 }
 
+/// Which of the standard streams are terminals.
+#[derive(Clone, Copy)]
+struct Terminals {
+    input: bool,
+    error: bool,
+}
+
 /// Does what is asked for; where standard error is watched, a run says there that it begins.
 fn perform<R: AllocGlobal + Files + Input + Print + Eprint + Threads + Wait>(
     rt: &R,
     request: Request<'_>,
     is_watched: bool,
+    notes: &mut Notes<'_>,
 ) -> Result<(), Fault> {
     match request {
-        Request::Check { file } => lin_tool::check(rt, file),
+        Request::Check { file, lists } => lin_tool::check(rt, file, lists, notes),
         Request::Replay {
             file,
             table,
             capacity,
             format,
-        } => lin_tool::replay(rt, file, table, within_limits(capacity), format),
+        } => lin_tool::replay(rt, file, table, within_limits(capacity), format, notes),
         Request::Compare {
             file,
             table,
             capacity,
-        } => lin_tool::compare(rt, file, table, within_limits(capacity)),
+        } => lin_tool::compare(rt, file, table, within_limits(capacity), notes),
         Request::Run {
             file,
             slots,
@@ -59,7 +67,36 @@ fn perform<R: AllocGlobal + Files + Input + Print + Eprint + Threads + Wait>(
             within_limits(capacity),
             format,
             is_watched,
+            notes,
         ),
+    }
+}
+
+/// Whether a script or an LDF text is read from standard input.
+fn is_read(request: Request<'_>) -> bool {
+    match request {
+        Request::Check { file, .. } => file == "-",
+        Request::Replay { .. } | Request::Compare { .. } | Request::Run { .. } => true,
+    }
+}
+
+/// Does what is asked for, prints what is to be said of a fault on standard error, and gives the
+/// exit status.
+fn answer<R: AllocGlobal + Files + Input + Print + Eprint + Threads + Wait>(
+    rt: &R,
+    asked: Asked<'_>,
+    terminals: Terminals,
+) -> ExitCode {
+    let Asked { request, wanted } = asked;
+    if wanted.explained && terminals.input && is_read(request) {
+        let _ = eprintln!(rt; "linsim: reads from the terminal, up to its end (Ctrl-D)");
+    }
+    let mut notes = Notes::new(rt.alloc(), wanted);
+    let done = perform(rt, request, terminals.error, &mut notes);
+    notes.print(rt, done.as_ref().err());
+    match done {
+        Ok(()) => ExitCode::SUCCESS,
+        Err(fault) => ExitCode::from(fault.status()),
     }
 }
 
@@ -89,23 +126,26 @@ fn unread<R: Eprint>(rt: &R, error: &io::Error) -> Result<ExitCode, Fault> {
 
 fn run<R: AllocGlobal + Env + Files + Input + Print + Eprint + Threads + Wait>(
     rt: &R,
-    is_watched: bool,
+    terminals: Terminals,
 ) -> Result<ExitCode, Fault> {
     let alloc = rt.alloc();
     let words: Vec<String> = match std::env::args(rt) {
         Ok(all) => all.collect(alloc)?,
         Err(error) => return unread(rt, &error),
     };
-    match asked(alloc, words.as_slice()) {
-        Ok(Some(request)) => perform(rt, request, is_watched)?,
-        Ok(None) => {}
-        Err(error) => return refused(rt, &error),
+    match read_words(alloc, words.as_slice()) {
+        Ok(Some(asked)) => Ok(answer(rt, asked, terminals)),
+        Ok(None) => Ok(ExitCode::SUCCESS),
+        Err(error) => refused(rt, &error),
     }
-    Ok(ExitCode::SUCCESS)
 }
 
 fn main(rt: HostRuntime) -> ExitCode {
-    match run(&rt, rt.stderr().is_terminal()) {
+    let terminals = Terminals {
+        input: rt.stdin().is_terminal(),
+        error: rt.stderr().is_terminal(),
+    };
+    match run(&rt, terminals) {
         Ok(status) => status,
         Err(fault) => {
             let _ = eprintln!(rt; "{fault}");

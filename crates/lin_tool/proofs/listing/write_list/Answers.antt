@@ -2,14 +2,8 @@ use Rattle.std.proofs.Common.{sym, ◌∙◌, rules}
 use Rattle.lin_text.proofs.Growing.{text-written}
 use Rattle.lin_tool.proofs.listing.write_list.Goals as goal
 
-pub returns-in-Ok : goal.returns-in-Ok
-returns-in-Ok g c =
-    let same = sym (c.put_cluster.ensures.same ∙ c.new-lines.ensures.same) in
-    let written = text-written c.new-lines.ensures c.put_cluster.ensures c.finish.ensures in
-    search rules
-
-pub returns-in-Err : goal.returns-in-Err
-returns-in-Err g c =
+pub returns : goal.returns
+returns g c =
     let same = sym (c.put_cluster.ensures.same ∙ c.new-lines.ensures.same) in
     let written = text-written c.new-lines.ensures c.put_cluster.ensures c.finish.ensures in
     search rules

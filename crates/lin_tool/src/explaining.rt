@@ -1,0 +1,168 @@
+//! `--explain`: what is said below the lines of a fault, for who meets it first.
+
+use crate::fault::Fault;
+use crate::meanings::{FAULTS, FINDINGS, REFUSALS};
+use lin_cluster::Finding;
+use lin_core::{Log, Reply};
+use lin_ldf::{LdfFault, Place};
+use lin_log::first_line;
+use lin_parts::Cluster;
+use std::alloc::AllocError;
+
+/// How many bytes of a line are shown at most.
+const WIDTH: usize = 96;
+
+/// How many bytes of a line are shown at most before a place in it.
+const BEFORE: usize = 64;
+
+/// How many findings are explained at most.
+const MOST: usize = 10;
+
+/// A byte in one column, and never as a part of a terminal's command.
+pub(crate) fn shown(byte: u8) -> char {
+    match byte {
+        b'\t' => ' ',
+        b' '..=b'~' => char::from(byte),
+        _ => '?',
+    }
+}
+
+/// Puts the bytes of a text, each in one column.
+pub(crate) fn put_shown(out: &mut String, bytes: &[u8]) -> Result<(), AllocError> {
+    for byte in bytes {
+        out.push(shown(*byte))?;
+    }
+    Ok(())
+}
+
+/// The line of this number, from 1; no bytes where there is none.
+fn line_of(text: &[u8], number: u64) -> &[u8] {
+    let mut rest = text;
+    for _ in 1..number {
+        match first_line(rest) {
+            (_, Some(others)) => rest = others,
+            (_, None) => return &[],
+        }
+    }
+    first_line(rest).0
+}
+
+/// Puts the line of a place in a text, and a mark under the place.
+fn put_place(out: &mut String, text: &[u8], place: Place) -> Result<(), AllocError> {
+    let line = line_of(text, place.line);
+    let at = line.len().min(place.column.saturating_sub(1) as usize);
+    let from = at.saturating_sub(BEFORE);
+    let to = line.len().min(from.saturating_add(WIDTH));
+    out.push_str("  ")?;
+    put_shown(out, line.get(from..to).unwrap_or(&[]))?;
+    out.push_str("\n  ")?;
+    for _ in from..at {
+        out.push_str(" ")?;
+    }
+    out.push_str("^\n")
+}
+
+/// Where a text is at fault, and the fault's number.
+pub(crate) fn place_of(fault: &LdfFault) -> Option<(Place, usize)> {
+    match fault {
+        LdfFault::BadByte(place) => Some((*place, 1)),
+        LdfFault::OpenComment(place) => Some((*place, 2)),
+        LdfFault::OpenText(place) => Some((*place, 3)),
+        LdfFault::Unexpected(place) => Some((*place, 4)),
+        LdfFault::NumberTooLarge(place) => Some((*place, 5)),
+        LdfFault::SectionTwice(place) => Some((*place, 6)),
+        LdfFault::NameTwice(place) => Some((*place, 7)),
+        LdfFault::OutOfMemory => None,
+    }
+}
+
+fn put_fault(out: &mut String, text: &[u8], fault: &LdfFault) -> Result<(), AllocError> {
+    let Some((place, number)) = place_of(fault) else {
+        return Ok(());
+    };
+    put_place(out, text, place)?;
+    match FAULTS.get(number.wrapping_sub(1)) {
+        Some((_, meaning)) => writeln!(out, "  {meaning}"),
+        None => Ok(()),
+    }
+}
+
+fn put_finding(out: &mut String, text: &[u8], finding: &Finding) -> Result<(), AllocError> {
+    let Finding {
+        number,
+        line,
+        column,
+        needed_us: _,
+    } = *finding;
+    writeln!(out, "{line}:{column}")?;
+    put_place(out, text, Place { line, column })?;
+    match FINDINGS.get(usize::from(number).wrapping_sub(1)) {
+        Some((meaning, change)) => writeln!(out, "  {meaning}\n  to change: {change}"),
+        None => Ok(()),
+    }
+}
+
+fn put_findings(out: &mut String, text: &[u8], findings: &[Finding]) -> Result<(), AllocError> {
+    for finding in findings.iter().take(MOST) {
+        put_finding(out, text, finding)?;
+    }
+    Ok(())
+}
+
+/// Puts where an LDF text is at fault, and what that means: of the first ten findings.
+pub(crate) fn put_text(out: &mut String, text: &[u8], fault: &Fault) -> Result<(), AllocError> {
+    // (columns of the first line count from after a byte-order mark)
+    let text = text.strip_prefix(b"\xEF\xBB\xBF").unwrap_or(text);
+    match fault {
+        Fault::Ldf(fault) => put_fault(out, text, fault),
+        Fault::Findings(findings) => put_findings(out, text, findings.0.as_slice()),
+        _ => Ok(()),
+    }
+}
+
+/// Puts the names of a cluster's schedule tables.
+pub(crate) fn put_tables(out: &mut String, cluster: &Cluster) -> Result<(), AllocError> {
+    out.push_str("  the schedule tables are")?;
+    for table in 0..cluster.tables() as u16 {
+        out.push_str(" ")?;
+        put_shown(out, cluster.table_name(table))?;
+    }
+    out.push_str("\n")
+}
+
+/// Puts a line of a script that is in no form.
+pub(crate) fn put_bad_line(out: &mut String, script: &[u8], number: u64) -> Result<(), AllocError> {
+    let line = line_of(script, number);
+    out.push_str("  ")?;
+    put_shown(out, line.get(..WIDTH).unwrap_or(line))?;
+    out.push_str("\n  a line is a port (bus, h0, n1 ..), a step (open, send ..) and its fields\n")
+}
+
+/// How many steps of a log were refused, by the refusals' numbers.
+fn counts(log: &Log) -> [u64; 18] {
+    let mut counts = [0u64; 18];
+    for index in 0..log.len() {
+        if let Reply::Refused(refusal) = &log.entry(index).reply {
+            if let Some(count) = counts.get_mut(*refusal as usize) {
+                *count = count.saturating_add(1);
+            }
+        }
+    }
+    counts
+}
+
+/// Puts how many steps of a log were refused, and why; nothing where none was.
+pub(crate) fn put_refusals(out: &mut String, log: &Log) -> Result<(), AllocError> {
+    let steps = log.len();
+    let mut number: u64 = 0;
+    for (count, (name, meaning)) in counts(log).iter().zip(REFUSALS.iter()) {
+        number = number.saturating_add(1);
+        if *count > 0 {
+            writeln!(
+                out,
+                "  refused: {count} of {steps} steps, {number} {name}: {meaning}"
+            )?;
+        }
+    }
+    Ok(())
+}

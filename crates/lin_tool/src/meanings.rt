@@ -1,0 +1,177 @@
+//! What faults of LDF texts, findings and refusals mean, in the words of the repository's page on
+//! formats. Each list is in the order of the numbers, from 1.
+
+/// The name of a fault of an LDF text, and what it means (LIN 2.2A, section 9).
+pub(crate) static FAULTS: [(&str, &str); 7] = [
+    (
+        "BadByte",
+        "outside comments and texts, a control byte that is no separator, 0x7F, or a byte from \
+         0x80",
+    ),
+    ("OpenComment", "no */ follows"),
+    ("OpenText", "no closing \" follows"),
+    (
+        "Unexpected",
+        "the token can't stand there; at the end of the text the place after its last byte. \
+         This includes a fraction where INT is wanted, a fourth decimal that isn't zero, and a \
+         hexadecimal NUM where DEC is wanted",
+    ),
+    ("NumberTooLarge", "an INT or DEC above its limit"),
+    (
+        "SectionTwice",
+        "one of the six used sections a second time, or Nodes again where a section may begin",
+    ),
+    (
+        "NameTwice",
+        "a name declared a second time among nodes; among signals; among frames, sporadic and \
+         event-triggered frames together; among tables; a second attribute block of a node; a \
+         second LIN_protocol or configured_NAD in a block",
+    ),
+];
+
+/// What a finding means, and what to change.
+pub(crate) static FINDINGS: [(&str, &str); 18] = [
+    (
+        "a publisher, a subscriber or an attribute block that is no node; a signal of a frame \
+         that isn't declared; a member that is no frame of any kind; a table that isn't \
+         declared; an entry that is nothing declared",
+        "spell the name as it is declared, or declare it. An entry takes a frame of any kind, \
+         never a node, a signal or a table",
+    ),
+    (
+        "a signal in a frame of another publisher",
+        "give both the same publisher, or move the signal into a frame of its own publisher",
+    ),
+    (
+        "the identifier of a frame or an event-triggered frame above 59; 60 and 61 are the \
+         diagnostic frames, which need no declaration",
+        "take a free identifier from 0 to 59",
+    ),
+    (
+        "an identifier that stands earlier in the text for a frame or an event-triggered frame",
+        "take a free identifier",
+    ),
+    (
+        "a scalar that hasn't 1 to 16 bits; an array that hasn't 8, 16, .. or 64 bits; a frame \
+         that hasn't 1 to 8 bytes",
+        "correct the size; a longer number is an array of bytes",
+    ),
+    (
+        "a signal that reaches beyond the end of its frame, or an array that doesn't begin with \
+         a byte",
+        "a smaller offset, a longer frame; for an array an offset of 0, 8, 16, ..",
+    ),
+    (
+        "a signal on a bit of an earlier one of the frame, or a signal that the frame has \
+         already",
+        "move the later signal after the earlier one",
+    ),
+    (
+        "a scalar's value that doesn't fit its bits; an array's values that aren't one for each \
+         byte, or one above 255",
+        "a value that fits; an array has one value for each 8 bits, in braces",
+    ),
+    (
+        "a delay shorter than the entry's frame may take. The line ends with the microseconds \
+         that it needs",
+        "at least that delay, a faster bus or a shorter frame",
+    ),
+    (
+        "a delay of 0",
+        "at least the delay that the slot needs (finding 9)",
+    ),
+    (
+        "a responder's configured_NAD that isn't 1 to 125",
+        "an address from 1 to 125, or leave the line out: the node then has none",
+    ),
+    (
+        "a responder's address that an earlier block of a responder has",
+        "another address for one of them",
+    ),
+    (
+        "a member of an event-triggered frame that is no frame, that the commander publishes, \
+         whose publisher an earlier member has, whose size isn't that of the first member, or \
+         that has a signal in its first byte, where the member's own identifier is sent",
+        "members of one size from different responders, with their signals from bit 8 on",
+    ),
+    (
+        "a member of a sporadic frame that is no frame, or that the commander doesn't publish",
+        "members of the commander alone",
+    ),
+    (
+        "the table that resolves a collision has an event-triggered frame as an entry",
+        "name the member frames in its place",
+    ),
+    (
+        "a table without entries: at its name; a description without a table: at 1:1",
+        "give it an entry, or leave it out",
+    ),
+    (
+        "the 16th responder, 61st frame, 61st event-triggered frame, 1,025th signal, 257th \
+         sporadic frame, 257th table or 1,025th entry of a table: at its name or word, that one \
+         alone; a delay, time base or jitter above 1,000,000,000 us, or a speed that isn't 1 to \
+         20,000 bit/s",
+        "a smaller cluster or number. LIN has at most 20 kbit/s",
+    ),
+    (
+        "a member of an event-triggered frame that is a frame with another checksum than the \
+         first member, where that is a frame",
+        "members that all have the classic checksum, or none",
+    ),
+];
+
+/// The name of a refusal, and when a step is refused so.
+pub(crate) static REFUSALS: [(&str, &str); 18] = [
+    (
+        "NoSuchNode",
+        "send, write, answer, leave, timeout, close: a number that is no node of the cluster",
+    ),
+    (
+        "NoSuchSignal",
+        "write: a number that is no signal of the cluster",
+    ),
+    (
+        "NoSuchTable",
+        "switch: a number that is no schedule table of the cluster",
+    ),
+    ("NotPublisher", "write: the node doesn't publish the signal"),
+    (
+        "BadValue",
+        "write: an array for a scalar signal or the other way round; a scalar with more bits \
+         than the signal; an array of another length",
+    ),
+    (
+        "NoAddress",
+        "send: not exactly one of the two is node 0, or the other one has no diagnostic address",
+    ),
+    ("BadLength", "send: no bytes, or more than 4,095"),
+    ("Closed", "send, close: the host is closed"),
+    (
+        "QueueFull",
+        "send: as many of the host's messages wait as the capacity (--capacity); one that is \
+         begun counts until its end",
+    ),
+    ("Asleep", "open, sleep: the cluster is asleep"),
+    ("Awake", "wake: the cluster isn't asleep"),
+    ("SlotOpen", "open, timeout, switch: a slot is open"),
+    ("NoSlot", "answer, leave, hurt, finish: no slot is open"),
+    (
+        "NotYours",
+        "any step: this port may not give it; answer, leave: the node isn't due in the open slot",
+    ),
+    (
+        "Decided",
+        "answer, leave: the node has answered in this slot, or left its answer out; hurt: the \
+         slot's answer is damaged already",
+    ),
+    (
+        "NothingOnWire",
+        "hurt: the slot has no answer, or more than one",
+    ),
+    (
+        "PassesCheck",
+        "hurt: the bytes would pass for an answer in this slot: they have its length and the \
+         right checksum, classic or enhanced as the slot's frame has it",
+    ),
+    ("NoTransfer", "timeout: no message is begun on that link"),
+];
