@@ -1,10 +1,11 @@
 -- What `parse` and `check` say of a text, in the program's words.
-use Rattle.std.proofs.Common.{◌≡◌, ◌≢◌, ◌⊎◌, inl, inr, ℕ, ◌≤◌, List, length, Option, None, IfSome, Result, Ok, Err, sym, ◌∙◌}
+use Rattle.std.proofs.Common.{◌≡◌, ◌≢◌, ◌⊎◌, inl, inr, ℕ, ◌≤◌, List, length, Option, None, IfOk, IfSome, Result, Ok, Err, sym, ◌∙◌}
 use Rattle.lin_ldf.specs.Describes.{Describes}
 use Rattle.lin_ldf.specs.Tokens.{IsLexFault}
 use Rattle.lin_ldf.specs.declared.fault.LdfFault.{LdfFault}
 use Rattle.lin_ldf.specs.declared.fault.LdfFault.TheVariants as ldf
 use Rattle.lin_description.specs.declared.description.Description.{Description}
+use Rattle.lin_listing.specs.Slots.{AreOfOneDescription}
 use Rattle.lin_tool.specs.Clusters.{AnswersText, Tells, TextFaults}
 use Rattle.lin_tool.specs.Reading.{AnswersLdf, ReadFaults}
 use Rattle.lin_tool.specs.declared.describing.Described.{Described}
@@ -47,3 +48,10 @@ answers_untold (Err LdfTooLong) told h = tt
 answers_untold (Err OutOfMemory) told h = tt
 answers_untold (Err ReadFailed) told h = tt
 answers_untold (Err _) told h = absurd h
+
+-- a cluster that is answered and its names are of one description
+pub one_description : (r : Result Described Fault) (told : Option (List ℕ)) → AnswersLdf r told
+    → IfOk r (λ d. AreOfOneDescription d.cluster d.names)
+one_description (Ok answer) told (text, is, short, h) =
+    record { description = h.description; free = h.free; said = h.said; named = h.named }
+one_description (Err fault) told h = tt

@@ -1,6 +1,6 @@
 //! `linsim check`: lists what a cluster has.
 
-use crate::describing::{cluster_of_file, cluster_of_input};
+use crate::describing::cluster_at;
 use crate::fault::Fault;
 use crate::listing::{Lists, write_lists};
 use crate::notes::Notes;
@@ -12,17 +12,13 @@ use std::io;
 /// wanted; where the path is `-`, that on standard input.
 ///
 /// # Errors
-/// Those of `cluster_of_file`, after which nothing was written; those of `write_lists`.
+/// Those of `cluster_at`, after which nothing was written; those of `write_lists`.
 pub fn check<R: AllocGlobal + Files + Input + Print>(
     rt: &R,
     path: &str,
     lists: Lists,
     notes: &mut Notes<'_>,
 ) -> Result<(), Fault> {
-    let described = if path == "-" {
-        cluster_of_input(rt, notes)?
-    } else {
-        cluster_of_file(rt, Some(path), notes)?
-    };
+    let described = cluster_at(rt, path, notes)?;
     Ok(write_lists(&described, lists, &mut io::writer(rt))?)
 }

@@ -1,7 +1,8 @@
 //! Clusters from LDF texts: that of a reader or a file is read, and that of the built-in cluster
 //! stands here.
 
-ghost use Rattle.std.specs.Prelude.{◌≡◌, IsSome};
+ghost use Rattle.std.specs.Prelude.{◌≡◌, IfOk, IsSome};
+ghost use Rattle.lin_listing.specs.Slots.{AreOfOneDescription};
 ghost use Rattle.lin_tool.specs.Clusters.{AnswersText, Tells};
 ghost use Rattle.lin_tool.specs.Reading.{AnswersLdf, ReadsAll};
 
@@ -150,5 +151,25 @@ pub fn cluster_of_file<R: AllocGlobal + Files>(
             }
             answer
         }
+    }
+}
+
+/// The cluster that the LDF text in the file at `path` describes; where the path is `-`, that on
+/// standard input.
+///
+/// # Errors
+/// Those of `cluster_of_file` and `cluster_of_input`.
+#[tactic(auto, using(crate::proofs::Texts::one_description))]
+pub fn cluster_at<R: AllocGlobal + Files + Input>(
+    rt: &R,
+    path: &str,
+    notes: &mut Notes<'_>,
+) -> Result<Described, Fault>
+    ensures { IfOk result (λ d. AreOfOneDescription d.cluster d.names) }
+{
+    if path == "-" {
+        cluster_of_input(rt, notes)
+    } else {
+        cluster_of_file(rt, Some(path), notes)
     }
 }

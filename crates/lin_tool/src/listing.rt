@@ -3,6 +3,7 @@
 ghost use Rattle.std.specs.Prelude.{◌<◌, ◌∷◌, ◌++◌, length};
 ghost use Rattle.std.specs.Fmt.{decimal};
 ghost use Rattle.lin_parts.specs.Cluster.{named_table, node_of, nodes, signal_of};
+ghost use Rattle.lin_listing.specs.Slots.{AreOfOneDescription};
 ghost use Rattle.lin_text.specs.Written.{Grows, WritesText};
 ghost use Rattle.lin_tool.specs.Listing.{listed, listed_frames, listed_slots, listing, node_line, numbered, signal_line, table_line};
 
@@ -134,6 +135,7 @@ fn write_wanted_slots<W: Write>(
     is_wanted: bool,
     writer: &mut W,
 ) -> Result<(), WriteFailed>
+    requires { AreOfOneDescription described.now.cluster described.now.names }
     ensures { WritesText (W.contents writer.old) (W.contents writer.new) result
         (listed_slots described.now is_wanted) }
 {
@@ -155,6 +157,7 @@ pub fn write_lists<W: Write>(
     lists: Lists,
     writer: &mut W,
 ) -> Result<(), WriteFailed>
+    requires { AreOfOneDescription described.now.cluster described.now.names }
     ensures { WritesText (W.contents writer.old) (W.contents writer.new) result
         (listed described.now lists) }
 {
