@@ -129,6 +129,7 @@ fn formats_end_where_a_write_fails(rt: HostRuntime) -> Result<(), Fail> {
         Format::Csv,
         Format::Pcap,
         Format::Vcd,
+        Format::Html,
     ] {
         let mut whole = Vec::new(alloc);
         write_shown(alloc, format, &names, &core, &mut whole)?;

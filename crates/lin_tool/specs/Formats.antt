@@ -14,7 +14,7 @@ use Rattle.lin_export.specs.declared.fault.ExportFault.TheVariants as export
 use Rattle.lin_tool.specs.declared.fault.Fault.{Fault}
 use Rattle.lin_tool.specs.declared.fault.Fault.TheVariants.{OutOfMemory, WriteFailed}
 use Rattle.lin_tool.specs.declared.formats.Format.{Format}
-use Rattle.lin_tool.specs.declared.formats.Format.TheVariants.{Log, Named, Csv, Pcap, Vcd}
+use Rattle.lin_tool.specs.declared.formats.Format.TheVariants.{Log, Named, Csv, Pcap, Vcd, Html}
 
 -- a log in a format that has a definition
 abbrev pub shown : Format → NamesData → Parts → List LogEntry → Option (List ℕ)
@@ -23,6 +23,7 @@ shown Named names c log = Some (named c names log)
 shown Csv names c log = Some (csv c names log)
 shown Pcap names c log = Some (pcap c log)
 shown Vcd names c log = Some (vcd c log)
+shown Html names c log = None
 
 -- a text was written whole, or a beginning of it
 abbrev pub Shows : Option (List ℕ) → Option (List ℕ) → Option (List ℕ) → Type 0

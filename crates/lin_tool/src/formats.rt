@@ -7,7 +7,7 @@ ghost use Rattle.lin_tool.specs.Formats.{shown};
 ghost use Rattle.lin_tool.specs.declared.formats.Format.TheVariants.{Log};
 
 use lin_core::Core;
-use lin_export::{ExportFault, write_csv, write_named, write_pcap, write_vcd};
+use lin_export::{ExportFault, write_csv, write_html, write_named, write_pcap, write_vcd};
 use lin_log::write_log;
 use lin_names::Names;
 use std::alloc::Global;
@@ -26,6 +26,8 @@ pub enum Format {
     Pcap,
     /// A dump of changes over time (IEEE 1364-2005, section 18).
     Vcd,
+    /// A picture of the run (HTML): one file, without scripts.
+    Html,
 }
 
 /// Writes the log of a core in a format. A log's own text takes no memory, and the others take
@@ -56,5 +58,6 @@ pub fn write_shown<W: Write>(
         Format::Csv => write_csv(alloc, cluster, names, log, writer),
         Format::Pcap => write_pcap(alloc, cluster, log, writer),
         Format::Vcd => write_vcd(alloc, cluster, log, writer),
+        Format::Html => write_html(alloc, cluster, names, log, writer),
     }
 }

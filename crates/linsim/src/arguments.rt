@@ -38,7 +38,7 @@ fn capacity<'a>(alloc: Global) -> Arg<'a> {
 }
 
 /// The words for the formats.
-static FORMATS: [&str; 5] = ["log", "named", "csv", "pcap", "vcd"];
+static FORMATS: [&str; 6] = ["log", "named", "csv", "pcap", "vcd", "html"];
 
 fn format<'a>(alloc: Global) -> Arg<'a> {
     Arg::new(alloc, "to")
@@ -190,6 +190,7 @@ fn format_of(word: Option<&str>) -> Format {
         Some("csv") => Format::Csv,
         Some("pcap") => Format::Pcap,
         Some("vcd") => Format::Vcd,
+        Some("html") => Format::Html,
         _ => Format::Log,
     }
 }
