@@ -2,7 +2,7 @@
 use Rattle.std.proofs.Common.{subst, length, ◌≡◌, ◌∙◌, ℕ, ◌+◌, ◌-◌, ◌<◌, ◌≤◌, Bool, true, false, nat_lt, List, [], ◌∷◌, ◌++◌, reverse, refl, sym, ap, arith, append_assoc, Result, Ok, Err, lt-ltb, le-ltb}
 use Rattle.std.specs.Global.{Vec}
 use Rattle.std.proofs.lemmas.List.{reverse-reverse}
-use Rattle.lin_parts.specs.declared.parts.Parts.{Parts}
+use Rattle.lin_cluster_parts.specs.declared.parts.Parts.{Parts}
 use Rattle.lin_core.specs.Core.{CoreData, past_of}
 use Rattle.lin_core.specs.Runs.{history}
 use Rattle.lin_core.specs.declared.port.PortId.{PortId}

@@ -1,7 +1,8 @@
 -- What a bench script expects.
-use Rattle.std.specs.Prelude.{ℕ, ◌==◌, if◌then◌else◌, List, [], ◌∷◌, Option, Some, None, Result, Ok, Err, codes}
+use Rattle.std.specs.Prelude.{ℕ, ◌==◌, if◌then◌else◌, List, [], ◌∷◌, Option, Some, None, Result, Ok}
+use Rattle.std.specs.Prelude.{Err, codes}
 use Rattle.std.specs.Str.{bytes_eq}
-use Rattle.lin_parts.specs.declared.parts.Parts.{Parts}
+use Rattle.lin_cluster_parts.specs.declared.parts.Parts.{Parts}
 use Rattle.lin_core.specs.declared.link.Cause.{Cause}
 use Rattle.lin_core.specs.declared.link.Cause.TheVariants as cause
 use Rattle.lin_core.specs.declared.reply.Refusal.{Refusal}
@@ -10,7 +11,8 @@ use Rattle.lin_bench.specs.Fields.{◌>>=◌, or_bad, is_number, number_field}
 use Rattle.lin_bench.specs.Names.{node_field, signal_field, table_field}
 use Rattle.lin_bench.specs.Values.{bytes_fields, value_field}
 use Rattle.lin_bench.specs.declared.reason.Reason.{Reason}
-use Rattle.lin_bench.specs.declared.reason.Reason.TheVariants.{NoRefusal, TooSmall, ExpectForm, UnknownExpectation}
+use Rattle.lin_bench.specs.declared.reason.Reason.TheVariants.{NoRefusal, TooSmall, ExpectForm}
+use Rattle.lin_bench.specs.declared.reason.Reason.TheVariants.{UnknownExpectation}
 use Rattle.lin_bench.specs.declared.expected.Look.{Look}
 use Rattle.lin_bench.specs.declared.expected.Look.TheVariants as look
 use Rattle.lin_bench.specs.declared.expected.Expected.{Expected}
@@ -85,8 +87,8 @@ refusal_field f =
     if is_number f then number_field 18 f >>= (λ n. or_bad (refusal_numbered n) TooSmall)
     else or_bad (refusal_named f) (NoRefusal f)
 
--- the forms of the expectations: all fields after `expect`, which are shown where there is no form of them, and those
--- after the first word. A wrong number of fields is no form
+-- the forms of the expectations: all fields after `expect`, which are shown where there is no form
+-- of them, and those after the first word. A wrong number of fields is no form
 abbrev pub signal_form : Parts → List (List ℕ) → List (List ℕ) → Result Expected Reason
 signal_form c all (n ∷ s ∷ v ∷ []) = do
   node ← node_field c n
@@ -122,7 +124,8 @@ lost_form c all (n ∷ why ∷ []) = do
 lost_form c all fs = Err (UnknownExpectation all)
 
 abbrev pub seen_form : List (List ℕ) → List (List ℕ) → Result Expected Reason
-seen_form all (word ∷ []) = or_bad (look_named word) (UnknownExpectation all) >>= (λ how. Ok (expected.Seen how))
+seen_form all (word ∷ []) =
+    or_bad (look_named word) (UnknownExpectation all) >>= (λ how. Ok (expected.Seen how))
 seen_form all fs = Err (UnknownExpectation all)
 
 abbrev pub slot_form : Parts → List (List ℕ) → List (List ℕ) → Result Expected Reason
@@ -141,7 +144,8 @@ lone_form all what [] = Ok what
 lone_form all what (f ∷ fs) = Err (UnknownExpectation all)
 
 -- the expectation that a word names, with the fields after it
-abbrev pub word_expectation : Parts → List (List ℕ) → List ℕ → List (List ℕ) → Result Expected Reason
+abbrev pub word_expectation : Parts → List (List ℕ) → List ℕ → List (List ℕ)
+    → Result Expected Reason
 word_expectation c all word fs =
     if bytes_eq word (codes "signal") then signal_form c all fs
     else if bytes_eq word (codes "waiting") then waiting_form c all fs

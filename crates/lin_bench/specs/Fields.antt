@@ -1,5 +1,7 @@
 -- The fields of a bench script's line, and what is said of one that is bad.
-use Rattle.std.specs.Prelude.{ℕ, ◌==◌, ◌||◌, ◌&&◌, Bool, true, false, not, nat_le, nat_lt, List, [], ◌∷◌, length, filter, map, slice_index, Option, Some, None, Result, Ok, Err}
+use Rattle.std.specs.Prelude.{ℕ, ◌==◌, ◌||◌, ◌&&◌, Bool, true, false, not, nat_le, nat_lt, List, []}
+use Rattle.std.specs.Prelude.{◌∷◌, length, filter, map, slice_index, Option, Some, None, Result, Ok}
+use Rattle.std.specs.Prelude.{Err}
 use Rattle.std.specs.Borrow.{Bor}
 use Rattle.std.specs.List.{slice_split, take_while}
 use Rattle.lin_log.specs.Script.{number}
@@ -27,7 +29,8 @@ is_text f = nat_lt 0 (length f)
 abbrev pub is_comment : List ℕ → Bool
 is_comment f = slice_index f 0 == 35
 
--- the fields of a line: what stands between its spaces and tabs, up to the first field that begins with `#`
+-- the fields of a line: what stands between its spaces and tabs, up to the first field that begins
+-- with `#`
 abbrev pub fields : List ℕ → List (List ℕ)
 fields line = take_while (λ f. not (is_comment f)) (filter is_text (slice_split is_gap line))
 

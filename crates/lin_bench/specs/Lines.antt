@@ -1,9 +1,10 @@
 -- What the lines of a bench script say: steps, slots to be made, and expectations.
-use Rattle.std.specs.Prelude.{ℕ, ◌+◌, ◌==◌, ◌||◌, ◌&&◌, Bool, if◌then◌else◌, List, [], ◌∷◌, drop, slice_index, Option, Some, None, Result, Ok, Err, codes}
+use Rattle.std.specs.Prelude.{ℕ, ◌+◌, ◌==◌, ◌||◌, ◌&&◌, Bool, if◌then◌else◌, List, [], ◌∷◌, drop}
+use Rattle.std.specs.Prelude.{slice_index, Option, Some, None, Result, Ok, Err, codes}
 use Rattle.std.specs.List.{slice_split}
 use Rattle.std.specs.Str.{bytes_eq}
 use Rattle.std.specs.Str.Lines.{strip_carriage_return}
-use Rattle.lin_parts.specs.declared.parts.Parts.{Parts}
+use Rattle.lin_cluster_parts.specs.declared.parts.Parts.{Parts}
 use Rattle.lin_core.specs.declared.port.PortId.TheVariants.{Bus}
 use Rattle.lin_bench.specs.Fields.{◌>>=◌, or_bad, fields, number_field}
 use Rattle.lin_bench.specs.Names.{node_field}
@@ -11,7 +12,8 @@ use Rattle.lin_bench.specs.Values.{bytes_fields}
 use Rattle.lin_bench.specs.Steps.{is_port, port, step_form, step_after}
 use Rattle.lin_bench.specs.Expectations.{expectation}
 use Rattle.lin_bench.specs.declared.reason.Reason.{Reason}
-use Rattle.lin_bench.specs.declared.reason.Reason.TheVariants.{TooSmall, SlotsForm, SlotForm, LeaveForm}
+use Rattle.lin_bench.specs.declared.reason.Reason.TheVariants.{TooSmall, SlotsForm, SlotForm}
+use Rattle.lin_bench.specs.declared.reason.Reason.TheVariants.{LeaveForm}
 use Rattle.lin_bench.specs.declared.line.Disturbance.{Disturbance}
 use Rattle.lin_bench.specs.declared.line.Disturbance.TheVariants as slot
 use Rattle.lin_bench.specs.declared.line.Extent.{Extent}
@@ -23,9 +25,12 @@ use Rattle.lin_bench.specs.declared.line.Line.TheVariants as line
 abbrev pub count_field : List ℕ → Result ℕ Reason
 count_field f = number_field 1000000 f >>= (λ n. if n == 0 then Err TooSmall else Ok n)
 
--- how many slots, for how many milliseconds of the schedule's time, or until no message waits, at most 10,000 where no number says how many
+-- how many slots, for how many milliseconds of the schedule's time, or until no message waits, at
+-- most 10,000 where no number says how many
 unfoldable pub slots_form : List (List ℕ) → Result Extent Reason
-slots_form (f ∷ []) = if bytes_eq f (codes "idle") then Ok (slots.Idle 10000) else count_field f >>= (λ n. Ok (slots.Count n))
+slots_form (f ∷ []) =
+    if bytes_eq f (codes "idle") then Ok (slots.Idle 10000)
+    else count_field f >>= (λ n. Ok (slots.Count n))
 slots_form (f ∷ g ∷ []) =
     if bytes_eq f (codes "idle") then count_field g >>= (λ n. Ok (slots.Idle n))
     else if bytes_eq g (codes "ms") then count_field f >>= (λ n. Ok (slots.Milliseconds n))
@@ -51,7 +56,8 @@ slot_form c (word ∷ fs) =
     else if bytes_eq word (codes "leave") then leave_form c fs
     else Err (SlotForm word)
 
--- what a line says, by its first field and those after it. Where no port stands before a step, the bus gives it
+-- what a line says, by its first field and those after it. Where no port stands before a step, the
+-- bus gives it
 unfoldable pub line_form : Parts → List ℕ → List (List ℕ) → Result Line Reason
 line_form c word fs =
     if is_port word
@@ -88,12 +94,14 @@ with_said n (Ok (Some l)) more = with_line (n, l) more
 -- what lines from number n on say; one CR before a line's end is dropped
 abbrev pub read_lines : Parts → ℕ → List (List ℕ) → Script
 read_lines c n [] = Ok []
-read_lines c n (l ∷ ls) = with_said n (read_line c (strip_carriage_return l)) (read_lines c (n + 1) ls)
+read_lines c n (l ∷ ls) =
+    with_said n (read_line c (strip_carriage_return l)) (read_lines c (n + 1) ls)
 
 -- a text without the mark EF BB BF at its start
 abbrev pub without_mark : List ℕ → List ℕ
 without_mark text =
-    if slice_index text 0 == 0xEF && slice_index text 1 == 0xBB && slice_index text 2 == 0xBF then drop 3 text else text
+    if slice_index text 0 == 0xEF && slice_index text 1 == 0xBB && slice_index text 2 == 0xBF
+    then drop 3 text else text
 
 -- what a bench script says, or its first bad line, counted from 1 over all lines
 unfoldable pub read : Parts → List ℕ → Script

@@ -1,5 +1,6 @@
 -- What making steps on a core answers.
-use Rattle.std.specs.Prelude.{◌≡◌, ℕ, ◌<◌, ◌+◌, ◌-◌, ◌≤◌, List, ◌++◌, length, slice_get, Option, Some, None, Result, Ok, Err}
+use Rattle.std.specs.Prelude.{◌≡◌, ℕ, ◌<◌, ◌+◌, ◌-◌, ◌≤◌, List, ◌++◌, length, slice_get, Option}
+use Rattle.std.specs.Prelude.{Some, None, Result, Ok, Err}
 use Rattle.lin_core.specs.Core.{CoreData, IsAlike, past_of}
 use Rattle.lin_core.specs.declared.port.PortId.{PortId}
 use Rattle.lin_core.specs.declared.step.Step.{Step}
@@ -21,10 +22,12 @@ pub record IsMade (old : CoreData) (steps : List (PortId × Step)) (new : CoreDa
 
 -- the steps of a line of slots on a core
 abbrev pub extent_on : CoreData → Disturbance → Extent → List (PortId × Step)
-extent_on core how extent = extent_steps core.cluster core.opening core.capacity how extent (past_of core)
+extent_on core how extent =
+    extent_steps core.cluster core.opening core.capacity how extent (past_of core)
 
 -- the slots of a line were made, and so many are left; or they are more than were left
-abbrev pub MakesSlots : CoreData → Disturbance → Extent → ℕ → Result (Option ℕ) Stop → CoreData → Type 0
+abbrev pub MakesSlots : CoreData → Disturbance → Extent → ℕ → Result (Option ℕ) Stop → CoreData
+    → Type 0
 MakesSlots old how extent left (Ok (Some rest)) new =
     IsMade old (extent_on old how extent) new × (slots_in (extent_on old how extent) + rest ≡ left)
 MakesSlots old how extent left (Ok None) new = left < slots_in (extent_on old how extent)
@@ -64,12 +67,14 @@ SlotsFail OutOfMemory left n made = Unit {0}
 
 abbrev pub PlaysSlots : Player → ℕ → Disturbance → Extent → Result Unit PlayFault → Player → Type 0
 PlaysSlots old n how extent (Ok done) new = AreSlots old (extent_on old.core how extent) new
-PlaysSlots old n how extent (Err fault) new = SlotsFail fault old.left n (slots_in (extent_on old.core how extent))
+PlaysSlots old n how extent (Err fault) new =
+    SlotsFail fault old.left n (slots_in (extent_on old.core how extent))
 
 -- what playing a line answers: it makes more slots than are left, or it was played
 abbrev pub PlaysLine : Player → ℕ → Line → Result Unit PlayFault → Player → Type 0
 PlaysLine old n line (Ok done) new = IsPlayed old n line new
-PlaysLine old n line (Err fault) new = SlotsFail fault old.left n (slots_made line (said_on old.core line))
+PlaysLine old n line (Err fault) new =
+    SlotsFail fault old.left n (slots_made line (said_on old.core line))
 
 abbrev pub play_fault : Stop → PlayFault
 play_fault stop.LogFull = LogFull

@@ -1,7 +1,7 @@
 -- What the lines of a bench script come to: steps, and the expectations that aren't met.
-use Rattle.std.specs.Prelude.{◌≡◌, ℕ, ◌-◌, ◌==◌, length, nat_lt, if◌then◌else◌, List, [], ◌∷◌, ◌++◌, reverse, Option, Some, None, Result, Ok, Err}
-use Rattle.lin_frame.specs.Words.{choose}
-use Rattle.lin_parts.specs.declared.parts.Parts.{Parts}
+use Rattle.std.specs.Prelude.{◌≡◌, ℕ, ◌-◌, ◌==◌, length, nat_lt, if◌then◌else◌, List, [], ◌∷◌, ◌++◌}
+use Rattle.std.specs.Prelude.{reverse, Option, Some, None, Result, Ok, Err}
+use Rattle.lin_cluster_parts.specs.declared.parts.Parts.{Parts}
 use Rattle.lin_core.specs.Runs.{history}
 use Rattle.lin_core.specs.declared.log.LogEntry.{LogEntry}
 use Rattle.lin_core.specs.declared.port.PortId.{PortId}
@@ -23,7 +23,8 @@ use Rattle.lin_bench.specs.declared.taken.EventKind.{EventKind}
 unfoldable pub said : Parts → ℕ → ℕ → List LogEntry → Line → List (PortId × Step)
 said c opening capacity past (line.Step by step) = (by, step) ∷ []
 said c opening capacity past (line.Slot how) = extent_steps c opening capacity how (Count 1) past
-said c opening capacity past (line.Slots extent) = extent_steps c opening capacity Undisturbed extent past
+said c opening capacity past (line.Slots extent) =
+    extent_steps c opening capacity Undisturbed extent past
 said c opening capacity past (line.Expect what) = []
 
 -- how many slots a line of slots made by these steps; no other line makes any
@@ -59,8 +60,8 @@ unmet_at c n past later taken (line.Slot how) = []
 unmet_at c n past later taken (line.Slots extent) = left_waiting c n extent later
 unmet_at c n past later taken (line.Expect what) = unmet_of n what (verdict c past taken what)
 
--- what lines come to: the steps that they say, how many slots lines of slots may still make, of which kinds
--- expectations took events, and the expectations that aren't met, each in order
+-- what lines come to: the steps that they say, how many slots lines of slots may still make, of
+-- which kinds expectations took events, and the expectations that aren't met, each in order
 pub record Run : Type 0 where
   pub steps : List (PortId × Step)
   pub left : ℕ
@@ -88,8 +89,10 @@ next c opening capacity run l =
 abbrev pub in_turn : Parts → ℕ → ℕ → Result Run ℕ → List (ℕ × Line) → Result Run ℕ
 in_turn c opening capacity (Err n) ls = Err n
 in_turn c opening capacity (Ok run) [] = Ok run
-in_turn c opening capacity (Ok run) (l ∷ ls) = in_turn c opening capacity (next c opening capacity run l) ls
+in_turn c opening capacity (Ok run) (l ∷ ls) =
+    in_turn c opening capacity (next c opening capacity run l) ls
 
--- what a bench script of these lines comes to, or the line that makes more slots than a run may have
+-- what a bench script of these lines comes to, or the line that makes more slots than a run may
+-- have
 abbrev pub played : Parts → ℕ → ℕ → List (ℕ × Line) → Result Run ℕ
 played c opening capacity ls = in_turn c opening capacity (Ok first) ls

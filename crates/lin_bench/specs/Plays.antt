@@ -1,6 +1,6 @@
 -- What playing a bench script answers.
 use Rattle.std.specs.Prelude.{◌≡◌, ℕ, List, Result, Ok, Err}
-use Rattle.lin_parts.specs.declared.parts.Parts.{Parts}
+use Rattle.lin_cluster_parts.specs.declared.parts.Parts.{Parts}
 use Rattle.lin_log.specs.Replay.{log_of}
 use Rattle.lin_bench.specs.Played.{Run, played}
 use Rattle.lin_bench.specs.declared.fault.PlayFault.{PlayFault}
@@ -8,8 +8,10 @@ use Rattle.lin_bench.specs.declared.fault.PlayFault.TheVariants.{SlotLimit, LogF
 use Rattle.lin_bench.specs.declared.line.Line.{Line}
 use Rattle.lin_bench.specs.declared.playing.Played.{Played}
 
--- the core's log is the history of the steps that the lines say, and the unmet expectations are theirs
-pub record Comes (c : Parts) (opening : ℕ) (capacity : ℕ) (ls : List (ℕ × Line)) (it : Played) : Type 0 where
+-- the core's log is the history of the steps that the lines say, and the unmet expectations are
+-- theirs
+pub record Comes (c : Parts) (opening : ℕ) (capacity : ℕ) (ls : List (ℕ × Line))
+    (it : Played) : Type 0 where
   pub run : Run
   pub lines : played c opening capacity ls ≡ Ok run
   pub log : it.core.log ≡ log_of c opening capacity run.steps

@@ -9,7 +9,7 @@ use Rattle.lin_bench.specs.declared.reason.Reason.{Reason}
 use Rattle.lin_bench.specs.declared.script.LinesLeft.{LinesLeft}
 use Rattle.lin_bench.specs.Lines.{Script, read_lines, with_line}
 use Rattle.lin_log.specs.Judged.{lines_left}
-use Rattle.lin_parts.specs.declared.parts.Parts.{Parts}
+use Rattle.lin_cluster_parts.specs.declared.parts.Parts.{Parts}
 
 abbrev pub Fails : {Y : Type 0} → LineFault → Result Y Reason → Type 0
 Fails (Bad why) read = read ≡ Err why

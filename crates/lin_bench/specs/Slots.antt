@@ -1,9 +1,11 @@
--- What lines of slots stand for, given the history before them: the entries of a log, the newest first.
-use Rattle.std.specs.Prelude.{ℕ, suc, zero, ◌+◌, ◌-◌, ◌*◌, Bool, true, false, nat_lt, if◌then◌else◌, List, [], ◌∷◌, ◌++◌, map, filter, length, Option, Some, None}
+-- What lines of slots stand for, given the history before them: the entries of a log, the newest
+-- first.
+use Rattle.std.specs.Prelude.{ℕ, suc, zero, ◌+◌, ◌-◌, ◌*◌, Bool, true, false, nat_lt, if◌then◌else◌}
+use Rattle.std.specs.Prelude.{List, [], ◌∷◌, ◌++◌, map, filter, length, Option, Some, None}
 use Rattle.std.specs.List.{list_any, filter_map}
 use Rattle.lin_frame.specs.Words.{numbers}
-use Rattle.lin_parts.specs.Cluster.{nodes}
-use Rattle.lin_parts.specs.declared.parts.Parts.{Parts}
+use Rattle.lin_cluster_parts.specs.Cluster.{nodes}
+use Rattle.lin_cluster_parts.specs.declared.parts.Parts.{Parts}
 use Rattle.lin_core.specs.History.{is_finish, is_in, time}
 use Rattle.lin_core.specs.Links.{waiting}
 use Rattle.lin_core.specs.Replies.{reply}
@@ -68,8 +70,10 @@ abbrev pub is_opened : Option (List ℕ) → Bool
 is_opened None = false
 is_opened (Some due) = true
 
--- the steps of slots: at most n, while a test of the history holds, ended at the first open that is refused
-unfoldable pub slots_steps : Parts → ℕ → ℕ → Disturbance → (List LogEntry → Bool) → ℕ → List LogEntry
+-- the steps of slots: at most n, while a test of the history holds, ended at the first open that is
+-- refused
+unfoldable pub slots_steps : Parts → ℕ → ℕ → Disturbance → (List LogEntry → Bool) → ℕ
+    → List LogEntry
     → List (PortId × Step)
 slots_steps c opening capacity how goes zero past = []
 slots_steps c opening capacity how goes (suc n) past =
@@ -83,7 +87,8 @@ slots_steps c opening capacity how goes (suc n) past =
 -- the hosts of which messages wait, and how many
 abbrev pub hosts_waiting : Parts → List LogEntry → List (ℕ × ℕ)
 hosts_waiting c past =
-    filter (λ (h : ℕ × ℕ). nat_lt 0 h.1) (map (λ h. (h, length (waiting c past h))) (numbers (nodes c)))
+    filter (λ (h : ℕ × ℕ). nat_lt 0 h.1)
+    (map (λ h. (h, length (waiting c past h))) (numbers (nodes c)))
 
 abbrev pub some_wait : Parts → List LogEntry → Bool
 some_wait c past = list_any (λ h. nat_lt 0 (length (waiting c past h))) (numbers (nodes c))
@@ -105,7 +110,8 @@ most (slots.Milliseconds n) = slot_limit + 1
 most (slots.Idle n) = n
 
 -- the steps of a line of slots
-unfoldable pub extent_steps : Parts → ℕ → ℕ → Disturbance → Extent → List LogEntry → List (PortId × Step)
+unfoldable pub extent_steps : Parts → ℕ → ℕ → Disturbance → Extent → List LogEntry
+    → List (PortId × Step)
 extent_steps c opening capacity how extent past =
     slots_steps c opening capacity how (goes_on c extent (time c past)) (most extent) past
 

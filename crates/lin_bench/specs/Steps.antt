@@ -1,29 +1,36 @@
 -- Ports and steps.
-use Rattle.std.specs.Prelude.{ℕ, ◌==◌, ◌||◌, ◌&&◌, Bool, nat_lt, if◌then◌else◌, List, [], ◌∷◌, length, drop, slice_index, Option, Some, None, Result, Ok, Err, codes}
+use Rattle.std.specs.Prelude.{ℕ, ◌==◌, ◌||◌, ◌&&◌, Bool, nat_lt, if◌then◌else◌, List, [], ◌∷◌}
+use Rattle.std.specs.Prelude.{length, drop, slice_index, Option, Some, None, Result, Ok, Err, codes}
 use Rattle.std.specs.Str.{bytes_eq}
-use Rattle.lin_parts.specs.Cluster.{signal_of}
-use Rattle.lin_parts.specs.declared.parts.Parts.{Parts}
+use Rattle.lin_cluster_parts.specs.Cluster.{signal_of}
+use Rattle.lin_cluster_parts.specs.declared.parts.Parts.{Parts}
 use Rattle.lin_core.specs.declared.port.PortId.{PortId}
 use Rattle.lin_core.specs.declared.port.PortId.TheVariants.{Bus, Host, Node}
 use Rattle.lin_core.specs.declared.step.Step.{Step}
-use Rattle.lin_core.specs.declared.step.Step.TheVariants.{Send, Write, Open, Answer, Leave, Hurt, Finish, Timeout, Switch, AskSleep, Wake, Close}
+use Rattle.lin_core.specs.declared.step.Step.TheVariants.{Send, Write, Open, Answer, Leave, Hurt}
+use Rattle.lin_core.specs.declared.step.Step.TheVariants.{Finish, Timeout, Switch, AskSleep, Wake}
+use Rattle.lin_core.specs.declared.step.Step.TheVariants.{Close}
 use Rattle.lin_core.specs.declared.link.Direction.{Direction}
 use Rattle.lin_log.specs.Script.{direction}
 use Rattle.lin_bench.specs.Fields.{◌>>=◌, or_bad, is_digit, number_field}
 use Rattle.lin_bench.specs.Names.{node_named, node_field, signal_field, table_field}
 use Rattle.lin_bench.specs.Values.{bytes_fields, value_field}
 use Rattle.lin_bench.specs.declared.reason.Reason.{Reason}
-use Rattle.lin_bench.specs.declared.reason.Reason.TheVariants.{NoStep, UnknownStep, NoNode, Takes, SendForm, WriteForm, TimeoutForm}
+use Rattle.lin_bench.specs.declared.reason.Reason.TheVariants.{NoStep, UnknownStep, NoNode, Takes}
+use Rattle.lin_bench.specs.declared.reason.Reason.TheVariants.{SendForm, WriteForm, TimeoutForm}
 
 -- `bus`, or `h` or `n` with a digit or `:` after it
 abbrev pub is_port : List ℕ → Bool
 is_port f =
     bytes_eq f (codes "bus")
-    || (slice_index f 0 == 104 || slice_index f 0 == 110) && (is_digit (slice_index f 1) || slice_index f 1 == 58)
+    || (slice_index f 0 == 104 || slice_index f 0 == 110)
+    && (is_digit (slice_index f 1) || slice_index f 1 == 58)
 
 -- a number, or `:` and a node's name
 abbrev pub port_number : Parts → List ℕ → Result ℕ Reason
-port_number c f = if slice_index f 0 == 58 then or_bad (node_named c (drop 1 f)) (NoNode (drop 1 f)) else number_field 255 f
+port_number c f =
+    if slice_index f 0 == 58 then or_bad (node_named c (drop 1 f)) (NoNode (drop 1 f))
+    else number_field 255 f
 
 unfoldable pub port : Parts → List ℕ → Result PortId Reason
 port c f =
@@ -44,20 +51,20 @@ send_form c (from ∷ to ∷ f ∷ fs) = do
   Ok (Send sender receiver message)
 send_form c fs = Err SendForm
 
-abbrev pub written : ℕ → ℕ → List ℕ → Result Step Reason
-written by signal f = value_field f >>= (λ value. Ok (Write by signal value))
+abbrev pub write_of : ℕ → ℕ → List ℕ → Result Step Reason
+write_of by signal f = value_field f >>= (λ value. Ok (Write by signal value))
 
-abbrev pub published : Parts → List ℕ → List ℕ → Result Step Reason
-published c s v = signal_field c s >>= (λ signal. written (publisher c signal) signal v)
+abbrev pub published_write : Parts → List ℕ → List ℕ → Result Step Reason
+published_write c s v = signal_field c s >>= (λ signal. write_of (publisher c signal) signal v)
 
 abbrev pub written_by : Parts → List ℕ → List ℕ → List ℕ → Result Step Reason
 written_by c by s v = do
   node ← node_field c by
   signal ← signal_field c s
-  written node signal v
+  write_of node signal v
 
 abbrev pub write_form : Parts → List (List ℕ) → Result Step Reason
-write_form c (s ∷ v ∷ []) = published c s v
+write_form c (s ∷ v ∷ []) = published_write c s v
 write_form c (by ∷ s ∷ v ∷ []) = written_by c by s v
 write_form c fs = Err WriteForm
 

@@ -1,35 +1,42 @@
 -- Bytes of messages, and values of signals.
-use Rattle.std.specs.Prelude.{ℕ, ◌==◌, ◌+◌, ◌*◌, ◌&&◌, nat_le, if◌then◌else◌, List, [], ◌∷◌, ◌++◌, length, drop, slice_index, Option, Some, None, Result, Ok, Err, codes, option_map}
+use Rattle.std.specs.Prelude.{ℕ, ◌==◌, ◌+◌, ◌*◌, ◌&&◌, nat_le, if◌then◌else◌, List, [], ◌∷◌, ◌++◌}
+use Rattle.std.specs.Prelude.{length, drop, slice_index, Option, Some, None, Result, Ok, Err, codes}
+use Rattle.std.specs.Prelude.{option_map}
 use Rattle.std.specs.Str.{bytes_eq}
 use Rattle.std.specs.Result.{result_ok}
+use Rattle.std.specs.Option.{option_map_or}
 use Rattle.hex.specs.Hex.{decode_of, hex_digit_value}
-use Rattle.lin_frame.specs.Words.{choose}
 use Rattle.lin_frame.specs.declared.value.Value.{Value}
 use Rattle.lin_frame.specs.declared.value.Value.TheVariants.{Scalar, Bytes}
 use Rattle.lin_log.specs.Script.{hex_bytes}
 use Rattle.lin_bench.specs.Fields.{◌>>=◌, or_bad, number_field}
 use Rattle.lin_bench.specs.declared.reason.Reason.{Reason}
-use Rattle.lin_bench.specs.declared.reason.Reason.TheVariants.{NoNumber, NoBytes, NotBytes, TooManyBytes}
+use Rattle.lin_bench.specs.declared.reason.Reason.TheVariants.{NoNumber, NoBytes, NotBytes}
+use Rattle.lin_bench.specs.declared.reason.Reason.TheVariants.{TooManyBytes}
 
 -- the bytes of several fields, each an even number of hexadecimal digits
 abbrev pub row : List (List ℕ) → Option (List ℕ)
 row [] = Some []
-row (f ∷ fs) = choose (result_ok (decode_of f)) None (λ bytes. option_map (λ more. bytes ++ more) (row fs))
+row (f ∷ fs) =
+    option_map_or
+    (λ bytes. option_map (λ more. bytes ++ more) (row fs)) (result_ok (decode_of f)) None
 
 -- `-` alone for no bytes, or a row of bytes
 unfoldable pub bytes_fields : List (List ℕ) → Result (List ℕ) Reason
 bytes_fields [] = Err NoBytes
-bytes_fields (f ∷ []) = if bytes_eq f (codes "-") then Ok [] else or_bad (row (f ∷ [])) (NotBytes (f ∷ []))
+bytes_fields (f ∷ []) =
+    if bytes_eq f (codes "-") then Ok [] else or_bad (row (f ∷ [])) (NotBytes (f ∷ []))
 bytes_fields (f ∷ g ∷ fs) = or_bad (row (f ∷ g ∷ fs)) (NotBytes (f ∷ g ∷ fs))
 
 -- the number that hexadecimal digits spell after those of n
 abbrev pub hex_after : ℕ → List ℕ → Option ℕ
 hex_after n [] = Some n
-hex_after n (d ∷ ds) = choose (hex_digit_value d) None (λ v. hex_after (n * 16 + v) ds)
+hex_after n (d ∷ ds) = option_map_or (λ v. hex_after (n * 16 + v) ds) (hex_digit_value d) None
 
 -- 1 to 4 hexadecimal digits
 abbrev pub hex_number : List ℕ → Option ℕ
-hex_number digits = if nat_le 1 (length digits) && nat_le (length digits) 4 then hex_after 0 digits else None
+hex_number digits =
+    if nat_le 1 (length digits) && nat_le (length digits) 4 then hex_after 0 digits else None
 
 -- the bytes of an array, at most 8, as these digits of a field spell them
 abbrev pub array_form : List ℕ → List ℕ → Result Value Reason

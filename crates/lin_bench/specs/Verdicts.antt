@@ -1,10 +1,13 @@
--- Whether what a bench script expects is so, given the history before it: the entries of a log, the newest first.
-use Rattle.std.specs.Prelude.{ℕ, ◌==◌, ◌&&◌, Bool, true, false, nat_lt, if◌then◌else◌, List, [], ◌∷◌, ◌++◌, filter, length, slice_get, Option, Some, None, count_by, find, reverse, codes}
+-- Whether what a bench script expects is so, given the history before it: the entries of a log, the
+-- newest first.
+use Rattle.std.specs.Prelude.{ℕ, ◌==◌, ◌&&◌, Bool, true, false, nat_lt, if◌then◌else◌, List, []}
+use Rattle.std.specs.Prelude.{◌∷◌, ◌++◌, filter, length, slice_get, Option, Some, None, count_by}
+use Rattle.std.specs.Prelude.{find, reverse, codes}
 use Rattle.std.specs.Str.{bytes_eq}
 use Rattle.lin_frame.specs.declared.value.Value.{Value}
 use Rattle.lin_frame.specs.declared.value.Value.TheVariants.{Scalar, Bytes}
-use Rattle.lin_parts.specs.Cluster.{nodes}
-use Rattle.lin_parts.specs.declared.parts.Parts.{Parts}
+use Rattle.lin_cluster_parts.specs.Cluster.{nodes}
+use Rattle.lin_cluster_parts.specs.declared.parts.Parts.{Parts}
 use Rattle.lin_core.specs.History.{asleep, events}
 use Rattle.lin_core.specs.Links.{waiting}
 use Rattle.lin_core.specs.Signals.{value_at}
@@ -69,8 +72,8 @@ same_value (Scalar a) (Bytes b) = false
 same_value (Bytes a) (Scalar b) = false
 same_value (Bytes a) (Bytes b) = bytes_eq a b
 
--- ---- events that expectations speak of: messages from one host to another, what became of a host's messages, how
--- slots were seen, and which slots began
+-- ---- events that expectations speak of: messages from one host to another, what became of a
+-- host's messages, how slots were seen, and which slots began
 abbrev pub is_of : EventKind → Event → Bool
 is_of (Messages from to) (event.Message sender receiver bytes) = sender == from && receiver == to
 is_of (Fates host) (event.Sent h number) = h == host
@@ -98,7 +101,8 @@ same_kind kind other = false
 
 -- the oldest event of a kind that no expectation has taken
 abbrev pub next_event : List LogEntry → List EventKind → EventKind → Option Event
-next_event past taken kind = slice_get (filter (is_of kind) (all_events past)) (count_by (same_kind kind) taken)
+next_event past taken kind =
+    slice_get (filter (is_of kind) (all_events past)) (count_by (same_kind kind) taken)
 
 abbrev pub with_taken : Option Event → EventKind → List EventKind → List EventKind
 with_taken None kind taken = taken
@@ -123,7 +127,8 @@ unless met what = if met then None else Some what
 abbrev pub signal_verdict : Parts → List LogEntry → ℕ → ℕ → Value → Option Got
 signal_verdict c past node signal value =
     if nat_lt node (nodes c) && nat_lt signal (length c.signals)
-    then unless (same_value (value_at c past node signal) value) (got.Value (value_at c past node signal))
+    then unless (same_value (value_at c past node signal) value)
+    (got.Value (value_at c past node signal))
     else Some got.NoNodeOrSignal
 
 abbrev pub waiting_verdict : Parts → List LogEntry → ℕ → ℕ → Option Got
@@ -148,11 +153,13 @@ lost_verdict cause (Some (event.Lost host number why)) =
 lost_verdict cause other = Some got.NoEvent
 
 abbrev pub seen_verdict : Look → Option Event → Option Got
-seen_verdict how (Some (event.Seen s)) = unless (bytes_eq (look_word (look_of s)) (look_word how)) (got.Seen (look_of s))
+seen_verdict how (Some (event.Seen s)) =
+    unless (bytes_eq (look_word (look_of s)) (look_word how)) (got.Seen (look_of s))
 seen_verdict how other = Some got.NoSlot
 
 abbrev pub slot_verdict : ℕ → ℕ → Option Event → Option Got
-slot_verdict table entry (Some (event.Slot t e header)) = unless (t == table && e == entry) (got.Slot t e)
+slot_verdict table entry (Some (event.Slot t e header)) =
+    unless (t == table && e == entry) (got.Slot t e)
 slot_verdict table entry other = Some got.NoSlot
 
 abbrev pub newest_reply : List LogEntry → Option Reply
@@ -167,14 +174,17 @@ done_verdict (Some (Refused r)) = Some (got.Refused r)
 abbrev pub refused_verdict : Refusal → Option Reply → Option Got
 refused_verdict why None = Some got.NoStep
 refused_verdict why (Some (Done es)) = Some got.Done
-refused_verdict why (Some (Refused r)) = unless (bytes_eq (refusal_word r) (refusal_word why)) (got.Refused r)
+refused_verdict why (Some (Refused r)) =
+    unless (bytes_eq (refusal_word r) (refusal_word why)) (got.Refused r)
 
 unfoldable pub verdict : Parts → List LogEntry → List EventKind → Expected → Option Got
 verdict c past taken (expected.Signal node signal value) = signal_verdict c past node signal value
 verdict c past taken (expected.Waiting host count) = waiting_verdict c past host count
-verdict c past taken (expected.Message from to bytes) = message_verdict bytes (next_event past taken (Messages from to))
+verdict c past taken (expected.Message from to bytes) =
+    message_verdict bytes (next_event past taken (Messages from to))
 verdict c past taken (expected.Sent host) = sent_verdict (next_event past taken (Fates host))
-verdict c past taken (expected.Lost host cause) = lost_verdict cause (next_event past taken (Fates host))
+verdict c past taken (expected.Lost host cause) =
+    lost_verdict cause (next_event past taken (Fates host))
 verdict c past taken (expected.Seen how) = seen_verdict how (last_event past Ends)
 verdict c past taken (expected.Slot table entry) = slot_verdict table entry (last_event past Begins)
 verdict c past taken expected.Done = done_verdict (newest_reply past)

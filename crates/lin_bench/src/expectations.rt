@@ -1,7 +1,11 @@
 //! The forms of expectations.
 
 ghost use Rattle.std.specs.Prelude.{◌≡◌, IfOk};
-ghost use Rattle.lin_bench.specs.Expectations.{cause_named, expectation, look_named, lone_form, lost_form, message_form, refusal_field, refusal_named, refusal_numbered, refused_form, seen_form, sent_form, signal_form, slot_form, waiting_form, word_expectation};
+ghost use Rattle.lin_bench.specs.Expectations.{cause_named, expectation, look_named, lone_form};
+ghost use Rattle.lin_bench.specs.Expectations.{lost_form, message_form, refusal_field};
+ghost use Rattle.lin_bench.specs.Expectations.{refusal_named, refusal_numbered, refused_form};
+ghost use Rattle.lin_bench.specs.Expectations.{seen_form, sent_form, signal_form, slot_form};
+ghost use Rattle.lin_bench.specs.Expectations.{waiting_form, word_expectation};
 ghost use Rattle.lin_bench.specs.Fields.{words};
 ghost use Rattle.lin_bench.specs.Read.{Gives};
 ghost use Rattle.lin_bench.specs.declared.fault.LineFault.{LineFault};
@@ -13,9 +17,9 @@ use crate::fields::{copied, is_number, number_field};
 use crate::names::{node_field, signal_field, table_field};
 use crate::reason::Reason;
 use crate::values::{bytes_fields, value_field};
+use lin_cluster_parts::Cluster;
 use lin_core::{Cause, Refusal};
 use lin_lists::Text;
-use lin_parts::Cluster;
 use std::alloc::{AllocError, Global};
 
 fn cause_named(word: &[u8]) -> Option<Cause>
@@ -140,7 +144,8 @@ fn refusal_field(alloc: Global, field: &[u8]) -> Result<Refusal, LineFault>
 
 /// There is no form of these fields after `expect`.
 fn no_form(alloc: Global, all: &[&[u8]]) -> Result<LineFault, AllocError>
-    ensures { IfOk result (λ fault. fault ≡ LineFault.Bad (Reason.UnknownExpectation (words all.now))) }
+    ensures { IfOk result
+        (λ fault. fault ≡ LineFault.Bad (Reason.UnknownExpectation (words all.now))) }
 {
     Ok(LineFault::Bad(Reason::UnknownExpectation(copied(alloc, all)?)))
 }
@@ -293,7 +298,8 @@ fn of_word(
     word: &[u8],
     fields: &[&[u8]],
 ) -> Result<Expected, LineFault>
-    ensures { Gives (λ e. e) result (word_expectation cluster.now (words all.now) word.now (words fields.now)) }
+    ensures { Gives
+        (λ e. e) result (word_expectation cluster.now (words all.now) word.now (words fields.now)) }
 {
     if word == b"signal".as_slice() {
         signal(alloc, cluster, all, fields)

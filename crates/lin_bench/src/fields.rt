@@ -16,7 +16,8 @@ fn is_comment(field: &[u8]) -> bool
     matches!(field, [b'#', ..])
 }
 
-/// The fields of a line: what stands between its spaces and tabs, up to the first field that begins with `#`.
+/// The fields of a line: what stands between its spaces and tabs, up to the first field that begins
+/// with `#`.
 pub(crate) fn fields(alloc: Global, line: &[u8]) -> Result<Vec<&[u8]>, AllocError>
     ensures { IfOk result (λ v. words v.items ≡ fields line.now) }
 {

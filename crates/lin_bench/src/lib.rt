@@ -1,4 +1,5 @@
-//! Bench scripts: what a person writes to make slots on a cluster and to say what is expected of them.
+//! Bench scripts: what a person writes to make slots on a cluster and to say what is expected of
+//! them.
 #![tactic(auto)]
 
 mod expectations;

@@ -2,7 +2,8 @@
 
 ghost use Rattle.std.specs.Prelude.{◌≡◌};
 ghost use Rattle.lin_bench.specs.Fields.{words};
-ghost use Rattle.lin_bench.specs.Lines.{count_field, leave_form, line_form, node_fields, of_fields, read_line, slot_form, slots_form};
+ghost use Rattle.lin_bench.specs.Lines.{count_field, leave_form, line_form, node_fields, of_fields};
+ghost use Rattle.lin_bench.specs.Lines.{read_line, slot_form, slots_form};
 ghost use Rattle.lin_bench.specs.Read.{Gives};
 
 use crate::expectations::expectation;
@@ -13,9 +14,9 @@ use crate::names::node_field;
 use crate::reason::Reason;
 use crate::steps::{is_port, port, step, step_after};
 use crate::values::bytes_fields;
+use lin_cluster_parts::Cluster;
 use lin_core::PortId;
 use lin_lists::{Many, Text};
-use lin_parts::Cluster;
 use std::alloc::Global;
 
 /// How many slots are made where no message waits any more, and no number says how many at most.

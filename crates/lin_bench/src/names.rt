@@ -1,15 +1,16 @@
 //! Nodes, signals and tables by their names or numbers.
 
 ghost use Rattle.std.specs.Prelude.{◌≡◌, ◌<◌, length, IfSome};
-ghost use Rattle.lin_parts.specs.Cluster.{nodes};
-ghost use Rattle.lin_bench.specs.Names.{node_field, node_named, signal_field, signal_named, table_field, table_named};
+ghost use Rattle.lin_cluster_parts.specs.Cluster.{nodes};
+ghost use Rattle.lin_bench.specs.Names.{node_field, node_named, signal_field, signal_named};
+ghost use Rattle.lin_bench.specs.Names.{table_field, table_named};
 ghost use Rattle.lin_bench.specs.Read.{Gives};
 
 use crate::fault::LineFault;
 use crate::fields::{is_number, number_field};
 use crate::reason::Reason;
+use lin_cluster_parts::Cluster;
 use lin_lists::Text;
-use lin_parts::Cluster;
 use std::alloc::Global;
 
 /// The node with this name.

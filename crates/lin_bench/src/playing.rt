@@ -16,9 +16,9 @@ use crate::line::{Disturbance, Extent, Line};
 use crate::slots::{SLOT_LIMIT, hosts_waiting, make, slots};
 use crate::taken::EventKind;
 use crate::verdicts::verdict;
+use lin_cluster_parts::Cluster;
 use lin_core::Core;
 use lin_lists::Many;
-use lin_parts::Cluster;
 use std::alloc::{AllocError, Global};
 
 /// A bench script that was played.
@@ -80,7 +80,8 @@ fn expect(
     ensures taken { OnOk result
         (taken.new.items ≡ taking (past_of core.now) taken.old.items (kind_taken expected)) }
     ensures unmet { OnOk result (unmet.new.items ≡ unmet.old.items
-        ++ unmet_of number expected (verdict core.now.cluster (past_of core.now) taken.old.items expected)) }
+        ++ unmet_of number expected
+        (verdict core.now.cluster (past_of core.now) taken.old.items expected)) }
 {
     let got = verdict(alloc, core, taken, &expected)?;
     if let Some(got) = got {
@@ -163,11 +164,11 @@ impl Player {
     }
 }
 
-/// Plays a bench script of these lines, each with its number, on a new core over a cluster: makes the steps that each
-/// line says after those before it, and judges what is expected at its line.
+/// Plays a bench script of these lines, each with its number, on a new core over a cluster: makes
+/// the steps that each line says after those before it, and judges what is expected at its line.
 ///
-/// The core begins with schedule table `table` of the cluster; each host may have `capacity` messages waiting, 1 to
-/// 1,024. Its log is the history of these steps.
+/// The core begins with schedule table `table` of the cluster; each host may have `capacity`
+/// messages waiting, 1 to 1,024. Its log is the history of these steps.
 ///
 /// # Errors
 /// The cluster is dropped after each of them.

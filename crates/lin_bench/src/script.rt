@@ -2,15 +2,15 @@
 
 ghost use Rattle.std.specs.Prelude.{◌≡◌, ◌≤◌, ◌+◌, length, IfOk, IfSome};
 ghost use Rattle.lin_log.specs.Judged.{left_of};
-ghost use Rattle.lin_parts.specs.declared.parts.Parts.{Parts};
+ghost use Rattle.lin_cluster_parts.specs.declared.parts.Parts.{Parts};
 ghost use Rattle.lin_bench.specs.Lines.{read, without_mark};
 ghost use Rattle.lin_bench.specs.Read.{NextLine, Reads, said};
 
 use crate::fault::{LineFault, ReadFault};
 use crate::line::Line;
 use crate::lines::read_line;
+use lin_cluster_parts::Cluster;
 use lin_log::{first_line, without_return};
-use lin_parts::Cluster;
 use std::alloc::Global;
 
 /// A text without the mark EF BB BF at its start.
@@ -76,8 +76,10 @@ impl<'a> LinesLeft<'a> {
     }
 }
 
-/// What the lines of a bench script say that say something, each with its number, counted from 1 over all lines.
-/// Nodes, signals and schedule tables are those of the cluster. The text has at most 16,777,216 bytes.
+/// What the lines of a bench script say that say something, each with its number, counted from 1
+/// over all lines.
+/// Nodes, signals and schedule tables are those of the cluster. The text has at most 16,777,216
+/// bytes.
 ///
 /// # Errors
 /// `BadLine` with the number of the first line that is bad, and why; `OutOfMemory`.

@@ -7,7 +7,9 @@ ghost use Rattle.lin_core.specs.declared.step.Step.TheVariants.{Open};
 ghost use Rattle.lin_core.specs.Core.{past_of};
 ghost use Rattle.lin_core.specs.declared.port.PortId.TheVariants.{Bus};
 ghost use Rattle.lin_bench.specs.Making.{IsMade, MakesSlots};
-ghost use Rattle.lin_bench.specs.Slots.{decision, due_in, due_now, goes_on, hosts_waiting, due_node, hurt_steps, is_opened, leaving, most, slot_rest, slot_steps, some_wait};
+ghost use Rattle.lin_bench.specs.Slots.{decision, due_in, due_now, goes_on, hosts_waiting};
+ghost use Rattle.lin_bench.specs.Slots.{due_node, hurt_steps, is_opened, leaving, most, slot_rest};
+ghost use Rattle.lin_bench.specs.Slots.{slot_steps, some_wait};
 
 use crate::line::{Disturbance, Extent};
 use crate::stop::Stop;
@@ -121,7 +123,8 @@ fn rest_of_slot(alloc: Global, core: &mut Core, how: &Disturbance, due: &[u8]) -
 #[tactic(auto, unfolding(crate::specs::Slots::slot_steps))]
 fn slot(alloc: Global, core: &mut Core, how: &Disturbance) -> Result<bool, Stop>
     ensures steps { OnOk result (IsMade core.old
-        (slot_steps core.old.cluster core.old.opening core.old.capacity how.now (past_of core.old)) core.new) }
+        (slot_steps core.old.cluster core.old.opening core.old.capacity how.now (past_of core.old))
+        core.new) }
     ensures opened { IfOk result (λ is. is ≡ is_opened
         (due_now core.old.cluster core.old.opening core.old.capacity (past_of core.old))) }
 {
@@ -179,8 +182,8 @@ fn most(extent: Extent) -> u32
     }
 }
 
-/// Makes the slots of a line, and answers how many are left of those that the run may still make; none where the line
-/// makes more than these.
+/// Makes the slots of a line, and answers how many are left of those that the run may still make;
+/// none where the line makes more than these.
 #[tactic(auto, unfolding(crate::specs::Slots::extent_steps))]
 pub(crate) fn slots(
     alloc: Global,

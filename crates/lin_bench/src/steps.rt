@@ -5,7 +5,10 @@ ghost use Rattle.lin_core.specs.declared.step.Step.{Step};
 ghost use Rattle.lin_bench.specs.Fields.{words};
 ghost use Rattle.lin_bench.specs.declared.fault.LineFault.{LineFault};
 ghost use Rattle.lin_bench.specs.declared.reason.Reason.{Reason};
-ghost use Rattle.lin_bench.specs.Steps.{alone, direction_field, hurt_form, is_port, node_form, port, port_number, published, publisher, send_form, step_after, step_form, switch_form, timed_out, timeout_form, write_form, written, written_by};
+ghost use Rattle.lin_bench.specs.Steps.{alone, direction_field, hurt_form, is_port, node_form};
+ghost use Rattle.lin_bench.specs.Steps.{port, port_number, published_write, publisher, send_form};
+ghost use Rattle.lin_bench.specs.Steps.{step_after, step_form, switch_form, timed_out};
+ghost use Rattle.lin_bench.specs.Steps.{timeout_form, write_form, write_of, written_by};
 ghost use Rattle.lin_bench.specs.Read.{Gives};
 
 use crate::fault::LineFault;
@@ -13,9 +16,9 @@ use crate::fields::number_field;
 use crate::names::{node_field, node_named, signal_field, table_field};
 use crate::reason::Reason;
 use crate::values::{bytes_fields, value_field};
+use lin_cluster_parts::Cluster;
 use lin_core::{Direction, PortId, Step};
 use lin_lists::Text;
-use lin_parts::Cluster;
 use std::alloc::{AllocError, Global};
 
 /// Whether a line's first field is a port: `bus`, or `h` or `n` with a digit or `:` after it.
@@ -25,7 +28,7 @@ pub(crate) fn is_port(field: &[u8]) -> bool
     matches!(field, b"bus" | [b'h' | b'n', b'0'..=b'9' | b':', ..])
 }
 
-/// The node of a port, by its number, or behind `:` by its name.
+/// The node of a port, by its number, or after `:` by its name.
 fn port_number(alloc: Global, cluster: &Cluster, field: &[u8]) -> Result<u8, LineFault>
     ensures { Gives (λ n. n) result (port_number cluster.now field.now) }
 {
@@ -79,7 +82,7 @@ fn send(alloc: Global, cluster: &Cluster, fields: &[&[u8]]) -> Result<Step, Line
 
 /// The write of a value, by its field.
 fn written(alloc: Global, by: u8, signal: u16, value: &[u8]) -> Result<Step, LineFault>
-    ensures { Gives (λ s. s) result (written by signal value.now) }
+    ensures { Gives (λ s. s) result (write_of by signal value.now) }
 {
     Ok(Step::Write {
         by,
@@ -110,7 +113,7 @@ fn published(
     signal: &[u8],
     value: &[u8],
 ) -> Result<Step, LineFault>
-    ensures { Gives (λ s. s) result (published cluster.now signal.now value.now) }
+    ensures { Gives (λ s. s) result (published_write cluster.now signal.now value.now) }
 {
     let signal = signal_field(alloc, cluster, signal)?;
     written(alloc, publisher(cluster, signal), signal, value)
@@ -202,7 +205,8 @@ fn only_node(
     word: &[u8],
     fields: &[&[u8]],
 ) -> Result<u8, LineFault>
-    ensures { (step : ℕ → Step) → Gives step result (node_form cluster.now step word.now (words fields.now)) }
+    ensures { (step : ℕ → Step)
+        → Gives step result (node_form cluster.now step word.now (words fields.now)) }
 {
     match fields {
         [node] => node_field(alloc, cluster, node),

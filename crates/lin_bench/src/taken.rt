@@ -66,7 +66,9 @@ fn events_of(entry: &LogEntry) -> &[Event]
 
 /// The event of a kind after so many others of it, or how many of these are left to skip.
 fn skipped(events: &[Event], kind: EventKind, skip: usize) -> Result<&Event, usize>
-    ensures { (more : List Event) → slice_get (filter (is_of kind) events.now ++ more) skip ≡ skipped (λ e. e.now) result more }
+    ensures { (more : List Event)
+        → slice_get (filter (is_of kind) events.now ++ more) skip
+        ≡ skipped (λ e. e.now) result more }
 {
     let mut skip = skip;
     for event in events {
@@ -82,7 +84,8 @@ fn skipped(events: &[Event], kind: EventKind, skip: usize) -> Result<&Event, usi
 
 /// The event of a kind in a log after so many others of it.
 pub(crate) fn event_after(log: &Log, kind: EventKind, skip: usize) -> Option<&Event>
-    ensures { option_map (λ e. e.now) result ≡ slice_get (filter (is_of kind) (all_events (reverse log.now.entries))) skip }
+    ensures { option_map (λ e. e.now) result
+        ≡ slice_get (filter (is_of kind) (all_events (reverse log.now.entries))) skip }
 {
     let mut skip = skip;
     for index in 0..log.len() {
@@ -103,7 +106,8 @@ fn last_in(events: &[Event], kind: EventKind) -> Option<&Event>
 
 /// The last event of a kind in a log.
 pub(crate) fn last_event(log: &Log, kind: EventKind) -> Option<&Event>
-    ensures { option_map (λ e. e.now) result ≡ find (is_of kind) (reverse (all_events (reverse log.now.entries))) }
+    ensures { option_map (λ e. e.now) result
+        ≡ find (is_of kind) (reverse (all_events (reverse log.now.entries))) }
 {
     let mut left = log.len();
     while left > 0 {

@@ -20,7 +20,8 @@ use std::alloc::{AllocError, Global};
 
 /// The bytes of hexadecimal digits, two for each, if they are such.
 fn decoded(alloc: Global, digits: &[u8]) -> Result<Option<Vec<u8>>, AllocError>
-    ensures { IfOk result (λ bytes. option_map (λ v. v.items) bytes ≡ result_ok (decode_of digits.now)) }
+    ensures { IfOk result
+        (λ bytes. option_map (λ v. v.items) bytes ≡ result_ok (decode_of digits.now)) }
 {
     match hex::decode(alloc, digits) {
         Ok(bytes) => Ok(Some(bytes)),
@@ -111,7 +112,8 @@ fn array_value(alloc: Global, field: &[u8], digits: &[u8]) -> Result<Value, Line
     }
 }
 
-/// A signal's value: `x` and an array's bytes, or a scalar's number, decimal or with `0x` before hexadecimal digits.
+/// A signal's value: `x` and an array's bytes, or a scalar's number, decimal or with `0x` before
+/// hexadecimal digits.
 #[tactic(auto, unfolding(crate::specs::Values::value_field))]
 pub(crate) fn value_field(alloc: Global, field: &[u8]) -> Result<Value, LineFault>
     ensures { Gives (λ v. v) result (value_field field.now) }

@@ -1,9 +1,15 @@
 //! Verdicts on what is expected.
 
-ghost use Rattle.std.specs.Prelude.{◌≡◌, ◌==◌, ◌<◌, ◌≤◌, ◌&&◌, IfOk, OnOk, None, option_map, count_by};
+ghost use Rattle.std.specs.Prelude.{◌≡◌, ◌==◌, ◌<◌, ◌≤◌, ◌&&◌, IfOk, OnOk, None, option_map};
+ghost use Rattle.std.specs.Prelude.{count_by};
 ghost use Rattle.lin_core.specs.Core.{past_of};
 ghost use Rattle.lin_log.specs.Words.{cause_word};
-ghost use Rattle.lin_bench.specs.Verdicts.{same_kind, done_verdict, kind_taken, last_event, look_of, look_word, lost_verdict, message_verdict, newest_reply, next_event, refusal_word, refused_verdict, same_value, seen_verdict, sent_verdict, signal_verdict, slot_verdict, taking, verdict, waiting_verdict, with_taken};
+ghost use Rattle.lin_bench.specs.Verdicts.{same_kind, done_verdict, kind_taken, last_event};
+ghost use Rattle.lin_bench.specs.Verdicts.{look_of, look_word, lost_verdict, message_verdict};
+ghost use Rattle.lin_bench.specs.Verdicts.{newest_reply, next_event, refusal_word, refused_verdict};
+ghost use Rattle.lin_bench.specs.Verdicts.{same_value, seen_verdict, sent_verdict, signal_verdict};
+ghost use Rattle.lin_bench.specs.Verdicts.{slot_verdict, taking, verdict, waiting_verdict};
+ghost use Rattle.lin_bench.specs.Verdicts.{with_taken};
 
 use crate::expected::{Expected, Look};
 use crate::got::Got;
@@ -118,7 +124,8 @@ fn waiting(core: &Core, host: u8, count: u16) -> Option<Got>
 }
 
 fn message(alloc: Global, event: Option<&Event>, bytes: &[u8]) -> Result<Option<Got>, AllocError>
-    ensures { IfOk result (λ v. v ≡ message_verdict bytes.now (option_map (λ e. e.now) event.entry)) }
+    ensures { IfOk result
+        (λ v. v ≡ message_verdict bytes.now (option_map (λ e. e.now) event.entry)) }
 {
     match event {
         Some(Event::Message { bytes: got, .. }) => {
@@ -254,8 +261,11 @@ fn take_next<'a>(
     taken: &mut Vec<EventKind>,
     kind: EventKind,
 ) -> Result<Option<&'a Event>, AllocError>
-    ensures event { IfOk result (λ e. option_map (λ e. e.now) e ≡ next_event (past_of core.now) taken.old.items kind) }
-    ensures taken { OnOk result (taken.new.items ≡ with_taken (next_event (past_of core.now) taken.old.items kind) kind taken.old.items) }
+    ensures event { IfOk result
+        (λ e. option_map (λ e. e.now) e ≡ next_event (past_of core.now) taken.old.items kind) }
+    ensures taken { OnOk result
+        (taken.new.items
+        ≡ with_taken (next_event (past_of core.now) taken.old.items kind) kind taken.old.items) }
 {
     let event = event_after(core.log(), kind, taken_of(taken.as_slice(), kind));
     if event.is_some() {
@@ -264,7 +274,8 @@ fn take_next<'a>(
     Ok(event)
 }
 
-/// Whether what is expected is so, and what is so where it isn't; the event that it speaks of is taken.
+/// Whether what is expected is so, and what is so where it isn't; the event that it speaks of is
+/// taken.
 #[tactic(auto, unfolding(crate::specs::Verdicts::verdict))]
 pub(crate) fn verdict(
     alloc: Global,
@@ -272,8 +283,10 @@ pub(crate) fn verdict(
     taken: &mut Vec<EventKind>,
     expected: &Expected,
 ) -> Result<Option<Got>, AllocError>
-    ensures verdict { IfOk result (λ v. v ≡ verdict core.now.cluster (past_of core.now) taken.old.items expected.now) }
-    ensures taken { OnOk result (taken.new.items ≡ taking (past_of core.now) taken.old.items (kind_taken expected.now)) }
+    ensures verdict { IfOk result
+        (λ v. v ≡ verdict core.now.cluster (past_of core.now) taken.old.items expected.now) }
+    ensures taken { OnOk result
+        (taken.new.items ≡ taking (past_of core.now) taken.old.items (kind_taken expected.now)) }
 {
     match expected {
         Expected::Signal {

@@ -12,7 +12,7 @@ use Rattle.lin_cluster.specs.Described.{described_nad, parts_of}
 use Rattle.lin_cluster.specs.Findings.{IsFree}
 use Rattle.lin_cluster.specs.Sizes as sizes
 use Rattle.lin_cluster.specs.Fitting.{FitsInitial, FitsSignal, FitsFrame, FitsParts, HasMembers}
-use Rattle.lin_parts.specs.Rules.{IsCluster, IsAddress}
+use Rattle.lin_cluster_parts.specs.Rules.{IsCluster, IsAddress}
 use Rattle.lin_cluster.proofs.DescribedEvents.{described-sporadic, described-events}
 use Rattle.lin_cluster.proofs.DescribedFrames.{described-frames}
 use Rattle.lin_cluster.proofs.DescribedIdentifiers.{described-identifiers}

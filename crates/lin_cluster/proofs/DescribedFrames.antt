@@ -8,9 +8,9 @@ use Rattle.std.proofs.lemmas.List.{length-map, length-take-le, get_or-take, get_
 use Rattle.std.proofs.lemmas.List.Elements.{All-map}
 use Rattle.std.proofs.lemmas.List.Sums.{list_all-from_AllPass}
 use Rattle.std.proofs.lemmas.List.Folds.{Any-from_list_any}
-use Rattle.lin_frame.specs.Bits.{has_good_size, lies_in, are_apart, all_apart, good_layout, first_bit}
+use Rattle.std.specs.Option.{option_map_or}
+use Rattle.lin_frame.specs.Bits.{has_good_size, lies_in, are_apart, all_apart, is_good_layout, first_bit}
 use Rattle.lin_frame.specs.Frame.{pid}
-use Rattle.lin_frame.specs.Words.{choose}
 use Rattle.lin_frame.specs.declared.layout.Layout.{Layout}
 use Rattle.lin_frame.specs.declared.layout.Place.{Place}
 use Rattle.lin_description.specs.declared.description.Description.{Description}
@@ -19,21 +19,21 @@ use Rattle.lin_description.specs.declared.description.Frame.{Frame}
 use Rattle.lin_description.specs.declared.description.Name.{Name}
 use Rattle.lin_description.specs.declared.description.PlacedSignal.{PlacedSignal}
 use Rattle.lin_description.specs.declared.description.Signal as declared_signal
-use Rattle.lin_parts.specs.Cluster.{nodes}
+use Rattle.lin_cluster_parts.specs.Cluster.{nodes}
 use Rattle.lin_cluster.specs.Described.{initial_of, described_signal, node_number, signal_number, frame_number, frames_of, is_member, described_place, described_layout, described_frame, parts_of}
 use Rattle.lin_cluster.specs.Sizes as sizes
 use Rattle.lin_cluster.specs.Overlaps as overlaps
 use Rattle.lin_cluster.specs.FindingsNames.{is_node, same_name}
 use Rattle.lin_cluster.specs.Members.{is_in_front, has_publisher, differs_from_first}
-use Rattle.lin_parts.specs.Rules.{AreFrames, IsSignalAt, is_array, place_at}
-use Rattle.lin_parts.specs.declared.parts.Signal.{Signal}
-use Rattle.lin_parts.specs.declared.parts.SignalFrame.{SignalFrame}
+use Rattle.lin_cluster_parts.specs.Rules.{AreFrames, IsSignalAt, is_array, place_at}
+use Rattle.lin_cluster_parts.specs.declared.parts.Signal.{Signal}
+use Rattle.lin_cluster_parts.specs.declared.parts.SignalFrame.{SignalFrame}
 use Rattle.lin_cluster.proofs.DescribedSignals.{good-size}
 use Rattle.lin_cluster.proofs.GoodParts.{GoodSignal, GoodFrame, GoodPlaced, good-signals, good-frames, good-events, the_frame}
 use Rattle.lin_cluster.proofs.KnownNames.{no_frame, nodes-count, node-within, node-same, the_signal, signal-at, signal-part, same-signal}
 use Rattle.lin_cluster.proofs.NothingFound.{NothingFound}
 use Rattle.lin_cluster.proofs.NothingIn.{to-each, none-has, zip-of-maps}
-use Rattle.lin_parts.proofs.Pairs.{pairs-first, pairs-rest, pairs-map}
+use Rattle.lin_cluster_parts.proofs.Pairs.{pairs-first, pairs-rest, pairs-map}
 
 -- a place by its signal
 abbrev placed_at : PlacedSignal → declared_signal.Signal → Place
@@ -137,7 +137,7 @@ after d none p within front =
     in let both : (nat_lt p.offset.value 8 && nat_lt 0 s.size.value) ≡ false = rw (signal-at d p within) at front
     in ltb-false p.offset.value 8 (left-false (nat_lt p.offset.value 8) (nat_lt 0 s.size.value) (lt-ltb 0 s.size.value (omega (arith, some))) both)
 
-first-free : (listed : Bool) (own offset : ℕ) → (listed ≡ true → 8 ≤ offset) → choose (if listed then Some own else None) 0 (λ own. 8) ≤ offset
+first-free : (listed : Bool) (own offset : ℕ) → (listed ≡ true → 8 ≤ offset) → option_map_or (λ own. 8) (if listed then Some own else None) 0 ≤ offset
 first-free true own offset h = h refl
 first-free false own offset h = omega arith
 
@@ -155,7 +155,7 @@ all-lie d none k f good front =
     in let placed = good.placed i x lt
     in place-lies d none f p (first_bit (layout_of d k f)) placed (first-free (is_member d k) (pid f.id.value) p.offset.value (λ listed. after d none p placed.within (front listed i x lt)))))
 
-layout-good : (d : Description) → NothingFound d → (k : ℕ) (f : Frame) → GoodFrame d f → (is_member d k ≡ true → All (λ p. is_in_front d p ≡ false) f.placed) → good_layout (layout_of d k f) ≡ true
+layout-good : (d : Description) → NothingFound d → (k : ℕ) (f : Frame) → GoodFrame d f → (is_member d k ≡ true → All (λ p. is_in_front d p ≡ false) f.placed) → is_good_layout (layout_of d k f) ≡ true
 layout-good d none k f good front =
     and_from _ (all_apart (map (described_place d) f.placed))
     (and_from (sizes.is_frame_size f.size.value) (list_all (lies_in (first_bit (layout_of d k f)) (8 * f.size.value)) (map (described_place d) f.placed)) good.size (all-lie d none k f good front))
@@ -193,7 +193,7 @@ described-frames d none =
     let good = good-frames d none
     in record {
       publishers = each-frame d (λ f. f.publisher < nodes (parts_of d)) (λ k f lt. rw (nodes-count d) (node-within d (get_or d.frames k f).publisher (good k f lt).publisher));
-      layouts = each-frame d (λ f. IsTrue (good_layout f.layout)) (λ k f lt. layout-good d none k (get_or d.frames k f) (good k f lt) (λ listed. subst (λ (g : Frame). All (λ p. is_in_front d p ≡ false) g.placed) (get_or_default d.frames k no_frame f lt) (none-in-front d none k listed)));
+      layouts = each-frame d (λ f. IsTrue (is_good_layout f.layout)) (λ k f lt. layout-good d none k (get_or d.frames k f) (good k f lt) (λ listed. subst (λ (g : Frame). All (λ p. is_in_front d p ≡ false) g.placed) (get_or_default d.frames k no_frame f lt) (none-in-front d none k listed)));
       signals = each-frame d (λ f. AllZip (IsSignalAt (parts_of d) f.publisher) f.layout.places f.signals) (λ k f lt.
           let here = get_or d.frames k f
           in zip-of-maps (IsSignalAt (parts_of d) (node_number d here.publisher)) (described_place d) (λ (p : PlacedSignal). signal_number d p.signal) here.placed (λ i p in'. signal-there d none here (good k f lt) (get_or here.placed i p) ((good k f lt).placed i p in')));

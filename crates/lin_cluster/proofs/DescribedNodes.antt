@@ -18,15 +18,15 @@ use Rattle.lin_cluster.specs.Described.{node_number, is_block_of, configured_nad
 use Rattle.lin_cluster.specs.Addresses.{address, addresses, bad_nad, nad_twice}
 use Rattle.lin_cluster.specs.FindingsNames.{is_responder, at_number}
 use Rattle.lin_cluster.specs.Fitting.{HasMembers}
-use Rattle.lin_parts.specs.Rules.{AreNodes, IsAddress, HaveOwnAddresses}
-use Rattle.lin_parts.specs.declared.parts.Node.{Node}
+use Rattle.lin_cluster_parts.specs.Rules.{AreNodes, IsAddress, HaveOwnAddresses}
+use Rattle.lin_cluster_parts.specs.declared.parts.Node.{Node}
 use Rattle.lin_cluster.proofs.GoodParts.{within-limits}
 use Rattle.lin_cluster.proofs.KnownNames.{no_name, nodes-count}
 use Rattle.lin_cluster.proofs.Named.{found-at, found-past}
 use Rattle.lin_cluster.proofs.NothingFound.{NothingFound}
 use Rattle.lin_cluster.specs.declared.finding.FindingKind.TheVariants.{BadNad, NadTwice}
 use Rattle.lin_cluster.proofs.NothingIn.{each-nil, when-nil, of-each, from-each, none-has}
-use Rattle.lin_parts.proofs.Pairs.{pairs-cons, pairs-map, pairs-first, pairs-rest}
+use Rattle.lin_cluster_parts.proofs.Pairs.{pairs-cons, pairs-map, pairs-first, pairs-rest}
 
 -- ---- what is mapped where it is something
 

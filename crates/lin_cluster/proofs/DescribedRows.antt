@@ -17,11 +17,11 @@ use Rattle.lin_description.specs.declared.description.PlacedSignal.{PlacedSignal
 use Rattle.lin_description.specs.declared.description.Signal as declared_signal
 use Rattle.lin_description.specs.declared.description.Table as declared_table
 use Rattle.lin_description.specs.declared.description.TableEntry.{TableEntry}
-use Rattle.lin_parts.specs.Cluster.{frame_of, line_of}
+use Rattle.lin_cluster_parts.specs.Cluster.{frame_of, line_of}
 use Rattle.lin_cluster.specs.Described.{parts_of, nodes_of, signals_of, frames_of, sporadic_frames_of, events_of, frame_number, node_number}
 use Rattle.lin_cluster.specs.Models.{is_version_1}
-use Rattle.lin_parts.specs.declared.parts.Entry.TheVariants.{Frame, Sporadic as SporadicEntry, Event, SlaveResp, Quiet}
-use Rattle.lin_parts.specs.declared.parts.SignalFrame.{SignalFrame}
+use Rattle.lin_cluster_parts.specs.declared.parts.Entry.TheVariants.{Frame, Sporadic as SporadicEntry, Event, SlaveResp, Quiet}
+use Rattle.lin_cluster_parts.specs.declared.parts.SignalFrame.{SignalFrame}
 
 abbrev name : List ℕ → Name
 name text = record { text = text; line = 1; column = 1 }

@@ -10,11 +10,11 @@ use Rattle.lin_description.specs.declared.description.Description.{Description}
 use Rattle.lin_description.specs.declared.description.Init.{Init}
 use Rattle.lin_description.specs.declared.description.Init.TheVariants as inits
 use Rattle.lin_description.specs.declared.description.Number.{Number}
-use Rattle.lin_parts.specs.Cluster.{nodes}
+use Rattle.lin_cluster_parts.specs.Cluster.{nodes}
 use Rattle.lin_cluster.specs.Described.{initial_of, described_signal, parts_of}
 use Rattle.lin_cluster.specs.Sizes as sizes
-use Rattle.lin_parts.specs.Rules.{AreSignals, is_array, place_at}
-use Rattle.lin_parts.specs.declared.parts.Signal.{Signal}
+use Rattle.lin_cluster_parts.specs.Rules.{AreSignals, is_array, place_at}
+use Rattle.lin_cluster_parts.specs.declared.parts.Signal.{Signal}
 use Rattle.lin_cluster.proofs.GoodParts.{good-signals, within-limits}
 use Rattle.lin_cluster.proofs.KnownNames.{nodes-count, node-within}
 use Rattle.lin_cluster.proofs.NothingFound.{NothingFound}

@@ -12,12 +12,12 @@ use Rattle.lin_description.specs.declared.description.Name.{Name}
 use Rattle.lin_description.specs.declared.description.Sporadic.{Sporadic}
 use Rattle.lin_description.specs.declared.description.TableEntry.{TableEntry}
 use Rattle.lin_cluster.specs.Described.{frame_number, sporadic_number, event_number, frame_entry, described_frame, described_event, described_entry, described_line, described_table, members_of, parts_of}
-use Rattle.lin_parts.specs.Rules.{AreTables, IsEntry, IsDelay}
-use Rattle.lin_parts.specs.declared.parts.Entry.{Entry}
-use Rattle.lin_parts.specs.declared.parts.Entry.TheVariants.{MasterReq, SlaveResp, Quiet}
-use Rattle.lin_parts.specs.declared.parts.Line.{Line}
-use Rattle.lin_parts.specs.declared.parts.Parts.{Parts}
-use Rattle.lin_parts.specs.declared.parts.Table.{Table}
+use Rattle.lin_cluster_parts.specs.Rules.{AreTables, IsEntry, IsDelay}
+use Rattle.lin_cluster_parts.specs.declared.parts.Entry.{Entry}
+use Rattle.lin_cluster_parts.specs.declared.parts.Entry.TheVariants.{MasterReq, SlaveResp, Quiet}
+use Rattle.lin_cluster_parts.specs.declared.parts.Line.{Line}
+use Rattle.lin_cluster_parts.specs.declared.parts.Parts.{Parts}
+use Rattle.lin_cluster_parts.specs.declared.parts.Table.{Table}
 use Rattle.lin_cluster.proofs.GoodParts.{good-tables, some-tables, within-limits}
 use Rattle.lin_cluster.proofs.NothingFound.{NothingFound}
 

@@ -6,17 +6,17 @@ use Rattle.std.specs.List.{list_any}
 use Rattle.std.specs.Map.{update}
 use Rattle.std.proofs.lemmas.Slice.Eq.{bytes_eq-Decides}
 use Rattle.std.proofs.lemmas.List.Folds.{list_any_more}
-use Rattle.lin_cluster.specs.Names.{or_else}
+use Rattle.std.specs.Option.{option_or}
 
-or_none : {A : Type 0} (o : Option A) → o ≡ or_else o None
+or_none : {A : Type 0} (o : Option A) → o ≡ option_or o None
 or_none (Some x) = refl
 or_none None = refl
 
-added_by : {A : Type 0} (b : Bool) (n : A) (here new : Option A) → new ≡ cond b (Some n) here → (b ≡ true → here ≡ None) → new ≡ or_else here (if b then Some n else None)
-added_by true n here new is none = is ∙ sym (ap (λ o. or_else o (Some n)) (none refl))
+added_by : {A : Type 0} (b : Bool) (n : A) (here new : Option A) → new ≡ cond b (Some n) here → (b ≡ true → here ≡ None) → new ≡ option_or here (if b then Some n else None)
+added_by true n here new is none = is ∙ sym (ap (λ o. option_or o (Some n)) (none refl))
 added_by false n here new is none = is ∙ or_none here
 
-pub added : {A : Type 0} (bs : List ℕ) (n : A) (old new : List ℕ → Option A) → ((cs : List ℕ) → new cs ≡ update bytes_eq old bs (Some n) cs) → ((q : List ℕ) → bytes_eq bs q ≡ true → old q ≡ None) → (q : List ℕ) → new q ≡ or_else (old q) (if bytes_eq bs q then Some n else None)
+pub added : {A : Type 0} (bs : List ℕ) (n : A) (old new : List ℕ → Option A) → ((cs : List ℕ) → new cs ≡ update bytes_eq old bs (Some n) cs) → ((q : List ℕ) → bytes_eq bs q ≡ true → old q ≡ None) → (q : List ℕ) → new q ≡ option_or (old q) (if bytes_eq bs q then Some n else None)
 added bs n old new is none q = added_by (bytes_eq bs q) n (old q) (new q) (is q) (none q)
 
 none_left : {A : Type 0} (o : Option A) → false ≡ is_some o → o ≡ None

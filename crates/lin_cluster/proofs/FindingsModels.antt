@@ -4,7 +4,8 @@ use Rattle.std.proofs.Common.{◌≡◌, Bool, true, false, List, [], ◌∷◌,
 use Rattle.std.specs.Prelude.{◌||◌, ◌&&◌, Option, Some, None, cond, find}
 use Rattle.std.specs.List.{list_any}
 use Rattle.std.proofs.lemmas.Bool.{or_parts}
-use Rattle.lin_cluster.specs.FindingsNames.{is_node, knows, same_name, signal_named}
+use Rattle.std.specs.Option.{option_map_or}
+use Rattle.lin_cluster.specs.FindingsNames.{is_node, same_name, signal_named}
 use Rattle.lin_cluster.specs.Known.{frame_facts}
 use Rattle.lin_cluster.specs.Models.{carries_to_lin_1, frame_model, has_lin_1, has_version_1, is_classic, is_lin_1, tells_version_1}
 use Rattle.lin_cluster.specs.declared.findings.facts.FrameFacts.{FrameFacts}
@@ -14,10 +15,10 @@ use Rattle.lin_description.specs.declared.description.Name.{Name}
 use Rattle.lin_description.specs.declared.description.PlacedSignal.{PlacedSignal}
 use Rattle.lin_description.specs.declared.description.Signal.{Signal}
 
-found-fails : {X : Type 0} (p t : X → Bool) (xs : List X) → list_any t xs ≡ false → knows (find p xs) t ≡ false
+found-fails : {X : Type 0} (p t : X → Bool) (xs : List X) → list_any t xs ≡ false → option_map_or t (find p xs) false ≡ false
 found-fails p t [] e = refl
 found-fails p t (x ∷ xs) e =
-    elim (p x) as (λ b. knows (cond b (Some x) (find p xs)) t ≡ false) [
+    elim (p x) as (λ b. option_map_or t (cond b (Some x) (find p xs)) false ≡ false) [
       | true ↦ (or_parts (t x) (list_any t xs) e).0
       | false ↦ found-fails p t xs (or_parts (t x) (list_any t xs) e).1
     ]
@@ -26,7 +27,7 @@ none-passes : {X : Type 0} (p : X → Bool) (xs : List X) → ((x : X) → p x �
 none-passes p [] fails = refl
 none-passes p (x ∷ xs) fails = ap (λ b. b || list_any p xs) (fails x) ∙ none-passes p xs fails
 
-none-known : {X : Type 0} (o : Option X) (t : X → Bool) → ((x : X) → t x ≡ false) → knows o t ≡ false
+none-known : {X : Type 0} (o : Option X) (t : X → Bool) → ((x : X) → t x ≡ false) → option_map_or t o false ≡ false
 none-known None t fails = refl
 none-known (Some x) t fails = fails x
 

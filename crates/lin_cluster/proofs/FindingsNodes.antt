@@ -5,9 +5,10 @@ use Rattle.std.specs.List.{list_any, position_or_len}
 use Rattle.std.specs.Str.{bytes_eq}
 use Rattle.std.proofs.lemmas.Bool.{eqb-true, eq-eqb, lt-ltb}
 use Rattle.std.proofs.Math.Dec.{eqb-suc-zero}
+use Rattle.std.specs.Option.{option_map_or}
 use Rattle.lin_cluster.specs.Described.{node_names, node_number}
 use Rattle.lin_cluster.specs.Places.{wrong_publisher_at}
-use Rattle.lin_cluster.specs.FindingsNames.{at_name, when, same_name, is_node, is_responder, signal_named, frame_named, knows}
+use Rattle.lin_cluster.specs.FindingsNames.{at_name, when, same_name, is_node, is_responder, signal_named, frame_named}
 use Rattle.lin_cluster.specs.FindingsNodes.{node_of, is_number, is_responder_number, are_two, wrong_publisher_by}
 use Rattle.lin_cluster.specs.Members.{has_publisher}
 use Rattle.lin_cluster.proofs.KnownNames.{alike, node-same, same-node}
@@ -44,11 +45,11 @@ some-by false x = refl
 pub some-node : (d : Description) (n : Name) → is_some (node_of d n) ≡ is_node d n
 some-node d n = some-by (is_node d n) (node_number d n)
 
-number-by : (b : Bool) (k : ℕ) → knows (cond b (Some (1 + k)) None) (λ n. nat_lt 0 n) ≡ b
+number-by : (b : Bool) (k : ℕ) → option_map_or (λ n. nat_lt 0 n) (cond b (Some (1 + k)) None) false ≡ b
 number-by true k = lt-ltb 0 (1 + k) (omega arith)
 number-by false k = refl
 
-responder-by : (b rest : Bool) (k : ℕ) → knows (cond (b || rest) (Some (cond (not b) (1 + k) 0)) None) (λ n. nat_lt 0 n) ≡ (not b && rest)
+responder-by : (b rest : Bool) (k : ℕ) → option_map_or (λ n. nat_lt 0 n) (cond (b || rest) (Some (cond (not b) (1 + k) 0)) None) false ≡ (not b && rest)
 responder-by true rest k = refl
 responder-by false rest k = number-by rest k
 
@@ -81,7 +82,7 @@ both-known d a b known other =
 elsewhere : (d : Description) (a b : Name) → are_two (node_of d a) (node_of d b) ≡ (is_node d a && is_node d b && not (same_name a b))
 elsewhere d a b =
     elim (is_node d a) as (λ t. is_node d a ≡ t → are_two (cond t (Some (node_number d a)) None) (node_of d b) ≡ (t && is_node d b && not (same_name a b))) [
-      | true ↦ λ e. elim (is_node d b) as (λ u. is_node d b ≡ u → knows (cond u (Some (node_number d b)) None) (λ k. not (node_number d a == k)) ≡ (u && not (same_name a b))) [
+      | true ↦ λ e. elim (is_node d b) as (λ u. is_node d b ≡ u → option_map_or (λ k. not (node_number d a == k)) (cond u (Some (node_number d b)) None) false ≡ (u && not (same_name a b))) [
         | true ↦ λ f. ap not (sym (both-known d a b e f))
         | false ↦ λ f. refl
       ] refl
@@ -89,7 +90,7 @@ elsewhere d a b =
     ] refl
 
 pub wrong-by : (d : Description) (f : Frame) → wrong_publisher_by d (node_of d f.publisher) ≡ wrong_publisher_at d f
-wrong-by d f = λ i p. when (knows (signal_named d p.signal) (λ s. elsewhere d s.publisher f.publisher i)) (at_name WrongPublisher p.signal)
+wrong-by d f = λ i p. when (option_map_or (λ s. elsewhere d s.publisher f.publisher i) (signal_named d p.signal) false) (at_name WrongPublisher p.signal)
 
 -- ---- publishers of members
 
@@ -120,11 +121,11 @@ commanders d a = commander-by (same_name d.master a) (list_any (λ m. same_name 
 
 -- whether the node with a number publishes one of some members
 abbrev pub publishes : Description → List Name → ℕ → Bool
-publishes d members k = list_any (λ m. knows (frame_named d m) (λ g. is_number k (node_of d g.publisher))) members
+publishes d members k = list_any (λ m. option_map_or (λ g. is_number k (node_of d g.publisher)) (frame_named d m) false) members
 
-pub published-same : (d : Description) (earlier : List Name) (published : ℕ → Bool) (a : Name) → ((k : ℕ) → published k ≡ publishes d earlier k) → knows (node_of d a) published ≡ (is_node d a && list_any (has_publisher d a) earlier)
+pub published-same : (d : Description) (earlier : List Name) (published : ℕ → Bool) (a : Name) → ((k : ℕ) → published k ≡ publishes d earlier k) → option_map_or published (node_of d a) false ≡ (is_node d a && list_any (has_publisher d a) earlier)
 published-same d earlier published a so =
-    elim (is_node d a) as (λ t. is_node d a ≡ t → knows (cond t (Some (node_number d a)) None) published ≡ (t && list_any (has_publisher d a) earlier)) [
-      | true ↦ λ e. so (node_number d a) ∙ (λ i. list_any (λ m. knows (frame_named d m) (λ g. same-number d g.publisher a e i)) earlier)
+    elim (is_node d a) as (λ t. is_node d a ≡ t → option_map_or published (cond t (Some (node_number d a)) None) false ≡ (t && list_any (has_publisher d a) earlier)) [
+      | true ↦ λ e. so (node_number d a) ∙ (λ i. list_any (λ m. option_map_or (λ g. same-number d g.publisher a e i) (frame_named d m) false) earlier)
       | false ↦ λ e. refl
     ] refl

@@ -3,13 +3,13 @@ use Rattle.std.proofs.Common.{◌≡◌, ℕ, ◌+◌, ◌<◌, ◌≤◌, Bool,
 use Rattle.std.specs.Prelude.{◌↔◌, ◌||◌, ◌&&◌, ◌==◌, nat_lt, IsSome}
 use Rattle.std.specs.BTreeMap.{BTreeMap}
 use Rattle.std.specs.List.{list_any}
-use Rattle.std.specs.Option.{option_map}
+use Rattle.std.specs.Option.{option_map, option_map_or}
 use Rattle.std.proofs.lemmas.Bool.{lt-ltb, cases_lt}
 use Rattle.std.proofs.lemmas.Bool.Decides.{nat_tests}
 use Rattle.std.proofs.lemmas.List.Folds.{list_any_more}
 use Rattle.lin_cluster.specs.Described.{signal_number}
 use Rattle.lin_cluster.specs.Overlaps.{meets, share_bit}
-use Rattle.lin_cluster.specs.FindingsNames.{knows, signal_named, same_name}
+use Rattle.lin_cluster.specs.FindingsNames.{signal_named, same_name}
 use Rattle.lin_cluster.specs.FindingsPlaces.{IsTaken, lies_in}
 use Rattle.lin_cluster.specs.FindingsRanges.{Meets}
 use Rattle.lin_cluster.specs.Known.{signal_facts}
@@ -43,24 +43,24 @@ any_either : {A : Type 0} (f g : A → Bool) (xs : List A) → list_any (λ x. f
 any_either f g [] = refl
 any_either f g (x ∷ xs) = ap (λ b. (f x || g x) || b) (any_either f g xs) ∙ four (f x) (g x) (list_any f xs) (list_any g xs)
 
-unknown_no : {A : Type 0} (o : Option A) → knows o (λ x. false) ≡ false
+unknown_no : {A : Type 0} (o : Option A) → option_map_or (λ x. false) o false ≡ false
 unknown_no (Some x) = refl
 unknown_no None = refl
 
-any_no : {A B : Type 0} (o : A → Option B) (xs : List A) → list_any (λ x. knows (o x) (λ y. false)) xs ≡ false
+any_no : {A B : Type 0} (o : A → Option B) (xs : List A) → list_any (λ x. option_map_or (λ y. false) (o x) false) xs ≡ false
 any_no o [] = refl
-any_no o (x ∷ xs) = ap (λ b. b || list_any (λ z. knows (o z) (λ y. false)) xs) (unknown_no (o x)) ∙ any_no o xs
+any_no o (x ∷ xs) = ap (λ b. b || list_any (λ z. option_map_or (λ y. false) (o z) false) xs) (unknown_no (o x)) ∙ any_no o xs
 
 no_bits : (m : ℕ) → m ≤ 0 → nat_lt 0 m ≡ false
 no_bits m h = grind (arith, nat_tests)
 
 abbrev Shares : Description → ℕ → ℕ → List PlacedSignal → Bool → Bool
-Shares d a m xs b = list_any (λ (q : PlacedSignal). knows (signal_named d q.signal) (λ t. b && nat_lt 0 t.size.value && nat_lt a (q.offset.value + t.size.value) && nat_lt q.offset.value (a + m))) xs
+Shares d a m xs b = list_any (λ (q : PlacedSignal). option_map_or (λ t. b && nat_lt 0 t.size.value && nat_lt a (q.offset.value + t.size.value) && nat_lt q.offset.value (a + m)) (signal_named d q.signal) false) xs
 
-bits_taken : (d : Description) (ranges : BTreeMap ℕ ℕ) (a m : ℕ) (xs : List PlacedSignal) → ((b e : ℕ) → b < e → Meets ranges b e ↔ (list_any (λ q. knows (signal_named d q.signal) (λ t. lies_in b e q t.size.value)) xs ≡ true))
-    → (list_any (λ q. knows (signal_named d q.signal) (λ t. share_bit a m q.offset.value t.size.value)) xs ≡ true) ↔ ((0 < m) × Meets ranges a (a + m))
+bits_taken : (d : Description) (ranges : BTreeMap ℕ ℕ) (a m : ℕ) (xs : List PlacedSignal) → ((b e : ℕ) → b < e → Meets ranges b e ↔ (list_any (λ q. option_map_or (λ t. lies_in b e q t.size.value) (signal_named d q.signal) false) xs ≡ true))
+    → (list_any (λ q. option_map_or (λ t. share_bit a m q.offset.value t.size.value) (signal_named d q.signal) false) xs ≡ true) ↔ ((0 < m) × Meets ranges a (a + m))
 bits_taken d ranges a m xs so =
-    elim (cases_lt 0 m) as (λ _. (list_any (λ q. knows (signal_named d q.signal) (λ t. share_bit a m q.offset.value t.size.value)) xs ≡ true) ↔ ((0 < m) × Meets ranges a (a + m))) [
+    elim (cases_lt 0 m) as (λ _. (list_any (λ q. option_map_or (λ t. share_bit a m q.offset.value t.size.value) (signal_named d q.signal) false) xs ≡ true) ↔ ((0 < m) × Meets ranges a (a + m))) [
       | inl some ↦
           let e = ap (Shares d a m xs) (lt-ltb 0 m some) in
           let here = so a (a + m) (omega arith) in
@@ -72,11 +72,11 @@ bits_taken d ranges a m xs so =
 
 pub taken : (d : Description) (ranges : BTreeMap ℕ ℕ) (xs : List PlacedSignal) (p : PlacedSignal) (size : ℕ) (twice : Bool) → signal_number d p.signal < length d.signals
     → twice ≡ list_any (λ q. signal_number d q.signal == signal_number d p.signal) xs
-    → ((b e : ℕ) → b < e → Meets ranges b e ↔ (list_any (λ q. knows (signal_named d q.signal) (λ t. lies_in b e q t.size.value)) xs ≡ true))
+    → ((b e : ℕ) → b < e → Meets ranges b e ↔ (list_any (λ q. option_map_or (λ t. lies_in b e q t.size.value) (signal_named d q.signal) false) xs ≡ true))
     → (list_any (meets d p size) xs ≡ true) ↔ IsTaken twice ranges p size
 taken d ranges xs p size twice lt numbered so =
     let f : PlacedSignal → Bool = λ q. same_name q.signal p.signal in
-    let g : PlacedSignal → Bool = λ q. knows (signal_named d q.signal) (λ t. share_bit p.offset.value size q.offset.value t.size.value) in
+    let g : PlacedSignal → Bool = λ q. option_map_or (λ t. share_bit p.offset.value size q.offset.value t.size.value) (signal_named d q.signal) false in
     let e : list_any (meets d p size) xs ≡ (list_any f xs || list_any g xs) = any_either f g xs in
     let named : list_any f xs ≡ twice = (λ i. list_any (λ q. same-number d p q lt i) xs) ∙ sym numbered in
     let bits = bits_taken d ranges p.offset.value size xs so in (

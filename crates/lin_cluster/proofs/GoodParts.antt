@@ -21,7 +21,7 @@ use Rattle.lin_cluster.specs.Overlaps.{overlap_at, is_overlapping}
 use Rattle.lin_cluster.specs.Places.{wrong_publisher_at, is_published_elsewhere, outside_at, is_outside}
 use Rattle.lin_cluster.specs.Sizes.{bad_signal_size, bad_frame_size, is_good_size, is_frame_size, bad_init, init_place, is_good_init}
 use Rattle.lin_cluster.specs.UnknownNames.{unknown_node, unknown_signal, unknown_member, unknown_table, unknown_entry}
-use Rattle.lin_cluster.specs.FindingsNames.{is_node, signal_named, frame_named, table_named, is_any_frame, is_event_entry, carries_frame, knows, when, at_name, at_number, at_place}
+use Rattle.lin_cluster.specs.FindingsNames.{is_node, signal_named, frame_named, table_named, is_any_frame, is_event_entry, carries_frame, when, at_name, at_number, at_place}
 use Rattle.lin_cluster.specs.Limits.{responder_limits, frame_limits, time_limits, past, long_delay, long_table, too_long}
 use Rattle.lin_cluster.specs.Members.{bad_member_at, bad_sporadic_at, is_responders, is_bad_member, is_mixed, mixed_at}
 use Rattle.lin_cluster.specs.Slots.{short_slot_at, zero_delay, is_speed}
@@ -30,7 +30,7 @@ use Rattle.lin_cluster.specs.declared.finding.FindingKind.TheVariants.{UnknownNa
 use Rattle.lin_cluster.specs.declared.finding.Finding.{Finding}
 use Rattle.lin_cluster.proofs.KnownNames.{no_frame, no_table, the_signal, signal-within, signal-at, frame-found, table-within, table-found}
 use Rattle.lin_cluster.proofs.Named.{found-within}
-use Rattle.lin_parts.proofs.Pairs.{all-front, all-back, all-of-map}
+use Rattle.lin_cluster_parts.proofs.Pairs.{all-front, all-back, all-of-map}
 use Rattle.lin_cluster.proofs.NothingFound.{NothingFound}
 use Rattle.lin_cluster.proofs.NothingIn.{nil-parts, each-nil, when-nil, within-limit, of-each, none-has}
 
@@ -117,7 +117,7 @@ pub record GoodFrame (d : Description) (f : Frame) : Type 0 where
   pub apart : (k : ℕ) (p : PlacedSignal) → k < length f.placed → is_overlapping d (take k f.placed) (get_or f.placed k p) ≡ false
 
 -- what is asked of something known
-asked : {A : Type 0} (o : Option A) (x : A) (test : A → Bool) → o ≡ Some x → knows o test ≡ false → test x ≡ false
+asked : {A : Type 0} (o : Option A) (x : A) (test : A → Bool) → o ≡ Some x → option_map_or test o false ≡ false → test x ≡ false
 asked o x test is e = rw is at e
 
 placed-parts : (d : Description) (f : Frame) → flat_map (in_placed d f f.placed) (enumerate_from 0 f.placed) ≡ [] → (k : ℕ) (p : PlacedSignal) → k < length f.placed

@@ -2,7 +2,7 @@
 use Rattle.std.proofs.Common.{◌≡◌, ◌<◌, ◌≤◌, ◌+◌, ℕ, zero, suc, Bool, true, false, cond, not, ◌||◌, List, [], ◌∷◌, map, ◌++◌, length, get_or, take, refl, sym, subst, ap, ◌∙◌, arith, one-add, length-take}
 use Rattle.std.specs.Prelude.{Option, Some, None, find, is_some, nat_lt, slice_get}
 use Rattle.std.specs.List.{list_any, position_or_len, position_from}
-use Rattle.std.specs.Option.{option_copied, option_map}
+use Rattle.std.specs.Option.{option_copied, option_map, option_or}
 use Rattle.std.specs.Slice.{IsItemAt}
 use Rattle.std.proofs.lemmas.Option.{slice_get_past}
 use denote.Ref.{Bor}
@@ -12,7 +12,6 @@ use Rattle.std.proofs.lemmas.Iterator.Adapters.{position_from-zero}
 use Rattle.std.proofs.lemmas.List.{take_more}
 use Rattle.std.proofs.lemmas.List.Sums.{passes_at_first, prefix_len-le-length}
 use Rattle.std.proofs.lemmas.Slice.Eq.{bytes_eq-Decides}
-use Rattle.lin_cluster.specs.Names.{or_else}
 
 pub same-text : (a b : List ℕ) → bytes_eq a b ≡ true → a ≡ b
 same-text a b e = (bytes_eq-Decides a b).0 e
@@ -84,20 +83,20 @@ found-past p (x ∷ xs) le =
 
 -- ---- numbers that are found as they are given, item by item
 
-from-more : {X : Type 0} (p : X → Bool) (k : ℕ) (xs : List X) (x : X) → position_from p k (xs ++ x ∷ []) ≡ or_else (position_from p k xs) (cond (p x) (Some (k + length xs)) None)
+from-more : {X : Type 0} (p : X → Bool) (k : ℕ) (xs : List X) (x : X) → position_from p k (xs ++ x ∷ []) ≡ option_or (position_from p k xs) (cond (p x) (Some (k + length xs)) None)
 from-more p k [] x = ap (λ n. cond (p x) (Some n) None) (omega arith)
 from-more p k (y ∷ xs) x =
-    elim (p y) as (λ b. cond b (Some k) (position_from p (k + 1) (xs ++ x ∷ [])) ≡ or_else (cond b (Some k) (position_from p (k + 1) xs)) (cond (p x) (Some (k + suc (length xs))) None)) [
+    elim (p y) as (λ b. cond b (Some k) (position_from p (k + 1) (xs ++ x ∷ [])) ≡ option_or (cond b (Some k) (position_from p (k + 1) xs)) (cond (p x) (Some (k + suc (length xs))) None)) [
       | true ↦ refl
-      | false ↦ from-more p (k + 1) xs x ∙ ap (λ n. or_else (position_from p (k + 1) xs) (cond (p x) (Some n) None)) (omega arith)
+      | false ↦ from-more p (k + 1) xs x ∙ ap (λ n. option_or (position_from p (k + 1) xs) (cond (p x) (Some n) None)) (omega arith)
     ]
 
 -- with one more item
-pub numbered_more : {X : Type 0} (p : X → Bool) (xs : List X) (i : ℕ) (x : X) (b : Bool) (old new : Option ℕ) → i < length xs → x ≡ get_or xs i x → b ≡ p x → old ≡ position_from p 0 (take i xs) → new ≡ or_else old (cond b (Some i) None) → new ≡ position_from p 0 (take (i + 1) xs)
+pub numbered_more : {X : Type 0} (p : X → Bool) (xs : List X) (i : ℕ) (x : X) (b : Bool) (old new : Option ℕ) → i < length xs → x ≡ get_or xs i x → b ≡ p x → old ≡ position_from p 0 (take i xs) → new ≡ option_or old (cond b (Some i) None) → new ≡ position_from p 0 (take (i + 1) xs)
 numbered_more p xs i x b old new lt is passes so here =
     let count : 0 + length (take i xs) ≡ i = omega (arith, length-take i xs)
-    in here ∙ ap (λ o. or_else o (cond b (Some i) None)) so ∙ ap (λ t. or_else (position_from p 0 (take i xs)) (cond t (Some i) None)) (passes ∙ ap p is)
-    ∙ ap (λ n. or_else (position_from p 0 (take i xs)) (cond (p (get_or xs i x)) (Some n) None)) (sym count)
+    in here ∙ ap (λ o. option_or o (cond b (Some i) None)) so ∙ ap (λ t. option_or (position_from p 0 (take i xs)) (cond t (Some i) None)) (passes ∙ ap p is)
+    ∙ ap (λ n. option_or (position_from p 0 (take i xs)) (cond (p (get_or xs i x)) (Some n) None)) (sym count)
     ∙ sym (from-more p 0 (take i xs) (get_or xs i x)) ∙ ap (position_from p 0) (sym (take_more xs i x lt))
 
 some-number : (b : Bool) (n k : ℕ) → Some k ≡ cond b (Some n) None → k ≡ n

@@ -1,5 +1,6 @@
 -- Findings 11, bad address, and 12, address twice (LIN 2.2A, section 9.2.2.2).
-use Rattle.std.specs.Prelude.{ℕ, List, take, flat_map, filter_map, Option, None, not, if◌then◌else◌, ◌==◌, ◌&&◌, nat_le}
+use Rattle.std.specs.Prelude.{ℕ, List, take, flat_map, filter_map, Option, None, not, if◌then◌else◌}
+use Rattle.std.specs.Prelude.{◌==◌, ◌&&◌, nat_le}
 use Rattle.std.specs.List.{list_any, enumerate_from}
 use Rattle.lin_cluster.specs.FindingsNames.{at_number, when, is_responder}
 use Rattle.lin_cluster.specs.declared.finding.FindingKind.TheVariants.{BadNad, NadTwice}
@@ -25,7 +26,8 @@ bad_nads d = flat_map bad_nad (addresses d)
 
 -- the address with this number, which an earlier one is
 abbrev pub nad_twice : List Number → ℕ × Number → List Finding
-nad_twice ns ix = when (list_any (λ y. y.value == ix.1.value) (take ix.0 ns)) (at_number NadTwice ix.1)
+nad_twice ns ix =
+    when (list_any (λ y. y.value == ix.1.value) (take ix.0 ns)) (at_number NadTwice ix.1)
 
 abbrev pub nads_twice : Description → List Finding
 nads_twice d = flat_map (nad_twice (addresses d)) (enumerate_from 0 (addresses d))

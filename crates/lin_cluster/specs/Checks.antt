@@ -9,5 +9,7 @@ use Rattle.lin_description.specs.declared.description.Description.{Description}
 -- all that is found, which is something, and no other list is that; out of memory says nothing of
 -- the description
 abbrev pub IsFaultOf : Description → CheckFault → Type 0
-IsFaultOf d (Findings found) = AreFindings d found × (candidates d ≢ []) × ((other : List Finding) → AreFindings d other → other ≡ found)
+IsFaultOf d (Findings found) =
+    AreFindings d found × (candidates d ≢ [])
+    × ((other : List Finding) → AreFindings d other → other ≡ found)
 IsFaultOf d OutOfMemory = Unit {0}

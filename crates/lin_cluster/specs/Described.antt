@@ -1,7 +1,8 @@
 -- The cluster that an LDF description says (LIN 2.2A, section 9). Things of each kind are numbered
 -- in file order, and a name means the first that has it. A name that nothing has means the number
 -- after the last; such a description has a finding.
-use Rattle.std.specs.Prelude.{ℕ, Bool, List, [], ◌∷◌, length, map, find, slice_index_or, Option, Some, None, option_and_then, ◌==◌, nat_lt, if◌then◌else◌, codes}
+use Rattle.std.specs.Prelude.{ℕ, Bool, List, [], ◌∷◌, length, map, find, slice_index_or, Option}
+use Rattle.std.specs.Prelude.{Some, None, option_and_then, ◌==◌, nat_lt, if◌then◌else◌, codes}
 use Rattle.std.specs.List.{list_any, enumerate_from, position_or_len}
 use Rattle.std.specs.Option.{option_map, option_map_or}
 use Rattle.std.specs.Str.{bytes_eq}
@@ -23,16 +24,16 @@ use Rattle.lin_description.specs.declared.description.Signal as declared_signal
 use Rattle.lin_description.specs.declared.description.Table as declared_table
 use Rattle.lin_description.specs.declared.description.TableEntry.{TableEntry}
 use Rattle.lin_cluster.specs.Models.{frame_model, first_model}
-use Rattle.lin_parts.specs.Rules.{place_at}
-use Rattle.lin_parts.specs.declared.parts.Entry.{Entry}
-use Rattle.lin_parts.specs.declared.parts.Entry.TheVariants as entries
-use Rattle.lin_parts.specs.declared.parts.EventFrame.{EventFrame}
-use Rattle.lin_parts.specs.declared.parts.Line.{Line}
-use Rattle.lin_parts.specs.declared.parts.Node.{Node}
-use Rattle.lin_parts.specs.declared.parts.Parts.{Parts}
-use Rattle.lin_parts.specs.declared.parts.Signal.{Signal}
-use Rattle.lin_parts.specs.declared.parts.SignalFrame.{SignalFrame}
-use Rattle.lin_parts.specs.declared.parts.Table.{Table}
+use Rattle.lin_cluster_parts.specs.Rules.{place_at}
+use Rattle.lin_cluster_parts.specs.declared.parts.Entry.{Entry}
+use Rattle.lin_cluster_parts.specs.declared.parts.Entry.TheVariants as entries
+use Rattle.lin_cluster_parts.specs.declared.parts.EventFrame.{EventFrame}
+use Rattle.lin_cluster_parts.specs.declared.parts.Line.{Line}
+use Rattle.lin_cluster_parts.specs.declared.parts.Node.{Node}
+use Rattle.lin_cluster_parts.specs.declared.parts.Parts.{Parts}
+use Rattle.lin_cluster_parts.specs.declared.parts.Signal.{Signal}
+use Rattle.lin_cluster_parts.specs.declared.parts.SignalFrame.{SignalFrame}
+use Rattle.lin_cluster_parts.specs.declared.parts.Table.{Table}
 
 -- ---- numbers of names
 
@@ -75,7 +76,8 @@ abbrev pub responder : Description → ℕ × Name → Node
 responder d slave = record { name = slave.1.text; nad = described_nad d slave.0 }
 
 abbrev pub nodes_of : Description → List Node
-nodes_of d = record { name = d.master.text; nad = None } ∷ map (responder d) (enumerate_from 1 d.slaves)
+nodes_of d =
+    record { name = d.master.text; nad = None } ∷ map (responder d) (enumerate_from 1 d.slaves)
 
 -- ---- signals (section 9.2.3)
 
@@ -84,7 +86,12 @@ initial_of (inits.Scalar n) = values.Scalar n.value
 initial_of (inits.Array place items) = values.Bytes (map (λ n. n.value) items)
 
 abbrev pub described_signal : Description → declared_signal.Signal → Signal
-described_signal d s = record { name = s.name.text; publisher = node_number d s.publisher; size = s.size.value; initial = initial_of s.init }
+described_signal d s = record {
+  name = s.name.text;
+  publisher = node_number d s.publisher;
+  size = s.size.value;
+  initial = initial_of s.init;
+}
 
 abbrev pub signals_of : Description → List Signal
 signals_of d = map (described_signal d) d.signals
@@ -98,14 +105,20 @@ is_member d k = list_any (λ e. list_any (λ m. frame_number d m == k) e.members
 -- a signal at its offset, as large as it is declared; out of range: a signal of one bit
 abbrev pub described_place : Description → PlacedSignal → Place
 described_place d p =
-    place_at p.offset.value (slice_index_or (signals_of d) (signal_number d p.signal) (record { name = []; publisher = 0; size = 1; initial = values.Scalar 0 }))
+    place_at p.offset.value
+    (slice_index_or (signals_of d) (signal_number d p.signal)
+    (record { name = []; publisher = 0; size = 1; initial = values.Scalar 0 }))
 
 -- data byte 0 holds the protected identifier where an event-triggered frame lists the frame
 abbrev pub own_pid : Description → ℕ × declared_frame.Frame → Option ℕ
 own_pid d frame = if is_member d frame.0 then Some (pid frame.1.id.value) else None
 
 abbrev pub described_layout : Description → ℕ × declared_frame.Frame → Layout
-described_layout d frame = record { len = frame.1.size.value; pid = own_pid d frame; places = map (described_place d) frame.1.placed }
+described_layout d frame = record {
+  len = frame.1.size.value;
+  pid = own_pid d frame;
+  places = map (described_place d) frame.1.placed;
+}
 
 abbrev pub described_frame : Description → ℕ × declared_frame.Frame → SignalFrame
 described_frame d frame = record {
@@ -128,7 +141,12 @@ sporadic_frames_of d = map (λ s. members_of d s.members) d.sporadic
 
 -- its answers have the checksum model of the first member
 abbrev pub described_event : Description → declared_event.EventFrame → EventFrame
-described_event d e = record { pid = pid e.id.value; model = option_map_or (λ model. model) (first_model d e.members) Enhanced; table = table_number d e.table; frames = members_of d e.members }
+described_event d e = record {
+  pid = pid e.id.value;
+  model = option_map_or (λ model. model) (first_model d e.members) Enhanced;
+  table = table_number d e.table;
+  frames = members_of d e.members;
+}
 
 abbrev pub events_of : Description → List EventFrame
 events_of d = map (described_event d) d.events
@@ -139,15 +157,18 @@ events_of d = map (described_event d) d.events
 abbrev pub frame_entry : Description → Name → Entry
 frame_entry d name =
     if nat_lt (frame_number d name) (length d.frames) then entries.Frame (frame_number d name)
-    else (if nat_lt (sporadic_number d name) (length d.sporadic) then entries.Sporadic (sporadic_number d name)
-    else (if nat_lt (event_number d name) (length d.events) then entries.Event (event_number d name) else entries.Quiet))
+    else (if nat_lt (sporadic_number d name) (length d.sporadic)
+    then entries.Sporadic (sporadic_number d name)
+    else (if nat_lt (event_number d name) (length d.events) then entries.Event (event_number d name)
+    else entries.Quiet))
 
 -- a configuration entry, which has a group, one of the two diagnostic frames, or another frame
 abbrev pub described_entry : Description → TableEntry → Entry
 described_entry d e =
     if e.has_group then entries.Quiet
     else (if bytes_eq e.name.text (codes "MasterReq") then entries.MasterReq
-    else (if bytes_eq e.name.text (codes "SlaveResp") then entries.SlaveResp else frame_entry d e.name))
+    else (if bytes_eq e.name.text (codes "SlaveResp") then entries.SlaveResp
+    else frame_entry d e.name))
 
 abbrev pub described_line : Description → TableEntry → Line
 described_line d e = record { entry = described_entry d e; delay_us = e.delay.value }

@@ -9,7 +9,8 @@ use Rattle.lin_cluster.specs.Identifiers.{bad_ids, ids_twice}
 use Rattle.lin_cluster.specs.Overlaps.{overlap_at}
 use Rattle.lin_cluster.specs.Places.{wrong_publisher_at, outside_at}
 use Rattle.lin_cluster.specs.Sizes.{bad_signal_size, bad_frame_size, bad_init}
-use Rattle.lin_cluster.specs.UnknownNames.{unknown_node, unknown_member, unknown_signal, unknown_table, unknown_entry}
+use Rattle.lin_cluster.specs.UnknownNames.{unknown_node, unknown_member, unknown_signal}
+use Rattle.lin_cluster.specs.UnknownNames.{unknown_table, unknown_entry}
 use Rattle.lin_cluster.specs.Limits.{long_delay, long_table, limits_passed}
 use Rattle.lin_cluster.specs.Members.{bad_member_at, bad_sporadic_at, mixed_at}
 use Rattle.lin_cluster.specs.Slots.{short_slot_at, zero_delay}
@@ -29,14 +30,20 @@ use Rattle.lin_description.specs.declared.description.TableEntry.{TableEntry}
 -- ---- the findings of each declaration
 
 abbrev pub in_signal : Description → Signal → List Finding
-in_signal d s = unknown_node d s.publisher ++ flat_map (unknown_node d) s.subscribers ++ bad_signal_size s ++ bad_init s
+in_signal d s =
+    unknown_node d s.publisher ++ flat_map (unknown_node d) s.subscribers ++ bad_signal_size s
+    ++ bad_init s
 
 -- the signal with this number of those that a frame places
 abbrev pub in_placed : Description → Frame → List PlacedSignal → ℕ × PlacedSignal → List Finding
-in_placed d f placed ip = unknown_signal d ip.1 ++ wrong_publisher_at d f ip.1 ++ outside_at d f ip.1 ++ overlap_at d placed ip
+in_placed d f placed ip =
+    unknown_signal d ip.1 ++ wrong_publisher_at d f ip.1 ++ outside_at d f ip.1
+    ++ overlap_at d placed ip
 
 abbrev pub in_frame : Description → Frame → List Finding
-in_frame d f = unknown_node d f.publisher ++ bad_frame_size f ++ flat_map (in_placed d f f.placed) (enumerate_from 0 f.placed)
+in_frame d f =
+    unknown_node d f.publisher ++ bad_frame_size f
+    ++ flat_map (in_placed d f f.placed) (enumerate_from 0 f.placed)
 
 -- a member of a sporadic frame
 abbrev pub in_sporadic_member : Description → Name → List Finding
@@ -47,10 +54,13 @@ in_sporadic d f = flat_map (in_sporadic_member d) f.members
 
 -- the member of an event-triggered frame with this number
 abbrev pub in_event_member : Description → List Name → ℕ × Name → List Finding
-in_event_member d members im = unknown_member d im.1 ++ bad_member_at d members im ++ mixed_at d members im.1
+in_event_member d members im =
+    unknown_member d im.1 ++ bad_member_at d members im ++ mixed_at d members im.1
 
 abbrev pub in_event : Description → EventFrame → List Finding
-in_event d e = unknown_table d e ++ nested_at d e ++ flat_map (in_event_member d e.members) (enumerate_from 0 e.members)
+in_event d e =
+    unknown_table d e ++ nested_at d e
+    ++ flat_map (in_event_member d e.members) (enumerate_from 0 e.members)
 
 abbrev pub in_attributes : Description → Attributes → List Finding
 in_attributes d a = unknown_node d a.node
@@ -65,11 +75,15 @@ in_table d t = empty_table t ++ long_table t ++ flat_map (in_entry d) t.entries
 
 abbrev pub in_declarations : Description → List Finding
 in_declarations d =
-    flat_map (in_signal d) d.signals ++ flat_map (in_frame d) d.frames ++ flat_map (in_sporadic d) d.sporadic
-    ++ flat_map (in_event d) d.events ++ flat_map (in_attributes d) d.attributes ++ flat_map (in_table d) d.tables
+    flat_map (in_signal d) d.signals ++ flat_map (in_frame d) d.frames
+    ++ flat_map (in_sporadic d) d.sporadic
+    ++ flat_map (in_event d) d.events ++ flat_map (in_attributes d) d.attributes
+    ++ flat_map (in_table d) d.tables
 
 abbrev pub candidates : Description → List Finding
-candidates d = in_declarations d ++ bad_ids d ++ ids_twice d ++ bad_nads d ++ nads_twice d ++ no_table d ++ limits_passed d
+candidates d =
+    in_declarations d ++ bad_ids d ++ ids_twice d ++ bad_nads d ++ nads_twice d ++ no_table d
+    ++ limits_passed d
 
 -- a description in which nothing is found
 abbrev pub IsFree : Description → Type 0
@@ -77,7 +91,10 @@ IsFree d = candidates d ≡ []
 
 -- by line, then by column, then by number
 abbrev pub finding_cmp : Finding → Finding → Ordering
-finding_cmp a b = ordering_then (nat_cmp a.line b.line) (ordering_then (nat_cmp a.column b.column) (ordering_then (nat_cmp a.number b.number) (nat_cmp a.needed_us b.needed_us)))
+finding_cmp a b =
+    ordering_then (nat_cmp a.line b.line)
+    (ordering_then (nat_cmp a.column b.column)
+    (ordering_then (nat_cmp a.number b.number) (nat_cmp a.needed_us b.needed_us)))
 
 -- all that is found, in that order
 pub record AreFindings (d : Description) (found : List Finding) : Type 0 where

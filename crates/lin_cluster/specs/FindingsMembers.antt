@@ -1,12 +1,13 @@
 -- What is wrong with a member of an event-triggered frame, by the first member and by the numbers
 -- of the publishers of those before it.
-use Rattle.std.specs.Prelude.{ℕ, List, ◌++◌, Option, Bool, true, not, ◌==◌, ◌&&◌, ◌||◌}
+use Rattle.std.specs.Prelude.{ℕ, List, ◌++◌, Option, Bool, true, not, ◌==◌, ◌&&◌, ◌||◌, false}
 use Rattle.std.specs.Option.{option_map_or}
-use Rattle.lin_cluster.specs.FindingsNames.{at_name, when, knows}
+use Rattle.lin_cluster.specs.FindingsNames.{at_name, when}
 use Rattle.lin_cluster.specs.FindingsNodes.{is_number}
 use Rattle.lin_cluster.specs.Models.{differ}
 use Rattle.lin_cluster.specs.declared.finding.Finding.{Finding}
-use Rattle.lin_cluster.specs.declared.finding.FindingKind.TheVariants.{UnknownName, BadEventFrame, MixedChecksum}
+use Rattle.lin_cluster.specs.declared.finding.FindingKind.TheVariants.{UnknownName, BadEventFrame}
+use Rattle.lin_cluster.specs.declared.finding.FindingKind.TheVariants.{MixedChecksum}
 use Rattle.lin_cluster.specs.declared.findings.facts.FrameFacts.{FrameFacts}
 use Rattle.lin_description.specs.declared.description.Name.{Name}
 
@@ -14,19 +15,23 @@ use Rattle.lin_description.specs.declared.description.Name.{Name}
 abbrev pub is_bad_after : Option FrameFacts → (ℕ → Bool) → FrameFacts → Bool
 is_bad_after first published f =
     is_number 0 f.publisher
-    || knows f.publisher published
-    || knows first (λ g. not (g.size == f.size))
+    || option_map_or published f.publisher false
+    || option_map_or (λ g. not (g.size == f.size)) first false
     || f.has_front
 
 -- the same of what a member names, if it is known, where that is a frame
 abbrev pub is_wrong_after : Option FrameFacts → (ℕ → Bool) → Bool → Option FrameFacts → Bool
-is_wrong_after first published known m = known && option_map_or (is_bad_after first published) m true
+is_wrong_after first published known m =
+    known && option_map_or (is_bad_after first published) m true
 
 -- another checksum model than the first member
 abbrev pub is_mixed_after : Option FrameFacts → Option FrameFacts → Bool
-is_mixed_after first m = knows m (λ f. knows first (λ g. differ f.model g.model))
+is_mixed_after first m =
+    option_map_or (λ f. option_map_or (λ g. differ f.model g.model) first false) m false
 
-abbrev pub in_member_after : Option FrameFacts → (ℕ → Bool) → Bool → Option FrameFacts → Name → List Finding
+abbrev pub in_member_after : Option FrameFacts → (ℕ → Bool) → Bool → Option FrameFacts → Name
+    → List Finding
 in_member_after first published known m n =
-    when (not known) (at_name UnknownName n) ++ when (is_wrong_after first published known m) (at_name BadEventFrame n)
+    when (not known) (at_name UnknownName n)
+    ++ when (is_wrong_after first published known m) (at_name BadEventFrame n)
     ++ when (is_mixed_after first m) (at_name MixedChecksum n)

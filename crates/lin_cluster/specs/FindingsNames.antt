@@ -1,6 +1,7 @@
 -- What the names in a description name, and where findings stand. A name names the first
 -- declaration that has it.
-use Rattle.std.specs.Prelude.{List, ◌∷◌, [], codes, find, Option, is_some, Bool, false, not, if◌then◌else◌, ◌&&◌, ◌||◌}
+use Rattle.std.specs.Prelude.{List, ◌∷◌, [], codes, find, Option, is_some, Bool, false, not}
+use Rattle.std.specs.Prelude.{if◌then◌else◌, ◌&&◌, ◌||◌}
 use Rattle.std.specs.List.{list_any}
 use Rattle.std.specs.Option.{option_map_or}
 use Rattle.std.specs.Str.{bytes_eq}
@@ -63,11 +64,8 @@ table_named d n = find (λ t. same_name t.name n) d.tables
 
 -- a frame, a sporadic frame or an event-triggered frame
 abbrev pub is_any_frame : Description → Name → Bool
-is_any_frame d n = is_some (frame_named d n) || is_some (sporadic_named d n) || is_some (event_named d n)
-
--- what is asked of something that a name names: false where the name names nothing
-abbrev pub knows : {A : Type 0} → Option A → (A → Bool) → Bool
-knows o test = option_map_or test o false
+is_any_frame d n =
+    is_some (frame_named d n) || is_some (sporadic_named d n) || is_some (event_named d n)
 
 -- ---- entries of tables (LIN 2.2A, section 9.2.5)
 
@@ -81,4 +79,6 @@ carries_frame e = not e.has_group && not (is_diagnostic e.name)
 
 -- an entry for an event-triggered frame
 abbrev pub is_event_entry : Description → TableEntry → Bool
-is_event_entry d e = carries_frame e && not (is_some (frame_named d e.name)) && not (is_some (sporadic_named d e.name)) && is_some (event_named d e.name)
+is_event_entry d e =
+    carries_frame e && not (is_some (frame_named d e.name))
+    && not (is_some (sporadic_named d e.name)) && is_some (event_named d e.name)

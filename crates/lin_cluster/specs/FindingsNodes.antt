@@ -1,7 +1,9 @@
 -- The numbers of the nodes that publish, by which publishers are compared.
 use Rattle.std.specs.Prelude.{ℕ, List, Option, Some, None, Bool, not, if◌then◌else◌, ◌==◌, nat_lt}
+use Rattle.std.specs.Prelude.{false}
+use Rattle.std.specs.Option.{option_map_or}
 use Rattle.lin_cluster.specs.Described.{node_number}
-use Rattle.lin_cluster.specs.FindingsNames.{at_name, when, is_node, signal_named, knows}
+use Rattle.lin_cluster.specs.FindingsNames.{at_name, when, is_node, signal_named}
 use Rattle.lin_cluster.specs.declared.finding.FindingKind.TheVariants.{WrongPublisher}
 use Rattle.lin_cluster.specs.declared.finding.Finding.{Finding}
 use Rattle.lin_description.specs.declared.description.Description.{Description}
@@ -13,15 +15,18 @@ abbrev pub node_of : Description → Name → Option ℕ
 node_of d n = if is_node d n then Some (node_number d n) else None
 
 abbrev pub is_number : ℕ → Option ℕ → Bool
-is_number k o = knows o (λ n. n == k)
+is_number k o = option_map_or (λ n. n == k) o false
 
 abbrev pub is_responder_number : Option ℕ → Bool
-is_responder_number o = knows o (λ n. nat_lt 0 n)
+is_responder_number o = option_map_or (λ n. nat_lt 0 n) o false
 
 -- two nodes, and not the same
 abbrev pub are_two : Option ℕ → Option ℕ → Bool
-are_two a b = knows a (λ n. knows b (λ k. not (n == k)))
+are_two a b = option_map_or (λ n. option_map_or (λ k. not (n == k)) b false) a false
 
 -- a signal in a frame with this publisher
 abbrev pub wrong_publisher_by : Description → Option ℕ → PlacedSignal → List Finding
-wrong_publisher_by d publisher p = when (knows (signal_named d p.signal) (λ s. are_two (node_of d s.publisher) publisher)) (at_name WrongPublisher p.signal)
+wrong_publisher_by d publisher p =
+    when (option_map_or
+    (λ s. are_two (node_of d s.publisher) publisher) (signal_named d p.signal) false)
+    (at_name WrongPublisher p.signal)

@@ -1,18 +1,22 @@
 -- What the signals of a frame take up: their numbers, and the ranges of their bits.
-use Rattle.std.specs.Prelude.{◌≡◌, ◌<◌, ◌+◌, ◌*◌, ◌%◌, ◌⊎◌, ◌++◌, ℕ, List, Option, is_none, Bool, true, not, ◌&&◌, ◌||◌, ◌==◌, nat_lt}
+use Rattle.std.specs.Prelude.{◌≡◌, ◌<◌, ◌+◌, ◌*◌, ◌%◌, ◌⊎◌, ◌++◌, ℕ, List, Option, is_none, Bool}
+use Rattle.std.specs.Prelude.{true, not, ◌&&◌, ◌||◌, ◌==◌, nat_lt, false}
 use Rattle.std.specs.BTreeMap.{BTreeMap}
-use Rattle.lin_cluster.specs.FindingsNames.{at_name, at_number, when, knows}
+use Rattle.std.specs.Option.{option_map_or}
+use Rattle.lin_cluster.specs.FindingsNames.{at_name, at_number, when}
 use Rattle.lin_cluster.specs.FindingsNodes.{are_two}
 use Rattle.lin_cluster.specs.FindingsRanges.{Meets}
 use Rattle.lin_cluster.specs.declared.finding.Finding.{Finding}
-use Rattle.lin_cluster.specs.declared.finding.FindingKind.TheVariants.{UnknownName, WrongPublisher, SignalOutside}
+use Rattle.lin_cluster.specs.declared.finding.FindingKind.TheVariants.{UnknownName, WrongPublisher}
+use Rattle.lin_cluster.specs.declared.finding.FindingKind.TheVariants.{SignalOutside}
 use Rattle.lin_cluster.specs.declared.findings.facts.SignalFacts.{SignalFacts}
 use Rattle.lin_description.specs.declared.description.Frame.{Frame}
 use Rattle.lin_description.specs.declared.description.PlacedSignal.{PlacedSignal}
 
 -- a signal of so many bits that is there already, or of which a bit is
 abbrev pub IsTaken : Bool → BTreeMap ℕ ℕ → PlacedSignal → ℕ → Type 0
-IsTaken twice ranges p size = (twice ≡ true) ⊎ ((0 < size) × Meets ranges p.offset.value (p.offset.value + size))
+IsTaken twice ranges p size =
+    (twice ≡ true) ⊎ ((0 < size) × Meets ranges p.offset.value (p.offset.value + size))
 
 -- whether a signal of so many bits has one of the range from a to b
 abbrev pub lies_in : ℕ → ℕ → PlacedSignal → ℕ → Bool
@@ -21,9 +25,13 @@ lies_in a b q size = nat_lt 0 size && nat_lt a (q.offset.value + size) && nat_lt
 -- what is wrong with a signal in a frame, by what is known of the signal and by the number of the
 -- frame's publisher
 abbrev pub is_outside_by : Frame → PlacedSignal → SignalFacts → Bool
-is_outside_by f p s = nat_lt (8 * f.size.value) (p.offset.value + s.size) || (s.is_array && not (p.offset.value % 8 == 0))
+is_outside_by f p s =
+    nat_lt (8 * f.size.value) (p.offset.value + s.size)
+    || (s.is_array && not (p.offset.value % 8 == 0))
 
 abbrev pub in_placed_by : Frame → Option ℕ → PlacedSignal → Option SignalFacts → List Finding
 in_placed_by f publisher p signal =
-    when (is_none signal) (at_name UnknownName p.signal) ++ when (knows signal (λ s. are_two s.publisher publisher)) (at_name WrongPublisher p.signal)
-    ++ when (knows signal (is_outside_by f p)) (at_number SignalOutside p.offset)
+    when (is_none signal) (at_name UnknownName p.signal)
+    ++ when (option_map_or (λ s. are_two s.publisher publisher) signal false)
+    (at_name WrongPublisher p.signal)
+    ++ when (option_map_or (is_outside_by f p) signal false) (at_number SignalOutside p.offset)

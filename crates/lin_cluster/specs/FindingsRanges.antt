@@ -18,7 +18,9 @@ IsNoneBelow m b = (k e : ℕ) → get nat_cmp m k ≡ Some e → b ≤ k
 
 -- a range that begins below b, after each other one that does
 abbrev pub IsLastBelow : BTreeMap ℕ ℕ → ℕ → ℕ × ℕ → Type 0
-IsLastBelow m b r = (get nat_cmp m r.0 ≡ Some r.1) × (r.0 < b) × ((k e : ℕ) → get nat_cmp m k ≡ Some e → k < b → k ≤ r.0)
+IsLastBelow m b r =
+    (get nat_cmp m r.0 ≡ Some r.1) × (r.0 < b)
+    × ((k e : ℕ) → get nat_cmp m k ≡ Some e → k < b → k ≤ r.0)
 
 -- one of the ranges, or the range from s to e, has a bit of the range from a to b
 abbrev pub Covers : BTreeMap ℕ ℕ → ℕ → ℕ → ℕ → ℕ → Type 0

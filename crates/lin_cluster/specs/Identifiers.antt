@@ -1,6 +1,7 @@
 -- Findings 3, bad identifier, and 4, identifier twice (ISO 17987-3, frame header; LIN 2.2A, section
 -- 9.2.4).
-use Rattle.std.specs.Prelude.{List, ◌++◌, map, count_by, flat_map, Bool, ◌==◌, ◌&&◌, ◌||◌, nat_lt, nat_le}
+use Rattle.std.specs.Prelude.{List, ◌++◌, map, count_by, flat_map, Bool, ◌==◌, ◌&&◌, ◌||◌, nat_lt}
+use Rattle.std.specs.Prelude.{nat_le}
 use Rattle.lin_cluster.specs.FindingsNames.{at_number, when}
 use Rattle.lin_cluster.specs.declared.finding.FindingKind.TheVariants.{BadId, IdTwice}
 use Rattle.lin_cluster.specs.declared.finding.Finding.{Finding}

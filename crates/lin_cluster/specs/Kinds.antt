@@ -2,7 +2,15 @@
 use Rattle.std.specs.Prelude.{ℕ}
 use Rattle.lin_cluster.specs.declared.finding.Finding.{Finding}
 use Rattle.lin_cluster.specs.declared.finding.FindingKind.{FindingKind}
-use Rattle.lin_cluster.specs.declared.finding.FindingKind.TheVariants.{UnknownName, WrongPublisher, BadId, IdTwice, BadSize, SignalOutside, SignalsOverlap, BadInit, SlotTooShort, ZeroDelay, BadNad, NadTwice, BadEventFrame, BadSporadic, NestedCollision, EmptyTable, LimitPassed, MixedChecksum}
+use Rattle.lin_cluster.specs.declared.finding.FindingKind.TheVariants.{UnknownName, WrongPublisher}
+use Rattle.lin_cluster.specs.declared.finding.FindingKind.TheVariants.{BadId, IdTwice, BadSize}
+use Rattle.lin_cluster.specs.declared.finding.FindingKind.TheVariants.{SignalOutside}
+use Rattle.lin_cluster.specs.declared.finding.FindingKind.TheVariants.{SignalsOverlap, BadInit}
+use Rattle.lin_cluster.specs.declared.finding.FindingKind.TheVariants.{SlotTooShort, ZeroDelay}
+use Rattle.lin_cluster.specs.declared.finding.FindingKind.TheVariants.{BadNad, NadTwice}
+use Rattle.lin_cluster.specs.declared.finding.FindingKind.TheVariants.{BadEventFrame, BadSporadic}
+use Rattle.lin_cluster.specs.declared.finding.FindingKind.TheVariants.{NestedCollision, EmptyTable}
+use Rattle.lin_cluster.specs.declared.finding.FindingKind.TheVariants.{LimitPassed, MixedChecksum}
 
 abbrev pub number_of : FindingKind → ℕ
 number_of UnknownName = 1
@@ -47,4 +55,9 @@ needed_by MixedChecksum = 0
 
 -- a finding by its kind, line and column
 abbrev pub finding_at : FindingKind → ℕ → ℕ → Finding
-finding_at kind line column = record { line = line; column = column; number = number_of kind; needed_us = needed_by kind }
+finding_at kind line column = record {
+  line = line;
+  column = column;
+  number = number_of kind;
+  needed_us = needed_by kind;
+}

@@ -2,14 +2,14 @@
 -- each of them once.
 use Rattle.std.specs.Prelude.{◌≡◌, ℕ, List, Option, Bool, map}
 use Rattle.std.specs.List.{list_any}
-use Rattle.std.specs.Option.{option_map}
-use Rattle.lin_cluster.specs.FindingsNames.{frame_named, sporadic_named, event_named, is_event_entry}
+use Rattle.std.specs.Option.{option_map, option_or}
+use Rattle.lin_cluster.specs.FindingsNames.{frame_named, sporadic_named, event_named}
+use Rattle.lin_cluster.specs.FindingsNames.{is_event_entry}
 use Rattle.lin_cluster.specs.FindingsNodes.{node_of}
 use Rattle.lin_cluster.specs.Sizes.{is_array}
 use Rattle.lin_cluster.specs.Members.{is_in_front}
 use Rattle.lin_cluster.specs.Slots.{good_size, greatest_size, first_size}
 use Rattle.lin_cluster.specs.Models.{has_version_1, has_lin_1, frame_model}
-use Rattle.lin_cluster.specs.Names.{or_else}
 use Rattle.lin_cluster.specs.declared.findings.facts.FrameFacts.{FrameFacts}
 use Rattle.lin_cluster.specs.declared.findings.facts.SignalFacts.{SignalFacts}
 use Rattle.lin_description.specs.declared.description.Attributes.{Attributes}
@@ -23,28 +23,42 @@ use Rattle.lin_description.specs.declared.description.Table.{Table}
 
 -- the lists by whose names things are found are those of the description, and whether a node of LIN
 -- 1.x may be there is known
-abbrev pub IsKnown : Description → List Name → List Signal → List Frame → List Sporadic → List EventFrame → List Table → List Attributes → Bool → Type 0
+abbrev pub IsKnown : Description → List Name → List Signal → List Frame → List Sporadic
+    → List EventFrame → List Table → List Attributes → Bool → Type 0
 IsKnown d slaves signals frames sporadic events tables blocks told =
-    (slaves ≡ d.slaves) × (signals ≡ d.signals) × (frames ≡ d.frames) × (sporadic ≡ d.sporadic) × (events ≡ d.events) × (tables ≡ d.tables)
+    (slaves ≡ d.slaves) × (signals ≡ d.signals) × (frames ≡ d.frames) × (sporadic ≡ d.sporadic)
+    × (events ≡ d.events) × (tables ≡ d.tables)
     × (blocks ≡ d.attributes) × (told ≡ has_version_1 d)
 
 -- what is asked of a signal wherever a frame places it
 abbrev pub signal_facts : Description → Signal → SignalFacts
-signal_facts d s = record { size = s.size.value; is_array = is_array s.init; publisher = node_of d s.publisher; is_read_by_lin_1 = has_lin_1 d s }
+signal_facts d s = record {
+  size = s.size.value;
+  is_array = is_array s.init;
+  publisher = node_of d s.publisher;
+  is_read_by_lin_1 = has_lin_1 d s;
+}
 
 abbrev pub AreSignalFacts : Description → List SignalFacts → Type 0
 AreSignalFacts d facts = facts ≡ map (signal_facts d) d.signals
 
 -- what is asked of a frame wherever a member or an entry names it
 abbrev pub frame_facts : Description → Frame → FrameFacts
-frame_facts d f = record { size = f.size.value; publisher = node_of d f.publisher; has_front = list_any (is_in_front d) f.placed; model = frame_model d f }
+frame_facts d f = record {
+  size = f.size.value;
+  publisher = node_of d f.publisher;
+  has_front = list_any (is_in_front d) f.placed;
+  model = frame_model d f;
+}
 
 abbrev pub AreFrameFacts : Description → List FrameFacts → Type 0
 AreFrameFacts d facts = facts ≡ map (frame_facts d) d.frames
 
 -- the sizes of each sporadic and each event-triggered frame
 abbrev pub AreSizes : Description → List (Option ℕ) → List (Option ℕ) → Type 0
-AreSizes d sporadic events = (sporadic ≡ map (λ f. greatest_size d f.members) d.sporadic) × (events ≡ map (λ e. first_size d e.members) d.events)
+AreSizes d sporadic events =
+    (sporadic ≡ map (λ f. greatest_size d f.members) d.sporadic)
+    × (events ≡ map (λ e. first_size d e.members) d.events)
 
 -- which tables have an event-triggered entry
 abbrev pub AreNested : Description → List Bool → Type 0
@@ -53,5 +67,6 @@ AreNested d nested = nested ≡ map (λ t. list_any (is_event_entry d) t.entries
 -- the size of what a name names, where that is a frame of any of the three kinds
 abbrev pub size_named : Description → Name → Option (Option ℕ)
 size_named d n =
-    or_else (option_map (λ f. good_size f.size.value) (frame_named d n))
-    (or_else (option_map (λ f. greatest_size d f.members) (sporadic_named d n)) (option_map (λ e. first_size d e.members) (event_named d n)))
+    option_or (option_map (λ f. good_size f.size.value) (frame_named d n))
+    (option_or (option_map (λ f. greatest_size d f.members) (sporadic_named d n))
+    (option_map (λ e. first_size d e.members) (event_named d n)))

@@ -36,7 +36,11 @@ frame_limits d =
     ++ past (λ f. f.name) (slice_get d.sporadic 256) ++ past (λ e. e.name) (slice_get d.events 60)
 
 abbrev pub time_limits : Description → List Finding
-time_limits d = when (not (is_speed d.speed.value)) (at_number LimitPassed d.speed) ++ too_long d.time_base ++ too_long d.jitter
+time_limits d =
+    when (not (is_speed d.speed.value)) (at_number LimitPassed d.speed) ++ too_long d.time_base
+    ++ too_long d.jitter
 
 abbrev pub limits_passed : Description → List Finding
-limits_passed d = responder_limits d ++ frame_limits d ++ past (λ t. t.name) (slice_get d.tables 256) ++ time_limits d
+limits_passed d =
+    responder_limits d ++ frame_limits d ++ past (λ t. t.name) (slice_get d.tables 256)
+    ++ time_limits d

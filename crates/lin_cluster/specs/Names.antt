@@ -2,14 +2,14 @@
 use Rattle.std.specs.Prelude.{◌≡◌, ℕ, List, Option, Some, None}
 use Rattle.std.specs.List.{position_from}
 use Rattle.std.specs.Str.{bytes_eq}
+use Rattle.std.specs.Option.{option_or}
 use Rattle.indexmap.specs.IndexMap.{IndexMap, get_by}
 use Rattle.lin_description.specs.declared.description.Name.{Name}
 use denote.Ref.{Bor}
 
-abbrev pub or_else : {A : Type 0} → Option A → Option A → Option A
-or_else (Some x) o = Some x
-or_else None o = o
-
 -- under each text the map has the number of the first item with this text
-abbrev pub NumbersFirst : {A S : Type 0} → (A → Name) → List A → IndexMap (Bor (List ℕ)) ℕ S → Type 0
-NumbersFirst name_of xs m = (q : List ℕ) → get_by (λ k. bytes_eq q k.now) m ≡ position_from (λ x. bytes_eq (name_of x).text q) 0 xs
+abbrev pub NumbersFirst : {A S : Type 0} → (A → Name) → List A → IndexMap (Bor (List ℕ)) ℕ S
+    → Type 0
+NumbersFirst name_of xs m =
+    (q : List ℕ)
+    → get_by (λ k. bytes_eq q k.now) m ≡ position_from (λ x. bytes_eq (name_of x).text q) 0 xs

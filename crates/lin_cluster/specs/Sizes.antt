@@ -1,5 +1,6 @@
 -- Findings 5, bad size, and 8, bad initial value (LIN 2.2A, sections 9.2.3 and 9.2.4.1).
-use Rattle.std.specs.Prelude.{ℕ, ◌/◌, ◌%◌, ◌^◌, List, length, Bool, true, false, not, if◌then◌else◌, ◌==◌, ◌&&◌, nat_lt, nat_le}
+use Rattle.std.specs.Prelude.{ℕ, ◌/◌, ◌%◌, ◌^◌, List, length, Bool, true, false, not, if◌then◌else◌}
+use Rattle.std.specs.Prelude.{◌==◌, ◌&&◌, nat_lt, nat_le}
 use Rattle.std.specs.List.{list_any}
 use Rattle.lin_cluster.specs.FindingsNames.{at_number, at_place, when}
 use Rattle.lin_cluster.specs.declared.finding.FindingKind.TheVariants.{BadSize, BadInit}
@@ -18,7 +19,9 @@ is_array (Array place items) = true
 
 -- 1 to 16 bits; for an array 8, 16, .. 64
 abbrev pub is_good_size : Signal → Bool
-is_good_size s = if is_array s.init then nat_le 8 s.size.value && nat_le s.size.value 64 && s.size.value % 8 == 0 else nat_le 1 s.size.value && nat_le s.size.value 16
+is_good_size s =
+    if is_array s.init then nat_le 8 s.size.value && nat_le s.size.value 64 && s.size.value % 8 == 0
+    else nat_le 1 s.size.value && nat_le s.size.value 16
 
 abbrev pub bad_signal_size : Signal → List Finding
 bad_signal_size s = when (not (is_good_size s)) (at_number BadSize s.size)
@@ -35,7 +38,8 @@ bad_frame_size f = when (not (is_frame_size f.size.value)) (at_number BadSize f.
 -- below 2^size; for an array a byte for each 8 bits
 abbrev pub is_good_init : ℕ → Init → Bool
 is_good_init size (Scalar n) = nat_lt n.value (2 ^ size)
-is_good_init size (Array place items) = length items == size / 8 && not (list_any (λ n. nat_lt 255 n.value) items)
+is_good_init size (Array place items) =
+    length items == size / 8 && not (list_any (λ n. nat_lt 255 n.value) items)
 
 -- the first token of an initial value
 abbrev pub init_place : Init → Place
@@ -43,4 +47,6 @@ init_place (Scalar n) = record { line = n.line; column = n.column }
 init_place (Array place items) = place
 
 abbrev pub bad_init : Signal → List Finding
-bad_init s = when (is_good_size s && not (is_good_init s.size.value s.init)) (at_place BadInit (init_place s.init))
+bad_init s =
+    when (is_good_size s && not (is_good_init s.size.value s.init))
+    (at_place BadInit (init_place s.init))

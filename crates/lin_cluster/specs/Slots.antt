@@ -1,9 +1,12 @@
 -- Findings 9, slot too short, and 10, zero delay (ISO 17987-3, frame slots; LIN 2.2A, section
 -- 9.2.5).
-use Rattle.std.specs.Prelude.{ℕ, ◌+◌, ◌-◌, ◌*◌, ◌/◌, List, [], ◌∷◌, max, fold, slice_get, Option, Some, None, is_some, Bool, not, if◌then◌else◌, ◌==◌, ◌&&◌, nat_lt, nat_le, option_and_then}
+use Rattle.std.specs.Prelude.{ℕ, ◌+◌, ◌-◌, ◌*◌, ◌/◌, List, [], ◌∷◌, max, fold, slice_get, Option}
+use Rattle.std.specs.Prelude.{Some, None, is_some, Bool, not, if◌then◌else◌, ◌==◌, ◌&&◌, nat_lt}
+use Rattle.std.specs.Prelude.{nat_le, option_and_then}
 use Rattle.std.specs.List.{list_all}
 use Rattle.std.specs.Option.{option_map_or}
-use Rattle.lin_cluster.specs.FindingsNames.{at_name, at_number, when, frame_named, sporadic_named, event_named, carries_frame}
+use Rattle.lin_cluster.specs.FindingsNames.{at_name, at_number, when, frame_named, sporadic_named}
+use Rattle.lin_cluster.specs.FindingsNames.{event_named, carries_frame}
 use Rattle.lin_cluster.specs.Sizes.{is_frame_size}
 use Rattle.lin_cluster.specs.declared.finding.FindingKind.TheVariants.{SlotTooShort, ZeroDelay}
 use Rattle.lin_cluster.specs.declared.finding.Finding.{Finding}
@@ -31,7 +34,9 @@ frame_size d n = option_and_then (λ f. good_size f.size.value) (frame_named d n
 
 -- the greatest size of some members, where all are frames of good sizes
 abbrev pub greatest_size : Description → List Name → Option ℕ
-greatest_size d members = if list_all (λ m. is_some (frame_size d m)) members then Some (fold (λ n m. max n (option_map_or (λ k. k) (frame_size d m) 0)) 0 members) else None
+greatest_size d members =
+    if list_all (λ m. is_some (frame_size d m)) members
+    then Some (fold (λ n m. max n (option_map_or (λ k. k) (frame_size d m) 0)) 0 members) else None
 
 -- the size of the first member
 abbrev pub first_size : Description → List Name → Option ℕ
@@ -41,7 +46,8 @@ first_size d members = option_and_then (frame_size d) (slice_get members 0)
 abbrev pub size_of : Description → Name → Option ℕ
 size_of d n =
     if is_some (frame_named d n) then frame_size d n
-    else if is_some (sporadic_named d n) then option_and_then (λ f. greatest_size d f.members) (sporadic_named d n)
+    else if is_some (sporadic_named d n)
+    then option_and_then (λ f. greatest_size d f.members) (sporadic_named d n)
     else option_and_then (λ e. first_size d e.members) (event_named d n)
 
 -- diagnostic and configuration entries have 8 data bytes

@@ -1,7 +1,8 @@
 -- Findings 15, nested collision, and 16, empty table (LIN 2.2A, section 9.2.5).
-use Rattle.std.specs.Prelude.{List, length, ◌==◌}
+use Rattle.std.specs.Prelude.{List, length, ◌==◌, false}
 use Rattle.std.specs.List.{list_any}
-use Rattle.lin_cluster.specs.FindingsNames.{at_name, when, table_named, knows, is_event_entry}
+use Rattle.std.specs.Option.{option_map_or}
+use Rattle.lin_cluster.specs.FindingsNames.{at_name, when, table_named, is_event_entry}
 use Rattle.lin_cluster.specs.Kinds.{finding_at}
 use Rattle.lin_cluster.specs.declared.finding.FindingKind.TheVariants.{NestedCollision, EmptyTable}
 use Rattle.lin_cluster.specs.declared.finding.Finding.{Finding}
@@ -12,7 +13,9 @@ use Rattle.lin_description.specs.declared.description.Table.{Table}
 -- ---- 15 NestedCollision: the resolving table has an event-triggered entry
 
 abbrev pub nested_at : Description → EventFrame → List Finding
-nested_at d e = when (knows (table_named d e.table) (λ t. list_any (is_event_entry d) t.entries)) (at_name NestedCollision e.table)
+nested_at d e =
+    when (option_map_or (λ t. list_any (is_event_entry d) t.entries) (table_named d e.table) false)
+    (at_name NestedCollision e.table)
 
 -- ---- 16 EmptyTable
 

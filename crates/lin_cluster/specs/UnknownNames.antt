@@ -1,7 +1,8 @@
 -- Finding 1, unknown name: a name that has to be a node's, a signal's, a frame's or a table's, and
 -- isn't (LIN 2.2A, section 9.2).
 use Rattle.std.specs.Prelude.{List, is_none, not, ◌&&◌}
-use Rattle.lin_cluster.specs.FindingsNames.{at_name, when, is_node, signal_named, table_named, is_any_frame, carries_frame}
+use Rattle.lin_cluster.specs.FindingsNames.{at_name, when, is_node, signal_named, table_named}
+use Rattle.lin_cluster.specs.FindingsNames.{is_any_frame, carries_frame}
 use Rattle.lin_cluster.specs.declared.finding.FindingKind.TheVariants.{UnknownName}
 use Rattle.lin_cluster.specs.declared.finding.Finding.{Finding}
 use Rattle.lin_description.specs.declared.description.Description.{Description}
@@ -30,4 +31,5 @@ unknown_table d e = when (is_none (table_named d e.table)) (at_name UnknownName 
 
 -- an entry for a frame, which has to be one of the three kinds
 abbrev pub unknown_entry : Description → TableEntry → List Finding
-unknown_entry d e = when (carries_frame e && not (is_any_frame d e.name)) (at_name UnknownName e.name)
+unknown_entry d e =
+    when (carries_frame e && not (is_any_frame d e.name)) (at_name UnknownName e.name)

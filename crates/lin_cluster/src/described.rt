@@ -7,9 +7,9 @@ ghost use Rattle.lin_cluster.specs.Described.{parts_of};
 ghost use Rattle.lin_cluster.specs.Fitting.{FitsParts, HasMembers};
 ghost use Rattle.lin_cluster.specs.Models.{frame_model};
 
+use lin_cluster_parts::Parts;
 use lin_description::Description;
 use lin_frame::SumKind;
-use lin_parts::Parts;
 use std::alloc::{AllocError, Global};
 
 mod frames;
@@ -18,7 +18,7 @@ mod numbers;
 mod signals;
 mod tables;
 
-/// The parts of the cluster that a description says; an error is out of memory. With them its
+/// The parts of the cluster that a description says; an error means out of memory. With them its
 /// caller knows that no list of names is empty.
 pub(crate) fn parts_of(
     alloc: Global,

@@ -76,7 +76,8 @@ fn of_known(alloc: Global, known: &Known) -> Result<Examined, AllocError>
 
 fn unordered(alloc: Global, description: &Description) -> Result<Examined, AllocError>
     ensures found { IfOk result (λ x. x.found.items ≡ candidates description.now) }
-    ensures models { IfOk result (λ x. x.models.items ≡ map (frame_model description.now) description.now.frames) }
+    ensures models { IfOk result
+        (λ x. x.models.items ≡ map (frame_model description.now) description.now.frames) }
 {
     let known = Known::new(alloc, description)?;
     let examined = of_known(alloc, &known)?;
@@ -92,7 +93,8 @@ fn sort(found: &mut Vec<Finding>) -> Result<(), AllocError>
 
 fn ordered(alloc: Global, description: &Description) -> Result<Examined, AllocError>
     ensures found { IfOk result (λ x. AreFindings description.now x.found.items) }
-    ensures models { IfOk result (λ x. x.models.items ≡ map (frame_model description.now) description.now.frames) }
+    ensures models { IfOk result
+        (λ x. x.models.items ≡ map (frame_model description.now) description.now.frames) }
 {
     let Examined { mut found, models } = unordered(alloc, description)?;
     sort(&mut found)?;
@@ -100,11 +102,13 @@ fn ordered(alloc: Global, description: &Description) -> Result<Examined, AllocEr
 }
 
 /// All that is wrong with a description, by place and number, and no other list is that; and the
-/// checksum model of each frame. An error is out of memory.
+/// checksum model of each frame. An error means out of memory.
 pub(crate) fn examine(alloc: Global, description: &Description) -> Result<Examined, AllocError>
     ensures all { IfOk result (λ x. AreFindings description.now x.found.items) }
-    ensures only { IfOk result (λ x. (found : List Finding) → AreFindings description.now found → x.found.items ≡ found) }
-    ensures models { IfOk result (λ x. x.models.items ≡ map (frame_model description.now) description.now.frames) }
+    ensures only { IfOk result
+        (λ x. (found : List Finding) → AreFindings description.now found → x.found.items ≡ found) }
+    ensures models { IfOk result
+        (λ x. x.models.items ≡ map (frame_model description.now) description.now.frames) }
 {
     let examined = ordered(alloc, description)?;
     Ok(examined)

@@ -16,4 +16,6 @@ mod names;
 pub use checks::check;
 pub use finding::{CheckFault, Finding, FindingKind};
 pub use findings::needed_us;
-pub use lin_parts::{Cluster, Entry, EventFrame, Line, Node, Parts, Signal, SignalFrame, Table};
+pub use lin_cluster_parts::{
+    Cluster, Entry, EventFrame, Line, Node, Parts, Signal, SignalFrame, Table,
+};

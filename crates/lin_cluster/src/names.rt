@@ -3,11 +3,11 @@
 
 ghost use Rattle.std.specs.Prelude.{◌≡◌, List, ℕ, OnOk, IfOk, Some, None, find, if◌then◌else◌};
 ghost use Rattle.std.specs.List.{position_or_len};
-ghost use Rattle.std.specs.Option.{option_copied};
+ghost use Rattle.std.specs.Option.{option_copied, option_or};
 ghost use Rattle.std.specs.Str.{bytes_eq};
 ghost use Rattle.indexmap.specs.IndexMap.{get_by};
 ghost use Rattle.lin_cluster.specs.FindingsNames.{same_name};
-ghost use Rattle.lin_cluster.specs.Names.{or_else, NumbersFirst};
+ghost use Rattle.lin_cluster.specs.Names.{NumbersFirst};
 
 use indexmap::IndexMap;
 use lin_description::{Attributes, Name};
@@ -46,7 +46,11 @@ pub(crate) fn add<'a, V: Copy>(
     name: &'a [u8],
     value: V,
 ) -> Result<(), AllocError>
-    ensures { OnOk result ((q : List ℕ) → get_by (λ k. bytes_eq q k.now) map.new ≡ or_else (get_by (λ k. bytes_eq q k.now) map.old) (if bytes_eq name.now q then Some value else None)) }
+    ensures { OnOk result
+        ((q : List ℕ)
+        → get_by (λ k. bytes_eq q k.now) map.new
+        ≡ option_or (get_by (λ k. bytes_eq q k.now) map.old)
+        (if bytes_eq name.now q then Some value else None)) }
 {
     if !map.contains_key(&name) {
         map.insert(name, value)?;
@@ -95,7 +99,7 @@ impl<'a, T: Named> Drop for ByName<'a, T> {
 }
 
 impl<'a, T: Named> ByName<'a, T> {
-    /// Each name is looked at once; an error is out of memory.
+    /// Each name is looked at once; an error means out of memory.
     pub(crate) fn new(alloc: Global, all: &'a [T]) -> Result<ByName<'a, T>, AllocError>
         ensures { IfOk result (λ b. b ≡ all.now) }
     {

@@ -1,8 +1,11 @@
 -- Promises rest on this: the laws that hold of every history of a cluster.
-use Rattle.std.specs.Prelude.{◌≡◌, ℕ, ◌==◌, ⊤, Bool, true, false, ◌&&◌, ◌||◌, not, List, [], ◌∷◌, ◌++◌, map, filter}
+use Rattle.std.specs.Prelude.{◌≡◌, ℕ, ◌==◌, ⊤, Bool, true, false, ◌&&◌, ◌||◌, not, List, [], ◌∷◌}
+use Rattle.std.specs.Prelude.{◌++◌, map, filter}
 use Rattle.lin_transport.specs.Transport.{frames}
-use Rattle.lin_core.specs.History.{did, closed, is_sleep_mark, LogEntry, Step, Parts}
-use Rattle.lin_core.specs.Links.{Link, same_link, host_of, Sign, Fate, fate, is_waiting, frames_of, Message, Sending, sendings, fate_of, reading, waiting, accepted}
+use Rattle.lin_core.specs.History.{did, is_host_closed, is_sleep_mark, LogEntry, Step, Parts}
+use Rattle.lin_core.specs.Links.{Link, same_link, host_of, Sign, Fate, fate, is_waiting, frames_of}
+use Rattle.lin_core.specs.Links.{Message, Sending, sendings, fate_of, reading, waiting}
+use Rattle.lin_core.specs.Links.{accepted_messages}
 use Rattle.lin_core.specs.Links.Fate.{Waiting, Sent, Lost}
 use Rattle.lin_core.specs.declared.step.Step.TheVariants.{Send, Hurt, Timeout}
 
@@ -10,12 +13,15 @@ abbrev pub is_sent : Fate → Bool
 is_sent Sent = true
 is_sent fate = false
 
-abbrev pub sent_over : Parts → Link → Sending → Bool
-sent_over c l s = same_link s.message.link l && is_sent (fate_of c s)
+abbrev pub is_sent_over : Parts → Link → Sending → Bool
+is_sent_over c l s = same_link s.message.link l && is_sent (fate_of c s)
 
 -- the receiver of a link reads the messages whose fate is Sent, in order
 abbrev pub ReadsSent : Parts → List LogEntry → Link → Type 0
-ReadsSent c past l = reading c past l ≡ map (λ (s : Sending). s.message.bytes) (filter (sent_over c l) (sendings c past (host_of l)))
+ReadsSent c past l =
+    reading c past l
+    ≡ map (λ (s : Sending). s.message.bytes)
+    (filter (is_sent_over c l) (sendings c past (host_of l)))
 
 -- the frames are a beginning of others
 abbrev pub IsPrefix : List (List ℕ) → List (List ℕ) → Type 0
@@ -27,7 +33,9 @@ abbrev pub InOrder : ℕ → List (List ℕ) → List (List Sign) → Type 0
 InOrder n ms [] = ⊤
 InOrder n [] (b ∷ bs) = ⊥
 InOrder n (m ∷ ms) (b ∷ []) = IsPrefix (frames_of b) (frames n m)
-InOrder n (m ∷ ms) (b ∷ d ∷ bs) = IsPrefix (frames_of b) (frames n m) × (is_waiting (fate (frames n m) b) ≡ false) × InOrder n ms (d ∷ bs)
+InOrder n (m ∷ ms) (b ∷ d ∷ bs) =
+    IsPrefix (frames_of b) (frames n m) × (is_waiting (fate (frames n m) b) ≡ false)
+    × InOrder n ms (d ∷ bs)
 
 -- the messages of a host with their fates
 abbrev pub outcomes_of : Parts → List LogEntry → ℕ → List (Message × Fate)
@@ -46,7 +54,7 @@ is_send_of h step = false
 
 -- where a send of a host is done, no close of it was done before
 abbrev pub NoSendAfterClose : LogEntry → List LogEntry → ℕ → Type 0
-NoSendAfterClose e past h = did (is_send_of h) e ≡ true → closed past h ≡ false
+NoSendAfterClose e past h = did (is_send_of h) e ≡ true → is_host_closed past h ≡ false
 
 -- whether a step disturbs a slot or a transfer
 abbrev pub is_disturbing : Step → Bool
@@ -68,4 +76,4 @@ NoneLost ((m, Lost cause) ∷ xs) = ⊥
 
 -- where nothing of its host waits, all that was accepted for a link is read
 abbrev pub ReadsAll : Parts → List LogEntry → Link → Type 0
-ReadsAll c past l = waiting c past (host_of l) ≡ [] → reading c past l ≡ accepted past l
+ReadsAll c past l = waiting c past (host_of l) ≡ [] → reading c past l ≡ accepted_messages past l

@@ -1,14 +1,17 @@
 -- Promises rest on this: messages on their links: what was accepted, what was put, and what became
 -- of it (ISO 17987-2, transport layer).
-use Rattle.std.specs.Prelude.{ℕ, suc, ◌==◌, eqb, Bool, true, false, ◌&&◌, if◌then◌else◌, List, [], ◌∷◌, ◌++◌, map, find, filter, length, reverse, take, slice_index, slice_index_or, Option, Some, None, is_some}
+use Rattle.std.specs.Prelude.{ℕ, suc, ◌==◌, eqb, Bool, true, false, ◌&&◌, if◌then◌else◌, List, []}
+use Rattle.std.specs.Prelude.{◌∷◌, ◌++◌, map, find, filter, length, reverse, take, slice_index}
+use Rattle.std.specs.Prelude.{slice_index_or, Option, Some, None, is_some}
 use Rattle.std.specs.List.{list_any, list_all, cons_option}
 use Rattle.std.specs.Cmp.Lexicographic.{pointwise}
-use Rattle.lin_frame.specs.Words.{choose}
+use Rattle.std.specs.Option.{option_map_or, unwrap_or}
 use Rattle.lin_transport.specs.Words.{with_last}
 use Rattle.lin_transport.specs.Transport.{frames, begins, Heard, messages_in}
 use Rattle.lin_transport.specs.Transport.Heard.{Frame, Reset}
-use Rattle.lin_parts.specs.Cluster.{nad}
-use Rattle.lin_core.specs.History.{Slot, open_slot, finished, done, did, seen, good_under, header_is, is_sleep_mark, LogEntry, Step, Parts}
+use Rattle.lin_cluster_parts.specs.Cluster.{nad}
+use Rattle.lin_core.specs.History.{Slot, open_slot, finished_slot, done, did, seen_of, good_under}
+use Rattle.lin_core.specs.History.{header_is, is_sleep_mark, LogEntry, Step, Parts}
 use Rattle.lin_core.specs.declared.step.Step.TheVariants.{Send, Timeout}
 use Rattle.lin_core.specs.declared.link.Direction.{Direction}
 use Rattle.lin_core.specs.declared.link.Link.{Link as DeclaredLink}
@@ -33,14 +36,16 @@ same_link a b = a.node == b.node && same_dir a.dir b.dir
 
 -- the link from one host to another
 abbrev pub link_of : ℕ → ℕ → Link
-link_of from to = if from == 0 then record { node = to; dir = Down } else record { node = from; dir = Up }
+link_of from to =
+    if from == 0 then record { node = to; dir = Down } else record { node = from; dir = Up }
 
 pub record Message : Type 0 where
   pub link : Link
   pub bytes : List ℕ
 
 abbrev pub sent_from : ℕ → Step → Option Message
-sent_from h (Send from to message) = if from == h then Some (record { link = link_of from to; bytes = message }) else None
+sent_from h (Send from to message) =
+    if from == h then Some (record { link = link_of from to; bytes = message }) else None
 sent_from h step = None
 
 abbrev pub host_of_dir : Direction → ℕ → ℕ
@@ -54,11 +59,15 @@ host_of l = host_of_dir l.dir l.node
 -- the messages that were accepted from a host, in order
 abbrev pub accepted_from : List LogEntry → ℕ → List Message
 accepted_from [] h = []
-accepted_from (e ∷ past) h = choose (choose (done e) None (sent_from h)) (accepted_from past h) (λ m. accepted_from past h ++ m ∷ [])
+accepted_from (e ∷ past) h =
+    option_map_or
+    (λ m. accepted_from past h ++ m ∷ []) (option_map_or (sent_from h) (done e) None)
+    (accepted_from past h)
 
 -- those that go over a link, in the same order
-abbrev pub accepted : List LogEntry → Link → List (List ℕ)
-accepted past l = map (λ m. m.bytes) (filter (λ m. same_link m.link l) (accepted_from past (host_of l)))
+abbrev pub accepted_messages : List LogEntry → Link → List (List ℕ)
+accepted_messages past l =
+    map (λ m. m.bytes) (filter (λ m. same_link m.link l) (accepted_from past (host_of l)))
 
 -- what happens on a link: a frame, as it was seen where its slot is finished, or a mark
 pub data Sign : Type 0 where
@@ -69,7 +78,8 @@ pub data Sign : Type 0 where
 abbrev pub put_by : Direction → ℕ → Option ℕ → Slot → List (List ℕ)
 put_by Down node k s =
     if header_is 0x3C s.header
-    then map (λ (p : ℕ × List ℕ). take 8 p.1) (filter (λ (p : ℕ × List ℕ). choose k false (λ n. slice_index p.1 0 == n)) s.puts)
+    then map (λ (p : ℕ × List ℕ). take 8 p.1)
+    (filter (λ (p : ℕ × List ℕ). option_map_or (λ n. slice_index p.1 0 == n) k false) s.puts)
     else []
 put_by Up node k s =
     if header_is 0x7D s.header
@@ -85,7 +95,9 @@ is_timeout_of l step = false
 
 -- the mark that an entry leaves on a link
 abbrev pub mark : Link → LogEntry → List LogEntry → Option Sign
-mark l e past = if is_sleep_mark e past then Some (Mark Slept) else if did (is_timeout_of l) e then Some (Mark TimedOut) else None
+mark l e past =
+    if is_sleep_mark e past then Some (Mark Slept) else if did (is_timeout_of l) e
+    then Some (Mark TimedOut) else None
 
 -- the frames that a slot puts on a link, with how they are seen, the newest first
 abbrev pub put_signs : Parts → Link → Option Seen → Slot → List Sign
@@ -93,7 +105,9 @@ put_signs c l how s = reverse (map (λ f. Put f how) (put_on c l s))
 
 -- what an entry adds to a link: the frames of the slot that it finishes, and then its mark
 abbrev pub signs_at : Parts → Link → LogEntry → List LogEntry → List Sign
-signs_at c l e past = cons_option (mark l e past) (choose (finished e past) [] (λ s. put_signs c l (Some (seen s)) s))
+signs_at c l e past =
+    cons_option (mark l e past)
+    (option_map_or (λ s. put_signs c l (Some (seen_of s)) s) (finished_slot e past) [])
 
 -- what happened on a link in finished slots, the newest first
 abbrev pub signs : Parts → List LogEntry → Link → List Sign
@@ -102,7 +116,7 @@ signs c (e ∷ past) l = signs_at c l e past ++ signs c past l
 
 -- and with the frames of the open slot
 abbrev pub all_signs : Parts → List LogEntry → Link → List Sign
-all_signs c past l = choose (open_slot past) [] (put_signs c l None) ++ signs c past l
+all_signs c past l = option_map_or (put_signs c l None) (open_slot past) [] ++ signs c past l
 
 -- one more sign in the last block; where there is none yet, a block of its own
 abbrev pub in_last : Sign → List (List Sign) → List (List Sign)
@@ -114,7 +128,9 @@ in_last s (b ∷ d ∷ bs) = b ∷ in_last s (d ∷ bs)
 -- stand after them. A frame before the first that begins a message starts a block too
 abbrev pub blocks_of : List Sign → List (List Sign)
 blocks_of [] = []
-blocks_of (Put f how ∷ earlier) = if begins f then blocks_of earlier ++ (Put f how ∷ []) ∷ [] else in_last (Put f how) (blocks_of earlier)
+blocks_of (Put f how ∷ earlier) =
+    if begins f then blocks_of earlier ++ (Put f how ∷ []) ∷ []
+    else in_last (Put f how) (blocks_of earlier)
 blocks_of (Mark cause ∷ earlier) = with_last (λ b. b ++ Mark cause ∷ []) (blocks_of earlier)
 
 abbrev pub blocks : Parts → List LogEntry → Link → List (List Sign)
@@ -161,7 +177,8 @@ abbrev pub fate : List (List ℕ) → List Sign → Fate
 fate fs b =
     if list_any is_damaged b then Lost Damaged
     else if list_all is_good (before_mark b) && same_frames (frames_of (before_mark b)) fs then Sent
-    else choose (first_mark b) Waiting (λ cause. if begins_good b then Lost cause else Waiting)
+    else option_map_or
+    (λ cause. if begins_good b then Lost cause else Waiting) (first_mark b) Waiting
 
 abbrev pub is_waiting : Fate → Bool
 is_waiting Waiting = true
@@ -174,7 +191,7 @@ pub record Sending : Type 0 where
   pub block : List Sign
 
 abbrev pub nad_on : Parts → Link → ℕ
-nad_on c l = choose (nad c l.node) 0 (λ n. n)
+nad_on c l = unwrap_or (nad c l.node) 0
 
 -- the messages of a host with their numbers and blocks: a message has the place among the blocks of
 -- its link that it has among the messages of its link. `before` is the messages that were accepted
@@ -185,7 +202,8 @@ sendings_from blocks before (m ∷ ms) =
     record {
       number = suc (length before);
       message = m;
-      block = slice_index_or (blocks m.link) (length (filter (λ k. same_link k.link m.link) before)) [];
+      block =
+          slice_index_or (blocks m.link) (length (filter (λ k. same_link k.link m.link) before)) [];
     }
     ∷ sendings_from blocks (before ++ m ∷ []) ms
 
@@ -204,8 +222,8 @@ is_begun c s = waits c s && begins_good s.block
 abbrev pub waiting : Parts → List LogEntry → ℕ → List Sending
 waiting c past h = filter (waits c) (sendings c past h)
 
-abbrev pub begun : Parts → List LogEntry → ℕ → Option Sending
-begun c past h = find (is_begun c) (sendings c past h)
+abbrev pub begun_sending : Parts → List LogEntry → ℕ → Option Sending
+begun_sending c past h = find (is_begun c) (sendings c past h)
 
 -- what the receiver of a link is given: the good frames with its address, and the marks
 abbrev pub heard_good : ℕ → List ℕ → List Heard
@@ -218,7 +236,8 @@ diagnostic_header Up = 0x7D
 abbrev pub heard_at : Parts → Link → LogEntry → List LogEntry → List Heard
 heard_at c l e past =
     (if is_some (mark l e past) then Reset ∷ [] else [])
-    ++ choose (choose (finished e past) None (good_under (diagnostic_header l.dir))) [] (heard_good (nad_on c l))
+    ++ option_map_or (heard_good (nad_on c l))
+    (option_map_or (good_under (diagnostic_header l.dir)) (finished_slot e past) None) []
 
 abbrev pub heard_on : Parts → List LogEntry → Link → List Heard
 heard_on c [] l = []

@@ -1,26 +1,31 @@
 -- Promises rest on this: the laws, each as one statement over the history of a log.
 use Rattle.std.specs.Prelude.{◌≡◌, ℕ, ⊤, true, List, [], ◌∷◌, is_some}
-use Rattle.lin_parts.specs.Cluster.{nad}
+use Rattle.lin_cluster_parts.specs.Cluster.{nad}
 use Rattle.lin_core.specs.Defined.{AreDefined, TellsDue}
 use Rattle.lin_core.specs.History.{done, events, LogEntry, Parts}
-use Rattle.lin_core.specs.Law.{InOrder, NoneLost, NoSendAfterClose, ReadsAll, ReadsSent, Stays, is_calm, outcomes_of}
-use Rattle.lin_core.specs.Links.{Link, accepted, blocks, nad_on}
+use Rattle.lin_core.specs.Law.{InOrder, NoneLost, NoSendAfterClose, ReadsAll, ReadsSent, Stays}
+use Rattle.lin_core.specs.Law.{is_calm, outcomes_of}
+use Rattle.lin_core.specs.Links.{Link, accepted_messages, blocks, nad_on}
 use Rattle.lin_core.specs.Reports.{ReportsFates, TellsReading}
 
 -- exact delivery: the receiver of each link reads the messages that were accepted for it and sent,
 -- in order and each once, and the message events of the link are these
 abbrev pub DeliversExactly : Parts → List LogEntry → Type 0
-DeliversExactly c past = (l : Link) → is_some (nad c l.node) ≡ true → ReadsSent c past l × TellsReading c past l
+DeliversExactly c past =
+    (l : Link) → is_some (nad c l.node) ≡ true → ReadsSent c past l × TellsReading c past l
 
 -- blocks are prefixes: no link has more blocks than messages; each block is a beginning of its
 -- message's frames; where another one follows, its message waits no longer
 abbrev pub PutsInOrder : Parts → List LogEntry → Type 0
-PutsInOrder c past = (l : Link) → is_some (nad c l.node) ≡ true → InOrder (nad_on c l) (accepted past l) (blocks c past l)
+PutsInOrder c past =
+    (l : Link) → is_some (nad c l.node) ≡ true
+    → InOrder (nad_on c l) (accepted_messages past l) (blocks c past l)
 
 -- a host's fates stay as they are, from each entry to the next
 abbrev pub AllStay : Parts → List LogEntry → ℕ → Type 0
 AllStay c [] h = ⊤
-AllStay c (e ∷ past) h = Stays (outcomes_of c past h) (outcomes_of c (e ∷ past) h) × AllStay c past h
+AllStay c (e ∷ past) h =
+    Stays (outcomes_of c past h) (outcomes_of c (e ∷ past) h) × AllStay c past h
 
 -- one final fate per message: a fate that isn't Waiting never changes, and each host is told once
 -- of each of its messages that waits no longer
@@ -32,7 +37,8 @@ FatesAreFinal c past = (h : ℕ) → AllStay c past h × ReportsFates c past h
 -- entry
 abbrev pub CarriesFrames : Parts → ℕ → List LogEntry → Type 0
 CarriesFrames c opening [] = ⊤
-CarriesFrames c opening (e ∷ past) = AreDefined c opening (done e) past (events e) × TellsDue c e past × CarriesFrames c opening past
+CarriesFrames c opening (e ∷ past) =
+    AreDefined c opening (done e) past (events e) × TellsDue c e past × CarriesFrames c opening past
 
 -- nothing accepted after close: where a send of a host is done, no close of it was done before
 abbrev pub StaysClosed : List LogEntry → Type 0
@@ -43,4 +49,7 @@ StaysClosed (e ∷ past) = ((h : ℕ) → NoSendAfterClose e past h) × StaysClo
 -- mark, no message is lost, and where nothing of a host waits, all that was accepted from it was
 -- read
 abbrev pub LosesNothing : Parts → List LogEntry → Type 0
-LosesNothing c past = is_calm past ≡ true → ((h : ℕ) → NoneLost (outcomes_of c past h)) × ((l : Link) → is_some (nad c l.node) ≡ true → ReadsAll c past l)
+LosesNothing c past =
+    is_calm past ≡ true
+    → ((h : ℕ) → NoneLost (outcomes_of c past h))
+    × ((l : Link) → is_some (nad c l.node) ≡ true → ReadsAll c past l)

@@ -1,31 +1,39 @@
 -- Promises rest on this: what a slot is for: its header, who is due in it, and what an answer puts
 -- (ISO 17987-3, frame transfer; ISO 17987-2, diagnostic schedules).
-use Rattle.std.specs.Prelude.{ℕ, ◌==◌, nat_le, nat_lt, Bool, false, ◌&&◌, ◌||◌, if◌then◌else◌, List, [], ◌∷◌, ◌++◌, filter, find, length, replicate, slice_index, Option, Some, None, is_some, option_map}
+use Rattle.std.specs.Prelude.{ℕ, ◌==◌, nat_le, nat_lt, Bool, false, ◌&&◌, ◌||◌, if◌then◌else◌, List}
+use Rattle.std.specs.Prelude.{[], ◌∷◌, ◌++◌, filter, find, length, replicate, slice_index, Option}
+use Rattle.std.specs.Prelude.{Some, None, is_some, option_map}
 use Rattle.std.specs.List.{list_any, cons_option}
-use Rattle.lin_frame.specs.Words.{numbers, choose}
+use Rattle.std.specs.Option.{option_map_or, unwrap_or}
+use Rattle.lin_frame.specs.Words.{numbers}
 use Rattle.lin_frame.specs.Frame.{classic, answer_of}
 use Rattle.lin_frame.specs.declared.sums.SumKind.{SumKind}
 use Rattle.lin_frame.specs.declared.sums.SumKind.TheVariants.{Classic}
 use Rattle.lin_transport.specs.Transport.{frame}
-use Rattle.lin_parts.specs.Cluster.{nad, nodes, frame_of, sporadic_of, event_of}
-use Rattle.lin_parts.specs.declared.parts.Entry.{Entry}
-use Rattle.lin_parts.specs.declared.parts.Entry.TheVariants.{Frame, Sporadic, Event, MasterReq, SlaveResp, Quiet}
+use Rattle.lin_cluster_parts.specs.Cluster.{nad, nodes, frame_of, sporadic_of, event_of}
+use Rattle.lin_cluster_parts.specs.declared.parts.Entry.{Entry}
+use Rattle.lin_cluster_parts.specs.declared.parts.Entry.TheVariants.{Frame, Sporadic, Event}
+use Rattle.lin_cluster_parts.specs.declared.parts.Entry.TheVariants.{MasterReq}
+use Rattle.lin_cluster_parts.specs.declared.parts.Entry.TheVariants.{SlaveResp, Quiet}
 use Rattle.lin_schedule.specs.Schedule.{Move, standing, due}
 use Rattle.lin_schedule.specs.Schedule.Move.{Slot as SlotMove, Switch as SwitchMove, Restart}
-use Rattle.lin_core.specs.History.{Slot, asked, done, finished, good_under, is_clash, is_sleep_mark, LogEntry, Step, Parts}
-use Rattle.lin_core.specs.Links.{Sending, waiting, begun, frames_of, nad_on}
-use Rattle.lin_core.specs.Signals.{pending, signal_bytes}
+use Rattle.lin_core.specs.History.{Slot, is_sleep_asked, done, finished_slot, good_under, is_clash}
+use Rattle.lin_core.specs.History.{is_sleep_mark, LogEntry, Step, Parts}
+use Rattle.lin_core.specs.Links.{Sending, waiting, begun_sending, frames_of, nad_on}
+use Rattle.lin_core.specs.Signals.{is_pending, signal_bytes}
 use Rattle.lin_core.specs.declared.step.Step.TheVariants.{Switch, Wake}
 
 -- how a step that isn't of a slot moves the schedule on
-abbrev pub switched : Step → Option Move
-switched (Switch table) = Some (SwitchMove table)
-switched Wake = Some Restart
-switched step = None
+abbrev pub move_of : Step → Option Move
+move_of (Switch table) = Some (SwitchMove table)
+move_of Wake = Some Restart
+move_of step = None
 
 -- how an entry moves the schedule on
 abbrev pub moves_at : LogEntry → List LogEntry → List Move
-moves_at e past = cons_option (option_map (λ s. SlotMove (is_clash s)) (finished e past)) (cons_option (choose (done e) None switched) [])
+moves_at e past =
+    cons_option (option_map (λ s. SlotMove (is_clash s)) (finished_slot e past))
+    (cons_option (option_map_or move_of (done e) None) [])
 
 abbrev pub moves : List LogEntry → List Move
 moves [] = []
@@ -36,27 +44,31 @@ abbrev pub next_due : Parts → ℕ → List LogEntry → ℕ × ℕ
 next_due c opening past = due c (standing c opening (moves past))
 
 abbrev pub node_with : Parts → ℕ → Option ℕ
-node_with c k = find (λ n. choose (nad c n) false (λ own. own == k)) (numbers (nodes c))
+node_with c k = find (λ n. option_map_or (λ own. own == k) (nad c n) false) (numbers (nodes c))
 
 -- the node that a slot selects, if it is a good master request to an address
-abbrev pub addressed : Parts → Slot → Option (Option ℕ)
-addressed c s =
-    choose (good_under 0x3C s) None (λ bytes. if nat_le 1 (slice_index bytes 0) && nat_le (slice_index bytes 0) 125 then Some (node_with c (slice_index bytes 0)) else None)
+abbrev pub addressee : Parts → Slot → Option (Option ℕ)
+addressee c s =
+    option_map_or
+    (λ bytes. if nat_le 1 (slice_index bytes 0) && nat_le (slice_index bytes 0) 125
+    then Some (node_with c (slice_index bytes 0)) else None) (good_under 0x3C s) None
 
 -- the selected responder: the one that the last such slot since the last sleep mark addresses
-abbrev pub selected : Parts → List LogEntry → Option ℕ
-selected c [] = None
-selected c (e ∷ past) =
+abbrev pub selected_node : Parts → List LogEntry → Option ℕ
+selected_node c [] = None
+selected_node c (e ∷ past) =
     if is_sleep_mark e past then None
-    else choose (choose (finished e past) None (addressed c)) (selected c past) (λ n. n)
+    else unwrap_or (option_map_or (addressee c) (finished_slot e past) None) (selected_node c past)
 
 -- the header of a slot for an entry: of a sporadic frame that of its first pending member, of the
 -- master request frame its own where a message waits or sleep is asked
 abbrev pub header : Parts → List LogEntry → Entry → Option ℕ
 header c past (Frame f) = Some (frame_of c f).pid
-header c past (Sporadic k) = option_map (λ f. (frame_of c f).pid) (find (pending c past) (sporadic_of c k))
+header c past (Sporadic k) =
+    option_map (λ f. (frame_of c f).pid) (find (is_pending c past) (sporadic_of c k))
 header c past (Event e) = Some (event_of c e).pid
-header c past MasterReq = if nat_lt 0 (length (waiting c past 0)) || asked past then Some 0x3C else None
+header c past MasterReq =
+    if nat_lt 0 (length (waiting c past 0)) || is_sleep_asked past then Some 0x3C else None
 header c past SlaveResp = Some 0x7D
 header c past Quiet = None
 
@@ -66,9 +78,11 @@ header c past Quiet = None
 abbrev pub is_due : Parts → List LogEntry → Entry → ℕ → Bool
 is_due c past (Frame f) n = n == (frame_of c f).publisher
 is_due c past (Sporadic k) n = n == 0 && is_some (header c past (Sporadic k))
-is_due c past (Event e) n = list_any (λ f. n == (frame_of c f).publisher && pending c past f) (event_of c e).frames
+is_due c past (Event e) n =
+    list_any (λ f. n == (frame_of c f).publisher && is_pending c past f) (event_of c e).frames
 is_due c past MasterReq n = n == 0 && is_some (header c past MasterReq)
-is_due c past SlaveResp n = choose (selected c past) false (λ k. n == k && nat_lt 0 (length (waiting c past k)))
+is_due c past SlaveResp n =
+    option_map_or (λ k. n == k && nat_lt 0 (length (waiting c past k))) (selected_node c past) false
 is_due c past Quiet n = false
 
 abbrev pub due_nodes : Parts → List LogEntry → Entry → List ℕ
@@ -90,9 +104,10 @@ first_frame c (s ∷ ss) = frame_at c s 0
 -- frame where sleep is asked, failing that the first frame of what waits
 abbrev pub next_frame : Parts → List LogEntry → ℕ → Bool → List ℕ
 next_frame c past h sleeping =
-    choose (begun c past h)
-    (if sleeping then sleep_frame else first_frame c (waiting c past h))
+    option_map_or
     (λ s. frame_at c s (length (frames_of s.block)))
+    (begun_sending c past h)
+    (if sleeping then sleep_frame else first_frame c (waiting c past h))
 
 -- a diagnostic frame with its checksum, which is always classic
 abbrev pub with_classic : List ℕ → List ℕ
@@ -101,17 +116,18 @@ with_classic bytes = bytes ++ classic bytes ∷ []
 -- the member of a sporadic frame with this header, and the member of an event-triggered frame that
 -- a node publishes
 abbrev pub member_under : Parts → ℕ → ℕ → ℕ
-member_under c k h = choose (find (λ f. h == (frame_of c f).pid) (sporadic_of c k)) 0 (λ f. f)
+member_under c k h = unwrap_or (find (λ f. h == (frame_of c f).pid) (sporadic_of c k)) 0
 
 abbrev pub member_of : Parts → ℕ → ℕ → ℕ
-member_of c e n = choose (find (λ f. n == (frame_of c f).publisher) (event_of c e).frames) 0 (λ f. f)
+member_of c e n = unwrap_or (find (λ f. n == (frame_of c f).publisher) (event_of c e).frames) 0
 
 -- what a node puts in a slot for an entry under its header, data and checksum
 abbrev pub put : Parts → List LogEntry → Entry → ℕ → ℕ → List ℕ
 put c past (Frame f) h n = answer_of (frame_of c f).model h (signal_bytes c past f)
-put c past (Sporadic k) h n = answer_of (frame_of c (member_under c k h)).model h (signal_bytes c past (member_under c k h))
+put c past (Sporadic k) h n =
+    answer_of (frame_of c (member_under c k h)).model h (signal_bytes c past (member_under c k h))
 put c past (Event e) h n = answer_of (event_of c e).model h (signal_bytes c past (member_of c e n))
-put c past MasterReq h n = with_classic (next_frame c past 0 (asked past))
+put c past MasterReq h n = with_classic (next_frame c past 0 (is_sleep_asked past))
 put c past SlaveResp h n = with_classic (next_frame c past n false)
 put c past Quiet h n = []
 

@@ -1,15 +1,16 @@
 //! Whether the bus sleeps, and which responder is selected.
 
-ghost use Rattle.std.specs.Prelude.{◌≡◌, ◌==◌, ◌<◌, true, false, None, Some, if◌then◌else◌, option_map, slice_index};
-ghost use Rattle.lin_frame.specs.Words.{choose};
-ghost use Rattle.lin_parts.specs.Cluster.{nad, nodes};
+ghost use Rattle.std.specs.Prelude.{◌≡◌, ◌==◌, ◌<◌, true, false, None, Some, if◌then◌else◌};
+ghost use Rattle.std.specs.Prelude.{option_map, slice_index};
+ghost use Rattle.std.specs.Option.{option_map_or};
+ghost use Rattle.lin_cluster_parts.specs.Cluster.{nad, nodes};
 ghost use Rattle.lin_core.specs.History.{good_under};
 ghost use Rattle.lin_core.specs.kept.Slots.{slot_in};
 ghost use Rattle.lin_core.specs.kept.Bus.{bus_after};
 ghost use Rattle.lin_core.specs.Slots.{node_with};
 
 use crate::slot::{MASTER_REQUEST, OpenSlot};
-use lin_parts::Cluster;
+use lin_cluster_parts::Cluster;
 
 /// The greatest address of a responder that a frame selects (ISO 17987-2, node addresses).
 const LAST_ADDRESS: u8 = 125;
@@ -17,7 +18,7 @@ const LAST_ADDRESS: u8 = 125;
 /// Whether a node has an address.
 fn has_address(cluster: &Cluster, node: u8, address: u8) -> bool
     requires { node < nodes cluster.now }
-    ensures { result ≡ choose (nad cluster.now node) false (λ own. own == address) }
+    ensures { result ≡ option_map_or (λ own. own == address) (nad cluster.now node) false }
 {
     match cluster.nad(node) {
         Some(own) => own == address,
@@ -27,7 +28,7 @@ fn has_address(cluster: &Cluster, node: u8, address: u8) -> bool
 
 /// What was found, and failing that this node, if it is one of those that are looked for.
 fn first(found: Option<u8>, node: u8, is_one: bool) -> Option<u8>
-    ensures { result ≡ choose found (if is_one then Some node else None) Some }
+    ensures { result ≡ option_map_or Some found (if is_one then Some node else None) }
 {
     if found.is_none() && is_one {
         return Some(node);
@@ -49,7 +50,8 @@ pub fn node_with(cluster: &Cluster, address: u8) -> Option<u8>
 /// The first byte of a master request that was seen good, the slot's only response; none of another
 /// slot.
 fn request_byte(slot: &OpenSlot) -> Option<u8>
-    ensures { result ≡ option_map (λ bytes. slice_index bytes 0) (good_under 0x3C (slot_in slot.now)) }
+    ensures { result
+        ≡ option_map (λ bytes. slice_index bytes 0) (good_under 0x3C (slot_in slot.now)) }
 {
     if slot.header != Some(MASTER_REQUEST) || slot.hurt || slot.puts.len() != 1 {
         return None;

@@ -11,7 +11,7 @@ use lin_frame::{Value, ValueBytes};
 use std::alloc::{AllocError, Global};
 
 impl Payload {
-    /// Equal bytes; an error is out of memory.
+    /// Equal bytes; an error means out of memory.
     pub(crate) fn copy(&self, alloc: Global) -> Result<Payload, AllocError>
         ensures same { IfOk result (λ p. p ≡ self.now) }
         ensures fits { AreBytes self.now }
@@ -45,7 +45,7 @@ fn copied(value: &Value) -> Value
 }
 
 impl Step {
-    /// An equal step; an error is out of memory.
+    /// An equal step; an error means out of memory.
     pub fn copy(&self, alloc: Global) -> Result<Step, AllocError>
         ensures same { IfOk result (λ s. s ≡ self.now) }
         ensures fits { FitsStep self.now }
@@ -81,7 +81,7 @@ impl Step {
 }
 
 impl Event {
-    /// An equal event; an error is out of memory.
+    /// An equal event; an error means out of memory.
     pub fn copy(&self, alloc: Global) -> Result<Event, AllocError>
         ensures { IfOk result (λ e. e ≡ self.now) }
     {

@@ -1,15 +1,16 @@
 //! What a slot is for: its header, and who is due in it (ISO 17987-3, frame transfer; ISO 17987-2,
 //! diagnostic schedules).
 
-ghost use Rattle.std.specs.Prelude.{◌≡◌, ◌==◌, ◌&&◌, ◌||◌, ◌<◌, ◌≤◌, All, filter, length, slice_index_or, false};
+ghost use Rattle.std.specs.Prelude.{◌≡◌, ◌==◌, ◌&&◌, ◌||◌, ◌<◌, ◌≤◌, All, filter, length};
+ghost use Rattle.std.specs.Prelude.{slice_index_or, false};
 ghost use Rattle.std.specs.List.{list_any};
 ghost use Rattle.lin_frame.specs.Words.{numbers};
-ghost use Rattle.lin_parts.specs.Cluster.{frame_of, nodes};
+ghost use Rattle.lin_cluster_parts.specs.Cluster.{frame_of, nodes};
 ghost use Rattle.lin_core.specs.kept.Slots.{header_of, is_due_of, HasDue};
 
 use crate::slot::{MASTER_REQUEST, NODES, SLAVE_RESPONSE};
 use arrayvec::ArrayVec;
-use lin_parts::Cluster;
+use lin_cluster_parts::Cluster;
 use lin_schedule::Due;
 
 /// Whether the commander has something to request: a message waits, or sleep is asked.
@@ -38,7 +39,10 @@ pub(crate) fn header_of(cluster: &Cluster, due: Due, waits: bool) -> Option<u8>
 fn publishes_pending(cluster: &Cluster, frames: &[u16], pending: &[bool], node: u8) -> bool
     requires there { All (λ f. f < length cluster.now.frames) frames.now }
     requires count { length pending.now ≡ length cluster.now.frames }
-    ensures { result ≡ list_any (λ f. node == (frame_of cluster.now f).publisher && slice_index_or pending.now f false) frames.now }
+    ensures { result
+        ≡ list_any
+        (λ f. node == (frame_of cluster.now f).publisher && slice_index_or pending.now f false)
+        frames.now }
 {
     frames.iter().any(|frame| node == cluster.frame_publisher(*frame) && pending[*frame as usize])
 }
@@ -79,7 +83,9 @@ pub(crate) fn due_nodes(
 ) -> ArrayVec<u8, NODES>
     requires there { HasDue cluster.now due }
     requires count { length pending.now ≡ length cluster.now.frames }
-    ensures due { result.items ≡ filter (is_due_of cluster.now pending.now waits responder due) (numbers (nodes cluster.now)) }
+    ensures due { result.items
+        ≡ filter (is_due_of cluster.now pending.now waits responder due)
+        (numbers (nodes cluster.now)) }
     ensures few { length result.items ≤ 16 }
 {
     let mut nodes = ArrayVec::new();

@@ -1,7 +1,9 @@
 //! What the core keeps of a host.
 
-ghost use Rattle.std.specs.Prelude.{◌≡◌, ◌<◌, ◌+◌, ◌^◌, ◌≤◌, ℕ, IfOk, All, IsTrue, ◌↔◌, length, slice_get, is_some, nat_lt, if◌then◌else◌, None, Some, false};
-ghost use Rattle.lin_core.specs.kept.Hosts.{fresh, gone_on, queued, sent_of, settled, size_of};
+ghost use Rattle.std.specs.Prelude.{◌≡◌, ◌<◌, ◌+◌, ◌^◌, ◌≤◌, ℕ, IfOk, All, IsTrue, ◌↔◌, length};
+ghost use Rattle.std.specs.Prelude.{slice_get, is_some, nat_lt, if◌then◌else◌, None, Some, false};
+ghost use Rattle.lin_core.specs.kept.Hosts.{fresh, host_after_frame, host_after_send, sent_of};
+ghost use Rattle.lin_core.specs.kept.Hosts.{host_after_settling, size_of};
 ghost use Rattle.lin_transport.specs.Sender.{Sending};
 ghost use Rattle.lin_transport.specs.Transport.{frame_count};
 ghost use Rattle.lin_core.specs.declared.host.Host.{Host};
@@ -29,7 +31,7 @@ impl Host {
     /// A message waits, whose step stands at this place in the log.
     pub(crate) fn accept(&mut self, place: u32)
         requires { length self.old.queue.items < self.old.queue.capacity }
-        ensures { self.new ≡ queued self.old place }
+        ensures { self.new ≡ host_after_send self.old place }
     {
         let _ = self.queue.try_push_back(place);
     }
@@ -37,7 +39,7 @@ impl Host {
     /// The next message is settled, and no message is begun.
     pub(crate) fn settle(&mut self)
         requires { self.old.settled + 1 < 2 ^ 32 }
-        ensures { self.new ≡ settled self.old }
+        ensures { self.new ≡ host_after_settling self.old }
     {
         let _ = self.queue.pop_front();
         self.settled += 1;
@@ -50,7 +52,7 @@ impl Host {
         requires some { 1 ≤ len }
         requires few { len ≤ 4095 }
         requires more { (s : Sending) → self.old.sender ≡ Some s → s.sent < frame_count s.size }
-        ensures { self.new ≡ gone_on self.old address len }
+        ensures { self.new ≡ host_after_frame self.old address len }
     {
         let mut sender = match self.sender.take() {
             Some(sender) => sender,
@@ -81,7 +83,7 @@ impl Host {
     }
 }
 
-/// So many hosts of which none has sent a message. An error is out of memory.
+/// So many hosts of which none has sent a message. An error means out of memory.
 pub(crate) fn hosts(alloc: Global, count: usize, capacity: usize) -> Result<Vec<Host>, AllocError>
     requires { count ≤ 16 }
     ensures count { IfOk result (λ hosts. length hosts.items ≡ count) }
@@ -101,7 +103,8 @@ pub(crate) fn hosts(alloc: Global, count: usize, capacity: usize) -> Result<Vec<
 
 /// How many messages wait in a host's queue; 0 for a number that is no host's.
 pub(crate) fn queued_by(hosts: &[Host], host: u8) -> usize
-    ensures { (kept : Host) → slice_get hosts.now host ≡ Some kept → result ≡ length kept.queue.items }
+    ensures { (kept : Host) → slice_get hosts.now host ≡ Some kept
+        → result ≡ length kept.queue.items }
 {
     match hosts.get(host as usize) {
         Some(kept) => kept.queue.len(),
@@ -133,7 +136,8 @@ pub(crate) fn begun_by(hosts: &[Host], host: u8) -> bool
 /// Where a host's next message stands in the log; 0 where none waits, and for a number that is no
 /// host's.
 pub(crate) fn next_by(hosts: &[Host], host: u8) -> u32
-    ensures { (kept : Host) (place : ℕ) → slice_get hosts.now host ≡ Some kept → slice_get kept.queue.items 0 ≡ Some place → result ≡ place }
+    ensures { (kept : Host) (place : ℕ) → slice_get hosts.now host ≡ Some kept
+        → slice_get kept.queue.items 0 ≡ Some place → result ≡ place }
 {
     match hosts.get(host as usize) {
         Some(kept) => kept.next(),
@@ -145,7 +149,8 @@ pub(crate) fn next_by(hosts: &[Host], host: u8) -> u32
 /// waits.
 pub(crate) fn responder(hosts: &[Host], selected: Option<u8>) -> Option<u8>
     ensures none { selected ≡ None → result ≡ None }
-    ensures some { (node : ℕ) (kept : Host) → selected ≡ Some node → slice_get hosts.now node ≡ Some kept → result ≡ (if nat_lt 0 (length kept.queue.items) then Some node else None) }
+    ensures some { (node : ℕ) (kept : Host) → selected ≡ Some node → slice_get hosts.now node ≡ Some kept
+        → result ≡ (if nat_lt 0 (length kept.queue.items) then Some node else None) }
 {
     match selected {
         Some(node) if queued_by(hosts, node) > 0 => Some(node),

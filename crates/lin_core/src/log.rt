@@ -1,6 +1,7 @@
 //! The log.
 
-ghost use Rattle.std.specs.Prelude.{◌≡◌, ◌≤◌, ◌<◌, ◌+◌, ◌-◌, ◌++◌, ◌∷◌, ◌^◌, [], length, OnOk, IsOk, slice_index_or};
+ghost use Rattle.std.specs.Prelude.{◌≡◌, ◌≤◌, ◌<◌, ◌+◌, ◌-◌, ◌++◌, ◌∷◌, ◌^◌, [], length, OnOk};
+ghost use Rattle.std.specs.Prelude.{IsOk, slice_index_or};
 
 use crate::port::PortId;
 use crate::reply::Reply;
@@ -28,7 +29,8 @@ impl Model for Log {
 
     ghost Value = { LogData };
 
-    ghost view = { λ l. record { entries = l.entries.items; free = vec_capacity l.entries - vec_len l.entries } };
+    ghost view = { λ l. record
+        { entries = l.entries.items; free = vec_capacity l.entries - vec_len l.entries } };
 
     ghost invariant = { λ l. length l.entries.items < 2 ^ 32 };
 }

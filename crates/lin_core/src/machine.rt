@@ -21,8 +21,8 @@ use crate::signals::Signals;
 use crate::slot::Slot;
 use crate::state::State;
 use crate::step::Step;
+use lin_cluster_parts::Cluster;
 use lin_frame::Value;
-use lin_parts::Cluster;
 use lin_schedule::Walker;
 use std::alloc::{AllocError, Global};
 use std::marker::Model;
@@ -96,17 +96,20 @@ fn no_events(setup: &Setup) -> Events
 }
 
 impl Core {
-    ghost use Rattle.std.specs.Prelude.{◌≡◌, ◌<◌, ◌≤◌, ◌-◌, ◌^◌, [], length, OnOk, IfOk, ◌↔◌, slice_index_or};
-    ghost use Rattle.lin_core.specs.Promises.{CarriesFrames, DeliversExactly, FatesAreFinal, LosesNothing, PutsInOrder, StaysClosed};
-    ghost use Rattle.lin_parts.specs.Cluster.{nodes};
-    ghost use Rattle.lin_core.specs.History.{asleep, time, undecided};
+    ghost use Rattle.std.specs.Prelude.{◌≡◌, ◌<◌, ◌≤◌, ◌-◌, ◌^◌, [], length, OnOk, IfOk, ◌↔◌};
+    ghost use Rattle.std.specs.Prelude.{slice_index_or};
+    ghost use Rattle.lin_core.specs.Promises.{CarriesFrames, DeliversExactly, FatesAreFinal};
+    ghost use Rattle.lin_core.specs.Promises.{LosesNothing, PutsInOrder, StaysClosed};
+    ghost use Rattle.lin_cluster_parts.specs.Cluster.{nodes};
+    ghost use Rattle.lin_core.specs.History.{asleep, time, undecided_count};
     ghost use Rattle.lin_core.specs.Signals.{value_at};
     ghost use Rattle.lin_core.specs.Links.{waiting};
-    ghost use Rattle.lin_core.specs.Core.{past_of, IsAlike, IsHistory, IsLogFull, IsOutOfMemory, IsSmall, IsStepped};
+    ghost use Rattle.lin_core.specs.Core.{past_of, IsAlike, IsHistory, IsLogFull, IsOutOfMemory};
+    ghost use Rattle.lin_core.specs.Core.{IsSmall, IsStepped};
 
     /// A core with an empty log, on a cluster whose schedule opens with this table. At most
-    /// `capacity` messages of a host (1 to 1,024) wait. An error is out of memory, and the cluster
-    /// is dropped.
+    /// `capacity` messages of a host (1 to 1,024) wait. An error means out of memory, and the
+    /// cluster is dropped.
     pub fn new(
         alloc: Global,
         cluster: Cluster,
@@ -116,7 +119,9 @@ impl Core {
         requires table { table < length cluster.tables }
         requires some { 1 ≤ capacity }
         requires few { capacity ≤ 1024 }
-        ensures { IfOk result (λ core. (core.log ≡ []) × (core.cluster ≡ cluster) × (core.opening ≡ table) × (core.capacity ≡ capacity)) }
+        ensures { IfOk result
+            (λ core. (core.log ≡ []) × (core.cluster ≡ cluster) × (core.opening ≡ table)
+            × (core.capacity ≡ capacity)) }
     {
         cluster.sound();
         let hosts = hosts(alloc, cluster.nodes(), capacity)?;
@@ -211,7 +216,7 @@ impl Core {
 
     /// How many nodes that are due in the open slot have decided nothing; 0 where no slot is open.
     pub fn undecided(&self) -> usize
-        ensures { result ≡ undecided (past_of self.now) }
+        ensures { result ≡ undecided_count (past_of self.now) }
     {
         let slot = &self.state.slot;
         if slot.is_open() {
@@ -221,7 +226,7 @@ impl Core {
     }
 
     /// Makes room, so that the next step isn't held because of memory, unless it is an open or a
-    /// finish. It changes nothing else; an error is out of memory.
+    /// finish. It changes nothing else; an error means out of memory.
     pub fn make_room(&mut self) -> Result<(), AllocError>
         ensures alike { IsAlike self.old self.new }
         ensures log { self.new.log ≡ self.old.log }

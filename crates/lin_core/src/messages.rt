@@ -1,8 +1,8 @@
 //! Messages that wait, by their places in the log.
 
 ghost use Rattle.std.specs.Prelude.{◌≡◌, ◌<◌, Some, is_some, true};
-ghost use Rattle.lin_frame.specs.Words.{choose};
-ghost use Rattle.lin_parts.specs.Cluster.{nad, nodes};
+ghost use Rattle.std.specs.Option.{unwrap_or};
+ghost use Rattle.lin_cluster_parts.specs.Cluster.{nad, nodes};
 ghost use Rattle.lin_core.specs.kept.Hosts.{message_at, bytes_next, HasNext};
 ghost use Rattle.lin_core.specs.Links.{nad_on};
 
@@ -10,7 +10,7 @@ use crate::host::Host;
 use crate::link::Link;
 use crate::log::Log;
 use crate::step::Step;
-use lin_parts::Cluster;
+use lin_cluster_parts::Cluster;
 use lin_transport::Sender;
 
 /// A message, lent from the entry of the log that accepted it: the link that it goes over, its
@@ -24,7 +24,7 @@ pub(crate) struct Message<'a> {
 
 /// The address of a node; 0 where it has none, and for a number that is no node's.
 pub(crate) fn address_of(cluster: &Cluster, node: u8) -> u8
-    ensures { node < nodes cluster.now → result ≡ choose (nad cluster.now node) 0 (λ n. n) }
+    ensures { node < nodes cluster.now → result ≡ unwrap_or (nad cluster.now node) 0 }
 {
     if node as usize >= cluster.nodes() {
         return 0;
@@ -35,7 +35,8 @@ pub(crate) fn address_of(cluster: &Cluster, node: u8) -> u8
 /// The message whose step stands at a place in the log.
 pub(crate) fn message_at<'a>(cluster: &Cluster, log: &'a Log, place: usize) -> Message<'a>
     requires { is_some (message_at log.now.entries place) ≡ true }
-    ensures message { message_at log.now.entries place ≡ Some (record { link = result.link; bytes = result.bytes.now }) }
+    ensures message { message_at log.now.entries place
+        ≡ Some (record { link = result.link; bytes = result.bytes.now }) }
     ensures address { result.link.node < nodes cluster.now → result.address ≡ nad_on cluster.now result.link }
 {
     match &log.entry(place).step {
@@ -65,7 +66,8 @@ pub(crate) fn next_bytes(
     sleeping: bool,
 ) -> [u8; 8]
     requires { HasNext cluster.now (message_at log.now.entries place) host.now.sender sleeping }
-    ensures { result ≡ bytes_next cluster.now (message_at log.now.entries place) host.now.sender sleeping }
+    ensures { result
+        ≡ bytes_next cluster.now (message_at log.now.entries place) host.now.sender sleeping }
 {
     if let Some(sender) = &host.sender {
         return sender.next(message_at(cluster, log, place).bytes);

@@ -1,15 +1,17 @@
 //! The receivers of the links: each reassembles the messages of its link from the frames that it
 //! hears.
 
-ghost use Rattle.std.specs.Prelude.{◌≡◌, ◌<◌, ℕ, [], List, length, option_map, slice_get, Some, IfOk, OnErr};
+ghost use Rattle.std.specs.Prelude.{◌≡◌, ◌<◌, ℕ, [], List, length, option_map, slice_get, Some};
+ghost use Rattle.std.specs.Prelude.{IfOk, OnErr};
 ghost use Rattle.lin_transport.specs.Receiver.{Hears, Stands};
 ghost use Rattle.lin_transport.specs.Transport.{Heard};
-ghost use Rattle.lin_core.specs.kept.Receivers.{opposite, receiver_in, AreReset, HearsOn, IsReset, KeepsHeard};
+ghost use Rattle.lin_core.specs.kept.Receivers.{opposite, receiver_in, AreReset, HearsOn, IsReset};
+ghost use Rattle.lin_core.specs.kept.Receivers.{KeepsHeard};
 ghost use Rattle.lin_core.specs.declared.receivers.Receivers.{Receivers};
 
 use crate::link::{Direction, Link};
 use crate::messages::address_of;
-use lin_parts::Cluster;
+use lin_cluster_parts::Cluster;
 use lin_transport::Receiver;
 use std::alloc::{AllocError, Global};
 
@@ -24,13 +26,16 @@ pub(crate) struct Receivers {
 
 impl Receivers {
     /// The receiver of the link in a direction hears the data bytes of a good frame, and gives the
-    /// message that the frame completes. An error is out of memory, and nothing is heard.
+    /// message that the frame completes. An error means out of memory, and nothing is heard.
     pub(crate) fn hear(
         &mut self,
         dir: Direction,
         frame: &[u8; 8],
     ) -> Result<Option<Vec<u8>>, AllocError>
-        ensures hears { (heard : List Heard) → Stands (receiver_in dir self.old) heard → IfOk result (λ m. Hears (receiver_in dir self.old) frame.now heard (option_map (λ v. v.items) m) (receiver_in dir self.new)) }
+        ensures hears { (heard : List Heard) → Stands (receiver_in dir self.old) heard
+            → IfOk result
+            (λ m. Hears (receiver_in dir self.old) frame.now heard (option_map (λ v. v.items) m)
+            (receiver_in dir self.new)) }
         ensures other { receiver_in (opposite dir) self.new ≡ receiver_in (opposite dir) self.old }
         ensures unchanged { OnErr result (self.new ≡ self.old) }
     {
@@ -80,14 +85,16 @@ pub(crate) fn fresh_receivers(
 }
 
 /// The receiver of a link hears the data bytes of a good frame, and gives the message that the
-/// frame completes. An error is out of memory, and nothing is heard.
+/// frame completes. An error means out of memory, and nothing is heard.
 pub(crate) fn hear(
     receivers: &mut Vec<Receivers>,
     link: Link,
     frame: &[u8; 8],
 ) -> Result<Option<Vec<u8>>, AllocError>
     requires { link.node < length receivers.old.items }
-    ensures hears { IfOk result (λ m. HearsOn link frame.now (option_map (λ v. v.items) m) receivers.old.items receivers.new.items) }
+    ensures hears { IfOk result
+        (λ m. HearsOn link frame.now
+        (option_map (λ v. v.items) m) receivers.old.items receivers.new.items) }
     ensures unchanged { OnErr result (receivers.new.items ≡ receivers.old.items) }
 {
     receivers[link.node as usize].hear(link.dir, frame)
@@ -96,7 +103,8 @@ pub(crate) fn hear(
 /// Each receiver ends what was partial, as at go-to-sleep.
 pub(crate) fn reset_all(receivers: &mut Vec<Receivers>)
     ensures count { length receivers.new.items ≡ length receivers.old.items }
-    ensures each { (h : ℕ) (old new : Receivers) → slice_get receivers.old.items h ≡ Some old → slice_get receivers.new.items h ≡ Some new → AreReset old new }
+    ensures each { (h : ℕ) (old new : Receivers) → slice_get receivers.old.items h ≡ Some old
+        → slice_get receivers.new.items h ≡ Some new → AreReset old new }
 {
     for node in 0..receivers.len() {
         receivers[node].reset_both();

@@ -1,19 +1,20 @@
 //! Frames of signals: their bytes, made of values, and the values that the nodes read in them.
 
-ghost use Rattle.std.specs.Prelude.{◌≡◌, ◌<◌, ◌≤◌, ℕ, [], length, map, take, true, All, Some, option_map, is_some, slice_get, IsTrue, vec_capacity};
-ghost use Rattle.lin_frame.specs.Bits.{fits_place, packed, unpacked};
+ghost use Rattle.std.specs.Prelude.{◌≡◌, ◌<◌, ◌≤◌, ℕ, [], length, map, take, true, All, Some};
+ghost use Rattle.std.specs.Prelude.{option_map, is_some, slice_get, IsTrue, vec_capacity};
+ghost use Rattle.std.specs.Option.{unwrap_or};
+ghost use Rattle.lin_frame.specs.Bits.{fits_place, packed_bytes, unpacked_value};
 ghost use Rattle.lin_frame.specs.Frame.{answer_of};
-ghost use Rattle.lin_frame.specs.Words.{choose};
-ghost use Rattle.lin_parts.specs.Cluster.{frame_of, signal_of};
-ghost use Rattle.lin_parts.specs.Rules.{place_at};
+ghost use Rattle.lin_cluster_parts.specs.Cluster.{frame_of, signal_of};
+ghost use Rattle.lin_cluster_parts.specs.Rules.{place_at};
 ghost use Rattle.lin_core.specs.History.{good};
 ghost use Rattle.lin_core.specs.kept.Slots.{slot_in, IsOpen};
 ghost use Rattle.lin_core.specs.Signals.{place_in, value_in, ArePointwise};
 
 use crate::response_frames::frame_by;
 use crate::slot::OpenSlot;
+use lin_cluster_parts::Cluster;
 use lin_frame::{Answer, SumKind, Value, answer, pack, unpack};
-use lin_parts::Cluster;
 
 /// The values of these signals, in the room that was made for them.
 fn gather(room: &mut Vec<Value>, values: &[Value], signals: &[u16])
@@ -39,10 +40,14 @@ pub(crate) fn frame_answer(
 ) -> Answer
     requires frame { frame < length cluster.now.frames }
     requires count { length values.now ≡ length cluster.now.signals }
-    requires fits { (s : ℕ) (v : Value) → slice_get values.now s ≡ Some v → IsTrue (fits_place (place_at 0 (signal_of cluster.now s)) v) }
+    requires fits { (s : ℕ) (v : Value) → slice_get values.now s ≡ Some v
+        → IsTrue (fits_place (place_at 0 (signal_of cluster.now s)) v) }
     requires empty { room.old.items ≡ [] }
     requires room { length (frame_of cluster.now frame).signals ≤ vec_capacity room.old }
-    ensures answer { (g : ℕ → Value) → ArePointwise g values.now → result ≡ answer_of model header (packed (frame_of cluster.now frame).layout (map g (frame_of cluster.now frame).signals)) }
+    ensures answer { (g : ℕ → Value) → ArePointwise g values.now
+        → result ≡ answer_of model header
+        (packed_bytes (frame_of cluster.now frame).layout
+        (map g (frame_of cluster.now frame).signals)) }
     ensures empty { room.new.items ≡ [] }
     ensures room { vec_capacity room.old ≤ vec_capacity room.new }
 {
@@ -61,7 +66,12 @@ pub fn hear_frame(heard: &mut Vec<Value>, cluster: &Cluster, frame: u16, answer:
     requires frame { frame < length cluster.now.frames }
     requires count { length heard.old.items ≡ length cluster.now.signals }
     ensures count { length heard.new.items ≡ length heard.old.items }
-    ensures heard { (g : ℕ → Value) → ArePointwise g heard.old.items → ArePointwise (λ s. choose (option_map (λ p. unpacked p (take 8 answer.now)) (place_in (frame_of cluster.now frame) s)) (g s) (λ v. v)) heard.new.items }
+    ensures heard { (g : ℕ → Value) → ArePointwise g heard.old.items
+        → ArePointwise
+        (λ s. unwrap_or
+        (option_map
+        (λ p. unpacked_value p (take 8 answer.now)) (place_in (frame_of cluster.now frame) s))
+        (g s)) heard.new.items }
 {
     cluster.sound();
     let data = answer.data();
@@ -80,7 +90,9 @@ pub(crate) fn hear_slot(heard: &mut Vec<Value>, cluster: &Cluster, slot: &OpenSl
     requires count { length heard.old.items ≡ length cluster.now.signals }
     requires good { is_some (good (slot_in slot.now)) ≡ true }
     ensures count { length heard.new.items ≡ length heard.old.items }
-    ensures heard { (g : ℕ → Value) → ArePointwise g heard.old.items → ArePointwise (λ s. choose (value_in cluster.now (slot_in slot.now) s) (g s) (λ v. v)) heard.new.items }
+    ensures heard { (g : ℕ → Value) → ArePointwise g heard.old.items
+        → ArePointwise
+        (λ s. unwrap_or (value_in cluster.now (slot_in slot.now) s) (g s)) heard.new.items }
 {
     let Some(header) = slot.header else {
         return;

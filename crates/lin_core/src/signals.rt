@@ -3,8 +3,8 @@
 ghost use Rattle.std.specs.Prelude.{◌≡◌, ◌<◌, ◌≤◌, ◌||◌, ◌==◌, ℕ, true, false, [], length, map};
 ghost use Rattle.std.specs.Prelude.{All, IfOk, IfSome, Some, None, is_some, vec_capacity};
 ghost use Rattle.std.specs.Prelude.{replicate, slice_set, slice_index_or, if◌then◌else◌};
-ghost use Rattle.lin_parts.specs.Cluster.{frame_of};
-ghost use Rattle.lin_frame.specs.Words.{choose};
+ghost use Rattle.std.specs.Option.{option_map_or, unwrap_or};
+ghost use Rattle.lin_cluster_parts.specs.Cluster.{frame_of};
 ghost use Rattle.lin_core.specs.History.{good, is_in};
 ghost use Rattle.lin_core.specs.kept.Signals.{is_cleared};
 ghost use Rattle.lin_core.specs.kept.Slots.{slot_in, IsOpen};
@@ -12,11 +12,12 @@ ghost use Rattle.lin_core.specs.Signals.{value_in, ArePointwise};
 
 use crate::signal_frames::hear_slot;
 use crate::slot::{OpenSlot, Put};
+use lin_cluster_parts::Cluster;
 use lin_frame::Value;
-use lin_parts::Cluster;
 use std::alloc::{AllocError, Global};
 
-/// The initial values of all signals, by number (ISO 17987-3, signals). An error is out of memory.
+/// The initial values of all signals, by number (ISO 17987-3, signals). An error means out of
+/// memory.
 pub fn initial_values(alloc: Global, cluster: &Cluster) -> Result<Vec<Value>, AllocError>
     ensures { IfOk result
         (λ values. values.items ≡ map (λ signal. signal.initial) cluster.now.signals) }
@@ -28,7 +29,7 @@ pub fn initial_values(alloc: Global, cluster: &Cluster) -> Result<Vec<Value>, Al
     Ok(values)
 }
 
-/// Room for the values of each frame's signals. An error is out of memory.
+/// Room for the values of each frame's signals. An error means out of memory.
 fn room_for_frames(alloc: Global, cluster: &Cluster) -> Result<Vec<Value>, AllocError>
     ensures empty { IfOk result (λ room. room.items ≡ []) }
     ensures room { IfOk result
@@ -56,7 +57,7 @@ pub(crate) struct Signals {
 }
 
 impl Signals {
-    /// As they stand at the start. An error is out of memory.
+    /// As they stand at the start. An error means out of memory.
     pub(crate) fn new(alloc: Global, cluster: &Cluster) -> Result<Signals, AllocError>
         ensures values { IfOk result
             (λ s. s.values.items ≡ map (λ signal. signal.initial) cluster.now.signals) }
@@ -126,8 +127,9 @@ impl Signals {
         ensures signals { length self.new.heard.items ≡ length self.old.heard.items }
         ensures frames { length self.new.pending.items ≡ length self.old.pending.items }
         ensures heard { (g : ℕ → Value) → ArePointwise g self.old.heard.items
-            → ArePointwise (λ s. choose (value_in cluster.now (slot_in slot.now) s) (g s)
-            (λ v. v)) self.new.heard.items }
+            → ArePointwise
+            (λ s. unwrap_or (value_in cluster.now (slot_in slot.now) s) (g s))
+            self.new.heard.items }
         ensures pending { (f : ℕ)
             → slice_index_or self.new.pending.items f false
             ≡ (if is_some (good (slot_in slot.now))
@@ -161,7 +163,7 @@ fn restore_one(pending: &mut Vec<bool>, cleared: Option<u16>)
     ensures frames { length pending.new.items ≡ length pending.old.items }
     ensures pending { (f : ℕ)
         → slice_index_or pending.new.items f false
-        ≡ (slice_index_or pending.old.items f false || choose cleared false (λ g. g == f)) }
+        ≡ (slice_index_or pending.old.items f false || option_map_or (λ g. g == f) cleared false) }
 {
     if let Some(frame) = cleared {
         pending[frame as usize] = true;

@@ -1,7 +1,8 @@
 //! Messages that are lost as the cluster goes to sleep.
 
-ghost use Rattle.std.specs.Prelude.{◌≡◌, ◌<◌, ◌≤◌, ◌+◌, ◌++◌, ◌∷◌, [], ◌^◌, ℕ, Some, length, option_map, slice_get, vec_capacity};
-ghost use Rattle.lin_core.specs.kept.Hosts.{losses, lost_of, slept};
+ghost use Rattle.std.specs.Prelude.{◌≡◌, ◌<◌, ◌≤◌, ◌+◌, ◌++◌, ◌∷◌, [], ◌^◌, ℕ, Some, length};
+ghost use Rattle.std.specs.Prelude.{option_map, slice_get, vec_capacity};
+ghost use Rattle.lin_core.specs.kept.Hosts.{losses, loss_of, host_after_sleep};
 ghost use Rattle.lin_core.specs.declared.host.Host.{Host};
 
 use crate::event::{Event, Seen};
@@ -13,8 +14,8 @@ use crate::payload::Events;
 fn lose_one(kept: &mut Host, host: u8, events: &mut Vec<Event>)
     requires small { kept.old.settled + 1 < 2 ^ 32 }
     requires room { length events.old.items + 1 ≤ vec_capacity events.old }
-    ensures host { kept.new ≡ slept kept.old }
-    ensures events { events.new.items ≡ events.old.items ++ lost_of host kept.old }
+    ensures host { kept.new ≡ host_after_sleep kept.old }
+    ensures events { events.new.items ≡ events.old.items ++ loss_of host kept.old }
     ensures room { vec_capacity events.old ≤ vec_capacity events.new }
 {
     if kept.sender.is_none() {
@@ -32,10 +33,12 @@ fn lose_one(kept: &mut Host, host: u8, events: &mut Vec<Event>)
 /// The message that each host has begun is lost, and the hosts are told, by rising number.
 fn lose_begun(hosts: &mut Vec<Host>, events: &mut Vec<Event>)
     requires few { length hosts.old.items ≤ 16 }
-    requires small { (h : ℕ) (kept : Host) → slice_get hosts.old.items h ≡ Some kept → kept.settled + 1 < 2 ^ 32 }
+    requires small { (h : ℕ) (kept : Host) → slice_get hosts.old.items h ≡ Some kept
+        → kept.settled + 1 < 2 ^ 32 }
     requires room { length events.old.items + length hosts.old.items ≤ vec_capacity events.old }
     ensures count { length hosts.new.items ≡ length hosts.old.items }
-    ensures hosts { (h : ℕ) → slice_get hosts.new.items h ≡ option_map slept (slice_get hosts.old.items h) }
+    ensures hosts { (h : ℕ) → slice_get hosts.new.items h
+        ≡ option_map host_after_sleep (slice_get hosts.old.items h) }
     ensures events { events.new.items ≡ events.old.items ++ losses hosts.old.items }
 {
     for host in 0..hosts.len() as u8 {
@@ -48,10 +51,12 @@ fn lose_begun(hosts: &mut Vec<Host>, events: &mut Vec<Event>)
 pub(crate) fn sleep_events(room: Vec<Event>, seen: Seen, hosts: &mut Vec<Host>) -> Events
     requires empty { room.items ≡ [] }
     requires few { length hosts.old.items ≤ 16 }
-    requires small { (h : ℕ) (kept : Host) → slice_get hosts.old.items h ≡ Some kept → kept.settled + 1 < 2 ^ 32 }
+    requires small { (h : ℕ) (kept : Host) → slice_get hosts.old.items h ≡ Some kept
+        → kept.settled + 1 < 2 ^ 32 }
     requires room { 2 + length hosts.old.items ≤ vec_capacity room }
     ensures count { length hosts.new.items ≡ length hosts.old.items }
-    ensures hosts { (h : ℕ) → slice_get hosts.new.items h ≡ option_map slept (slice_get hosts.old.items h) }
+    ensures hosts { (h : ℕ) → slice_get hosts.new.items h
+        ≡ option_map host_after_sleep (slice_get hosts.old.items h) }
     ensures events { result ≡ Event.Seen seen ∷ Event.Asleep ∷ losses hosts.old.items }
 {
     let mut events = room;

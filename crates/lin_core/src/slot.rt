@@ -1,19 +1,20 @@
 //! The open slot, as the core keeps it.
 
-ghost use Rattle.std.specs.Prelude.{◌≡◌, ◌<◌, ◌≤◌, ◌++◌, ◌∷◌, [], ◌==◌, ◌&&◌, not, true, false, length, filter};
+ghost use Rattle.std.specs.Prelude.{◌≡◌, ◌<◌, ◌≤◌, ◌++◌, ◌∷◌, [], ◌==◌, ◌&&◌, not, true, false};
+ghost use Rattle.std.specs.Prelude.{length, filter};
 ghost use Rattle.std.specs.Prelude.{IfOk, Some, None, is_some, map, take};
 ghost use Rattle.std.specs.List.{list_any};
 ghost use Rattle.lin_schedule.specs.Walker.{HasEntry};
-ghost use Rattle.lin_core.specs.History.{good, has_decided, is_clash_seen, is_in, seen};
-ghost use Rattle.lin_core.specs.kept.Slots.{opened, slot_in};
+ghost use Rattle.lin_core.specs.History.{good, has_decided, is_clash_seen, is_in, seen_of};
+ghost use Rattle.lin_core.specs.kept.Slots.{opening_slot_kept, slot_in};
 ghost use Rattle.lin_core.specs.declared.slot.OpenSlot.{OpenSlot};
 ghost use Rattle.lin_core.specs.declared.slot.Put.{Put};
 
 use crate::event::{Event, Seen};
 use crate::payload::Events;
 use arrayvec::ArrayVec;
+use lin_cluster_parts::{Cluster, Entry};
 use lin_frame::Answer;
-use lin_parts::{Cluster, Entry};
 use std::alloc::{AllocError, Global};
 use std::marker::Model;
 
@@ -75,14 +76,15 @@ fn has_left(left: &[u8], node: u8) -> bool
 }
 
 /// The events of an open of a slot for an entry of a table, under a header, in which these nodes
-/// are due. An error is out of memory.
+/// are due. An error means out of memory.
 pub(crate) fn opening_events(
     alloc: Global,
     place: (u16, u16),
     header: Option<u8>,
     due: &[u8],
 ) -> Result<Events, AllocError>
-    ensures { IfOk result (λ events. events ≡ Event.Slot place.0 place.1 header ∷ map Event.Due due.now) }
+    ensures { IfOk result
+        (λ events. events ≡ Event.Slot place.0 place.1 header ∷ map Event.Due due.now) }
 {
     let opened = Event::Slot {
         table: place.0,
@@ -117,7 +119,8 @@ impl OpenSlot {
 
     /// How many nodes that are due have decided nothing.
     pub(crate) fn undecided(&self) -> usize
-        ensures { result ≡ length (filter (λ n. not (has_decided (slot_in self.now) n)) (slot_in self.now).due) }
+        ensures { result
+            ≡ length (filter (λ n. not (has_decided (slot_in self.now) n)) (slot_in self.now).due) }
     {
         let due = self.due.as_slice();
         let mut count = 0;
@@ -147,7 +150,8 @@ impl OpenSlot {
 
     /// The data bytes of its only response; zeros where there isn't just one.
     pub(crate) fn data(&self) -> [u8; 8]
-        ensures { (put : Put) → self.now.puts.items ≡ put ∷ [] → 8 ≤ length put.answer → result ≡ take 8 put.answer }
+        ensures { (put : Put) → self.now.puts.items ≡ put ∷ [] → 8 ≤ length put.answer
+            → result ≡ take 8 put.answer }
     {
         match self.puts.as_slice() {
             [put] => put.answer.data(),
@@ -157,7 +161,7 @@ impl OpenSlot {
 
     /// How the slot is seen when it ends.
     pub(crate) fn seen(&self) -> Seen
-        ensures { result ≡ seen (slot_in self.now) }
+        ensures { result ≡ seen_of (slot_in self.now) }
     {
         if self.header.is_none() {
             return Seen::Silent;
@@ -247,7 +251,7 @@ impl Slot {
         due: ArrayVec<u8, NODES>,
     )
         requires { HasEntry cluster.now place }
-        ensures { self.new ≡ Some (opened cluster.now place header due.items) }
+        ensures { self.new ≡ Some (opening_slot_kept cluster.now place header due.items) }
     {
         self.is_open = true;
         let slot = &mut self.kept;
@@ -265,7 +269,9 @@ impl Slot {
     pub(crate) fn put(&mut self, put: Put)
         requires open { is_some self.old ≡ true }
         requires room { (kept : OpenSlot) → self.old ≡ Some kept → length kept.puts.items < 16 }
-        ensures { (kept : OpenSlot) → self.old ≡ Some kept → self.new ≡ Some (record kept { puts = record { items = kept.puts.items ++ put ∷ [] } }) }
+        ensures { (kept : OpenSlot) → self.old ≡ Some kept
+            → self.new
+            ≡ Some (record kept { puts = record { items = kept.puts.items ++ put ∷ [] } }) }
     {
         self.kept.puts.push(put);
     }
@@ -274,7 +280,9 @@ impl Slot {
     pub(crate) fn leave(&mut self, node: u8)
         requires open { is_some self.old ≡ true }
         requires room { (kept : OpenSlot) → self.old ≡ Some kept → length kept.left.items < 16 }
-        ensures { (kept : OpenSlot) → self.old ≡ Some kept → self.new ≡ Some (record kept { left = record { items = kept.left.items ++ node ∷ [] } }) }
+        ensures { (kept : OpenSlot) → self.old ≡ Some kept
+            → self.new
+            ≡ Some (record kept { left = record { items = kept.left.items ++ node ∷ [] } }) }
     {
         self.kept.left.push(node);
     }
@@ -282,7 +290,8 @@ impl Slot {
     /// The response in it is disturbed.
     pub(crate) fn hurt(&mut self)
         requires { is_some self.old ≡ true }
-        ensures { (kept : OpenSlot) → self.old ≡ Some kept → self.new ≡ Some (record kept { hurt = true }) }
+        ensures { (kept : OpenSlot) → self.old ≡ Some kept
+            → self.new ≡ Some (record kept { hurt = true }) }
     {
         self.kept.hurt = true;
     }

@@ -21,7 +21,8 @@ pub struct Number {
     pub column: u64,
 }
 
-/// The initial value of a signal: a number, or for an array the place of its brace and the value of each byte.
+/// The initial value of a signal: a number, or for an array the place of its brace and the value of
+/// each byte.
 #[derive(Debug, Drop)]
 pub enum Init {
     Scalar(Number),
@@ -62,8 +63,8 @@ pub struct Sporadic {
     pub members: OneOrMore<Name>,
 }
 
-/// An event-triggered frame (LIN 2.2A, section 9.2.4.3), the schedule table that resolves its collisions, and the frames
-/// that it can carry.
+/// An event-triggered frame (LIN 2.2A, section 9.2.4.3), the schedule table that resolves its
+/// collisions, and the frames that it can carry.
 #[derive(Debug, Drop)]
 pub struct EventFrame {
     pub name: Name,
@@ -81,7 +82,8 @@ pub struct Attributes {
     pub configured_nad: Option<Number>,
 }
 
-/// An entry of a schedule table; its delay is in microseconds. With a group it is a configuration entry.
+/// An entry of a schedule table; its delay is in microseconds. With a group it is a configuration
+/// entry.
 #[derive(Debug, Drop)]
 pub struct TableEntry {
     pub name: Name,
@@ -96,8 +98,9 @@ pub struct Table {
     pub entries: Many<TableEntry>,
 }
 
-/// What an LDF text describes: each declaration in file order, with the places of its names and numbers. The speed is in
-/// bits per second, the times are in microseconds; a section that is absent is empty.
+/// What an LDF text describes: each declaration in file order, with the places of its names and
+/// numbers. The speed is in bits per second, the times are in microseconds; a section that is
+/// absent is empty.
 #[derive(Debug, Drop)]
 pub struct Description {
     pub speed: Number,

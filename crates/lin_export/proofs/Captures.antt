@@ -4,12 +4,12 @@ use Rattle.std.specs.Prelude.{◌==◌, if◌then◌else◌, All, Option, Some, 
 use Rattle.std.proofs.Math.Seq.{take-append_seam}
 use Rattle.std.proofs.lemmas.Grind.{flat_map-append}
 use Rattle.std.proofs.lemmas.List.{reverse-append, reverse-reverse}
-use Rattle.lin_frame.specs.Words.{choose}
+use Rattle.std.specs.Option.{option_map_or}
 use Rattle.lin_frame.specs.declared.sums.SumKind.{SumKind}
 use Rattle.lin_frame.specs.declared.sums.SumKind.TheVariants.{Classic, Enhanced}
-use Rattle.lin_parts.specs.Cluster.{line_of}
-use Rattle.lin_parts.specs.declared.parts.Parts.{Parts}
-use Rattle.lin_core.specs.History.{Slot, events, good_bytes, is_sleep_slot, open_slot, seen, seen_by, time}
+use Rattle.lin_cluster_parts.specs.Cluster.{line_of}
+use Rattle.lin_cluster_parts.specs.declared.parts.Parts.{Parts}
+use Rattle.lin_core.specs.History.{Slot, events, good_bytes, is_sleep_slot, open_slot, seen_of, seen_by, time}
 use Rattle.lin_core.specs.Links.{Fate, Sending, fate_of, host_of, reading, sendings, waits}
 use Rattle.lin_core.specs.Links.Fate.{Waiting, Sent, Lost}
 use Rattle.lin_core.specs.Replies.{all_links, all_reports, finish_events, new_messages, put_event, quiet_entry, receiver_of, refusal, reply, report, reports, sleeps}
@@ -26,7 +26,7 @@ use Rattle.lin_core.specs.declared.step.Step.{Step}
 use Rattle.lin_core.specs.declared.step.Step.TheVariants.{Send, Write, Open, Answer, Leave, Hurt, Finish, Timeout, Switch, AskSleep, Wake, Close}
 use Rattle.lin_core.proofs.slots.ClusterFrames.{all-cons}
 use Rattle.lin_export.specs.Captured.{IsCaptured, NeverFall, Packet, good_answer, packet_bytes, seen_answer, seen_answers, time_in, word_in}
-use Rattle.lin_export.specs.Pcap.{bus_event, file_header, filled, finish_packets, frame_body, framing, bad_checksum, goes_to_sleep, model_number, no_response, packet, packets, seen_packet, wakes, word}
+use Rattle.lin_export.specs.Pcap.{bus_event, file_header, filled_data, finish_packets, frame_body, framing, bad_checksum, goes_to_sleep, model_number, no_response, packet, packets, seen_packet, wakes, word}
 use Rattle.lin_export.specs.Shown.{checksum_in, data_of}
 use Rattle.lin_export.specs.Telling.{each_entry}
 use Rattle.lin_export.proofs.Tellings.{each-append}
@@ -84,7 +84,7 @@ whole-answer : (a : List ℕ) → 1 ≤ length a → data_of a ++ checksum_in a 
 whole-answer [] h = absurd (omega arith)
 whole-answer (x ∷ xs) h = let e : length (x ∷ xs) - 1 ≡ length xs = omega arith in rw e (last-suc x xs)
 
-read-data : (a : List ℕ) → take (length (data_of a)) (filled (data_of a)) ≡ data_of a
+read-data : (a : List ℕ) → take (length (data_of a)) (filled_data (data_of a)) ≡ data_of a
 read-data a = take-append_seam (data_of a) _
 
 good-frame : (model : SumKind) (header : ℕ) (a : List ℕ) (at : ℕ) → 1 ≤ length a → good_answer (record { at = at; body = frame_body model header a 0 }) ≡ a ∷ []
@@ -100,7 +100,7 @@ bad-frame Enhanced header errors at e = rw e
 
 -- a slot that is finished, by how it was seen
 abbrev good_of : Seen → List (List ℕ)
-good_of how = choose (good_bytes how) [] (λ answer. answer ∷ [])
+good_of how = option_map_or (λ answer. answer ∷ []) (good_bytes how) []
 
 abbrev HasBytes : Seen → Type 0
 HasBytes (Good answer) = 1 ≤ length answer
@@ -121,7 +121,7 @@ has-bytes (Some h) (p ∷ []) true w = omega arith
 has-bytes (Some h) (p ∷ q ∷ ps) hurt w = omega arith
 
 header-captured : (at : ℕ) (model : ℕ → SumKind) (header : Option ℕ) (puts : List (ℕ × List ℕ)) (hurt : Bool) → AreWhole puts
-    → Captured at at (choose header [] (λ h. seen_packet at (model h) h (seen_by header puts hurt))) (good_of (seen_by header puts hurt))
+    → Captured at at (option_map_or (λ h. seen_packet at (model h) h (seen_by header puts hurt)) header []) (good_of (seen_by header puts hurt))
 header-captured at model None puts hurt w = none-captured (omega arith) refl
 header-captured at model (Some h) puts hurt w = seen-captured at (model h) h (seen_by (Some h) puts hurt) (has-bytes (Some h) puts hurt w)
 
@@ -129,7 +129,7 @@ sleep-captured : (at end : ℕ) (b : Bool) → at ≤ end → Captured at end (i
 sleep-captured at end true h = record { packets = record { at = end; body = bus_event goes_to_sleep } ∷ []; same = sym (append-nil (packet end (bus_event goes_to_sleep))); good = refl; times = (h, omega arith) }
 sleep-captured at end false h = none-captured h refl
 
-slot-captured : (c : Parts) (at : ℕ) (s : Slot) → IsWhole c s → Captured at (at + (line_of c s.table s.entry).delay_us) (finish_packets c at s) (good_of (seen s) ++ [])
+slot-captured : (c : Parts) (at : ℕ) (s : Slot) → IsWhole c s → Captured at (at + (line_of c s.table s.entry).delay_us) (finish_packets c at s) (good_of (seen_of s) ++ [])
 slot-captured c at s w =
     captured-more (header-captured at (model_of c (line_of c s.table s.entry).entry) s.header s.puts s.hurt w.puts)
     (sleep-captured at (at + (line_of c s.table s.entry).delay_us) (is_sleep_slot s) (omega arith))
@@ -170,19 +170,19 @@ sleep-none : (b : Bool) → SayNone (if b then Asleep ∷ [] else [])
 sleep-none true = refl
 sleep-none false = refl
 
-put-none : (c : Parts) (past : List LogEntry) (node : ℕ) (s : Slot) (o : Option ℕ) → SayNone (choose o [] (λ h. Put node (put c past (line_of c s.table s.entry).entry h node) ∷ []))
+put-none : (c : Parts) (past : List LogEntry) (node : ℕ) (s : Slot) (o : Option ℕ) → SayNone (option_map_or (λ h. Put node (put c past (line_of c s.table s.entry).entry h node) ∷ []) o [])
 put-none c past node s None = refl
 put-none c past node s (Some h) = refl
 
-answer-none : (c : Parts) (past : List LogEntry) (node : ℕ) (o : Option Slot) → SayNone (choose o [] (put_event c past node))
+answer-none : (c : Parts) (past : List LogEntry) (node : ℕ) (o : Option Slot) → SayNone (option_map_or (put_event c past node) o [])
 answer-none c past node None = refl
 answer-none c past node (Some s) = put-none c past node s s.header
 
 finish-answers : (c : Parts) (port : PortId) (past : List LogEntry)
-    → flat_map seen_answer (finish_events c port past) ≡ flat_map seen_answer (choose (open_slot past) [] (λ s. SeenEvent (seen s) ∷ []))
+    → flat_map seen_answer (finish_events c port past) ≡ flat_map seen_answer (option_map_or (λ s. SeenEvent (seen_of s) ∷ []) (open_slot past) [])
 finish-answers c port past =
     let e : LogEntry = quiet_entry port Finish in
-    let first : List Event = choose (open_slot past) [] (λ s. SeenEvent (seen s) ∷ []) in
+    let first : List Event = option_map_or (λ s. SeenEvent (seen_of s) ∷ []) (open_slot past) [] in
     let messages : List Event = flat_map (new_messages c e past) (all_links c) in
     let sleep : List Event = if sleeps past then Asleep ∷ [] else [] in
     more-none ((first ++ messages) ++ sleep) (all_reports c e past) (reports-none c e past)
@@ -190,7 +190,7 @@ finish-answers c port past =
     ∙ more-none first messages (messages-none c e past)
 
 finished-captured : (c : Parts) (at : ℕ) (o : Option Slot) → SlotWhole c o
-    → Captured at (choose o at (λ s. at + (line_of c s.table s.entry).delay_us)) (choose o [] (finish_packets c at)) (flat_map seen_answer (choose o [] (λ s. SeenEvent (seen s) ∷ [])))
+    → Captured at (option_map_or (λ s. at + (line_of c s.table s.entry).delay_us) o at) (option_map_or (finish_packets c at) o []) (flat_map seen_answer (option_map_or (λ s. SeenEvent (seen_of s) ∷ []) o []))
 finished-captured c at None w = none-captured (omega arith) refl
 finished-captured c at (Some s) w = slot-captured c at s w
 

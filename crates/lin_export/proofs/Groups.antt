@@ -1,11 +1,12 @@
--- Changes behind their times, one group more at a time.
+-- Changes after their times, one group more at a time.
 use Rattle.std.proofs.Common.{◌≡◌, ℕ, suc, ◌+◌, ◌/◌, ◌%◌, ◌^◌, List, [], ◌∷◌, ◌++◌, Option, refl, sym, ap, ◌∙◌, append_assoc, append-nil, flat_map, length, add-one, subst}
 use Rattle.std.specs.Prelude.{Some, nat_lt, true}
-use Rattle.lin_frame.specs.Words.{choose, numbers}
-use Rattle.lin_parts.specs.Cluster.{line_of}
-use Rattle.lin_parts.specs.declared.parts.Parts.{Parts}
+use Rattle.std.specs.Option.{option_map_or}
+use Rattle.lin_frame.specs.Words.{numbers}
+use Rattle.lin_cluster_parts.specs.Cluster.{line_of}
+use Rattle.lin_cluster_parts.specs.declared.parts.Parts.{Parts}
 use Rattle.lin_core.specs.History.{Slot, done_step, good, open_slot, reply_events, time}
-use Rattle.lin_core.specs.Signals.{carried}
+use Rattle.lin_core.specs.Signals.{carried_frame}
 use Rattle.lin_core.specs.declared.event.Event.{Event}
 use Rattle.lin_core.specs.declared.log.LogEntry.{LogEntry}
 use Rattle.lin_core.specs.declared.reply.Reply.{Reply}
@@ -17,8 +18,8 @@ use Rattle.lin_text.specs.Written.{Grows}
 use Rattle.lin_text.specs.declared.buffered.TextWriter.{TextWriter}
 use Rattle.lin_text.proofs.Growing.{grows-more, grows-nothing, same-growth}
 use Rattle.lin_export.specs.PutsGroups.{PutsGroups}
-use Rattle.lin_export.specs.Track.{shown, slots_in}
-use Rattle.lin_export.specs.Vcd.{Group, binary, counted_all, event_group, frame_changes, groups, heard_group, later, latest, number_change, slot_changes, slot_groups, stamp, step_groups, timed, waits, written_change}
+use Rattle.lin_export.specs.Track.{shown_slot, slots_in}
+use Rattle.lin_export.specs.Vcd.{Group, binary, counted_all, event_group, frame_changes, groups, heard_group, later, latest, number_change, slot_changes, slot_groups, stamp, step_groups, timed_groups, waits, written_change}
 use Rattle.lin_export.proofs.Rows.{carried-shown, flat-append}
 
 -- one digit more
@@ -30,12 +31,12 @@ pub numbers-more : (f : ℕ → List ℕ) (n : ℕ) → flat_map f (numbers (n +
 numbers-more f n =
     ap (λ k. flat_map f (numbers k)) (add-one n) ∙ flat-append f (numbers n) (n ∷ []) ∙ ap (λ l. flat_map f (numbers n) ++ l) (append-nil (f n))
 
-timed-append : (last : ℕ) (gs hs : List Group) → timed last (gs ++ hs) ≡ timed last gs ++ timed (latest last gs) hs
+timed-append : (last : ℕ) (gs hs : List Group) → timed_groups last (gs ++ hs) ≡ timed_groups last gs ++ timed_groups (latest last gs) hs
 timed-append last [] hs = refl
 timed-append last (g ∷ gs) hs =
     ap (λ l. stamp last g.at ++ (g.changes ++ l)) (timed-append (later last g.at) gs hs)
-    ∙ ap (λ l. stamp last g.at ++ l) (sym (append_assoc g.changes (timed (later last g.at) gs) (timed (latest (later last g.at) gs) hs)))
-    ∙ sym (append_assoc (stamp last g.at) (g.changes ++ timed (later last g.at) gs) (timed (latest (later last g.at) gs) hs))
+    ∙ ap (λ l. stamp last g.at ++ l) (sym (append_assoc g.changes (timed_groups (later last g.at) gs) (timed_groups (latest (later last g.at) gs) hs)))
+    ∙ sym (append_assoc (stamp last g.at) (g.changes ++ timed_groups (later last g.at) gs) (timed_groups (latest (later last g.at) gs) hs))
 
 latest-append : (last : ℕ) (gs hs : List Group) → latest last (gs ++ hs) ≡ latest (latest last gs) hs
 latest-append last [] hs = refl
@@ -54,7 +55,7 @@ groups-one last next at changes h e k = record {
 pub groups-more : {W : Type 0} {contents : W → Option (List ℕ)} {x y z : TextWriter W} {a b c : ℕ} {gs hs : List Group}
     → PutsGroups contents x y a b gs → PutsGroups contents y z b c hs → PutsGroups contents x z a c (gs ++ hs)
 groups-more {a = a} {b = b} {c = c} {gs = gs} {hs = hs} h k = record {
-  text = same-growth (ap (λ n. timed a gs ++ timed n hs) h.shown ∙ sym (timed-append a gs hs)) (grows-more h.text k.text);
+  text = same-growth (ap (λ n. timed_groups a gs ++ timed_groups n hs) h.shown ∙ sym (timed-append a gs hs)) (grows-more h.text k.text);
   shown = k.shown ∙ ap (λ n. latest n hs) h.shown ∙ sym (latest-append a gs hs);
 }
 
@@ -63,17 +64,17 @@ pub same-groups : {W : Type 0} {contents : W → Option (List ℕ)} {x y : TextW
 same-groups {contents = contents} {x = x} {y = y} {a = a} {b = b} e h = subst (λ (l : List Group). PutsGroups contents x y a b l) e h
 
 -- what is heard of a slot that was seen good and carries a frame
-pub heard-one : (c : Parts) (end : ℕ) (s : Slot) (bytes : List ℕ) (f : ℕ) → good s ≡ Some bytes → carried c s ≡ Some f
+pub heard-one : (c : Parts) (end : ℕ) (s : Slot) (bytes : List ℕ) (f : ℕ) → good s ≡ Some bytes → carried_frame c s ≡ Some f
     → heard_group c end s ≡ record { at = end; changes = frame_changes c f bytes } ∷ []
 heard-one c end s bytes f g e = rw (g, e) refl
 
 -- the slot that is kept changes what the open one does
-pub heard-shown : (c : Parts) (end : ℕ) (s : Slot) → heard_group c end (shown s) ≡ heard_group c end s
+pub heard-shown : (c : Parts) (end : ℕ) (s : Slot) → heard_group c end (shown_slot s) ≡ heard_group c end s
 heard-shown c end s =
-    ap (λ (o : Option ℕ). choose (good s) [] (λ bytes. choose o [] (λ f. record { at = end; changes = frame_changes c f bytes } ∷ [])))
+    ap (λ (o : Option ℕ). option_map_or (λ bytes. option_map_or (λ f. record { at = end; changes = frame_changes c f bytes } ∷ []) o []) (good s) [])
     (carried-shown c (line_of c s.table s.entry).entry s)
 
-pub slot-shown : (c : Parts) (number at end : ℕ) (s : Slot) → slot_groups c number at end (shown s) ≡ slot_groups c number at end s
+pub slot-shown : (c : Parts) (number at end : ℕ) (s : Slot) → slot_groups c number at end (shown_slot s) ≡ slot_groups c number at end s
 slot-shown c number at end s = ap (λ (gs : List Group). record { at = at; changes = slot_changes number s } ∷ gs) (heard-shown c end s)
 
 -- what a step changes by itself
@@ -91,7 +92,7 @@ wake-groups c past end step at is same = rw (is, same) refl
 
 -- what an entry changes that was done
 groups-of : (c : Parts) (e : LogEntry) (past : List LogEntry) (reply : Reply) (es : List Event) → reply ≡ Done es
-    → choose (done_step reply e.step) [] (step_groups c past (time c (e ∷ past))) ++ flat_map (event_group c (time c (e ∷ past)) (waits (e ∷ past))) (reply_events reply)
+    → option_map_or (step_groups c past (time c (e ∷ past))) (done_step reply e.step) [] ++ flat_map (event_group c (time c (e ∷ past)) (waits (e ∷ past))) (reply_events reply)
     ≡ step_groups c past (time c (e ∷ past)) e.step ++ flat_map (event_group c (time c (e ∷ past)) (waits (e ∷ past))) es
 groups-of c e past reply es r = rw r refl
 

@@ -4,18 +4,19 @@ use Rattle.std.proofs.Math.Seq.{take-suc}
 use Rattle.std.proofs.lemmas.List.{append-nil, map-append, take_all, take_more}
 use Rattle.std.proofs.lemmas.Option.{slice_get-get_or}
 use Rattle.std.specs.Prelude.{Option, Some, None, option_map, slice_get, find, true, false}
-use Rattle.lin_frame.specs.Words.{choose, numbers}
-use Rattle.lin_frame.specs.Bits.{unpacked}
+use Rattle.std.specs.Option.{option_map_or, unwrap_or}
+use Rattle.lin_frame.specs.Words.{numbers}
+use Rattle.lin_frame.specs.Bits.{unpacked_value}
 use Rattle.lin_frame.specs.declared.value.Value.{Value}
 use Rattle.lin_frame.specs.declared.value.Value.TheVariants.{Scalar}
-use Rattle.lin_parts.specs.Cluster.{frame_of, line_of}
-use Rattle.lin_parts.specs.declared.parts.Parts.{Parts}
-use Rattle.lin_parts.specs.declared.parts.Signal.{Signal}
-use Rattle.lin_parts.specs.declared.parts.Entry.{Entry}
-use Rattle.lin_parts.specs.declared.parts.Entry.TheVariants as entries
+use Rattle.lin_cluster_parts.specs.Cluster.{frame_of, line_of}
+use Rattle.lin_cluster_parts.specs.declared.parts.Parts.{Parts}
+use Rattle.lin_cluster_parts.specs.declared.parts.Signal.{Signal}
+use Rattle.lin_cluster_parts.specs.declared.parts.Entry.{Entry}
+use Rattle.lin_cluster_parts.specs.declared.parts.Entry.TheVariants as entries
 use Rattle.lin_names.specs.Names.{NamesData}
 use Rattle.lin_core.specs.History.{Slot, done_step, good, is_sleep_slot, open_slot, time}
-use Rattle.lin_core.specs.Signals.{ArePointwise, carried, carried_by, heard, place_in, value_in}
+use Rattle.lin_core.specs.Signals.{ArePointwise, carried_frame, carried_by, heard_value, place_in, value_in}
 use Rattle.lin_core.specs.declared.event.Event.{Event}
 use Rattle.lin_core.specs.declared.log.LogEntry.{LogEntry}
 use Rattle.lin_core.specs.declared.reply.Reply.{Reply}
@@ -25,20 +26,20 @@ use Rattle.lin_core.specs.declared.step.Step.TheVariants.{Finish}
 use Rattle.lin_export.specs.Csv.{comma, csv_line, node_name, nodes_cell, row, slot_line, spaced_name, step_row, value_cell}
 use Rattle.lin_export.specs.Pcap.{bus_event, finish_packets, goes_to_sleep, packet, slot_packet}
 use Rattle.lin_export.specs.Shown.{slot_frame}
-use Rattle.lin_export.specs.Track.{shown, slots_in}
+use Rattle.lin_export.specs.Track.{shown_slot, slots_in}
 use Rattle.lin_export.proofs.Slots.{some-same}
 
 -- the slot that is kept shows the open one
 pub record Shows (o : Option Slot) (t : Slot) : Type 0 where
   pub slot : Slot
   pub is_open : o ≡ Some slot
-  pub same : t ≡ shown slot
+  pub same : t ≡ shown_slot slot
 
-pub shows : (o : Option Slot) (t : Slot) → Some t ≡ option_map shown o → Shows o t
+pub shows : (o : Option Slot) (t : Slot) → Some t ≡ option_map shown_slot o → Shows o t
 shows None t e = absurd (cc)
-shows (Some s) t e = record { slot = s; is_open = refl; same = some-same t (shown s) e }
+shows (Some s) t e = record { slot = s; is_open = refl; same = some-same t (shown_slot s) e }
 
-pub carried-shown : (c : Parts) (entry : Entry) (s : Slot) → carried_by c entry (shown s) ≡ carried_by c entry s
+pub carried-shown : (c : Parts) (entry : Entry) (s : Slot) → carried_by c entry (shown_slot s) ≡ carried_by c entry s
 carried-shown c (entries.Frame f) s = refl
 carried-shown c (entries.Sporadic k) s = refl
 carried-shown c (entries.Event e) s = refl
@@ -46,7 +47,7 @@ carried-shown c entries.MasterReq s = refl
 carried-shown c entries.SlaveResp s = refl
 carried-shown c entries.Quiet s = refl
 
-pub frame-shown : (c : Parts) (entry : Entry) (s : Slot) → slot_frame c entry (shown s) ≡ slot_frame c entry s
+pub frame-shown : (c : Parts) (entry : Entry) (s : Slot) → slot_frame c entry (shown_slot s) ≡ slot_frame c entry s
 frame-shown c (entries.Frame f) s = refl
 frame-shown c (entries.Sporadic k) s = refl
 frame-shown c (entries.Event e) s = refl
@@ -54,17 +55,17 @@ frame-shown c entries.MasterReq s = refl
 frame-shown c entries.SlaveResp s = refl
 frame-shown c entries.Quiet s = refl
 
-pub value-shown : (c : Parts) (s : Slot) (k : ℕ) → value_in c (shown s) k ≡ value_in c s k
+pub value-shown : (c : Parts) (s : Slot) (k : ℕ) → value_in c (shown_slot s) k ≡ value_in c s k
 value-shown c s k =
-    ap (λ (o : Option ℕ). choose (good s) None (λ bytes. choose o None (λ f. option_map (λ p. unpacked p (take 8 bytes)) (place_in (frame_of c f) k))))
+    ap (λ (o : Option ℕ). option_map_or (λ bytes. option_map_or (λ f. option_map (λ p. unpacked_value p (take 8 bytes)) (place_in (frame_of c f) k)) o None) (good s) None)
     (carried-shown c (line_of c s.table s.entry).entry s)
 
 -- what a node hears of a slot
-pub hears-value : (c : Parts) (o : Slot) (k : ℕ) (bytes : List ℕ) (f : ℕ) → good o ≡ Some bytes → carried c o ≡ Some f
-    → value_in c o k ≡ option_map (λ p. unpacked p (take 8 bytes)) (place_in (frame_of c f) k)
+pub hears-value : (c : Parts) (o : Slot) (k : ℕ) (bytes : List ℕ) (f : ℕ) → good o ≡ Some bytes → carried_frame c o ≡ Some f
+    → value_in c o k ≡ option_map (λ p. unpacked_value p (take 8 bytes)) (place_in (frame_of c f) k)
 hears-value c o k bytes f g e = rw (g, e) refl
 
-pub hears-none : (c : Parts) (o : Slot) (k : ℕ) (bytes : List ℕ) → good o ≡ Some bytes → carried c o ≡ None → value_in c o k ≡ None
+pub hears-none : (c : Parts) (o : Slot) (k : ℕ) (bytes : List ℕ) → good o ≡ Some bytes → carried_frame c o ≡ None → value_in c o k ≡ None
 hears-none c o k bytes g e = rw (g, e) refl
 
 pub not-good : (c : Parts) (o : Slot) (k : ℕ) → good o ≡ None → value_in c o k ≡ None
@@ -102,12 +103,12 @@ values-all g vs n p e = ap (flat_map (λ v. comma (value_cell v))) (sym (take_al
 
 row-of : (c : Parts) (names : NamesData) (e : LogEntry) (past : List LogEntry) (reply : Reply) (step : Step) (events : List Event) (s : Slot)
     → reply ≡ Done events → step ≡ Finish → open_slot past ≡ Some s
-    → choose (done_step reply step) [] (step_row c names e past) ≡ slot_line c names (slots_in past) (time c past) s (heard c (e ∷ past))
+    → option_map_or (step_row c names e past) (done_step reply step) [] ≡ slot_line c names (slots_in past) (time c past) s (heard_value c (e ∷ past))
 row-of c names e past reply step events s r f o = rw (r, f, o) refl
 
 pub row-finish : (c : Parts) (names : NamesData) (e : LogEntry) (past : List LogEntry) (events : List Event) (s : Slot)
     → e.reply ≡ Done events → e.step ≡ Finish → open_slot past ≡ Some s
-    → row c names e past ≡ slot_line c names (slots_in past) (time c past) s (heard c (e ∷ past))
+    → row c names e past ≡ slot_line c names (slots_in past) (time c past) s (heard_value c (e ∷ past))
 row-finish c names e past events s r f o = row-of c names e past e.reply e.step events s r f o
 
 -- a slot that puts the cluster to sleep
@@ -132,7 +133,7 @@ mapped-more f g xs i d h =
     ap (λ l. flat_map f (map g l)) (take_more xs i d h) ∙ ap (flat_map f) (map-append g (take i xs) (get_or xs i d ∷ []))
     ∙ flat-append f (map g (take i xs)) (g (get_or xs i d) ∷ []) ∙ ap (λ l. flat_map f (map g (take i xs)) ++ l) (append-nil (f (g (get_or xs i d))))
 
--- the first name, and those behind it
+-- the first name, and those after it
 pub nodes-first : (c : Parts) (puts : List (ℕ × List ℕ)) (first : ℕ × List ℕ) → 1 ≤ length puts → first ≡ get_or puts 0 first
     → node_name c first ++ flat_map (spaced_name c) (take (length puts - 1) (drop 1 puts)) ≡ nodes_cell c puts
 nodes-first c [] first h is = absurd (omega arith)
@@ -140,14 +141,14 @@ nodes-first c (p ∷ ps) first h is =
     ap (λ (l : List (ℕ × List ℕ)). node_name c first ++ flat_map (spaced_name c) l) (take_all (length (p ∷ ps) - 1) ps (omega arith))
     ∙ ap (λ (x : ℕ × List ℕ). node_name c x ++ flat_map (spaced_name c) ps) is
 
-pub line-shown : (c : Parts) (names : NamesData) (n t : ℕ) (s : Slot) (g : ℕ → Value) → slot_line c names n t (shown s) g ≡ slot_line c names n t s g
+pub line-shown : (c : Parts) (names : NamesData) (n t : ℕ) (s : Slot) (g : ℕ → Value) → slot_line c names n t (shown_slot s) g ≡ slot_line c names n t s g
 line-shown c names n t s g = rw (frame-shown c (line_of c s.table s.entry).entry s) refl
 
 pub heard-finish : (c : Parts) (e : LogEntry) (past : List LogEntry) (events : List Event) (s t : Slot) (k : ℕ)
-    → e.reply ≡ Done events → e.step ≡ Finish → open_slot past ≡ Some s → t ≡ shown s
-    → choose (value_in c t k) (heard c past k) (λ v. v) ≡ heard c (e ∷ past) k
+    → e.reply ≡ Done events → e.step ≡ Finish → open_slot past ≡ Some s → t ≡ shown_slot s
+    → unwrap_or (value_in c t k) (heard_value c past k) ≡ heard_value c (e ∷ past) k
 heard-finish c e past events s t k r f o is =
-    rw (is, r, f, o) (ap (λ (v : Option Value). choose v (heard c past k) (λ x. x)) (value-shown c s k))
+    rw (is, r, f, o) (ap (λ (v : Option Value). unwrap_or v (heard_value c past k)) (value-shown c s k))
 
 pub initial-at : (xs : List Signal) (i : ℕ) (v : Value) (d : Signal) → slice_get (map (λ (s : Signal). s.initial) xs) i ≡ Some v → v ≡ (get_or xs i d).initial
 initial-at [] i v d h = absurd (cc)

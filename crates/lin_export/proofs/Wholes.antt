@@ -2,12 +2,12 @@
 use Rattle.std.proofs.Common.{◌≡◌, ℕ, ◌≤◌, List, [], ◌∷◌, ◌++◌, length, refl, arith}
 use Rattle.std.specs.Prelude.{⊤, Option, Some, None, option_map}
 use Rattle.std.proofs.lemmas.List.{length-append}
-use Rattle.lin_frame.specs.Words.{choose}
-use Rattle.lin_parts.specs.declared.parts.Entry.{Entry}
-use Rattle.lin_parts.specs.declared.parts.Entry.TheVariants.{Frame, Sporadic, Event, MasterReq, SlaveResp, Quiet}
-use Rattle.lin_parts.specs.declared.parts.Parts.{Parts}
-use Rattle.lin_parts.specs.Cluster.{line_of}
-use Rattle.lin_core.specs.History.{Slot, hurt, leave, open_slot, told_all}
+use Rattle.std.specs.Option.{option_map_or}
+use Rattle.lin_cluster_parts.specs.declared.parts.Entry.{Entry}
+use Rattle.lin_cluster_parts.specs.declared.parts.Entry.TheVariants.{Frame, Sporadic, Event, MasterReq, SlaveResp, Quiet}
+use Rattle.lin_cluster_parts.specs.declared.parts.Parts.{Parts}
+use Rattle.lin_cluster_parts.specs.Cluster.{line_of}
+use Rattle.lin_core.specs.History.{Slot, slot_after_hurt, leave, open_slot, slot_after_events}
 use Rattle.lin_core.specs.Slots.{due_nodes, header, next_due, put}
 use Rattle.lin_core.specs.Replies.{done_events, put_event, refusal, reply}
 use Rattle.lin_core.specs.Runs.{history}
@@ -23,7 +23,7 @@ use Rattle.lin_core.proofs.steps.Steps.{told-due}
 
 -- the reply to a step that is refused for this reason, if there is one
 abbrev pub given : Parts → ℕ → List LogEntry → PortId → Step → Option Refusal → Reply
-given c opening past port step r = choose r (Done (done_events c opening past port step)) Refused
+given c opening past port step r = option_map_or Refused r (Done (done_events c opening past port step))
 
 -- an entry under which responses are put
 abbrev pub IsPut : Entry → Type 0
@@ -77,7 +77,7 @@ open-whole c past SlaveResp = tt
 open-whole c past Quiet = tt
 
 answer-whole : (c : Parts) (past : List LogEntry) (node : ℕ) (s : Slot) (o : Option ℕ) → s.header ≡ o → IsWhole c s
-    → IsWhole c (told_all (choose o [] (λ h. Put node (put c past (line_of c s.table s.entry).entry h node) ∷ [])) s)
+    → IsWhole c (slot_after_events (option_map_or (λ h. Put node (put c past (line_of c s.table s.entry).entry h node) ∷ []) o []) s)
 answer-whole c past node s None e w = w
 answer-whole c past node s (Some h) e w = record {
   puts = whole-more s.puts _ w.puts (put-whole c past (line_of c s.table s.entry).entry h node (rw e at w.entry));
@@ -85,7 +85,7 @@ answer-whole c past node s (Some h) e w = record {
 }
 
 answered-whole : (c : Parts) (past : List LogEntry) (node : ℕ) (o : Option Slot) → SlotWhole c o
-    → SlotWhole c (option_map (told_all (choose o [] (put_event c past node))) o)
+    → SlotWhole c (option_map (slot_after_events (option_map_or (put_event c past node) o [])) o)
 answered-whole c past node None w = tt
 answered-whole c past node (Some s) w = answer-whole c past node s s.header refl w
 
@@ -93,7 +93,7 @@ left-whole : (c : Parts) (node : ℕ) (o : Option Slot) → SlotWhole c o → Sl
 left-whole c node None w = tt
 left-whole c node (Some s) w = record { puts = w.puts; entry = w.entry }
 
-hurt-whole : (c : Parts) (o : Option Slot) → SlotWhole c o → SlotWhole c (option_map hurt o)
+hurt-whole : (c : Parts) (o : Option Slot) → SlotWhole c o → SlotWhole c (option_map slot_after_hurt o)
 hurt-whole c None w = tt
 hurt-whole c (Some s) w = record { puts = w.puts; entry = w.entry }
 

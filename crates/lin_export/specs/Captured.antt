@@ -1,7 +1,9 @@
 -- What a capture is read as: packets, and of these the good frames.
-use Rattle.std.specs.Prelude.{◌≡◌, ℕ, ◌+◌, ◌*◌, ◌/◌, ◌%◌, ◌^◌, ◌≤◌, ◌<◌, ◌==◌, Bool, ◌&&◌, if◌then◌else◌, All, List, [], ◌∷◌, ◌++◌, drop, flat_map, reverse, slice_index, take}
-use Rattle.lin_frame.specs.Words.{choose}
-use Rattle.lin_parts.specs.declared.parts.Parts.{Parts}
+use Rattle.std.specs.Prelude.{◌≡◌, ℕ, ◌+◌, ◌*◌, ◌/◌, ◌%◌, ◌^◌, ◌≤◌, ◌<◌, ◌==◌, Bool, ◌&&◌}
+use Rattle.std.specs.Prelude.{if◌then◌else◌, All, List, [], ◌∷◌, ◌++◌, drop, flat_map, reverse}
+use Rattle.std.specs.Prelude.{slice_index, take}
+use Rattle.std.specs.Option.{option_map_or}
+use Rattle.lin_cluster_parts.specs.declared.parts.Parts.{Parts}
 use Rattle.lin_core.specs.History.{events, good_bytes, time}
 use Rattle.lin_core.specs.declared.event.Event.{Event}
 use Rattle.lin_core.specs.declared.event.Event.TheVariants.{Seen}
@@ -29,7 +31,7 @@ good_answer p = if is_good_frame p.body then answer_in p.body ∷ [] else []
 
 -- the response of a slot, where the event says that it was seen good
 abbrev pub seen_answer : Event → List (List ℕ)
-seen_answer (Seen how) = choose (good_bytes how) [] (λ answer. answer ∷ [])
+seen_answer (Seen how) = option_map_or (λ answer. answer ∷ []) (good_bytes how) []
 seen_answer event = []
 
 abbrev pub seen_answers : List LogEntry → List (List ℕ)
@@ -43,7 +45,9 @@ NeverFall from (p ∷ ps) to = (from ≤ p.at) × NeverFall p.at ps to
 -- a number as it stands in four bytes, the lowest first, and the time of a packet as it stands in
 -- its bytes, in microseconds
 abbrev pub word_in : List ℕ → ℕ
-word_in bytes = slice_index bytes 0 + 256 * slice_index bytes 1 + 65536 * slice_index bytes 2 + 16777216 * slice_index bytes 3
+word_in bytes =
+    slice_index bytes 0 + 256 * slice_index bytes 1 + 65536 * slice_index bytes
+    2 + 16777216 * slice_index bytes 3
 
 abbrev pub time_in : List ℕ → ℕ
 time_in bytes = 1000000 * word_in bytes + word_in (drop 4 bytes)
@@ -56,4 +60,5 @@ pub record IsCaptured (c : Parts) (past : List LogEntry) : Type 0 where
   pub bytes : pcap c (reverse past) ≡ file_header ++ flat_map packet_bytes packets
   pub answers : flat_map good_answer packets ≡ seen_answers (reverse past)
   pub times : NeverFall 0 packets (time c past)
-  pub read : time c past < 2 ^ 32 * 1000000 → All (λ (p : Packet). time_in (packet_bytes p) ≡ p.at) packets
+  pub read : time c past < 2 ^ 32 * 1000000
+      → All (λ (p : Packet). time_in (packet_bytes p) ≡ p.at) packets

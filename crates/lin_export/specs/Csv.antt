@@ -1,17 +1,21 @@
--- A log as lines of values between commas (RFC 4180, with LF alone): nothing needs quotes, since names of LDFs are words.
+-- A log as lines of values between commas (RFC 4180, with LF alone): nothing needs quotes, since
+-- names of LDFs are words.
 use Rattle.std.specs.Prelude.{ℕ, List, [], ◌∷◌, ◌++◌, length, map, flat_map, codes}
 use Rattle.std.specs.Fmt.{decimal}
+use Rattle.std.specs.Option.{option_map_or}
 use Rattle.hex.specs.Hex.{encode_upper}
-use Rattle.lin_frame.specs.Words.{choose, numbers}
+use Rattle.lin_frame.specs.Words.{numbers}
 use Rattle.lin_frame.specs.declared.value.Value.{Value}
 use Rattle.lin_frame.specs.declared.value.Value.TheVariants.{Scalar, Bytes}
-use Rattle.lin_parts.specs.Cluster.{line_of, named_table, node_of}
-use Rattle.lin_parts.specs.declared.parts.Parts.{Parts}
-use Rattle.lin_parts.specs.declared.parts.Entry.{Entry}
-use Rattle.lin_parts.specs.declared.parts.Entry.TheVariants.{Frame, Sporadic, Event, MasterReq, SlaveResp, Quiet}
+use Rattle.lin_cluster_parts.specs.Cluster.{line_of, named_table, node_of}
+use Rattle.lin_cluster_parts.specs.declared.parts.Parts.{Parts}
+use Rattle.lin_cluster_parts.specs.declared.parts.Entry.{Entry}
+use Rattle.lin_cluster_parts.specs.declared.parts.Entry.TheVariants.{Frame, Sporadic, Event}
+use Rattle.lin_cluster_parts.specs.declared.parts.Entry.TheVariants.{MasterReq}
+use Rattle.lin_cluster_parts.specs.declared.parts.Entry.TheVariants.{SlaveResp, Quiet}
 use Rattle.lin_names.specs.Names.{NamesData}
-use Rattle.lin_core.specs.History.{Slot, done, good_bytes, open_slot, seen, time}
-use Rattle.lin_core.specs.Signals.{heard}
+use Rattle.lin_core.specs.History.{Slot, done, good_bytes, open_slot, seen_of, time}
+use Rattle.lin_core.specs.Signals.{heard_value}
 use Rattle.lin_core.specs.declared.event.Seen.{Seen}
 use Rattle.lin_core.specs.declared.event.Seen.TheVariants as seens
 use Rattle.lin_core.specs.declared.log.LogEntry.{LogEntry}
@@ -29,7 +33,7 @@ abbrev pub csv_line : List (List ℕ) → List ℕ
 csv_line [] = 10 ∷ []
 csv_line (cell ∷ cells) = cell ++ (flat_map comma cells ++ 10 ∷ [])
 
--- bytes in upper-case digits behind `0x`, since spreadsheets make numbers of bare digits
+-- bytes in upper-case digits after `0x`, since spreadsheets make numbers of bare digits
 abbrev pub hex_cell : List ℕ → List ℕ
 hex_cell bytes = codes "0x" ++ encode_upper bytes
 
@@ -65,7 +69,9 @@ nodes_cell c (put ∷ puts) = node_name c put ++ flat_map (spaced_name c) puts
 
 -- the names of the columns: those of each run, then the signals
 abbrev pub head_line : Parts → List ℕ
-head_line c = codes "slot,time_us,delay_us,table,entry,kind,frame,header,nodes,seen,data,checksum" ++ (flat_map comma (map (λ s. s.name) c.signals) ++ 10 ∷ [])
+head_line c =
+    codes "slot,time_us,delay_us,table,entry,kind,frame,header,nodes,seen,data,checksum"
+    ++ (flat_map comma (map (λ s. s.name) c.signals) ++ 10 ∷ [])
 
 -- a slot at a time: its delay, its entry, what that is for, and its header
 abbrev pub schedule_cells : Parts → NamesData → ℕ → Slot → List (List ℕ)
@@ -76,33 +82,38 @@ schedule_cells c names at s =
     ∷ decimal s.entry
     ∷ kind_cell (line_of c s.table s.entry).entry
     ∷ slot_name c names s
-    ∷ choose s.header [] (λ header. hex_cell (header ∷ []))
+    ∷ option_map_or (λ header. hex_cell (header ∷ [])) s.header []
     ∷ []
 
 -- how it was seen, its data bytes and its checksum
 abbrev pub response_cells : Seen → List (List ℕ)
 response_cells how =
     seen_cell how
-    ∷ choose (good_bytes how) [] (λ answer. hex_cell (data_of answer))
-    ∷ choose (good_bytes how) [] (λ answer. hex_cell (checksum_in answer ∷ []))
+    ∷ option_map_or (λ answer. hex_cell (data_of answer)) (good_bytes how) []
+    ∷ option_map_or (λ answer. hex_cell (checksum_in answer ∷ [])) (good_bytes how) []
     ∷ []
 
--- the line of a slot by its number, the time at its start, and the values of the signals that are heard behind it
+-- the line of a slot by its number, the time at its start, and the values of the signals that are
+-- heard after it
 abbrev pub slot_line : Parts → NamesData → ℕ → ℕ → Slot → (ℕ → Value) → List ℕ
 slot_line c names number at s values =
     csv_line
     (decimal number
     ∷ (schedule_cells c names at s
     ++ nodes_cell c s.puts
-    ∷ (response_cells (seen s) ++ map (λ k. value_cell (values k)) (numbers (length c.signals)))))
+    ∷ (response_cells (seen_of s)
+    ++ map (λ k. value_cell (values k)) (numbers (length c.signals)))))
 
 -- what an entry that was done says on those before it: the line of the slot that it finishes
 abbrev pub step_row : Parts → NamesData → LogEntry → List LogEntry → Step → List ℕ
-step_row c names e past Finish = choose (open_slot past) [] (λ s. slot_line c names (slots_in past) (time c past) s (heard c (e ∷ past)))
+step_row c names e past Finish =
+    option_map_or
+    (λ s. slot_line c names (slots_in past) (time c past) s (heard_value c (e ∷ past)))
+    (open_slot past) []
 step_row c names e past step = []
 
 abbrev pub row : Parts → NamesData → LogEntry → List LogEntry → List ℕ
-row c names e past = choose (done e) [] (step_row c names e past)
+row c names e past = option_map_or (step_row c names e past) (done e) []
 
 -- the table of a log, the oldest entry first
 abbrev pub csv : Parts → NamesData → List LogEntry → List ℕ

@@ -2,7 +2,8 @@
 use Rattle.lin_core.specs.declared.event.Seen.{Seen}
 use Rattle.lin_core.specs.declared.event.Seen.TheVariants as seen
 use Rattle.lin_export.specs.declared.slot.Look.{Look}
-use Rattle.lin_export.specs.declared.slot.Look.TheVariants.{Silent, NoAnswer, Good, Damaged, Collided}
+use Rattle.lin_export.specs.declared.slot.Look.TheVariants.{Silent, NoAnswer, Good, Damaged}
+use Rattle.lin_export.specs.declared.slot.Look.TheVariants.{Collided}
 
 abbrev pub looks : Look → Seen
 looks Silent = seen.Silent

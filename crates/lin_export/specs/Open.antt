@@ -4,4 +4,12 @@ use Rattle.lin_core.specs.History.{Slot}
 use Rattle.lin_export.specs.declared.slot.OpenSlot.{OpenSlot}
 
 abbrev pub slot_in : OpenSlot → Slot
-slot_in s = record { table = s.table; entry = s.entry; header = s.header; due = []; puts = s.puts.items; left = []; hurt = s.hurt }
+slot_in s = record {
+  table = s.table;
+  entry = s.entry;
+  header = s.header;
+  due = [];
+  puts = s.puts.items;
+  left = [];
+  hurt = s.hurt;
+}

@@ -1,19 +1,23 @@
 -- A log as changes of values over time (IEEE 1364-2005, section 18, value change dump).
-use Rattle.std.specs.Prelude.{ℕ, zero, suc, ◌+◌, ◌-◌, ◌*◌, ◌/◌, ◌%◌, ◌^◌, ◌==◌, nat_lt, if◌then◌else◌, List, [], ◌∷◌, ◌++◌, length, flat_map, codes, take, zip, reverse, Option}
+use Rattle.std.specs.Prelude.{ℕ, zero, suc, ◌+◌, ◌-◌, ◌*◌, ◌/◌, ◌%◌, ◌^◌, ◌==◌, nat_lt}
+use Rattle.std.specs.Prelude.{if◌then◌else◌, List, [], ◌∷◌, ◌++◌, length, flat_map, codes, take}
+use Rattle.std.specs.Prelude.{zip, reverse, Option}
 use Rattle.std.specs.Fmt.{decimal}
-use Rattle.lin_frame.specs.Bits.{unpacked}
-use Rattle.lin_frame.specs.Words.{choose, numbers}
+use Rattle.std.specs.Option.{option_map_or}
+use Rattle.lin_frame.specs.Bits.{unpacked_value}
+use Rattle.lin_frame.specs.Words.{numbers}
 use Rattle.lin_frame.specs.declared.layout.Place.{Place}
 use Rattle.lin_frame.specs.declared.value.Value.{Value}
 use Rattle.lin_frame.specs.declared.value.Value.TheVariants.{Scalar, Bytes}
-use Rattle.lin_parts.specs.Cluster.{frame_of, node_of, nodes, signal_of}
-use Rattle.lin_parts.specs.declared.parts.Parts.{Parts}
-use Rattle.lin_core.specs.History.{Slot, done, events, good, open_slot, seen, time}
-use Rattle.lin_core.specs.Signals.{carried}
+use Rattle.lin_cluster_parts.specs.Cluster.{frame_of, node_of, nodes, signal_of}
+use Rattle.lin_cluster_parts.specs.declared.parts.Parts.{Parts}
+use Rattle.lin_core.specs.History.{Slot, done, events, good, open_slot, seen_of, time}
+use Rattle.lin_core.specs.Signals.{carried_frame}
 use Rattle.lin_core.specs.declared.event.Event.{Event}
 use Rattle.lin_core.specs.declared.event.Event.TheVariants.{Accepted, Sent, Lost, Asleep}
 use Rattle.lin_core.specs.declared.event.Seen.{Seen}
-use Rattle.lin_core.specs.declared.event.Seen.TheVariants.{Silent, NoAnswer, Good, Damaged, Collided}
+use Rattle.lin_core.specs.declared.event.Seen.TheVariants.{Silent, NoAnswer, Good, Damaged}
+use Rattle.lin_core.specs.declared.event.Seen.TheVariants.{Collided}
 use Rattle.lin_core.specs.declared.log.LogEntry.{LogEntry}
 use Rattle.lin_core.specs.declared.step.Step.{Step}
 use Rattle.lin_core.specs.declared.step.Step.TheVariants.{Write, Finish, Wake}
@@ -34,7 +38,8 @@ digits size (Bytes bytes) = flat_map (binary 8) bytes
 abbrev pub code : ℕ → List ℕ
 code k = if nat_lt k 94 then (33 + k) ∷ [] else (33 + k % 94) ∷ (32 + k / 94) ∷ []
 
--- the numbers of variables: first the six of the bus, then the signals as they are heard, as they are written, and the hosts
+-- the numbers of variables: first the six of the bus, then the signals as they are heard, as they
+-- are written, and the hosts
 abbrev pub heard_number : ℕ → ℕ
 heard_number s = 6 + s
 
@@ -61,7 +66,8 @@ abbrev pub heard_change : Parts → ℕ → Value → List ℕ
 heard_change c s v = change (signal_of c s).size (heard_number s) (digits (signal_of c s).size v)
 
 abbrev pub written_change : Parts → ℕ → Value → List ℕ
-written_change c s v = change (signal_of c s).size (written_number c s) (digits (signal_of c s).size v)
+written_change c s v =
+    change (signal_of c s).size (written_number c s) (digits (signal_of c s).size v)
 
 abbrev pub waiting_change : Parts → ℕ → ℕ → List ℕ
 waiting_change c h n = number_change 11 (waiting_number c h) n
@@ -73,29 +79,33 @@ text_line text = text ++ 10 ∷ []
 abbrev pub opening : ℕ → ℕ → List ℕ
 opening width k = codes "$var wire " ++ (decimal width ++ 32 ∷ (code k ++ 32 ∷ []))
 
-abbrev pub declared : ℕ → ℕ → List ℕ → List ℕ
-declared width k name = opening width k ++ (name ++ text_line (codes " $end"))
+abbrev pub declaration : ℕ → ℕ → List ℕ → List ℕ
+declaration width k name = opening width k ++ (name ++ text_line (codes " $end"))
 
 abbrev pub scope : List ℕ → List ℕ → List ℕ
-scope name variables = text_line (codes "$scope module " ++ name ++ codes " $end") ++ (variables ++ text_line (codes "$upscope $end"))
+scope name variables =
+    text_line (codes "$scope module " ++ name ++ codes " $end")
+    ++ (variables ++ text_line (codes "$upscope $end"))
 
 abbrev pub bus_variables : List ℕ
 bus_variables =
-    declared 32 0 (codes "slot")
-    ++ (declared 16 1 (codes "table")
-    ++ (declared 16 2 (codes "entry")
-    ++ (declared 8 3 (codes "header")
-    ++ (declared 4 4 (codes "seen")
-    ++ declared 1 5 (codes "asleep")))))
+    declaration 32 0 (codes "slot")
+    ++ (declaration 16 1 (codes "table")
+    ++ (declaration 16 2 (codes "entry")
+    ++ (declaration 8 3 (codes "header")
+    ++ (declaration 4 4 (codes "seen")
+    ++ declaration 1 5 (codes "asleep")))))
 
 abbrev pub heard_variable : Parts → ℕ → List ℕ
-heard_variable c s = declared (signal_of c s).size (heard_number s) (signal_of c s).name
+heard_variable c s = declaration (signal_of c s).size (heard_number s) (signal_of c s).name
 
 abbrev pub written_variable : Parts → ℕ → List ℕ
-written_variable c s = declared (signal_of c s).size (written_number c s) ((signal_of c s).name ++ 64 ∷ (node_of c (signal_of c s).publisher).name)
+written_variable c s =
+    declaration (signal_of c s).size (written_number c s)
+    ((signal_of c s).name ++ 64 ∷ (node_of c (signal_of c s).publisher).name)
 
 abbrev pub waiting_variable : Parts → ℕ → List ℕ
-waiting_variable c h = declared 11 (waiting_number c h) (codes "waiting@" ++ (node_of c h).name)
+waiting_variable c h = declaration 11 (waiting_number c h) (codes "waiting@" ++ (node_of c h).name)
 
 abbrev pub declarations : Parts → List ℕ
 declarations c =
@@ -106,7 +116,8 @@ declarations c =
     ++ (scope (codes "waiting") (flat_map (waiting_variable c) (numbers (nodes c)))
     ++ text_line (codes "$enddefinitions $end")))))
 
--- the first value of each variable: the bus has shown nothing and is awake, signals have their initial values, and no message waits
+-- the first value of each variable: the bus has shown nothing and is awake, signals have their
+-- initial values, and no message waits
 abbrev pub first_heard : Parts → ℕ → List ℕ
 first_heard c s = heard_change c s (signal_of c s).initial
 
@@ -134,15 +145,15 @@ head c = declarations c ++ first_values c
 abbrev pub one_more : ℕ → ℕ
 one_more n = if nat_lt n 2047 then n + 1 else n
 
-abbrev pub counted : ℕ → Event → ℕ → ℕ
-counted h (Accepted host number) n = if host == h then one_more n else n
-counted h (Sent host number) n = if host == h then n - 1 else n
-counted h (Lost host number why) n = if host == h then n - 1 else n
-counted h event n = n
+abbrev pub count_after : ℕ → Event → ℕ → ℕ
+count_after h (Accepted host number) n = if host == h then one_more n else n
+count_after h (Sent host number) n = if host == h then n - 1 else n
+count_after h (Lost host number why) n = if host == h then n - 1 else n
+count_after h event n = n
 
 abbrev pub counted_all : ℕ → List Event → ℕ → ℕ
 counted_all h [] n = n
-counted_all h (e ∷ es) n = counted_all h es (counted h e n)
+counted_all h (e ∷ es) n = counted_all h es (count_after h e n)
 
 abbrev pub waits : List LogEntry → ℕ → ℕ
 waits [] h = 0
@@ -160,9 +171,9 @@ stamp last at = if nat_lt last at then 35 ∷ (decimal at ++ 10 ∷ []) else []
 abbrev pub later : ℕ → ℕ → ℕ
 later last at = if nat_lt last at then at else last
 
-abbrev pub timed : ℕ → List Group → List ℕ
-timed last [] = []
-timed last (g ∷ gs) = stamp last g.at ++ (g.changes ++ timed (later last g.at) gs)
+abbrev pub timed_groups : ℕ → List Group → List ℕ
+timed_groups last [] = []
+timed_groups last (g ∷ gs) = stamp last g.at ++ (g.changes ++ timed_groups (later last g.at) gs)
 
 abbrev pub latest : ℕ → List Group → ℕ
 latest last [] = last
@@ -176,7 +187,7 @@ seen_number Damaged = 3
 seen_number Collided = 4
 
 abbrev pub header_change : Option ℕ → List ℕ
-header_change header = choose header (unknown 3) (number_change 8 3)
+header_change header = option_map_or (number_change 8 3) header (unknown 3)
 
 -- a finished slot by its number: what the bus shows from its start
 abbrev pub slot_changes : ℕ → Slot → List ℕ
@@ -185,27 +196,35 @@ slot_changes number s =
     ++ (number_change 16 1 s.table
     ++ (number_change 16 2 s.entry
     ++ (header_change s.header
-    ++ number_change 4 4 (seen_number (seen s)))))
+    ++ number_change 4 4 (seen_number (seen_of s)))))
 
 -- the signals of a frame that was seen good, in the order of its places
 abbrev pub place_change : Parts → List ℕ → ℕ × Place → List ℕ
-place_change c answer p = heard_change c p.0 (unpacked p.1 (take 8 answer))
+place_change c answer p = heard_change c p.0 (unpacked_value p.1 (take 8 answer))
 
 abbrev pub frame_changes : Parts → ℕ → List ℕ → List ℕ
-frame_changes c f answer = flat_map (place_change c answer) (zip (frame_of c f).signals (frame_of c f).layout.places)
+frame_changes c f answer =
+    flat_map (place_change c answer) (zip (frame_of c f).signals (frame_of c f).layout.places)
 
 abbrev pub heard_group : Parts → ℕ → Slot → List Group
 heard_group c end s =
-    choose (good s) [] (λ answer. choose (carried c s) [] (λ f. record { at = end; changes = frame_changes c f answer } ∷ []))
+    option_map_or
+    (λ answer. option_map_or
+    (λ f. record { at = end; changes = frame_changes c f answer } ∷ []) (carried_frame c s) [])
+    (good s) []
 
 abbrev pub slot_groups : Parts → ℕ → ℕ → ℕ → Slot → List Group
-slot_groups c number at end s = record { at = at; changes = slot_changes number s } ∷ heard_group c end s
+slot_groups c number at end s =
+    record { at = at; changes = slot_changes number s } ∷ heard_group c end s
 
--- what a step that was done changes by itself: a write of a signal, a slot at its start and what is heard at its end, a wake
+-- what a step that was done changes by itself: a write of a signal, a slot at its start and what is
+-- heard at its end, a wake
 abbrev pub step_groups : Parts → List LogEntry → ℕ → Step → List Group
 step_groups c past end (Write by signal value) =
-    if nat_lt signal (length c.signals) then record { at = time c past; changes = written_change c signal value } ∷ [] else []
-step_groups c past end Finish = choose (open_slot past) [] (slot_groups c (slots_in past) (time c past) end)
+    if nat_lt signal (length c.signals)
+    then record { at = time c past; changes = written_change c signal value } ∷ [] else []
+step_groups c past end Finish =
+    option_map_or (slot_groups c (slots_in past) (time c past) end) (open_slot past) []
 step_groups c past end Wake = record { at = time c past; changes = number_change 1 5 0 } ∷ []
 step_groups c past end step = []
 
@@ -222,7 +241,8 @@ event_group c at count event = []
 
 abbrev pub groups : Parts → LogEntry → List LogEntry → List Group
 groups c e past =
-    choose (done e) [] (step_groups c past (time c (e ∷ past))) ++ flat_map (event_group c (time c (e ∷ past)) (waits (e ∷ past))) (events e)
+    option_map_or (step_groups c past (time c (e ∷ past))) (done e) []
+    ++ flat_map (event_group c (time c (e ∷ past)) (waits (e ∷ past))) (events e)
 
 -- the last time that stands in the text
 abbrev pub shown_at : Parts → List LogEntry → ℕ
@@ -230,7 +250,7 @@ shown_at c [] = 0
 shown_at c (e ∷ past) = latest (shown_at c past) (groups c e past)
 
 abbrev pub entry_changes : Parts → LogEntry → List LogEntry → List ℕ
-entry_changes c e past = timed (shown_at c past) (groups c e past)
+entry_changes c e past = timed_groups (shown_at c past) (groups c e past)
 
 -- the changes of a log, the oldest entry first, and the time of its end
 abbrev pub last_time : Parts → List LogEntry → List ℕ

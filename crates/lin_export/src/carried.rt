@@ -2,13 +2,14 @@
 
 ghost use Rattle.std.specs.Prelude.{◌≡◌, ◌==◌, ◌<◌, ◌≤◌, All, find, length};
 ghost use Rattle.std.specs.List.{list_any};
-ghost use Rattle.lin_parts.specs.Cluster.{frame_of, line_of};
-ghost use Rattle.lin_parts.specs.Rules.{IsEntry};
+ghost use Rattle.lin_cluster_parts.specs.Cluster.{frame_of, line_of};
+ghost use Rattle.lin_cluster_parts.specs.Rules.{IsEntry};
 
+use lin_cluster_parts::{Cluster, Entry, Line};
 use lin_frame::Answer;
-use lin_parts::{Cluster, Entry, Line};
 
-/// The entry of a table with its delay; a configuration entry of 1 microsecond where the cluster has none there.
+/// The entry of a table with its delay; a configuration entry of 1 microsecond where the cluster
+/// has none there.
 pub(crate) fn line_at(cluster: &Cluster, table: u16, entry: u16) -> Line
     ensures line { result ≡ line_of cluster.now table entry }
     ensures there { IsEntry cluster.now result.entry }
@@ -38,7 +39,9 @@ fn has_put(puts: &[(u8, Answer)], node: u8) -> bool
 /// The first of these frames whose publisher put a response.
 pub(crate) fn frame_put(cluster: &Cluster, frames: &[u16], puts: &[(u8, Answer)]) -> Option<u16>
     requires { All (λ f. f < length cluster.now.frames) frames.now }
-    ensures { result ≡ find (λ f. list_any (λ put. put.0 == (frame_of cluster.now f).publisher) puts.now) frames.now }
+    ensures { result
+        ≡ find (λ f. list_any (λ put. put.0 == (frame_of cluster.now f).publisher) puts.now)
+        frames.now }
 {
     frames
         .iter()

@@ -1,13 +1,15 @@
 //! Changes of values, as lines (IEEE 1364-2005, section 18).
 
 ghost use Rattle.std.specs.Prelude.{◌≡◌, ◌≤◌, ◌<◌, ◌*◌, length, flat_map};
-ghost use Rattle.lin_parts.specs.Cluster.{signal_of};
+ghost use Rattle.lin_cluster_parts.specs.Cluster.{signal_of};
 ghost use Rattle.lin_text.specs.Written.{Grows};
-ghost use Rattle.lin_export.specs.Vcd.{before_code, binary, change, code, digits, heard_change, heard_number, number_change, unknown, waiting_change, waiting_number, written_change, written_number};
+ghost use Rattle.lin_export.specs.Vcd.{before_code, binary, change, code, digits, heard_change};
+ghost use Rattle.lin_export.specs.Vcd.{heard_number, number_change, unknown, waiting_change};
+ghost use Rattle.lin_export.specs.Vcd.{waiting_number, written_change, written_number};
 
 use arrayvec::ArrayVec;
+use lin_cluster_parts::Cluster;
 use lin_frame::Value;
-use lin_parts::Cluster;
 use lin_text::TextWriter;
 use std::io::Write;
 

@@ -1,11 +1,13 @@
 //! Logs as lines of values between commas.
 
 ghost use Rattle.std.specs.Prelude.{◌≡◌, ℕ, [], length, flat_map, map};
-ghost use Rattle.lin_core.specs.Signals.{heard, ArePointwise};
+ghost use Rattle.lin_core.specs.Signals.{heard_value, ArePointwise};
 ghost use Rattle.lin_frame.specs.declared.value.Value.{Value};
 ghost use Rattle.lin_text.specs.Written.{Grows, WritesText};
-ghost use Rattle.lin_export.specs.Cells.{shown};
-ghost use Rattle.lin_export.specs.Csv.{comma, csv, head_line, hex_cell, kind_cell, node_name, nodes_cell, response_cells, row, schedule_cells, seen_cell, slot_line, spaced_name, value_cell};
+ghost use Rattle.lin_export.specs.Cells.{cell_text};
+ghost use Rattle.lin_export.specs.Csv.{comma, csv, head_line, hex_cell, kind_cell, node_name};
+ghost use Rattle.lin_export.specs.Csv.{nodes_cell, response_cells, row, schedule_cells, seen_cell};
+ghost use Rattle.lin_export.specs.Csv.{slot_line, spaced_name, value_cell};
 ghost use Rattle.lin_export.specs.Look.{looks};
 ghost use Rattle.lin_export.specs.Open.{slot_in};
 
@@ -15,10 +17,10 @@ use crate::hearing::hear_slot;
 use crate::naming::{node_name, slot_name, table_name};
 use crate::slot::{Look, OpenSlot, byte_at};
 use crate::track::Track;
+use lin_cluster_parts::{Cluster, Entry};
 use lin_core::{Log, LogEntry, Reply, Step, initial_values};
 use lin_frame::{Answer, Value};
 use lin_names::Names;
-use lin_parts::{Cluster, Entry};
 use lin_text::TextWriter;
 use std::alloc::Global;
 use std::io::Write;
@@ -32,7 +34,7 @@ enum Cell<'a> {
     Hex(&'a [u8]),
 }
 
-/// Puts two digits for each byte, behind `0x`.
+/// Puts two digits for each byte, after `0x`.
 fn put_hex<W: Write>(out: &mut TextWriter<'_, W>, bytes: &[u8])
     ensures { Grows W.contents out.old out.new (hex_cell bytes.now) }
 {
@@ -41,7 +43,7 @@ fn put_hex<W: Write>(out: &mut TextWriter<'_, W>, bytes: &[u8])
 }
 
 fn put_cell<W: Write>(out: &mut TextWriter<'_, W>, cell: Cell<'_>)
-    ensures { Grows W.contents out.old out.new (shown cell.entry) }
+    ensures { Grows W.contents out.old out.new (cell_text cell.entry) }
 {
     match cell {
         Cell::Text(text) => out.put(text),
@@ -53,14 +55,14 @@ fn put_cell<W: Write>(out: &mut TextWriter<'_, W>, cell: Cell<'_>)
 }
 
 fn put_next<W: Write>(out: &mut TextWriter<'_, W>, cell: Cell<'_>)
-    ensures { Grows W.contents out.old out.new (comma (shown cell.entry)) }
+    ensures { Grows W.contents out.old out.new (comma (cell_text cell.entry)) }
 {
     out.put_byte(b',');
     put_cell(out, cell);
 }
 
 fn put_cells<W: Write>(out: &mut TextWriter<'_, W>, cells: &[Cell<'_>])
-    ensures { Grows W.contents out.old out.new (flat_map comma (map shown cells.now)) }
+    ensures { Grows W.contents out.old out.new (flat_map comma (map cell_text cells.now)) }
 {
     for cell in cells {
         put_next(out, *cell);
@@ -77,7 +79,8 @@ fn put_value<W: Write>(out: &mut TextWriter<'_, W>, value: &Value)
 }
 
 fn put_values<W: Write>(out: &mut TextWriter<'_, W>, values: &[Value])
-    ensures { Grows W.contents out.old out.new (flat_map (λ value. comma (value_cell value)) values.now) }
+    ensures { Grows W.contents out.old out.new
+        (flat_map (λ value. comma (value_cell value)) values.now) }
 {
     for value in values {
         put_value(out, value);
@@ -85,7 +88,8 @@ fn put_values<W: Write>(out: &mut TextWriter<'_, W>, values: &[Value])
 }
 
 fn put_signal_names<W: Write>(out: &mut TextWriter<'_, W>, cluster: &Cluster)
-    ensures { Grows W.contents out.old out.new (flat_map comma (map (λ s. s.name) cluster.now.signals)) }
+    ensures { Grows W.contents out.old out.new
+        (flat_map comma (map (λ s. s.name) cluster.now.signals)) }
 {
     for signal in 0..cluster.signals() as u16 {
         put_next(out, Cell::Text(cluster.signal_name(signal)));
@@ -134,7 +138,8 @@ fn put_schedule<'a, W: Write>(
     at: u64,
     slot: &OpenSlot,
 )
-    ensures { Grows W.contents out.old out.new (flat_map comma (schedule_cells cluster.now names.now at (slot_in slot.now))) }
+    ensures { Grows W.contents out.old out.new
+        (flat_map comma (schedule_cells cluster.now names.now at (slot_in slot.now))) }
 {
     let line = slot.line(cluster);
     put_cells(
@@ -185,7 +190,8 @@ fn put_nodes<W: Write>(out: &mut TextWriter<'_, W>, cluster: &Cluster, puts: &[(
 
 /// How a slot was seen, with the response of a good one.
 fn put_response<W: Write>(out: &mut TextWriter<'_, W>, look: Look<'_>)
-    ensures { Grows W.contents out.old out.new (flat_map comma (response_cells (looks look.entry))) }
+    ensures { Grows W.contents out.old out.new
+        (flat_map comma (response_cells (looks look.entry))) }
 {
     let seen = Cell::Text(seen_of(look).as_bytes());
     match look {
@@ -212,7 +218,9 @@ fn put_line<'a, W: Write>(
     values: &[Value],
 )
     requires { length values.now ≡ length cluster.now.signals }
-    ensures { (g : ℕ → Value) → ArePointwise g values.now → Grows W.contents out.old out.new (slot_line cluster.now names.now track.now.slots track.now.time (slot_in slot.now) g) }
+    ensures { (g : ℕ → Value) → ArePointwise g values.now
+        → Grows W.contents out.old out.new
+        (slot_line cluster.now names.now track.now.slots track.now.time (slot_in slot.now) g) }
 {
     put_cell(out, Cell::Number(track.slots()));
     put_schedule(out, cluster, names, track.time(), slot);
@@ -238,7 +246,7 @@ impl Format for Sheet<'_> {
 
     ghost fits = { λ f c. length f.values.items ≡ length c.signals };
 
-    ghost keeps = { λ f c past. ArePointwise (heard c past) f.values.items };
+    ghost keeps = { λ f c past. ArePointwise (heard_value c past) f.values.items };
 
     fn put_head<W: Write>(&self, out: &mut TextWriter<'_, W>, cluster: &Cluster) {
         put_head(out, cluster);
@@ -273,16 +281,18 @@ impl Format for Sheet<'_> {
     fn put_end<W: Write>(&self, _out: &mut TextWriter<'_, W>, _cluster: &Cluster, _track: &Track) {}
 }
 
-/// Writes the table of a log: a line with the names of the columns, and one per finished slot, with its number from 0, its times in
-/// microseconds, its entry, its response, and the values of all signals that are heard behind it (RFC 4180, with LF alone).
+/// Writes the table of a log: a line with the names of the columns, and one per finished slot, with
+/// its number from 0, its times in microseconds, its entry, its response, and the values of all
+/// signals that are heard after it (RFC 4180, with LF alone).
 ///
-/// It goes through a buffer of fixed size, and takes memory for a value of each signal and for the responses of one slot. The writer isn't
-/// flushed.
+/// It goes through a buffer of fixed size, and takes memory for a value of each signal and for the
+/// responses of one slot. The writer isn't flushed.
 ///
 /// # Errors
 /// What was written then is the beginning of the table.
 /// - `OutOfMemory`;
-/// - `WriteFailed` at the first error of the writer, an interrupted write too, and at the first write of 0 bytes.
+/// - `WriteFailed` at the first error of the writer, an interrupted write too, and at the first
+///   write of 0 bytes.
 pub fn write_csv<W: Write>(
     alloc: Global,
     cluster: &Cluster,
@@ -290,7 +300,8 @@ pub fn write_csv<W: Write>(
     log: &Log,
     writer: &mut W,
 ) -> Result<(), ExportFault>
-    ensures { WritesText (W.contents writer.old) (W.contents writer.new) result (csv cluster.now names.now log.now.entries) }
+    ensures { WritesText (W.contents writer.old) (W.contents writer.new) result
+        (csv cluster.now names.now log.now.entries) }
 {
     let values = initial_values(alloc, cluster)?;
     write_as(&mut Sheet { names, values }, alloc, cluster, log, writer)

@@ -3,7 +3,7 @@
 
 ghost use Rattle.std.specs.Prelude.{◌≡◌, ◌∷◌, ◌++◌, ◌<◌, ◌^◌, ℕ, [], Bool, true, List, reverse};
 ghost use Rattle.lin_core.specs.declared.log.LogEntry.{LogEntry};
-ghost use Rattle.lin_parts.specs.declared.parts.Parts.{Parts};
+ghost use Rattle.lin_cluster_parts.specs.declared.parts.Parts.{Parts};
 ghost use Rattle.lin_text.specs.Written.{Grows, WritesText};
 ghost use Rattle.lin_export.specs.Putting.{OfText, PutsAll};
 ghost use Rattle.lin_export.specs.Telling.{each_entry};
@@ -11,14 +11,14 @@ ghost use Rattle.lin_export.specs.Track.{track_of};
 
 use crate::fault::ExportFault;
 use crate::track::Track;
+use lin_cluster_parts::Cluster;
 use lin_core::{Log, LogEntry};
-use lin_parts::Cluster;
 use lin_text::TextWriter;
 use std::alloc::{AllocError, Global};
 use std::io::Write;
 
-/// A format: what it keeps of the entries that were read, and what it puts. Where no definition says
-/// its text, it isn't exact.
+/// A format: what it keeps of the entries that were read, and what it puts. Where no definition
+/// says its text, it isn't exact.
 pub(crate) trait Format {
     ghost exact: { Bool } = { true };
 
@@ -49,12 +49,18 @@ pub(crate) trait Format {
         ensures fits { fits self.new cluster.now }
         ensures says { says self.new ≡ says self.old }
         ensures ends { ends self.new ≡ ends self.old }
-        ensures keeps { (past : List LogEntry) → track.now ≡ track_of cluster.now past → keeps self.old cluster.now past → keeps self.new cluster.now (entry.now ∷ past) }
-        ensures text { (past : List LogEntry) → track.now ≡ track_of cluster.now past → keeps self.old cluster.now past → OfText exact (Grows W.contents out.old out.new) (says self.old cluster.now entry.now past) };
+        ensures keeps { (past : List LogEntry) → track.now ≡ track_of cluster.now past
+            → keeps self.old cluster.now past → keeps self.new cluster.now (entry.now ∷ past) }
+        ensures text { (past : List LogEntry) → track.now ≡ track_of cluster.now past
+            → keeps self.old cluster.now past
+            → OfText exact (Grows W.contents out.old out.new)
+            (says self.old cluster.now entry.now past) };
 
     /// Puts what stands after the entries.
     fn put_end<W: Write>(&self, out: &mut TextWriter<'_, W>, cluster: &Cluster, track: &Track)
-        ensures { (past : List LogEntry) → track.now ≡ track_of cluster.now past → keeps self.now cluster.now past → OfText exact (Grows W.contents out.old out.new) (ends self.now cluster.now past) };
+        ensures { (past : List LogEntry) → track.now ≡ track_of cluster.now past
+            → keeps self.now cluster.now past
+            → OfText exact (Grows W.contents out.old out.new) (ends self.now cluster.now past) };
 }
 
 /// Puts the entries of a log, and what stands after them. The error is that it is out of memory.
@@ -67,7 +73,9 @@ fn put_entries<F: Format, W: Write>(
 ) -> Result<(), AllocError>
     requires fits { F.fits format.old cluster.now }
     requires keeps { F.keeps format.old cluster.now [] }
-    ensures { OfText F.exact (PutsAll W.contents out.old out.new result) (each_entry (F.says format.old cluster.now) [] log.now.entries ++ F.ends format.old cluster.now (reverse log.now.entries)) }
+    ensures { OfText F.exact (PutsAll W.contents out.old out.new result)
+        (each_entry (F.says format.old cluster.now) [] log.now.entries
+        ++ F.ends format.old cluster.now (reverse log.now.entries)) }
 {
     let mut track = Track::new(alloc);
     for index in 0..log.len() {
@@ -81,12 +89,14 @@ fn put_entries<F: Format, W: Write>(
 
 /// Writes a log in a format.
 ///
-/// It goes through a buffer of fixed size, and takes memory for the responses of one slot. The writer isn't flushed.
+/// It goes through a buffer of fixed size, and takes memory for the responses of one slot. The
+/// writer isn't flushed.
 ///
 /// # Errors
 /// What was written then is the beginning of the text.
 /// - `OutOfMemory`;
-/// - `WriteFailed` at the first error of the writer, an interrupted write too, and at the first write of 0 bytes.
+/// - `WriteFailed` at the first error of the writer, an interrupted write too, and at the first
+///   write of 0 bytes.
 pub(crate) fn write_as<F: Format, W: Write>(
     format: &mut F,
     alloc: Global,
@@ -96,7 +106,10 @@ pub(crate) fn write_as<F: Format, W: Write>(
 ) -> Result<(), ExportFault>
     requires fits { F.fits format.old cluster.now }
     requires keeps { F.keeps format.old cluster.now [] }
-    ensures { OfText F.exact (WritesText (W.contents writer.old) (W.contents writer.new) result) (F.begins format.old cluster.now ++ (each_entry (F.says format.old cluster.now) [] log.now.entries ++ F.ends format.old cluster.now (reverse log.now.entries))) }
+    ensures { OfText F.exact (WritesText (W.contents writer.old) (W.contents writer.new) result)
+        (F.begins format.old cluster.now
+        ++ (each_entry (F.says format.old cluster.now) [] log.now.entries
+        ++ F.ends format.old cluster.now (reverse log.now.entries))) }
 {
     let mut out = TextWriter::new(writer);
     format.put_head(&mut out, cluster);

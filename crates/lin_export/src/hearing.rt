@@ -1,21 +1,23 @@
 //! The values of signals that the nodes hear, entry by entry (ISO 17987-3, signals).
 
 ghost use Rattle.std.specs.Prelude.{◌≡◌, ℕ, length};
-ghost use Rattle.lin_frame.specs.Words.{choose};
+ghost use Rattle.std.specs.Option.{unwrap_or};
 ghost use Rattle.lin_frame.specs.declared.value.Value.{Value};
 ghost use Rattle.lin_core.specs.Signals.{ArePointwise, value_in};
 ghost use Rattle.lin_export.specs.Open.{slot_in};
 
 use crate::slot::{Look, OpenSlot};
+use lin_cluster_parts::Cluster;
 use lin_core::hear_frame;
 use lin_frame::Value;
-use lin_parts::Cluster;
 
 /// The nodes hear what a slot carries, where it is seen good.
 pub(crate) fn hear_slot(heard: &mut Vec<Value>, cluster: &Cluster, slot: &OpenSlot)
     requires { length heard.old.items ≡ length cluster.now.signals }
     ensures count { length heard.new.items ≡ length heard.old.items }
-    ensures heard { (g : ℕ → Value) → ArePointwise g heard.old.items → ArePointwise (λ s. choose (value_in cluster.now (slot_in slot.now) s) (g s) (λ v. v)) heard.new.items }
+    ensures heard { (g : ℕ → Value) → ArePointwise g heard.old.items
+        → ArePointwise
+        (λ s. unwrap_or (value_in cluster.now (slot_in slot.now) s) (g s)) heard.new.items }
 {
     let Look::Good(answer) = slot.look() else {
         return;

@@ -1,14 +1,19 @@
 //! Logs with names.
 
-ghost use Rattle.std.specs.Prelude.{◌≡◌, ◌∷◌, ◌<◌, ◌==◌, ⊤, false, [], codes, flat_map, map, nat_lt, if◌then◌else◌, option_map, length, zip};
+ghost use Rattle.std.specs.Prelude.{◌≡◌, ◌∷◌, ◌<◌, ◌==◌, ⊤, false, [], codes, flat_map, map};
+ghost use Rattle.std.specs.Prelude.{nat_lt, if◌then◌else◌, option_map, length, zip};
 ghost use Rattle.std.specs.Fmt.{decimal};
 ghost use Rattle.std.specs.Option.{option_to_list};
-ghost use Rattle.lin_frame.specs.Words.{choose};
-ghost use Rattle.lin_parts.specs.Cluster.{frame_of, nad, node_of, nodes};
-ghost use Rattle.lin_parts.specs.Rules.{IsEntry};
-ghost use Rattle.lin_log.specs.Words.{cause_word, direction_word, header_word, refusal_number, reply_line, seen_words, spaced};
+ghost use Rattle.lin_cluster_parts.specs.Cluster.{frame_of, nad, node_of, nodes};
+ghost use Rattle.lin_cluster_parts.specs.Rules.{IsEntry};
+ghost use Rattle.lin_log.specs.Words.{cause_word, direction_word, header_word, refusal_number};
+ghost use Rattle.lin_log.specs.Words.{reply_line, seen_words, spaced_word};
 ghost use Rattle.lin_text.specs.Written.{Grows, WritesText};
-ghost use Rattle.lin_export.specs.Named.{behind, control_words, event_lines, frame_words, good_line, named, named_entry, named_event, named_port, named_step, refusal_name, signal_words, slot_words, sporadic_frame, time_line, transport_line, transport_words, who_word};
+ghost use Rattle.lin_export.specs.Named.{behind, control_words, event_lines, frame_words};
+ghost use Rattle.lin_export.specs.Named.{good_line, named_log, named_entry, named_event};
+ghost use Rattle.lin_export.specs.Named.{named_port, named_step, refusal_name, signal_words};
+ghost use Rattle.lin_export.specs.Named.{slot_words, sporadic_frame, time_line, transport_line};
+ghost use Rattle.lin_export.specs.Named.{transport_words, who_word};
 ghost use Rattle.lin_export.specs.NamedWords.{word_shown};
 ghost use Rattle.lin_export.specs.Open.{slot_in};
 ghost use Rattle.lin_export.specs.Shown.{frame_name};
@@ -20,20 +25,22 @@ use crate::naming::{entry_name, node_name};
 use crate::slot::{OpenSlot, byte_at};
 use crate::track::Track;
 use crate::words::{Word, node_word, put_reply, put_words, signal_word, table_word, value_word};
+use lin_cluster_parts::{Cluster, Entry};
 use lin_core::{
     Cause, Direction, Event, Log, LogEntry, PortId, Refusal, Reply, Seen, Step, frame_under,
     node_with,
 };
 use lin_frame::{Answer, unpack};
 use lin_names::Names;
-use lin_parts::{Cluster, Entry};
 use lin_text::TextWriter;
 use std::alloc::Global;
 use std::io::Write;
 
-/// A letter and a node: behind a colon its name, or its number where it is none's.
+/// A letter and a node: after a colon its name, or its number where it is none's.
 fn put_lettered<W: Write>(out: &mut TextWriter<'_, W>, cluster: &Cluster, letter: u8, node: u8)
-    ensures { Grows W.contents out.old out.new (if nat_lt node (nodes cluster.now) then letter ∷ 58 ∷ (node_of cluster.now node).name else letter ∷ decimal node) }
+    ensures { Grows W.contents out.old out.new
+        (if nat_lt node (nodes cluster.now) then letter ∷ 58 ∷ (node_of cluster.now node).name
+        else letter ∷ decimal node) }
 {
     out.put_byte(letter);
     if (node as usize) < cluster.nodes() {
@@ -68,7 +75,8 @@ pub(crate) fn put_step<'a, W: Write>(
     cluster: &'a Cluster,
     step: &'a Step,
 )
-    ensures { Grows W.contents out.old out.new (flat_map spaced (named_step cluster.now step.now)) }
+    ensures { Grows W.contents out.old out.new
+        (flat_map spaced_word (named_step cluster.now step.now)) }
 {
     match step {
         Step::Send { from, to, message } => put_words(
@@ -138,7 +146,8 @@ fn sporadic_frame(cluster: &Cluster, entry: Entry, header: Option<u8>) -> Option
 
 /// The name of a member, where there is one.
 fn put_member<W: Write>(out: &mut TextWriter<'_, W>, names: &Names, member: Option<u16>)
-    ensures { Grows W.contents out.old out.new (flat_map spaced (map (frame_name names.now) (option_to_list member))) }
+    ensures { Grows W.contents out.old out.new
+        (flat_map spaced_word (map (frame_name names.now) (option_to_list member))) }
 {
     if let Some(frame) = member {
         put_words(out, &[Word::Name(names.frame_name(frame))]);
@@ -154,7 +163,8 @@ fn put_slot<'a, W: Write>(
     number: u16,
     header: Option<u8>,
 )
-    ensures { Grows W.contents out.old out.new (reply_line (slot_words cluster.now names.now table number header)) }
+    ensures { Grows W.contents out.old out.new
+        (reply_line (slot_words cluster.now names.now table number header)) }
 {
     let entry = line_at(cluster, table, number).entry;
     out.put_byte(b'>');
@@ -207,7 +217,8 @@ pub(crate) fn put_event<'a, W: Write>(
     names: &'a Names,
     event: &'a Event,
 )
-    ensures { Grows W.contents out.old out.new (reply_line (named_event cluster.now names.now event.now)) }
+    ensures { Grows W.contents out.old out.new
+        (reply_line (named_event cluster.now names.now event.now)) }
 {
     match event {
         Event::Accepted { host, number } => put_reply(
@@ -275,7 +286,10 @@ fn put_signals<W: Write>(
     answer: &Answer,
 )
     requires { frame < length cluster.now.frames }
-    ensures { Grows W.contents out.old out.new (flat_map spaced (flat_map (signal_words cluster.now answer.now) (zip (frame_of cluster.now frame).signals (frame_of cluster.now frame).layout.places))) }
+    ensures { Grows W.contents out.old out.new
+        (flat_map spaced_word
+        (flat_map (signal_words cluster.now answer.now)
+        (zip (frame_of cluster.now frame).signals (frame_of cluster.now frame).layout.places))) }
 {
     cluster.sound();
     let data = answer.data();
@@ -297,7 +311,8 @@ fn put_frame<W: Write>(
     answer: &Answer,
 )
     requires { frame < length cluster.now.frames }
-    ensures { Grows W.contents out.old out.new (reply_line (frame_words cluster.now names.now frame answer.now)) }
+    ensures { Grows W.contents out.old out.new
+        (reply_line (frame_words cluster.now names.now frame answer.now)) }
 {
     out.put_byte(b'>');
     put_words(
@@ -341,7 +356,8 @@ fn put_transport<'a, W: Write>(
     way: &'a str,
     answer: &[u8],
 )
-    ensures { Grows W.contents out.old out.new (reply_line (transport_words cluster.now way.now answer.now)) }
+    ensures { Grows W.contents out.old out.new
+        (reply_line (transport_words cluster.now way.now answer.now)) }
 {
     let who = who_word(cluster, byte_at(answer, 0));
     let (kind, number) = control_words(byte_at(answer, 1), byte_at(answer, 2));
@@ -377,7 +393,8 @@ fn put_good<W: Write>(
     slot: &OpenSlot,
     answer: &Answer,
 )
-    ensures { Grows W.contents out.old out.new (good_line cluster.now names.now answer.now (slot_in slot.now)) }
+    ensures { Grows W.contents out.old out.new
+        (good_line cluster.now names.now answer.now (slot_in slot.now)) }
 {
     match slot.frame(cluster) {
         Some(frame) => put_frame(out, cluster, names, frame, answer),
@@ -385,7 +402,7 @@ fn put_good<W: Write>(
     }
 }
 
-/// What stands behind an event.
+/// What stands after an event.
 fn put_behind<W: Write>(
     out: &mut TextWriter<'_, W>,
     cluster: &Cluster,
@@ -393,7 +410,8 @@ fn put_behind<W: Write>(
     slot: &Option<OpenSlot>,
     event: &Event,
 )
-    ensures { Grows W.contents out.old out.new (behind cluster.now names.now (option_map slot_in slot.now) event.now) }
+    ensures { Grows W.contents out.old out.new
+        (behind cluster.now names.now (option_map slot_in slot.now) event.now) }
 {
     if let Event::Seen(Seen::Good(answer)) = event
         && let Some(slot) = slot
@@ -409,7 +427,8 @@ fn put_lines<W: Write>(
     slot: &Option<OpenSlot>,
     event: &Event,
 )
-    ensures { Grows W.contents out.old out.new (event_lines cluster.now names.now (option_map slot_in slot.now) event.now) }
+    ensures { Grows W.contents out.old out.new
+        (event_lines cluster.now names.now (option_map slot_in slot.now) event.now) }
 {
     put_event(out, cluster, names, event);
     put_behind(out, cluster, names, slot, event);
@@ -422,7 +441,8 @@ fn put_events<W: Write>(
     slot: &Option<OpenSlot>,
     events: &[Event],
 )
-    ensures { Grows W.contents out.old out.new (flat_map (event_lines cluster.now names.now (option_map slot_in slot.now)) events.now) }
+    ensures { Grows W.contents out.old out.new
+        (flat_map (event_lines cluster.now names.now (option_map slot_in slot.now)) events.now) }
 {
     for event in events {
         put_lines(out, cluster, names, slot, event);
@@ -458,7 +478,9 @@ pub(crate) fn refusal_words(refusal: Refusal) -> (u64, &'static str)
 
 /// The line of a refusal.
 fn put_refusal<W: Write>(out: &mut TextWriter<'_, W>, refusal: Refusal)
-    ensures { Grows W.contents out.old out.new (reply_line (codes "refused" ∷ decimal (refusal_number refusal) ∷ refusal_name refusal ∷ [])) }
+    ensures { Grows W.contents out.old out.new
+        (reply_line
+        (codes "refused" ∷ decimal (refusal_number refusal) ∷ refusal_name refusal ∷ [])) }
 {
     let (number, name) = refusal_words(refusal);
     put_reply(
@@ -471,7 +493,7 @@ fn put_refusal<W: Write>(out: &mut TextWriter<'_, W>, refusal: Refusal)
     );
 }
 
-/// Behind the lines of a finish, the time.
+/// After the lines of a finish, the time.
 fn put_time<W: Write>(out: &mut TextWriter<'_, W>, step: &Step, time: u64)
     ensures { Grows W.contents out.old out.new (time_line step.now time) }
 {
@@ -521,15 +543,17 @@ impl Format for NamedLog<'_> {
     fn put_end<W: Write>(&self, _out: &mut TextWriter<'_, W>, _cluster: &Cluster, _track: &Track) {}
 }
 
-/// Writes the log with names: its text, in which numbers of nodes, signals and tables are names, and what frames and slots mean on lines of
-/// its own, so that it says the same steps.
+/// Writes the log with names: its text, in which numbers of nodes, signals and tables are names,
+/// and what frames and slots mean on lines of its own, so that it says the same steps.
 ///
-/// It goes through a buffer of fixed size, and takes memory for the responses of one slot. The writer isn't flushed.
+/// It goes through a buffer of fixed size, and takes memory for the responses of one slot. The
+/// writer isn't flushed.
 ///
 /// # Errors
 /// What was written then is the beginning of the text.
 /// - `OutOfMemory`;
-/// - `WriteFailed` at the first error of the writer, an interrupted write too, and at the first write of 0 bytes.
+/// - `WriteFailed` at the first error of the writer, an interrupted write too, and at the first
+///   write of 0 bytes.
 pub fn write_named<W: Write>(
     alloc: Global,
     cluster: &Cluster,
@@ -537,7 +561,8 @@ pub fn write_named<W: Write>(
     log: &Log,
     writer: &mut W,
 ) -> Result<(), ExportFault>
-    ensures { WritesText (W.contents writer.old) (W.contents writer.new) result (named cluster.now names.now log.now.entries) }
+    ensures { WritesText (W.contents writer.old) (W.contents writer.new) result
+        (named_log cluster.now names.now log.now.entries) }
 {
     write_as(&mut NamedLog { names }, alloc, cluster, log, writer)
 }

@@ -4,16 +4,18 @@ ghost use Rattle.std.specs.Prelude.{◌≡◌, ◌≤◌, ◌<◌, ◌^◌, ⊤,
 ghost use Rattle.lin_text.specs.Written.{Grows, WritesText};
 ghost use Rattle.lin_export.specs.Look.{looks};
 ghost use Rattle.lin_export.specs.Open.{slot_in};
-ghost use Rattle.lin_export.specs.Pcap.{bus_event, file_header, finish_packets, frame_body, model_number, packet, packets, pcap, seen_packet, slot_packet, word};
+ghost use Rattle.lin_export.specs.Pcap.{bus_event, file_header, finish_packets, frame_body};
+ghost use Rattle.lin_export.specs.Pcap.{model_number, packet, packets, pcap, seen_packet};
+ghost use Rattle.lin_export.specs.Pcap.{slot_packet, word};
 
 use crate::fault::ExportFault;
 use crate::format::{Format, write_as};
 use crate::slot::{Look, OpenSlot, byte_at};
 use crate::track::Track;
 use arrayvec::ArrayVec;
+use lin_cluster_parts::Cluster;
 use lin_core::{Log, LogEntry, Reply, Step, model_under};
 use lin_frame::SumKind;
-use lin_parts::Cluster;
 use lin_text::TextWriter;
 use std::alloc::Global;
 use std::io::Write;
@@ -198,22 +200,26 @@ impl Format for Capture {
     fn put_end<W: Write>(&self, _out: &mut TextWriter<'_, W>, _cluster: &Cluster, _track: &Track) {}
 }
 
-/// Writes the capture of a log: per finished slot with a header a packet at its start, with the response where it was seen good; one at the
-/// end of a slot that puts the cluster to sleep; and one per wake-up (pcap, link type 212, LINKTYPE_LIN).
+/// Writes the capture of a log: per finished slot with a header a packet at its start, with the
+/// response where it was seen good; one at the end of a slot that puts the cluster to sleep; and
+/// one per wake-up (pcap, link type 212, LINKTYPE_LIN).
 ///
-/// It goes through a buffer of fixed size, and takes memory for the responses of one slot. The writer isn't flushed.
+/// It goes through a buffer of fixed size, and takes memory for the responses of one slot. The
+/// writer isn't flushed.
 ///
 /// # Errors
 /// What was written then is the beginning of the capture.
 /// - `OutOfMemory`;
-/// - `WriteFailed` at the first error of the writer, an interrupted write too, and at the first write of 0 bytes.
+/// - `WriteFailed` at the first error of the writer, an interrupted write too, and at the first
+///   write of 0 bytes.
 pub fn write_pcap<W: Write>(
     alloc: Global,
     cluster: &Cluster,
     log: &Log,
     writer: &mut W,
 ) -> Result<(), ExportFault>
-    ensures { WritesText (W.contents writer.old) (W.contents writer.new) result (pcap cluster.now log.now.entries) }
+    ensures { WritesText (W.contents writer.old) (W.contents writer.new) result
+        (pcap cluster.now log.now.entries) }
 {
     write_as(&mut Capture, alloc, cluster, log, writer)
 }

@@ -1,22 +1,24 @@
 //! The slot that is open at a place in a log.
 
 ghost use Rattle.std.specs.Prelude.{◌≡◌, ◌≤◌, ◌<◌, is_some, length, slice_index, IfSome, OnOk};
-ghost use Rattle.lin_parts.specs.Cluster.{line_of};
-ghost use Rattle.lin_parts.specs.Rules.{IsEntry};
-ghost use Rattle.lin_core.specs.History.{good, hurt, is_sleep_slot, no_slot, seen, told, told_all};
-ghost use Rattle.lin_core.specs.Signals.{carried};
+ghost use Rattle.lin_cluster_parts.specs.Cluster.{line_of};
+ghost use Rattle.lin_cluster_parts.specs.Rules.{IsEntry};
+ghost use Rattle.lin_core.specs.History.{good, slot_after_hurt, is_sleep_slot, no_slot, seen_of};
+ghost use Rattle.lin_core.specs.History.{slot_after_event, slot_after_events};
+ghost use Rattle.lin_core.specs.Signals.{carried_frame};
 ghost use Rattle.lin_export.specs.Look.{looks};
 ghost use Rattle.lin_export.specs.Open.{slot_in};
 ghost use Rattle.lin_export.specs.Shown.{slot_frame};
-ghost use Rattle.lin_export.specs.Track.{shown};
+ghost use Rattle.lin_export.specs.Track.{shown_slot};
 
 use crate::carried::{frame_put, line_at};
+use lin_cluster_parts::{Cluster, Entry, Line};
 use lin_core::{Event, frame_under};
 use lin_frame::Answer;
-use lin_parts::{Cluster, Entry, Line};
 use std::alloc::{AllocError, Global};
 
-/// What of a slot is shown: its entry, its header, the nodes that put responses with these, in order, and whether the response was disturbed.
+/// What of a slot is shown: its entry, its header, the nodes that put responses with these, in
+/// order, and whether the response was disturbed.
 #[derive(Drop)]
 pub(crate) struct OpenSlot {
     table: u16,
@@ -26,7 +28,7 @@ pub(crate) struct OpenSlot {
     hurt: bool,
 }
 
-/// The byte at an index; 0 behind the last.
+/// The byte at an index; 0 after the last.
 pub(crate) fn byte_at(bytes: &[u8], index: usize) -> u8
     ensures { result ≡ slice_index bytes.now index }
 {
@@ -60,9 +62,10 @@ impl OpenSlot {
         }
     }
 
-    /// An event tells something of the slot. An error is want of memory.
+    /// An event tells something of the slot. An error means out of memory.
     fn tell(&mut self, event: &Event) -> Result<(), AllocError>
-        ensures { OnOk result (slot_in self.new ≡ shown (told event.now (slot_in self.old))) }
+        ensures { OnOk result
+            (slot_in self.new ≡ shown_slot (slot_after_event event.now (slot_in self.old))) }
     {
         match event {
             Event::Slot {
@@ -80,9 +83,10 @@ impl OpenSlot {
         Ok(())
     }
 
-    /// The events of a step tell something of the slot. An error is want of memory.
+    /// The events of a step tell something of the slot. An error means out of memory.
     pub(crate) fn tell_all(&mut self, events: &[Event]) -> Result<(), AllocError>
-        ensures { OnOk result (slot_in self.new ≡ shown (told_all events.now (slot_in self.old))) }
+        ensures { OnOk result
+            (slot_in self.new ≡ shown_slot (slot_after_events events.now (slot_in self.old))) }
     {
         for event in events {
             self.tell(event)?;
@@ -92,7 +96,7 @@ impl OpenSlot {
 
     /// The response is disturbed.
     pub(crate) fn hurt(&mut self)
-        ensures { slot_in self.new ≡ hurt (slot_in self.old) }
+        ensures { slot_in self.new ≡ slot_after_hurt (slot_in self.old) }
     {
         self.hurt = true;
     }
@@ -136,7 +140,7 @@ impl OpenSlot {
 
     /// The frame that it carries (ISO 17987-3, unconditional, sporadic and event-triggered frames).
     pub(crate) fn carried(&self, cluster: &Cluster) -> Option<u16>
-        ensures frame { result ≡ carried cluster.now (slot_in self.now) }
+        ensures frame { result ≡ carried_frame cluster.now (slot_in self.now) }
         ensures there { IfSome result (λ f. f < length cluster.now.frames) }
     {
         cluster.sound();
@@ -160,7 +164,8 @@ impl OpenSlot {
 
     /// The frame that is shown: an event-triggered slot has one only where it is seen good.
     pub(crate) fn frame(&self, cluster: &Cluster) -> Option<u16>
-        ensures frame { result ≡ slot_frame cluster.now (line_of cluster.now self.now.table self.now.entry).entry (slot_in self.now) }
+        ensures frame { result ≡ slot_frame cluster.now
+            (line_of cluster.now self.now.table self.now.entry).entry (slot_in self.now) }
         ensures there { IfSome result (λ f. f < length cluster.now.frames) }
     {
         match self.line(cluster).entry {
@@ -171,7 +176,7 @@ impl OpenSlot {
 
     /// How the slot is seen when it ends.
     pub(crate) fn look(&self) -> Look<'_>
-        ensures { looks result ≡ seen (slot_in self.now) }
+        ensures { looks result ≡ seen_of (slot_in self.now) }
     {
         if self.header.is_none() {
             return Look::Silent;
@@ -184,7 +189,8 @@ impl OpenSlot {
         }
     }
 
-    /// Whether the slot puts the cluster to sleep: a good master request whose first data byte is 0 (ISO 17987-3, go-to-sleep).
+    /// Whether the slot puts the cluster to sleep: a good master request whose first data byte is 0
+    /// (ISO 17987-3, go-to-sleep).
     pub(crate) fn is_sleep(&self) -> bool
         ensures { result ≡ is_sleep_slot (slot_in self.now) }
     {

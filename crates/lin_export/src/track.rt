@@ -1,19 +1,20 @@
 //! What is kept of a log, entry by entry.
 
 ghost use Rattle.std.specs.Prelude.{◌≡◌, ◌+◌, ◌≤◌, ◌^◌, ◌<◌, ◌∷◌, [], List, option_map, OnOk};
-ghost use Rattle.lin_parts.specs.declared.parts.Parts.{Parts};
+ghost use Rattle.lin_cluster_parts.specs.declared.parts.Parts.{Parts};
 ghost use Rattle.lin_core.specs.History.{time};
 ghost use Rattle.lin_core.specs.declared.log.LogEntry.{LogEntry};
 ghost use Rattle.lin_export.specs.Open.{slot_in};
 ghost use Rattle.lin_export.specs.Track.{track_of};
 
 use crate::slot::OpenSlot;
+use lin_cluster_parts::Cluster;
 use lin_core::{LogEntry, Reply, Step};
-use lin_parts::Cluster;
 use std::alloc::{AllocError, Global};
 use std::marker::Model;
 
-/// The slot that is open behind the entries that were read, the delays of the slots that are finished, in microseconds, and their number.
+/// The slot that is open after the entries that were read, the delays of the slots that are
+/// finished, in microseconds, and their number.
 #[derive(Drop)]
 pub(crate) struct Track {
     alloc: Global,
@@ -66,10 +67,11 @@ impl Track {
         self.slots
     }
 
-    /// The delays of all slots that are finished behind the next entry, in microseconds.
+    /// The delays of all slots that are finished after the next entry, in microseconds.
     pub(crate) fn time_behind(&self, cluster: &Cluster, entry: &LogEntry) -> u64
         requires { self.now.time < 2 ^ 63 }
-        ensures { (past : List LogEntry) → self.now ≡ track_of cluster.now past → result ≡ time cluster.now (entry.now ∷ past) }
+        ensures { (past : List LogEntry) → self.now ≡ track_of cluster.now past
+            → result ≡ time cluster.now (entry.now ∷ past) }
     {
         let Reply::Done(_) = &entry.reply else {
             return self.time;
@@ -80,11 +82,13 @@ impl Track {
         }
     }
 
-    /// One entry more was read. An error is want of memory.
+    /// One entry more was read. An error means out of memory.
     pub(crate) fn follow(&mut self, cluster: &Cluster, entry: &LogEntry) -> Result<(), AllocError>
         requires time { self.old.time < 2 ^ 63 }
         requires slots { self.old.slots < 2 ^ 63 }
-        ensures kept { OnOk result ((past : List LogEntry) → self.old ≡ track_of cluster.now past → self.new ≡ track_of cluster.now (entry.now ∷ past)) }
+        ensures kept { OnOk result
+            ((past : List LogEntry) → self.old ≡ track_of cluster.now past
+            → self.new ≡ track_of cluster.now (entry.now ∷ past)) }
         ensures time { self.new.time ≤ self.old.time + 1000000000 }
         ensures slots { self.new.slots ≤ self.old.slots + 1 }
     {

@@ -1,17 +1,21 @@
-//! The variables of a dump of changes: their declarations, and their first values (IEEE 1364-2005, section 18).
+//! The variables of a dump of changes: their declarations, and their first values (IEEE 1364-2005,
+//! section 18).
 
 ghost use Rattle.std.specs.Prelude.{◌<◌, length, flat_map};
 ghost use Rattle.lin_frame.specs.Words.{numbers};
-ghost use Rattle.lin_parts.specs.Cluster.{nodes};
+ghost use Rattle.lin_cluster_parts.specs.Cluster.{nodes};
 ghost use Rattle.lin_text.specs.Written.{Grows};
-ghost use Rattle.lin_export.specs.Vcd.{bus_variables, declarations, declared, first_heard, first_values, first_waiting, first_written, head, heard_variable, opening, unknown, waiting_variable, written_variable};
+ghost use Rattle.lin_export.specs.Vcd.{bus_variables, declarations, declaration, first_heard};
+ghost use Rattle.lin_export.specs.Vcd.{first_values, first_waiting, first_written, head};
+ghost use Rattle.lin_export.specs.Vcd.{heard_variable, opening, unknown, waiting_variable};
+ghost use Rattle.lin_export.specs.Vcd.{written_variable};
 
 use crate::changes::{
     heard_number, put_code, put_heard, put_number, put_unknown, put_waiting, put_written,
     signal_size, waiting_number, written_number,
 };
 use crate::naming::node_name;
-use lin_parts::Cluster;
+use lin_cluster_parts::Cluster;
 use lin_text::TextWriter;
 use std::io::Write;
 
@@ -30,7 +34,7 @@ fn put_opening<W: Write>(out: &mut TextWriter<'_, W>, width: u8, variable: u16)
 /// Declares a variable.
 fn put_declared<W: Write>(out: &mut TextWriter<'_, W>, width: u8, variable: u16, name: &[u8])
     requires { variable < 4096 }
-    ensures { Grows W.contents out.old out.new (declared width variable name.now) }
+    ensures { Grows W.contents out.old out.new (declaration width variable name.now) }
 {
     put_opening(out, width, variable);
     out.put(name);
@@ -58,14 +62,15 @@ fn put_heard_variable<W: Write>(out: &mut TextWriter<'_, W>, cluster: &Cluster, 
 }
 
 fn put_heard_variables<W: Write>(out: &mut TextWriter<'_, W>, cluster: &Cluster)
-    ensures { Grows W.contents out.old out.new (flat_map (heard_variable cluster.now) (numbers (length cluster.now.signals))) }
+    ensures { Grows W.contents out.old out.new
+        (flat_map (heard_variable cluster.now) (numbers (length cluster.now.signals))) }
 {
     for signal in 0..cluster.signals() as u16 {
         put_heard_variable(out, cluster, signal);
     }
 }
 
-/// Declares a signal as it is written, with its publisher behind its name.
+/// Declares a signal as it is written, with its publisher after its name.
 fn put_written_variable<W: Write>(out: &mut TextWriter<'_, W>, cluster: &Cluster, signal: u16)
     requires { signal < length cluster.now.signals }
     ensures { Grows W.contents out.old out.new (written_variable cluster.now signal) }
@@ -80,7 +85,8 @@ fn put_written_variable<W: Write>(out: &mut TextWriter<'_, W>, cluster: &Cluster
 }
 
 fn put_written_variables<W: Write>(out: &mut TextWriter<'_, W>, cluster: &Cluster)
-    ensures { Grows W.contents out.old out.new (flat_map (written_variable cluster.now) (numbers (length cluster.now.signals))) }
+    ensures { Grows W.contents out.old out.new
+        (flat_map (written_variable cluster.now) (numbers (length cluster.now.signals))) }
 {
     for signal in 0..cluster.signals() as u16 {
         put_written_variable(out, cluster, signal);
@@ -97,7 +103,8 @@ fn put_waiting_variable<W: Write>(out: &mut TextWriter<'_, W>, cluster: &Cluster
 }
 
 fn put_waiting_variables<W: Write>(out: &mut TextWriter<'_, W>, cluster: &Cluster)
-    ensures { Grows W.contents out.old out.new (flat_map (waiting_variable cluster.now) (numbers (nodes cluster.now))) }
+    ensures { Grows W.contents out.old out.new
+        (flat_map (waiting_variable cluster.now) (numbers (nodes cluster.now))) }
 {
     for host in 0..cluster.nodes() as u8 {
         put_waiting_variable(out, cluster, host);
@@ -132,7 +139,8 @@ fn put_unknowns<W: Write>(out: &mut TextWriter<'_, W>)
 }
 
 fn put_heard_values<W: Write>(out: &mut TextWriter<'_, W>, cluster: &Cluster)
-    ensures { Grows W.contents out.old out.new (flat_map (first_heard cluster.now) (numbers (length cluster.now.signals))) }
+    ensures { Grows W.contents out.old out.new
+        (flat_map (first_heard cluster.now) (numbers (length cluster.now.signals))) }
 {
     for signal in 0..cluster.signals() as u16 {
         put_heard(out, cluster, signal, cluster.initial(signal));
@@ -140,7 +148,8 @@ fn put_heard_values<W: Write>(out: &mut TextWriter<'_, W>, cluster: &Cluster)
 }
 
 fn put_written_values<W: Write>(out: &mut TextWriter<'_, W>, cluster: &Cluster)
-    ensures { Grows W.contents out.old out.new (flat_map (first_written cluster.now) (numbers (length cluster.now.signals))) }
+    ensures { Grows W.contents out.old out.new
+        (flat_map (first_written cluster.now) (numbers (length cluster.now.signals))) }
 {
     for signal in 0..cluster.signals() as u16 {
         put_written(out, cluster, signal, cluster.initial(signal));
@@ -148,7 +157,8 @@ fn put_written_values<W: Write>(out: &mut TextWriter<'_, W>, cluster: &Cluster)
 }
 
 fn put_waiting_values<W: Write>(out: &mut TextWriter<'_, W>, cluster: &Cluster)
-    ensures { Grows W.contents out.old out.new (flat_map (first_waiting cluster.now) (numbers (nodes cluster.now))) }
+    ensures { Grows W.contents out.old out.new
+        (flat_map (first_waiting cluster.now) (numbers (nodes cluster.now))) }
 {
     for host in 0..cluster.nodes() as u8 {
         put_waiting(out, cluster, host, 0);

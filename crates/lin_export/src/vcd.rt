@@ -1,13 +1,17 @@
 //! Logs as changes of values over time (IEEE 1364-2005, section 18, value change dump).
 
-ghost use Rattle.std.specs.Prelude.{◌≡◌, ◌<◌, ◌-◌, ◌==◌, if◌then◌else◌, ⊤, ℕ, List, length, flat_map, slice_index};
+ghost use Rattle.std.specs.Prelude.{◌≡◌, ◌<◌, ◌-◌, ◌==◌, if◌then◌else◌, ⊤, ℕ, List, length};
+ghost use Rattle.std.specs.Prelude.{flat_map, slice_index};
 ghost use Rattle.lin_core.specs.declared.log.LogEntry.{LogEntry};
 ghost use Rattle.lin_text.specs.Written.{Grows, WritesText};
 ghost use Rattle.lin_export.specs.Look.{looks};
 ghost use Rattle.lin_export.specs.Open.{slot_in};
 ghost use Rattle.lin_export.specs.PutsGroups.{AreCounts, KeepsChanges, PutsGroups};
 ghost use Rattle.lin_export.specs.Track.{track_of};
-ghost use Rattle.lin_export.specs.Vcd.{counted, counted_all, count_group, entry_changes, event_group, frame_changes, head, header_change, heard_group, last_time, later, one_more, seen_number, slot_changes, slot_groups, stamp, step_groups, vcd};
+ghost use Rattle.lin_export.specs.Vcd.{count_after, counted_all, count_group, entry_changes};
+ghost use Rattle.lin_export.specs.Vcd.{event_group, frame_changes, head, header_change};
+ghost use Rattle.lin_export.specs.Vcd.{heard_group, last_time, later, one_more, seen_number};
+ghost use Rattle.lin_export.specs.Vcd.{slot_changes, slot_groups, stamp, step_groups, vcd};
 
 use crate::changes::{put_heard, put_number, put_unknown, put_waiting, put_written};
 use crate::fault::ExportFault;
@@ -15,9 +19,9 @@ use crate::format::{Format, write_as};
 use crate::slot::{Look, OpenSlot};
 use crate::track::Track;
 use crate::variables::put_head;
+use lin_cluster_parts::Cluster;
 use lin_core::{Event, Log, LogEntry, Reply, Step};
 use lin_frame::{Answer, unpack};
-use lin_parts::Cluster;
 use lin_text::TextWriter;
 use std::alloc::Global;
 use std::io::Write;
@@ -102,7 +106,8 @@ fn put_heard_frame<W: Write>(
     end: u64,
     slot: &OpenSlot,
 )
-    ensures { PutsGroups W.contents out.old out.new last.old last.new (heard_group cluster.now end (slot_in slot.now)) }
+    ensures { PutsGroups W.contents out.old out.new last.old last.new
+        (heard_group cluster.now end (slot_in slot.now)) }
 {
     let Look::Good(answer) = slot.look() else {
         return;
@@ -123,7 +128,8 @@ fn put_finish<W: Write>(
     end: u64,
     slot: &OpenSlot,
 )
-    ensures { PutsGroups W.contents out.old out.new last.old last.new (slot_groups cluster.now track.now.slots track.now.time end (slot_in slot.now)) }
+    ensures { PutsGroups W.contents out.old out.new last.old last.new
+        (slot_groups cluster.now track.now.slots track.now.time end (slot_in slot.now)) }
 {
     put_stamp(out, last, track.time());
     put_slot(out, track.slots(), slot);
@@ -139,7 +145,9 @@ fn put_step<W: Write>(
     end: u64,
     step: &Step,
 )
-    ensures { (past : List LogEntry) → track.now ≡ track_of cluster.now past → PutsGroups W.contents out.old out.new last.old last.new (step_groups cluster.now past end step.now) }
+    ensures { (past : List LogEntry) → track.now ≡ track_of cluster.now past
+        → PutsGroups W.contents out.old out.new last.old last.new
+        (step_groups cluster.now past end step.now) }
 {
     match step {
         Step::Write {
@@ -174,7 +182,9 @@ fn no_counts() -> [u16; HOSTS]
 
 /// One message more of a host waits.
 fn count_more(counts: &mut [u16; HOSTS], host: u8)
-    ensures { (h : ℕ) → h < 256 → slice_index counts.new h ≡ (if host == h then one_more (slice_index counts.old h) else slice_index counts.old h) }
+    ensures { (h : ℕ) → h < 256
+        → slice_index counts.new h
+        ≡ (if host == h then one_more (slice_index counts.old h) else slice_index counts.old h) }
 {
     let count = counts[usize::from(host)];
     if count < 2047 {
@@ -184,14 +194,17 @@ fn count_more(counts: &mut [u16; HOSTS], host: u8)
 
 /// One message of a host waits no more.
 fn count_less(counts: &mut [u16; HOSTS], host: u8)
-    ensures { (h : ℕ) → h < 256 → slice_index counts.new h ≡ (if host == h then slice_index counts.old h - 1 else slice_index counts.old h) }
+    ensures { (h : ℕ) → h < 256
+        → slice_index counts.new h
+        ≡ (if host == h then slice_index counts.old h - 1 else slice_index counts.old h) }
 {
     let count = counts[usize::from(host)];
     counts[usize::from(host)] = count.saturating_sub(1);
 }
 
 fn count(counts: &mut [u16; HOSTS], event: &Event)
-    ensures { (h : ℕ) → h < 256 → slice_index counts.new h ≡ counted h event.now (slice_index counts.old h) }
+    ensures { (h : ℕ) → h < 256
+        → slice_index counts.new h ≡ count_after h event.now (slice_index counts.old h) }
 {
     match event {
         Event::Accepted { host, number: _ } => count_more(counts, *host),
@@ -205,9 +218,10 @@ fn count(counts: &mut [u16; HOSTS], event: &Event)
     }
 }
 
-/// How many messages of each host wait behind these events.
+/// How many messages of each host wait after these events.
 fn count_all(counts: &mut [u16; HOSTS], events: &[Event])
-    ensures { (h : ℕ) → h < 256 → slice_index counts.new h ≡ counted_all h events.now (slice_index counts.old h) }
+    ensures { (h : ℕ) → h < 256
+        → slice_index counts.new h ≡ counted_all h events.now (slice_index counts.old h) }
 {
     for event in events {
         count(counts, event);
@@ -222,7 +236,9 @@ fn put_count<W: Write>(
     counts: &[u16; HOSTS],
     host: u8,
 )
-    ensures { (count : ℕ → ℕ) → AreCounts count counts.now → PutsGroups W.contents out.old out.new last.old last.new (count_group cluster.now at count host) }
+    ensures { (count : ℕ → ℕ) → AreCounts count counts.now
+        → PutsGroups W.contents out.old out.new last.old last.new
+        (count_group cluster.now at count host) }
 {
     put_stamp(out, last, at);
     put_waiting(out, cluster, host, counts[usize::from(host)]);
@@ -237,7 +253,9 @@ fn put_event<W: Write>(
     counts: &[u16; HOSTS],
     event: &Event,
 )
-    ensures { (count : ℕ → ℕ) → AreCounts count counts.now → PutsGroups W.contents out.old out.new last.old last.new (event_group cluster.now at count event.now) }
+    ensures { (count : ℕ → ℕ) → AreCounts count counts.now
+        → PutsGroups W.contents out.old out.new last.old last.new
+        (event_group cluster.now at count event.now) }
 {
     match event {
         Event::Accepted { host, number: _ } => put_count(out, last, cluster, at, counts, *host),
@@ -263,7 +281,9 @@ fn put_events<W: Write>(
     counts: &[u16; HOSTS],
     events: &[Event],
 )
-    ensures { (count : ℕ → ℕ) → AreCounts count counts.now → PutsGroups W.contents out.old out.new last.old last.new (flat_map (event_group cluster.now at count) events.now) }
+    ensures { (count : ℕ → ℕ) → AreCounts count counts.now
+        → PutsGroups W.contents out.old out.new last.old last.new
+        (flat_map (event_group cluster.now at count) events.now) }
 {
     for event in events {
         put_event(out, last, cluster, at, counts, event);
@@ -320,23 +340,27 @@ impl Format for Dump {
     }
 }
 
-/// Writes the changes of a log over time, in microseconds: what the bus shows of each slot from its start, the values of signals as they are
-/// heard from the end of the slot, those that their publishers write, and how many messages of each host wait (IEEE 1364-2005, section 18,
-/// value change dump).
+/// Writes the changes of a log over time, in microseconds: what the bus shows of each slot from its
+/// start, the values of signals as they are heard from the end of the slot, those that their
+/// publishers write, and how many messages of each host wait (IEEE 1364-2005, section 18, value
+/// change dump).
 ///
-/// It goes through a buffer of fixed size, and takes memory for the responses of one slot. The writer isn't flushed.
+/// It goes through a buffer of fixed size, and takes memory for the responses of one slot. The
+/// writer isn't flushed.
 ///
 /// # Errors
 /// What was written then is the beginning of the dump.
 /// - `OutOfMemory`;
-/// - `WriteFailed` at the first error of the writer, an interrupted write too, and at the first write of 0 bytes.
+/// - `WriteFailed` at the first error of the writer, an interrupted write too, and at the first
+///   write of 0 bytes.
 pub fn write_vcd<W: Write>(
     alloc: Global,
     cluster: &Cluster,
     log: &Log,
     writer: &mut W,
 ) -> Result<(), ExportFault>
-    ensures { WritesText (W.contents writer.old) (W.contents writer.new) result (vcd cluster.now log.now.entries) }
+    ensures { WritesText (W.contents writer.old) (W.contents writer.new) result
+        (vcd cluster.now log.now.entries) }
 {
     let mut dump = Dump {
         last: 0,

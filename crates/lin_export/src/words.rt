@@ -1,13 +1,13 @@
 //! Lines as words with one space between two.
 
 ghost use Rattle.std.specs.Prelude.{◌≡◌, ◌∷◌, flat_map, map};
-ghost use Rattle.lin_log.specs.Words.{hex_word, reply_line, spaced, value_word};
+ghost use Rattle.lin_log.specs.Words.{hex_word, reply_line, spaced_word, value_word};
 ghost use Rattle.lin_text.specs.Written.{Grows};
 ghost use Rattle.lin_export.specs.Named.{node_word, signal_word, table_word};
 ghost use Rattle.lin_export.specs.NamedWords.{word_shown};
 
+use lin_cluster_parts::Cluster;
 use lin_frame::Value;
-use lin_parts::Cluster;
 use lin_text::TextWriter;
 use std::io::Write;
 
@@ -49,15 +49,15 @@ pub(crate) fn put_word<W: Write>(out: &mut TextWriter<'_, W>, word: Word<'_>)
 }
 
 fn put_spaced<W: Write>(out: &mut TextWriter<'_, W>, word: Word<'_>)
-    ensures { Grows W.contents out.old out.new (spaced (word_shown word.entry)) }
+    ensures { Grows W.contents out.old out.new (spaced_word (word_shown word.entry)) }
 {
     out.put_byte(b' ');
     put_word(out, word);
 }
 
-/// Words, each behind a space.
+/// Words, each after a space.
 pub(crate) fn put_words<W: Write>(out: &mut TextWriter<'_, W>, words: &[Word<'_>])
-    ensures { Grows W.contents out.old out.new (flat_map spaced (map word_shown words.now)) }
+    ensures { Grows W.contents out.old out.new (flat_map spaced_word (map word_shown words.now)) }
 {
     for word in words {
         put_spaced(out, *word);

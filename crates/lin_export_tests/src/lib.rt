@@ -1,4 +1,5 @@
-//! Tests of what runs are written as, apart from the crate, so that it isn't proved a second time with them.
+//! Tests of what runs are written as, apart from the crate, so that it isn't proved a second time
+//! with them.
 #![tactic(auto)]
 
 #[cfg(test)]

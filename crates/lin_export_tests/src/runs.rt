@@ -9,7 +9,7 @@ use std::alloc::Global;
 use std::process::Abort;
 use std::test::Fail;
 
-/// What an LDF text describes, and the core behind a log on its first table.
+/// What an LDF text describes, and the core after a log on its first table.
 pub fn run(alloc: Global, ldf: &[u8], log: &[u8]) -> Result<(Names, Core), Fail> {
     let description = parse(alloc, ldf)?;
     let names = Names::of(alloc, &description)?;

@@ -8,9 +8,10 @@ use Rattle.std.proofs.lemmas.Nat.{mod_below, mul-le}
 use Rattle.std.proofs.lemmas.Grind.{pow_more}
 use Rattle.std.proofs.lemmas.Nat.Bits.{bit_at-lt, bit_at_cat_low, bit_at_cat_high, bit_at_lowest}
 use Rattle.std.proofs.Math.Nat.{div-add-mod, mod-eq_of_lt}
-use Rattle.lin_frame.specs.Words.{choose, numbers}
+use Rattle.std.specs.Option.{option_map_or}
+use Rattle.lin_frame.specs.Words.{numbers}
 use Rattle.lin_frame.specs.Frame.{bit}
-use Rattle.lin_frame.specs.Bits.{all_apart, all_fit, are_apart, byte_of_bits, covers, data_bit, first_bit, fits_place, frame_bit, good_layout, has_bytes, has_good_size, lies_in, number_of_bits, packed, placed_bit, unpacked, value_bit}
+use Rattle.lin_frame.specs.Bits.{all_apart, all_fit, are_apart, byte_of_bits, covers, data_bit, first_bit, fits_place, frame_bit, is_good_layout, has_bytes, has_good_size, lies_in, number_of_bits, packed_bytes, placed_bit, unpacked_value, value_bit}
 use Rattle.lin_frame.specs.declared.layout.Layout.{Layout}
 use Rattle.lin_frame.specs.declared.layout.Place.{Place}
 use Rattle.lin_frame.specs.declared.value.Value.{Value}
@@ -65,7 +66,7 @@ value_bit-below : (v : Value) (j : ℕ) → value_bit v j < 2
 value_bit-below (Scalar x) j = bit_at-lt x j
 value_bit-below (Bytes xs) j = bit_at-lt (get_or xs (j / 8) 0) (j % 8)
 
-found-below : (s : Option (Place × Value)) (b : ℕ) → choose s 1 (λ s. value_bit s.1 (b - s.0.offset)) < 2
+found-below : (s : Option (Place × Value)) (b : ℕ) → option_map_or (λ s. value_bit s.1 (b - s.0.offset)) s 1 < 2
 found-below None b = omega arith
 found-below (Some s) b = value_bit-below s.1 (b - s.0.offset)
 
@@ -73,7 +74,7 @@ own-below : (t : Bool) (x y : ℕ) → x < 2 → y < 2 → (if t then x else y) 
 own-below true x y h g = h
 own-below false x y h g = g
 
-chosen-below : (pid : Option ℕ) (placed b : ℕ) → placed < 2 → choose pid placed (λ own. if nat_lt b 8 then bit own b else placed) < 2
+chosen-below : (pid : Option ℕ) (placed b : ℕ) → placed < 2 → option_map_or (λ own. if nat_lt b 8 then bit own b else placed) pid placed < 2
 chosen-below None placed b h = h
 chosen-below (Some own) placed b h = own-below (nat_lt b 8) (bit own b) placed (bit_at-lt own b) h
 
@@ -82,7 +83,7 @@ frame_bit-below layout values b =
     chosen-below layout.pid (placed_bit layout.places values b) b (found-below (find (λ (s : Place × Value). covers s.0 b) (zip layout.places values)) b)
 
 -- the bits of a frame's data bytes
-pub data_bit-packed : (layout : Layout) (values : List Value) (after : List ℕ) (b : ℕ) → b < 8 * layout.len → data_bit (packed layout values ++ after) b ≡ frame_bit layout values b
+pub data_bit-packed : (layout : Layout) (values : List Value) (after : List ℕ) (b : ℕ) → b < 8 * layout.len → data_bit (packed_bytes layout values ++ after) b ≡ frame_bit layout values b
 data_bit-packed layout values after b l =
     data_bit-bytes layout.len (frame_bit layout values) after b (frame_bit-below layout values) l
 
@@ -107,7 +108,7 @@ apart-rest : (p : Place) (ps : List Place) (b : ℕ) → list_all (are_apart p) 
 apart-rest p ps b h o =
     false_from_ne_true (covers p b) (λ c. false≢true (sym o ∙ outside-apart p ps b h c))
 
-pub unpacked_all : (ps : List Place) (vs : List Value) (bytes : List ℕ) → all_fit ps vs ≡ true → list_all has_bytes vs ≡ true → all_apart ps ≡ true → ((b : ℕ) → outside ps b ≡ false → data_bit bytes b ≡ bit_over ps vs 1 b) → map (λ p. unpacked p bytes) ps ≡ vs
+pub unpacked_all : (ps : List Place) (vs : List Value) (bytes : List ℕ) → all_fit ps vs ≡ true → list_all has_bytes vs ≡ true → all_apart ps ≡ true → ((b : ℕ) → outside ps b ≡ false → data_bit bytes b ≡ bit_over ps vs 1 b) → map (λ p. unpacked_value p bytes) ps ≡ vs
 unpacked_all [] [] bytes f u a h = refl
 unpacked_all [] (v ∷ vs) bytes f u a h = absurd (false≢true f)
 unpacked_all (p ∷ ps) [] bytes f u a h = absurd (false≢true f)
@@ -125,7 +126,7 @@ unpacked_all (p ∷ ps) (v ∷ vs) bytes f u a h =
     h b (outside-rest p ps b o)
     ∙ bit_over-first p v ps vs 1 b
     ∙ cond-false (covers p b) (value_bit v (b - p.offset)) (bit_over ps vs 1 b) (apart-rest p ps b apart.0 o) in
-    ap (λ x. x ∷ map (λ q. unpacked q bytes) ps) (unpacked_from_bits p v bytes fit.0 (has-bytes v ok.0) bits)
+    ap (λ x. x ∷ map (λ q. unpacked_value q bytes) ps) (unpacked_from_bits p v bytes fit.0 (has-bytes v ok.0) bits)
     ∙ ap (λ xs. v ∷ xs) (unpacked_all ps vs bytes fit.1 ok.1 apart.1 rest)
 
 and-not_false : (t u : Bool) → t ≡ false → (not t && u) ≡ u
@@ -150,28 +151,28 @@ bit_over-covered (p ∷ ps) (v ∷ vs) x y b f o =
     ∙ sym (bit_over-first p v ps vs y b ∙ cond-false (covers p b) (value_bit v (b - p.offset)) (bit_over ps vs y b) c) in
     elim (cases_Bool (covers p b)) [ inl c ↦ here c | inr c ↦ later c ]
 
-pub unpacking_undoes_packing : (layout : Layout) (values : List Value) (after : List ℕ) → good_layout layout ≡ true → all_fit layout.places values ≡ true → list_all has_bytes values ≡ true → map (λ p. unpacked p (packed layout values ++ after)) layout.places ≡ values
+pub unpacking_undoes_packing : (layout : Layout) (values : List Value) (after : List ℕ) → is_good_layout layout ≡ true → all_fit layout.places values ≡ true → list_all has_bytes values ≡ true → map (λ p. unpacked_value p (packed_bytes layout values ++ after)) layout.places ≡ values
 unpacking_undoes_packing layout values after g f u =
     let parts = good-parts layout g in
     let inside : (b : ℕ) → outside layout.places b ≡ false → b < 8 * layout.len = λ b o.
     let past : 8 * layout.len ≤ b → b < 8 * layout.len = λ l.
     absurd (false≢true (sym o ∙ outside-lies_in (first_bit layout) (8 * layout.len) layout.places b parts.2 (inr l))) in
     elim (cases_lt b (8 * layout.len)) [ inl l ↦ l | inr l ↦ past l ] in
-    unpacked_all layout.places values (packed layout values ++ after) f u parts.3 (λ b o.
+    unpacked_all layout.places values (packed_bytes layout values ++ after) f u parts.3 (λ b o.
     data_bit-packed layout values after b (inside b o)
     ∙ sym (frame_bit-over layout values b g)
     ∙ bit_over-covered layout.places values (empty_bit layout.pid b) 1 b f o)
 
 -- ---- values that are unpacked
-value_bit-unpacked : (p : Place) (bytes : List ℕ) (j : ℕ) → has_good_size p ≡ true → j < p.size → value_bit (unpacked p bytes) j ≡ data_bit bytes (p.offset + j)
+value_bit-unpacked : (p : Place) (bytes : List ℕ) (j : ℕ) → has_good_size p ≡ true → j < p.size → value_bit (unpacked_value p bytes) j ≡ data_bit bytes (p.offset + j)
 value_bit-unpacked p bytes j g l =
     let at : ℕ → ℕ = λ j. data_bit bytes (p.offset + j) in
     let below : (j : ℕ) → at j < 2 = λ j. bit_at-lt (get_or bytes ((p.offset + j) / 8) 0) ((p.offset + j) % 8) in
     let many = Bytes (map (byte_of_bits at) (numbers (p.size / 8))) in
     let one = Scalar (number_of_bits p.size at) in
-    let scalar : p.array ≡ false → value_bit (unpacked p bytes) j ≡ data_bit bytes (p.offset + j) = λ a.
+    let scalar : p.array ≡ false → value_bit (unpacked_value p bytes) j ≡ data_bit bytes (p.offset + j) = λ a.
     ap (λ v. value_bit v j) (cond-false p.array many one a) ∙ bit-number_of_bits p.size at j below l in
-    let array : p.array ≡ true → value_bit (unpacked p bytes) j ≡ data_bit bytes (p.offset + j) = λ a.
+    let array : p.array ≡ true → value_bit (unpacked_value p bytes) j ≡ data_bit bytes (p.offset + j) = λ a.
     ap (λ v. value_bit v j) (cond-true p.array many one a)
     ∙ ap (λ xs. data_bit xs j) (sym (append-nil (map (byte_of_bits at) (numbers (p.size / 8)))))
     ∙ data_bit-bytes (p.size / 8) at [] j below (omega (arith, (array_parts p g a).1)) in
@@ -181,27 +182,27 @@ one_more : (t u : Bool) (here there under rest : ℕ) → (t ≡ true → here �
 one_more true u here there under rest h e = h refl
 one_more false u here there under rest h e = e
 
-repacked : (first end : ℕ) (ps : List Place) (bytes : List ℕ) (under b : ℕ) → list_all (lies_in first end) ps ≡ true → bit_over ps (map (λ p. unpacked p bytes) ps) under b ≡ (if list_any (λ p. covers p b) ps then data_bit bytes b else under)
+repacked : (first end : ℕ) (ps : List Place) (bytes : List ℕ) (under b : ℕ) → list_all (lies_in first end) ps ≡ true → bit_over ps (map (λ p. unpacked_value p bytes) ps) under b ≡ (if list_any (λ p. covers p b) ps then data_bit bytes b else under)
 repacked first end [] bytes under b h = refl
 repacked first end (p ∷ ps) bytes under b h =
     let parts = and_parts (lies_in first end p) (list_all (lies_in first end) ps) h in
-    let here : covers p b ≡ true → value_bit (unpacked p bytes) (b - p.offset) ≡ data_bit bytes b = λ c.
+    let here : covers p b ≡ true → value_bit (unpacked_value p bytes) (b - p.offset) ≡ data_bit bytes b = λ c.
     let covered = and_parts (nat_le p.offset b) (nat_lt b (p.offset + p.size)) c in
     let low = leb-true p.offset b covered.0 in
     let high = ltb-true b (p.offset + p.size) covered.1 in
     value_bit-unpacked p bytes (b - p.offset) (place_parts first end p parts.0).0 (omega arith)
     ∙ ap (λ k. data_bit bytes k) (omega arith) in
-    bit_over-first p (unpacked p bytes) ps (map (λ q. unpacked q bytes) ps) under b
-    ∙ one_more (covers p b) (list_any (λ q. covers q b) ps) (value_bit (unpacked p bytes) (b - p.offset)) (data_bit bytes b) under (bit_over ps (map (λ q. unpacked q bytes) ps) under b) here (repacked first end ps bytes under b parts.1)
+    bit_over-first p (unpacked_value p bytes) ps (map (λ q. unpacked_value q bytes) ps) under b
+    ∙ one_more (covers p b) (list_any (λ q. covers q b) ps) (value_bit (unpacked_value p bytes) (b - p.offset)) (data_bit bytes b) under (bit_over ps (map (λ q. unpacked_value q bytes) ps) under b) here (repacked first end ps bytes under b parts.1)
 
 bit_over-nothing : (ps : List Place) (under b : ℕ) → bit_over ps [] under b ≡ under
 bit_over-nothing [] under b = refl
 bit_over-nothing (p ∷ ps) under b = refl
 
-pub packing_undoes_unpacking : (layout : Layout) (bytes : List ℕ) (b : ℕ) → good_layout layout ≡ true → b < 8 * layout.len → data_bit (packed layout (map (λ p. unpacked p bytes) layout.places)) b ≡ (if list_any (λ p. covers p b) layout.places then data_bit bytes b else frame_bit layout [] b)
+pub packing_undoes_unpacking : (layout : Layout) (bytes : List ℕ) (b : ℕ) → is_good_layout layout ≡ true → b < 8 * layout.len → data_bit (packed_bytes layout (map (λ p. unpacked_value p bytes) layout.places)) b ≡ (if list_any (λ p. covers p b) layout.places then data_bit bytes b else frame_bit layout [] b)
 packing_undoes_unpacking layout bytes b g l =
-    let values = map (λ p. unpacked p bytes) layout.places in
-    ap (λ xs. data_bit xs b) (sym (append-nil (packed layout values)))
+    let values = map (λ p. unpacked_value p bytes) layout.places in
+    ap (λ xs. data_bit xs b) (sym (append-nil (packed_bytes layout values)))
     ∙ data_bit-packed layout values [] b l
     ∙ sym (frame_bit-over layout values b g)
     ∙ repacked (first_bit layout) (8 * layout.len) layout.places bytes (empty_bit layout.pid b) b (good-parts layout g).2

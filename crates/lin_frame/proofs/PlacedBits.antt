@@ -3,9 +3,9 @@ use Rattle.std.proofs.Common.{◌≡◌, ℕ, zero, suc, ◌+◌, ◌-◌, ◌*�
 use Rattle.std.specs.List.{list_all, find, zip}
 use Rattle.std.proofs.lemmas.Bool.{and_parts, and_from, cases_Bool, cond-true, cond-false, leb-true, ltb-true, le-ltb, not-true}
 use Rattle.std.proofs.lemmas.Bool.Decides.{nat_tests}
-use Rattle.lin_frame.specs.Words.{choose}
+use Rattle.std.specs.Option.{option_map_or}
 use Rattle.lin_frame.specs.Frame.{bit}
-use Rattle.lin_frame.specs.Bits.{are_apart, all_apart, lies_in, has_good_size, good_layout, first_bit, covers, value_bit, frame_bit}
+use Rattle.lin_frame.specs.Bits.{are_apart, all_apart, lies_in, has_good_size, is_good_layout, first_bit, covers, value_bit, frame_bit}
 use Rattle.lin_frame.specs.declared.layout.Layout.{Layout}
 use Rattle.lin_frame.specs.declared.layout.Place.{Place}
 use Rattle.lin_frame.specs.declared.value.Value.{Value}
@@ -17,7 +17,7 @@ list_all-at p (x ∷ xs) h zero d l = (and_parts (p x) (list_all p xs) h).0
 list_all-at p (x ∷ xs) h (suc i) d l = list_all-at p xs (and_parts (p x) (list_all p xs) h).1 i d (omega arith)
 
 -- what a good layout says
-pub good-parts : (layout : Layout) → good_layout layout ≡ true → (1 ≤ layout.len) × (layout.len ≤ 8) × (list_all (lies_in (first_bit layout) (8 * layout.len)) layout.places ≡ true) × (all_apart layout.places ≡ true)
+pub good-parts : (layout : Layout) → is_good_layout layout ≡ true → (1 ≤ layout.len) × (layout.len ≤ 8) × (list_all (lies_in (first_bit layout) (8 * layout.len)) layout.places ≡ true) × (all_apart layout.places ≡ true)
 good-parts layout h =
     let last = and_parts (nat_le 1 layout.len && nat_le layout.len 8 && list_all (lies_in (first_bit layout) (8 * layout.len)) layout.places) (all_apart layout.places) h in
     let third = and_parts (nat_le 1 layout.len && nat_le layout.len 8) (list_all (lies_in (first_bit layout) (8 * layout.len)) layout.places) last.0 in
@@ -58,11 +58,11 @@ all_apart-drop (suc n) (p ∷ ps) h = all_apart-drop n ps (and_parts (list_all (
 
 -- bit b of values in places over a bit that was there before
 abbrev pub bit_over : List Place → List Value → ℕ → ℕ → ℕ
-bit_over places values under b = choose (find (λ s. covers s.0 b) (zip places values)) under (λ s. value_bit s.1 (b - s.0.offset))
+bit_over places values under b = option_map_or (λ s. value_bit s.1 (b - s.0.offset)) (find (λ s. covers s.0 b) (zip places values)) under
 
 pub bit_over-first : (p : Place) (v : Value) (ps : List Place) (vs : List Value) (under b : ℕ) → bit_over (p ∷ ps) (v ∷ vs) under b ≡ (if covers p b then value_bit v (b - p.offset) else bit_over ps vs under b)
 bit_over-first p v ps vs under b =
-    let on : (t : Bool) → choose (cond t (Some (p, v)) (find (λ (s : Place × Value). covers s.0 b) (zip ps vs))) under (λ s. value_bit s.1 (b - s.0.offset)) ≡ (if t then value_bit v (b - p.offset) else bit_over ps vs under b) = λ t. elim t as (λ t. choose (cond t (Some (p, v)) (find (λ (s : Place × Value). covers s.0 b) (zip ps vs))) under (λ s. value_bit s.1 (b - s.0.offset)) ≡ (if t then value_bit v (b - p.offset) else bit_over ps vs under b)) [ true ↦ refl | false ↦ refl ] in
+    let on : (t : Bool) → option_map_or (λ s. value_bit s.1 (b - s.0.offset)) (cond t (Some (p, v)) (find (λ (s : Place × Value). covers s.0 b) (zip ps vs))) under ≡ (if t then value_bit v (b - p.offset) else bit_over ps vs under b) = λ t. elim t as (λ t. option_map_or (λ s. value_bit s.1 (b - s.0.offset)) (cond t (Some (p, v)) (find (λ (s : Place × Value). covers s.0 b) (zip ps vs))) under ≡ (if t then value_bit v (b - p.offset) else bit_over ps vs under b)) [ true ↦ refl | false ↦ refl ] in
     on (covers p b)
 
 -- a bit that none of the places covers stays as it is
@@ -90,19 +90,19 @@ bit_over-put p v ps vs under after b h e =
 
 -- bit b of a frame without signals
 abbrev pub empty_bit : Option ℕ → ℕ → ℕ
-empty_bit pid b = choose pid 1 (λ own. if nat_lt b 8 then bit own b else 1)
+empty_bit pid b = option_map_or (λ own. if nat_lt b 8 then bit own b else 1) pid 1
 
 over_own : (t : Bool) (x b : ℕ) (ps : List Place) (vs : List Value) → (t ≡ true → bit_over ps vs x b ≡ x) → bit_over ps vs (if t then x else 1) b ≡ (if t then x else bit_over ps vs 1 b)
 over_own true x b ps vs h = h refl
 over_own false x b ps vs h = refl
 
-over_empty : (pid : Option ℕ) (end : ℕ) (ps : List Place) (vs : List Value) (b : ℕ) → list_all (lies_in (choose pid 0 (λ own. 8)) end) ps ≡ true → bit_over ps vs (empty_bit pid b) b ≡ choose pid (bit_over ps vs 1 b) (λ own. if nat_lt b 8 then bit own b else bit_over ps vs 1 b)
+over_empty : (pid : Option ℕ) (end : ℕ) (ps : List Place) (vs : List Value) (b : ℕ) → list_all (lies_in (option_map_or (λ own. 8) pid 0) end) ps ≡ true → bit_over ps vs (empty_bit pid b) b ≡ option_map_or (λ own. if nat_lt b 8 then bit own b else bit_over ps vs 1 b) pid (bit_over ps vs 1 b)
 over_empty None end ps vs b h = refl
 over_empty (Some own) end ps vs b h =
     over_own (nat_lt b 8) (bit own b) b ps vs (λ e. bit_over-outside ps vs (bit own b) b (outside-lies_in 8 end ps b h (inl (ltb-true b 8 e))))
 
 -- the frame's bits are those of its signals over those of a frame without signals
-pub frame_bit-over : (layout : Layout) (vs : List Value) (b : ℕ) → good_layout layout ≡ true → bit_over layout.places vs (empty_bit layout.pid b) b ≡ frame_bit layout vs b
+pub frame_bit-over : (layout : Layout) (vs : List Value) (b : ℕ) → is_good_layout layout ≡ true → bit_over layout.places vs (empty_bit layout.pid b) b ≡ frame_bit layout vs b
 frame_bit-over layout vs b h = over_empty layout.pid (8 * layout.len) layout.places vs b (good-parts layout h).2
 
 empty_bit-after : (pid : Option ℕ) (b : ℕ) → 8 ≤ b → empty_bit pid b ≡ 1
@@ -110,7 +110,7 @@ empty_bit-after None b h = refl
 empty_bit-after (Some own) b h = cond-false (nat_lt b 8) (bit own b) 1 (le-ltb b 8 h)
 
 -- after the data bytes all bits are 1
-pub frame_bit-after : (layout : Layout) (vs : List Value) (b : ℕ) → good_layout layout ≡ true → 8 * layout.len ≤ b → frame_bit layout vs b ≡ 1
+pub frame_bit-after : (layout : Layout) (vs : List Value) (b : ℕ) → is_good_layout layout ≡ true → 8 * layout.len ≤ b → frame_bit layout vs b ≡ 1
 frame_bit-after layout vs b h l =
     let parts = good-parts layout h in
     sym (frame_bit-over layout vs b h)

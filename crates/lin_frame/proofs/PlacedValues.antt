@@ -8,7 +8,7 @@ use Rattle.std.proofs.lemmas.List.FromFn.{fill_by_all}
 use Rattle.std.proofs.Math.Nat.{mod-eq_of_lt}
 use Rattle.lin_frame.specs.Words.{numbers}
 use Rattle.lin_frame.specs.Frame.{bit}
-use Rattle.lin_frame.specs.Bits.{byte_of_bits, data_bit, fits_place, has_good_size, lies_in, number_of_bits, unpacked, value_bit}
+use Rattle.lin_frame.specs.Bits.{byte_of_bits, data_bit, fits_place, has_good_size, lies_in, number_of_bits, unpacked_value, value_bit}
 use Rattle.lin_frame.specs.declared.layout.Place.{Place}
 use Rattle.lin_frame.specs.declared.value.Value.{Value}
 use Rattle.lin_frame.specs.declared.value.Value.TheVariants.{Scalar, Bytes}
@@ -20,7 +20,7 @@ HasBytes (Scalar x) = Unit {0}
 HasBytes (Bytes xs) = (k : ℕ) → get_or xs k 0 < 256
 
 -- the value whose bits stand in the place is the one that is read there
-pub unpacked_from_bits : (p : Place) (v : Value) (bytes : List ℕ) → fits_place p v ≡ true → HasBytes v → ((j : ℕ) → j < p.size → data_bit bytes (p.offset + j) ≡ value_bit v j) → unpacked p bytes ≡ v
+pub unpacked_from_bits : (p : Place) (v : Value) (bytes : List ℕ) → fits_place p v ≡ true → HasBytes v → ((j : ℕ) → j < p.size → data_bit bytes (p.offset + j) ≡ value_bit v j) → unpacked_value p bytes ≡ v
 unpacked_from_bits p (Scalar x) bytes f u h =
     let parts = and_parts (not p.array) (nat_lt x (2 ^ p.size)) f in
     let at = λ (j : ℕ). data_bit bytes (p.offset + j) in
@@ -64,7 +64,7 @@ place_bits p bytes w j inside long small e h =
     data_bit-from_le_bytes bytes w (p.offset + j) long small e (omega arith)
     ∙ sym (bit-mod_low (w / 2 ^ p.offset) p.size j h ∙ bit-shr w p.offset j)
 
-pub scalar_read : (p : Place) (bytes : List ℕ) (w : ℕ) → lies_in 0 64 p ≡ true → p.array ≡ false → length bytes ≡ 8 → ((i : ℕ) → get_or bytes i 0 < 256) → w ≡ from_le_bytes w64 bytes → unpacked p bytes ≡ Scalar (w / 2 ^ p.offset % 2 ^ p.size)
+pub scalar_read : (p : Place) (bytes : List ℕ) (w : ℕ) → lies_in 0 64 p ≡ true → p.array ≡ false → length bytes ≡ 8 → ((i : ℕ) → get_or bytes i 0 < 256) → w ≡ from_le_bytes w64 bytes → unpacked_value p bytes ≡ Scalar (w / 2 ^ p.offset % 2 ^ p.size)
 scalar_read p bytes w inside a long small e =
     let x = w / 2 ^ p.offset % 2 ^ p.size in
     let below = lt-ltb x (2 ^ p.size) (mod_below (w / 2 ^ p.offset) (2 ^ p.size) (pow_pos p.size)) in
@@ -85,7 +85,7 @@ few_bytes n x k l =
     omega (arith, get_or_past (take n (to_le_bytes w64 x)) k 0 (omega (arith, length-take n (to_le_bytes w64 x)))) in
     elim (cases_lt k n) [ inl h ↦ inside h | inr h ↦ past h ]
 
-pub array_read : (p : Place) (bytes : List ℕ) (w : ℕ) → lies_in 0 64 p ≡ true → p.array ≡ true → length bytes ≡ 8 → ((i : ℕ) → get_or bytes i 0 < 256) → w ≡ from_le_bytes w64 bytes → unpacked p bytes ≡ Bytes (take (p.size / 8) (to_le_bytes w64 (w / 2 ^ p.offset % 2 ^ p.size)))
+pub array_read : (p : Place) (bytes : List ℕ) (w : ℕ) → lies_in 0 64 p ≡ true → p.array ≡ true → length bytes ≡ 8 → ((i : ℕ) → get_or bytes i 0 < 256) → w ≡ from_le_bytes w64 bytes → unpacked_value p bytes ≡ Bytes (take (p.size / 8) (to_le_bytes w64 (w / 2 ^ p.offset % 2 ^ p.size)))
 array_read p bytes w inside a long small e =
     let x = w / 2 ^ p.offset % 2 ^ p.size in
     let n = p.size / 8 in

@@ -4,7 +4,8 @@ use Rattle.std.specs.Prelude.{ℕ, ◌+◌, ◌-◌, ◌*◌, ◌/◌, ◌%◌, 
 use Rattle.std.specs.Prelude.{nat_lt, nat_le, if◌then◌else◌, ◌==◌, List, [], ◌∷◌, ◌++◌, length}
 use Rattle.std.specs.Prelude.{map, sum, replicate, slice_index, zip, find}
 use Rattle.std.specs.List.{list_all}
-use Rattle.lin_frame.specs.Words.{numbers, choose}
+use Rattle.std.specs.Option.{option_map_or}
+use Rattle.lin_frame.specs.Words.{numbers}
 use Rattle.lin_frame.specs.Frame.{bit}
 use Rattle.lin_frame.specs.declared.layout.Layout.{Layout}
 use Rattle.lin_frame.specs.declared.layout.Place.{Place}
@@ -33,11 +34,11 @@ all_apart (p ∷ ps) = list_all (are_apart p) ps && all_apart ps
 
 -- the first bit that signals may use: data byte 0 is taken where it holds a protected identifier
 abbrev pub first_bit : Layout → ℕ
-first_bit layout = choose layout.pid 0 (λ own. 8)
+first_bit layout = option_map_or (λ own. 8) layout.pid 0
 
 -- whether a frame can be laid out so: 1 to 8 data bytes, and in them places that share no bit
-abbrev pub good_layout : Layout → Bool
-good_layout layout =
+abbrev pub is_good_layout : Layout → Bool
+is_good_layout layout =
     nat_le 1 layout.len
     && nat_le layout.len 8
     && list_all (lies_in (first_bit layout) (8 * layout.len)) layout.places
@@ -72,14 +73,16 @@ covers p b = nat_le p.offset b && nat_lt b (p.offset + p.size)
 -- bit b of a frame with these values in these places, and 1 where there is none
 abbrev pub placed_bit : List Place → List Value → ℕ → ℕ
 placed_bit places values b =
-    choose (find (λ s. covers s.0 b) (zip places values)) 1 (λ s. value_bit s.1 (b - s.0.offset))
+    option_map_or
+    (λ s. value_bit s.1 (b - s.0.offset)) (find (λ s. covers s.0 b) (zip places values)) 1
 
 -- bit b of a frame: of its protected identifier where data byte 0 holds it, otherwise of the signal
 -- there
 abbrev pub frame_bit : Layout → List Value → ℕ → ℕ
 frame_bit layout values b =
-    choose layout.pid (placed_bit layout.places values b) (λ own.
-    if nat_lt b 8 then bit own b else placed_bit layout.places values b)
+    option_map_or (λ own.
+    if nat_lt b 8 then bit own b else placed_bit layout.places values b) layout.pid
+    (placed_bit layout.places values b)
 
 -- the number whose n lowest bits are these
 abbrev pub number_of_bits : ℕ → (ℕ → ℕ) → ℕ
@@ -90,20 +93,20 @@ abbrev pub byte_of_bits : (ℕ → ℕ) → ℕ → ℕ
 byte_of_bits at k = number_of_bits 8 (λ j. at (8 * k + j))
 
 -- the data bytes of a frame
-abbrev pub packed : Layout → List Value → List ℕ
-packed layout values = map (byte_of_bits (frame_bit layout values)) (numbers layout.len)
+abbrev pub packed_bytes : Layout → List Value → List ℕ
+packed_bytes layout values = map (byte_of_bits (frame_bit layout values)) (numbers layout.len)
 
 -- the eight bytes that begin with a frame's data bytes
-abbrev pub padded : ℕ → List ℕ → List ℕ
-padded len bytes = bytes ++ replicate (8 - len) 0xFF
+abbrev pub padded_bytes : ℕ → List ℕ → List ℕ
+padded_bytes len bytes = bytes ++ replicate (8 - len) 0xFF
 
 -- bit b of data bytes
 abbrev pub data_bit : List ℕ → ℕ → ℕ
 data_bit bytes b = bit (slice_index bytes (b / 8)) (b % 8)
 
 -- the value in a place of data bytes
-abbrev pub unpacked : Place → List ℕ → Value
-unpacked p bytes =
+abbrev pub unpacked_value : Place → List ℕ → Value
+unpacked_value p bytes =
     let at = λ (j : ℕ). data_bit bytes (p.offset + j)
     in if p.array then Bytes (map (byte_of_bits at) (numbers (p.size / 8))) else Scalar
     (number_of_bits p.size at)

@@ -17,21 +17,21 @@ pid id =
     + 128 * ((1 + bit id 1 + bit id 3 + bit id 4 + bit id 5) % 2)
 
 -- the 8-bit sum with carry, of the plain sum of bytes
-abbrev pub carried : ℕ → ℕ
-carried s = if s == 0 then 0 else 1 + (s - 1) % 255
+abbrev pub sum_with_carry : ℕ → ℕ
+sum_with_carry s = if s == 0 then 0 else 1 + (s - 1) % 255
 
 -- the checksum over the data bytes
 abbrev pub classic : List ℕ → ℕ
-classic bytes = 255 - carried (sum bytes)
+classic bytes = 255 - sum_with_carry (sum bytes)
 
 -- the checksum over the protected identifier and the data bytes
-abbrev pub enhanced : ℕ → List ℕ → ℕ
-enhanced pid bytes = 255 - carried (pid + sum bytes)
+abbrev pub enhanced_checksum : ℕ → List ℕ → ℕ
+enhanced_checksum pid bytes = 255 - sum_with_carry (pid + sum bytes)
 
 -- the checksum of this kind
 abbrev pub checksum_of : SumKind → ℕ → List ℕ → ℕ
 checksum_of Classic pid bytes = classic bytes
-checksum_of Enhanced pid bytes = enhanced pid bytes
+checksum_of Enhanced pid bytes = enhanced_checksum pid bytes
 
 -- the data bytes and their checksum
 abbrev pub answer_of : SumKind → ℕ → List ℕ → List ℕ

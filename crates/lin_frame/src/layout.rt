@@ -2,7 +2,7 @@
 
 ghost use Rattle.std.specs.Prelude.{◌≡◌, ◌+◌, ◌^◌, nat_lt};
 ghost use Rattle.std.specs.List.{list_all};
-ghost use Rattle.lin_frame.specs.Bits.{all_apart, all_fit, are_apart, fits_place, good_layout};
+ghost use Rattle.lin_frame.specs.Bits.{all_apart, all_fit, are_apart, fits_place, is_good_layout};
 ghost use Rattle.lin_frame.specs.Bits.{has_good_size, lies_in};
 
 use crate::value::Value;
@@ -105,7 +105,7 @@ impl Layout {
     /// share no bit with each other or with data byte 0 where that holds a protected identifier,
     /// and have 1 to 16 bits for a scalar or whole bytes (1 to 8) at a byte border for an array.
     pub fn is_good(&self) -> bool
-        ensures { result ≡ good_layout self.now }
+        ensures { result ≡ is_good_layout self.now }
     {
         let places = self.places.as_slice();
         let first_bit = if self.pid.is_some() { 8 } else { 0 };

@@ -1,7 +1,7 @@
 //! Checksums (ISO 17987-3, checksum; LIN 2.2A, 2.3.1.5).
 
 ghost use Rattle.std.specs.Prelude.{◌≡◌, ℕ, ◌+◌, sum};
-ghost use Rattle.lin_frame.specs.Frame.{carried, checksum_of, is_answer};
+ghost use Rattle.lin_frame.specs.Frame.{sum_with_carry, checksum_of, is_answer};
 
 /// What a checksum covers.
 #[derive(Clone, Copy, Debug, PartialEq, Eq)]
@@ -13,7 +13,7 @@ pub enum SumKind {
 }
 
 fn added(so_far: u8, byte: u8) -> u8
-    ensures { (s : ℕ) → carried s ≡ so_far → carried (s + byte) ≡ result }
+    ensures { (s : ℕ) → sum_with_carry s ≡ so_far → sum_with_carry (s + byte) ≡ result }
 {
     let wide = u16::from(so_far) + u16::from(byte);
     if wide >= 256 {
@@ -24,7 +24,7 @@ fn added(so_far: u8, byte: u8) -> u8
 }
 
 fn carried_sum(first: u8, bytes: &[u8]) -> u8
-    ensures { result ≡ carried (first + sum bytes.now) }
+    ensures { result ≡ sum_with_carry (first + sum bytes.now) }
 {
     let mut total = first;
     for byte in bytes {

@@ -1,4 +1,4 @@
--- Reading an item behind a comma.
+-- Reading an item after a comma.
 use Rattle.std.proofs.Common.{◌≡◌, ◌<◌, true, List, [], ◌∷◌, length, Option, refl, sym, ap, subst, ◌∙◌, arith}
 use Rattle.lin_ldf.specs.Symbols.{Symbol}
 use Rattle.lin_ldf.specs.Forms.{Form, ◌&>◌, Fails, tail}

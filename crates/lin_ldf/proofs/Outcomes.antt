@@ -1,7 +1,7 @@
 -- A text has tokens, and those are ahead of the lexer; or it has a first fault, and what is ahead ends in it.
 use Rattle.std.proofs.Common.{◌≡◌, ◌≢◌, ℕ, zero, suc, ◌+◌, ◌<◌, ◌≤◌, List, [], ◌∷◌, ◌++◌, length, take, drop, Some, None, refl, sym, ap, subst, ◌∙◌, inl, inr, ◌⊎◌, append_assoc, arith, length-append}
 use Rattle.std.proofs.lemmas.List.{append-nil, take-append-drop}
-use Rattle.lin_ldf.specs.Stream.{Ahead, ahead_at, start_of, more, stop, stopped}
+use Rattle.lin_ldf.specs.Stream.{Ahead, ahead_at, start_of, more, stop, stop_with}
 use Rattle.lin_ldf.specs.Scanning.{piece_at}
 use Rattle.lin_ldf.specs.Advance.{place_behind, first_place}
 use Rattle.lin_ldf.specs.Tokens.{AreTokensIn, IsFaultIn, BeginsBad, BeginsOpenComment, BeginsOpenText, mark_len, behind_mark}
@@ -32,7 +32,7 @@ one_more : (start : ℕ) (text : List ℕ) (before : List Token) (t : Token) (r 
 one_more start text before t r (inl (are, none)) = inl (subst (AreTokensIn start text) (append_assoc before (t ∷ []) r.tokens) are, none)
 one_more start text before t r (inr (f, is, other, some, ts, p, same)) = inr (f, is, other, some, t ∷ ts, p, ap (λ (ys : List Token). t ∷ ys) same)
 
-stops : (start : ℕ) (text : List ℕ) (before : List Token) (e : LdfFault) (p : Place) (r : Ahead) → r ≡ stopped e p → IsFaultIn text e → e ≢ OutOfMemory → Outcome start text before r
+stops : (start : ℕ) (text : List ℕ) (before : List Token) (e : LdfFault) (p : Place) (r : Ahead) → r ≡ stop_with e p → IsFaultIn text e → e ≢ OutOfMemory → Outcome start text before r
 stops start text before e p r same is other = inr (e, is, other, ap (λ (x : Ahead). x.fault) same, [], p, ap (λ (x : Ahead). x.tokens) same)
 
 fewer : (rest p after : List ℕ) (m : ℕ) → p ++ after ≡ rest → 0 < length p → length rest ≤ suc m → length after ≤ m

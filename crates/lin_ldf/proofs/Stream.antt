@@ -2,7 +2,7 @@
 use Rattle.std.proofs.Common.{◌≡◌, ℕ, zero, suc, ◌+◌, ◌-◌, ◌<◌, ◌≤◌, List, [], ◌∷◌, ◌++◌, length, take, drop, Option, Some, None, Ok, refl, sym, ap, subst, ◌∙◌, append_assoc, arith}
 use Rattle.std.proofs.lemmas.List.{drop-drop, length-drop, length-map, length-take}
 use Rattle.lin_ldf.specs.Symbols.{symbol_in, symbols_in}
-use Rattle.lin_ldf.specs.Stream.{Ahead, ahead_at, nothing, more, stopped, still, Pulls}
+use Rattle.lin_ldf.specs.Stream.{Ahead, ahead_at, nothing, more, stop_with, still, Pulls}
 use Rattle.lin_ldf.specs.Scanning.{front_piece, piece_at}
 use Rattle.lin_ldf.specs.Advance.{step, place_behind}
 use Rattle.lin_ldf.specs.declared.fault.LdfFault.TheVariants as faults
@@ -40,15 +40,15 @@ token_at k at p c cs (suc n) lt h =
     let same : suc n - 1 ≡ n = omega arith in
     rw (h, ahead_at, same) (ap (λ (r : Ahead). more (token k at (length (take (suc n) (c ∷ cs))) p) r) (passed (suc n) at p (c ∷ cs)))
 
-pub bad_byte_at : (at : ℕ) (p : Place) (c : ℕ) (cs : List ℕ) → piece_at c cs ≡ pieces.BadByte → ahead_at 0 at p (c ∷ cs) ≡ stopped (faults.BadByte p) p
+pub bad_byte_at : (at : ℕ) (p : Place) (c : ℕ) (cs : List ℕ) → piece_at c cs ≡ pieces.BadByte → ahead_at 0 at p (c ∷ cs) ≡ stop_with (faults.BadByte p) p
 unfolding ahead_at
 bad_byte_at at p c cs h = rw (h, ahead_at) refl
 
-pub open_comment_at : (at : ℕ) (p : Place) (c : ℕ) (cs : List ℕ) → piece_at c cs ≡ pieces.OpenComment → ahead_at 0 at p (c ∷ cs) ≡ stopped (faults.OpenComment p) p
+pub open_comment_at : (at : ℕ) (p : Place) (c : ℕ) (cs : List ℕ) → piece_at c cs ≡ pieces.OpenComment → ahead_at 0 at p (c ∷ cs) ≡ stop_with (faults.OpenComment p) p
 unfolding ahead_at
 open_comment_at at p c cs h = rw (h, ahead_at) refl
 
-pub open_text_at : (at : ℕ) (p : Place) (c : ℕ) (cs : List ℕ) → piece_at c cs ≡ pieces.OpenText → ahead_at 0 at p (c ∷ cs) ≡ stopped (faults.OpenText p) p
+pub open_text_at : (at : ℕ) (p : Place) (c : ℕ) (cs : List ℕ) → piece_at c cs ≡ pieces.OpenText → ahead_at 0 at p (c ∷ cs) ≡ stop_with (faults.OpenText p) p
 unfolding ahead_at
 open_text_at at p c cs h = rw (h, ahead_at) refl
 
@@ -83,17 +83,17 @@ behind_token source (c ∷ cs) at n k p lt e some within h =
     (token_at k at p c cs n some h ∙ ap (λ (m : ℕ). more (token k at m p) (ahead_at 0 (at + m) (place_behind p (take n (c ∷ cs))) (drop n (c ∷ cs)))) len
     ∙ ap (λ (r : List ℕ). more (token k at n p) (ahead_at 0 (at + n) (place_behind p (take n (c ∷ cs))) r)) (ap (drop n) e ∙ drop-drop n at source))
 
-pub at_bad_byte : (source rest : List ℕ) (at : ℕ) (p : Place) → rest ≡ drop at source → front_piece rest ≡ pieces.BadByte → ahead_at 0 at p (drop at source) ≡ stopped (faults.BadByte p) p
+pub at_bad_byte : (source rest : List ℕ) (at : ℕ) (p : Place) → rest ≡ drop at source → front_piece rest ≡ pieces.BadByte → ahead_at 0 at p (drop at source) ≡ stop_with (faults.BadByte p) p
 at_bad_byte source [] at p e h = absurd cc
-at_bad_byte source (c ∷ cs) at p e h = subst (λ (r : List ℕ). ahead_at 0 at p r ≡ stopped (faults.BadByte p) p) e (bad_byte_at at p c cs h)
+at_bad_byte source (c ∷ cs) at p e h = subst (λ (r : List ℕ). ahead_at 0 at p r ≡ stop_with (faults.BadByte p) p) e (bad_byte_at at p c cs h)
 
-pub at_open_comment : (source rest : List ℕ) (at : ℕ) (p : Place) → rest ≡ drop at source → front_piece rest ≡ pieces.OpenComment → ahead_at 0 at p (drop at source) ≡ stopped (faults.OpenComment p) p
+pub at_open_comment : (source rest : List ℕ) (at : ℕ) (p : Place) → rest ≡ drop at source → front_piece rest ≡ pieces.OpenComment → ahead_at 0 at p (drop at source) ≡ stop_with (faults.OpenComment p) p
 at_open_comment source [] at p e h = absurd cc
-at_open_comment source (c ∷ cs) at p e h = subst (λ (r : List ℕ). ahead_at 0 at p r ≡ stopped (faults.OpenComment p) p) e (open_comment_at at p c cs h)
+at_open_comment source (c ∷ cs) at p e h = subst (λ (r : List ℕ). ahead_at 0 at p r ≡ stop_with (faults.OpenComment p) p) e (open_comment_at at p c cs h)
 
-pub at_open_text : (source rest : List ℕ) (at : ℕ) (p : Place) → rest ≡ drop at source → front_piece rest ≡ pieces.OpenText → ahead_at 0 at p (drop at source) ≡ stopped (faults.OpenText p) p
+pub at_open_text : (source rest : List ℕ) (at : ℕ) (p : Place) → rest ≡ drop at source → front_piece rest ≡ pieces.OpenText → ahead_at 0 at p (drop at source) ≡ stop_with (faults.OpenText p) p
 at_open_text source [] at p e h = absurd cc
-at_open_text source (c ∷ cs) at p e h = subst (λ (r : List ℕ). ahead_at 0 at p r ≡ stopped (faults.OpenText p) p) e (open_text_at at p c cs h)
+at_open_text source (c ∷ cs) at p e h = subst (λ (r : List ℕ). ahead_at 0 at p r ≡ stop_with (faults.OpenText p) p) e (open_text_at at p c cs h)
 
 pub ruleset pulling = (at_end, behind_gap, behind_token, at_bad_byte, at_open_comment, at_open_text)
 
@@ -114,9 +114,9 @@ abbrev shown : Scanned → ℕ → Place → ℕ → List ℕ → Ahead
 shown s at p c cs = elim s [
   | pieces.Gap k ↦ ahead_at (k - 1) (at + 1) (step p c) cs
   | pieces.Token kind k ↦ more (token kind at (length (take k (c ∷ cs))) p) (ahead_at (k - 1) (at + 1) (step p c) cs)
-  | pieces.BadByte ↦ stopped (faults.BadByte p) p
-  | pieces.OpenComment ↦ stopped (faults.OpenComment p) p
-  | pieces.OpenText ↦ stopped (faults.OpenText p) p
+  | pieces.BadByte ↦ stop_with (faults.BadByte p) p
+  | pieces.OpenComment ↦ stop_with (faults.OpenComment p) p
+  | pieces.OpenText ↦ stop_with (faults.OpenText p) p
 ]
 
 -- no more tokens than bytes

@@ -1,5 +1,7 @@
--- The tokens of a text as the lexer gives them, one by one. The lexer computes these; no public contract cites them.
-use Rattle.std.specs.Prelude.{◌≡◌, ℕ, zero, suc, ◌+◌, ◌-◌, ◌≤◌, List, [], ◌∷◌, length, take, drop, Option, Some, None, Result, Ok, Err}
+-- The tokens of a text as the lexer gives them, one by one. The lexer computes these; no public
+-- contract cites them.
+use Rattle.std.specs.Prelude.{◌≡◌, ℕ, zero, suc, ◌+◌, ◌-◌, ◌≤◌, List, [], ◌∷◌, length, take, drop}
+use Rattle.std.specs.Prelude.{Option, Some, None, Result, Ok, Err}
 use Rattle.lin_ldf.specs.Symbols.{Symbol, symbols_in}
 use Rattle.lin_ldf.specs.Scanning.{piece_at}
 use Rattle.lin_ldf.specs.Advance.{step, first_place}
@@ -28,18 +30,26 @@ more t r = record { tokens = t ∷ r.tokens; fault = r.fault }
 abbrev pub stop : Place → Token
 stop p = record { kind = Other; start = 0; end = 0; line = p.line; column = p.column }
 
-abbrev pub stopped : LdfFault → Place → Ahead
-stopped e p = record { tokens = stop p ∷ []; fault = Some e }
+abbrev pub stop_with : LdfFault → Place → Ahead
+stop_with e p = record { tokens = stop p ∷ []; fault = Some e }
 
--- What is ahead in a text whose first byte, behind so many that are passed over, stands at this offset and place.
+-- What is ahead in a text whose first byte, after so many that are passed over, stands at this
+-- offset and place.
 unfoldable pub ahead_at : ℕ → ℕ → Place → List ℕ → Ahead
 ahead_at n at p [] = nothing
 ahead_at zero at p (c ∷ cs) = elim (piece_at c cs) [
   | pieces.Gap k ↦ ahead_at (k - 1) (at + 1) (step p c) cs
-  | pieces.Token kind k ↦ more (record { kind = kind; start = at; end = at + length (take k (c ∷ cs)); line = p.line; column = p.column }) (ahead_at (k - 1) (at + 1) (step p c) cs)
-  | pieces.BadByte ↦ stopped (faults.BadByte p) p
-  | pieces.OpenComment ↦ stopped (faults.OpenComment p) p
-  | pieces.OpenText ↦ stopped (faults.OpenText p) p
+  | pieces.Token kind k ↦ more
+      (record {
+        kind = kind;
+        start = at;
+        end = at + length (take k (c ∷ cs));
+        line = p.line;
+        column = p.column;
+      }) (ahead_at (k - 1) (at + 1) (step p c) cs)
+  | pieces.BadByte ↦ stop_with (faults.BadByte p) p
+  | pieces.OpenComment ↦ stop_with (faults.OpenComment p) p
+  | pieces.OpenText ↦ stop_with (faults.OpenText p) p
 ]
 ahead_at (suc n) at p (c ∷ cs) = ahead_at n (at + 1) (step p c) cs
 
@@ -50,20 +60,25 @@ start_of source = ahead_at 0 (mark_len source) first_place (behind_mark source)
 -- ---- the lexer
 
 abbrev pub IsReady : Lexer → Type 0
-IsReady l = (l.offset ≤ length l.source.now) × (l.place.line ≤ l.offset + 1) × (l.place.column ≤ l.offset + 1)
+IsReady l =
+    (l.offset ≤ length l.source.now) × (l.place.line ≤ l.offset + 1)
+    × (l.place.column ≤ l.offset + 1)
 
 abbrev pub still : Lexer → Ahead
 still l = ahead_at 0 l.offset l.place (drop l.offset l.source.now)
 
 -- what a call gives of what was ahead
 abbrev pub Pulls : Result (Option Token) LdfFault → Lexer → Lexer → Type 0
-Pulls (Ok (Some t)) old new = (still old ≡ more t (still new)) × (t.start ≤ t.end) × (t.end ≤ length old.source.now)
+Pulls (Ok (Some t)) old new =
+    (still old ≡ more t (still new)) × (t.start ≤ t.end) × (t.end ≤ length old.source.now)
 Pulls (Ok None) old new = still old ≡ nothing
-Pulls (Err e) old new = still old ≡ stopped e new.place
+Pulls (Err e) old new = still old ≡ stop_with e new.place
 
 -- ---- the parser
 
 -- the next token's kind, text and place, and what is ahead of the lexer
 abbrev pub symbols_left : Option TokenKind → List ℕ → Place → Lexer → List Symbol
 symbols_left None text place l = []
-symbols_left (Some kind) text place l = record { kind = kind; text = text; line = place.line; column = place.column } ∷ symbols_in l.source.now (still l).tokens
+symbols_left (Some kind) text place l =
+    record { kind = kind; text = text; line = place.line; column = place.column }
+    ∷ symbols_in l.source.now (still l).tokens

@@ -1,9 +1,13 @@
 //! The tokens of an LDF text (LIN 2.2A, section 9, lexical rules): the longest piece at each place.
 
-ghost use Rattle.std.specs.Prelude.{◌≡◌, ◌≢◌, ◌⊎◌, ◌+◌, ◌<◌, ◌≤◌, ◌^◌, ◌==◌, length, take, drop, List, All, IfOk, IfErr, IsErrAnd, MatchResult, IfSome};
+ghost use Rattle.std.specs.Prelude.{◌≡◌, ◌≢◌, ◌⊎◌, ◌+◌, ◌<◌, ◌≤◌, ◌^◌, ◌==◌, length, take, drop};
+ghost use Rattle.std.specs.Prelude.{List, All, IfOk, IfErr, IsErrAnd, MatchResult, IfSome};
 ghost use Rattle.std.specs.List.{prefix_len};
-ghost use Rattle.lin_ldf.specs.Bytes.{is_separator, is_letter, is_digit, is_hex_digit, is_word_byte, is_bad, is_not_newline, is_not_quote};
-ghost use Rattle.lin_ldf.specs.Scanning.{begins, close_at, single, slash_piece, text_piece, has_fraction, has_hex, fraction_len, number_len, piece_at, front_piece, IsWithin};
+ghost use Rattle.lin_ldf.specs.Bytes.{is_separator, is_letter, is_digit, is_hex_digit};
+ghost use Rattle.lin_ldf.specs.Bytes.{is_word_byte, is_bad, is_not_newline, is_not_quote};
+ghost use Rattle.lin_ldf.specs.Scanning.{begins, close_at, single, slash_piece, text_piece};
+ghost use Rattle.lin_ldf.specs.Scanning.{has_fraction, has_hex, fraction_len, number_len, piece_at};
+ghost use Rattle.lin_ldf.specs.Scanning.{front_piece, IsWithin};
 ghost use Rattle.lin_ldf.specs.Advance.{first_place, place_behind};
 ghost use Rattle.lin_ldf.specs.Stream.{IsReady, Pulls, start_of, still};
 ghost use Rattle.lin_ldf.specs.Tokens.{mark_len, AreTokens, LiesIn, IsLexFault};
@@ -18,7 +22,8 @@ use lin_description::Place;
 use memchr::memchr;
 use std::alloc::Global;
 
-/// What begins at a byte: a piece, with the number of its bytes (a gap is a separator or a comment), or a fault.
+/// What begins at a byte: a piece, with the number of its bytes (a gap is a separator or a
+/// comment), or a fault.
 #[derive(Clone, Copy)]
 enum Scanned {
     Gap(usize),
@@ -285,7 +290,7 @@ fn front_piece(text: &[u8]) -> Scanned
 /// From this many bytes on, a piece is searched for line feeds.
 const LONG: usize = 32;
 
-/// The place behind a piece that begins at this place.
+/// The place after a piece that begins at this place.
 fn advanced(from: Place, piece: &[u8]) -> Place
     requires line_fits { from.line + length piece.now < 2 ^ 64 }
     requires column_fits { from.column + length piece.now < 2 ^ 64 }
@@ -375,7 +380,8 @@ impl<'a> Lexer<'a> {
         ensures ready { IsReady self.new }
         ensures source { self.new.source.now ≡ self.old.source.now }
         ensures offset { self.new.offset ≡ self.old.offset + size }
-        ensures place { self.new.place ≡ place_behind self.old.place (take size (drop self.old.offset self.old.source.now)) }
+        ensures place { self.new.place
+            ≡ place_behind self.old.place (take size (drop self.old.offset self.old.source.now)) }
     {
         let (_, rest) = self.source.split_at(self.offset);
         let (piece, _) = rest.split_at(size);
@@ -396,7 +402,8 @@ impl<'a> Lexer<'a> {
         ensures ready { IsReady self.new }
         ensures source { self.new.source.now ≡ self.old.source.now }
         ensures offset { self.new.offset ≡ self.old.offset + size }
-        ensures place { self.new.place ≡ place_behind self.old.place (take size (drop self.old.offset self.old.source.now)) }
+        ensures place { self.new.place
+            ≡ place_behind self.old.place (take size (drop self.old.offset self.old.source.now)) }
     {
         if same_kind(TokenKind::Text, kind) {
             self.pass(size);
@@ -406,7 +413,8 @@ impl<'a> Lexer<'a> {
         }
     }
 
-    /// The next token, or nothing at the end; or the fault that stands in its place, and stands there still at the next call.
+    /// The next token, or nothing at the end; or the fault that stands in its place, and stands
+    /// there still at the next call.
     #[tactic(auto, using(crate::proofs::Stream::pulling))]
     #[inline(always)]
     pub fn next(&mut self) -> Result<Option<Token>, LdfFault>
@@ -440,12 +448,14 @@ impl<'a> Lexer<'a> {
     }
 }
 
-/// The tokens of an LDF text (LIN 2.2A, section 9, lexical rules), in order, without separators and comments.
+/// The tokens of an LDF text (LIN 2.2A, section 9, lexical rules), in order, without separators and
+/// comments.
 ///
-/// Byte ranges count in the whole source. Lines and columns count from 1, columns in bytes; a byte-order mark EF BB BF
-/// at the start is skipped, and column 1 stands behind it.
+/// Byte ranges count in the whole source. Lines and columns count from 1, columns in bytes; a
+/// byte-order mark EF BB BF at the start is skipped, and column 1 stands after it.
 ///
-/// An error is the first fault from the left: `BadByte`, `OpenComment` or `OpenText`; or `OutOfMemory`.
+/// An error is the first fault from the left: `BadByte`, `OpenComment` or `OpenText`; or
+/// `OutOfMemory`.
 pub fn lex(alloc: Global, source: &[u8]) -> Result<Vec<Token>, LdfFault>
     ensures tokens { IfOk result (λ ts. AreTokens source.now ts.items) }
     ensures within { IfOk result (λ ts. All (LiesIn source.now) ts.items) }

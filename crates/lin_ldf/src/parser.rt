@@ -1,6 +1,7 @@
 //! The description that an LDF text spells, read token by token.
 
-ghost use Rattle.std.specs.Prelude.{◌≡◌, ◌≢◌, ◌⊎◌, ◌++◌, ◌∷◌, ◌≤◌, [], true, length, IfOk, IsErrAnd, MatchResult};
+ghost use Rattle.std.specs.Prelude.{◌≡◌, ◌≢◌, ◌⊎◌, ◌++◌, ◌∷◌, ◌≤◌, [], true, length, IfOk};
+ghost use Rattle.std.specs.Prelude.{IsErrAnd, MatchResult};
 ghost use Rattle.std.specs.Str.{bytes_eq};
 ghost use Rattle.std.specs.List.{list_any};
 ghost use Rattle.lin_ldf.specs.Symbols.{symbols_in};
@@ -10,8 +11,10 @@ ghost use Rattle.lin_ldf.specs.Describes.{Describes};
 ghost use Rattle.lin_ldf.specs.Forms.{Gives, has_front, front, tail, mark, keyword, end};
 ghost use Rattle.lin_ldf.specs.Loops.{is_next};
 ghost use Rattle.lin_ldf.specs.UpTo.{front_kind};
-ghost use Rattle.lin_ldf.specs.Words.{word, name_of, place_of, opening, declared, number_at, int, dec, is_word_next};
-ghost use Rattle.lin_ldf.specs.Grammar.{header_words, is_extra_next, without_quotes, protocol_text, with_node, front_section};
+ghost use Rattle.lin_ldf.specs.Words.{word, name_of, place_of, opening, new_word, number_at, int};
+ghost use Rattle.lin_ldf.specs.Words.{dec, is_word_next};
+ghost use Rattle.lin_ldf.specs.Grammar.{header_words, is_extra_next, without_quotes, protocol_text};
+ghost use Rattle.lin_ldf.specs.Grammar.{with_node, front_section};
 ghost use Rattle.lin_ldf.specs.declared.fault.LdfFault.{LdfFault};
 ghost use Rattle.lin_ldf.specs.declared.fault.LdfFault.TheVariants.{OutOfMemory};
 ghost use Rattle.lin_description.specs.declared.description.Description.{Description};
@@ -28,8 +31,8 @@ use lin_lists::Text;
 use std::alloc::{AllocError, Global};
 use std::marker::Model;
 
-/// The tokens that are left: the next one's kind, text and place, and the lexer, which stands after it. What is read takes
-/// memory of `alloc`.
+/// The tokens that are left: the next one's kind, text and place, and the lexer, which stands after
+/// it. What is read takes memory of `alloc`.
 #[derive(Drop)]
 pub struct Parser<'a> {
     alloc: Global,
@@ -109,7 +112,7 @@ impl<'a> Parser<'a> {
         }
     }
 
-    /// The place of the next token, or behind the text.
+    /// The place of the next token, or after the text.
     pub fn place(&self) -> Place
         ensures { has_front self.now ≡ true → result ≡ place_of (front self.now) }
     {
@@ -171,7 +174,7 @@ impl<'a> Parser<'a> {
                     };
                 }
                 Ok(None) => self.kind = None,
-                // (a token that ends no file, and nothing behind it)
+                // (a token that ends no file, and nothing after it)
                 Err(_) => {
                     self.kind = Some(TokenKind::Other);
                     self.text = &[];
@@ -247,7 +250,7 @@ impl<'a> Parser<'a> {
 
     /// A name that is declared here. It must be new.
     pub fn declared(&mut self, seen: &mut Names<'a>) -> Result<Name, LdfFault>
-        ensures read { Gives result self.new ((declared seen.old).read self.old) }
+        ensures read { Gives result self.new ((new_word seen.old).read self.old) }
         ensures seen { IfOk result (λ n. seen.new ≡ seen.old ++ n.text ∷ []) }
     {
         if !self.is_at(TokenKind::Word) {
@@ -263,7 +266,7 @@ impl<'a> Parser<'a> {
 
     /// The name of a block of attributes. No block of that node may stand before.
     pub fn node_of_block(&mut self, blocks: &mut NodeBlocks<'a>) -> Result<Name, LdfFault>
-        ensures read { Gives result self.new ((declared blocks.old.seen).read self.old) }
+        ensures read { Gives result self.new ((new_word blocks.old.seen).read self.old) }
         ensures blocks { IfOk result (λ n. blocks.new ≡ with_node blocks.old n.text) }
     {
         if !self.is_at(TokenKind::Word) {
@@ -364,15 +367,17 @@ impl<'a> Parser<'a> {
 
 /// What an LDF text describes (LIN 2.2A, section 9).
 ///
-/// Extra lines of the header, sections that aren't used, and attributes but `LIN_protocol` and `configured_NAD` are read
-/// over. The tokens are read one at a time, so that what is read over takes no memory.
+/// Extra lines of the header, sections that aren't used, and attributes but `LIN_protocol` and
+/// `configured_NAD` are read over. The tokens are read one at a time, so that what is read over
+/// takes no memory.
 ///
-/// An error is the first fault of the tokens (`BadByte`, `OpenComment` or `OpenText`); where there is none, the fault at
-/// the earliest token that breaks the grammar: `Unexpected`, `NumberTooLarge`, `SectionTwice` or `NameTwice`; or
-/// `OutOfMemory`. Nothing is left behind.
+/// An error is the first fault of the tokens (`BadByte`, `OpenComment` or `OpenText`); where there
+/// is none, the fault at the earliest token that breaks the grammar: `Unexpected`,
+/// `NumberTooLarge`, `SectionTwice` or `NameTwice`; or `OutOfMemory`. Nothing is left behind.
 pub fn parse(alloc: Global, source: &[u8]) -> Result<Description, LdfFault>
     ensures found { IfOk result (Describes source.now) }
-    ensures only { (d : Description) → Describes source.now d → MatchResult result (λ found. found ≡ d) (λ e. e ≡ OutOfMemory) }
+    ensures only { (d : Description) → Describes source.now d
+        → MatchResult result (λ found. found ≡ d) (λ e. e ≡ OutOfMemory) }
     ensures one { (d e : Description) → Describes source.now d → Describes source.now e → d ≡ e }
     ensures first { (e : LdfFault) → IsLexFault source.now e → e ≢ OutOfMemory
         → IsErrAnd result (λ found. (found ≡ e) ⊎ (found ≡ OutOfMemory)) }

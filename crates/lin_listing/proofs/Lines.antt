@@ -8,7 +8,7 @@ use Rattle.std.specs.Prelude.{zip}
 use Rattle.hex.specs.Hex.{encode_upper}
 use Rattle.lin_frame.specs.Words.{numbers}
 use Rattle.lin_frame.specs.declared.layout.Place.{Place}
-use Rattle.lin_log.specs.Words.{ended, hex_word, line, spaced}
+use Rattle.lin_log.specs.Words.{line_tail, hex_word, line, spaced_word}
 use Rattle.lin_text.proofs.Growing.{grows-more, same-growth}
 use Rattle.lin_text.specs.Written.{Grows}
 use Rattle.lin_text.specs.declared.buffered.TextWriter.{TextWriter}
@@ -23,22 +23,22 @@ full-word [] e = absurd (eqb-false 0 0 e refl)
 full-word (b ∷ bs) e = refl
 
 -- words that end a line
-pub ended-flat : (ws : List (List ℕ)) → flat_map spaced ws ++ 10 ∷ [] ≡ ended ws
+pub ended-flat : (ws : List (List ℕ)) → flat_map spaced_word ws ++ 10 ∷ [] ≡ line_tail ws
 ended-flat [] = refl
-ended-flat (w ∷ ws) = append_assoc (spaced w) (flat_map spaced ws) (10 ∷ []) ∙ ap (λ l. spaced w ++ l) (ended-flat ws)
+ended-flat (w ∷ ws) = append_assoc (spaced_word w) (flat_map spaced_word ws) (10 ∷ []) ∙ ap (λ l. spaced_word w ++ l) (ended-flat ws)
 
-pub ended-both : (xs ys : List (List ℕ)) → flat_map spaced xs ++ ended ys ≡ ended (xs ++ ys)
+pub ended-both : (xs ys : List (List ℕ)) → flat_map spaced_word xs ++ line_tail ys ≡ line_tail (xs ++ ys)
 ended-both [] ys = refl
-ended-both (x ∷ xs) ys = append_assoc (spaced x) (flat_map spaced xs) (ended ys) ∙ ap (λ l. spaced x ++ l) (ended-both xs ys)
+ended-both (x ∷ xs) ys = append_assoc (spaced_word x) (flat_map spaced_word xs) (line_tail ys) ∙ ap (λ l. spaced_word x ++ l) (ended-both xs ys)
 
 -- one word more
 pub words-next : {X : Type 0} (f : X → List ℕ) (xs : List X) (i : ℕ) (d : X) → i < length xs
-    → flat_map spaced (map f (take (i + 1) xs)) ≡ flat_map spaced (map f (take i xs)) ++ spaced (f (get_or xs i d))
+    → flat_map spaced_word (map f (take (i + 1) xs)) ≡ flat_map spaced_word (map f (take i xs)) ++ spaced_word (f (get_or xs i d))
 words-next f xs i d lt =
-    ap (λ l. flat_map spaced (map f l)) (take_more xs i d lt)
-    ∙ ap (flat_map spaced) (map-append f (take i xs) (get_or xs i d ∷ []))
-    ∙ flat_map-append spaced (map f (take i xs)) (f (get_or xs i d) ∷ [])
-    ∙ ap (λ l. flat_map spaced (map f (take i xs)) ++ l) (append-nil (spaced (f (get_or xs i d))))
+    ap (λ l. flat_map spaced_word (map f l)) (take_more xs i d lt)
+    ∙ ap (flat_map spaced_word) (map-append f (take i xs) (get_or xs i d ∷ []))
+    ∙ flat_map-append spaced_word (map f (take i xs)) (f (get_or xs i d) ∷ [])
+    ∙ ap (λ l. flat_map spaced_word (map f (take i xs)) ++ l) (append-nil (spaced_word (f (get_or xs i d))))
 
 -- the lines of one number more
 pub numbers-next : (f : ℕ → List ℕ) (i : ℕ) → flat_map f (numbers (i + 1)) ≡ flat_map f (numbers i) ++ f i
@@ -50,10 +50,10 @@ pub grows-number : {W : Type 0} {contents : W → Option (List ℕ)} {x y z : Te
 grows-number f i h k = same-growth (sym (numbers-next f i)) (grows-more h k)
 
 -- what a line begins with, and the words that end it
-pub head-and-members : (kind : List ℕ) (head members : List (List ℕ)) → (kind ++ flat_map spaced head) ++ ended members ≡ line (kind ∷ (head ++ members))
-head-and-members kind head members = append_assoc kind (flat_map spaced head) (ended members) ∙ ap (λ l. kind ++ l) (ended-both head members)
+pub head-and-members : (kind : List ℕ) (head members : List (List ℕ)) → (kind ++ flat_map spaced_word head) ++ line_tail members ≡ line (kind ∷ (head ++ members))
+head-and-members kind head members = append_assoc kind (flat_map spaced_word head) (line_tail members) ∙ ap (λ l. kind ++ l) (ended-both head members)
 
--- what is read behind the end of a frame's places
+-- what is read after the end of a frame's places
 abbrev pub no_place : Place
 no_place = record { offset = 0; size = 0; array = false }
 

@@ -25,15 +25,15 @@ use Rattle.lin_cluster.proofs.KnownNames.{frame-found, no_frame, no_name, no_num
 use Rattle.lin_cluster.proofs.Named.{found-at, found-within}
 use Rattle.lin_cluster.proofs.NothingFound.{NothingFound, nothing-found}
 use Rattle.lin_names.specs.Names.{NamesData, names_of}
-use Rattle.lin_parts.specs.Cluster.{event_of, sporadic_of}
-use Rattle.lin_parts.specs.Rules.{IsCluster}
-use Rattle.lin_parts.specs.declared.parts.Entry.{Entry}
-use Rattle.lin_parts.specs.declared.parts.Entry.TheVariants.{Frame, Sporadic, Event, MasterReq, SlaveResp, Quiet}
-use Rattle.lin_parts.specs.declared.parts.EventFrame.{EventFrame}
-use Rattle.lin_parts.specs.declared.parts.Line.{Line}
-use Rattle.lin_parts.specs.declared.parts.Parts.{Parts}
-use Rattle.lin_parts.specs.declared.parts.Table.{Table}
-use Rattle.lin_listing.specs.Slots.{AreOfOneDescription, NoSlotIsShort, frame_bytes, greatest_bytes, needed, slot_bytes}
+use Rattle.lin_cluster_parts.specs.Cluster.{event_of, sporadic_of}
+use Rattle.lin_cluster_parts.specs.Rules.{IsCluster}
+use Rattle.lin_cluster_parts.specs.declared.parts.Entry.{Entry}
+use Rattle.lin_cluster_parts.specs.declared.parts.Entry.TheVariants.{Frame, Sporadic, Event, MasterReq, SlaveResp, Quiet}
+use Rattle.lin_cluster_parts.specs.declared.parts.EventFrame.{EventFrame}
+use Rattle.lin_cluster_parts.specs.declared.parts.Line.{Line}
+use Rattle.lin_cluster_parts.specs.declared.parts.Parts.{Parts}
+use Rattle.lin_cluster_parts.specs.declared.parts.Table.{Table}
+use Rattle.lin_listing.specs.Slots.{AreOfOneDescription, NoSlotIsShort, frame_bytes, greatest_bytes, slot_need, slot_bytes}
 
 -- ---- the data bytes of a slot are those by which the description is judged
 
@@ -146,7 +146,7 @@ not-short false true true f zero' good none = absurd (cc)
 not-short true is_good is_short f zero' good none = absurd (cc)
 not-short false false is_short f zero' good none = absurd (cc)
 
-long-entry : (d : Description) → NothingFound d → IsCluster (parts_of d) → (x : TableEntry) → GoodLine d x → needed (parts_of d) (names_of d) (described_entry d x) ≤ x.delay.value
+long-entry : (d : Description) → NothingFound d → IsCluster (parts_of d) → (x : TableEntry) → GoodLine d x → slot_need (parts_of d) (names_of d) (described_entry d x) ≤ x.delay.value
 long-entry d none sound x good =
     let bytes = slot_bytes (parts_of d) (described_entry d x)
     in let us = needed_us d.jitter.value d.speed.value bytes
@@ -158,7 +158,7 @@ no-slot-is-short : (d : Description) → IsFree d → IsCluster (parts_of d) →
 no-slot-is-short d free sound =
     let none = nothing-found d free
     in let c = parts_of d
-    in let IsLong = λ (l : Line). needed c (names_of d) l.entry ≤ l.delay_us
+    in let IsLong = λ (l : Line). slot_need c (names_of d) l.entry ≤ l.delay_us
     in All-map (λ (t : Table). All IsLong t.lines) (described_table d) d.tables
     (λ k t lt. All-map IsLong (described_line d) (get_or d.tables k t).entries
     (λ i x in'. long-entry d none sound (get_or (get_or d.tables k t).entries i x) ((good-tables d none k t lt).lines i x in')))

@@ -6,9 +6,10 @@ use Rattle.lin_frame.specs.Words.{numbers}
 use Rattle.lin_frame.specs.declared.layout.Place.{Place}
 use Rattle.lin_frame.specs.declared.sums.SumKind.{SumKind}
 use Rattle.lin_frame.specs.declared.sums.SumKind.TheVariants.{Classic, Enhanced}
-use Rattle.lin_parts.specs.Cluster.{event_of, frame_of, named_table, node_of, signal_of, sporadic_of}
-use Rattle.lin_parts.specs.declared.parts.Parts.{Parts}
-use Rattle.lin_parts.specs.declared.parts.SignalFrame.{SignalFrame}
+use Rattle.lin_cluster_parts.specs.Cluster.{event_of, frame_of, named_table, node_of, signal_of}
+use Rattle.lin_cluster_parts.specs.Cluster.{sporadic_of}
+use Rattle.lin_cluster_parts.specs.declared.parts.Parts.{Parts}
+use Rattle.lin_cluster_parts.specs.declared.parts.SignalFrame.{SignalFrame}
 use Rattle.lin_names.specs.Names.{NamesData, event_name, frame_name, sporadic_name}
 use Rattle.lin_log.specs.Words.{line, value_word}
 
@@ -20,7 +21,8 @@ abbrev pub model_word : SumKind → List ℕ
 model_word Classic = codes "classic"
 model_word Enhanced = codes "enhanced"
 
--- number, name, identifier, protected identifier, data bytes, publisher and checksum model of an unconditional frame
+-- number, name, identifier, protected identifier, data bytes, publisher and checksum model of an
+-- unconditional frame
 abbrev pub frame_line : Parts → NamesData → ℕ → List ℕ
 frame_line c names f =
     line
@@ -41,14 +43,17 @@ places frame = zip frame.signals frame.layout.places
 -- a signal of a frame: its first bit, its size in bits, its name and its initial value
 abbrev pub place_line : Parts → ℕ → ℕ × Place → List ℕ
 place_line c f p =
-    line (codes "place" ∷ decimal f ∷ decimal p.1.offset ∷ decimal p.1.size ∷ (signal_of c p.0).name ∷ value_word (signal_of c p.0).initial ∷ [])
+    line (codes "place" ∷ decimal f ∷ decimal p.1.offset ∷ decimal p.1.size ∷ (signal_of c p.0).name
+    ∷ value_word (signal_of c p.0).initial ∷ [])
 
 abbrev pub frame_lines : Parts → NamesData → ℕ → List ℕ
 frame_lines c names f = frame_line c names f ++ flat_map (place_line c f) (places (frame_of c f))
 
 -- a sporadic frame: its frames, the highest in rank first
 abbrev pub sporadic_line : Parts → NamesData → ℕ → List ℕ
-sporadic_line c names k = line (codes "sporadic" ∷ decimal k ∷ sporadic_name names k ∷ map (frame_name names) (sporadic_of c k))
+sporadic_line c names k =
+    line (codes "sporadic" ∷ decimal k ∷ sporadic_name names k
+    ∷ map (frame_name names) (sporadic_of c k))
 
 -- an event-triggered frame: its identifiers, the table that resolves its collisions, and its frames
 abbrev pub event_line : Parts → NamesData → ℕ → List ℕ

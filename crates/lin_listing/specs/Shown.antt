@@ -6,9 +6,9 @@ use Rattle.lin_log.specs.Words.{hex_word}
 use Rattle.lin_listing.specs.declared.words.Word.{Word}
 use Rattle.lin_listing.specs.declared.words.Word.TheVariants.{Name, Number, Identifier, Byte, Array}
 
-abbrev pub shown : Word → List ℕ
-shown (Name name) = name.now
-shown (Number n) = decimal n
-shown (Identifier i) = codes "0x" ++ encode_upper (i ∷ [])
-shown (Byte b) = encode_upper (b ∷ [])
-shown (Array bytes) = 120 ∷ hex_word bytes.now
+abbrev pub word_text : Word → List ℕ
+word_text (Name name) = name.now
+word_text (Number n) = decimal n
+word_text (Identifier i) = codes "0x" ++ encode_upper (i ∷ [])
+word_text (Byte b) = encode_upper (b ∷ [])
+word_text (Array bytes) = 120 ∷ hex_word bytes.now

@@ -2,22 +2,23 @@
 
 ghost use Rattle.std.specs.Prelude.{◌≡◌, ◌<◌, length, flat_map, map};
 ghost use Rattle.lin_frame.specs.Words.{numbers};
-ghost use Rattle.lin_log.specs.Words.{ended, value_word};
+ghost use Rattle.lin_log.specs.Words.{line_tail, value_word};
 ghost use Rattle.lin_names.specs.Names.{frame_name};
-ghost use Rattle.lin_parts.specs.Cluster.{frame_of};
+ghost use Rattle.lin_cluster_parts.specs.Cluster.{frame_of};
 ghost use Rattle.lin_text.specs.Written.{Grows, WritesText};
-ghost use Rattle.lin_listing.specs.Frames.{event_line, frame_line, frame_lines, frames, model_word, place_line, places, sporadic_line};
-ghost use Rattle.lin_listing.specs.Shown.{shown};
+ghost use Rattle.lin_listing.specs.Frames.{event_line, frame_line, frame_lines, frames, model_word};
+ghost use Rattle.lin_listing.specs.Frames.{place_line, places, sporadic_line};
+ghost use Rattle.lin_listing.specs.Shown.{word_text};
 
 use crate::words::{Word, put_head, put_line, put_spaced};
+use lin_cluster_parts::Cluster;
 use lin_frame::{Place, SumKind, Value};
 use lin_names::Names;
-use lin_parts::Cluster;
 use lin_text::{TextWriter, WriteFailed};
 use std::io::Write;
 
 fn model_word(model: SumKind) -> Word<'static>
-    ensures { shown result ≡ model_word model }
+    ensures { word_text result ≡ model_word model }
 {
     match model {
         SumKind::Classic => Word::Name(b"classic"),
@@ -26,7 +27,7 @@ fn model_word(model: SumKind) -> Word<'static>
 }
 
 fn value_word(value: &Value) -> Word<'_>
-    ensures { shown result ≡ value_word value.now }
+    ensures { word_text result ≡ value_word value.now }
 {
     match value {
         Value::Scalar(number) => Word::Number(u64::from(*number)),
@@ -88,7 +89,8 @@ fn put_place<W: Write>(
 /// The lines of the signals of a frame, in the order of their places.
 fn put_places<W: Write>(out: &mut TextWriter<'_, W>, cluster: &Cluster, frame: u16)
     requires { frame < length cluster.now.frames }
-    ensures { Grows W.contents out.old out.new (flat_map (place_line cluster.now frame) (places (frame_of cluster.now frame))) }
+    ensures { Grows W.contents out.old out.new
+        (flat_map (place_line cluster.now frame) (places (frame_of cluster.now frame))) }
 {
     cluster.sound();
     let signals = cluster.frame_signals(frame);
@@ -113,7 +115,8 @@ fn put_frame_lines<W: Write>(
 }
 
 fn put_unconditional<W: Write>(out: &mut TextWriter<'_, W>, cluster: &Cluster, names: &Names)
-    ensures { Grows W.contents out.old out.new (flat_map (frame_lines cluster.now names.now) (numbers (length cluster.now.frames))) }
+    ensures { Grows W.contents out.old out.new
+        (flat_map (frame_lines cluster.now names.now) (numbers (length cluster.now.frames))) }
 {
     cluster.sound();
     for frame in 0..cluster.frames() as u16 {
@@ -123,7 +126,7 @@ fn put_unconditional<W: Write>(out: &mut TextWriter<'_, W>, cluster: &Cluster, n
 
 /// The names of some frames, each after a space, and the end of their line.
 fn put_members<W: Write>(out: &mut TextWriter<'_, W>, names: &Names, frames: &[u16])
-    ensures { Grows W.contents out.old out.new (ended (map (frame_name names.now) frames.now)) }
+    ensures { Grows W.contents out.old out.new (line_tail (map (frame_name names.now) frames.now)) }
 {
     for frame in frames {
         put_spaced(out, Word::Name(names.frame_name(*frame)));
@@ -152,7 +155,8 @@ fn put_sporadic<W: Write>(
 }
 
 fn put_sporadics<W: Write>(out: &mut TextWriter<'_, W>, cluster: &Cluster, names: &Names)
-    ensures { Grows W.contents out.old out.new (flat_map (sporadic_line cluster.now names.now) (numbers (length cluster.now.sporadic))) }
+    ensures { Grows W.contents out.old out.new
+        (flat_map (sporadic_line cluster.now names.now) (numbers (length cluster.now.sporadic))) }
 {
     for sporadic in 0..cluster.sporadics() as u16 {
         put_sporadic(out, cluster, names, sporadic);
@@ -185,7 +189,8 @@ fn put_event<'a, W: Write>(
 }
 
 fn put_events<W: Write>(out: &mut TextWriter<'_, W>, cluster: &Cluster, names: &Names)
-    ensures { Grows W.contents out.old out.new (flat_map (event_line cluster.now names.now) (numbers (length cluster.now.events))) }
+    ensures { Grows W.contents out.old out.new
+        (flat_map (event_line cluster.now names.now) (numbers (length cluster.now.events))) }
 {
     cluster.sound();
     for event in 0..cluster.events() as u16 {
@@ -201,21 +206,22 @@ fn put_frames<W: Write>(out: &mut TextWriter<'_, W>, cluster: &Cluster, names: &
     put_events(out, cluster, names);
 }
 
-/// Writes a line for each unconditional frame, followed by a line for each of its signals with its place; then a line for
-/// each sporadic and for each event-triggered frame (LIN 2.2A, section 9.2.4). The names are those of the description that
-/// the cluster was made of.
+/// Writes a line for each unconditional frame, followed by a line for each of its signals with its
+/// place; then a line for each sporadic and for each event-triggered frame (LIN 2.2A, section
+/// 9.2.4). The names are those of the description that the cluster was made of.
 ///
 /// It goes through a buffer of fixed size, and takes no memory. The writer isn't flushed.
 ///
 /// # Errors
-/// `WriteFailed` at the first error of the writer, an interrupted write too, and at the first write of 0 bytes. What was
-/// written then is the beginning of the lines.
+/// `WriteFailed` at the first error of the writer, an interrupted write too, and at the first write
+/// of 0 bytes. What was written then is the beginning of the lines.
 pub fn write_frames<W: Write>(
     cluster: &Cluster,
     names: &Names,
     writer: &mut W,
 ) -> Result<(), WriteFailed>
-    ensures { WritesText (W.contents writer.old) (W.contents writer.new) result (frames cluster.now names.now) }
+    ensures { WritesText (W.contents writer.old) (W.contents writer.new) result
+        (frames cluster.now names.now) }
 {
     let mut out = TextWriter::new(writer);
     put_frames(&mut out, cluster, names);

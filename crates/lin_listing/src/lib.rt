@@ -1,4 +1,5 @@
-//! What an LDF describes, as lines: its frames with the places of their signals, and how much time its slots leave.
+//! What an LDF describes, as lines: its frames with the places of their signals, and how much time
+//! its slots leave.
 //!
 //! ```
 //! // a line for each frame and each place, and then one for each slot and each table

@@ -2,15 +2,17 @@
 
 ghost use Rattle.std.specs.Prelude.{◌≡◌, ◌<◌, ◌≤◌, All, flat_map, length, slice_index};
 ghost use Rattle.lin_frame.specs.Words.{numbers};
-ghost use Rattle.lin_parts.specs.Cluster.{frame_of, line_of, table_of};
-ghost use Rattle.lin_parts.specs.Rules.{IsEntry};
+ghost use Rattle.lin_cluster_parts.specs.Cluster.{frame_of, line_of, table_of};
+ghost use Rattle.lin_cluster_parts.specs.Rules.{IsEntry};
 ghost use Rattle.lin_text.specs.Written.{Grows, WritesText};
-ghost use Rattle.lin_listing.specs.Slots.{AreOfOneDescription, NoSlotIsShort, bits_of, delay_of, frame_bytes, greatest_bytes, load_line, nominal_bits, permille, slot_bytes, slot_line, slots, table_lines};
+ghost use Rattle.lin_listing.specs.Slots.{AreOfOneDescription, NoSlotIsShort, bits_of, delay_of};
+ghost use Rattle.lin_listing.specs.Slots.{frame_bytes, greatest_bytes, load_line, nominal_bits};
+ghost use Rattle.lin_listing.specs.Slots.{permille, slot_bytes, slot_line, slots, table_lines};
 
 use crate::words::{Word, put_line};
 use lin_cluster::needed_us;
+use lin_cluster_parts::{Cluster, Entry};
 use lin_names::{Names, entry_kind};
-use lin_parts::{Cluster, Entry};
 use lin_text::{TextWriter, WriteFailed};
 use std::io::Write;
 
@@ -89,7 +91,9 @@ fn put_table_slots<W: Write>(
 )
     requires table { table < length cluster.now.tables }
     requires together { AreOfOneDescription cluster.now names.now }
-    ensures { Grows W.contents out.old out.new (flat_map (slot_line cluster.now names.now table) (numbers (length (table_of cluster.now table)))) }
+    ensures { Grows W.contents out.old out.new
+        (flat_map (slot_line cluster.now names.now table)
+        (numbers (length (table_of cluster.now table)))) }
 {
     for entry in 0..cluster.entries(table) as u16 {
         put_slot(out, cluster, names, table, entry);
@@ -184,22 +188,24 @@ fn put_slots<W: Write>(out: &mut TextWriter<'_, W>, cluster: &Cluster, names: &N
     }
 }
 
-/// Writes for each schedule table a line for each slot, with the time that it needs and its slack in microseconds, and
-/// then one for the table's load (ISO 17987-3, frame slots). The names are those of the description that the cluster was
-/// made of; since nothing was found in that, no slack is negative.
+/// Writes for each schedule table a line for each slot, with the time that it needs and its slack
+/// in microseconds, and then one for the table's load (ISO 17987-3, frame slots). The names are
+/// those of the description that the cluster was made of; since nothing was found in that, no slack
+/// is negative.
 ///
 /// It goes through a buffer of fixed size, and takes no memory. The writer isn't flushed.
 ///
 /// # Errors
-/// `WriteFailed` at the first error of the writer, an interrupted write too, and at the first write of 0 bytes. What was
-/// written then is the beginning of the lines.
+/// `WriteFailed` at the first error of the writer, an interrupted write too, and at the first write
+/// of 0 bytes. What was written then is the beginning of the lines.
 pub fn write_slots<W: Write>(
     cluster: &Cluster,
     names: &Names,
     writer: &mut W,
 ) -> Result<(), WriteFailed>
     requires { AreOfOneDescription cluster.now names.now }
-    ensures lines { WritesText (W.contents writer.old) (W.contents writer.new) result (slots cluster.now names.now) }
+    ensures lines { WritesText (W.contents writer.old) (W.contents writer.new) result
+        (slots cluster.now names.now) }
     ensures slack { NoSlotIsShort cluster.now names.now }
 {
     cluster.sound();

@@ -1,9 +1,9 @@
 //! Lines as words with one space between two.
 
 ghost use Rattle.std.specs.Prelude.{◌≡◌, ◌∷◌, ◌++◌, flat_map, map};
-ghost use Rattle.lin_log.specs.Words.{hex_word, line, spaced};
+ghost use Rattle.lin_log.specs.Words.{hex_word, line, spaced_word};
 ghost use Rattle.lin_text.specs.Written.{Grows};
-ghost use Rattle.lin_listing.specs.Shown.{shown};
+ghost use Rattle.lin_listing.specs.Shown.{word_text};
 ghost use Rattle.lin_listing.specs.declared.words.Word.TheVariants.{Identifier};
 
 use lin_text::TextWriter;
@@ -32,14 +32,14 @@ fn put_array<W: Write>(out: &mut TextWriter<'_, W>, bytes: &[u8])
 }
 
 fn put_identifier<W: Write>(out: &mut TextWriter<'_, W>, identifier: u8)
-    ensures { Grows W.contents out.old out.new (shown (Identifier identifier)) }
+    ensures { Grows W.contents out.old out.new (word_text (Identifier identifier)) }
 {
     out.put(b"0x");
     out.put_hex_byte(identifier);
 }
 
 fn put_word<W: Write>(out: &mut TextWriter<'_, W>, word: Word<'_>)
-    ensures { Grows W.contents out.old out.new (shown word.entry) }
+    ensures { Grows W.contents out.old out.new (word_text word.entry) }
 {
     match word {
         Word::Name(name) => out.put(name),
@@ -52,7 +52,7 @@ fn put_word<W: Write>(out: &mut TextWriter<'_, W>, word: Word<'_>)
 
 /// A word after a space.
 pub(crate) fn put_spaced<W: Write>(out: &mut TextWriter<'_, W>, word: Word<'_>)
-    ensures { Grows W.contents out.old out.new (spaced (shown word.entry)) }
+    ensures { Grows W.contents out.old out.new (spaced_word (word_text word.entry)) }
 {
     out.put_byte(b' ');
     put_word(out, word);
@@ -60,7 +60,8 @@ pub(crate) fn put_spaced<W: Write>(out: &mut TextWriter<'_, W>, word: Word<'_>)
 
 /// What a line begins with: its kind, and words after it.
 pub(crate) fn put_head<W: Write>(out: &mut TextWriter<'_, W>, kind: &[u8], words: &[Word<'_>])
-    ensures { Grows W.contents out.old out.new (kind.now ++ flat_map spaced (map shown words.now)) }
+    ensures { Grows W.contents out.old out.new
+        (kind.now ++ flat_map spaced_word (map word_text words.now)) }
 {
     out.put(kind);
     for word in words {
@@ -70,7 +71,7 @@ pub(crate) fn put_head<W: Write>(out: &mut TextWriter<'_, W>, kind: &[u8], words
 
 /// A line: its kind, and words after it.
 pub(crate) fn put_line<W: Write>(out: &mut TextWriter<'_, W>, kind: &[u8], words: &[Word<'_>])
-    ensures { Grows W.contents out.old out.new (line (kind.now ∷ map shown words.now)) }
+    ensures { Grows W.contents out.old out.new (line (kind.now ∷ map word_text words.now)) }
 {
     put_head(out, kind, words);
     out.put_byte(b'\n');

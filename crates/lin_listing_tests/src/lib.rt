@@ -1,4 +1,5 @@
-//! Tests of what is listed of a cluster, apart from the crate, so that it isn't proved a second time with them.
+//! Tests of what is listed of a cluster, apart from the crate, so that it isn't proved a second
+//! time with them.
 #![tactic(auto)]
 
 #[cfg(test)]

@@ -8,8 +8,8 @@ use std::marker::Model;
 /// The most bytes that lie in a text's own place.
 const SHORT: usize = 14;
 
-/// The bytes of a text: few in its own place, which takes no memory, more in a list elsewhere. The list is boxed so that a
-/// text takes 16 bytes.
+/// The bytes of a text: few in its own place, which takes no memory, more in a list elsewhere. The
+/// list is boxed so that a text takes 16 bytes.
 #[derive(Debug, Drop)]
 pub(crate) enum Kept {
     Short { len: u8, bytes: [u8; SHORT] },

@@ -7,7 +7,7 @@ use Rattle.std.specs.List.{slice_split, All}
 use Rattle.std.proofs.lemmas.List.Splits.{slice_split_at, slice_split_none}
 use Rattle.std.specs.Char.{is_ascii_digit}
 use Rattle.std.proofs.lemmas.Grind.{common_steps}
-use Rattle.lin_log.specs.Words.{spaced}
+use Rattle.lin_log.specs.Words.{spaced_word}
 use Rattle.lin_log.specs.Script.{fields, number_after}
 
 -- a list at an index
@@ -74,9 +74,9 @@ pub data AreWords : List (List ℕ) → Type 0 where
   none : AreWords []
   more : {w : List ℕ} {ws : List (List ℕ)} → IsWord w → AreWords ws → AreWords (w ∷ ws)
 
-pub fields-joined : (w : List ℕ) (ws : List (List ℕ)) → IsWord w → AreWords ws → fields (w ++ flat_map spaced ws) ≡ w ∷ ws
+pub fields-joined : (w : List ℕ) (ws : List (List ℕ)) → IsWord w → AreWords ws → fields (w ++ flat_map spaced_word ws) ≡ w ∷ ws
 fields-joined w [] a b = rw append-nil (fields-last w a)
-fields-joined w (x ∷ xs) a (more p q) = fields-word w (x ++ flat_map spaced xs) a ∙ ap (λ l. w ∷ l) (fields-joined x xs p q)
+fields-joined w (x ∷ xs) a (more p q) = fields-word w (x ++ flat_map spaced_word xs) a ∙ ap (λ l. w ∷ l) (fields-joined x xs p q)
 
 -- a line cut at the end of its first word
 fields-front : (w rest : List ℕ) → 0 < length w → All (λ x. (x == 32) ≡ false) w → (0 < length rest → slice_index rest 0 ≡ 32)

@@ -2,18 +2,18 @@
 use Rattle.std.proofs.Common.{◌≡◌, ℕ, List, [], ◌∷◌, ◌++◌, refl, ap, append_assoc, reverse, sym, ◌∙◌, Result, Ok, Err}
 use Rattle.lin_core.specs.declared.port.PortId.{PortId}
 use Rattle.lin_core.specs.declared.step.Step.{Step}
-use Rattle.lin_parts.specs.declared.parts.Parts.{Parts}
+use Rattle.lin_cluster_parts.specs.declared.parts.Parts.{Parts}
 use Rattle.lin_core.specs.declared.log.LogEntry.{LogEntry}
 use Rattle.lin_core.specs.Runs.{entry_of, history}
 use Rattle.std.proofs.lemmas.List.{reverse-append, reverse-reverse}
 use Rattle.lin_log.specs.Replay.{log_of}
-use Rattle.lin_log.specs.Script.{prefixed}
+use Rattle.lin_log.specs.Script.{with_prefix}
 
-pub prefixed-nothing : (r : Result (List (PortId × Step)) ℕ) → prefixed [] r ≡ r
+pub prefixed-nothing : (r : Result (List (PortId × Step)) ℕ) → with_prefix [] r ≡ r
 prefixed-nothing (Ok xs) = refl
 prefixed-nothing (Err e) = refl
 
-pub prefixed-more : (xs ys : List (PortId × Step)) (r : Result (List (PortId × Step)) ℕ) → prefixed (xs ++ ys) r ≡ prefixed xs (prefixed ys r)
+pub prefixed-more : (xs ys : List (PortId × Step)) (r : Result (List (PortId × Step)) ℕ) → with_prefix (xs ++ ys) r ≡ with_prefix xs (with_prefix ys r)
 prefixed-more xs ys (Ok zs) = ap Ok (append_assoc xs ys zs)
 prefixed-more xs ys (Err e) = refl
 
@@ -30,5 +30,5 @@ log-more c opening capacity steps s log e =
 -- the steps of the lines so far are made
 pub record AreMade (c : Parts) (opening : ℕ) (capacity : ℕ) (log : List LogEntry) (left : Result (List (PortId × Step)) ℕ) (whole : Result (List (PortId × Step)) ℕ) : Type 0 where
   pub steps : List (PortId × Step)
-  pub read : prefixed steps left ≡ whole
+  pub read : with_prefix steps left ≡ whole
   pub log_is : log ≡ log_of c opening capacity steps

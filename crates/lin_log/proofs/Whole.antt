@@ -7,11 +7,11 @@ use Rattle.std.proofs.lemmas.List.Elements.{All-nil, All-cons}
 use Rattle.std.proofs.lemmas.List.Splits.{slice_split_at}
 use Rattle.std.proofs.lemmas.Bool.{and_parts}
 use Rattle.std.proofs.lemmas.Grind.{common_steps}
-use Rattle.lin_log.specs.Words.{spaced, ended, port_word, direction_word, step_words, value_word, step_line, reply_line, event_words, seen_words, cause_word, header_word, refusal_number, reply_text, entry_text, text}
+use Rattle.lin_log.specs.Words.{spaced_word, line_tail, port_word, direction_word, step_words, value_word, step_line, reply_line, event_words, seen_words, cause_word, header_word, refusal_number, reply_text, entry_text, text}
 use Rattle.std.proofs.lemmas.List.Elements.{All-head, All-tail}
 use Rattle.lin_core.specs.Runs.{steps_of}
 use Rattle.lin_core.specs.Fits.{FitsPort, FitsStep, FitsValue}
-use Rattle.lin_log.specs.Script.{fields, line_steps, is_remark, judged, script, steps, no_fields}
+use Rattle.lin_log.specs.Script.{fields, line_steps, is_remark, steps_from, script, steps, no_fields}
 use Rattle.lin_core.specs.declared.log.LogEntry.{LogEntry}
 use Rattle.lin_frame.specs.declared.value.Value.{Value}
 use Rattle.lin_frame.specs.declared.value.Value.TheVariants.{Scalar, Bytes}
@@ -71,15 +71,15 @@ no-return (x ∷ xs) (suc i) h = no-return xs i (and_parts (inline x) (all_inlin
 pub not-stripped : (w : List ℕ) → all_inline w ≡ true → strip_carriage_return w ≡ w
 not-stripped w h = rw (no-return w (length w - 1) h) refl
 
-pub spaced-inline : (ws : List (List ℕ)) → AreWords ws → all_inline (flat_map spaced ws) ≡ true
+pub spaced-inline : (ws : List (List ℕ)) → AreWords ws → all_inline (flat_map spaced_word ws) ≡ true
 spaced-inline [] h = refl
-spaced-inline (w ∷ ws) (more a b) = inline-append w (flat_map spaced ws) (inline-word w a.whole) (spaced-inline ws b)
+spaced-inline (w ∷ ws) (more a b) = inline-append w (flat_map spaced_word ws) (inline-word w a.whole) (spaced-inline ws b)
 
 abbrev is_end : ℕ → Bool
 is_end b = b == 10
 
 abbrev Says : List ℕ → List (PortId × Step) → Type 0
-Says rest xs = (m : ℕ) → judged m (slice_split is_end rest) ≡ Ok xs
+Says rest xs = (m : ℕ) → steps_from m (slice_split is_end rest) ≡ Ok xs
 
 -- a line in front of a text
 said-line : (body rest : List ℕ) (s xs : List (PortId × Step)) → all_inline body ≡ true → line_steps body ≡ Some s → Says rest xs
@@ -95,25 +95,25 @@ abbrev pub plains : List (List ℕ) → Bool
 plains [] = true
 plains (w ∷ ws) = all_plain w && plains ws
 
-inline-plains : (ws : List (List ℕ)) → plains ws ≡ true → all_inline (flat_map spaced ws) ≡ true
+inline-plains : (ws : List (List ℕ)) → plains ws ≡ true → all_inline (flat_map spaced_word ws) ≡ true
 inline-plains [] h = refl
 inline-plains (w ∷ ws) h =
     let p = and_parts (all_plain w) (plains ws) h in
-    inline-append w (flat_map spaced ws) (inline-word w p.0) (inline-plains ws p.1)
+    inline-append w (flat_map spaced_word ws) (inline-word w p.0) (inline-plains ws p.1)
 
 -- the words of a line and its end, before a text
-line-end : (ws : List (List ℕ)) (rest : List ℕ) → ended ws ++ rest ≡ flat_map spaced ws ++ 10 ∷ rest
+line-end : (ws : List (List ℕ)) (rest : List ℕ) → line_tail ws ++ rest ≡ flat_map spaced_word ws ++ 10 ∷ rest
 line-end [] rest = refl
 line-end (w ∷ ws) rest =
-    append_assoc (spaced w) (ended ws) rest ∙ ap (λ l. spaced w ++ l) (line-end ws rest) ∙ sym (append_assoc (spaced w) (flat_map spaced ws) (10 ∷ rest))
+    append_assoc (spaced_word w) (line_tail ws) rest ∙ ap (λ l. spaced_word w ++ l) (line-end ws rest) ∙ sym (append_assoc (spaced_word w) (flat_map spaced_word ws) (10 ∷ rest))
 
 -- a reply's lines say nothing
 quiet-line : (ws : List (List ℕ)) (rest : List ℕ) (xs : List (PortId × Step)) → plains ws ≡ true → Says rest xs → Says (reply_line ws ++ rest) xs
 quiet-line ws rest xs h k =
-    let body : List ℕ = 62 ∷ flat_map spaced ws in
+    let body : List ℕ = 62 ∷ flat_map spaced_word ws in
     let e : reply_line ws ++ rest ≡ body ++ 10 ∷ rest = ap (λ l. 62 ∷ l) (line-end ws rest) in
     let P : List ℕ → Type 0 = λ t. Says t xs in
-    subst P (sym e) (said-line body rest [] xs (inline-plains ws h) (remark-says (flat_map spaced ws)) k)
+    subst P (sym e) (said-line body rest [] xs (inline-plains ws h) (remark-says (flat_map spaced_word ws)) k)
 
 first-of_port : (p : PortId) (l : List ℕ) → is_remark (port_word p ++ l) ≡ no_fields (fields (port_word p ++ l))
 first-of_port Bus l = refl
@@ -121,11 +121,11 @@ first-of_port (Host n) l = refl
 first-of_port (Node n) l = refl
 
 step-line : (p : PortId) (s : Step) → FitsPort p → FitsStep s → IsWord (port_word p) → AreWords (step_words s)
-    → line_steps (port_word p ++ flat_map spaced (step_words s)) ≡ Some ((p, s) ∷ [])
+    → line_steps (port_word p ++ flat_map spaced_word (step_words s)) ≡ Some ((p, s) ∷ [])
 unfolding line_steps
 step-line p s hp hs wp ws =
     let f = fields-joined (port_word p) (step_words s) wp ws in
-    rw (first-of_port p (flat_map spaced (step_words s)), f, step-again p s hp hs) refl
+    rw (first-of_port p (flat_map spaced_word (step_words s)), f, step-again p s hp hs) refl
 
 pub word-port : (p : PortId) → FitsPort p → IsWord (port_word p)
 word-port Bus h = record { some = omega arith; whole = refl }
@@ -164,14 +164,14 @@ words-step (Close n) h = more (literal _ (omega arith) refl) (more (word-any n (
 pub says-step : (p : PortId) (s : Step) (rest : List ℕ) (xs : List (PortId × Step)) → FitsPort p → FitsStep s → Says rest xs
     → Says (step_line p s ++ rest) ((p, s) ∷ xs)
 says-step p s rest xs hp hs k =
-    let body : List ℕ = port_word p ++ flat_map spaced (step_words s) in
+    let body : List ℕ = port_word p ++ flat_map spaced_word (step_words s) in
     let e : step_line p s ++ rest ≡ body ++ 10 ∷ rest =
-    append_assoc (port_word p) (ended (step_words s)) rest ∙ ap (λ l. port_word p ++ l) (line-end (step_words s) rest)
-    ∙ sym (append_assoc (port_word p) (flat_map spaced (step_words s)) (10 ∷ rest)) in
+    append_assoc (port_word p) (line_tail (step_words s)) rest ∙ ap (λ l. port_word p ++ l) (line-end (step_words s) rest)
+    ∙ sym (append_assoc (port_word p) (flat_map spaced_word (step_words s)) (10 ∷ rest)) in
     let P : List ℕ → Type 0 = λ t. Says t ((p, s) ∷ xs) in
     let wp = word-port p hp in
     let ws = words-step s hs in
-    subst P (sym e) (said-line body rest ((p, s) ∷ []) xs (inline-append (port_word p) (flat_map spaced (step_words s)) (inline-word (port_word p) wp.whole) (spaced-inline (step_words s) ws)) (step-line p s hp hs wp ws) k)
+    subst P (sym e) (said-line body rest ((p, s) ∷ []) xs (inline-append (port_word p) (flat_map spaced_word (step_words s)) (inline-word (port_word p) wp.whole) (spaced-inline (step_words s) ws)) (step-line p s hp hs wp ws) k)
 
 plain-seen : (s : Seen) → plains (seen_words s) ≡ true
 plain-seen seen.Silent = refl

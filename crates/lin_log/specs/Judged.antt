@@ -1,16 +1,18 @@
 -- What the parts of reading a script answer.
-use Rattle.std.specs.Prelude.{◌≡◌, ℕ, ◌+◌, ◌==◌, List, [], ◌∷◌, length, Option, Some, None, Result, Ok, Err}
+use Rattle.std.specs.Prelude.{◌≡◌, ℕ, ◌+◌, ◌==◌, List, [], ◌∷◌, length, Option, Some, None, Result}
+use Rattle.std.specs.Prelude.{Ok, Err}
 use Rattle.std.specs.Borrow.{Bor}
 use Rattle.std.specs.List.{slice_split}
 use Rattle.lin_core.specs.declared.port.PortId.{PortId}
 use Rattle.lin_core.specs.declared.step.Step.{Step}
-use Rattle.lin_parts.specs.declared.parts.Parts.{Parts}
+use Rattle.lin_cluster_parts.specs.declared.parts.Parts.{Parts}
 use Rattle.lin_core.specs.declared.log.LogEntry.{LogEntry}
 use Rattle.lin_log.specs.Replay.{log_of}
-use Rattle.lin_log.specs.Script.{judged, prefixed}
+use Rattle.lin_log.specs.Script.{steps_from, with_prefix}
 use Rattle.lin_log.specs.declared.script.ScriptLines.{ScriptLines}
 use Rattle.lin_log.specs.declared.fault.ScriptFault.{ScriptFault}
-use Rattle.lin_log.specs.declared.fault.ScriptFault.TheVariants.{BadLine, TooLong, ReadFailed, OutOfMemory}
+use Rattle.lin_log.specs.declared.fault.ScriptFault.TheVariants.{BadLine, TooLong, ReadFailed}
+use Rattle.lin_log.specs.declared.fault.ScriptFault.TheVariants.{OutOfMemory}
 
 -- the lines of the text that is left, and a measure of it
 abbrev pub lines_left : Option (Bor (List ℕ)) → List (List ℕ)
@@ -34,13 +36,13 @@ Judges view (Err e) r = JudgeFaults e r
 
 -- what the lines that are left say
 abbrev pub said : ScriptLines → Result (List (PortId × Step)) ℕ
-said lines = judged lines.number (lines_left lines.left)
+said lines = steps_from lines.number (lines_left lines.left)
 
 -- what asking for the next step answers, where the lines said `old`; those after its line say `new`
 abbrev pub NextStep : Result (Option (PortId × Step)) ScriptFault → Result (List (PortId × Step)) ℕ
     → Result (List (PortId × Step)) ℕ → Type 0
 NextStep (Ok None) old new = old ≡ Ok []
-NextStep (Ok (Some step)) old new = old ≡ prefixed (step ∷ []) new
+NextStep (Ok (Some step)) old new = old ≡ with_prefix (step ∷ []) new
 NextStep (Err e) old new = JudgeFaults e old
 
 -- what making the steps that lines say answers, and the log of those steps

@@ -1,7 +1,8 @@
 -- What reading a script, replaying it and listing a log's steps answer.
-use Rattle.std.specs.Prelude.{◌≡◌, ℕ, ◌<◌, ◌≤◌, List, ◌++◌, reverse, Option, Some, Result, Ok, Err, IfSome, length}
+use Rattle.std.specs.Prelude.{◌≡◌, ℕ, ◌<◌, ◌≤◌, List, ◌++◌, reverse, Option, Some, Result, Ok, Err}
+use Rattle.std.specs.Prelude.{IfSome, length}
 use Rattle.std.specs.Io.KnownBytes.{Appends, Keeps}
-use Rattle.lin_parts.specs.declared.parts.Parts.{Parts}
+use Rattle.lin_cluster_parts.specs.declared.parts.Parts.{Parts}
 use Rattle.lin_core.specs.Runs.{history, steps_of}
 use Rattle.lin_core.specs.declared.port.PortId.{PortId}
 use Rattle.lin_core.specs.declared.step.Step.{Step}
@@ -9,7 +10,8 @@ use Rattle.lin_core.specs.declared.log.LogEntry.{LogEntry}
 use Rattle.lin_log.specs.Script.{script, steps}
 use Rattle.lin_log.specs.Words.{text}
 use Rattle.lin_log.specs.declared.fault.ScriptFault.{ScriptFault}
-use Rattle.lin_log.specs.declared.fault.ScriptFault.TheVariants.{BadLine, TooLong, ReadFailed, OutOfMemory as NoMemory}
+use Rattle.lin_log.specs.declared.fault.ScriptFault.TheVariants.{BadLine, TooLong, ReadFailed}
+use Rattle.lin_log.specs.declared.fault.ScriptFault.TheVariants.{OutOfMemory as NoMemory}
 use Rattle.lin_log.specs.declared.fault.ReplayFault.{ReplayFault}
 use Rattle.lin_log.specs.declared.fault.ReplayFault.TheVariants.{Script, OutOfMemory, WriteFailed}
 

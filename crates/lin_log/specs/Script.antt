@@ -1,5 +1,7 @@
 -- What a script says: its lines end with LF, and spaces part their fields.
-use Rattle.std.specs.Prelude.{ℕ, ◌+◌, ◌-◌, ◌*◌, ◌==◌, ◌&&◌, ◌||◌, nat_le, nat_lt, Bool, true, false, if◌then◌else◌, List, [], ◌∷◌, ◌++◌, length, drop, filter, slice_index, Option, Some, None, Result, Ok, Err, codes, option_map}
+use Rattle.std.specs.Prelude.{ℕ, ◌+◌, ◌-◌, ◌*◌, ◌==◌, ◌&&◌, ◌||◌, nat_le, nat_lt, Bool, true, false}
+use Rattle.std.specs.Prelude.{if◌then◌else◌, List, [], ◌∷◌, ◌++◌, length, drop, filter, slice_index}
+use Rattle.std.specs.Prelude.{Option, Some, None, Result, Ok, Err, codes, option_map}
 use Rattle.std.specs.List.{slice_split}
 use Rattle.std.specs.Str.{bytes_eq}
 use Rattle.std.specs.Str.Lines.{strip_carriage_return}
@@ -10,7 +12,9 @@ use Rattle.lin_frame.specs.declared.value.Value.TheVariants.{Scalar, Bytes}
 use Rattle.lin_core.specs.declared.port.PortId.{PortId}
 use Rattle.lin_core.specs.declared.port.PortId.TheVariants.{Bus, Host, Node}
 use Rattle.lin_core.specs.declared.step.Step.{Step}
-use Rattle.lin_core.specs.declared.step.Step.TheVariants.{Send, Write, Open, Answer, Leave, Hurt, Finish, Timeout, Switch, AskSleep, Wake, Close}
+use Rattle.lin_core.specs.declared.step.Step.TheVariants.{Send, Write, Open, Answer, Leave, Hurt}
+use Rattle.lin_core.specs.declared.step.Step.TheVariants.{Finish, Timeout, Switch, AskSleep, Wake}
+use Rattle.lin_core.specs.declared.step.Step.TheVariants.{Close}
 use Rattle.lin_core.specs.declared.link.Direction.{Direction}
 use Rattle.lin_core.specs.declared.link.Direction.TheVariants.{Down, Up}
 
@@ -155,10 +159,10 @@ unfoldable pub line_steps : List ℕ → Option (List (PortId × Step))
 line_steps line =
     if is_remark line then Some [] else option_map (λ s. s ∷ []) (port_step (fields line))
 
-abbrev pub prefixed : {E : Type 0} → List (PortId × Step) → Result (List (PortId × Step)) E
+abbrev pub with_prefix : {E : Type 0} → List (PortId × Step) → Result (List (PortId × Step)) E
     → Result (List (PortId × Step)) E
-prefixed xs (Ok ys) = Ok (xs ++ ys)
-prefixed xs (Err e) = Err e
+with_prefix xs (Ok ys) = Ok (xs ++ ys)
+with_prefix xs (Err e) = Err e
 
 abbrev pub or_bad : {A E : Type 0} → Option A → E → (A → Result (List (PortId × Step)) E)
     → Result (List (PortId × Step)) E
@@ -167,14 +171,14 @@ or_bad (Some x) e f = f x
 
 -- the steps of lines from number n on, or the number of the first line in no form; one CR before a
 -- line's end is dropped
-abbrev pub judged : ℕ → List (List ℕ) → Result (List (PortId × Step)) ℕ
-judged n [] = Ok []
-judged n (l ∷ ls) =
-    or_bad (line_steps (strip_carriage_return l)) n (λ xs. prefixed xs (judged (n + 1) ls))
+abbrev pub steps_from : ℕ → List (List ℕ) → Result (List (PortId × Step)) ℕ
+steps_from n [] = Ok []
+steps_from n (l ∷ ls) =
+    or_bad (line_steps (strip_carriage_return l)) n (λ xs. with_prefix xs (steps_from (n + 1) ls))
 
 -- the steps of a script, or the number of its first line in no form, counted from 1 over all lines
 unfoldable pub script : List ℕ → Result (List (PortId × Step)) ℕ
-script bytes = judged 1 (slice_split (λ b. b == 10) bytes)
+script bytes = steps_from 1 (slice_split (λ b. b == 10) bytes)
 
 -- the steps of a script, where each of its lines is in a form
 abbrev pub steps : List ℕ → Option (List (PortId × Step))

@@ -7,7 +7,9 @@ use Rattle.lin_frame.specs.declared.value.Value.TheVariants.{Scalar, Bytes}
 use Rattle.lin_core.specs.declared.port.PortId.{PortId}
 use Rattle.lin_core.specs.declared.port.PortId.TheVariants.{Bus, Host, Node}
 use Rattle.lin_core.specs.declared.step.Step.{Step}
-use Rattle.lin_core.specs.declared.step.Step.TheVariants.{Send, Write, Open, Answer, Leave, Hurt, Finish, Timeout, Switch, AskSleep, Wake, Close}
+use Rattle.lin_core.specs.declared.step.Step.TheVariants.{Send, Write, Open, Answer, Leave, Hurt}
+use Rattle.lin_core.specs.declared.step.Step.TheVariants.{Finish, Timeout, Switch, AskSleep, Wake}
+use Rattle.lin_core.specs.declared.step.Step.TheVariants.{Close}
 use Rattle.lin_core.specs.declared.link.Direction.{Direction}
 use Rattle.lin_core.specs.declared.link.Direction.TheVariants.{Down, Up}
 use Rattle.lin_core.specs.declared.link.Cause.{Cause}
@@ -23,16 +25,16 @@ use Rattle.lin_core.specs.declared.reply.Reply.TheVariants.{Done, Refused}
 use Rattle.lin_core.specs.declared.log.LogEntry.{LogEntry}
 
 -- a line: its words with one space between two, and LF
-abbrev pub spaced : List ℕ → List ℕ
-spaced word = 32 ∷ word
+abbrev pub spaced_word : List ℕ → List ℕ
+spaced_word word = 32 ∷ word
 
-abbrev pub ended : List (List ℕ) → List ℕ
-ended [] = 10 ∷ []
-ended (w ∷ ws) = spaced w ++ ended ws
+abbrev pub line_tail : List (List ℕ) → List ℕ
+line_tail [] = 10 ∷ []
+line_tail (w ∷ ws) = spaced_word w ++ line_tail ws
 
 abbrev pub line : List (List ℕ) → List ℕ
 line [] = 10 ∷ []
-line (w ∷ ws) = w ++ ended ws
+line (w ∷ ws) = w ++ line_tail ws
 
 -- bytes in upper-case digits, and `-` for none
 abbrev pub hex_word : List ℕ → List ℕ

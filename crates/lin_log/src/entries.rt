@@ -4,7 +4,10 @@ ghost use Rattle.std.specs.Prelude.{◌≡◌, ◌∷◌, ◌++◌, [], codes, f
 ghost use Rattle.std.specs.Fmt.{decimal};
 ghost use Rattle.lin_core.specs.declared.event.Event.TheVariants.{Lost};
 ghost use Rattle.lin_text.specs.Written.{Grows, WritesText};
-ghost use Rattle.lin_log.specs.Words.{cause_word, direction_word, ended, entry_text, event_words, header_word, port_word, refusal_number, reply_line, reply_text, seen_words, step_line, step_words, text, value_word};
+ghost use Rattle.lin_log.specs.Words.{cause_word, direction_word, line_tail, entry_text};
+ghost use Rattle.lin_log.specs.Words.{event_words, header_word, port_word, refusal_number};
+ghost use Rattle.lin_log.specs.Words.{reply_line, reply_text, seen_words, step_line, step_words};
+ghost use Rattle.lin_log.specs.Words.{text, value_word};
 
 use crate::words::{put_last_array, put_last_bytes, put_last_number, put_number, put_numbers};
 use lin_core::{Cause, Direction, Event, Log, LogEntry, PortId, Refusal, Reply, Seen, Step};
@@ -29,7 +32,7 @@ fn put_port<W: Write>(writer: &mut TextWriter<'_, W>, port: PortId)
 }
 
 fn put_value<W: Write>(writer: &mut TextWriter<'_, W>, value: &Value)
-    ensures { Grows W.contents writer.old writer.new (ended (value_word value.now ∷ [])) }
+    ensures { Grows W.contents writer.old writer.new (line_tail (value_word value.now ∷ [])) }
 {
     match value {
         Value::Scalar(number) => put_last_number(writer, "", *number),
@@ -38,7 +41,7 @@ fn put_value<W: Write>(writer: &mut TextWriter<'_, W>, value: &Value)
 }
 
 fn put_direction<W: Write>(writer: &mut TextWriter<'_, W>, direction: Direction)
-    ensures { Grows W.contents writer.old writer.new (ended (direction_word direction ∷ [])) }
+    ensures { Grows W.contents writer.old writer.new (line_tail (direction_word direction ∷ [])) }
 {
     match direction {
         Direction::Down => writer.put_text(" down\n"),
@@ -48,7 +51,7 @@ fn put_direction<W: Write>(writer: &mut TextWriter<'_, W>, direction: Direction)
 
 /// The rest of a step's line, after its port.
 fn put_step<W: Write>(writer: &mut TextWriter<'_, W>, step: &Step)
-    ensures { Grows W.contents writer.old writer.new (ended (step_words step.now)) }
+    ensures { Grows W.contents writer.old writer.new (line_tail (step_words step.now)) }
 {
     match step {
         Step::Send { from, to, message } => {
@@ -80,7 +83,7 @@ fn put_step<W: Write>(writer: &mut TextWriter<'_, W>, step: &Step)
 }
 
 fn put_header<W: Write>(writer: &mut TextWriter<'_, W>, header: Option<u8>)
-    ensures { Grows W.contents writer.old writer.new (ended (header_word header ∷ [])) }
+    ensures { Grows W.contents writer.old writer.new (line_tail (header_word header ∷ [])) }
 {
     match header {
         Some(pid) => put_last_bytes(writer, &[pid]),
@@ -105,7 +108,7 @@ fn put_seen<W: Write>(writer: &mut TextWriter<'_, W>, seen: &Seen)
 }
 
 fn put_cause<W: Write>(writer: &mut TextWriter<'_, W>, cause: Cause)
-    ensures { Grows W.contents writer.old writer.new (ended (cause_word cause ∷ [])) }
+    ensures { Grows W.contents writer.old writer.new (line_tail (cause_word cause ∷ [])) }
 {
     match cause {
         Cause::Damaged => writer.put_text(" damaged\n"),
@@ -117,7 +120,7 @@ fn put_cause<W: Write>(writer: &mut TextWriter<'_, W>, cause: Cause)
 /// What became of a host's message, with its number.
 fn put_fate<W: Write>(writer: &mut TextWriter<'_, W>, name: &str, host: u8, number: u32)
     ensures { Grows W.contents writer.old writer.new
-        (name.now ++ ended (decimal host ∷ decimal number ∷ [])) }
+        (name.now ++ line_tail (decimal host ∷ decimal number ∷ [])) }
 {
     writer.put_text(name);
     put_number(writer, host);

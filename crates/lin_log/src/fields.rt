@@ -1,9 +1,11 @@
 //! The fields of a script's line.
 
-ghost use Rattle.std.specs.Prelude.{◌≡◌, ◌<◌, ◌≤◌, ◌∷◌, ◌==◌, [], false, length, slice_index, take, MatchOption};
+ghost use Rattle.std.specs.Prelude.{◌≡◌, ◌<◌, ◌≤◌, ◌∷◌, ◌==◌, [], false, length, slice_index, take};
+ghost use Rattle.std.specs.Prelude.{MatchOption};
 ghost use Rattle.std.specs.List.{All};
 ghost use Rattle.lin_log.specs.Read.{EndsLine, Gives, Takes};
-ghost use Rattle.lin_log.specs.Script.{array_bytes, direction, field_by, fields, hex_bytes, number, port, value};
+ghost use Rattle.lin_log.specs.Script.{array_bytes, direction, field_by, fields, hex_bytes, number};
+ghost use Rattle.lin_log.specs.Script.{port, value};
 
 use arrayvec::ArrayVec;
 use hex::FromHexError;

@@ -4,7 +4,8 @@ ghost use Rattle.std.specs.Prelude.{ℕ, ◌∷◌};
 ghost use Rattle.std.specs.Option.{option_to_list};
 ghost use Rattle.lin_core.specs.declared.step.Step.{Step};
 ghost use Rattle.lin_log.specs.Read.{Gives};
-ghost use Rattle.lin_log.specs.Script.{fields, form, hurt_form, line_steps, no_more, node_form, port_step, send_form, switch_form, timeout_form, write_form};
+ghost use Rattle.lin_log.specs.Script.{fields, form, hurt_form, line_steps, no_more, node_form};
+ghost use Rattle.lin_log.specs.Script.{port_step, send_form, switch_form, timeout_form, write_form};
 
 use crate::fields::{
     LineFault, direction_field, end_of_line, first_field, hex_field, index_field, next_field,

@@ -1,6 +1,7 @@
 //! Scripts.
 
-ghost use Rattle.std.specs.Prelude.{◌≡◌, ◌<◌, ◌≤◌, ◌∷◌, ◌==◌, ◌+◌, false, length, slice_index, take, IfOk, IfSome};
+ghost use Rattle.std.specs.Prelude.{◌≡◌, ◌<◌, ◌≤◌, ◌∷◌, ◌==◌, ◌+◌, false, length, slice_index};
+ghost use Rattle.std.specs.Prelude.{take, IfOk, IfSome};
 ghost use Rattle.std.specs.List.{All, slice_split};
 ghost use Rattle.std.specs.Str.Lines.{strip_carriage_return};
 ghost use Rattle.lin_log.specs.Judged.{Judges, NextStep, left_of, lines_left, said};

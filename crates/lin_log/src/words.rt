@@ -3,7 +3,7 @@
 ghost use Rattle.std.specs.Prelude.{◌≡◌, ◌∷◌, ◌++◌, []};
 ghost use Rattle.hex.specs.Hex.{encode_upper};
 ghost use Rattle.lin_text.specs.Written.{Grows};
-ghost use Rattle.lin_log.specs.Words.{ended, hex_word, spaced};
+ghost use Rattle.lin_log.specs.Words.{line_tail, hex_word, spaced_word};
 
 use itoa::Integer;
 use lin_text::TextWriter;
@@ -11,7 +11,7 @@ use std::io::Write;
 
 #[inline]
 pub(crate) fn put_number<W: Write, N: Integer>(writer: &mut TextWriter<'_, W>, number: N)
-    ensures { Grows W.contents writer.old writer.new (spaced (N.text number)) }
+    ensures { Grows W.contents writer.old writer.new (spaced_word (N.text number)) }
 {
     writer.put_byte(b' ');
     writer.put_number(number);
@@ -26,7 +26,7 @@ pub(crate) fn put_numbers<W: Write, M: Integer, N: Integer>(
     second: N,
 )
     ensures { Grows W.contents writer.old writer.new
-        (name.now ++ (spaced (M.text first) ++ spaced (N.text second))) }
+        (name.now ++ (spaced_word (M.text first) ++ spaced_word (N.text second))) }
 {
     writer.put_text(name);
     put_number(writer, first);
@@ -40,7 +40,7 @@ pub(crate) fn put_last_number<W: Write, N: Integer>(
     name: &str,
     number: N,
 )
-    ensures { Grows W.contents writer.old writer.new (name.now ++ ended (N.text number ∷ [])) }
+    ensures { Grows W.contents writer.old writer.new (name.now ++ line_tail (N.text number ∷ [])) }
 {
     writer.put_text(name);
     put_number(writer, number);
@@ -59,7 +59,7 @@ fn put_hex<W: Write>(writer: &mut TextWriter<'_, W>, bytes: &[u8])
 
 /// Bytes that end their line.
 pub(crate) fn put_last_bytes<W: Write>(writer: &mut TextWriter<'_, W>, bytes: &[u8])
-    ensures { Grows W.contents writer.old writer.new (ended (hex_word bytes.now ∷ [])) }
+    ensures { Grows W.contents writer.old writer.new (line_tail (hex_word bytes.now ∷ [])) }
 {
     writer.put_byte(b' ');
     put_hex(writer, bytes);
@@ -68,7 +68,7 @@ pub(crate) fn put_last_bytes<W: Write>(writer: &mut TextWriter<'_, W>, bytes: &[
 
 /// The bytes of an array, which end their line.
 pub(crate) fn put_last_array<W: Write>(writer: &mut TextWriter<'_, W>, bytes: &[u8])
-    ensures { Grows W.contents writer.old writer.new (ended ((120 ∷ hex_word bytes.now) ∷ [])) }
+    ensures { Grows W.contents writer.old writer.new (line_tail ((120 ∷ hex_word bytes.now) ∷ [])) }
 {
     writer.put_text(" x");
     put_hex(writer, bytes);

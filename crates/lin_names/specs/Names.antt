@@ -1,10 +1,13 @@
 -- What a description says and a cluster doesn't keep (LIN 2.2A, section 9).
 use Rattle.std.specs.Prelude.{ℕ, List, [], map, codes, slice_index_or}
-use Rattle.lin_parts.specs.declared.parts.Entry.{Entry}
-use Rattle.lin_parts.specs.declared.parts.Entry.TheVariants.{Frame, Sporadic, Event, MasterReq, SlaveResp, Quiet}
+use Rattle.lin_cluster_parts.specs.declared.parts.Entry.{Entry}
+use Rattle.lin_cluster_parts.specs.declared.parts.Entry.TheVariants.{Frame, Sporadic, Event}
+use Rattle.lin_cluster_parts.specs.declared.parts.Entry.TheVariants.{MasterReq}
+use Rattle.lin_cluster_parts.specs.declared.parts.Entry.TheVariants.{SlaveResp, Quiet}
 use Rattle.lin_description.specs.declared.description.Description.{Description}
 
--- the names of frames of each kind, in file order, which is that of a cluster's numbers; the speed in bits per second, the times in microseconds
+-- the names of frames of each kind, in file order, which is that of a cluster's numbers; the speed
+-- in bits per second, the times in microseconds
 pub record NamesData : Type 0 where
   pub frames : List (List ℕ)
   pub sporadic : List (List ℕ)

@@ -1,4 +1,5 @@
-//! What an LDF describes and a cluster doesn't keep: the names of frames, and the numbers of its time (LIN 2.2A, section 9).
+//! What an LDF describes and a cluster doesn't keep: the names of frames, and the numbers of its
+//! time (LIN 2.2A, section 9).
 //!
 //! ```
 //! let names = Names::of(alloc, &description)?;

@@ -1,16 +1,18 @@
 //! Names of frames, by their numbers.
 
 ghost use Rattle.std.specs.Prelude.{◌≡◌, [], map, slice_index_or, IfOk};
-ghost use Rattle.lin_names.specs.Names.{entry_kind, entry_name, event_name, frame_name, names_of, sporadic_name};
+ghost use Rattle.lin_names.specs.Names.{entry_kind, entry_name, event_name, frame_name, names_of};
+ghost use Rattle.lin_names.specs.Names.{sporadic_name};
 
+use lin_cluster_parts::Entry;
 use lin_description::{Description, EventFrame, Frame, Sporadic};
 use lin_lists::{Many, Text};
-use lin_parts::Entry;
 use std::alloc::{AllocError, Global};
 use std::marker::Model;
 
-/// What a description says and a cluster doesn't keep. A cluster that is checked from the description has its frames of each
-/// kind under the numbers that they have here: their places in the description, from 0.
+/// What a description says and a cluster doesn't keep. A cluster that is checked from the
+/// description has its frames of each kind under the numbers that they have here: their places in
+/// the description, from 0.
 #[derive(Drop)]
 pub struct Names {
     frames: Many<Text>,
@@ -26,7 +28,14 @@ impl Model for Names {
 
     ghost Value = { NamesData };
 
-    ghost view = { λ n. record { frames = n.frames; sporadic = n.sporadic; events = n.events; speed = n.speed; jitter_us = n.jitter_us; base_us = n.base_us } };
+    ghost view = { λ n. record {
+      frames = n.frames;
+      sporadic = n.sporadic;
+      events = n.events;
+      speed = n.speed;
+      jitter_us = n.jitter_us;
+      base_us = n.base_us;
+    } };
 }
 
 fn frame_names(alloc: Global, frames: &[Frame]) -> Result<Many<Text>, AllocError>
@@ -69,8 +78,8 @@ fn name_at(names: &[Text], number: u16) -> &[u8]
     }
 }
 
-/// What kind of frame an entry of a schedule table is for: `unconditional`, `sporadic`, `event`, `request`, `response`, or
-/// `configuration` (ISO 17987-3, frame slots).
+/// What kind of frame an entry of a schedule table is for: `unconditional`, `sporadic`, `event`,
+/// `request`, `response`, or `configuration` (ISO 17987-3, frame slots).
 pub fn entry_kind(entry: Entry) -> &'static [u8]
     ensures { result.now ≡ entry_kind entry }
 {
@@ -85,7 +94,7 @@ pub fn entry_kind(entry: Entry) -> &'static [u8]
 }
 
 impl Names {
-    /// The names of a description; an error is want of memory.
+    /// The names of a description; an error means out of memory.
     pub fn of(alloc: Global, description: &Description) -> Result<Names, AllocError>
         ensures { IfOk result (λ names. names ≡ names_of description.now) }
     {
@@ -99,29 +108,32 @@ impl Names {
         })
     }
 
-    /// The name of an unconditional frame (LIN 2.2A, section 9.2.4.1); no bytes where none has this number.
+    /// The name of an unconditional frame (LIN 2.2A, section 9.2.4.1); no bytes where none has this
+    /// number.
     pub fn frame_name(&self, frame: u16) -> &[u8]
         ensures { result.now ≡ frame_name self.now frame }
     {
         name_at(self.frames.as_slice(), frame)
     }
 
-    /// The name of a sporadic frame (LIN 2.2A, section 9.2.4.2); no bytes where none has this number.
+    /// The name of a sporadic frame (LIN 2.2A, section 9.2.4.2); no bytes where none has this
+    /// number.
     pub fn sporadic_name(&self, sporadic: u16) -> &[u8]
         ensures { result.now ≡ sporadic_name self.now sporadic }
     {
         name_at(self.sporadic.as_slice(), sporadic)
     }
 
-    /// The name of an event-triggered frame (LIN 2.2A, section 9.2.4.3); no bytes where none has this number.
+    /// The name of an event-triggered frame (LIN 2.2A, section 9.2.4.3); no bytes where none has
+    /// this number.
     pub fn event_name(&self, event: u16) -> &[u8]
         ensures { result.now ≡ event_name self.now event }
     {
         name_at(self.events.as_slice(), event)
     }
 
-    /// The name of what an entry of a schedule table is for (LIN 2.2A, section 9.2.5): a frame's, `MasterReq` or `SlaveResp`,
-    /// and `-` for a configuration entry.
+    /// The name of what an entry of a schedule table is for (LIN 2.2A, section 9.2.5): a frame's,
+    /// `MasterReq` or `SlaveResp`, and `-` for a configuration entry.
     pub fn entry_name(&self, entry: Entry) -> &[u8]
         ensures { result.now ≡ entry_name self.now entry }
     {

@@ -14,7 +14,7 @@ use Rattle.lin_ports.specs.declared.lane.Lane.{Lane}
 use Rattle.lin_ports.specs.declared.pump.Pump.{Pump}
 use mathlib.Core.List.{IsPrefix}
 use Rattle.rtrb.specs.Ring.{sent}
-use Rattle.lin_ports.specs.Lanes.{popped, port_of, lane_wiring, SameLane, Serves, AllServe, InOrder, OnlyOwn, Served}
+use Rattle.lin_ports.specs.Lanes.{steps_from_ring, port_of, lane_wiring, SameLane, Serves, AllServe, InOrder, OnlyOwn, Served}
 use Rattle.lin_ports.proofs.PortLemmas.{logged-own, logged-other, told_more, port_at-no_bus}
 
 -- what a list has after a write at one place
@@ -49,7 +49,7 @@ port_of-same a b h = ap (λ w. w.port) h.wiring
 
 -- what a lane keeps of the log, whatever it is that stands in front of `base`
 pub serves_own : (base : ℕ) (log : List LogEntry) (e : LogEntry) (a b : Lane) → Serves base log a → e.port ≡ port_of a → port_of b ≡ port_of a
-    → popped b.number b.steps ≡ popped a.number a.steps ++ e.step ∷ [] → b.seen ≡ a.seen → b.part ≡ a.part → b.given ≡ a.given → sent b.notes ≡ sent a.notes
+    → steps_from_ring b.number b.steps ≡ steps_from_ring a.number a.steps ++ e.step ∷ [] → b.seen ≡ a.seen → b.part ≡ a.part → b.given ≡ a.given → sent b.notes ≡ sent a.notes
     → Serves base (log ++ e ∷ []) b
 serves_own base log e a b s by port got seen part given told_ = record {
   steps = rw (port, drop-append-le base log (e ∷ []) (let p = s.after in let q = s.within in omega arith))

@@ -20,7 +20,7 @@ use Rattle.lin_ports.specs.declared.steps.Note.{Note}
 use Rattle.lin_ports.specs.declared.ports.Outgoing.TheVariants as out
 use Rattle.lin_ports.specs.declared.incoming.Incoming.{Incoming}
 use Rattle.lin_ports.specs.declared.incoming.Incoming.TheVariants as into
-use Rattle.lin_ports.specs.Steps.{port_at, same_port, step_by, logged, notes_in, notes, part_notes, first_notes, told}
+use Rattle.lin_ports.specs.Steps.{port_at, same_port, step_by, logged, notes_in, notes, part_notes, first_notes, notes_told}
 
 pub into_same : {T P : Type 0} (a b : Producer T Global P) → SameProducer a b → ring_into b ≡ ring_into a
 into_same a b h = rw (h.0.0, h.0.1, h.0.2, h.0.3) refl
@@ -107,7 +107,7 @@ first_more port part (x ∷ es) e h = refl
 
 -- what was told of a log, it was told of a longer one
 pub told_more : (port : PortId) (base seen part : ℕ) (log : List LogEntry) (e : LogEntry) → seen ≤ length log → (seen ≡ length log → part ≡ 0)
-    → told port base seen part (log ++ e ∷ []) ≡ told port base seen part log
+    → notes_told port base seen part (log ++ e ∷ []) ≡ notes_told port base seen part log
 told_more port base seen part log e within whole =
     rw (take-append-le seen log (e ∷ []) within, drop-append-le seen log (e ∷ []) within)
     (ap (λ xs. notes (drop base (take seen log)) port ++ xs) (first_more port part (drop seen log) e (λ z. whole (let q = length-drop seen log in omega arith))))

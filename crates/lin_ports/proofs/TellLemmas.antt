@@ -16,7 +16,7 @@ use Rattle.lin_core.specs.declared.reply.Reply.TheVariants.{Done, Refused}
 use Rattle.lin_ports.specs.declared.lane.Lane.{Lane}
 use Rattle.lin_ports.specs.declared.steps.Note.{Note}
 use Rattle.lin_ports.specs.declared.steps.Note.TheVariants as note
-use Rattle.lin_ports.specs.Steps.{same_port, is_note_for, event_notes, reply_notes, notes_in, notes, part_notes, first_notes, told}
+use Rattle.lin_ports.specs.Steps.{same_port, is_note_for, event_notes, reply_notes, notes_in, notes, part_notes, first_notes, notes_told}
 use Rattle.lin_ports.specs.Lanes.{Serves, Tells, SameLane, lane_wiring, port_of}
 use Rattle.lin_ports.proofs.PortLemmas.{into_same, notes-append}
 
@@ -41,7 +41,7 @@ event_notes-append port xs ys = ap (map note.Event) (filter-append (is_note_for 
 
 -- one more event of the entry was looked at
 pub told_event : (port : PortId) (base seen part : ℕ) (log : List LogEntry) (e : LogEntry) (events : List Event) (x : Event) → slice_get log seen ≡ Some e → e.reply ≡ Done events → slice_get events part ≡ Some x
-    → told port base seen (suc part) log ≡ told port base seen part log ++ event_notes port (x ∷ [])
+    → notes_told port base seen (suc part) log ≡ notes_told port base seen part log ++ event_notes port (x ∷ [])
 told_event port base seen part log e events x at is here =
     rw (drop-next log seen e at, is, take-next events part x here, event_notes-append port (take part events) (x ∷ []))
     (sym (append_assoc (notes (drop base (take seen log)) port) (event_notes port (take part events)) (event_notes port (x ∷ []))))
@@ -59,17 +59,17 @@ small base seen log h k = let q = length-take-le seen log k in omega arith
 
 -- the next entry comes: what was told of the one before is all its notes
 pub told_next : (port : PortId) (base seen : ℕ) (log : List LogEntry) (e : LogEntry) → base ≤ seen → seen ≤ length log → slice_get log seen ≡ Some e
-    → told port base (suc seen) 0 log ≡ notes (drop base (take seen log)) port ++ notes_in port e
+    → notes_told port base (suc seen) 0 log ≡ notes (drop base (take seen log)) port ++ notes_in port e
 told_next port base seen log e after within at =
     rw (none_first port (drop (suc seen) log), append-nil, take-next log seen e at, drop-append-le base (take seen log) (e ∷ []) (small base seen log after within))
     (notes-append (drop base (take seen log)) (e ∷ []) port ∙ ap (λ xs. notes (drop base (take seen log)) port ++ xs) (append-nil (notes_in port e)))
 
 all_events : (port : PortId) (base seen part : ℕ) (log : List LogEntry) (e : LogEntry) (events : List Event) → slice_get log seen ≡ Some e → e.reply ≡ Done events → length events ≤ part
-    → told port base seen part log ≡ notes (drop base (take seen log)) port ++ notes_in port e
+    → notes_told port base seen part log ≡ notes (drop base (take seen log)) port ++ notes_in port e
 all_events port base seen part log e events at is full = rw (drop-next log seen e at, is, take_all part events full) refl
 
 no_events : (port : PortId) (base seen part : ℕ) (log : List LogEntry) (e : LogEntry) (r : Refusal) → slice_get log seen ≡ Some e → e.reply ≡ Refused r
-    → told port base seen part log ≡ notes (drop base (take seen log)) port
+    → notes_told port base seen part log ≡ notes (drop base (take seen log)) port
 no_events port base seen part log e r at is = rw (drop-next log seen e at, is) (append-nil (notes (drop base (take seen log)) port))
 
 pub same_wiring : (a b : Lane) (xs : List Note) → Tells a b xs → lane_wiring b ≡ lane_wiring a
@@ -91,7 +91,7 @@ serves_event base log e events x a b s at is here t seen part =
 
 -- a lane that goes on to the next entry, after these notes
 pub serves_next : (base : ℕ) (log : List LogEntry) (e : LogEntry) (a b : Lane) (xs : List Note) → Serves base log a → slice_get log a.seen ≡ Some e
-    → told (port_of a) base a.seen a.part log ++ xs ≡ notes (drop base (take a.seen log)) (port_of a) ++ notes_in (port_of a) e
+    → notes_told (port_of a) base a.seen a.part log ++ xs ≡ notes (drop base (take a.seen log)) (port_of a) ++ notes_in (port_of a) e
     → Tells a b xs → b.seen ≡ a.seen + 1 → b.part ≡ 0 → Serves base log b
 serves_next base log e a b xs s at whole t seen part =
     let port : port_of b ≡ port_of a = rw (t.number, t.steps) refl in
@@ -162,7 +162,7 @@ first_first port k (e ∷ es) = let h = part_first port k e.reply (same_port e.p
     (h.0 ++ notes es port, sym (append_assoc (part_notes port k e.reply) h.0 (notes es port)) ∙ ap (λ xs. xs ++ notes es port) h.1)
 
 -- what was told of a log is the beginning of its notes
-pub told_first : (port : PortId) (base seen part : ℕ) (log : List LogEntry) → base ≤ seen → seen ≤ length log → IsPrefix (told port base seen part log) (notes (drop base log) port)
+pub told_first : (port : PortId) (base seen part : ℕ) (log : List LogEntry) → base ≤ seen → seen ≤ length log → IsPrefix (notes_told port base seen part log) (notes (drop base log) port)
 told_first port base seen part log after within =
     let h = first_first port part (drop seen log) in
     let start : List LogEntry = drop base (take seen log) in

@@ -9,7 +9,7 @@ use Rattle.lin_core.specs.declared.log.LogEntry.{LogEntry}
 use Rattle.lin_core.specs.declared.port.PortId.{PortId}
 use Rattle.lin_core.specs.declared.port.PortId.TheVariants.{Host, Node}
 use Rattle.lin_core.specs.declared.step.Step.{Step}
-use Rattle.lin_ports.specs.Steps.{host_step, node_step, logged, told, port_at, same_port}
+use Rattle.lin_ports.specs.Steps.{host_step, node_step, logged, notes_told, port_at, same_port}
 use Rattle.lin_ports.specs.Ports.{RingId, Wiring, ring_into, ring_from}
 use Rattle.lin_ports.specs.declared.incoming.Incoming.{Incoming}
 use Rattle.lin_ports.specs.declared.incoming.Incoming.TheVariants as into
@@ -28,16 +28,20 @@ abbrev pub ring_in : Incoming → RingId
 ring_in (into.Host ring) = ring_from ring
 ring_in (into.Node ring) = ring_from ring
 
-abbrev pub popped : ℕ → Incoming → List Step
-popped n (into.Host ring) = map (host_step n) (received ring)
-popped n (into.Node ring) = map (node_step n) (received ring)
+abbrev pub steps_from_ring : ℕ → Incoming → List Step
+steps_from_ring n (into.Host ring) = map (host_step n) (received ring)
+steps_from_ring n (into.Node ring) = map (node_step n) (received ring)
 
 -- the same end of the same ring
 abbrev pub SameIncoming : Incoming → Incoming → Type 0
 SameIncoming a b = ((n : ℕ) → port_in n b ≡ port_in n a) × (ring_in b ≡ ring_in a)
 
 abbrev pub lane_wiring : Lane → Wiring
-lane_wiring lane = record { port = port_in lane.number lane.steps; steps = ring_in lane.steps; notes = ring_into lane.notes }
+lane_wiring lane = record {
+  port = port_in lane.number lane.steps;
+  steps = ring_in lane.steps;
+  notes = ring_into lane.notes;
+}
 
 abbrev pub port_of : Lane → PortId
 port_of lane = (lane_wiring lane).port
@@ -50,11 +54,11 @@ pub record SameLane (a b : Lane) : Type 0 where
 -- what came out of the ring of steps is what was logged, and what went into the ring of notes is
 -- the notes of what the lane has seen
 pub record Serves (base : ℕ) (log : List LogEntry) (lane : Lane) : Type 0 where
-  pub steps : logged (drop base log) (port_of lane) ≡ popped lane.number lane.steps
+  pub steps : logged (drop base log) (port_of lane) ≡ steps_from_ring lane.number lane.steps
   pub after : base ≤ lane.seen
   pub within : lane.seen ≤ length log
   pub whole : lane.seen ≡ length log → lane.part ≡ 0
-  pub notes : sent lane.notes ≡ told (port_of lane) base lane.seen lane.part log
+  pub notes : sent lane.notes ≡ notes_told (port_of lane) base lane.seen lane.part log
   pub given : lane.given ≡ length (sent lane.notes)
 
 -- one more entry: the core's answer to a step of the port, one that it may give

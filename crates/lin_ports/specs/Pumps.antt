@@ -14,11 +14,11 @@ abbrev pub core_of : Pump → CoreData
 core_of pump = pump.core
 
 -- how many entries the log had when the pump was made, and those that came since
-abbrev pub started : Pump → ℕ
-started pump = pump.base
+abbrev pub first_entry : Pump → ℕ
+first_entry pump = pump.base
 
 abbrev pub since : Pump → List LogEntry
-since pump = drop (started pump) (core_of pump).log
+since pump = drop (first_entry pump) (core_of pump).log
 
 -- the ports of the pump, hosts by number and then nodes, and whether a port is one of them
 abbrev pub wirings : Pump → List Wiring
@@ -35,5 +35,5 @@ given_to pump port = given_in port pump.lanes.items
 pub record KeepsPump (a b : Pump) : Type 0 where
   pub ports : wirings b ≡ wirings a
   pub alike : IsAlike (core_of a) (core_of b)
-  pub start : started b ≡ started a
+  pub start : first_entry b ≡ first_entry a
   pub log : IsPrefix (core_of a).log (core_of b).log

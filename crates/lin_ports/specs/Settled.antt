@@ -5,11 +5,11 @@ use mathlib.Core.List.{IsPrefix}
 use Rattle.rtrb.specs.Ring.{sent}
 use Rattle.lin_core.specs.declared.log.LogEntry.{LogEntry}
 use Rattle.lin_ports.specs.Steps.{logged, notes}
-use Rattle.lin_ports.specs.Lanes.{popped, lane_wiring}
+use Rattle.lin_ports.specs.Lanes.{steps_from_ring, lane_wiring}
 use Rattle.lin_ports.specs.Ports.{Wiring, receipt_wiring, receipt_id, receipt_put, receipt_took}
 use Rattle.lin_ports.specs.Ports.{IsReceiptOf}
 use Rattle.lin_ports.specs.Messages.{BeginsGrowths}
-use Rattle.lin_ports.specs.Pumps.{core_of, since, started, given_to}
+use Rattle.lin_ports.specs.Pumps.{core_of, since, first_entry, given_to}
 use Rattle.lin_ports.specs.declared.lane.Lane.{Lane}
 use Rattle.lin_ports.specs.declared.pump.Pump.{Pump}
 use Rattle.lin_ports.specs.declared.ports.Receipt.{Receipt}
@@ -23,7 +23,7 @@ SameReceipt a b = IsReceiptOf (receipt_wiring a) (receipt_put a) (receipt_took a
 -- the lists of a lane that was looked at are as before
 pub record KeptLane (a b : Lane) : Type 0 where
   pub wiring : lane_wiring b ≡ lane_wiring a
-  pub steps : popped b.number b.steps ≡ popped a.number a.steps
+  pub steps : steps_from_ring b.number b.steps ≡ steps_from_ring a.number a.steps
   pub notes : sent b.notes ≡ sent a.notes
   pub seen : b.seen ≡ a.seen
   pub part : b.part ≡ a.part
@@ -34,11 +34,11 @@ pub record KeptLane (a b : Lane) : Type 0 where
 abbrev pub LaneSettles : Lane → Lane → Receipt → Settled → Type 0
 LaneSettles old new r (Whole s) =
     SameReceipt r s × IsPrefix (receipt_took s) (sent new.notes)
-    × (popped new.number new.steps ≡ receipt_put s) × (new.settled ≡ true)
+    × (steps_from_ring new.number new.steps ≡ receipt_put s) × (new.settled ≡ true)
 LaneSettles old new r (Left s) =
     SameReceipt r s × IsPrefix (receipt_took s) (sent new.notes)
-    × (length (popped new.number new.steps) < length (receipt_put s))
-    × IsPrefix (popped new.number new.steps) (receipt_put s)
+    × (length (steps_from_ring new.number new.steps) < length (receipt_put s))
+    × IsPrefix (steps_from_ring new.number new.steps) (receipt_put s)
 
 -- the port's lane is passed over: no step of it is taken any more
 abbrev pub IsPassedOver : List Lane → Wiring → Type 0
@@ -52,7 +52,7 @@ IsPassedOver lanes port =
 pub record TookOnlyNotes (pump : Pump) (r : Receipt) : Type 0 where
   pub named : IsPrefix (receipt_took r) (notes (since pump) (receipt_id r))
   pub given : IsPrefix (receipt_took r) (given_to pump (receipt_id r))
-  pub messages : BeginsGrowths (core_of pump) (started pump) (receipt_id r) (receipt_took r)
+  pub messages : BeginsGrowths (core_of pump) (first_entry pump) (receipt_id r) (receipt_took r)
 
 -- all that the port put is logged, in order and each once, and the port is passed over
 pub record IsSettledIn (es : List LogEntry) (lanes : List Lane) (r : Receipt) : Type 0 where

@@ -82,6 +82,6 @@ first_notes port k [] = []
 first_notes port k (e ∷ es) = part_notes port k e.reply
 
 -- the notes of the entries from one place up to another, and of the first events of the entry there
-abbrev pub told : PortId → ℕ → ℕ → ℕ → List LogEntry → List Note
-told port base seen part log =
+abbrev pub notes_told : PortId → ℕ → ℕ → ℕ → List LogEntry → List Note
+notes_told port base seen part log =
     notes (drop base (take seen log)) port ++ first_notes port part (drop seen log)

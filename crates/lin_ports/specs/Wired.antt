@@ -4,7 +4,7 @@ use Rattle.std.specs.List.{slice_get}
 use Rattle.rtrb.specs.Ring.{sent}
 use Rattle.lin_core.specs.declared.port.PortId.{PortId}
 use Rattle.lin_core.specs.declared.port.PortId.TheVariants.{Host, Node}
-use Rattle.lin_ports.specs.Lanes.{popped, port_of}
+use Rattle.lin_ports.specs.Lanes.{steps_from_ring, port_of}
 use Rattle.lin_ports.specs.Steps.{port_at}
 use Rattle.lin_ports.specs.Ports.{host_wiring, host_ring, host_put, host_took, node_wiring}
 use Rattle.lin_ports.specs.Ports.{node_ring, node_put, node_took}
@@ -20,7 +20,7 @@ module _ {X : Type 0} where
 -- a lane that has seen the log up to here and done nothing
 pub record IsNewLane (start : ℕ) (by : PortId) (lane : Lane) : Type 0 where
   pub port : port_of lane ≡ by
-  pub steps : popped lane.number lane.steps ≡ []
+  pub steps : steps_from_ring lane.number lane.steps ≡ []
   pub notes : sent lane.notes ≡ []
   pub seen : lane.seen ≡ start
   pub part : lane.part ≡ 0

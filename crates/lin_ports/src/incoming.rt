@@ -17,14 +17,14 @@ impl Incoming {
     ghost use Rattle.std.specs.Prelude.{◌≡◌, ◌++◌, ◌∷◌, [], true, IfSome, IfNone};
     ghost use Rattle.lin_core.specs.Core.{IsSmall};
     ghost use Rattle.lin_core.specs.Replies.{may};
-    ghost use Rattle.lin_ports.specs.Lanes.{SameIncoming, popped, port_in};
+    ghost use Rattle.lin_ports.specs.Lanes.{SameIncoming, steps_from_ring, port_in};
 
     /// The next step of the port with this number.
     pub(crate) fn pop(&mut self, number: u8) -> Option<Step>
         ensures same { SameIncoming self.old self.new }
         ensures some { IfSome result
-            (λ s. popped number self.new ≡ popped number self.old ++ s ∷ []) }
-        ensures none { IfNone result (popped number self.new ≡ popped number self.old) }
+            (λ s. steps_from_ring number self.new ≡ steps_from_ring number self.old ++ s ∷ []) }
+        ensures none { IfNone result (steps_from_ring number self.new ≡ steps_from_ring number self.old) }
         ensures own { IfSome result (λ s. may (port_in number self.old) s ≡ true) }
         ensures small { IfSome result (λ s. IsSmall s) }
     {

@@ -1,5 +1,5 @@
-//! Ports of hosts and nodes, each with a ring of steps and a ring of notes, and the pump that makes their steps on a
-//! core.
+//! Ports of hosts and nodes, each with a ring of steps and a ring of notes, and the pump that makes
+//! their steps on a core.
 //!
 //! ```
 //! let (mut pump, mut hosts, mut nodes) = wire(alloc, core, 64)?;

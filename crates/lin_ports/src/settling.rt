@@ -17,7 +17,7 @@ pub enum Settled {
 impl Incoming {
     ghost use Rattle.std.specs.Prelude.{◌≡◌, ◌++◌, ℕ, List, length};
     ghost use Rattle.lin_core.specs.declared.step.Step.{Step};
-    ghost use Rattle.lin_ports.specs.Lanes.{SameIncoming, popped, port_in, ring_in};
+    ghost use Rattle.lin_ports.specs.Lanes.{SameIncoming, steps_from_ring, port_in, ring_in};
     ghost use Rattle.lin_ports.specs.Ports.{port_out, ring_out, puts};
 
     /// How many steps still stand in the ring, with both ends in one thread.
@@ -25,12 +25,12 @@ impl Incoming {
         requires kind { port_out 0 put.old ≡ port_in 0 self.old }
         requires ring { ring_out put.old ≡ ring_in self.old }
         ensures same { SameIncoming self.old self.new }
-        ensures popped { (n : ℕ) → popped n self.new ≡ popped n self.old }
+        ensures popped { (n : ℕ) → steps_from_ring n self.new ≡ steps_from_ring n self.old }
         ensures port { (n : ℕ) → port_out n put.new ≡ port_out n put.old }
         ensures ring { ring_out put.new ≡ ring_out put.old }
         ensures puts { (n : ℕ) → puts n put.new ≡ puts n put.old }
         ensures fifo { (n : ℕ)
-            → (rest : List Step) × (popped n self.new ++ rest ≡ puts n put.new)
+            → (rest : List Step) × (steps_from_ring n self.new ++ rest ≡ puts n put.new)
             × (length rest ≡ result) }
     {
         match self {

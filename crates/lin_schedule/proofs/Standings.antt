@@ -4,12 +4,12 @@ use Rattle.std.proofs.Common.{inl, inr, ◌%◌}
 use Rattle.std.proofs.lemmas.Bool.{cases_lt}
 use Rattle.std.proofs.lemmas.Option.{none-some}
 use Rattle.std.proofs.lemmas.Bool.Decides.{Decides-eqb}
-use Rattle.lin_parts.specs.declared.parts.Line.{Line}
+use Rattle.lin_cluster_parts.specs.declared.parts.Line.{Line}
 use Rattle.std.specs.Prelude.{nat_lt, ◌==◌, if◌then◌else◌, option_map}
-use Rattle.lin_frame.specs.Words.{choose}
-use Rattle.lin_parts.specs.Cluster.{table_of, line_of}
-use Rattle.lin_parts.specs.declared.parts.Parts.{Parts}
-use Rattle.lin_parts.specs.declared.parts.Entry.{Entry}
+use Rattle.std.specs.Option.{option_map_or, unwrap_or}
+use Rattle.lin_cluster_parts.specs.Cluster.{table_of, line_of}
+use Rattle.lin_cluster_parts.specs.declared.parts.Parts.{Parts}
+use Rattle.lin_cluster_parts.specs.declared.parts.Entry.{Entry}
 use Rattle.lin_schedule.specs.Schedule.{Move, Slot, Switch, Restart, Standing, offset, total, entry_at, due, resolving, after_main, after_place, standing}
 use Rattle.lin_schedule.specs.Walker.{Position, position_of, Stands}
 use Rattle.lin_schedule.proofs.Times.{AreDelays, IsOn, IsOn-from, IsOn-next, entry_at-next, find-first, offset-start, next}
@@ -20,7 +20,7 @@ AreWalkable c = (t : ℕ) → t < length c.tables → (0 < length (table_of c t)
 
 -- where a schedule stands after a slot
 abbrev pub after_slot : Parts → Standing → Bool → Standing
-after_slot c s clash = choose s.excursion (after_main c s (line_of c (due c s).0 (due c s).1) clash) (after_place c s)
+after_slot c s clash = option_map_or (after_place c s) s.excursion (after_main c s (line_of c (due c s).0 (due c s).1) clash)
 
 -- the main slots' time is that of an entry, where the table is one of the cluster's
 abbrev pub IsTimed : Parts → Standing → Type 0
@@ -62,7 +62,7 @@ position-start c t = ap (λ (k : ℕ). let at : Position = record { place = (t, 
 
 -- the table of the main slots
 abbrev pub main_table : Position → ℕ
-main_table w = choose w.back w.place.0 (λ back. back.0)
+main_table w = option_map_or (λ back. back.0) w.back w.place.0
 
 pub main_table-position : (c : Parts) (t elapsed : ℕ) (excursion : Option (ℕ × ℕ))
     → main_table (position_of c (record { table = t; elapsed = elapsed; excursion = excursion })) ≡ t
@@ -79,21 +79,21 @@ Stands-restart c opening walker moves stands =
 
 -- what a clash starts
 abbrev pub started : Option ℕ → Option (ℕ × ℕ)
-started resolver = choose resolver None (λ t. Some (t, 0))
+started resolver = option_map_or (λ t. Some (t, 0)) resolver None
 
 started-when : (clash : Bool) (resolver : Option ℕ)
-    → (if clash then choose resolver None (λ (t : ℕ). Some (t, 0)) else None) ≡ started (if clash then resolver else None)
+    → (if clash then option_map_or (λ (t : ℕ). Some (t, 0)) resolver None else None) ≡ started (if clash then resolver else None)
 started-when true resolver = refl
 started-when false resolver = refl
 
 -- the position after a main slot: in the resolving table where one is started, else on the next entry
 abbrev pub position_after_main : Option ℕ → ℕ × ℕ → Position
 position_after_main resolver main =
-    choose resolver (record { place = main; back = None }) (λ t. record { place = (t, 0); back = Some main })
+    option_map_or (λ t. record { place = (t, 0); back = Some main }) resolver (record { place = main; back = None })
 
 -- the position of an excursion, or of a main slot where there is none
 abbrev pub position_at : Option (ℕ × ℕ) → ℕ × ℕ → Position
-position_at excursion main = record { place = choose excursion main (λ place. place); back = option_map (λ _. main) excursion }
+position_at excursion main = record { place = unwrap_or excursion main; back = option_map (λ _. main) excursion }
 
 position_after_main-is : (resolver : Option ℕ) (main : ℕ × ℕ)
     → position_after_main resolver main ≡ position_at (started resolver) main

@@ -1,15 +1,14 @@
 -- A walker stays in its cluster's tables.
 use Rattle.std.proofs.Common.{◌≡◌, ℕ, suc, ◌<◌, Bool, true, false, length, Option, Some, None, refl, sym, subst, arith}
 use Rattle.std.specs.Prelude.{nat_lt, if◌then◌else◌, unwrap_or}
-use Rattle.std.specs.Option.{ForSome}
+use Rattle.std.specs.Option.{ForSome, option_map_or}
 use Rattle.std.proofs.lemmas.Option.{none-some}
 use Rattle.std.proofs.lemmas.Bool.Decides.{nat_tests}
-use Rattle.lin_frame.specs.Words.{choose}
-use Rattle.lin_parts.specs.Cluster.{table_of}
-use Rattle.lin_parts.specs.declared.parts.Parts.{Parts}
+use Rattle.lin_cluster_parts.specs.Cluster.{table_of}
+use Rattle.lin_cluster_parts.specs.declared.parts.Parts.{Parts}
 use Rattle.lin_schedule.specs.Walker.{Position, HasEntry, Walks}
-use Rattle.lin_parts.specs.Cluster.{line_of}
-use Rattle.lin_parts.specs.Rules.{IsCluster}
+use Rattle.lin_cluster_parts.specs.Cluster.{line_of}
+use Rattle.lin_cluster_parts.specs.Rules.{IsCluster}
 use Rattle.lin_schedule.specs.Schedule.{resolving}
 use Rattle.lin_schedule.proofs.Clusters.{table-start, line-entry, resolving-start}
 use Rattle.lin_schedule.proofs.Times.{next, next-lt}
@@ -49,14 +48,14 @@ Walks-back c walker back walks is = record { place = walks.back back is; back = 
 
 -- a new start of the current table
 pub main-start : (c : Parts) (place : ℕ × ℕ) (back : Option (ℕ × ℕ)) → HasEntry c place → ForSome back (HasEntry c)
-    → HasEntry c (choose back place.0 (λ b. b.0), 0)
+    → HasEntry c (option_map_or (λ b. b.0) back place.0, 0)
 main-start c place None in_table in_back = (in_table.0, omega arith)
 main-start c place (Some b) in_table in_back = ((in_back b refl).0, omega (arith, (in_back b refl).1))
 
 pub Walks-restart : (c : Parts) (walker : Position) → Walks c walker → Walks c (record { place = (main_table walker, 0); back = None })
 Walks-restart c walker walks = record { place = main-start c walker.place walker.back walks.place walks.back; back = no-back (HasEntry c) }
 
-unwrapped-table : (back : Option (ℕ × ℕ)) (place : ℕ × ℕ) → (unwrap_or back place).0 ≡ choose back place.0 (λ b. b.0)
+unwrapped-table : (back : Option (ℕ × ℕ)) (place : ℕ × ℕ) → (unwrap_or back place).0 ≡ option_map_or (λ b. b.0) back place.0
 unwrapped-table None place = refl
 unwrapped-table (Some b) place = refl
 

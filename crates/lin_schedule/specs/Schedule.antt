@@ -2,12 +2,13 @@
 -- frames).
 use Rattle.std.specs.Prelude.{ℕ, suc, ◌+◌, ◌%◌, Bool, nat_lt, ◌==◌, if◌then◌else◌, List, [], ◌∷◌}
 use Rattle.std.specs.Prelude.{length, take, sum_by, find, Option, Some, None}
-use Rattle.lin_frame.specs.Words.{numbers, choose}
-use Rattle.lin_parts.specs.Cluster.{event_of, table_of, line_of}
-use Rattle.lin_parts.specs.declared.parts.Parts.{Parts}
-use Rattle.lin_parts.specs.declared.parts.Line.{Line}
-use Rattle.lin_parts.specs.declared.parts.Entry.{Entry}
-use Rattle.lin_parts.specs.declared.parts.Entry.TheVariants.{Event}
+use Rattle.std.specs.Option.{option_map_or, unwrap_or}
+use Rattle.lin_frame.specs.Words.{numbers}
+use Rattle.lin_cluster_parts.specs.Cluster.{event_of, table_of, line_of}
+use Rattle.lin_cluster_parts.specs.declared.parts.Parts.{Parts}
+use Rattle.lin_cluster_parts.specs.declared.parts.Line.{Line}
+use Rattle.lin_cluster_parts.specs.declared.parts.Entry.{Entry}
+use Rattle.lin_cluster_parts.specs.declared.parts.Entry.TheVariants.{Event}
 
 -- the sum of the delays before entry k of a table, in microseconds
 abbrev pub offset : List Line → ℕ → ℕ
@@ -34,7 +35,7 @@ pub record Standing : Type 0 where
 -- the entry of a table that is due when t has passed since its start
 abbrev pub entry_at : List Line → ℕ → ℕ
 entry_at table t =
-    choose (find (λ k. offset table k == t % total table) (numbers (length table))) 0 (λ k. k)
+    unwrap_or (find (λ k. offset table k == t % total table) (numbers (length table))) 0
 
 -- the due table and entry of a main slot
 abbrev pub due_in_main : Parts → Standing → ℕ × ℕ
@@ -42,7 +43,7 @@ due_in_main c s = (s.table, entry_at (table_of c s.table) s.elapsed)
 
 -- the due table and entry
 abbrev pub due : Parts → Standing → ℕ × ℕ
-due c s = choose s.excursion (due_in_main c s) (λ place. place)
+due c s = unwrap_or s.excursion (due_in_main c s)
 
 -- the due entry with its delay
 abbrev pub due_line : Parts → Standing → Line
@@ -59,7 +60,8 @@ after_main c s line clash =
     record {
       table = s.table;
       elapsed = s.elapsed + line.delay_us;
-      excursion = if clash then choose (resolving c line.entry) None (λ t. Some (t, 0)) else None;
+      excursion =
+          if clash then option_map_or (λ t. Some (t, 0)) (resolving c line.entry) None else None;
     }
 
 -- after a slot of an excursion: it goes on to the resolving table's end
@@ -78,4 +80,4 @@ standing c opening (Restart ∷ earlier) =
     record { table = (standing c opening earlier).table; elapsed = 0; excursion = None }
 standing c opening (Slot clash ∷ earlier) =
     let s : Standing = standing c opening earlier
-    in choose s.excursion (after_main c s (due_line c s) clash) (after_place c s)
+    in option_map_or (after_place c s) s.excursion (after_main c s (due_line c s) clash)

@@ -1,4 +1,5 @@
-//! The walk through a cluster's schedule tables: which entry is due in each slot (ISO 17987-3, schedule tables).
+//! The walk through a cluster's schedule tables: which entry is due in each slot (ISO 17987-3,
+//! schedule tables).
 //!
 //! ```
 //! let mut walker = Walker::new(0);

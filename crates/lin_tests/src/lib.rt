@@ -1,4 +1,5 @@
-//! Tests of the public calls of the other crates, apart from them, so that a crate isn't proved a second time with its tests.
+//! Tests of the public calls of the other crates, apart from them, so that a crate isn't proved a
+//! second time with its tests.
 #![tactic(auto)]
 
 #[cfg(test)]

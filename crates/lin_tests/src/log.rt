@@ -1,4 +1,5 @@
-//! Rows of scripts and logs over a cluster with diagnostic frames, and readers and writers that fail.
+//! Rows of scripts and logs over a cluster with diagnostic frames, and readers and writers that
+//! fail.
 
 pub mod fakes;
 
@@ -251,7 +252,8 @@ fn prefixes_of_the_first_script(rt: HostRuntime) {
     }
 }
 
-/// A replay of the first script, where its reader and its writer fail behind so many bytes: the fault, and what was written.
+/// A replay of the first script, where its reader and its writer fail after so many bytes: the
+/// fault, and what was written.
 fn failing(
     alloc: Global,
     reads: usize,

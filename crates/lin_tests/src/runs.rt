@@ -22,7 +22,7 @@ const ANSWER: &[u8] = b"bus answer 0\n> put 0 010101FFFFFFFFFFFC\n";
 
 const FINISH: &[u8] = b"bus finish\n> seen good 010101FFFFFFFFFFFC\n> message 0 1 01\n> sent 0 1\n";
 
-/// The core behind a run on the cluster of a text, whose schedule opens with the first table.
+/// The core after a run on the cluster of a text, whose schedule opens with the first table.
 pub(crate) fn core_behind(
     rt: &impl Abort,
     alloc: Global,
@@ -41,7 +41,8 @@ pub(crate) fn core_behind(
     Ok(core)
 }
 
-/// The time in microseconds, how many messages of host 0 wait, and how many nodes are due and undecided.
+/// The time in microseconds, how many messages of host 0 wait, and how many nodes are due and
+/// undecided.
 type State = (u64, usize, usize);
 
 fn state(core: &Core) -> State {
@@ -49,7 +50,7 @@ fn state(core: &Core) -> State {
     (core.time(), core.waiting(0), core.undecided())
 }
 
-/// The state behind a run on the cluster with a door, and how many entries its log has.
+/// The state after a run on the cluster with a door, and how many entries its log has.
 fn behind(
     rt: &impl Abort,
     alloc: Global,

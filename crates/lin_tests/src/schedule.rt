@@ -9,7 +9,8 @@ use std::alloc::Global;
 use std::process::Abort;
 use std::test::Fail;
 
-/// A commander that sends the first two frames, and two responders. The table `short` has its event-triggered entry last.
+/// A commander that sends the first two frames, and two responders. The table `short` has its
+/// event-triggered entry last.
 const SMALL_CLUSTER: &[u8] = b"LIN_description_file;
 LIN_protocol_version = \"2.2\";
 LIN_language_version = \"2.2\";
@@ -38,7 +39,8 @@ const SHORT: u16 = 3;
 
 const RESOLVE_SHORT: u16 = 4;
 
-/// What a schedule goes on by: a slot, with a clash or without one, a switch to a table, or the start of the current one.
+/// What a schedule goes on by: a slot, with a clash or without one, a switch to a table, or the
+/// start of the current one.
 #[derive(Clone, Copy)]
 enum Move {
     Slot,
@@ -65,7 +67,7 @@ fn go_on(rt: &impl Abort, cluster: &Cluster, walker: &mut Walker, by: Move)
     }
 }
 
-/// The places of a walk: each move, and the table and entry of the slot behind it.
+/// The places of a walk: each move, and the table and entry of the slot after it.
 type Walk<'a> = &'a [(Move, (u16, u16))];
 
 fn expect_places(rt: &impl Abort, cluster: &Cluster, opening: u16, walk: Walk) {

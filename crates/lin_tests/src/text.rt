@@ -77,7 +77,8 @@ fn ldf_text_fails_at_each_read(rt: HostRuntime) -> Result<(), Fail> {
     Ok(())
 }
 
-/// The list of a cluster, one byte a write, where writes fail after so many: whether it was written, and what was.
+/// The list of a cluster, one byte a write, where writes fail after so many: whether it was
+/// written, and what was.
 fn list_slowly(alloc: Global, good: usize) -> Result<(bool, Vec<u8>), Fail> {
     let cluster = cluster_of(alloc, BODY_CLUSTER)?;
     let mut writer = Refusing {

@@ -1,5 +1,6 @@
 -- What a writer has taken of a text, at once or through a buffer.
-use Rattle.std.specs.Prelude.{◌≡◌, ℕ, List, [], ◌++◌, Option, Some, None, Result, Ok, Err, OnOk, IsErr}
+use Rattle.std.specs.Prelude.{◌≡◌, ℕ, List, [], ◌++◌, Option, Some, None, Result, Ok, Err, OnOk}
+use Rattle.std.specs.Prelude.{IsErr}
 use Rattle.std.specs.Borrow.{MutBor}
 use Rattle.std.specs.Io.KnownBytes.{Appends}
 use Rattle.lin_text.specs.declared.buffered.TextWriter.{TextWriter}
@@ -26,12 +27,12 @@ Puts old (Some waited) new (Some waits) text =
     (part : List ℕ) × Appends old new part × (waited ++ text ≡ part ++ waits)
 
 -- what waits where no write has failed
-abbrev pub kept : Result Unit WriteFailed → List ℕ → Option (List ℕ)
-kept (Ok done) items = Some items
-kept (Err fault) items = None
+abbrev pub kept_bytes : Result Unit WriteFailed → List ℕ → Option (List ℕ)
+kept_bytes (Ok done) items = Some items
+kept_bytes (Err fault) items = None
 
 abbrev pub waiting : {W : Type 0} → TextWriter W → Option (List ℕ)
-waiting t = kept t.outcome t.buffer.items
+waiting t = kept_bytes t.outcome t.buffer.items
 
 -- A text was put into a text writer, over the same writer.
 pub record Grows {W : Type 0} (contents : W → Option (List ℕ)) (old : TextWriter W)

@@ -50,12 +50,12 @@ empty-more [] list h e (suc host) = refl
 empty-more (first ∷ rest) list h e zero = h 0
 empty-more (first ∷ rest) list h e (suc host) = empty-more rest list (λ n. h (suc n)) e host
 
--- what stands behind a list
+-- what stands after a list
 behind : {X : Type 0} (xs ys : List X) (x : X) → slice_get (xs ++ x ∷ ys) (length xs) ≡ Some x
 behind [] ys x = refl
 behind (y ∷ xs) ys x = behind xs ys x
 
--- the first step that is no host's stands behind those that were split
+-- the first step that is no host's stands after those that were split
 pub first-other : (hosts : ℕ) (steps said rest : List (PortId × Step)) (other : PortId × Step) (index : ℕ) → said ++ other ∷ rest ≡ steps → index ≡ length said → All (IsOfHost hosts) said → (IsOfHost hosts other → ⊥) → IsFirstOther hosts steps index
 first-other hosts steps said rest other index whole place all no_host =
     subst (λ s. IsFirstOther hosts s index) whole (subst (λ i. IsFirstOther hosts (said ++ other ∷ rest) i) (sym place) (record {

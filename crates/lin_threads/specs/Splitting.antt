@@ -3,7 +3,7 @@ use Rattle.std.specs.Prelude.{◌≡◌, ℕ, ◌<◌, List, [], length, map, ta
 use Rattle.std.specs.Prelude.{if◌then◌else◌, Result, Ok, Err}
 use Rattle.std.specs.Global.{Vec}
 use Rattle.std.specs.List.{All, filter_map, slice_get}
-use Rattle.lin_frame.specs.Words.{choose}
+use Rattle.std.specs.Option.{option_map_or}
 use Rattle.lin_core.specs.declared.port.PortId.{PortId}
 use Rattle.lin_core.specs.declared.port.PortId.TheVariants.{Host}
 use Rattle.lin_core.specs.declared.step.Step.{Step}
@@ -31,7 +31,7 @@ given_by steps port = filter_map (step_given port) steps
 
 -- the list at this place
 abbrev pub list_at : ℕ → List (Vec HostStep) → List HostStep
-list_at host lists = choose (slice_get lists host) [] (λ list. list.items)
+list_at host lists = option_map_or (λ list. list.items) (slice_get lists host) []
 
 -- each step is a host's, and each host has a list of just the steps that its port gives, in their
 -- order

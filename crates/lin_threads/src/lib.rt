@@ -1,5 +1,5 @@
-//! Whole runs of a cluster: the hosts' tasks and the nodes' answers in threads of their own, and the slots of the
-//! schedule. The ports and the pump of `lin_ports` are handed on.
+//! Whole runs of a cluster: the hosts' tasks and the nodes' answers in threads of their own, and
+//! the slots of the schedule. The ports and the pump of `lin_ports` are handed on.
 //!
 //! ```
 //! let (pump, hosts, nodes) = wire(alloc, core, 64)?;

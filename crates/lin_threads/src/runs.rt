@@ -7,7 +7,7 @@ ghost use mathlib.Core.List.{IsPrefix};
 ghost use Rattle.lin_core.specs.Core.{IsAlike};
 ghost use Rattle.lin_core.specs.declared.port.PortId.TheVariants.{Bus};
 ghost use Rattle.lin_ports.specs.Lanes.{OnlyOwn};
-ghost use Rattle.lin_ports.specs.Pumps.{core_of, since, started};
+ghost use Rattle.lin_ports.specs.Pumps.{core_of, since, first_entry};
 ghost use Rattle.lin_ports.specs.Steps.{logged};
 ghost use Rattle.lin_threads.specs.Started.{all_lent};
 ghost use Rattle.lin_threads.specs.States.{ArePortsOf, IsSettledReceipt, handed_in};
@@ -160,7 +160,8 @@ fn run<R: Threads + Wait>(
     ensures advances { OnOk result
         (Advances pump.old pump.new (bus_steps plan.hurt.items plan.slots)) }
     ensures receipts { IfOk result (λ r.
-        AllZip (IsSettledReceipt (since pump.new)) (handed_in players.hosts.items players.nodes.items) r.1.items) }
+        AllZip (IsSettledReceipt (since pump.new))
+        (handed_in players.hosts.items players.nodes.items) r.1.items) }
     ensures ended { IfOk result (λ r. vec_len r.0 ≡ vec_len players.tasks) }
 {
     let tasks = players.tasks.len();
@@ -207,10 +208,12 @@ pub fn run_cluster<R: Threads + Wait>(
     ensures alike { IfOk result (λ r. IsAlike (core_of pump) r.core) }
     ensures log { IfOk result (λ r. IsPrefix (core_of pump).log r.core.log) }
     ensures slots { IfOk result (λ r.
-        logged (drop (length (core_of pump).log) r.core.log) Bus ≡ bus_steps plan.hurt.items plan.slots) }
-    ensures own { IfOk result (λ r. OnlyOwn (drop (started pump) r.core.log)) }
+        logged (drop (length (core_of pump).log) r.core.log) Bus
+        ≡ bus_steps plan.hurt.items plan.slots) }
+    ensures own { IfOk result (λ r. OnlyOwn (drop (first_entry pump) r.core.log)) }
     ensures receipts { IfOk result (λ r.
-        AllZip (IsSettledReceipt (drop (started pump) r.core.log)) (handed_in hosts.items nodes.items)
+        AllZip (IsSettledReceipt (drop (first_entry pump) r.core.log))
+        (handed_in hosts.items nodes.items)
         r.receipts.items) }
     ensures ended { IfOk result (λ r. vec_len r.ended ≡ vec_len tasks) }
 {

@@ -2,7 +2,7 @@
 use Rattle.std.proofs.Common.{◌≡◌, inr, ℕ, List, Option, Some, None, IfSome, Result, Ok, Err, subst}
 use Rattle.std.specs.Io.KnownBytes.{Appends}
 use Rattle.lin_text.specs.Written.{WritesText}
-use Rattle.lin_parts.specs.declared.parts.Parts.{Parts}
+use Rattle.lin_cluster_parts.specs.declared.parts.Parts.{Parts}
 use Rattle.lin_core.specs.declared.log.LogEntry.{LogEntry}
 use Rattle.lin_core.specs.declared.port.PortId.{PortId}
 use Rattle.lin_core.specs.declared.step.Step.{Step}
@@ -11,7 +11,7 @@ use Rattle.lin_names.specs.Names.{NamesData}
 use Rattle.lin_export.specs.Vcd.{vcd}
 use Rattle.lin_export.specs.declared.fault.ExportFault.{ExportFault}
 use Rattle.lin_export.specs.declared.fault.ExportFault.TheVariants as export
-use Rattle.lin_tool.specs.Formats.{Begins, Shows, export_fault, shown}
+use Rattle.lin_tool.specs.Formats.{Begins, Shows, export_fault, log_as}
 use Rattle.lin_tool.specs.Replaying.{IsLogOf, Replays, Stops}
 use Rattle.lin_tool.specs.declared.describing.Described.{Described}
 use Rattle.lin_tool.specs.declared.formats.Format.{Format}
@@ -31,7 +31,7 @@ begins old new (Some bytes) fault h = (h.part, h.rest, h.whole, h.written)
 -- a dump of a log over the same cluster
 pub shows-dump : {E : Type 0} (old new : Option (List ℕ)) (result : Result Unit E) (names : NamesData)
     (a b : Parts) (xs ys : List LogEntry) → a ≡ b → xs ≡ ys
-    → WritesText old new result (vcd a xs) → IfSome (shown Vcd names b ys) (WritesText old new result)
+    → WritesText old new result (vcd a xs) → IfSome (log_as Vcd names b ys) (WritesText old new result)
 shows-dump old new result names a b xs ys cluster log h =
     let P : List LogEntry → Type 0 = λ l. WritesText old new result (vcd a l) in
     let Q : Parts → Type 0 = λ c. WritesText old new result (vcd c ys) in

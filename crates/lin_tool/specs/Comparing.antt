@@ -1,13 +1,15 @@
 -- What comparing a log with the text of its own history answers.
-use Rattle.std.specs.Prelude.{◌≡◌, ◌≢◌, ℕ, ◌+◌, ◌==◌, List, take, slice_get, count_by, Result, Ok, Err}
-use Rattle.lin_parts.specs.declared.parts.Parts.{Parts}
+use Rattle.std.specs.Prelude.{◌≡◌, ◌≢◌, ℕ, ◌+◌, ◌==◌, List, take, slice_get, count_by, Result, Ok}
+use Rattle.std.specs.Prelude.{Err}
+use Rattle.lin_cluster_parts.specs.declared.parts.Parts.{Parts}
 use Rattle.lin_core.specs.declared.port.PortId.{PortId}
 use Rattle.lin_core.specs.declared.step.Step.{Step}
 use Rattle.lin_log.specs.Replay.{IsScriptOf, ScriptFaults, log_of}
 use Rattle.lin_log.specs.Words.{text}
 use Rattle.lin_log.specs.declared.fault.ScriptFault.TheVariants as script
 use Rattle.lin_tool.specs.declared.fault.Fault.{Fault}
-use Rattle.lin_tool.specs.declared.fault.Fault.TheVariants.{BadLine, ScriptTooLong, LogDiffers, OutOfMemory, ReadFailed}
+use Rattle.lin_tool.specs.declared.fault.Fault.TheVariants.{BadLine, ScriptTooLong, LogDiffers}
+use Rattle.lin_tool.specs.declared.fault.Fault.TheVariants.{OutOfMemory, ReadFailed}
 
 -- Two texts are the same up to some byte, and part there: it is another one, or one of the texts is
 -- over. The line in which they part is counted from 1.

@@ -3,7 +3,8 @@ use Rattle.std.specs.Prelude.{◌≡◌, ℕ, ◌<◌, ◌≤◌, List, length, 
 use Rattle.lin_tool.specs.Clusters.{AnswersText}
 use Rattle.lin_tool.specs.declared.describing.Described.{Described}
 use Rattle.lin_tool.specs.declared.fault.Fault.{Fault}
-use Rattle.lin_tool.specs.declared.fault.Fault.TheVariants.{Ldf, Findings, LdfTooLong, OutOfMemory, ReadFailed}
+use Rattle.lin_tool.specs.declared.fault.Fault.TheVariants.{Ldf, Findings, LdfTooLong, OutOfMemory}
+use Rattle.lin_tool.specs.declared.fault.Fault.TheVariants.{ReadFailed}
 
 -- when a reader has this fault: what it has is told, or it isn't
 abbrev pub ReadFaults : Fault → Option (List ℕ) → Type 0
@@ -19,7 +20,9 @@ ReadsAll view (Err fault) told = ReadFaults fault told
 
 -- this is answered to a text that isn't too long: to what the reader has, where that is told
 abbrev pub AnswersRead : Result Described Fault → Option (List ℕ) → Type 0
-AnswersRead result told = (text : List ℕ) × IfSome told (λ bytes. text ≡ bytes) × (length text ≤ 4194304) × AnswersText result text
+AnswersRead result told =
+    (text : List ℕ) × IfSome told (λ bytes. text ≡ bytes) × (length text ≤ 4194304)
+    × AnswersText result text
 
 -- what is answered to a reader of an LDF text
 abbrev pub AnswersLdf : Result Described Fault → Option (List ℕ) → Type 0

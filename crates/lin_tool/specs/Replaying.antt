@@ -1,17 +1,18 @@
 -- What the program's replay answers.
 use Rattle.std.specs.Prelude.{◌≡◌, ◌≢◌, ◌⊎◌, ℕ, List, Option, IfSome, Result, Ok, Err}
 use Rattle.std.specs.Io.KnownBytes.{Keeps}
-use Rattle.lin_parts.specs.declared.parts.Parts.{Parts}
+use Rattle.lin_cluster_parts.specs.declared.parts.Parts.{Parts}
 use Rattle.lin_core.specs.declared.log.LogEntry.{LogEntry}
 use Rattle.lin_core.specs.declared.port.PortId.{PortId}
 use Rattle.lin_core.specs.declared.step.Step.{Step}
 use Rattle.lin_log.specs.Replay.{IsScriptOf, ScriptFaults, log_of}
 use Rattle.lin_log.specs.declared.fault.ScriptFault.{ScriptFault}
 use Rattle.lin_log.specs.declared.fault.ScriptFault.TheVariants as script
-use Rattle.lin_tool.specs.Formats.{Begins, Shows, shown}
+use Rattle.lin_tool.specs.Formats.{Begins, Shows, log_as}
 use Rattle.lin_tool.specs.declared.describing.Described.{Described}
 use Rattle.lin_tool.specs.declared.fault.Fault.{Fault}
-use Rattle.lin_tool.specs.declared.fault.Fault.TheVariants.{BadLine, ScriptTooLong, OutOfMemory, ReadFailed, WriteFailed}
+use Rattle.lin_tool.specs.declared.fault.Fault.TheVariants.{BadLine, ScriptTooLong, OutOfMemory}
+use Rattle.lin_tool.specs.declared.fault.Fault.TheVariants.{ReadFailed, WriteFailed}
 use Rattle.lin_tool.specs.declared.formats.Format.{Format}
 use Rattle.lin_tool.specs.declared.formats.Format.TheVariants.{Log}
 
@@ -38,7 +39,7 @@ abbrev pub Stops : Format → Described → ℕ → ℕ
     → Option (List ℕ) → Option (List ℕ) → Option (List ℕ) → Type 0
 Stops format d opening capacity told old new =
     (log : List LogEntry) × IsLogOf d.cluster opening capacity told log
-    × Begins old new (shown format d.names d.cluster log)
+    × Begins old new (log_as format d.names d.cluster log)
 
 -- What a replay in this format answers, and what the writer took. (The log's own text takes no
 -- memory: where there isn't enough, nothing of it was written.)
@@ -46,9 +47,11 @@ abbrev pub Replays : Format → Described → ℕ → ℕ → Result Unit Fault
     → Option (List ℕ) → Option (List ℕ) → Option (List ℕ) → Type 0
 Replays format d opening capacity (Ok done) told old new =
     (log : List LogEntry) × IsLogOf d.cluster opening capacity told log
-    × Shows old new (shown format d.names d.cluster log)
-Replays format d opening capacity (Err (BadLine n)) told old new = IsRefused (script.BadLine n) told old new
-Replays format d opening capacity (Err ScriptTooLong) told old new = IsRefused script.TooLong told old new
+    × Shows old new (log_as format d.names d.cluster log)
+Replays format d opening capacity (Err (BadLine n)) told old new =
+    IsRefused (script.BadLine n) told old new
+Replays format d opening capacity (Err ScriptTooLong) told old new =
+    IsRefused script.TooLong told old new
 Replays format d opening capacity (Err ReadFailed) told old new = Keeps old new
 Replays format d opening capacity (Err OutOfMemory) told old new =
     Keeps old new ⊎ ((format ≢ Log) × Stops format d opening capacity told old new)

@@ -14,7 +14,9 @@ use Rattle.lin_threads.specs.declared.runs.Ended.TheVariants as ended
 use Rattle.lin_threads.specs.declared.runs.Ended.{Ended}
 use Rattle.lin_tool.specs.Formats.{Begins, Shows}
 use Rattle.lin_tool.specs.declared.fault.Fault.{Fault}
-use Rattle.lin_tool.specs.declared.fault.Fault.TheVariants.{BadLine, ScriptTooLong, NotHostStep, OutOfMemory, ReadFailed, WriteFailed, TaskLimit}
+use Rattle.lin_tool.specs.declared.fault.Fault.TheVariants.{BadLine, ScriptTooLong, NotHostStep}
+use Rattle.lin_tool.specs.declared.fault.Fault.TheVariants.{OutOfMemory, ReadFailed, WriteFailed}
+use Rattle.lin_tool.specs.declared.fault.Fault.TheVariants.{TaskLimit}
 use Rattle.lin_tool.specs.declared.formats.Format.{Format}
 use Rattle.lin_tool.specs.declared.formats.Format.TheVariants.{Log}
 
@@ -26,10 +28,12 @@ split_fault split.OutOfMemory = OutOfMemory
 -- a script's steps were read, each host's into a list of its own; or it has this fault, and then
 -- the reader's bytes, or the step that it tells is the first that is no host's
 abbrev pub ReadsHosts : ℕ → Result (Vec (Vec HostStep)) Fault → List ℕ → Type 0
-ReadsHosts hosts (Ok lists) bytes = (said : List (PortId × Step)) × IsScriptOf bytes said × IsSplit hosts said lists.items
+ReadsHosts hosts (Ok lists) bytes =
+    (said : List (PortId × Step)) × IsScriptOf bytes said × IsSplit hosts said lists.items
 ReadsHosts hosts (Err (BadLine n)) bytes = ScriptFaults (script.BadLine n) bytes
 ReadsHosts hosts (Err ScriptTooLong) bytes = ScriptFaults script.TooLong bytes
-ReadsHosts hosts (Err (NotHostStep index)) bytes = (said : List (PortId × Step)) × IsScriptOf bytes said × IsFirstOther hosts said index
+ReadsHosts hosts (Err (NotHostStep index)) bytes =
+    (said : List (PortId × Step)) × IsScriptOf bytes said × IsFirstOther hosts said index
 ReadsHosts hosts (Err OutOfMemory) bytes = Unit {0}
 ReadsHosts hosts (Err ReadFailed) bytes = Unit {0}
 ReadsHosts hosts (Err _) bytes = ⊥

@@ -1,9 +1,13 @@
 -- The exit status that the program ends with.
 use Rattle.std.specs.Prelude.{ℕ}
 use Rattle.lin_tool.specs.declared.fault.Fault.{Fault}
-use Rattle.lin_tool.specs.declared.fault.Fault.TheVariants.{BadLine, Ldf, Findings, LdfTooLong, ScriptTooLong, NotHostStep, NoSuchTable, OutOfMemory, ReadFailed, WriteFailed, TaskLimit, NoThread, LogFull, LogDiffers}
+use Rattle.lin_tool.specs.declared.fault.Fault.TheVariants.{BadLine, Ldf, Findings, LdfTooLong}
+use Rattle.lin_tool.specs.declared.fault.Fault.TheVariants.{ScriptTooLong, NotHostStep, NoSuchTable}
+use Rattle.lin_tool.specs.declared.fault.Fault.TheVariants.{OutOfMemory, ReadFailed, WriteFailed}
+use Rattle.lin_tool.specs.declared.fault.Fault.TheVariants.{TaskLimit, NoThread, LogFull}
+use Rattle.lin_tool.specs.declared.fault.Fault.TheVariants.{LogDiffers}
 
--- 1 for a fault of the input, 3 for want of memory, 4 where standard input, a file or standard
+-- 1 for a fault of the input, 3 for lack of memory, 4 where standard input, a file or standard
 -- output failed, 5 where a run met a limit, 6 where a log isn't the text of its own history
 abbrev pub status_of : Fault → ℕ
 status_of (BadLine n) = 1

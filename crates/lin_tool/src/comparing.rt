@@ -1,6 +1,7 @@
 //! `linsim replay --same`: whether a script is the text of its own history.
 
-ghost use Rattle.std.specs.Prelude.{◌≡◌, ◌≢◌, ◌≤◌, ◌<◌, length, slice_index, take, IfSome, MatchOption};
+ghost use Rattle.std.specs.Prelude.{◌≡◌, ◌≢◌, ◌≤◌, ◌<◌, length, slice_index, take, IfSome};
+ghost use Rattle.std.specs.Prelude.{MatchOption};
 ghost use Rattle.lin_tool.specs.Comparing.{Compares, PartInLine};
 
 use crate::describing::cluster_of_file;
@@ -8,8 +9,8 @@ use crate::fault::Fault;
 use crate::notes::Notes;
 use crate::opening::noted_table;
 use crate::scripts::{noted_bytes, noted_run};
+use lin_cluster_parts::Cluster;
 use lin_log::write_log;
-use lin_parts::Cluster;
 use std::alloc::Global;
 use std::fs::Files;
 use std::io::Read;

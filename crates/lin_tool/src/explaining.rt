@@ -3,10 +3,10 @@
 use crate::fault::Fault;
 use crate::meanings::{FAULTS, FINDINGS, REFUSALS};
 use lin_cluster::Finding;
+use lin_cluster_parts::Cluster;
 use lin_core::{Log, Reply};
 use lin_ldf::{LdfFault, Place};
 use lin_log::first_line;
-use lin_parts::Cluster;
 use std::alloc::AllocError;
 
 /// How many bytes of a line are shown at most.

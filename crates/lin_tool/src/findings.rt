@@ -17,7 +17,8 @@ fn put_line<W: fmt::Write>(f: &mut fmt::Formatter<W>, finding: &Finding) -> fmt:
     }
 }
 
-/// All that is wrong with a description. It displays a line for each finding, with no end behind the last.
+/// All that is wrong with a description. It displays a line for each finding, with no end after the
+/// last.
 #[derive(Debug, Drop)]
 pub struct Findings(pub Many<Finding>);
 

@@ -3,7 +3,7 @@
 ghost use Rattle.std.specs.Prelude.{◌≡◌, IfErr, IfSome};
 ghost use Rattle.lin_export.specs.declared.fault.ExportFault.TheVariants.{WriteFailed};
 ghost use Rattle.lin_text.specs.Written.{WritesText};
-ghost use Rattle.lin_tool.specs.Formats.{shown};
+ghost use Rattle.lin_tool.specs.Formats.{log_as};
 ghost use Rattle.lin_tool.specs.declared.formats.Format.TheVariants.{Log};
 
 use lin_core::Core;
@@ -43,7 +43,7 @@ pub fn write_shown<W: Write>(
     core: &Core,
     writer: &mut W,
 ) -> Result<(), ExportFault>
-    ensures text { IfSome (shown format names.now core.now.cluster core.now.log)
+    ensures text { IfSome (log_as format names.now core.now.cluster core.now.log)
         (WritesText (W.contents writer.old) (W.contents writer.new) result) }
     ensures memory { format ≡ Log → IfErr result (λ fault. fault ≡ WriteFailed) }
 {

@@ -2,14 +2,15 @@
 
 ghost use Rattle.std.specs.Prelude.{◌<◌, ◌∷◌, ◌++◌, length};
 ghost use Rattle.std.specs.Fmt.{decimal};
-ghost use Rattle.lin_parts.specs.Cluster.{named_table, node_of, nodes, signal_of};
+ghost use Rattle.lin_cluster_parts.specs.Cluster.{named_table, node_of, nodes, signal_of};
 ghost use Rattle.lin_listing.specs.Slots.{AreOfOneDescription};
 ghost use Rattle.lin_text.specs.Written.{Grows, WritesText};
-ghost use Rattle.lin_tool.specs.Listing.{listed, listed_frames, listed_slots, listing, node_line, numbered, signal_line, table_line};
+ghost use Rattle.lin_tool.specs.Listing.{listed, listed_frames, listed_slots, listing, node_line};
+ghost use Rattle.lin_tool.specs.Listing.{numbered_lines, signal_line, table_line};
 
 use crate::describing::Described;
+use lin_cluster_parts::Cluster;
 use lin_listing::{write_frames, write_slots};
-use lin_parts::Cluster;
 use lin_text::{TextWriter, WriteFailed};
 use std::io::Write;
 
@@ -24,7 +25,8 @@ pub struct Lists {
 
 /// The words that each line begins with.
 fn put_name<W: Write>(writer: &mut TextWriter<'_, W>, kind: &str, number: u16, name: &[u8])
-    ensures { Grows W.contents writer.old writer.new (kind.now ++ ((32 ∷ decimal number) ++ (32 ∷ name.now))) }
+    ensures { Grows W.contents writer.old writer.new
+        (kind.now ++ ((32 ∷ decimal number) ++ (32 ∷ name.now))) }
 {
     writer.put_text(kind);
     writer.put_byte(b' ');
@@ -49,7 +51,8 @@ fn put_node<W: Write>(writer: &mut TextWriter<'_, W>, cluster: &Cluster, node: u
 }
 
 fn put_nodes<W: Write>(writer: &mut TextWriter<'_, W>, cluster: &Cluster)
-    ensures { Grows W.contents writer.old writer.new (numbered node_line 0 cluster.now.nodes) }
+    ensures { Grows W.contents writer.old writer.new
+        (numbered_lines node_line 0 cluster.now.nodes) }
 {
     for node in 0..cluster.nodes() as u8 {
         put_node(writer, cluster, node);
@@ -58,14 +61,16 @@ fn put_nodes<W: Write>(writer: &mut TextWriter<'_, W>, cluster: &Cluster)
 
 fn put_signal<W: Write>(writer: &mut TextWriter<'_, W>, cluster: &Cluster, signal: u16)
     requires { signal < length cluster.now.signals }
-    ensures { Grows W.contents writer.old writer.new (signal_line signal (signal_of cluster.now signal)) }
+    ensures { Grows W.contents writer.old writer.new
+        (signal_line signal (signal_of cluster.now signal)) }
 {
     put_name(writer, "signal", signal, cluster.signal_name(signal));
     writer.put_byte(b'\n');
 }
 
 fn put_signals<W: Write>(writer: &mut TextWriter<'_, W>, cluster: &Cluster)
-    ensures { Grows W.contents writer.old writer.new (numbered signal_line 0 cluster.now.signals) }
+    ensures { Grows W.contents writer.old writer.new
+        (numbered_lines signal_line 0 cluster.now.signals) }
 {
     for signal in 0..cluster.signals() as u16 {
         put_signal(writer, cluster, signal);
@@ -74,7 +79,8 @@ fn put_signals<W: Write>(writer: &mut TextWriter<'_, W>, cluster: &Cluster)
 
 fn put_table<W: Write>(writer: &mut TextWriter<'_, W>, cluster: &Cluster, table: u16)
     requires { table < length cluster.now.tables }
-    ensures { Grows W.contents writer.old writer.new (table_line table (named_table cluster.now table)) }
+    ensures { Grows W.contents writer.old writer.new
+        (table_line table (named_table cluster.now table)) }
 {
     put_name(writer, "table", table, cluster.table_name(table));
     writer.put_byte(b' ');
@@ -83,7 +89,8 @@ fn put_table<W: Write>(writer: &mut TextWriter<'_, W>, cluster: &Cluster, table:
 }
 
 fn put_tables<W: Write>(writer: &mut TextWriter<'_, W>, cluster: &Cluster)
-    ensures { Grows W.contents writer.old writer.new (numbered table_line 0 cluster.now.tables) }
+    ensures { Grows W.contents writer.old writer.new
+        (numbered_lines table_line 0 cluster.now.tables) }
 {
     for table in 0..cluster.tables() as u16 {
         put_table(writer, cluster, table);
@@ -106,7 +113,8 @@ fn put_cluster<W: Write>(writer: &mut TextWriter<'_, W>, cluster: &Cluster)
 /// `WriteFailed`, where what was written is the beginning of the lines. A failed write is tried
 /// once.
 pub fn write_list<W: Write>(cluster: &Cluster, writer: &mut W) -> Result<(), WriteFailed>
-    ensures { WritesText (W.contents writer.old) (W.contents writer.new) result (listing cluster.now) }
+    ensures { WritesText (W.contents writer.old) (W.contents writer.new) result
+        (listing cluster.now) }
 {
     let mut lines = TextWriter::new(writer);
     put_cluster(&mut lines, cluster);

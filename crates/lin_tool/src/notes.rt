@@ -4,8 +4,8 @@
 use crate::explaining::{put_bad_line, put_refusals, put_tables, put_text};
 use crate::fault::Fault;
 use crate::locating::put_places;
+use lin_cluster_parts::Cluster;
 use lin_core::Log;
-use lin_parts::Cluster;
 use std::alloc::{AllocError, Global};
 
 /// What is wanted on standard error beside the lines of a fault.
@@ -82,7 +82,7 @@ impl<'a> Notes<'a> {
     /// Adds where an LDF text is at fault, and what that means.
     ///
     /// # Errors
-    /// Want of memory for the places of compilers.
+    /// Out of memory for the places of compilers.
     pub(crate) fn add_text(
         &mut self,
         alloc: Global,

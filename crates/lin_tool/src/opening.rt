@@ -5,9 +5,10 @@ ghost use Rattle.lin_tool.specs.Opening.{Opens, opening_of};
 
 use crate::fault::Fault;
 use crate::notes::Notes;
-use lin_parts::Cluster;
+use lin_cluster_parts::Cluster;
 
-/// The number of the cluster's schedule table of this name; of the first one, where no name is given.
+/// The number of the cluster's schedule table of this name; of the first one, where no name is
+/// given.
 ///
 /// # Errors
 /// `NoSuchTable` where no table has the name, or there is no table.

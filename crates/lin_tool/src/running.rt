@@ -2,8 +2,8 @@
 //! nodes in threads of their own, and writes the log.
 
 ghost use Rattle.std.specs.Prelude.{◌≡◌, ◌≤◌, ◌<◌, [], length, vec_len, IfOk, IfSome};
-ghost use Rattle.lin_parts.specs.Cluster.{nodes};
-ghost use Rattle.lin_tool.specs.Formats.{shown};
+ghost use Rattle.lin_cluster_parts.specs.Cluster.{nodes};
+ghost use Rattle.lin_tool.specs.Formats.{log_as};
 ghost use Rattle.lin_tool.specs.Running.{ReadsHosts, WritesRun};
 
 use crate::describing::{Described, cluster_of_file};
@@ -12,9 +12,9 @@ use crate::formats::{Format, write_shown};
 use crate::notes::Notes;
 use crate::opening::noted_table;
 use crate::scripts::noted_script;
+use lin_cluster_parts::Cluster;
 use lin_core::Core;
 use lin_names::Names;
-use lin_parts::Cluster;
 use lin_threads::{
     Ended, HostStep, HostTask, Plan, RunReport, ScriptTask, run_cluster, split, wire,
 };
@@ -127,7 +127,7 @@ fn put_report<W: Write>(
     report: &RunReport,
     writer: &mut W,
 ) -> Result<(), Fault>
-    ensures { WritesRun format (shown format names.now report.now.core.cluster report.now.core.log)
+    ensures { WritesRun format (log_as format names.now report.now.core.cluster report.now.core.log)
         report.now.ended.items (W.contents writer.old) (W.contents writer.new) result }
 {
     write_shown(alloc, format, names, &report.core, writer)?;

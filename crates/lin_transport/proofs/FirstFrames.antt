@@ -10,7 +10,7 @@ use Rattle.std.proofs.lemmas.List.{append-nil, drop-drop, length-drop, length-ta
 use Rattle.std.proofs.lemmas.List.Elements.{All-tail}
 use Rattle.lin_frame.specs.Words.{numbers}
 use Rattle.lin_transport.specs.Words.{begin_with}
-use Rattle.lin_transport.specs.Transport.{needed, frame_count, length_in, bytes_in, message_in}
+use Rattle.lin_transport.specs.Transport.{needed_frame, frame_count, length_in, bytes_in, message_in}
 use Rattle.lin_transport.specs.Law.{BeginsWith, HasFirst, ReadsFirstFrames}
 use Rattle.lin_transport.proofs.Frames.{eqb-self, numbers-suc, size, short, long, count-some, count-suc, six-suc, reads-by}
 use Rattle.lin_transport.proofs.Partial.{is-long, map-suc, sixth}
@@ -60,26 +60,26 @@ all-begin g (suc n) (f ∷ fs) a =
     in rw (numbers-suc n, map-suc g (numbers n), h.1, first-passes (g 0) h.0) (all-begin (λ k. g (suc k)) n fs later)
 
 -- what is read has the length that its own first frame says
-few-long : (n : ℕ) (m f : List ℕ) → 7 ≤ length m → HasFirst (needed n m 0) f → length m ≤ length_in f → length m ≤ 4095
+few-long : (n : ℕ) (m f : List ℕ) → 7 ≤ length m → HasFirst (needed_frame n m 0) f → length m ≤ length_in f → length m ≤ 4095
 few-long n m f l h fits =
     let big : nat_lt (16 + length m / 256) 16 ≡ false = grind (arith, nat_tests)
     in let said : length m ≤ 256 * ((16 + length m / 256) % 16) + length m % 256 = rw (h.1, is-long m l, big) at fits
     in omega arith
 
-few-bytes : (n : ℕ) (m f : List ℕ) → HasFirst (needed n m 0) f → length m ≤ length_in f → length m ≤ 4095
+few-bytes : (n : ℕ) (m f : List ℕ) → HasFirst (needed_frame n m 0) f → length m ≤ length_in f → length m ≤ 4095
 few-bytes n m f h fits = elim (size m) [
   | short i l ↦ omega arith
   | long i l ↦ few-long n m f l h fits
 ]
 
 begins-by : (n : ℕ) (m read f : List ℕ) (fs : List (List ℕ)) (b : Bool) → length read ≤ length_in f
-    → (nat_lt 0 (length read) && begin_with (f ∷ fs) (map (needed n read) (numbers (frame_count (length read))))) ≡ b → (if b then Some read else None) ≡ Some m → BeginsWith n m (f ∷ fs)
+    → (nat_lt 0 (length read) && begin_with (f ∷ fs) (map (needed_frame n read) (numbers (frame_count (length read))))) ≡ b → (if b then Some read else None) ≡ Some m → BeginsWith n m (f ∷ fs)
 begins-by n m read f fs false fits e is = cc
 begins-by n m read f fs true fits e is =
-    let both = and_parts (nat_lt 0 (length read)) (begin_with (f ∷ fs) (map (needed n read) (numbers (frame_count (length read))))) e
+    let both = and_parts (nat_lt 0 (length read)) (begin_with (f ∷ fs) (map (needed_frame n read) (numbers (frame_count (length read))))) e
     in let some : 1 ≤ length read = let t = both.0 in grind (arith, nat_tests, t)
     in let count : 1 ≤ frame_count (length read) = count-some read
-    in let all : AllFirst (needed n read) (frame_count (length read)) (f ∷ fs) = begin-all (needed n read) (frame_count (length read)) (f ∷ fs) both.1
+    in let all : AllFirst (needed_frame n read) (frame_count (length read)) (f ∷ fs) = begin-all (needed_frame n read) (frame_count (length read)) (f ∷ fs) both.1
     in let same : read ≡ m = cc
     in subst (λ (x : List ℕ). BeginsWith n x (f ∷ fs)) same
     (record { can = record { some = some; few = few-bytes n read f (all.each 0 (omega arith)) fits }; enough = all.enough; frames = all.each })
@@ -90,7 +90,7 @@ read-begins n m [] is = cc
 read-begins n m (f ∷ fs) is =
     let read : List ℕ = take (length_in f) (bytes_in (f ∷ fs))
     in let fits : length read ≤ length_in f = simp length-take (omega arith)
-    in begins-by n m read f fs (nat_lt 0 (length read) && begin_with (f ∷ fs) (map (needed n read) (numbers (frame_count (length read))))) fits refl is
+    in begins-by n m read f fs (nat_lt 0 (length read) && begin_with (f ∷ fs) (map (needed_frame n read) (numbers (frame_count (length read))))) fits refl is
 
 -- a frame with an address and some PCI, and these bytes after it
 record Carries (n : ℕ) (bytes f : List ℕ) : Type 0 where
@@ -163,7 +163,7 @@ piece-bytes n m f fs b eight = elim (size m) [
 begins-read : (n : ℕ) (m : List ℕ) (piece : List (List ℕ)) → AreEight piece → BeginsWith n m piece → message_in n piece ≡ Some m
 begins-read n m [] eight b = absurd (let e = b.enough in let s = count-some m in omega arith)
 begins-read n m (f ∷ fs) eight b =
-    reads-by n m f fs b.can (all-begin (needed n m) (frame_count (length m)) (f ∷ fs) (record { enough = b.enough; each = b.frames })) (piece-bytes n m f fs b eight)
+    reads-by n m f fs b.can (all-begin (needed_frame n m) (frame_count (length m)) (f ∷ fs) (record { enough = b.enough; each = b.frames })) (piece-bytes n m f fs b eight)
 
 pub reads-first : (n : ℕ) (m : List ℕ) (piece : List (List ℕ)) → ReadsFirstFrames n m piece
 reads-first n m piece = λ eight. (read-begins n m piece, begins-read n m piece eight)

@@ -11,7 +11,7 @@ use Rattle.std.proofs.lemmas.List.{map-append, take-append-le, take-append-drop,
 use Rattle.std.proofs.lemmas.List.Folds.{concat-append}
 use Rattle.lin_frame.specs.Words.{numbers}
 use Rattle.lin_transport.specs.Words.{begin_with}
-use Rattle.lin_transport.specs.Transport.{needed, frame, first, frame_count, bytes_in, message_in, CanSend}
+use Rattle.lin_transport.specs.Transport.{needed_frame, frame, first, frame_count, bytes_in, message_in, CanSend}
 use Rattle.lin_transport.specs.Receiver.{Part, AreFirst}
 use Rattle.lin_transport.proofs.Frames.{eqb-self, frame-address, numbers-suc, first-more, first-cons, length-first, length-numbers, begin-needed, begin-not, and-false, count-suc, chunks, chunks-suc, chunks-are, length_in-long, first-five, six-suc, reads-none, reads-by}
 
@@ -107,15 +107,15 @@ completed-reads n m k c more s l low high six last =
     in let later : List (List ℕ) = map (frame n m) (map suc (numbers k))
     in let whole : take (length m) (bytes_in (first n m (suc k) ++ f ∷ more)) ≡ m = completed-bytes n m k f c more s l low high six refl last
     in let own : starts_with eqb c (take 6 (drop (5 + 6 * k) m)) ≡ true = rw last (starts-part 6 (length m - (5 + 6 * k)) c)
-    in let all : begin_with (first n m (suc k) ++ f ∷ more) (map (needed n m) (numbers (frame_count (length m)))) ≡ true
-    = ap (λ (j : ℕ). begin_with (first n m (suc k) ++ f ∷ more) (map (needed n m) (numbers j))) (completed-count m k l low high)
-    ∙ ap (begin_with (first n m (suc k) ++ f ∷ more)) (map-append (needed n m) (numbers (suc k)) (suc k ∷ []))
-    ∙ begin-after (first n m (suc k)) more f (needed n m (suc k)) (map (needed n m) (numbers (suc k)))
-    (length-first n m (suc k) ∙ sym (length-map (numbers (suc k)) (needed n m) ∙ length-numbers (suc k)))
+    in let all : begin_with (first n m (suc k) ++ f ∷ more) (map (needed_frame n m) (numbers (frame_count (length m)))) ≡ true
+    = ap (λ (j : ℕ). begin_with (first n m (suc k) ++ f ∷ more) (map (needed_frame n m) (numbers j))) (completed-count m k l low high)
+    ∙ ap (begin_with (first n m (suc k) ++ f ∷ more)) (map-append (needed_frame n m) (numbers (suc k)) (suc k ∷ []))
+    ∙ begin-after (first n m (suc k)) more f (needed_frame n m (suc k)) (map (needed_frame n m) (numbers (suc k)))
+    (length-first n m (suc k) ∙ sym (length-map (numbers (suc k)) (needed_frame n m) ∙ length-numbers (suc k)))
     (begin-needed n m (numbers (suc k)))
     ∙ rw (eqb-self n, eqb-self (32 + suc k % 16)) own
     in let start : first n m (suc k) ++ f ∷ more ≡ frame n m 0 ∷ (later ++ f ∷ more) = ap (λ (fs : List (List ℕ)). fs ++ f ∷ more) (first-cons n m k)
-    in let P : List (List ℕ) → Type 0 = λ fs. begin_with fs (map (needed n m) (numbers (frame_count (length m)))) ≡ true
+    in let P : List (List ℕ) → Type 0 = λ fs. begin_with fs (map (needed_frame n m) (numbers (frame_count (length m)))) ≡ true
     in let Q : List (List ℕ) → Type 0 = λ fs. take (length m) (bytes_in fs) ≡ m
     in ap (message_in n) start
     ∙ reads-by n m (frame n m 0) (later ++ f ∷ more) s (subst P start all) (rw (length_in-long n m s (is-long m l)) (subst Q start whole))
@@ -199,32 +199,32 @@ starts-other n b p q c xs ne = rw (ne_eqb q p (λ e. ne (sym e))) (and-false (eq
 
 -- a piece that has another frame in place of the message's next one
 breaks-by : (n : ℕ) (m : List ℕ) (k : ℕ) (f : List ℕ) (more : List (List ℕ)) → CanSend m → 7 ≤ length m → 5 + 6 * k < length m
-    → ((o : List ℕ) → starts_with eqb f (needed n o (suc k)) ≡ false)
-    → (o : List ℕ) → length o ≤ length m → begin_with (first n m (suc k) ++ f ∷ more) (map (needed n o) (numbers (frame_count (length o)))) ≡ false
+    → ((o : List ℕ) → starts_with eqb f (needed_frame n o (suc k)) ≡ false)
+    → (o : List ℕ) → length o ≤ length m → begin_with (first n m (suc k) ++ f ∷ more) (map (needed_frame n o) (numbers (frame_count (length o)))) ≡ false
 breaks-by n m k f more s l high h o le = elim (eq-or-lt_of_le le) [
   | inr less ↦
-      ap (λ (xs : List (List ℕ)). begin_with (xs ++ f ∷ more) (map (needed n o) (numbers (frame_count (length o))))) (first-cons n m k)
+      ap (λ (xs : List (List ℕ)). begin_with (xs ++ f ∷ more) (map (needed_frame n o) (numbers (frame_count (length o))))) (first-cons n m k)
       ∙ begin-not n m o (map (frame n m) (map suc (numbers k)) ++ f ∷ more) s (is-long m l) l less
   | inl same ↦
       let place : length (first n m (suc k)) ≡ suc k = length-first n m (suc k)
       in let count : frame_count (length o) ≡ suc (length m / 6) = ap frame_count same ∙ count-suc m (is-long m l)
-      in let at : starts_with eqb f (needed n o (length (first n m (suc k)))) ≡ false = ap (λ (j : ℕ). starts_with eqb f (needed n o j)) place ∙ h o
-      in begin-at (needed n o) (first n m (suc k)) more f (frame_count (length o)) (omega arith) at
+      in let at : starts_with eqb f (needed_frame n o (length (first n m (suc k)))) ≡ false = ap (λ (j : ℕ). starts_with eqb f (needed_frame n o j)) place ∙ h o
+      in begin-at (needed_frame n o) (first n m (suc k)) more f (frame_count (length o)) (omega arith) at
 ]
 
 breaks : (n : ℕ) (m : List ℕ) (k : ℕ) (f : List ℕ) (more : List (List ℕ)) → CanSend m → 7 ≤ length m → 5 + 6 * k < length m
-    → ((o : List ℕ) → starts_with eqb f (needed n o (suc k)) ≡ false) → message_in n (first n m (suc k) ++ f ∷ more) ≡ None
+    → ((o : List ℕ) → starts_with eqb f (needed_frame n o (suc k)) ≡ false) → message_in n (first n m (suc k) ++ f ∷ more) ≡ None
 breaks n m k f more s l high h =
     let later : List (List ℕ) = map (frame n m) (map suc (numbers k)) ++ f ∷ more
     in let start : first n m (suc k) ++ f ∷ more ≡ frame n m 0 ∷ later = ap (λ (fs : List (List ℕ)). fs ++ f ∷ more) (first-cons n m k)
     in let o : List ℕ = take (length m) (bytes_in (frame n m 0 ∷ later))
-    in let fails : begin_with (frame n m 0 ∷ later) (map (needed n o) (numbers (frame_count (length o)))) ≡ false
-    = ap (λ (xs : List (List ℕ)). begin_with xs (map (needed n o) (numbers (frame_count (length o))))) (sym start)
+    in let fails : begin_with (frame n m 0 ∷ later) (map (needed_frame n o) (numbers (frame_count (length o)))) ≡ false
+    = ap (λ (xs : List (List ℕ)). begin_with xs (map (needed_frame n o) (numbers (frame_count (length o))))) (sym start)
     ∙ breaks-by n m k f more s l high h o (simp length-take (omega arith))
     in ap (message_in n) start ∙ rw (length_in-long n m s (is-long m l), fails, and-false)
 
 -- another frame that begins nothing: the frames are never read as a message
-breaks-part : (n : ℕ) (part : Part) (fs : List (List ℕ)) (f : List ℕ) (more : List (List ℕ)) → (a : AreFirst n part fs) → ((o : List ℕ) → starts_with eqb f (needed n o (suc a.consecutive)) ≡ false)
+breaks-part : (n : ℕ) (part : Part) (fs : List (List ℕ)) (f : List ℕ) (more : List (List ℕ)) → (a : AreFirst n part fs) → ((o : List ℕ) → starts_with eqb f (needed_frame n o (suc a.consecutive)) ≡ false)
     → message_in n (fs ++ f ∷ more) ≡ None
 breaks-part n part fs f more a other =
     let k : ℕ = a.consecutive

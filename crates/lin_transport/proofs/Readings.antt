@@ -6,13 +6,13 @@ use Rattle.std.proofs.lemmas.List.Elements.{All-tail}
 use Rattle.lin_frame.specs.Words.{numbers}
 use Rattle.lin_transport.specs.Transport.{frame, first, frames, frame_count, CanSend, pieces, Ear, message_to, messages_to, Heard}
 use Rattle.lin_transport.specs.Transport.Heard.{Frame, Reset}
-use Rattle.lin_transport.specs.Law.{Addressed, IsFor, followed, frames_of_all, bytes_of_all, ReadsBack, ReadsAcross, LacksCut, AddsMessage, AddsNothing}
+use Rattle.lin_transport.specs.Law.{Addressed, IsFor, heard_after, frames_of_all, bytes_of_all, ReadsBack, ReadsAcross, LacksCut, AddsMessage, AddsNothing}
 use Rattle.lin_transport.proofs.Frames.{first-cons, length-frame, frame-begins, frame-continues, count-some}
 use Rattle.lin_transport.proofs.Pieces.{with_last-append, reads-more, reads-nothing, reads-reset}
 use Rattle.lin_transport.proofs.Begins.{after-fails}
 use Rattle.lin_transport.proofs.Ears.{to-reads, is-to, to-all, to-none}
 
-pub followed-append : (heard : List Heard) (fs gs : List (List ℕ)) → followed heard (fs ++ gs) ≡ followed (followed heard fs) gs
+pub followed-append : (heard : List Heard) (fs gs : List (List ℕ)) → heard_after heard (fs ++ gs) ≡ heard_after (heard_after heard fs) gs
 followed-append heard [] gs = refl
 followed-append heard (f ∷ fs) gs = followed-append (Frame f ∷ heard) fs gs
 
@@ -21,7 +21,7 @@ abbrev pub later : ℕ → List ℕ → List ℕ → List (List ℕ)
 later n m ks = map (frame n m) (map suc ks)
 
 -- they go on with the last piece
-pub pieces-later : (n : ℕ) (m : List ℕ) (ks : List ℕ) (heard : List Heard) (ps : List (List (List ℕ))) (p : List (List ℕ)) → pieces heard ≡ ps ++ p ∷ [] → pieces (followed heard (later n m ks)) ≡ ps ++ (p ++ later n m ks) ∷ []
+pub pieces-later : (n : ℕ) (m : List ℕ) (ks : List ℕ) (heard : List Heard) (ps : List (List (List ℕ))) (p : List (List ℕ)) → pieces heard ≡ ps ++ p ∷ [] → pieces (heard_after heard (later n m ks)) ≡ ps ++ (p ++ later n m ks) ∷ []
 pieces-later n m [] heard ps p e = e ∙ ap (λ (q : List (List ℕ)). ps ++ q ∷ []) (sym (append-nil p))
 pieces-later n m (k ∷ ks) heard ps p e =
     let f : List ℕ = frame n m (suc k)
@@ -30,10 +30,10 @@ pieces-later n m (k ∷ ks) heard ps p e =
     ∙ ap (λ (q : List (List ℕ)). ps ++ q ∷ []) (append_assoc p (f ∷ []) (later n m ks))
 
 -- the first frames of a message are a piece of their own
-pub pieces-first : (n : ℕ) (m : List ℕ) (k : ℕ) (heard : List Heard) → CanSend m → pieces (followed heard (first n m (suc k))) ≡ pieces heard ++ first n m (suc k) ∷ []
+pub pieces-first : (n : ℕ) (m : List ℕ) (k : ℕ) (heard : List Heard) → CanSend m → pieces (heard_after heard (first n m (suc k))) ≡ pieces heard ++ first n m (suc k) ∷ []
 pieces-first n m k heard s =
     let start : pieces (Frame (frame n m 0) ∷ heard) ≡ pieces heard ++ (frame n m 0 ∷ []) ∷ [] = rw (frame-begins n m s)
-    in ap (λ (fs : List (List ℕ)). pieces (followed heard fs)) (first-cons n m k)
+    in ap (λ (fs : List (List ℕ)). pieces (heard_after heard fs)) (first-cons n m k)
     ∙ pieces-later n m (numbers k) (Frame (frame n m 0) ∷ heard) (pieces heard) (frame n m 0 ∷ []) start
     ∙ ap (λ (fs : List (List ℕ)). pieces heard ++ fs ∷ []) (sym (first-cons n m k))
 
@@ -44,7 +44,7 @@ message-adds e m heard is =
     in let j : ℕ = frame_count (length m.bytes) - 1
     in let c : frame_count (length m.bytes) ≡ suc j = let some : 1 ≤ frame_count (length m.bytes) = count-some m.bytes in omega arith
     in let whole : message_to e (first n m.bytes (suc j)) ≡ Some m.bytes = ap (λ (k : ℕ). message_to e (first n m.bytes k)) (sym c) ∙ to-all e m is
-    in ap (λ (k : ℕ). messages_to e (followed heard (first n m.bytes k))) c
+    in ap (λ (k : ℕ). messages_to e (heard_after heard (first n m.bytes k))) c
     ∙ ap (filter_map (message_to e)) (pieces-first n m.bytes j heard is.can)
     ∙ reads-more e (pieces heard) (first n m.bytes (suc j)) (Some m.bytes) whole
 
@@ -63,17 +63,17 @@ later-fails e m (k ∷ ks) is =
     (later m.nad m.bytes ks)
 
 -- the rest of a message after a reset adds nothing
-pub rest-adds-nothing : (e : Ear) (m : Addressed) (ks : List ℕ) (heard : List Heard) → IsFor e m → messages_to e (followed (Reset ∷ heard) (later m.nad m.bytes ks)) ≡ messages_to e heard
+pub rest-adds-nothing : (e : Ear) (m : Addressed) (ks : List ℕ) (heard : List Heard) → IsFor e m → messages_to e (heard_after (Reset ∷ heard) (later m.nad m.bytes ks)) ≡ messages_to e heard
 rest-adds-nothing e m ks heard is =
     ap (filter_map (message_to e)) (pieces-later m.nad m.bytes ks (Reset ∷ heard) (pieces heard) [] refl)
     ∙ reads-nothing e (pieces heard) (later m.nad m.bytes ks) (later-fails e m ks is)
 
 -- the frames of messages add them
-pub messages-add : (e : Ear) (ms : List Addressed) (heard : List Heard) → All (IsFor e) ms → messages_to e (followed heard (frames_of_all ms)) ≡ messages_to e heard ++ bytes_of_all ms
+pub messages-add : (e : Ear) (ms : List Addressed) (heard : List Heard) → All (IsFor e) ms → messages_to e (heard_after heard (frames_of_all ms)) ≡ messages_to e heard ++ bytes_of_all ms
 messages-add e [] heard all = sym (append-nil (messages_to e heard))
 messages-add e (m ∷ ms) heard all =
     ap (messages_to e) (followed-append heard (frames m.nad m.bytes) (frames_of_all ms))
-    ∙ messages-add e ms (followed heard (frames m.nad m.bytes)) (All-tail (IsFor e) m ms all)
+    ∙ messages-add e ms (heard_after heard (frames m.nad m.bytes)) (All-tail (IsFor e) m ms all)
     ∙ ap (λ (xs : List (List ℕ)). xs ++ bytes_of_all ms) (message-adds e m heard (all 0 m (omega arith)))
     ∙ append_assoc (messages_to e heard) (m.bytes ∷ []) (bytes_of_all ms)
 
@@ -97,23 +97,23 @@ reads-back e ms given all is = ap (messages_to e) is ∙ messages-add e ms [] al
 
 pub reads-across : (e : Ear) (before after : List Addressed) (given : List Heard) → ReadsAcross e before after given
 reads-across e before after given all rest is =
-    let heard : List Heard = followed [] (frames_of_all before)
+    let heard : List Heard = heard_after [] (frames_of_all before)
     in ap (messages_to e) is
     ∙ messages-add e after (Reset ∷ heard) rest
     ∙ ap (λ (xs : List (List ℕ)). xs ++ bytes_of_all after) (reads-reset e heard ∙ messages-add e before [] all)
 
 lacks-by : (e : Ear) (before : List Addressed) (m : Addressed) (k j : ℕ) (after : List Addressed) (given : List Heard) → LacksCut e before m (suc k) j after given
 lacks-by e before m k j after given all can rest low high is =
-    let heard : List Heard = followed [] (frames_of_all before)
-    in let part : List Heard = followed [] (frames_of_all before ++ first m.nad m.bytes (suc k))
+    let heard : List Heard = heard_after [] (frames_of_all before)
+    in let part : List Heard = heard_after [] (frames_of_all before ++ first m.nad m.bytes (suc k))
     in let l : (ks : List ℕ) × (take j (drop (suc k) (frames m.nad m.bytes)) ≡ later m.nad m.bytes ks) = later-frames m.nad m.bytes k j
     in let cut : messages_to e part ≡ bytes_of_all before
     = ap (messages_to e) (followed-append [] (frames_of_all before) (first m.nad m.bytes (suc k)))
     ∙ part-adds-nothing e m (suc k) heard can high ∙ messages-add e before [] all
     in ap (messages_to e) is
     ∙ ap (messages_to e) (followed-append (Reset ∷ part) (take j (drop (suc k) (frames m.nad m.bytes))) (frames_of_all after))
-    ∙ messages-add e after (followed (Reset ∷ part) (take j (drop (suc k) (frames m.nad m.bytes)))) rest
-    ∙ ap (λ (fs : List (List ℕ)). messages_to e (followed (Reset ∷ part) fs) ++ bytes_of_all after) l.1
+    ∙ messages-add e after (heard_after (Reset ∷ part) (take j (drop (suc k) (frames m.nad m.bytes)))) rest
+    ∙ ap (λ (fs : List (List ℕ)). messages_to e (heard_after (Reset ∷ part) fs) ++ bytes_of_all after) l.1
     ∙ ap (λ (xs : List (List ℕ)). xs ++ bytes_of_all after) (rest-adds-nothing e m l.0 part can ∙ cut)
 
 pub lacks-cut : (e : Ear) (before : List Addressed) (m : Addressed) (k j : ℕ) (after : List Addressed) (given : List Heard) → LacksCut e before m k j after given

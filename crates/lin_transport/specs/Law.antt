@@ -1,9 +1,10 @@
 -- What is read of one piece, of messages that are sent whole, and of one that a reset cuts.
 use Rattle.std.specs.Prelude.{◌≡◌, ◌↔◌, ℕ, ◌≤◌, ◌<◌, IsTrue, true, List, [], ◌∷◌, ◌++◌, All}
 use Rattle.std.specs.Prelude.{length, take, drop, map, slice_index_or, Some}
-use Rattle.lin_transport.specs.Transport.{functional, needed, first, frames, frame_count, CanSend}
+use Rattle.lin_transport.specs.Transport.{functional, needed_frame, first, frames, frame_count}
+use Rattle.lin_transport.specs.Transport.{CanSend}
 use Rattle.lin_transport.specs.Transport.{Ear, looks_at, Heard, message_in, messages_to}
-use Rattle.lin_transport.specs.Transport.{addressed, messages_for}
+use Rattle.lin_transport.specs.Transport.{all_heard, messages_for}
 use Rattle.lin_transport.specs.Transport.Heard.{Frame, Reset}
 
 -- a frame has these bytes first; those after them are unused and have any value
@@ -15,7 +16,7 @@ pub record BeginsWith (nad : ℕ) (m : List ℕ) (piece : List (List ℕ)) : Typ
   pub can : CanSend m
   pub enough : frame_count (length m) ≤ length piece
   pub frames : (k : ℕ) → k < frame_count (length m)
-      → HasFirst (needed nad m k) (slice_index_or piece k [])
+      → HasFirst (needed_frame nad m k) (slice_index_or piece k [])
 
 -- frames of 8 bytes are read as a message exactly where they begin with its own
 abbrev pub ReadsFirstFrames : ℕ → List ℕ → List (List ℕ) → Type 0
@@ -23,9 +24,9 @@ ReadsFirstFrames nad m piece =
     All (λ f. length f ≡ 8) piece → (message_in nad piece ≡ Some m) ↔ BeginsWith nad m piece
 
 -- what was heard, the newest first, once these frames follow, the oldest first
-abbrev pub followed : List Heard → List (List ℕ) → List Heard
-followed heard [] = heard
-followed heard (f ∷ fs) = followed (Frame f ∷ heard) fs
+abbrev pub heard_after : List Heard → List (List ℕ) → List Heard
+heard_after heard [] = heard
+heard_after heard (f ∷ fs) = heard_after (Frame f ∷ heard) fs
 
 -- a message on its way: the address of its frames, and its bytes
 pub record Addressed : Type 0 where
@@ -52,14 +53,14 @@ bytes_of_all ms = map (λ m. m.bytes) ms
 -- addresses stand between them, the messages are read
 abbrev pub ReadsBack : Ear → List Addressed → List Heard → Type 0
 ReadsBack e ms given =
-    All (IsFor e) ms → addressed e given ≡ followed [] (frames_of_all ms)
+    All (IsFor e) ms → all_heard e given ≡ heard_after [] (frames_of_all ms)
     → messages_for e given ≡ bytes_of_all ms
 
 -- a reset between two of the messages changes nothing
 abbrev pub ReadsAcross : Ear → List Addressed → List Addressed → List Heard → Type 0
 ReadsAcross e earlier later given =
     All (IsFor e) earlier → All (IsFor e) later
-    → addressed e given ≡ followed (Reset ∷ followed [] (frames_of_all earlier))
+    → all_heard e given ≡ heard_after (Reset ∷ heard_after [] (frames_of_all earlier))
     (frames_of_all later)
     → messages_for e given ≡ bytes_of_all earlier ++ bytes_of_all later
 
@@ -70,22 +71,22 @@ abbrev pub LacksCut : Ear → List Addressed → Addressed → ℕ → ℕ → L
 LacksCut e earlier m k j later given =
     All (IsFor e) earlier → IsFor e m → All (IsFor e) later → 1 ≤ k
     → k < frame_count (length m.bytes)
-    → addressed e given ≡ followed
-    (Reset ∷ followed [] (frames_of_all earlier ++ first m.nad m.bytes k))
+    → all_heard e given ≡ heard_after
+    (Reset ∷ heard_after [] (frames_of_all earlier ++ first m.nad m.bytes k))
     (take j (drop k (frames m.nad m.bytes)) ++ frames_of_all later)
     → messages_for e given ≡ bytes_of_all earlier ++ bytes_of_all later
 
 -- over whatever was heard before: the frames of a message add it
 abbrev pub AddsMessage : Ear → Addressed → List Heard → Type 0
 AddsMessage e m heard =
-    IsFor e m → messages_to e (followed heard (frames m.nad m.bytes))
+    IsFor e m → messages_to e (heard_after heard (frames m.nad m.bytes))
     ≡ messages_to e heard ++ m.bytes ∷ []
 
 -- fewer of them add nothing
 abbrev pub AddsNothing : Ear → Addressed → ℕ → List Heard → Type 0
 AddsNothing e m k heard =
     IsFor e m → k < frame_count (length m.bytes)
-    → messages_to e (followed heard (first m.nad m.bytes k)) ≡ messages_to e heard
+    → messages_to e (heard_after heard (first m.nad m.bytes k)) ≡ messages_to e heard
 
 -- nor does a reset
 abbrev pub ResetAddsNothing : Ear → List Heard → Type 0

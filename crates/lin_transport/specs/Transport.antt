@@ -5,7 +5,7 @@ use Rattle.std.specs.Prelude.{nat_lt, nat_le, eqb, if◌then◌else◌, List, []
 use Rattle.std.specs.Prelude.{length, take, drop, slice_index, filter_map, Option, Some, None}
 use Rattle.std.specs.List.{concat}
 use Rattle.lin_frame.specs.Words.{numbers}
-use Rattle.lin_transport.specs.Words.{filled, with_last, begin_with}
+use Rattle.lin_transport.specs.Words.{filled_to, with_last, begin_with}
 
 -- how many frames a message of n bytes has: one single frame up to 6 bytes, otherwise a first frame
 -- with 5 of them and consecutive frames with 6 each
@@ -15,15 +15,15 @@ frame_count n = if nat_le n 6 then 1 else 1 + n / 6
 -- the bytes of frame k that the message m needs: the node address, the PCI, and the frame's part of
 -- m. A single frame has the PCI 0x0L with L bytes; a first frame 0x1H with the low length byte
 -- after it, for a length of 256 * H + low; consecutive frame k has 0x2C, where C is k modulo 16
-abbrev pub needed : ℕ → List ℕ → ℕ → List ℕ
-needed nad m zero =
+abbrev pub needed_frame : ℕ → List ℕ → ℕ → List ℕ
+needed_frame nad m zero =
     if nat_le (length m) 6 then nad ∷ length m ∷ m
     else nad ∷ (16 + length m / 256) ∷ (length m % 256) ∷ take 5 m
-needed nad m (suc k) = nad ∷ (32 + suc k % 16) ∷ take 6 (drop (5 + 6 * k) m)
+needed_frame nad m (suc k) = nad ∷ (32 + suc k % 16) ∷ take 6 (drop (5 + 6 * k) m)
 
 -- frame k of a message: 8 data bytes, the unused ones 0xFF
 abbrev pub frame : ℕ → List ℕ → ℕ → List ℕ
-frame nad m k = filled 8 (needed nad m k)
+frame nad m k = filled_to 8 (needed_frame nad m k)
 
 -- the first k frames of a message, in order
 abbrev pub first : ℕ → List ℕ → ℕ → List (List ℕ)
@@ -81,7 +81,7 @@ message_in nad [] = None
 message_in nad (f ∷ fs) =
     let m : List ℕ = take (length_in f) (bytes_in (f ∷ fs))
     in if nat_lt 0 (length m)
-    && begin_with (f ∷ fs) (map (needed nad m) (numbers (frame_count (length m))))
+    && begin_with (f ∷ fs) (map (needed_frame nad m) (numbers (frame_count (length m))))
     then Some m
     else None
 
@@ -115,14 +115,14 @@ abbrev pub heard_to : Ear → List ℕ → List Heard → List Heard
 heard_to e f heard = if looks_at e (slice_index f 0) then Frame f ∷ heard else heard
 
 -- what it has heard of all that it was given
-abbrev pub addressed : Ear → List Heard → List Heard
-addressed e [] = []
-addressed e (Frame f ∷ earlier) = heard_to e f (addressed e earlier)
-addressed e (Reset ∷ earlier) = Reset ∷ addressed e earlier
+abbrev pub all_heard : Ear → List Heard → List Heard
+all_heard e [] = []
+all_heard e (Frame f ∷ earlier) = heard_to e f (all_heard e earlier)
+all_heard e (Reset ∷ earlier) = Reset ∷ all_heard e earlier
 
 -- the messages that it reads in all that it was given, in order
 abbrev pub messages_for : Ear → List Heard → List (List ℕ)
-messages_for e given = messages_to e (addressed e given)
+messages_for e given = messages_to e (all_heard e given)
 
 -- ---- a receiver that listens to its own address alone
 

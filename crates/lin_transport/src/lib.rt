@@ -1,4 +1,5 @@
-//! Segmented messages: what a sender transmits and what a receiver reads (ISO 17987-2, transport layer; LIN 2.2A, 3.2).
+//! Segmented messages: what a sender transmits and what a receiver reads (ISO 17987-2, transport
+//! layer; LIN 2.2A, 3.2).
 //!
 //! ```
 //! let mut sender = Sender::begin(0x01, message.len());

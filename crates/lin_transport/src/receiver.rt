@@ -3,7 +3,7 @@
 ghost use Rattle.std.specs.Prelude.{◌≡◌, ℕ, ◌<◌, ◌≤◌, ◌∷◌, ◌++◌, [], List, ◌&&◌, eqb, true};
 ghost use Rattle.std.specs.Prelude.{false, slice_index, option_map, option_to_list, vec_capacity};
 ghost use Rattle.std.specs.Prelude.{IfOk, OnOk, OnErr, IsOk};
-ghost use Rattle.lin_transport.specs.Transport.{Ear, Heard, addressed, begins, functional};
+ghost use Rattle.lin_transport.specs.Transport.{Ear, Heard, all_heard, begins, functional};
 ghost use Rattle.lin_transport.specs.Transport.{messages_for};
 ghost use Rattle.lin_transport.specs.Transport.Heard.{Frame, Reset};
 ghost use Rattle.lin_transport.specs.Receiver.{Holds, IsOwn, IsReadAs, IsBegun, IsContinued};
@@ -55,7 +55,8 @@ impl Model for Receiver {
 
     ghost Value = { Reception };
 
-    ghost view = { λ r. record { nad = r.nad; part = r.partial; all = r.functional; spare = vec_capacity r.room / 6 } };
+    ghost view = { λ r. record
+        { nad = r.nad; part = r.partial; all = r.functional; spare = vec_capacity r.room / 6 } };
 
     ghost invariant = { λ r. r.room.items ≡ [] };
 }
@@ -189,7 +190,8 @@ impl Receiver {
     // Hears a frame, and gives the message that it completes.
     fn receive(&mut self, frame: &[u8; 8]) -> Result<Option<Vec<u8>>, AllocError>
         ensures reads { (heard : List Heard) → HasHeard self.old heard
-            → IfOk result (λ m. Reads self.old frame.now heard (option_map (λ v. v.items) m) self.new) }
+            → IfOk result
+            (λ m. Reads self.old frame.now heard (option_map (λ v. v.items) m) self.new) }
         ensures unchanged { OnErr result (self.new ≡ self.old) }
         ensures memory { OnErr result (begins frame.now ≡ true) }
         ensures ready { 1 ≤ self.old.spare → slice_index frame.now 1 < 16 → IsOk result }
@@ -231,11 +233,16 @@ impl Receiver {
     /// `AllocError` where there is no memory for the message. The receiver is then as before.
     pub fn hear(&mut self, frame: &[u8; 8]) -> Result<Option<Vec<u8>>, AllocError>
         ensures hears { (heard : List Heard) → Stands self.old heard
-            → IfOk result (λ m. Hears self.old frame.now heard (option_map (λ v. v.items) m) self.new) }
+            → IfOk result
+            (λ m. Hears self.old frame.now heard (option_map (λ v. v.items) m) self.new) }
         ensures reassembles { (heard : List Heard) → HasHeard self.old heard
-            → IfOk result (λ m. Reads self.old frame.now heard (option_map (λ v. v.items) m) self.new) }
-        ensures reads { (given : List Heard) → HasHeard self.old (addressed (ear_of self.old) given)
-            → IfOk result (λ m. messages_for (ear_of self.old) (Frame frame.now ∷ given) ≡ messages_for (ear_of self.old) given ++ option_to_list (option_map (λ v. v.items) m)) }
+            → IfOk result
+            (λ m. Reads self.old frame.now heard (option_map (λ v. v.items) m) self.new) }
+        ensures reads { (given : List Heard) → HasHeard self.old (all_heard (ear_of self.old) given)
+            → IfOk result
+            (λ m. messages_for (ear_of self.old) (Frame frame.now ∷ given)
+            ≡ messages_for (ear_of self.old) given
+            ++ option_to_list (option_map (λ v. v.items) m)) }
         ensures unchanged { OnErr result (self.new ≡ self.old) }
         ensures memory { OnErr result (begins frame.now ≡ true) }
         ensures ready { 1 ≤ self.old.spare → slice_index frame.now 1 < 16 → IsOk result }

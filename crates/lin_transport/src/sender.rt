@@ -1,7 +1,7 @@
 //! The sender of a message: which frame is next.
 
 ghost use Rattle.std.specs.Prelude.{◌≡◌, ◌+◌, ◌<◌, ◌≤◌, ◌++◌, ◌↔◌, IsTrue, length};
-ghost use Rattle.lin_transport.specs.Words.{filled};
+ghost use Rattle.lin_transport.specs.Words.{filled_to};
 ghost use Rattle.lin_transport.specs.Transport.{frame, frame_count};
 
 use crate::pci::{
@@ -34,7 +34,7 @@ impl Model for Sender {
 // The data bytes of a frame: these, and the fill byte after them.
 fn data_bytes(header: &[u8], bytes: &[u8]) -> [u8; 8]
     requires { length header.now + length bytes.now ≤ 8 }
-    ensures { result ≡ filled 8 (header.now ++ bytes.now) }
+    ensures { result ≡ filled_to 8 (header.now ++ bytes.now) }
 {
     let mut data = [FILL; 8];
     data[..header.len()].copy_from_slice(header);

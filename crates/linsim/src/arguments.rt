@@ -244,7 +244,8 @@ fn request_of<'a>(matches: &ArgMatches<'a>) -> Option<Request<'a>> {
 /// What these words ask for, of which the first is the program's name.
 ///
 /// # Errors
-/// What clap answers in place of matches: a mistake in the words, a text that they ask for, or want of memory.
+/// What clap answers in place of matches: a mistake in the words, a text that they ask for, or out
+/// of memory.
 pub(crate) fn read_words<'a>(
     alloc: Global,
     words: &'a [String],

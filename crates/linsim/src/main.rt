@@ -1,5 +1,5 @@
-//! `linsim` simulates a LIN cluster with its schedules and its diagnostic transport. Here is its command line; what it does is in
-//! `lin_tool`.
+//! `linsim` simulates a LIN cluster with its schedules and its diagnostic transport. Here is its
+//! command line; what it does is in `lin_tool`.
 #![tactic(auto)]
 
 ghost use Rattle.std.specs.Prelude.{◌≤◌};
@@ -115,7 +115,8 @@ fn refused<R: Print + Eprint>(rt: &R, error: &clap::Error) -> Result<ExitCode, F
     }
 }
 
-/// The exit status where the words of the command line couldn't be read: for want of memory, or since one isn't UTF-8.
+/// The exit status where the words of the command line couldn't be read: for lack of memory, or
+/// since one isn't UTF-8.
 fn unread<R: Eprint>(rt: &R, error: &io::Error) -> Result<ExitCode, Fault> {
     if error.kind() == io::ErrorKind::OutOfMemory {
         return Err(Fault::OutOfMemory);

@@ -3,15 +3,18 @@
 ghost use Rattle.std.specs.Prelude.{◌≡◌, ◌==◌, ◌<◌, ◌≤◌, ◌^◌, ℕ, All, IfOk, OnOk, length, map};
 ghost use Rattle.std.specs.List.{enumerate_from, list_any};
 ghost use Rattle.lin_frame.specs.Frame.{pid};
-ghost use Rattle.lin_cluster.specs.Described.{frame_number, signal_number, signals_of, own_pid, described_place, described_layout, described_frame, frames_of, members_of, sporadic_frames_of, described_event, events_of};
+ghost use Rattle.lin_cluster.specs.Described.{frame_number, signal_number, signals_of, own_pid};
+ghost use Rattle.lin_cluster.specs.Described.{described_place, described_layout, described_frame};
+ghost use Rattle.lin_cluster.specs.Described.{frames_of, members_of, sporadic_frames_of};
+ghost use Rattle.lin_cluster.specs.Described.{described_event, events_of};
 ghost use Rattle.lin_cluster.specs.Fitting.{FitsFrame, FitsNumbers};
 ghost use Rattle.lin_cluster.specs.Models.{frame_model, model_named, first_model};
 
 use super::numbers::{frame_number, node_number, signal_number, table_number};
+use lin_cluster_parts::{EventFrame, Signal, SignalFrame};
 use lin_description::{Description, Frame, Name, PlacedSignal, Sporadic};
 use lin_frame::{FrameId, Layout, Place, SumKind, protected};
 use lin_lists::Many;
-use lin_parts::{EventFrame, Signal, SignalFrame};
 use std::alloc::{AllocError, Global};
 
 fn pid_of(id: u32) -> u8
@@ -35,7 +38,8 @@ fn lists(d: &Description, members: &[Name], frame: u16) -> bool
 
 fn is_member(d: &Description, events: &[lin_description::EventFrame], frame: u16) -> bool
     requires few { length d.now.frames ≤ 60 }
-    ensures { result ≡ list_any (λ e. list_any (λ m. frame_number d.now m == frame) e.members) events.now }
+    ensures { result
+        ≡ list_any (λ e. list_any (λ m. frame_number d.now m == frame) e.members) events.now }
 {
     events
         .iter()
@@ -83,7 +87,8 @@ fn signals_in(
     placed: &[PlacedSignal],
 ) -> Result<Many<u16>, AllocError>
     requires few { length d.now.signals ≤ 1024 }
-    ensures { IfOk result (λ numbers. numbers ≡ map (λ p. signal_number d.now p.signal) placed.now) }
+    ensures { IfOk result
+        (λ numbers. numbers ≡ map (λ p. signal_number d.now p.signal) placed.now) }
 {
     let mut numbers = Vec::new(alloc);
     for one in placed {
@@ -159,7 +164,8 @@ pub(super) fn frames_of(
     requires all { signals.now ≡ signals_of d.now }
     requires fit { All FitsFrame frames.now }
     requires models { models.now ≡ map (frame_model d.now) frames.now }
-    ensures { IfOk result (λ made. made ≡ map (described_frame d.now) (enumerate_from 0 frames.now)) }
+    ensures { IfOk result
+        (λ made. made ≡ map (described_frame d.now) (enumerate_from 0 frames.now)) }
 {
     let mut made = Vec::new(alloc);
     for (number, frame) in frames.iter().enumerate() {

@@ -1,15 +1,16 @@
 //! The nodes that a description says.
 
-ghost use Rattle.std.specs.Prelude.{◌≡◌, ◌==◌, ◌+◌, ◌<◌, ◌≤◌, ◌^◌, ◌++◌, ℕ, find, length, map, IfOk, OnOk};
+ghost use Rattle.std.specs.Prelude.{◌≡◌, ◌==◌, ◌+◌, ◌<◌, ◌≤◌, ◌^◌, ◌++◌, ℕ, find, length, map};
+ghost use Rattle.std.specs.Prelude.{IfOk, OnOk};
 ghost use Rattle.std.specs.List.{enumerate_from};
 ghost use Rattle.std.specs.Option.{option_copied};
 ghost use Rattle.lin_cluster.specs.Described.{is_block_of, described_nad, responder, nodes_of};
 ghost use Rattle.lin_cluster.specs.Fitting.{FitsNad};
 
 use super::numbers::node_number;
+use lin_cluster_parts::Node;
 use lin_description::{Attributes, Description, Name};
 use lin_lists::{Many, Text};
-use lin_parts::Node;
 use std::alloc::{AllocError, Global};
 
 fn block_of<'a>(d: &'a Description, node: u8) -> Option<&'a Attributes>
@@ -55,7 +56,8 @@ fn add_responders(
     requires few { length d.now.slaves ≤ 15 }
     requires fewer { length slaves.now ≤ 15 }
     requires fits { (n : ℕ) → 1 ≤ n → n ≤ length slaves.now → FitsNad d.now n }
-    ensures { OnOk result (nodes.new.items ≡ nodes.old.items ++ map (responder d.now) (enumerate_from 1 slaves.now)) }
+    ensures { OnOk result
+        (nodes.new.items ≡ nodes.old.items ++ map (responder d.now) (enumerate_from 1 slaves.now)) }
 {
     for (i, name) in slaves.iter().enumerate() {
         nodes.push(responder(alloc, d, i as u8 + 1, name)?)?;

@@ -2,7 +2,8 @@
 
 ghost use Rattle.std.specs.Prelude.{◌≡◌, ◌≤◌, length};
 ghost use Rattle.std.specs.List.{position_or_len};
-ghost use Rattle.lin_cluster.specs.Described.{node_number, signal_number, frame_number, sporadic_number, event_number, table_number};
+ghost use Rattle.lin_cluster.specs.Described.{node_number, signal_number, frame_number};
+ghost use Rattle.lin_cluster.specs.Described.{sporadic_number, event_number, table_number};
 ghost use Rattle.lin_cluster.specs.FindingsNames.{same_name};
 
 use crate::names::Named;

@@ -6,10 +6,10 @@ ghost use Rattle.lin_cluster.specs.Fitting.{FitsInitial, FitsSignal};
 
 use super::numbers::node_number;
 use arrayvec::ArrayVec;
+use lin_cluster_parts::Signal;
 use lin_description::{Description, Init, Number};
 use lin_frame::{Value, ValueBytes};
 use lin_lists::{Many, Text};
-use lin_parts::Signal;
 use std::alloc::{AllocError, Global};
 
 fn bytes_of(items: &[Number]) -> ArrayVec<u8, 8>

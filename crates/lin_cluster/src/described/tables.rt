@@ -1,13 +1,14 @@
 //! The schedule tables that a description says.
 
 ghost use Rattle.std.specs.Prelude.{◌≡◌, IfOk, map};
-ghost use Rattle.lin_cluster.specs.Described.{frame_entry, described_entry, described_line, described_table};
+ghost use Rattle.lin_cluster.specs.Described.{frame_entry, described_entry, described_line};
+ghost use Rattle.lin_cluster.specs.Described.{described_table};
 ghost use Rattle.lin_cluster.specs.Fitting.{FitsNumbers};
 
 use super::numbers::{event_number, frame_number, sporadic_number};
+use lin_cluster_parts::{Entry, Line, Table};
 use lin_description::{Description, Name, TableEntry};
 use lin_lists::{Many, Text};
-use lin_parts::{Entry, Line, Table};
 use std::alloc::{AllocError, Global};
 
 fn frame_entry(d: &Description, name: &Name) -> Entry

@@ -49,7 +49,10 @@ impl Finds<Number> for EachAddress {
 }
 
 fn twice(found: &mut Vec<Finding>, earlier: &IndexSet<u32>, nad: &Number) -> Result<(), AllocError>
-    ensures { OnOk result (found.new.items ≡ found.old.items ++ when (contains nat_eq earlier.now nad.now.value) (at_number NadTwice nad.now)) }
+    ensures { OnOk result
+        (found.new.items
+        ≡ found.old.items
+        ++ when (contains nat_eq earlier.now nad.now.value) (at_number NadTwice nad.now)) }
 {
     push_when(
         found,
@@ -60,7 +63,9 @@ fn twice(found: &mut Vec<Finding>, earlier: &IndexSet<u32>, nad: &Number) -> Res
 
 #[tactic(auto, using(crate::proofs::FindingsLists::each_all))]
 fn nads_twice(alloc: Global, found: &mut Vec<Finding>, nads: &[Number]) -> Result<(), AllocError>
-    ensures { OnOk result (found.new.items ≡ found.old.items ++ flat_map (nad_twice nads.now) (enumerate_from 0 nads.now)) }
+    ensures { OnOk result
+        (found.new.items
+        ≡ found.old.items ++ flat_map (nad_twice nads.now) (enumerate_from 0 nads.now)) }
 {
     let mut earlier = IndexSet::new(alloc);
     for nad in nads {
@@ -76,7 +81,8 @@ pub(super) fn bad_addresses(
     found: &mut Vec<Finding>,
     known: &Known,
 ) -> Result<(), AllocError>
-    ensures { OnOk result (found.new.items ≡ found.old.items ++ bad_nads known.now ++ nads_twice known.now) }
+    ensures { OnOk result
+        (found.new.items ≡ found.old.items ++ bad_nads known.now ++ nads_twice known.now) }
 {
     let nads = addresses(alloc, known, known.description().attributes())?;
     each(found, &EachAddress, nads.as_slice())?;

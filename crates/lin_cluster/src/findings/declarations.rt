@@ -105,7 +105,7 @@ impl<'k, 'a> Finds<Table> for Judged<'k, 'a> {
     }
 }
 
-/// What is wrong with each declaration; an error is out of memory.
+/// What is wrong with each declaration; an error means out of memory.
 pub(super) fn in_declarations(found: &mut Vec<Finding>, judged: &Judged) -> Result<(), AllocError>
     ensures { OnOk result (found.new.items ≡ found.old.items ++ in_declarations judged.now) }
 {

@@ -7,7 +7,8 @@ ghost use Rattle.lin_cluster.specs.Described.{signal_number};
 ghost use Rattle.lin_cluster.specs.FindingsNames.{signal_named};
 ghost use Rattle.lin_cluster.specs.Members.{is_in_front};
 ghost use Rattle.lin_cluster.specs.Known.{signal_facts};
-ghost use Rattle.lin_cluster.specs.Models.{is_lin_1, has_lin_1, carries_to_lin_1, is_classic, frame_model};
+ghost use Rattle.lin_cluster.specs.Models.{is_lin_1, has_lin_1, carries_to_lin_1, is_classic};
+ghost use Rattle.lin_cluster.specs.Models.{frame_model};
 
 use super::known::Known;
 use super::sizes::is_array;
@@ -114,7 +115,7 @@ impl<'k, 'a> Drop for Signals<'k, 'a> {
 }
 
 impl<'k, 'a> Signals<'k, 'a> {
-    /// An error is out of memory.
+    /// An error means out of memory.
     pub(super) fn new(alloc: Global, known: &'k Known<'a>) -> Result<Signals<'k, 'a>, AllocError>
         ensures { IfOk result (λ s. s ≡ known.now) }
     {

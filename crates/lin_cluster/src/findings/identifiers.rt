@@ -11,7 +11,8 @@ use lin_description::{EventFrame, Frame, Number};
 use std::alloc::{AllocError, Global};
 
 fn ids_of(alloc: Global, frames: &[Frame], events: &[EventFrame]) -> Result<Vec<Number>, AllocError>
-    ensures { IfOk result (λ ids. ids.items ≡ map (λ f. f.id) frames.now ++ map (λ e. e.id) events.now) }
+    ensures { IfOk result
+        (λ ids. ids.items ≡ map (λ f. f.id) frames.now ++ map (λ e. e.id) events.now) }
 {
     frames
         .iter()
@@ -61,7 +62,8 @@ pub(super) fn bad_identifiers(
     found: &mut Vec<Finding>,
     known: &Known,
 ) -> Result<(), AllocError>
-    ensures { OnOk result (found.new.items ≡ found.old.items ++ bad_ids known.now ++ ids_twice known.now) }
+    ensures { OnOk result
+        (found.new.items ≡ found.old.items ++ bad_ids known.now ++ ids_twice known.now) }
 {
     let ids = Repeats::new(alloc, all_ids(alloc, known)?)?;
     each(found, &EachIdentifier, ids.numbers())?;

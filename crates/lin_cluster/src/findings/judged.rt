@@ -3,7 +3,9 @@
 ghost use Rattle.std.specs.Prelude.{◌≡◌, ◌&&◌, IfOk, map, not, is_some};
 ghost use Rattle.std.specs.List.{list_any};
 ghost use Rattle.std.specs.Option.{option_map};
-ghost use Rattle.lin_cluster.specs.FindingsNames.{frame_named, sporadic_named, event_named, table_named, is_any_frame, is_event_entry, carries_frame};
+ghost use Rattle.lin_cluster.specs.FindingsNames.{frame_named, sporadic_named, event_named};
+ghost use Rattle.lin_cluster.specs.FindingsNames.{table_named, is_any_frame, is_event_entry};
+ghost use Rattle.lin_cluster.specs.FindingsNames.{carries_frame};
 ghost use Rattle.lin_cluster.specs.Slots.{greatest_size, first_size, slot_size};
 ghost use Rattle.lin_cluster.specs.Known.{frame_facts, size_named};
 ghost use Rattle.lin_cluster.specs.Models.{frame_model};
@@ -115,7 +117,9 @@ impl<'k, 'a> Model for Judged<'k, 'a> {
 
     ghost view = { λ j. j.signals };
 
-    ghost invariant = { λ j. AreFrameFacts j.signals j.frames.items × AreSizes j.signals j.sizes.sporadic.items j.sizes.events.items × AreNested j.signals j.nested.items };
+    ghost invariant = { λ j. AreFrameFacts j.signals j.frames.items
+        × AreSizes j.signals j.sizes.sporadic.items j.sizes.events.items
+        × AreNested j.signals j.nested.items };
 }
 
 // Written out, so that what owns one lets it go in one step.
@@ -132,7 +136,7 @@ impl<'k, 'a> Drop for Judged<'k, 'a> {
 }
 
 impl<'k, 'a> Judged<'k, 'a> {
-    /// An error is out of memory.
+    /// An error means out of memory.
     pub(super) fn new(alloc: Global, known: &'k Known<'a>) -> Result<Judged<'k, 'a>, AllocError>
         ensures { IfOk result (λ j. j ≡ known.now) }
     {
@@ -151,7 +155,7 @@ impl<'k, 'a> Judged<'k, 'a> {
         })
     }
 
-    /// The checksum model of each frame; an error is out of memory.
+    /// The checksum model of each frame; an error means out of memory.
     pub(super) fn models(&self) -> Result<Vec<SumKind>, AllocError>
         ensures { IfOk result (λ v. v.items ≡ map (frame_model self.now) self.now.frames) }
     {
@@ -195,7 +199,9 @@ impl<'k, 'a> Judged<'k, 'a> {
 
     /// The size of a sporadic frame, where the name is one's.
     fn sporadic_size(&self, name: &Name) -> Option<Option<u32>>
-        ensures { result ≡ option_map (λ f. greatest_size self.now f.members) (sporadic_named self.now name.now) }
+        ensures { result
+            ≡ option_map
+            (λ f. greatest_size self.now f.members) (sporadic_named self.now name.now) }
     {
         at(
             self.sizes.sporadic.as_slice(),
@@ -205,7 +211,8 @@ impl<'k, 'a> Judged<'k, 'a> {
 
     /// The size of an event-triggered frame, where the name is one's.
     fn event_size(&self, name: &Name) -> Option<Option<u32>>
-        ensures { result ≡ option_map (λ e. first_size self.now e.members) (event_named self.now name.now) }
+        ensures { result
+            ≡ option_map (λ e. first_size self.now e.members) (event_named self.now name.now) }
     {
         at(
             self.sizes.events.as_slice(),
@@ -228,7 +235,8 @@ impl<'k, 'a> Judged<'k, 'a> {
 
     /// What is asked of the slot of an entry.
     pub(super) fn slot(&self, entry: &TableEntry) -> Slot
-        ensures unknown { result.is_unknown ≡ (carries_frame entry.now && not (is_any_frame self.now entry.now.name)) }
+        ensures unknown { result.is_unknown
+            ≡ (carries_frame entry.now && not (is_any_frame self.now entry.now.name)) }
         ensures size { result.size ≡ slot_size self.now entry.now }
     {
         if !carries_frame(entry) {
@@ -251,7 +259,9 @@ impl<'k, 'a> Judged<'k, 'a> {
 
     /// Whether a table has an event-triggered entry, where the name is one's.
     pub(super) fn nested(&self, name: &Name) -> Option<bool>
-        ensures { result ≡ option_map (λ t. list_any (is_event_entry self.now) t.entries) (table_named self.now name.now) }
+        ensures { result
+            ≡ option_map
+            (λ t. list_any (is_event_entry self.now) t.entries) (table_named self.now name.now) }
     {
         at(
             self.nested.as_slice(),

@@ -2,8 +2,11 @@
 
 ghost use Rattle.std.specs.Prelude.{◌≡◌, ◌||◌, IfOk, is_some};
 ghost use Rattle.std.specs.Option.{option_copied};
-ghost use Rattle.lin_cluster.specs.Described.{signal_number, frame_number, sporadic_number, event_number, table_number};
-ghost use Rattle.lin_cluster.specs.FindingsNames.{is_node, is_responder, frame_named, sporadic_named, event_named, is_diagnostic, carries_frame, is_event_entry};
+ghost use Rattle.lin_cluster.specs.Described.{signal_number, frame_number, sporadic_number};
+ghost use Rattle.lin_cluster.specs.Described.{event_number, table_number};
+ghost use Rattle.lin_cluster.specs.FindingsNames.{is_node, is_responder, frame_named};
+ghost use Rattle.lin_cluster.specs.FindingsNames.{sporadic_named, event_named, is_diagnostic};
+ghost use Rattle.lin_cluster.specs.FindingsNames.{carries_frame, is_event_entry};
 ghost use Rattle.lin_cluster.specs.FindingsNodes.{node_of, is_responder_number};
 ghost use Rattle.lin_cluster.specs.Models.{tells_version_1, has_version_1, block_named, is_lin_1};
 
@@ -117,7 +120,8 @@ impl<'a> Model for Known<'a> {
 
     ghost view = { λ k. k.description.now };
 
-    ghost invariant = { λ k. IsKnown k.description.now k.nodes.slaves k.signals k.kinds.frames k.kinds.sporadic k.kinds.events k.tables k.nodes.blocks k.has_version_1 };
+    ghost invariant = { λ k. IsKnown k.description.now k.nodes.slaves k.signals k.kinds.frames k.kinds.sporadic
+        k.kinds.events k.tables k.nodes.blocks k.has_version_1 };
 }
 
 // Written out, so that what owns one lets it go in one step.
@@ -135,7 +139,7 @@ impl<'a> Drop for Known<'a> {
 }
 
 impl<'a> Known<'a> {
-    /// What its names name is looked up once; an error is out of memory.
+    /// What its names name is looked up once; an error means out of memory.
     pub(super) fn new(alloc: Global, description: &'a Description) -> Result<Known<'a>, AllocError>
         ensures { IfOk result (λ k. k ≡ description.now) }
     {
@@ -260,7 +264,9 @@ impl<'a> Known<'a> {
 
     /// Whether the name is that of a sporadic or of an event-triggered frame.
     pub(super) fn is_other_frame(&self, name: &Name) -> bool
-        ensures { result ≡ (is_some (sporadic_named self.now name.now) || is_some (event_named self.now name.now)) }
+        ensures { result
+            ≡ (is_some (sporadic_named self.now name.now)
+            || is_some (event_named self.now name.now)) }
     {
         self.sporadic(name).is_some() || self.event(name).is_some()
     }

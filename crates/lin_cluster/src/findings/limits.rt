@@ -1,7 +1,8 @@
 //! Limit passed (17): of what is counted the first one too many is found.
 
 ghost use Rattle.std.specs.Prelude.{◌≡◌, ◌++◌, OnOk, slice_get};
-ghost use Rattle.lin_cluster.specs.Limits.{past, too_long, long_table, responder_limits, frame_limits, time_limits, limits_passed};
+ghost use Rattle.lin_cluster.specs.Limits.{past, too_long, long_table, responder_limits};
+ghost use Rattle.lin_cluster.specs.Limits.{frame_limits, time_limits, limits_passed};
 
 use super::known::Known;
 use super::slots::is_speed;
@@ -21,7 +22,8 @@ impl Named for TableEntry {
 
 #[tactic(auto, using(crate::proofs::FindingsLists::past_none))]
 fn past<T: Named>(found: &mut Vec<Finding>, all: &[T], limit: usize) -> Result<(), AllocError>
-    ensures { OnOk result (found.new.items ≡ found.old.items ++ past T.name_of (slice_get all.now limit)) }
+    ensures { OnOk result
+        (found.new.items ≡ found.old.items ++ past T.name_of (slice_get all.now limit)) }
 {
     match all.get(limit) {
         Some(one) => Ok(found.push(at_name(FindingKind::LimitPassed, one.name()))?),

@@ -1,13 +1,15 @@
 //! Members of event-triggered and of sporadic frames: unknown name (1), bad event-triggered frame
 //! (13), bad sporadic frame (14) and mixed checksum (18).
 
-ghost use Rattle.std.specs.Prelude.{◌≡◌, ◌++◌, ◌||◌, ℕ, OnOk, true, not, nat_eq, nat_lt, slice_get, option_and_then};
+ghost use Rattle.std.specs.Prelude.{◌≡◌, ◌++◌, ◌||◌, ℕ, OnOk, true, not, nat_eq, nat_lt, slice_get};
+ghost use Rattle.std.specs.Prelude.{option_and_then, false};
 ghost use Rattle.std.specs.List.{flat_map, enumerate_from};
 ghost use Rattle.std.specs.Option.{option_map, option_map_or};
 ghost use Rattle.indexmap.specs.IndexSet.{contains};
 ghost use Rattle.lin_cluster.specs.Findings.{in_event_member};
-ghost use Rattle.lin_cluster.specs.FindingsMembers.{is_bad_after, is_wrong_after, is_mixed_after, in_member_after};
-ghost use Rattle.lin_cluster.specs.FindingsNames.{frame_named, knows};
+ghost use Rattle.lin_cluster.specs.FindingsMembers.{is_bad_after, is_wrong_after, is_mixed_after};
+ghost use Rattle.lin_cluster.specs.FindingsMembers.{in_member_after};
+ghost use Rattle.lin_cluster.specs.FindingsNames.{frame_named};
 ghost use Rattle.lin_cluster.specs.FindingsNodes.{is_number, is_responder_number};
 ghost use Rattle.lin_cluster.specs.Known.{frame_facts};
 ghost use Rattle.lin_cluster.specs.Models.{differ};
@@ -26,7 +28,10 @@ fn add_publisher(
     publishers: &mut IndexSet<usize>,
     frame: Option<FrameFacts>,
 ) -> Result<(), AllocError>
-    ensures { OnOk result ((q : ℕ) → contains nat_eq publishers.new q ≡ (contains nat_eq publishers.old q || knows frame (λ f. is_number q f.publisher))) }
+    ensures { OnOk result
+        ((q : ℕ) → contains nat_eq publishers.new q
+        ≡ (contains nat_eq publishers.old q
+        || option_map_or (λ f. is_number q f.publisher) frame false)) }
 {
     if let Some(frame) = frame {
         if let Some(node) = frame.publisher {
@@ -37,7 +42,9 @@ fn add_publisher(
 }
 
 fn first_frame(judged: &Judged, members: &[Name]) -> Option<FrameFacts>
-    ensures { result ≡ option_map (frame_facts judged.now) (option_and_then (frame_named judged.now) (slice_get members.now 0)) }
+    ensures { result
+        ≡ option_map (frame_facts judged.now)
+        (option_and_then (frame_named judged.now) (slice_get members.now 0)) }
 {
     match members.first() {
         Some(member) => judged.frame(member),
@@ -46,7 +53,7 @@ fn first_frame(judged: &Judged, members: &[Name]) -> Option<FrameFacts>
 }
 
 fn has_other_size(first: Option<FrameFacts>, frame: FrameFacts) -> bool
-    ensures { result ≡ knows first (λ g. not (nat_eq g.size frame.size)) }
+    ensures { result ≡ option_map_or (λ g. not (nat_eq g.size frame.size)) first false }
 {
     match first {
         Some(first) => !(first.size == frame.size),
@@ -64,7 +71,7 @@ fn is_number_of(node: usize, publisher: Option<usize>) -> bool
 }
 
 fn has_published(publishers: &IndexSet<usize>, publisher: Option<usize>) -> bool
-    ensures { result ≡ knows publisher (contains nat_eq publishers.now) }
+    ensures { result ≡ option_map_or (contains nat_eq publishers.now) publisher false }
 {
     match publisher {
         Some(node) => publishers.contains(&node),
@@ -122,7 +129,10 @@ fn find_member(
     frame: Option<FrameFacts>,
     member: &Name,
 ) -> Result<(), AllocError>
-    ensures { OnOk result (found.new.items ≡ found.old.items ++ in_member_after first (contains nat_eq publishers.now) is_known frame member.now) }
+    ensures { OnOk result
+        (found.new.items
+        ≡ found.old.items
+        ++ in_member_after first (contains nat_eq publishers.now) is_known frame member.now) }
 {
     let is_wrong = is_wrong_member(first, publishers, is_known, frame);
     push_when(found, !is_known, at_name(FindingKind::UnknownName, member))?;
@@ -142,7 +152,10 @@ pub(super) fn members_in_order(
     judged: &Judged,
     members: &[Name],
 ) -> Result<(), AllocError>
-    ensures { OnOk result (found.new.items ≡ found.old.items ++ flat_map (in_event_member judged.now members.now) (enumerate_from 0 members.now)) }
+    ensures { OnOk result
+        (found.new.items
+        ≡ found.old.items
+        ++ flat_map (in_event_member judged.now members.now) (enumerate_from 0 members.now)) }
 {
     let first = first_frame(judged, members);
     let mut publishers = IndexSet::new(alloc);

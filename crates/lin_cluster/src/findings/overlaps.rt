@@ -1,8 +1,10 @@
 //! Signals overlap (7): they share bits of their frame, or stand in it twice.
 
-ghost use Rattle.std.specs.Prelude.{◌≡◌, ◌++◌, ◌+◌, ◌<◌, ◌||◌, ◌↔◌, ◌⊎◌, ℕ, Bool, true, nat_eq, IfOk, IsSome, OnOk};
+ghost use Rattle.std.specs.Prelude.{◌≡◌, ◌++◌, ◌+◌, ◌<◌, ◌||◌, ◌↔◌, ◌⊎◌, ℕ, Bool, true, nat_eq};
+ghost use Rattle.std.specs.Prelude.{IfOk, IsSome, OnOk, false};
+ghost use Rattle.std.specs.Option.{option_map_or};
 ghost use Rattle.indexmap.specs.IndexSet.{contains};
-ghost use Rattle.lin_cluster.specs.FindingsNames.{at_number, knows, when};
+ghost use Rattle.lin_cluster.specs.FindingsNames.{at_number, when};
 ghost use Rattle.lin_cluster.specs.FindingsRanges.{Meets, AreApart};
 ghost use Rattle.lin_cluster.specs.FindingsPlaces.{IsTaken, lies_in};
 ghost use Rattle.lin_cluster.specs.declared.finding.FindingKind.TheVariants.{SignalsOverlap};
@@ -18,7 +20,9 @@ use std::alloc::AllocError;
 /// Adds the number of a signal of a frame, and says whether it is there already.
 pub(super) fn stands_twice(numbers: &mut IndexSet<usize>, number: usize) -> Result<bool, AllocError>
     ensures twice { IfOk result (λ twice. twice ≡ contains nat_eq numbers.old number) }
-    ensures added { OnOk result ((q : ℕ) → contains nat_eq numbers.new q ≡ (contains nat_eq numbers.old q || nat_eq number q)) }
+    ensures added { OnOk result
+        ((q : ℕ) → contains nat_eq numbers.new q
+        ≡ (contains nat_eq numbers.old q || nat_eq number q)) }
 {
     let is_new = numbers.insert(number)?;
     Ok(!is_new)
@@ -47,7 +51,14 @@ pub(super) fn overlap(
     signal: Option<SignalFacts>,
 ) -> Result<(), AllocError>
     requires { AreApart ranges.now }
-    ensures { OnOk result ((taken : ℕ → Bool) → (IsSome signal → (size : ℕ) → (taken size ≡ true) ↔ IsTaken twice ranges.now placed.now size) → found.new.items ≡ found.old.items ++ when (knows signal (λ s. taken s.size)) (at_number SignalsOverlap placed.now.offset)) }
+    ensures { OnOk result
+        ((taken : ℕ → Bool)
+        → (IsSome signal → (size : ℕ)
+        → (taken size ≡ true) ↔ IsTaken twice ranges.now placed.now size)
+        → found.new.items
+        ≡ found.old.items
+        ++ when (option_map_or (λ s. taken s.size) signal false)
+        (at_number SignalsOverlap placed.now.offset)) }
 {
     if let Some(signal) = signal {
         let is_wrong = is_taken(twice, ranges, placed, signal.size);
@@ -68,7 +79,11 @@ pub(super) fn add_bits(
 ) -> Result<(), AllocError>
     requires { AreApart ranges.old }
     ensures apart { OnOk result (AreApart ranges.new) }
-    ensures meets { OnOk result ((a b : ℕ) → a < b → Meets ranges.new a b ↔ (Meets ranges.old a b ⊎ (knows signal (λ s. lies_in a b placed.now s.size) ≡ true))) }
+    ensures meets { OnOk result
+        ((a b : ℕ) → a < b
+        → Meets ranges.new a b ↔
+        (Meets ranges.old a b
+        ⊎ (option_map_or (λ s. lies_in a b placed.now s.size) signal false ≡ true))) }
 {
     if let Some(signal) = signal {
         if 0 < signal.size {

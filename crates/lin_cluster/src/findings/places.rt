@@ -41,7 +41,8 @@ fn find_placed(
     placed: &PlacedSignal,
     signal: Option<SignalFacts>,
 ) -> Result<(), AllocError>
-    ensures { OnOk result (found.new.items ≡ found.old.items ++ in_placed_by frame.now publisher placed.now signal) }
+    ensures { OnOk result
+        (found.new.items ≡ found.old.items ++ in_placed_by frame.now publisher placed.now signal) }
 {
     match signal {
         Some(signal) => {
@@ -70,7 +71,11 @@ pub(super) fn signals_in_order(
     frame: &Frame,
     all_placed: &[PlacedSignal],
 ) -> Result<(), AllocError>
-    ensures { OnOk result (found.new.items ≡ found.old.items ++ flat_map (in_placed signals.now frame.now all_placed.now) (enumerate_from 0 all_placed.now)) }
+    ensures { OnOk result
+        (found.new.items
+        ≡ found.old.items
+        ++ flat_map (in_placed signals.now frame.now all_placed.now)
+        (enumerate_from 0 all_placed.now)) }
 {
     let publisher = signals.known().node(&frame.publisher);
     let mut numbers = IndexSet::new(alloc);

@@ -3,7 +3,8 @@
 ghost use Rattle.std.specs.Prelude.{◌≡◌, ◌<◌, ◌↔◌, ℕ, Some, true, IfSome, IfNone, OnOk};
 ghost use Rattle.std.specs.BTreeMap.{get};
 ghost use Rattle.std.specs.Ordering.{nat_cmp};
-ghost use Rattle.lin_cluster.specs.FindingsRanges.{Meets, AreApart, Covers, IsNoneBelow, IsLastBelow};
+ghost use Rattle.lin_cluster.specs.FindingsRanges.{Meets, AreApart, Covers, IsNoneBelow};
+ghost use Rattle.lin_cluster.specs.FindingsRanges.{IsLastBelow};
 
 use std::alloc::AllocError;
 use std::collections::BTreeMap;
@@ -24,7 +25,8 @@ fn last_below(ranges: &Ranges, end: u64) -> Option<(u64, u64)>
 #[tactic(auto, using(crate::proofs::FindingsRanges::none_met, crate::proofs::FindingsRanges::last_unmet))]
 fn meeting(ranges: &Ranges, start: u64, end: u64) -> Option<(u64, u64)>
     requires { AreApart ranges.now }
-    ensures some { IfSome result (λ r. (get nat_cmp ranges.now r.0 ≡ Some r.1) × (r.0 < end) × (start < r.1)) }
+    ensures some { IfSome result
+        (λ r. (get nat_cmp ranges.now r.0 ≡ Some r.1) × (r.0 < end) × (start < r.1)) }
     ensures none { IfNone result (Meets ranges.now start end → ⊥) }
 {
     match last_below(ranges, end) {
@@ -48,7 +50,8 @@ fn merged(ranges: &mut Ranges, start: u64, end: u64) -> (u64, u64)
     ensures apart { AreApart ranges.new }
     ensures some { result.0 < result.1 }
     ensures free { Meets ranges.new result.0 result.1 → ⊥ }
-    ensures same { (a b : ℕ) → a < b → Covers ranges.new result.0 result.1 a b ↔ Covers ranges.old start end a b }
+    ensures same { (a b : ℕ) → a < b
+        → Covers ranges.new result.0 result.1 a b ↔ Covers ranges.old start end a b }
 {
     let mut first = start;
     let mut after = end;
@@ -60,7 +63,7 @@ fn merged(ranges: &mut Ranges, start: u64, end: u64) -> (u64, u64)
     (first, after)
 }
 
-/// Adds the bits of one more range; an error is out of memory.
+/// Adds the bits of one more range; an error means out of memory.
 pub(super) fn add_range(ranges: &mut Ranges, start: u64, end: u64) -> Result<(), AllocError>
     requires apart { AreApart ranges.old }
     requires some { start < end }

@@ -1,11 +1,10 @@
 //! Numbers whose value an earlier number has, by the first two places of each value.
 
-ghost use Rattle.std.specs.Prelude.{◌≡◌, ◌&&◌, ◌||◌, List, OnOk, IfOk, nat_eq};
-ghost use Rattle.std.specs.Option.{option_copied};
+ghost use Rattle.std.specs.Prelude.{◌≡◌, ◌&&◌, ◌||◌, List, OnOk, IfOk, nat_eq, false};
+ghost use Rattle.std.specs.Option.{option_copied, option_map_or};
 ghost use Rattle.indexmap.specs.IndexMap.{get};
 ghost use Rattle.lin_cluster.specs.Identifiers.{is_up_to, is_repeated};
 ghost use Rattle.lin_cluster.specs.FindingsRepeats.{has_one, has_two, is_use, CountsUses};
-ghost use Rattle.lin_cluster.specs.FindingsNames.{knows};
 ghost use Rattle.lin_description.specs.declared.description.Number.{Number};
 
 use indexmap::IndexMap;
@@ -60,7 +59,10 @@ fn later(a: Number, b: Number) -> Number
 // The first two of one more number.
 fn again(uses: &Uses, id: Number) -> Uses
     ensures first { (x : Number) → is_up_to x result.first ≡ (is_up_to x uses.now.first || is_up_to x id) }
-    ensures second { (x : Number) → knows result.second (is_up_to x) ≡ (knows uses.now.second (is_up_to x) || (is_up_to x uses.now.first && is_up_to x id)) }
+    ensures second { (x : Number)
+        → option_map_or (is_up_to x) result.second false
+        ≡ (option_map_or (is_up_to x) uses.now.second false
+        || (is_up_to x uses.now.first && is_up_to x id)) }
 {
     let both = later(uses.first, id);
     let second = match uses.second {
@@ -74,8 +76,12 @@ fn again(uses: &Uses, id: Number) -> Uses
 }
 
 fn with_use(uses: Option<&Uses>, id: Number) -> Uses
-    ensures first { (x : Number) → is_up_to x result.first ≡ (has_one (option_copied uses.entry) x || is_up_to x id) }
-    ensures second { (x : Number) → knows result.second (is_up_to x) ≡ (has_two (option_copied uses.entry) x || (has_one (option_copied uses.entry) x && is_up_to x id)) }
+    ensures first { (x : Number)
+        → is_up_to x result.first ≡ (has_one (option_copied uses.entry) x || is_up_to x id) }
+    ensures second { (x : Number)
+        → option_map_or (is_up_to x) result.second false
+        ≡ (has_two (option_copied uses.entry) x
+        || (has_one (option_copied uses.entry) x && is_up_to x id)) }
 {
     match uses {
         Some(uses) => again(uses, id),
@@ -87,8 +93,15 @@ fn with_use(uses: Option<&Uses>, id: Number) -> Uses
 }
 
 fn count(uses: &mut IndexMap<u32, Uses>, id: Number) -> Result<(), AllocError>
-    ensures one { OnOk result ((x : Number) → has_one (get nat_eq uses.new x.value) x ≡ (has_one (get nat_eq uses.old x.value) x || is_use x id)) }
-    ensures two { OnOk result ((x : Number) → has_two (get nat_eq uses.new x.value) x ≡ (has_two (get nat_eq uses.old x.value) x || (has_one (get nat_eq uses.old x.value) x && is_use x id))) }
+    ensures one { OnOk result
+        ((x : Number)
+        → has_one (get nat_eq uses.new x.value) x
+        ≡ (has_one (get nat_eq uses.old x.value) x || is_use x id)) }
+    ensures two { OnOk result
+        ((x : Number)
+        → has_two (get nat_eq uses.new x.value) x
+        ≡ (has_two (get nat_eq uses.old x.value) x
+        || (has_one (get nat_eq uses.old x.value) x && is_use x id))) }
 {
     let more = with_use(uses.get(&id.value), id);
     uses.insert(id.value, more)?;
@@ -106,7 +119,7 @@ fn counted(alloc: Global, ids: &[Number]) -> Result<IndexMap<u32, Uses>, AllocEr
 }
 
 impl Repeats {
-    /// An error is out of memory.
+    /// An error means out of memory.
     pub(super) fn new(alloc: Global, all: Vec<Number>) -> Result<Repeats, AllocError>
         ensures { IfOk result (λ r. r ≡ all.items) }
     {

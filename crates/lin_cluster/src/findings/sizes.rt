@@ -2,7 +2,8 @@
 
 ghost use Rattle.std.specs.Prelude.{◌≡◌, ◌++◌, OnOk, nat_lt, IsTrue};
 ghost use Rattle.std.specs.List.{list_any};
-ghost use Rattle.lin_cluster.specs.Sizes.{is_array, is_good_size, bad_signal_size, is_frame_size, bad_frame_size, is_good_init, init_place, bad_init};
+ghost use Rattle.lin_cluster.specs.Sizes.{is_array, is_good_size, bad_signal_size, is_frame_size};
+ghost use Rattle.lin_cluster.specs.Sizes.{bad_frame_size, is_good_init, init_place, bad_init};
 
 use super::walk::{at_number, push_when};
 use crate::finding::{Finding, FindingKind};

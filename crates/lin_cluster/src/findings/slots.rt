@@ -3,7 +3,8 @@
 ghost use Rattle.std.specs.Prelude.{◌≡◌, ◌++◌, ◌<◌, OnOk, fold, max, is_some};
 ghost use Rattle.std.specs.List.{list_all};
 ghost use Rattle.std.specs.Option.{option_map_or};
-ghost use Rattle.lin_cluster.specs.Slots.{needed_us, is_speed, good_size, frame_size, greatest_size, first_size, short_slot, zero_delay};
+ghost use Rattle.lin_cluster.specs.Slots.{needed_us, is_speed, good_size, frame_size};
+ghost use Rattle.lin_cluster.specs.Slots.{greatest_size, first_size, short_slot, zero_delay};
 
 use super::known::Known;
 use super::sizes::is_frame_size;
@@ -68,7 +69,8 @@ fn size_or_none(known: &Known, member: &Name) -> u32
 }
 
 fn greatest(known: &Known, members: &[Name]) -> u32
-    ensures { result ≡ fold (λ n m. max n (option_map_or (λ k. k) (frame_size known.now m) 0)) 0 members.now }
+    ensures { result
+        ≡ fold (λ n m. max n (option_map_or (λ k. k) (frame_size known.now m) 0)) 0 members.now }
 {
     let mut greatest: u32 = 0;
     for member in members {
@@ -106,7 +108,8 @@ fn short_slot_of(
     entry: &TableEntry,
     size: Option<u32>,
 ) -> Result<(), AllocError>
-    ensures { OnOk result (found.new.items ≡ found.old.items ++ short_slot jitter speed entry.now size) }
+    ensures { OnOk result
+        (found.new.items ≡ found.old.items ++ short_slot jitter speed entry.now size) }
 {
     if let Some(size) = size {
         if !(entry.delay.value == 0) && is_speed(speed) {
@@ -128,7 +131,9 @@ pub(super) fn short_slot(
     entry: &TableEntry,
     size: Option<u32>,
 ) -> Result<(), AllocError>
-    ensures { OnOk result (found.new.items ≡ found.old.items ++ short_slot known.now.jitter.value known.now.speed.value entry.now size) }
+    ensures { OnOk result
+        (found.new.items
+        ≡ found.old.items ++ short_slot known.now.jitter.value known.now.speed.value entry.now size) }
 {
     let description = known.description();
     short_slot_of(

@@ -20,7 +20,9 @@ pub(super) fn resolving_table(
     judged: &Judged,
     event: &EventFrame,
 ) -> Result<(), AllocError>
-    ensures { OnOk result (found.new.items ≡ found.old.items ++ unknown_table judged.now event.now ++ nested_at judged.now event.now) }
+    ensures { OnOk result
+        (found.new.items
+        ≡ found.old.items ++ unknown_table judged.now event.now ++ nested_at judged.now event.now) }
 {
     match judged.nested(&event.table) {
         Some(is_nested) => push_when(
@@ -45,7 +47,9 @@ pub(super) fn empty_table(found: &mut Vec<Finding>, table: &Table) -> Result<(),
 
 /// That there is no table.
 pub(super) fn no_table(found: &mut Vec<Finding>, tables: &[Table]) -> Result<(), AllocError>
-    ensures { OnOk result (found.new.items ≡ found.old.items ++ when (length tables.now == 0) (finding_at EmptyTable 1 1)) }
+    ensures { OnOk result
+        (found.new.items
+        ≡ found.old.items ++ when (length tables.now == 0) (finding_at EmptyTable 1 1)) }
 {
     let start = Place { line: 1, column: 1 };
     push_when(

@@ -16,18 +16,19 @@ pub(super) trait Finds<T> {
 
     ghost finds: { Self → T → List Finding };
 
-    /// Adds what is wrong with the item; an error is out of memory.
+    /// Adds what is wrong with the item; an error means out of memory.
     fn find(&self, found: &mut Vec<Finding>, item: &T) -> Result<(), AllocError>
         ensures { OnOk result (found.new.items ≡ found.old.items ++ finds self.now item.now) };
 }
 
-/// Adds what is wrong with each item, in order; an error is out of memory.
+/// Adds what is wrong with each item, in order; an error means out of memory.
 pub(super) fn each<T, F: Finds<T>>(
     found: &mut Vec<Finding>,
     finder: &F,
     items: &[T],
 ) -> Result<(), AllocError>
-    ensures { OnOk result (found.new.items ≡ found.old.items ++ flat_map (F.finds finder.now) items.now) }
+    ensures { OnOk result
+        (found.new.items ≡ found.old.items ++ flat_map (F.finds finder.now) items.now) }
 {
     for item in items {
         finder.find(found, item)?;
@@ -43,7 +44,7 @@ pub(super) trait Makes<T, V> {
         ensures { result ≡ makes self.now item.now };
 }
 
-/// What is worked out of each item, in order; an error is out of memory.
+/// What is worked out of each item, in order; an error means out of memory.
 pub(super) fn made_of_each<T, V, M: Makes<T, V>>(
     alloc: Global,
     maker: &M,
@@ -84,7 +85,7 @@ pub(super) fn at_number(kind: FindingKind, place: &Number) -> Finding
     )
 }
 
-/// Adds the finding where the condition holds; an error is out of memory.
+/// Adds the finding where the condition holds; an error means out of memory.
 pub(super) fn push_when(
     found: &mut Vec<Finding>,
     holds: bool,

@@ -2,9 +2,9 @@
 -- slave response entry of 10 ms each.
 use Rattle.std.specs.Prelude.{◌≡◌, ℕ, List, [], ◌∷◌, ◌++◌, length, map, replicate, reverse, Some, None}
 use Rattle.std.proofs.Common.{refl}
-use Rattle.lin_parts.specs.declared.parts.Parts.{Parts}
-use Rattle.lin_parts.specs.declared.parts.Entry.TheVariants.{MasterReq, SlaveResp}
-use Rattle.lin_core.specs.History.{time, undecided}
+use Rattle.lin_cluster_parts.specs.declared.parts.Parts.{Parts}
+use Rattle.lin_cluster_parts.specs.declared.parts.Entry.TheVariants.{MasterReq, SlaveResp}
+use Rattle.lin_core.specs.History.{time, undecided_count}
 use Rattle.lin_core.specs.Links.{waiting}
 use Rattle.lin_core.specs.Runs.{history}
 use Rattle.lin_core.specs.Replies.{reply}
@@ -164,11 +164,11 @@ unfolding reply
 refused_in_slots = refl
 
 -- the node that is due in an open slot is counted until it has answered
-pub undecided_before : undecided (after 16 (sends (1 ∷ []) ∷ (Bus, Open) ∷ [])) ≡ 1
+pub undecided_before : undecided_count (after 16 (sends (1 ∷ []) ∷ (Bus, Open) ∷ [])) ≡ 1
 unfolding reply
 undecided_before = refl
 
-pub undecided_after : undecided (after 16 (sends (1 ∷ []) ∷ (Bus, Open) ∷ (Bus, Answer 0) ∷ [])) ≡ 0
+pub undecided_after : undecided_count (after 16 (sends (1 ∷ []) ∷ (Bus, Open) ∷ (Bus, Answer 0) ∷ [])) ≡ 0
 unfolding reply
 undecided_after = refl
 

@@ -4,10 +4,10 @@ use Rattle.std.specs.Prelude.{Option, Some, None, ◌==◌, if◌then◌else◌,
 use Rattle.std.proofs.lemmas.Bool.{ne_eqb}
 use Rattle.std.proofs.lemmas.Bool.Decides.{nat_tests, eqb_tells}
 use Rattle.lin_frame.specs.declared.value.Value.{Value}
-use Rattle.lin_parts.specs.declared.parts.Parts.{Parts}
-use Rattle.lin_parts.specs.Sound.{IsSound}
-use Rattle.lin_core.specs.History.{closed, Slot, has_decided, is_in, leave, open_slot}
-use Rattle.lin_core.specs.kept.Hosts.{fresh, queued, KeepsHost, KeepsSender, sender_now}
+use Rattle.lin_cluster_parts.specs.declared.parts.Parts.{Parts}
+use Rattle.lin_cluster_parts.specs.Sound.{IsSound}
+use Rattle.lin_core.specs.History.{is_host_closed, Slot, has_decided, is_in, leave, open_slot}
+use Rattle.lin_core.specs.kept.Hosts.{fresh, host_after_send, KeepsHost, KeepsSender, sender_now}
 use Rattle.lin_core.specs.kept.State.{KeepsLate, Keeps}
 use Rattle.lin_core.specs.kept.Bus.{KeepsBus}
 use Rattle.lin_core.specs.Links.{Message, link_of}
@@ -24,12 +24,13 @@ use Rattle.lin_core.specs.declared.step.Step.TheVariants.{Send, Write, Leave, Hu
 use Rattle.std.specs.List.{list_any}
 use Rattle.std.proofs.Math.ListN.{length-set}
 use Rattle.std.proofs.lemmas.List.{length-append}
+use Rattle.std.specs.Option.{option_map_or}
 use Rattle.lin_core.specs.kept.Signals.{KeepsSignals}
 use Rattle.lin_core.specs.kept.Slots.{slot_in}
-use Rattle.lin_core.specs.Signals.{carried, carried_by}
-use Rattle.lin_parts.specs.Cluster.{line_of}
-use Rattle.lin_parts.specs.declared.parts.Entry.{Entry}
-use Rattle.lin_parts.specs.declared.parts.Entry.TheVariants.{Frame, Sporadic, Event as EventEntry, MasterReq, SlaveResp, Quiet}
+use Rattle.lin_core.specs.Signals.{carried_frame, carried_by}
+use Rattle.lin_cluster_parts.specs.Cluster.{line_of}
+use Rattle.lin_cluster_parts.specs.declared.parts.Entry.{Entry}
+use Rattle.lin_cluster_parts.specs.declared.parts.Entry.TheVariants.{Frame, Sporadic, Event as EventEntry, MasterReq, SlaveResp, Quiet}
 use Rattle.lin_core.specs.declared.slot.Put.{Put}
 use Rattle.lin_core.proofs.sendings.Hosts.{eqb-self, HostState, IsCount}
 use Rattle.lin_core.proofs.slots.OpenSlots.{or-assoc, or-false}
@@ -39,7 +40,6 @@ use Rattle.lin_schedule.specs.Walker.{Position, Stands, Walks}
 use Rattle.lin_core.specs.Slots.{moves}
 use Rattle.lin_core.specs.declared.signals.Signals.{Signals}
 use Rattle.lin_core.specs.declared.slot.OpenSlot.{OpenSlot}
-use Rattle.lin_frame.specs.Words.{choose}
 use Rattle.lin_core.proofs.kept.Keeping.{all-at, same-hosts}
 use Rattle.lin_core.proofs.kept.SignalKeeping.{signals-same, set-at}
 use Rattle.lin_core.proofs.steps.Known.{Known, ask-known, close-known, entry_is, hurt-known, leave-known, refused-known, switch-known, wake-known, write-known}
@@ -52,7 +52,7 @@ sender-stays c past e h sound k k' rest count = sender-is c (e ∷ past) h sound
 
 -- an entry by which no host's messages change
 pub still-late : (c : Parts) (past : List LogEntry) (e : LogEntry) (bus bus' : BusState) (hosts : List Host) → IsSound c → (k : Known c past) (k' : Known c (e ∷ past)) → ((x : ℕ) → k'.states x ≡ k.states x)
-    → ((x : ℕ) → closed (e ∷ past) x ≡ closed past x) → KeepsBus c (e ∷ past) bus' → KeepsLate c past bus hosts → KeepsLate c (e ∷ past) bus' hosts
+    → ((x : ℕ) → is_host_closed (e ∷ past) x ≡ is_host_closed past x) → KeepsBus c (e ∷ past) bus' → KeepsLate c past bus hosts → KeepsLate c (e ∷ past) bus' hosts
 still-late c past e bus bus' hosts sound k k' same shut kept late = record {
   bus_is = kept;
   each_sender = λ h host at.
@@ -106,7 +106,7 @@ wake-late c past by bus hosts sound k late =
     (record { asleep_is = refl; asked_is = late.bus_is.asked_is; selected_is = late.bus_is.selected_is }) late
 
 -- == a close
-closed-by : (c : Parts) (past : List LogEntry) (by : PortId) (host x : ℕ) (b : Bool) → (host == x) ≡ b → closed (entry_is by (Close host) [] ∷ past) x ≡ (if b then true else closed past x)
+closed-by : (c : Parts) (past : List LogEntry) (by : PortId) (host x : ℕ) (b : Bool) → (host == x) ≡ b → is_host_closed (entry_is by (Close host) [] ∷ past) x ≡ (if b then true else is_host_closed past x)
 closed-by c past by host x true e = rw e refl
 closed-by c past by host x false e = rw e refl
 
@@ -143,11 +143,11 @@ state-more : (c : Parts) (b : Bool) (m : Message) (s : HostState) → IsCount s.
 state-more c true m s i = for-more c s.rest m s.count true i
 state-more c false m s i = refl
 
-same-sender : (c : Parts) (past : List LogEntry) (h place : ℕ) (host : Host) → KeepsSender c past h host → KeepsSender c past h (queued host place)
+same-sender : (c : Parts) (past : List LogEntry) (h place : ℕ) (host : Host) → KeepsSender c past h host → KeepsSender c past h (host_after_send host place)
 same-sender c past h place host k = record { closed_is = k.closed_is; sender_is = k.sender_is }
 
 pub send-late : (c : Parts) (capacity : ℕ) (past : List LogEntry) (by : PortId) (from to : ℕ) (message : List ℕ) (es : List Event) (place : ℕ) (host : Host) (bus : BusState) (hosts hosts' : List Host) → IsSound c → (k : Known c past)
-    → refusal c capacity past by (Send from to message) ≡ None → slice_get hosts from ≡ Some host → hosts' ≡ slice_set hosts from (queued host place) → KeepsLate c past bus hosts
+    → refusal c capacity past by (Send from to message) ≡ None → slice_get hosts from ≡ Some host → hosts' ≡ slice_set hosts from (host_after_send host place) → KeepsLate c past bus hosts
     → KeepsLate c (entry_is by (Send from to message) es ∷ past) bus hosts'
 send-late c capacity past by from to message es place host bus hosts hosts' sound k allowed here set late =
     let e : LogEntry = entry_is by (Send from to message) es
@@ -158,9 +158,9 @@ send-late c capacity past by from to message es place host bus hosts hosts' soun
     in record {
       bus_is = record { asleep_is = late.bus_is.asleep_is; asked_is = late.bus_is.asked_is; selected_is = late.bus_is.selected_is };
       each_sender = λ h x at.
-          elim (set-at hosts from h (queued host place) x (let t : slice_get (slice_set hosts from (queued host place)) h ≡ Some x = rw set at at in t)) [
+          elim (set-at hosts from h (host_after_send host place) x (let t : slice_get (slice_set hosts from (host_after_send host place)) h ≡ Some x = rw set at at in t)) [
             | inl same ↦
-                rw same.1 (subst (λ (y : ℕ). KeepsSender c (e ∷ past) y (queued host place)) same.0 (stays from (queued host place) (same-sender c past from place host (late.each_sender from host here))))
+                rw same.1 (subst (λ (y : ℕ). KeepsSender c (e ∷ past) y (host_after_send host place)) same.0 (stays from (host_after_send host place) (same-sender c past from place host (late.each_sender from host here))))
             | inr differ ↦ stays h x (late.each_sender h x differ.1)
           ];
     }
@@ -292,7 +292,7 @@ carried-same c SlaveResp s t h p = refl
 carried-same c Quiet s t h p = refl
 
 -- what is kept of signals, where the slot's responses are the same
-slot-signals : (c : Parts) (past : List LogEntry) (slot slot' : OpenSlot) (signals : Signals) → slot'.puts ≡ slot.puts → carried c (slot_in slot') ≡ carried c (slot_in slot) → KeepsSignals c past (Some slot) signals → KeepsSignals c past (Some slot') signals
+slot-signals : (c : Parts) (past : List LogEntry) (slot slot' : OpenSlot) (signals : Signals) → slot'.puts ≡ slot.puts → carried_frame c (slot_in slot') ≡ carried_frame c (slot_in slot) → KeepsSignals c past (Some slot) signals → KeepsSignals c past (Some slot') signals
 slot-signals c past slot slot' signals puts carries k = record {
   values_count = k.values_count;
   each_value = k.each_value;
@@ -304,7 +304,7 @@ slot-signals c past slot slot' signals puts carries k = record {
       let same : slot' ≡ s = cc
       in let own : slot.puts.items ≡ p ∷ [] = (let t : slot'.puts.items ≡ p ∷ [] = ap (λ (x : OpenSlot). x.puts.items) same ∙ only in rw puts at t)
       in let o = k.one slot p refl own
-      in let carried_is : carried c (slot_in s) ≡ carried c (slot_in slot) = ap (λ (x : OpenSlot). carried c (slot_in x)) (sym same) ∙ carries
+      in let carried_is : carried_frame c (slot_in s) ≡ carried_frame c (slot_in slot) = ap (λ (x : OpenSlot). carried_frame c (slot_in x)) (sym same) ∙ carries
       in record { written = λ f h. o.written f (sym carried_is ∙ h); own = λ f h. carried_is ∙ o.own f h };
   cleared = λ s is.
       let same : slot' ≡ s = cc
@@ -373,7 +373,7 @@ open-late c opening capacity past by bus hosts sound k allowed late =
     (record { asleep_is = late.bus_is.asleep_is; asked_is = late.bus_is.asked_is; selected_is = late.bus_is.selected_is }) late
 
 pub answer-late : (c : Parts) (capacity : ℕ) (past : List LogEntry) (by : PortId) (node : ℕ) (bus : BusState) (hosts : List Host) → IsSound c → (k : Known c past) → refusal c capacity past by (Answer node) ≡ None → KeepsLate c past bus hosts
-    → KeepsLate c (entry_is by (Answer node) (choose (open_slot past) [] (put_event c past node)) ∷ past) bus hosts
+    → KeepsLate c (entry_is by (Answer node) (option_map_or (put_event c past node) (open_slot past) []) ∷ past) bus hosts
 answer-late c capacity past by node bus hosts sound k allowed late =
-    still-late c past (entry_is by (Answer node) (choose (open_slot past) [] (put_event c past node))) bus bus hosts sound k (answer-known c capacity past by node sound allowed k) (λ x. refl) (λ x. refl)
+    still-late c past (entry_is by (Answer node) (option_map_or (put_event c past node) (open_slot past) [])) bus bus hosts sound k (answer-known c capacity past by node sound allowed k) (λ x. refl) (λ x. refl)
     (record { asleep_is = late.bus_is.asleep_is; asked_is = late.bus_is.asked_is; selected_is = late.bus_is.selected_is }) late

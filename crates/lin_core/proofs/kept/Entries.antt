@@ -2,7 +2,7 @@
 use Rattle.std.proofs.Common.{◌≡◌, ℕ, zero, suc, List, [], ◌∷◌, ◌++◌, reverse, map, length, refl, ap, sym, ◌∙◌}
 use Rattle.std.specs.Prelude.{Option, Some, None, slice_get}
 use Rattle.std.proofs.lemmas.List.{reverse-append, map-append}
-use Rattle.lin_frame.specs.Words.{choose}
+use Rattle.std.specs.Option.{option_map_or}
 use Rattle.lin_core.specs.kept.Hosts.{message_at, sent_in}
 use Rattle.lin_core.specs.Links.{Message}
 use Rattle.lin_core.specs.Core.{CoreData, IsHistory, answered}
@@ -30,7 +30,7 @@ get-last : (log : List LogEntry) (e : LogEntry) → slice_get (log ++ e ∷ []) 
 get-last [] e = refl
 get-last (x ∷ xs) e = get-last xs e
 
-at-stays : (log : List LogEntry) (e : LogEntry) (i : ℕ) (m : Message) (o : Option LogEntry) → slice_get log i ≡ o → choose o None (λ x. sent_in x.step) ≡ Some m → message_at (log ++ e ∷ []) i ≡ Some m
+at-stays : (log : List LogEntry) (e : LogEntry) (i : ℕ) (m : Message) (o : Option LogEntry) → slice_get log i ≡ o → option_map_or (λ x. sent_in x.step) o None ≡ Some m → message_at (log ++ e ∷ []) i ≡ Some m
 at-stays log e i m None g h = cc
 at-stays log e i m (Some x) g h = rw (get-stays log (e ∷ []) i x g) h
 

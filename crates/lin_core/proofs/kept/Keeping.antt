@@ -3,10 +3,9 @@ use Rattle.std.proofs.Common.{◌≡◌, ℕ, suc, ◌+◌, ◌*◌, ◌^◌, �
 use Rattle.std.specs.Prelude.{Option, Some, None, slice_get, slice_set, slice_index_or, is_some, ◌==◌, ◌||◌, if◌then◌else◌, nat_le, All, option_map}
 use Rattle.std.proofs.lemmas.List.{length-map, map-append, append-nil, length-append, length-reverse}
 use Rattle.std.proofs.lemmas.Option.{slice_get_read, slice_get_within, get_or_from_slice_get}
-use Rattle.lin_frame.specs.Words.{choose}
-use Rattle.lin_parts.specs.Cluster.{nodes, line_of}
-use Rattle.lin_parts.specs.declared.parts.Parts.{Parts}
-use Rattle.lin_core.specs.kept.Hosts.{message_at, sent_in, KeepsHost, message_of, queued, fresh}
+use Rattle.lin_cluster_parts.specs.Cluster.{nodes, line_of}
+use Rattle.lin_cluster_parts.specs.declared.parts.Parts.{Parts}
+use Rattle.lin_core.specs.kept.Hosts.{message_at, sent_in, KeepsHost, message_of, host_after_send, fresh}
 use Rattle.lin_core.specs.kept.State.{Keeps}
 use Rattle.lin_core.specs.kept.Signals.{KeepsSignals, Ends}
 use Rattle.lin_core.specs.declared.signals.Signals.{Signals}
@@ -30,16 +29,17 @@ use Rattle.std.proofs.Math.ListN.{length-set}
 use Rattle.lin_schedule.specs.Walker.{Position, Stands, Walks}
 use Rattle.lin_core.specs.declared.slot.OpenSlot.{OpenSlot}
 use Rattle.std.proofs.lemmas.List.Elements.{All-get_or}
+use Rattle.std.specs.Option.{option_map_or}
 use Rattle.lin_core.specs.declared.slot.Put.{Put}
-use Rattle.lin_core.specs.History.{done, open_slot, time, is_clash, told_all}
-use Rattle.lin_parts.specs.Sound.{IsSound}
+use Rattle.lin_core.specs.History.{done, open_slot, time, is_clash, slot_after_events}
+use Rattle.lin_cluster_parts.specs.Sound.{IsSound}
 use Rattle.lin_core.specs.declared.event.Event.TheVariants.{Accepted, Slot as SlotEvent, Due, Put as PutEvent}
 use Rattle.lin_core.specs.declared.step.Step.TheVariants.{Send, Write, Open, Answer, Finish, Switch}
 use Rattle.lin_core.proofs.sendings.Hosts.{HostState}
 use Rattle.lin_core.proofs.steps.Known.{Known, write-known, switch-known}
 use Rattle.lin_core.proofs.steps.Steps.{AllFalse, none-of, both-false, more_if, send-known, open-known, answer-known, told-due}
 use Rattle.lin_core.proofs.sendings.Queues.{waiting-are}
-use Rattle.lin_parts.specs.declared.parts.Entry.{Entry}
+use Rattle.lin_cluster_parts.specs.declared.parts.Entry.{Entry}
 use Rattle.lin_core.specs.Slots.{header, due_nodes, next_due, moves}
 use Rattle.lin_core.specs.declared.event.Event.{Event}
 use Rattle.lin_core.proofs.links.Finishes.{slot_of}
@@ -78,13 +78,13 @@ refused-keeps c opening capacity log past slot clock walker hosts signals by ste
 
 -- == a send
 -- no more messages are accepted than steps made
-accepted-by : (n : ℕ) (ms : List Message) (o : Option Message) → length ms ≤ n → length (choose o ms (λ m. ms ++ m ∷ [])) ≤ suc n
+accepted-by : (n : ℕ) (ms : List Message) (o : Option Message) → length ms ≤ n → length (option_map_or (λ m. ms ++ m ∷ []) o ms) ≤ suc n
 accepted-by n ms None h = omega arith
 accepted-by n ms (Some m) h = simp length-append (omega arith)
 
 pub accepted-few : (past : List LogEntry) (h : ℕ) → length (accepted_from past h) ≤ length past
 accepted-few [] h = omega arith
-accepted-few (e ∷ past) h = accepted-by (length past) (accepted_from past h) (choose (done e) None (sent_from h)) (accepted-few past h)
+accepted-few (e ∷ past) h = accepted-by (length past) (accepted_from past h) (option_map_or (sent_from h) (done e) None) (accepted-few past h)
 
 abbrev pub send_entry : PortId → ℕ → ℕ → List ℕ → ℕ → LogEntry
 send_entry by from to message number = record { port = by; step = Send from to message; reply = Done (Accepted from number ∷ []) }
@@ -99,7 +99,7 @@ send-room c capacity past by from to message h =
     in let far : nat_le (nodes c) from ≡ false = (both-false (nat_le (nodes c) from) (nat_le (nodes c) to) one).0
     in (grind (arith, nat_tests, far), grind (arith, nat_tests, two))
 
-accepted-one : (past : List LogEntry) (e : LogEntry) (from x : ℕ) (m : Message) (b : Bool) → (from == x) ≡ b → choose (done e) None (sent_from x) ≡ (if from == x then Some m else None)
+accepted-one : (past : List LogEntry) (e : LogEntry) (from x : ℕ) (m : Message) (b : Bool) → (from == x) ≡ b → option_map_or (sent_from x) (done e) None ≡ (if from == x then Some m else None)
     → length (accepted_from (e ∷ past) x) ≡ length (accepted_from past x) + (if b then 1 else 0)
 accepted-one past e from x m true t s = rw (s, t) (length-append (accepted_from past x) (m ∷ []))
 accepted-one past e from x m false t s = rw (s, t) (omega arith)
@@ -108,7 +108,7 @@ rest-more : (b : Bool) (m : Message) (s : HostState) → (more_if b m s).rest �
 rest-more true m s = refl
 rest-more false m s = sym (append-nil s.rest)
 
-send-own : (c : Parts) (capacity : ℕ) (log past : List LogEntry) (from x : ℕ) (host other : Host) (m : Message) (e : LogEntry) → (from == x) ≡ true → other ≡ queued host (length log)
+send-own : (c : Parts) (capacity : ℕ) (log past : List LogEntry) (from x : ℕ) (host other : Host) (m : Message) (e : LogEntry) → (from == x) ≡ true → other ≡ host_after_send host (length log)
     → map message_of (waiting c (e ∷ past) x) ≡ map message_of (waiting c past x) ++ (if from == x then m ∷ [] else []) → length (accepted_from (e ∷ past) x) ≡ length (accepted_from past x) + 1 → sent_in e.step ≡ Some m
     → KeepsHost c capacity log past x host → KeepsHost c capacity (log ++ e ∷ []) (e ∷ past) x other
 send-own c capacity log past from x host other m e t is more count s k =
@@ -136,7 +136,7 @@ eqb_true : (a b : ℕ) → a ≡ b → (a == b) ≡ true
 eqb_true a b e = grind (arith, nat_tests, e)
 
 pub send-keeps : (c : Parts) (opening capacity : ℕ) (log past : List LogEntry) (slot : Option OpenSlot) (clock : ℕ) (walker : Position) (hosts hosts' : List Host) (signals : Signals) (host : Host) (by : PortId) (from to : ℕ) (message : List ℕ) (number : ℕ)
-    → IsSound c → Known c past → refusal c capacity past by (Send from to message) ≡ None → slice_get hosts from ≡ Some host → hosts' ≡ slice_set hosts from (queued host (length log))
+    → IsSound c → Known c past → refusal c capacity past by (Send from to message) ≡ None → slice_get hosts from ≡ Some host → hosts' ≡ slice_set hosts from (host_after_send host (length log))
     → Keeps c opening capacity log past slot clock walker hosts signals → Keeps c opening capacity (log ++ send_entry by from to message number ∷ []) (send_entry by from to message number ∷ past) slot clock walker hosts' signals
 send-keeps c opening capacity log past slot clock walker hosts hosts' signals host by from to message number sound known allowed at set k =
     let e : LogEntry = send_entry by from to message number
@@ -151,9 +151,9 @@ send-keeps c opening capacity log past slot clock walker hosts hosts' signals ho
       clock_few = let t = k.clock_few in omega arith;
       stands = k.stands;
       walks = k.walks;
-      hosts_count = rw set (length-set hosts from (queued host (length log)) ∙ k.hosts_count);
+      hosts_count = rw set (length-set hosts from (host_after_send host (length log)) ∙ k.hosts_count);
       each_host = λ x other there.
-          elim (set-at hosts from x (queued host (length log)) other (let t : slice_get (slice_set hosts from (queued host (length log))) x ≡ Some other = rw set at there in t)) [
+          elim (set-at hosts from x (host_after_send host (length log)) other (let t : slice_get (slice_set hosts from (host_after_send host (length log))) x ≡ Some other = rw set at there in t)) [
             | inl same ↦ send-own c capacity log past from x host other m e (eqb_true from x same.0) same.1 (more x) (accepted-one past e from x m true (eqb_true from x same.0) refl) refl
                 (subst (λ (y : ℕ). KeepsHost c capacity log past y host) same.0 (k.each_host from host at))
             | inr differ ↦ send-other c capacity log past from x other m e (ne_eqb from x differ.0) (more x) (accepted-one past e from x m false (ne_eqb from x differ.0) refl) (k.each_host x other differ.1)
@@ -296,18 +296,18 @@ open-keeps c opening capacity log past old slot clock walker hosts signals by so
 -- == an answer
 pub answer-keeps : (c : Parts) (opening capacity : ℕ) (log past : List LogEntry) (slot : OpenSlot) (clock : ℕ) (walker : Position) (hosts : List Host) (signals signals' : Signals) (by : PortId) (node : ℕ) (p : Put)
     → IsSound c → Known c past → refusal c capacity past by (Answer node) ≡ None → p.node ≡ node
-    → PutEvent node p.answer ∷ [] ≡ choose (open_slot past) [] (put_event c past node) → Answers c slot (with_put slot p) p signals signals'
+    → PutEvent node p.answer ∷ [] ≡ option_map_or (put_event c past node) (open_slot past) [] → Answers c slot (with_put slot p) p signals signals'
     → Keeps c opening capacity log past (Some slot) clock walker hosts signals
-    → Keeps c opening capacity (log ++ done_entry by (Answer node) (choose (open_slot past) [] (put_event c past node)) ∷ []) (done_entry by (Answer node) (choose (open_slot past) [] (put_event c past node)) ∷ past)
+    → Keeps c opening capacity (log ++ done_entry by (Answer node) (option_map_or (put_event c past node) (open_slot past) []) ∷ []) (done_entry by (Answer node) (option_map_or (put_event c past node) (open_slot past) []) ∷ past)
     (Some (with_put slot p)) clock walker hosts signals'
 answer-keeps c opening capacity log past slot clock walker hosts signals signals' by node p sound known allowed own told a k =
-    let e : LogEntry = done_entry by (Answer node) (choose (open_slot past) [] (put_event c past node))
+    let e : LogEntry = done_entry by (Answer node) (option_map_or (put_event c past node) (open_slot past) [])
     in let known' : Known c (e ∷ past) = answer-known c capacity past by node sound allowed known
     in let is : open_slot past ≡ Some (slot_in slot) = sym k.slot_is
-    in let put : Some (slot_in (with_put slot p)) ≡ option_map (told_all (PutEvent node p.answer ∷ [])) (open_slot past)
+    in let put : Some (slot_in (with_put slot p)) ≡ option_map (slot_after_events (PutEvent node p.answer ∷ [])) (open_slot past)
     = rw (is, ← own) (ap (λ (ps : List (ℕ × List ℕ)). Some (slot_of slot.table slot.entry slot.header slot.due.items ps slot.left.items slot.hurt)) (map-append put_in slot.puts.items (p ∷ [])))
     in record {
-      slot_is = subst (λ (es : List Event). Some (slot_in (with_put slot p)) ≡ option_map (told_all es) (open_slot past)) told put;
+      slot_is = subst (λ (es : List Event). Some (slot_in (with_put slot p)) ≡ option_map (slot_after_events es) (open_slot past)) told put;
       slot_there = put-open c slot p k.slot_there (answer-free c capacity past by node slot p own allowed is);
       clock_is = k.clock_is;
       clock_few = let t = k.clock_few in omega arith;
@@ -315,7 +315,7 @@ answer-keeps c opening capacity log past slot clock walker hosts signals signals
       walks = k.walks;
       hosts_count = k.hosts_count;
       each_host = λ h host there. same-hosts c capacity log past e sound known known' (λ x. refl) (λ x. refl) h host (k.each_host h host there);
-      signals_are = answer-signals c past by node (choose (open_slot past) [] (put_event c past node)) slot (with_put slot p) p signals signals' a k.signals_are;
+      signals_are = answer-signals c past by node (option_map_or (put_event c past node) (open_slot past) []) slot (with_put slot p) p signals signals' a k.signals_are;
     }
 
 -- == a finish

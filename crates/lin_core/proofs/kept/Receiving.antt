@@ -8,10 +8,10 @@ use Rattle.std.proofs.lemmas.Option.{slice_get_within}
 use Rattle.lin_transport.specs.Transport.{Heard, frame, heard_with, messages_in}
 use Rattle.lin_transport.specs.Transport.Heard.{Frame, Reset}
 use Rattle.lin_transport.specs.Receiver.{Hears, Reception, Stands}
-use Rattle.lin_parts.specs.Cluster.{nad}
-use Rattle.lin_parts.specs.Sound.{IsSound}
-use Rattle.lin_parts.specs.declared.parts.Parts.{Parts}
-use Rattle.lin_core.specs.History.{Slot, asked, open_slot}
+use Rattle.lin_cluster_parts.specs.Cluster.{nad}
+use Rattle.lin_cluster_parts.specs.Sound.{IsSound}
+use Rattle.lin_cluster_parts.specs.declared.parts.Parts.{Parts}
+use Rattle.lin_core.specs.History.{Slot, is_sleep_asked, open_slot}
 use Rattle.lin_core.specs.kept.Receivers.{AreReset, HearsOn, IsReset, KeepsHeard, KeepsReceiver, opposite, receiver_in}
 use Rattle.lin_core.specs.Links.{Link, Message, accepted_from, heard_on, nad_on, reading, same_link, signs}
 use Rattle.lin_core.specs.kept.Slots.{is_still, pdu_of}
@@ -104,7 +104,7 @@ pub record CarriesFrame (c : Parts) (past : List LogEntry) (by : PortId) (k : Kn
   pub heard : (es : List Event) (l : Link) → is_some (nad c l.node) ≡ true
       → heard_on c (entry_is by Finish es ∷ past) l ≡ (if same_link message.link l then heard_by s.hurt (frame (nad_on c message.link) message.bytes (k.states h).count) else []) ++ heard_on c past l
 
-frame-by : (c : Parts) (past : List LogEntry) (by : PortId) (sound : IsSound c) (k : Known c past) (o : Option Slot) (s : Slot) (h : ℕ) → open_slot past ≡ o → SlotIs c (asked past) k.states o → o ≡ Some s → pdu_of s ≡ OfMessage h → CarriesFrame c past by k s h
+frame-by : (c : Parts) (past : List LogEntry) (by : PortId) (sound : IsSound c) (k : Known c past) (o : Option Slot) (s : Slot) (h : ℕ) → open_slot past ≡ o → SlotIs c (is_sleep_asked past) k.states o → o ≡ Some s → pdu_of s ≡ OfMessage h → CarriesFrame c past by k s h
 frame-by c past by sound k None s h is closed e pdu = cc
 frame-by c past by sound k (Some _) s h is (other t p q) e pdu = absurd (let same : t ≡ s = cc in let bad : Nothing ≡ OfMessage h = sym (other-pdu t p q) ∙ ap pdu_of same ∙ pdu in cc)
 frame-by c past by sound k (Some _) s h is (master table entry due left hurt line only w) e pdu =
@@ -142,7 +142,7 @@ pub hurt-heard : (c : Parts) (past : List LogEntry) (by : PortId) (k : Known c p
 hurt-heard c past by k s h i hurt es l a = i.heard es l a ∙ rw (hurt, same-cond (same_link i.message.link l)) refl
 
 -- a slot by which nothing moves adds nothing
-still-by : (c : Parts) (past : List LogEntry) (by : PortId) (es : List Event) (sound : IsSound c) (k : Known c past) (o : Option Slot) (s : Slot) → open_slot past ≡ o → SlotIs c (asked past) k.states o → o ≡ Some s → is_still (pdu_of s) s.hurt ≡ true
+still-by : (c : Parts) (past : List LogEntry) (by : PortId) (es : List Event) (sound : IsSound c) (k : Known c past) (o : Option Slot) (s : Slot) → open_slot past ≡ o → SlotIs c (is_sleep_asked past) k.states o → o ≡ Some s → is_still (pdu_of s) s.hurt ≡ true
     → (l : Link) → is_some (nad c l.node) ≡ true → heard_on c (entry_is by Finish es ∷ past) l ≡ heard_on c past l
 still-by c past by es sound k None s is closed e still l a = cc
 still-by c past by es sound k (Some _) s is (other t p q) e still l a = finish-heard c past by es t l is ∙ ap (λ (x : List Heard). x ++ heard_on c past l) (other-quiet c t l.node l.dir p q).heard
@@ -172,7 +172,7 @@ pub still-heard : (c : Parts) (past : List LogEntry) (by : PortId) (es : List Ev
 still-heard c past by es sound k s is still l a = still-by c past by es sound k (open_slot past) s refl k.slot is still l a
 
 -- the sleep frame resets each receiver
-sleep-by : (c : Parts) (past : List LogEntry) (by : PortId) (es : List Event) (sound : IsSound c) (k : Known c past) (o : Option Slot) (s : Slot) → open_slot past ≡ o → SlotIs c (asked past) k.states o → o ≡ Some s → pdu_of s ≡ Sleep → s.hurt ≡ false
+sleep-by : (c : Parts) (past : List LogEntry) (by : PortId) (es : List Event) (sound : IsSound c) (k : Known c past) (o : Option Slot) (s : Slot) → open_slot past ≡ o → SlotIs c (is_sleep_asked past) k.states o → o ≡ Some s → pdu_of s ≡ Sleep → s.hurt ≡ false
     → (l : Link) → is_some (nad c l.node) ≡ true → heard_on c (entry_is by Finish es ∷ past) l ≡ Reset ∷ heard_on c past l
 sleep-by c past by es sound k None s is closed e pdu calm l a = cc
 sleep-by c past by es sound k (Some _) s is (other t p q) e pdu calm l a = absurd (let same : t ≡ s = cc in let bad : Nothing ≡ Sleep = sym (other-pdu t p q) ∙ ap pdu_of same ∙ pdu in cc)

@@ -1,10 +1,10 @@
 -- The hosts after an entry by which the first message that waits of one of them is settled.
 use Rattle.std.proofs.Common.{◌≡◌, ◌≢◌, ℕ, zero, suc, Bool, true, false, List, [], ◌∷◌, ◌++◌, length, map, refl, ap, sym, ◌∙◌, subst, arith, inl, inr}
 use Rattle.std.specs.Prelude.{Some, None, drop, slice_get, slice_set}
-use Rattle.lin_parts.specs.declared.parts.Parts.{Parts}
-use Rattle.lin_parts.specs.Sound.{IsSound}
-use Rattle.lin_core.specs.History.{closed}
-use Rattle.lin_core.specs.kept.Hosts.{settled, KeepsHost, message_at, message_of, KeepsSender, sender_now}
+use Rattle.lin_cluster_parts.specs.declared.parts.Parts.{Parts}
+use Rattle.lin_cluster_parts.specs.Sound.{IsSound}
+use Rattle.lin_core.specs.History.{is_host_closed}
+use Rattle.lin_core.specs.kept.Hosts.{host_after_settling, KeepsHost, message_at, message_of, KeepsSender, sender_now}
 use Rattle.lin_core.specs.kept.State.{KeepsLate}
 use Rattle.lin_core.specs.kept.Bus.{KeepsBus}
 use Rattle.lin_core.specs.Links.{Fate, Link, Message, accepted_from, host_of, waiting}
@@ -36,7 +36,7 @@ queue-rest log [] m ms e = absurd (cc)
 queue-rest log (i ∷ is) m ms e = let rest : map (message_at log) is ≡ map Some ms = cc in (rest, refl)
 
 pub settled-own : (c : Parts) (capacity : ℕ) (log past : List LogEntry) (e : LogEntry) (h : ℕ) (host : Host) (m : Message) (ms : List Message) → IsSound c → (k : Known c past) (k' : Known c (e ∷ past)) → (k.states h).rest ≡ m ∷ ms → (k'.states h).rest ≡ ms
-    → accepted_from (e ∷ past) h ≡ accepted_from past h → KeepsHost c capacity log past h host → KeepsHost c capacity (log ++ e ∷ []) (e ∷ past) h (settled host)
+    → accepted_from (e ∷ past) h ≡ accepted_from past h → KeepsHost c capacity log past h host → KeepsHost c capacity (log ++ e ∷ []) (e ∷ past) h (host_after_settling host)
 settled-own c capacity log past e h host m ms sound k k' first rest accepted own =
     let queue : map (message_at log) host.queue.items ≡ map Some (m ∷ ms) = own.queue ∙ ap (map Some) (waiting-are c past h sound k ∙ first)
     in let q = queue-rest log host.queue.items m ms queue
@@ -61,24 +61,24 @@ settled-other c capacity log past e x host sound k k' rest accepted own =
 
 pub settled-hosts : (c : Parts) (capacity : ℕ) (log past : List LogEntry) (e : LogEntry) (h : ℕ) (host : Host) (hosts : List Host) → IsSound c → (k : Known c past) (k' : Known c (e ∷ past)) → Settles c past e k k' h → slice_get hosts h ≡ Some host
     → ((x : ℕ) (y : Host) → slice_get hosts x ≡ Some y → KeepsHost c capacity log past x y)
-    → (x : ℕ) (y : Host) → slice_get (slice_set hosts h (settled host)) x ≡ Some y → KeepsHost c capacity (log ++ e ∷ []) (e ∷ past) x y
+    → (x : ℕ) (y : Host) → slice_get (slice_set hosts h (host_after_settling host)) x ≡ Some y → KeepsHost c capacity (log ++ e ∷ []) (e ∷ past) x y
 settled-hosts c capacity log past e h host hosts sound k k' s here each x y at =
-    elim (set-at hosts h x (settled host) y at) [
-      | inl same ↦ rw same.1 (subst (λ (z : ℕ). KeepsHost c capacity (log ++ e ∷ []) (e ∷ past) z (settled host)) same.0 (settled-own c capacity log past e h host s.message s.later sound k k' s.first s.rest (s.accepted h) (each h host here)))
+    elim (set-at hosts h x (host_after_settling host) y at) [
+      | inl same ↦ rw same.1 (subst (λ (z : ℕ). KeepsHost c capacity (log ++ e ∷ []) (e ∷ past) z (host_after_settling host)) same.0 (settled-own c capacity log past e h host s.message s.later sound k k' s.first s.rest (s.accepted h) (each h host here)))
       | inr differ ↦ settled-other c capacity log past e x y sound k k' (s.others x differ.0).0 (s.accepted x) (each x y differ.1)
     ]
 
 pub settled-late : (c : Parts) (past : List LogEntry) (e : LogEntry) (h : ℕ) (host : Host) (bus bus' : BusState) (hosts : List Host) → IsSound c → (k : Known c past) (k' : Known c (e ∷ past)) → Settles c past e k k' h → slice_get hosts h ≡ Some host
-    → ((x : ℕ) → closed (e ∷ past) x ≡ closed past x) → KeepsBus c (e ∷ past) bus' → KeepsLate c past bus hosts → KeepsLate c (e ∷ past) bus' (slice_set hosts h (settled host))
+    → ((x : ℕ) → is_host_closed (e ∷ past) x ≡ is_host_closed past x) → KeepsBus c (e ∷ past) bus' → KeepsLate c past bus hosts → KeepsLate c (e ∷ past) bus' (slice_set hosts h (host_after_settling host))
 settled-late c past e h host bus bus' hosts sound k k' s here shut kept late = record {
   bus_is = kept;
   each_sender = λ x y at.
-      elim (set-at hosts h x (settled host) y at) [
+      elim (set-at hosts h x (host_after_settling host) y at) [
         | inl same ↦
             let own : KeepsSender c past h host = late.each_sender h host here
             in let none : None ≡ sender_now c (e ∷ past) h = sym (sender-is c (e ∷ past) h sound k' ∙ rw s.count refl)
-            in let new : KeepsSender c (e ∷ past) h (settled host) = record { closed_is = own.closed_is ∙ sym (shut h); sender_is = none }
-            in rw same.1 (subst (λ (z : ℕ). KeepsSender c (e ∷ past) z (settled host)) same.0 new)
+            in let new : KeepsSender c (e ∷ past) h (host_after_settling host) = record { closed_is = own.closed_is ∙ sym (shut h); sender_is = none }
+            in rw same.1 (subst (λ (z : ℕ). KeepsSender c (e ∷ past) z (host_after_settling host)) same.0 new)
         | inr differ ↦
             let own : KeepsSender c past x y = late.each_sender x y differ.1
             in let o = s.others x differ.0

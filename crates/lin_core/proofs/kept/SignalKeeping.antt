@@ -6,18 +6,18 @@ use Rattle.std.proofs.Math.ListN.{length-set}
 use Rattle.std.proofs.lemmas.List.{length-map, length-replicate, length-append}
 use Rattle.std.proofs.lemmas.List.Elements.{All-get_or}
 use Rattle.std.proofs.lemmas.List.Folds.{list_any-append}
-use Rattle.lin_frame.specs.Words.{choose}
+use Rattle.std.specs.Option.{option_map_or}
 use Rattle.lin_frame.specs.Bits.{fits_place}
 use Rattle.lin_frame.specs.declared.value.Value.{Value}
-use Rattle.lin_parts.specs.Cluster.{signal_of, frame_of}
-use Rattle.lin_parts.specs.Rules.{place_at, IsCluster}
-use Rattle.lin_parts.specs.declared.parts.Parts.{Parts}
-use Rattle.lin_parts.specs.declared.parts.Signal.{Signal}
+use Rattle.lin_cluster_parts.specs.Cluster.{signal_of, frame_of}
+use Rattle.lin_cluster_parts.specs.Rules.{place_at, IsCluster}
+use Rattle.lin_cluster_parts.specs.declared.parts.Parts.{Parts}
+use Rattle.lin_cluster_parts.specs.declared.parts.Signal.{Signal}
 use Rattle.lin_core.specs.History.{open_slot, good, good_bytes, is_in, seen_by}
-use Rattle.lin_core.specs.kept.Signals.{Ends, KeepsSignals, KeepsOne, cleared_in, is_cleared}
+use Rattle.lin_core.specs.kept.Signals.{Ends, KeepsSignals, KeepsOne, is_cleared_in, is_cleared}
 use Rattle.lin_core.specs.kept.Slots.{put_in, slot_in}
 use Rattle.lin_core.specs.Replies.{refusal, refusals}
-use Rattle.lin_core.specs.Signals.{value, heard, pending, carried, written_since_answer}
+use Rattle.lin_core.specs.Signals.{value, heard_value, is_pending, carried_frame, is_written_since_answer}
 use Rattle.lin_core.specs.declared.event.Event.{Event}
 use Rattle.lin_core.specs.declared.log.LogEntry.{LogEntry}
 use Rattle.lin_core.specs.declared.port.PortId.{PortId}
@@ -31,8 +31,8 @@ use Rattle.lin_core.proofs.slots.OpenSlots.{or-false}
 use Rattle.lin_core.proofs.steps.Steps.{AllFalse, none-of}
 
 -- an entry that changes no value, no frame's being pending, and isn't an answer
-pub signals-same : (c : Parts) (past : List LogEntry) (e : LogEntry) (slot : Option OpenSlot) (signals : Signals) → ((s : ℕ) → value c (e ∷ past) s ≡ value c past s) → ((s : ℕ) → heard c (e ∷ past) s ≡ heard c past s)
-    → ((f : ℕ) → pending c (e ∷ past) f ≡ pending c past f) → ((f : ℕ) → written_since_answer (frame_of c f) (e ∷ past) ≡ written_since_answer (frame_of c f) past) → KeepsSignals c past slot signals → KeepsSignals c (e ∷ past) slot signals
+pub signals-same : (c : Parts) (past : List LogEntry) (e : LogEntry) (slot : Option OpenSlot) (signals : Signals) → ((s : ℕ) → value c (e ∷ past) s ≡ value c past s) → ((s : ℕ) → heard_value c (e ∷ past) s ≡ heard_value c past s)
+    → ((f : ℕ) → is_pending c (e ∷ past) f ≡ is_pending c past f) → ((f : ℕ) → is_written_since_answer (frame_of c f) (e ∷ past) ≡ is_written_since_answer (frame_of c f) past) → KeepsSignals c past slot signals → KeepsSignals c (e ∷ past) slot signals
 signals-same c past e slot signals same-value same-heard same-pending same-written k = record {
   values_count = k.values_count;
   each_value = λ s v at. k.each_value s v at ∙ sym (same-value s);
@@ -51,8 +51,8 @@ signals-same c past e slot signals same-value same-heard same-pending same-writt
 no-cons : (p : Put) (ps : List Put) → ps ≡ [] → ps ≡ p ∷ [] → ⊥
 no-cons p ps e h = let none : length ps ≡ 0 = ap length e in let some : length ps ≡ 1 = ap length h in omega arith
 
-pub open-signals : (c : Parts) (past : List LogEntry) (e : LogEntry) (slot : OpenSlot) (signals : Signals) → slot.puts.items ≡ [] → ((s : ℕ) → value c (e ∷ past) s ≡ value c past s) → ((s : ℕ) → heard c (e ∷ past) s ≡ heard c past s)
-    → ((f : ℕ) → pending c (e ∷ past) f ≡ pending c past f) → KeepsSignals c past None signals → KeepsSignals c (e ∷ past) (Some slot) signals
+pub open-signals : (c : Parts) (past : List LogEntry) (e : LogEntry) (slot : OpenSlot) (signals : Signals) → slot.puts.items ≡ [] → ((s : ℕ) → value c (e ∷ past) s ≡ value c past s) → ((s : ℕ) → heard_value c (e ∷ past) s ≡ heard_value c past s)
+    → ((f : ℕ) → is_pending c (e ∷ past) f ≡ is_pending c past f) → KeepsSignals c past None signals → KeepsSignals c (e ∷ past) (Some slot) signals
 open-signals c past e slot signals empty same-value same-heard same-pending k = record {
   values_count = k.values_count;
   each_value = λ s v at. k.each_value s v at ∙ sym (same-value s);
@@ -147,7 +147,7 @@ write-signals c past by node signal v slot signals signals' fitting w k =
       each_heard = λ s x at. k.each_heard s x (rw w.heard at at);
       pending_count = w.count;
       each_pending = λ f.
-          ap (λ (b : Bool). b || cleared_in slot f) (flag f) ∙ or-if (is_in (frame_of c f).signals signal) (slice_index_or signals.pending.items f false) (cleared_in slot f)
+          ap (λ (b : Bool). b || is_cleared_in slot f) (flag f) ∙ or-if (is_in (frame_of c f).signals signal) (slice_index_or signals.pending.items f false) (is_cleared_in slot f)
           ∙ ap (λ (b : Bool). if is_in (frame_of c f).signals signal then true else b) (k.each_pending f);
       one = λ s p is only.
           let o = k.one s p is only
@@ -159,12 +159,12 @@ write-signals c past by node signal v slot signals signals' fitting w k =
     }
 
 -- == an answer
-pub cleared-by : (b : Bool) (f g : ℕ) → choose (if b then Some f else None) false (λ x. x == g) ≡ (b && (f == g))
+pub cleared-by : (b : Bool) (f g : ℕ) → option_map_or (λ x. x == g) (if b then Some f else None) false ≡ (b && (f == g))
 cleared-by true f g = refl
 cleared-by false f g = refl
 
-cleared-more : (ps : List Put) (p : Put) (g : ℕ) → is_cleared (ps ++ p ∷ []) g ≡ (is_cleared ps g || choose p.cleared false (λ x. x == g))
-cleared-more ps p g = list_any-append (λ (q : Put). choose q.cleared false (λ x. x == g)) ps (p ∷ []) ∙ ap (λ (b : Bool). is_cleared ps g || b) (or-false (choose p.cleared false (λ x. x == g)))
+cleared-more : (ps : List Put) (p : Put) (g : ℕ) → is_cleared (ps ++ p ∷ []) g ≡ (is_cleared ps g || option_map_or (λ x. x == g) p.cleared false)
+cleared-more ps p g = list_any-append (λ (q : Put). option_map_or (λ x. x == g) q.cleared false) ps (p ∷ []) ∙ ap (λ (b : Bool). is_cleared ps g || b) (or-false (option_map_or (λ x. x == g) p.cleared false))
 
 or-swap : (x y : Bool) → (y || x) ≡ (x || y)
 or-swap true true = refl
@@ -178,9 +178,9 @@ pub record Answers (c : Parts) (slot slot' : OpenSlot) (p : Put) (signals signal
   pub values : signals'.values ≡ signals.values
   pub heard : signals'.heard ≡ signals.heard
   pub count : length signals'.pending.items ≡ length signals.pending.items
-  pub flags : (g : ℕ) → (slice_index_or signals'.pending.items g false || choose p.cleared false (λ x. x == g)) ≡ slice_index_or signals.pending.items g false
-  pub carries : slot.puts.items ≡ [] → (g : ℕ) → carried c (slot_in slot') ≡ Some g → slice_index_or signals'.pending.items g false ≡ false
-  pub own : slot.puts.items ≡ [] → (g : ℕ) → choose p.cleared false (λ x. x == g) ≡ true → carried c (slot_in slot') ≡ Some g
+  pub flags : (g : ℕ) → (slice_index_or signals'.pending.items g false || option_map_or (λ x. x == g) p.cleared false) ≡ slice_index_or signals.pending.items g false
+  pub carries : slot.puts.items ≡ [] → (g : ℕ) → carried_frame c (slot_in slot') ≡ Some g → slice_index_or signals'.pending.items g false ≡ false
+  pub own : slot.puts.items ≡ [] → (g : ℕ) → option_map_or (λ x. x == g) p.cleared false ≡ true → carried_frame c (slot_in slot') ≡ Some g
   pub there : IfSome p.cleared (λ f. f < length signals.pending.items)
   pub room_empty : signals'.room.items ≡ []
   pub room_enough : (f : ℕ) → f < length c.frames → length (frame_of c f).signals ≤ vec_capacity signals'.room
@@ -203,7 +203,7 @@ answer-signals c past by node es slot slot' p signals signals' a k = record {
   pending_count = a.count ∙ k.pending_count;
   each_pending = λ g.
       ap (λ (b : Bool). slice_index_or signals'.pending.items g false || b) (ap (λ (ps : List Put). is_cleared ps g) a.puts ∙ cleared-more slot.puts.items p g)
-      ∙ or-both (slice_index_or signals'.pending.items g false) (slice_index_or signals.pending.items g false) (is_cleared slot.puts.items g) (choose p.cleared false (λ x. x == g)) (a.flags g)
+      ∙ or-both (slice_index_or signals'.pending.items g false) (slice_index_or signals.pending.items g false) (is_cleared slot.puts.items g) (option_map_or (λ x. x == g) p.cleared false) (a.flags g)
       ∙ k.each_pending g;
   one = λ s q is only.
       let same : slot' ≡ s = cc
@@ -229,7 +229,7 @@ and-none false = refl
 
 -- the flags where the response carries a frame
 pub cleared-flags : (flags : List Bool) (f g : ℕ) → f < length flags
-    → (slice_index_or (slice_set flags f false) g false || choose (if slice_index_or flags f false then Some f else None) false (λ x. x == g)) ≡ slice_index_or flags g false
+    → (slice_index_or (slice_set flags f false) g false || option_map_or (λ x. x == g) (if slice_index_or flags f false then Some f else None) false) ≡ slice_index_or flags g false
 cleared-flags flags f g l = elim (eqb_tells f g) [
   | inl same ↦
       rw (cleared-by (slice_index_or flags f false) f g, same.0) (subst (λ (n : ℕ). (slice_index_or (slice_set flags f false) n false || (slice_index_or flags f false && true)) ≡ slice_index_or flags n false) same.1
@@ -258,12 +258,12 @@ good-of (Some h) (p ∷ q ∷ ps) hurt e = cc
 pub good-one : (slot : OpenSlot) → is_some (good (slot_in slot)) ≡ true → (p : Put) × (slot.puts.items ≡ p ∷ [])
 good-one slot e = good-of slot.header slot.puts.items slot.hurt e
 
-only-cleared : (ps : List Put) (p : Put) (f : ℕ) → ps ≡ p ∷ [] → is_cleared ps f ≡ true → choose p.cleared false (λ g. g == f) ≡ true
-only-cleared ps p f e h = sym (or-false (choose p.cleared false (λ g. g == f))) ∙ (let t : is_cleared (p ∷ []) f ≡ true = rw e at h in t)
+only-cleared : (ps : List Put) (p : Put) (f : ℕ) → ps ≡ p ∷ [] → is_cleared ps f ≡ true → option_map_or (λ g. g == f) p.cleared false ≡ true
+only-cleared ps p f e h = sym (or-false (option_map_or (λ g. g == f) p.cleared false)) ∙ (let t : is_cleared (p ∷ []) f ≡ true = rw e at h in t)
 
 -- the flag of a frame after a slot that was seen good, with one response
 good-flag : (k : Option ℕ) (x f : ℕ) (flag cleared written : Bool) (p : Bool) → ((g : ℕ) → k ≡ Some g → g ≡ f → flag ≡ written) → (cleared ≡ true → k ≡ Some f) → (flag || cleared) ≡ p
-    → flag ≡ (if choose k false (λ g. g == f) then written else p)
+    → flag ≡ (if option_map_or (λ g. g == f) k false then written else p)
 good-flag None x f flag true written p w o e = absurd (let bad : None ≡ Some f = o refl in cc)
 good-flag None x f flag false written p w o e = sym (or-false flag) ∙ e
 good-flag (Some g) x f flag cleared written p w o e = elim (eqb_tells g f) [
@@ -282,16 +282,16 @@ finish-signals c past by es slot signals signals' is n k = record {
   values_count = rw n.values k.values_count;
   each_value = rw n.values k.each_value;
   heard_count = n.heard_count ∙ k.heard_count;
-  each_heard = rw is (n.heard (heard c past) k.each_heard);
+  each_heard = rw is (n.heard (heard_value c past) k.each_heard);
   pending_count = n.count ∙ k.pending_count;
   each_pending = λ f.
       rw is (finish-flag (is_some (good (slot_in slot))) (slice_index_or signals.pending.items f false) (slice_index_or signals'.pending.items f false) (is_cleared slot.puts.items f)
-      (choose (carried c (slot_in slot)) false (λ g. g == f)) (written_since_answer (frame_of c f) past) (pending c past f) (n.pending f)
+      (option_map_or (λ g. g == f) (carried_frame c (slot_in slot)) false) (is_written_since_answer (frame_of c f) past) (is_pending c past f) (n.pending f)
       (λ yes.
       let one = good-one slot yes
       in let o = k.one slot one.0 refl one.1
-      in good-flag (carried c (slot_in slot)) 0 f (slice_index_or signals.pending.items f false) (is_cleared slot.puts.items f) (written_since_answer (frame_of c f) past) (pending c past f)
-      (λ g h same. subst (λ (m : ℕ). slice_index_or signals.pending.items m false ≡ written_since_answer (frame_of c m) past) same (o.written g h))
+      in good-flag (carried_frame c (slot_in slot)) 0 f (slice_index_or signals.pending.items f false) (is_cleared slot.puts.items f) (is_written_since_answer (frame_of c f) past) (is_pending c past f)
+      (λ g h same. subst (λ (m : ℕ). slice_index_or signals.pending.items m false ≡ is_written_since_answer (frame_of c m) past) same (o.written g h))
       (λ h. o.own f (only-cleared slot.puts.items one.0 f one.1 h)) (k.each_pending f))
       (k.each_pending f));
   one = λ s p none. absurd (cc);

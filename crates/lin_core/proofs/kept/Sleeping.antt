@@ -4,11 +4,11 @@ use Rattle.std.specs.Prelude.{Option, Some, None, flat_map, option_map, slice_ge
 use Rattle.std.proofs.lemmas.List.{length-map}
 use Rattle.lin_frame.specs.Words.{numbers}
 use Rattle.lin_transport.specs.Sender.{Sending as Sender}
-use Rattle.lin_parts.specs.Cluster.{nodes}
-use Rattle.lin_parts.specs.declared.parts.Parts.{Parts}
-use Rattle.lin_parts.specs.Sound.{IsSound}
-use Rattle.lin_core.specs.History.{closed}
-use Rattle.lin_core.specs.kept.Hosts.{losses, losses_of, lost_of, settled, slept, KeepsHost, message_of, KeepsSender, sender_now}
+use Rattle.lin_cluster_parts.specs.Cluster.{nodes}
+use Rattle.lin_cluster_parts.specs.declared.parts.Parts.{Parts}
+use Rattle.lin_cluster_parts.specs.Sound.{IsSound}
+use Rattle.lin_core.specs.History.{is_host_closed}
+use Rattle.lin_core.specs.kept.Hosts.{losses, losses_of, loss_of, host_after_settling, host_after_sleep, KeepsHost, message_of, KeepsSender, sender_now}
 use Rattle.lin_core.specs.kept.State.{KeepsLate, IsKept, Stage}
 use Rattle.lin_core.specs.kept.Bus.{KeepsBus}
 use Rattle.lin_core.specs.Links.{Link, Message, accepted_from, waiting}
@@ -42,10 +42,10 @@ abbrev MarkedAt : (c : Parts) (past : List LogEntry) (e : LogEntry) → Known c 
 MarkedAt c past e k k' x = k'.states x ≡ marked all_links Slept (k.states x).done (k.states x).rest (k.states x).count
 
 sleeps-by : (c : Parts) (capacity : ℕ) (log past : List LogEntry) (e : LogEntry) (x : ℕ) (host : Host) → IsSound c → (k : Known c past) (k' : Known c (e ∷ past)) → MarkedAt c past e k k' x → accepted_from (e ∷ past) x ≡ accepted_from past x
-    → KeepsHost c capacity log past x host → (rest : List Message) (count : ℕ) → (k.states x).rest ≡ rest → (k.states x).count ≡ count → IsCount rest count → host.sender ≡ sender_for c rest count → Sleeps c capacity log past e x (slept host)
+    → KeepsHost c capacity log past x host → (rest : List Message) (count : ℕ) → (k.states x).rest ≡ rest → (k.states x).count ≡ count → IsCount rest count → host.sender ≡ sender_for c rest count → Sleeps c capacity log past e x (host_after_sleep host)
 sleeps-by c capacity log past e x host sound k k' is accepted own rest zero r n i s =
     let none : host.sender ≡ None = s
-    in let same : host ≡ slept host = rw none refl
+    in let same : host ≡ host_after_sleep host = rw none refl
     in let rest' : (k'.states x).rest ≡ (k.states x).rest = ap (λ (z : HostState). z.rest) is ∙ rw n refl
     in let count' : (k'.states x).count ≡ 0 = ap (λ (z : HostState). z.count) is ∙ rw n refl
     in subst (Sleeps c capacity log past e x) same
@@ -55,7 +55,7 @@ sleeps-by c capacity log past e x host sound k k' is accepted own rest zero r n 
     })
 sleeps-by c capacity log past e x host sound k k' is accepted own [] (suc j) r n i s = absurd i
 sleeps-by c capacity log past e x host sound k k' is accepted own (m ∷ ms) (suc j) r n i s =
-    let same : settled host ≡ slept host = rw s refl
+    let same : host_after_settling host ≡ host_after_sleep host = rw s refl
     in let rest' : (k'.states x).rest ≡ ms = ap (λ (z : HostState). z.rest) is ∙ rw (r, n) refl
     in let count' : (k'.states x).count ≡ 0 = ap (λ (z : HostState). z.count) is ∙ rw (r, n) refl
     in subst (Sleeps c capacity log past e x) same
@@ -65,38 +65,38 @@ sleeps-by c capacity log past e x host sound k k' is accepted own (m ∷ ms) (su
     })
 
 sleeps-at : (c : Parts) (capacity : ℕ) (log past : List LogEntry) (e : LogEntry) (x : ℕ) (host : Host) → IsSound c → (k : Known c past) (k' : Known c (e ∷ past)) → MarkedAt c past e k k' x → accepted_from (e ∷ past) x ≡ accepted_from past x
-    → KeepsHost c capacity log past x host → KeepsSender c past x host → Sleeps c capacity log past e x (slept host)
+    → KeepsHost c capacity log past x host → KeepsSender c past x host → Sleeps c capacity log past e x (host_after_sleep host)
 sleeps-at c capacity log past e x host sound k k' is accepted own late =
     sleeps-by c capacity log past e x host sound k k' is accepted own (k.states x).rest (k.states x).count refl refl (k.hosts x).counts (late.sender_is ∙ sender-is c past x sound k)
 
-slept-closed : (host : Host) (o : Option Sender) → host.sender ≡ o → (slept host).closed ≡ host.closed
+slept-closed : (host : Host) (o : Option Sender) → host.sender ≡ o → (host_after_sleep host).closed ≡ host.closed
 slept-closed host None e = rw e refl
 slept-closed host (Some s) e = rw e refl
 
 -- the host that was there before
-was-there : (hosts hosts' : List Host) (x : ℕ) (y : Host) (o : Option Host) → slice_get hosts x ≡ o → slice_get hosts' x ≡ option_map slept o → slice_get hosts' x ≡ Some y → (host : Host) × (slice_get hosts x ≡ Some host) × (y ≡ slept host)
+was-there : (hosts hosts' : List Host) (x : ℕ) (y : Host) (o : Option Host) → slice_get hosts x ≡ o → slice_get hosts' x ≡ option_map host_after_sleep o → slice_get hosts' x ≡ Some y → (host : Host) × (slice_get hosts x ≡ Some host) × (y ≡ host_after_sleep host)
 was-there hosts hosts' x y None e s at = absurd (let bad : None ≡ Some y = sym s ∙ at in cc)
 was-there hosts hosts' x y (Some host) e s at =
-    let both : Some y ≡ Some (slept host) = sym at ∙ s
+    let both : Some y ≡ Some (host_after_sleep host) = sym at ∙ s
     in (host, e, cc)
 
 pub sleeping-hosts : (c : Parts) (capacity : ℕ) (log past : List LogEntry) (e : LogEntry) (bus : BusState) (hosts hosts' : List Host) → IsSound c → (k : Known c past) (k' : Known c (e ∷ past)) → ((x : ℕ) → MarkedAt c past e k k' x)
-    → ((x : ℕ) → accepted_from (e ∷ past) x ≡ accepted_from past x) → ((x : ℕ) → slice_get hosts' x ≡ option_map slept (slice_get hosts x)) → ((x : ℕ) (y : Host) → slice_get hosts x ≡ Some y → KeepsHost c capacity log past x y) → KeepsLate c past bus hosts
+    → ((x : ℕ) → accepted_from (e ∷ past) x ≡ accepted_from past x) → ((x : ℕ) → slice_get hosts' x ≡ option_map host_after_sleep (slice_get hosts x)) → ((x : ℕ) (y : Host) → slice_get hosts x ≡ Some y → KeepsHost c capacity log past x y) → KeepsLate c past bus hosts
     → (x : ℕ) (y : Host) → slice_get hosts' x ≡ Some y → KeepsHost c capacity (log ++ e ∷ []) (e ∷ past) x y
 sleeping-hosts c capacity log past e bus hosts hosts' sound k k' is accepted slept_are each late x y at =
     let b = was-there hosts hosts' x y (slice_get hosts x) refl (slept_are x) at
     in rw b.2 (sleeps-at c capacity log past e x b.0 sound k k' (is x) (accepted x) (each x b.0 b.1) (late.each_sender x b.0 b.1)).kept
 
 pub sleeping-late : (c : Parts) (capacity : ℕ) (log past : List LogEntry) (e : LogEntry) (bus bus' : BusState) (hosts hosts' : List Host) → IsSound c → (k : Known c past) (k' : Known c (e ∷ past)) → ((x : ℕ) → MarkedAt c past e k k' x)
-    → ((x : ℕ) → accepted_from (e ∷ past) x ≡ accepted_from past x) → ((x : ℕ) → closed (e ∷ past) x ≡ closed past x) → ((x : ℕ) → slice_get hosts' x ≡ option_map slept (slice_get hosts x))
+    → ((x : ℕ) → accepted_from (e ∷ past) x ≡ accepted_from past x) → ((x : ℕ) → is_host_closed (e ∷ past) x ≡ is_host_closed past x) → ((x : ℕ) → slice_get hosts' x ≡ option_map host_after_sleep (slice_get hosts x))
     → ((x : ℕ) (y : Host) → slice_get hosts x ≡ Some y → KeepsHost c capacity log past x y) → KeepsBus c (e ∷ past) bus' → KeepsLate c past bus hosts → KeepsLate c (e ∷ past) bus' hosts'
 sleeping-late c capacity log past e bus bus' hosts hosts' sound k k' is accepted shut slept_are each kept late = record {
   bus_is = kept;
   each_sender = λ x y at.
       let b = was-there hosts hosts' x y (slice_get hosts x) refl (slept_are x) at
       in let own : KeepsSender c past x b.0 = late.each_sender x b.0 b.1
-      in let s : Sleeps c capacity log past e x (slept b.0) = sleeps-at c capacity log past e x b.0 sound k k' (is x) (accepted x) (each x b.0 b.1) own
-      in let new : KeepsSender c (e ∷ past) x (slept b.0) = record { closed_is = slept-closed b.0 b.0.sender refl ∙ own.closed_is ∙ sym (shut x); sender_is = s.sender }
+      in let s : Sleeps c capacity log past e x (host_after_sleep b.0) = sleeps-at c capacity log past e x b.0 sound k k' (is x) (accepted x) (each x b.0 b.1) own
+      in let new : KeepsSender c (e ∷ past) x (host_after_sleep b.0) = record { closed_is = slept-closed b.0 b.0.sender refl ∙ own.closed_is ∙ sym (shut x); sender_is = s.sender }
       in rw b.2 new;
 }
 
@@ -111,11 +111,11 @@ settled-are c capacity log past x host sound k own =
     in omega arith
 
 lost-by : (c : Parts) (k : ℕ → HostState) (x : ℕ) (host : Host) (rest : List Message) (count : ℕ) → (k x).rest ≡ rest → (k x).count ≡ count → IsCount rest count → host.sender ≡ sender_for c rest count
-    → host.settled + 1 ≡ suc (length (k x).done) → lost_of x host ≡ lost_by k all_links Slept x
+    → host.settled + 1 ≡ suc (length (k x).done) → loss_of x host ≡ lost_by k all_links Slept x
 lost-by c k x host rest zero r n i s number = rw (s, n) refl
 lost-by c k x host [] (suc j) r n i s number = absurd i
 lost-by c k x host (m ∷ ms) (suc j) r n i s number =
-    let own : lost_of x host ≡ LostEvent x (host.settled + 1) Slept ∷ [] = rw s refl
+    let own : loss_of x host ≡ LostEvent x (host.settled + 1) Slept ∷ [] = rw s refl
     in let told : lost_by k all_links Slept x ≡ LostEvent x (suc (length (k x).done)) Slept ∷ [] = rw (r, n) refl
     in own ∙ ap (λ (z : ℕ). LostEvent x z Slept ∷ []) number ∙ sym told
 
@@ -134,7 +134,7 @@ losses-are a w k =
     let y = get-there hosts x l
     in let own : KeepsHost a.cluster a.capacity a.log (past_in a) x y.0 = w.kept.each_host x y.0 y.1
     in let s = w.late.each_sender x y.0 y.1
-    in let at : losses_of hosts x ≡ lost_of x y.0 = rw y.1 refl
+    in let at : losses_of hosts x ≡ loss_of x y.0 = rw y.1 refl
     in at ∙ lost-by a.cluster k.states x y.0 (k.states x).rest (k.states x).count refl refl (k.hosts x).counts (s.sender_is ∙ sender-is a.cluster (past_in a) x w.sound k) (settled-are a.cluster a.capacity a.log (past_in a) x y.0 w.sound k own))
     ∙ ap (λ (n : ℕ). flat_map (lost_by k.states all_links Slept) (numbers n)) w.kept.hosts_count
 

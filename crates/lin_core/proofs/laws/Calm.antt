@@ -3,21 +3,21 @@ use Rattle.lin_core.specs.Law.{outcomes_of, NoneLost, is_calm, ReadsAll}
 use Rattle.std.proofs.Common.{◌≡◌, ℕ, Bool, true, false, List, [], ◌∷◌, ◌++◌, map, refl, ap, sym, ◌∙◌}
 use Rattle.std.specs.Prelude.{⊤, Option, Some, None, cond, ◌==◌, if◌then◌else◌, is_some, option_map, filter}
 use Rattle.std.proofs.lemmas.List.{append-nil}
-use Rattle.lin_frame.specs.Words.{choose}
-use Rattle.lin_parts.specs.declared.parts.Parts.{Parts}
-use Rattle.lin_parts.specs.Cluster.{nad, line_of}
-use Rattle.lin_core.specs.History.{Slot, open_slot, told_all, leave, hurt, asked, done}
+use Rattle.std.specs.Option.{option_map_or}
+use Rattle.lin_cluster_parts.specs.declared.parts.Parts.{Parts}
+use Rattle.lin_cluster_parts.specs.Cluster.{nad, line_of}
+use Rattle.lin_core.specs.History.{Slot, open_slot, slot_after_events, leave, slot_after_hurt, is_sleep_asked, done}
 use Rattle.lin_core.specs.Links.{Link, link_of, Message, host_of, accepted_from, Fate, nad_on, signs, heard_on, blocks, waits, is_waiting, sendings, Sending}
 use Rattle.lin_core.specs.Slots.{put, header, due_nodes, next_due}
 use Rattle.lin_core.specs.Replies.{refusal, put_event, done_events, reply}
-use Rattle.lin_parts.specs.Sound.{IsSound}
+use Rattle.lin_cluster_parts.specs.Sound.{IsSound}
 use Rattle.lin_core.specs.declared.log.LogEntry.{LogEntry}
 use Rattle.lin_core.specs.declared.port.PortId.{PortId}
 use Rattle.lin_core.specs.declared.step.Step.{Step}
 use Rattle.lin_core.specs.declared.step.Step.TheVariants.{Send, Write, Open, Answer, Leave, Hurt, Finish, Timeout, Switch, AskSleep, Wake, Close}
 use Rattle.lin_core.specs.declared.event.Event.{Event}
 use Rattle.lin_core.specs.declared.event.Event.TheVariants.{Put as PutEvent}
-use Rattle.lin_parts.specs.declared.parts.Entry.{Entry}
+use Rattle.lin_cluster_parts.specs.declared.parts.Entry.{Entry}
 use Rattle.lin_core.specs.declared.reply.Reply.TheVariants.{Done, Refused}
 use Rattle.lin_core.specs.declared.reply.Refusal.{Refusal}
 use Rattle.lin_core.proofs.sendings.Hosts.{HostState, IsLink, on_link, part, message_of, on, plain, AllDone, outcome}
@@ -60,11 +60,11 @@ if-sent-state : (b : Bool) (x y : HostState) → AllSent x.done → AllSent y.do
 if-sent-state true x y p q = p
 if-sent-state false x y p q = q
 
-told-unhurt : (o : Option ℕ) (n : ℕ) (f : ℕ → List ℕ) (s : Slot) → (told_all (choose o [] (λ h. PutEvent n (f h) ∷ [])) s).hurt ≡ s.hurt
+told-unhurt : (o : Option ℕ) (n : ℕ) (f : ℕ → List ℕ) (s : Slot) → (slot_after_events (option_map_or (λ h. PutEvent n (f h) ∷ []) o []) s).hurt ≡ s.hurt
 told-unhurt None n f s = refl
 told-unhurt (Some h) n f s = refl
 
-answer-unhurt : (c : Parts) (past : List LogEntry) (node : ℕ) (o : Option Slot) → is_hurt o ≡ false → is_hurt (option_map (told_all (choose o [] (put_event c past node))) o) ≡ false
+answer-unhurt : (c : Parts) (past : List LogEntry) (node : ℕ) (o : Option Slot) → is_hurt o ≡ false → is_hurt (option_map (slot_after_events (option_map_or (put_event c past node) o [])) o) ≡ false
 answer-unhurt c past node None h = refl
 answer-unhurt c past node (Some s) h = told-unhurt s.header node (λ x. put c past (line_of c s.table s.entry).entry x node) s ∙ h
 
@@ -72,7 +72,7 @@ leave-unhurt : (node : ℕ) (o : Option Slot) → is_hurt o ≡ false → is_hur
 leave-unhurt node None h = refl
 leave-unhurt node (Some s) h = h
 
-finish-calm : (c : Parts) (past : List LogEntry) (port : PortId) (es : List Event) (sound : IsSound c) (k : Known c past) (o : Option Slot) (is : open_slot past ≡ o) (shape : SlotIs c (asked past) k.states o)
+finish-calm : (c : Parts) (past : List LogEntry) (port : PortId) (es : List Event) (sound : IsSound c) (k : Known c past) (o : Option Slot) (is : open_slot past ≡ o) (shape : SlotIs c (is_sleep_asked past) k.states o)
     → (is_calm past ≡ true → Calm past k.states) → is_calm (finish_entry port es ∷ past) ≡ true → (x : ℕ) → AllSent ((finish-known c past port es sound k o is shape).states x).done
 finish-calm c past port es sound k None is closed p q x = (p (and-parts _ (is_calm past) q).1).sent x
 finish-calm c past port es sound k (Some _) is (other s a b) p q x = (p (and-parts _ (is_calm past) q).1).sent x
@@ -87,8 +87,8 @@ finish-calm c past port es sound k (Some _) is (carries table entry due left fal
     in if-sent-state (h == x) (advanced false (is_last m.bytes j) (k.states h).done m ms j) (k.states x) (advanced-sent (is_last m.bytes j) (k.states h) m ms j (a.sent h)) (a.sent x)
 
 step-calm : (c : Parts) (opening capacity : ℕ) (past : List LogEntry) (port : PortId) (step : Step) (sound : IsSound c) (k : Known c past) (r : Option Refusal) (e : refusal c capacity past port step ≡ r)
-    → (is_calm past ≡ true → Calm past k.states) → is_calm (record { port = port; step = step; reply = choose r (Done (done_events c opening past port step)) Refused } ∷ past) ≡ true
-    → Calm (record { port = port; step = step; reply = choose r (Done (done_events c opening past port step)) Refused } ∷ past) (step-known c opening capacity past port step sound k r e).states
+    → (is_calm past ≡ true → Calm past k.states) → is_calm (record { port = port; step = step; reply = option_map_or Refused r (Done (done_events c opening past port step)) } ∷ past) ≡ true
+    → Calm (record { port = port; step = step; reply = option_map_or Refused r (Done (done_events c opening past port step)) } ∷ past) (step-known c opening capacity past port step sound k r e).states
 step-calm c opening capacity past port step sound k (Some r) e p q = record { unhurt = (p q).unhurt; sent = (p q).sent }
 step-calm c opening capacity past port (Send from to message) sound k None e p q = record { unhurt = (p q).unhurt; sent = λ x. send-sent (from == x) (record { link = link_of from to; bytes = message }) (k.states x) ((p q).sent x) }
 step-calm c opening capacity past port (Write by signal value) sound k None e p q = record { unhurt = (p q).unhurt; sent = (p q).sent }

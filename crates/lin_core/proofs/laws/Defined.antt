@@ -2,15 +2,15 @@
 use Rattle.lin_core.proofs.examples.Rows.{cluster_a}
 use Rattle.std.proofs.Common.{◌≡◌, ℕ, zero, suc, ◌≤◌, ◌<◌, Bool, true, false, List, [], ◌∷◌, ◌++◌, length, map, refl, sym, ◌∙◌, arith}
 use Rattle.std.specs.Prelude.{Option, Some, None, if◌then◌else◌, zip, slice_index_or, drop}
-use Rattle.lin_frame.specs.Words.{choose, numbers}
+use Rattle.lin_frame.specs.Words.{numbers}
 use Rattle.lin_transport.specs.Transport.{frames}
-use Rattle.lin_parts.specs.declared.parts.Parts.{Parts}
-use Rattle.lin_parts.specs.Cluster.{nad, nodes, line_of}
-use Rattle.lin_core.specs.History.{Slot, open_slot, seen, reply_events, done, done_step, events}
+use Rattle.lin_cluster_parts.specs.declared.parts.Parts.{Parts}
+use Rattle.lin_cluster_parts.specs.Cluster.{nad, nodes, line_of}
+use Rattle.lin_core.specs.History.{Slot, open_slot, seen_of, reply_events, done, done_step, events}
 use Rattle.lin_core.specs.Links.{Link, host_of, Sign, Fate, waits, frames_of, reading, fate, is_waiting, Sending, sendings, fate_of}
 use Rattle.lin_core.specs.Slots.{put, due_nodes, next_due}
 use Rattle.lin_core.specs.Replies.{refusal, put_event, done_events, reply, receiver_of, report, reports, all_reports, new_messages, all_links, quiet_entry, sleeps}
-use Rattle.lin_parts.specs.Sound.{IsSound}
+use Rattle.lin_cluster_parts.specs.Sound.{IsSound}
 use Rattle.lin_core.specs.declared.log.LogEntry.{LogEntry}
 use Rattle.lin_core.specs.declared.port.PortId.{PortId}
 use Rattle.lin_core.specs.declared.step.Step.{Step}
@@ -23,6 +23,7 @@ use Rattle.lin_core.specs.Links.Fate.{Waiting, Sent, Lost}
 use Rattle.lin_core.specs.Runs.{history, entry_of}
 use Rattle.lin_core.specs.Law.{InOrder, IsPrefix}
 use Rattle.std.specs.List.{flat_map}
+use Rattle.std.specs.Option.{option_map_or}
 use Rattle.lin_core.specs.Defined.{AreDefined, TellsDue}
 use Rattle.lin_core.specs.declared.reply.Reply.{Reply}
 
@@ -30,7 +31,7 @@ both : (c : Parts) (o : ℕ) (d : Option Step) (past : List LogEntry) (xs ys : L
 both c o d past [] ys p q = q
 both c o d past (x ∷ xs) ys p q = (p.0, both c o d past xs ys p.1 q)
 
-seen-defined : (c : Parts) (o : ℕ) (d : Option Step) (past : List LogEntry) (s : Option Slot) → AreDefined c o d past (choose s [] (λ s. SeenEvent (seen s) ∷ []))
+seen-defined : (c : Parts) (o : ℕ) (d : Option Step) (past : List LogEntry) (s : Option Slot) → AreDefined c o d past (option_map_or (λ s. SeenEvent (seen_of s) ∷ []) s [])
 seen-defined c o d past None = tt
 seen-defined c o d past (Some s) = (tt, tt)
 
@@ -65,16 +66,16 @@ due-defined c o past [] = tt
 due-defined c o past (n ∷ ns) = (refl, due-defined c o past ns)
 
 put-defined : (c : Parts) (o : ℕ) (d : Option Step) (past : List LogEntry) (node : ℕ) (s : Slot) (h : Option ℕ) → open_slot past ≡ Some s → s.header ≡ h
-    → AreDefined c o d past (choose h [] (λ x. PutEvent node (put c past (line_of c s.table s.entry).entry x node) ∷ []))
+    → AreDefined c o d past (option_map_or (λ x. PutEvent node (put c past (line_of c s.table s.entry).entry x node) ∷ []) h [])
 put-defined c o d past node s None is e = tt
 put-defined c o d past node s (Some x) is e = ((s, x, is, e, refl), tt)
 
-answer-defined : (c : Parts) (o : ℕ) (d : Option Step) (past : List LogEntry) (node : ℕ) (s : Option Slot) → open_slot past ≡ s → AreDefined c o d past (choose s [] (put_event c past node))
+answer-defined : (c : Parts) (o : ℕ) (d : Option Step) (past : List LogEntry) (node : ℕ) (s : Option Slot) → open_slot past ≡ s → AreDefined c o d past (option_map_or (put_event c past node) s [])
 answer-defined c o d past node None is = tt
 answer-defined c o d past node (Some s) is = put-defined c o d past node s s.header is refl
 
 abbrev given : Parts → ℕ → List LogEntry → PortId → Step → Option Refusal → Reply
-given c opening past port step r = choose r (Done (done_events c opening past port step)) Refused
+given c opening past port step r = option_map_or Refused r (Done (done_events c opening past port step))
 
 step-defined : (c : Parts) (opening : ℕ) (past : List LogEntry) (port : PortId) (step : Step) (r : Option Refusal)
     → AreDefined c opening (done_step (given c opening past port step r) step) past (reply_events (given c opening past port step r))
@@ -88,7 +89,7 @@ step-defined c o past port (Hurt bytes) None = tt
 step-defined c o past port Finish None =
     let e : LogEntry = quiet_entry port Finish
     in let d : Option Step = Some Finish
-    in let A : List Event = choose (open_slot past) [] (λ s. SeenEvent (seen s) ∷ [])
+    in let A : List Event = option_map_or (λ s. SeenEvent (seen_of s) ∷ []) (open_slot past) []
     in let B : List Event = flat_map (new_messages c e past) (all_links c)
     in let C : List Event = if sleeps past then SleepEvent ∷ [] else []
     in both c o d past ((A ++ B) ++ C) (all_reports c e past)

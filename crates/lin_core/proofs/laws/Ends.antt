@@ -5,12 +5,12 @@ use Rattle.std.proofs.lemmas.Bool.Decides.{eqb_tells, nat_tests}
 use Rattle.std.proofs.lemmas.List.{append-nil, map-append}
 use Rattle.lin_frame.specs.Words.{numbers}
 use Rattle.lin_transport.specs.Transport.{frame, frames, frame_count, Heard, CanSend}
-use Rattle.lin_parts.specs.declared.parts.Parts.{Parts}
-use Rattle.lin_parts.specs.Cluster.{nad}
-use Rattle.lin_core.specs.History.{Slot, open_slot, hurt, header_is, asked}
-use Rattle.lin_core.specs.Links.{Link, same_dir, same_link, Message, host_of, accepted_from, Sign, Fate, nad_on, put_on, signs, heard_on, blocks, blocks_of, accepted, frames_of}
+use Rattle.lin_cluster_parts.specs.declared.parts.Parts.{Parts}
+use Rattle.lin_cluster_parts.specs.Cluster.{nad}
+use Rattle.lin_core.specs.History.{Slot, open_slot, slot_after_hurt, header_is, is_sleep_asked}
+use Rattle.lin_core.specs.Links.{Link, same_dir, same_link, Message, host_of, accepted_from, Sign, Fate, nad_on, put_on, signs, heard_on, blocks, blocks_of, accepted_messages, frames_of}
 use Rattle.lin_core.specs.Links.Sign.{Put as PutSign}
-use Rattle.lin_parts.specs.Sound.{IsSound}
+use Rattle.lin_cluster_parts.specs.Sound.{IsSound}
 use Rattle.lin_core.specs.declared.log.LogEntry.{LogEntry}
 use Rattle.lin_core.specs.declared.port.PortId.{PortId}
 use Rattle.lin_core.specs.declared.step.Step.{Step}
@@ -175,7 +175,7 @@ pub sign-none : (q : Bool) (f : List ℕ) (signs : List Sign) → q ≡ false �
 sign-none true f signs e = cc
 sign-none false f signs e = refl
 
-pub held : (c : Parts) (past : List LogEntry) (h : ℕ) → IsSound c → (k : Known c past) → (o : Option Slot) → open_slot past ≡ o → SlotIs c (asked past) k.states o → Held c past h (k.states h).done
+pub held : (c : Parts) (past : List LogEntry) (h : ℕ) → IsSound c → (k : Known c past) → (o : Option Slot) → open_slot past ≡ o → SlotIs c (is_sleep_asked past) k.states o → Held c past h (k.states h).done
 held c past h sound k None is closed = plainly c past h k (λ l i. blocks-closed c past l is)
 held c past h sound k (Some _) is (other s p q) = plainly c past h k (λ l i. put-no c past l s is (put-other c s l.node l.dir p q))
 held c past h sound k (Some _) is (master table entry due left hurt line only w) = plainly c past h k (λ l i. blocks-empty c past l table entry (Some 0x3C) due left hurt is)
@@ -228,7 +228,7 @@ tails-order c l [] b w = tt
 tails-order c l (m ∷ ms) [] w = none-order (nad_on c l) (map (λ (x : Message). x.bytes) (filter (on l) (m ∷ ms)))
 tails-order c l (m ∷ ms) (s ∷ b) w = tail-order c l m ms (s ∷ b) (on l m) refl w
 
-pub known-order : (c : Parts) (past : List LogEntry) (l : Link) → IsSound c → is_some (nad c l.node) ≡ true → Known c past → InOrder (nad_on c l) (accepted past l) (blocks c past l)
+pub known-order : (c : Parts) (past : List LogEntry) (l : Link) → IsSound c → is_some (nad c l.node) ≡ true → Known c past → InOrder (nad_on c l) (accepted_messages past l) (blocks c past l)
 known-order c past l sound a k =
     let i : IsLink c (host_of l) l = record { host = refl; address = a }
     in let s : HostState = k.states (host_of l)
@@ -243,5 +243,5 @@ pub reads-sent : (c : Parts) (opening capacity : ℕ) (steps : List (PortId × S
 reads-sent c opening capacity steps sound l a = known-reads c (history c opening capacity steps) l sound a (history-known c opening capacity steps sound)
 
 pub blocks-order : (c : Parts) (opening capacity : ℕ) (steps : List (PortId × Step)) → IsSound c → (l : Link) → is_some (nad c l.node) ≡ true
-    → InOrder (nad_on c l) (accepted (history c opening capacity steps) l) (blocks c (history c opening capacity steps) l)
+    → InOrder (nad_on c l) (accepted_messages (history c opening capacity steps) l) (blocks c (history c opening capacity steps) l)
 blocks-order c opening capacity steps sound l a = known-order c (history c opening capacity steps) l sound a (history-known c opening capacity steps sound)

@@ -3,12 +3,12 @@ use Rattle.std.proofs.Common.{◌≡◌, ℕ, zero, suc, Bool, true, false, List
 use Rattle.std.specs.Prelude.{Option, Some, None, ◌==◌, if◌then◌else◌}
 use Rattle.std.proofs.lemmas.Bool.Decides.{nat_tests}
 use Rattle.std.proofs.lemmas.List.{append-nil, map-append, append_cancel_left}
-use Rattle.lin_frame.specs.Words.{choose}
-use Rattle.lin_parts.specs.declared.parts.Parts.{Parts}
-use Rattle.lin_core.specs.History.{Slot, open_slot, hurt, asked, closed as is_closed, done}
+use Rattle.std.specs.Option.{option_map_or}
+use Rattle.lin_cluster_parts.specs.declared.parts.Parts.{Parts}
+use Rattle.lin_core.specs.History.{Slot, open_slot, slot_after_hurt, is_sleep_asked, is_host_closed as is_closed, done}
 use Rattle.lin_core.specs.Links.{Link, same_link, link_of, Message, accepted_from, Fate, blocks, sent_from}
 use Rattle.lin_core.specs.Replies.{refusal, refusals, done_events, reply}
-use Rattle.lin_parts.specs.Sound.{IsSound}
+use Rattle.lin_cluster_parts.specs.Sound.{IsSound}
 use Rattle.lin_core.specs.declared.log.LogEntry.{LogEntry}
 use Rattle.lin_core.specs.declared.port.PortId.{PortId}
 use Rattle.lin_core.specs.declared.step.Step.{Step}
@@ -60,7 +60,7 @@ pub more-grows : (b : Bool) (m : Message) (s : HostState) → Grows s (more_if b
 more-grows true m s = record { more = []; is = sym (append-nil s.done) }
 more-grows false m s = same-grows s
 
-pub finish-grows : (c : Parts) (past : List LogEntry) (port : PortId) (es : List Event) (sound : IsSound c) (k : Known c past) (o : Option Slot) (is : open_slot past ≡ o) (shape : SlotIs c (asked past) k.states o) (x : ℕ)
+pub finish-grows : (c : Parts) (past : List LogEntry) (port : PortId) (es : List Event) (sound : IsSound c) (k : Known c past) (o : Option Slot) (is : open_slot past ≡ o) (shape : SlotIs c (is_sleep_asked past) k.states o) (x : ℕ)
     → Grows (k.states x) ((finish-known c past port es sound k o is shape).states x)
 finish-grows c past port es sound k None is closed x = same-grows (k.states x)
 finish-grows c past port es sound k (Some _) is (other s p q) x = same-grows (k.states x)
@@ -110,7 +110,7 @@ stays-by a b rest rest' new g e =
     = map-append message_of g.more (map waiting_one rest') ∙ ap (λ (xs : List Message). map message_of g.more ++ xs) (waiting-messages rest') ∙ append_cancel_left (map message_of a.done) (map message_of g.more ++ rest') (rest ++ new) cut
     in rw (g.is, append_assoc a.done g.more (map waiting_one rest')) (stays-done a.done (map waiting_one rest) (g.more ++ map waiting_one rest') (stays-waiting rest (g.more ++ map waiting_one rest') new ms))
 
-pub accepted-grows : (o : Option Message) (xs : List Message) → (new : List Message) × (choose o xs (λ m. xs ++ m ∷ []) ≡ xs ++ new)
+pub accepted-grows : (o : Option Message) (xs : List Message) → (new : List Message) × (option_map_or (λ m. xs ++ m ∷ []) o xs ≡ xs ++ new)
 accepted-grows None xs = ([], sym (append-nil xs))
 accepted-grows (Some m) xs = (m ∷ [], refl)
 
@@ -125,7 +125,7 @@ fates-stay c opening capacity s earlier sound h =
     in let g : Grows (k.states h) (k'.states h) = step-grows c opening capacity past s.0 s.1 sound k (refusal c capacity past s.0 s.1) refl h
     in let a : Held c past h (k.states h).done = held-now c past h sound k
     in let b : Held c (e ∷ past) h (k'.states h).done = held-now c (e ∷ past) h sound k'
-    in let new = accepted-grows (choose (done e) None (sent_from h)) (accepted_from past h)
+    in let new = accepted-grows (option_map_or (sent_from h) (done e) None) (accepted_from past h)
     in rw (
       outcomes c h (blocks c past) (accepted_from past h) (k.states h).done a.rest a.block a.holds,
       outcomes c h (blocks c (e ∷ past)) (accepted_from (e ∷ past) h) (k'.states h).done b.rest b.block b.holds,
@@ -134,7 +134,7 @@ fates-stay c opening capacity s earlier sound h =
 
 -- nothing is accepted after a close
 pub no-send-by : (c : Parts) (opening capacity : ℕ) (past : List LogEntry) (port : PortId) (step : Step) (h : ℕ) (r : Option Refusal) → refusal c capacity past port step ≡ r
-    → NoSendAfterClose (record { port = port; step = step; reply = choose r (Done (done_events c opening past port step)) Refused }) past h
+    → NoSendAfterClose (record { port = port; step = step; reply = option_map_or Refused r (Done (done_events c opening past port step)) }) past h
 no-send-by c opening capacity past port step h (Some r) e d = cc
 no-send-by c opening capacity past port (Send from to message) h None e d =
     let all : AllFalse (refusals c capacity past port (Send from to message)) = none-of (refusals c capacity past port (Send from to message)) e

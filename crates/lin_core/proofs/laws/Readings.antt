@@ -4,17 +4,17 @@ use Rattle.std.specs.Prelude.{Option, Some, None, cond, ◌&&◌, ◌==◌, if�
 use Rattle.std.proofs.lemmas.Bool.Decides.{eqb_tells}
 use Rattle.std.proofs.lemmas.Bool.{ne_eqb}
 use Rattle.std.proofs.lemmas.List.{append-nil, map-append, drop_at}
-use Rattle.lin_frame.specs.Words.{choose, numbers}
+use Rattle.lin_frame.specs.Words.{numbers}
 use Rattle.lin_transport.specs.Transport.{Heard, pieces, messages_in}
 use Rattle.lin_transport.specs.Transport.Heard.{Reset}
-use Rattle.lin_parts.specs.declared.parts.Parts.{Parts}
-use Rattle.lin_parts.specs.Cluster.{nad, nodes, line_of}
-use Rattle.lin_core.specs.History.{Slot, open_slot, seen, reply_events}
+use Rattle.lin_cluster_parts.specs.declared.parts.Parts.{Parts}
+use Rattle.lin_cluster_parts.specs.Cluster.{nad, nodes, line_of}
+use Rattle.lin_core.specs.History.{Slot, open_slot, seen_of, reply_events}
 use Rattle.lin_core.specs.Links.{Link, same_dir, same_link, Message, host_of, Fate, nad_on, signs, heard_on, waits, reading, Sending, sendings, fate_of}
 use Rattle.lin_core.specs.Links.Sign.{Mark}
 use Rattle.lin_core.specs.Slots.{put, due_nodes, next_due}
 use Rattle.lin_core.specs.Replies.{refusal, put_event, done_events, reply, receiver_of, report, reports, all_reports, new_messages, all_links, finish_events, quiet_entry, sleeps, link_at}
-use Rattle.lin_parts.specs.Sound.{IsSound}
+use Rattle.lin_cluster_parts.specs.Sound.{IsSound}
 use Rattle.lin_core.specs.declared.log.LogEntry.{LogEntry}
 use Rattle.lin_core.specs.declared.port.PortId.{PortId}
 use Rattle.lin_core.specs.declared.step.Step.{Step}
@@ -38,6 +38,7 @@ use Rattle.lin_core.proofs.links.Results.{track-reads}
 use Rattle.std.specs.List.{flat_map}
 use Rattle.lin_core.proofs.laws.Fixed.{Grows, finish-grows}
 use Rattle.std.proofs.lemmas.List.Elements.{filter_map-append}
+use Rattle.std.specs.Option.{option_map_or}
 use Rattle.lin_core.specs.Reports.{message_for, TellsReading}
 use Rattle.lin_core.proofs.links.Tracks.{sent_of, if_sent, reads-nothing}
 use Rattle.lin_core.proofs.laws.Reports.{flat-append, index-some}
@@ -116,7 +117,7 @@ all-messages c e past l sound a =
     ∙ flat-append (hit c e past l) (map (λ n. link_at n Down) (numbers (nodes c))) (map (λ n. link_at n Up) (numbers (nodes c)))
     ∙ rw (dir-there c e past l Down (nodes c) below, dir-there c e past l Up (nodes c) below) (both-dirs l.dir (new_for c e past l))
 
-no-seen : (l : Link) (o : Option Slot) → filter_map (message_for l) (choose o [] (λ s. SeenEvent (seen s) ∷ [])) ≡ []
+no-seen : (l : Link) (o : Option Slot) → filter_map (message_for l) (option_map_or (λ s. SeenEvent (seen_of s) ∷ []) o []) ≡ []
 no-seen l None = refl
 no-seen l (Some s) = refl
 
@@ -141,7 +142,7 @@ no-all c e past l (h ∷ hs) = filter_map-append (message_for l) (reports c e pa
 finish-messages : (c : Parts) (port : PortId) (past : List LogEntry) (l : Link) → IsSound c → is_some (nad c l.node) ≡ true → filter_map (message_for l) (finish_events c port past) ≡ new_for c (quiet_entry port Finish) past l
 finish-messages c port past l sound a =
     let e : LogEntry = quiet_entry port Finish
-    in let A : List Event = choose (open_slot past) [] (λ s. SeenEvent (seen s) ∷ [])
+    in let A : List Event = option_map_or (λ s. SeenEvent (seen_of s) ∷ []) (open_slot past) []
     in let B : List Event = flat_map (new_messages c e past) (all_links c)
     in let C : List Event = if sleeps past then SleepEvent ∷ [] else []
     in filter_map-append (message_for l) ((A ++ B) ++ C) (all_reports c e past)
@@ -171,11 +172,11 @@ no-due : (l : Link) (ns : List ℕ) → filter_map (message_for l) (map Due ns) 
 no-due l [] = refl
 no-due l (n ∷ ns) = no-due l ns
 
-no-put-event : (l : Link) (node : ℕ) (o : Option ℕ) (f : ℕ → List ℕ) → filter_map (message_for l) (choose o [] (λ x. PutEvent node (f x) ∷ [])) ≡ []
+no-put-event : (l : Link) (node : ℕ) (o : Option ℕ) (f : ℕ → List ℕ) → filter_map (message_for l) (option_map_or (λ x. PutEvent node (f x) ∷ []) o []) ≡ []
 no-put-event l node None f = refl
 no-put-event l node (Some x) f = refl
 
-no-answer : (c : Parts) (past : List LogEntry) (l : Link) (node : ℕ) (o : Option Slot) → filter_map (message_for l) (choose o [] (put_event c past node)) ≡ []
+no-answer : (c : Parts) (past : List LogEntry) (l : Link) (node : ℕ) (o : Option Slot) → filter_map (message_for l) (option_map_or (put_event c past node) o []) ≡ []
 no-answer c past l node None = refl
 no-answer c past l node (Some s) = no-put-event l node s.header (λ x. put c past (line_of c s.table s.entry).entry x node)
 
@@ -183,7 +184,7 @@ quiet-reading : (xs ys : List (List ℕ)) → ys ≡ [] → xs ++ ys ≡ xs
 quiet-reading xs ys e = ap (λ (z : List (List ℕ)). xs ++ z) e ∙ append-nil xs
 
 step-reading : (c : Parts) (opening capacity : ℕ) (past : List LogEntry) (port : PortId) (step : Step) (l : Link) → IsSound c → is_some (nad c l.node) ≡ true → Known c past → (r : Option Refusal) → refusal c capacity past port step ≡ r
-    → reading c past l ++ filter_map (message_for l) (reply_events (choose r (Done (done_events c opening past port step)) Refused)) ≡ reading c (record { port = port; step = step; reply = choose r (Done (done_events c opening past port step)) Refused } ∷ past) l
+    → reading c past l ++ filter_map (message_for l) (reply_events (option_map_or Refused r (Done (done_events c opening past port step)))) ≡ reading c (record { port = port; step = step; reply = option_map_or Refused r (Done (done_events c opening past port step)) } ∷ past) l
 step-reading c opening capacity past port step l sound a k (Some r) e = append-nil (reading c past l)
 step-reading c opening capacity past port (Send from to message) l sound a k None e = append-nil (reading c past l)
 step-reading c opening capacity past port (Write by signal value) l sound a k None e = append-nil (reading c past l)

@@ -1,25 +1,25 @@
 -- Each fate is reported once.
-use Rattle.lin_parts.specs.declared.parts.Node.{Node}
+use Rattle.lin_cluster_parts.specs.declared.parts.Node.{Node}
 use Rattle.std.proofs.Common.{◌≡◌, ◌≢◌, ℕ, zero, suc, ◌≤◌, ◌<◌, Bool, true, false, List, [], ◌∷◌, ◌++◌, length, map, refl, ap, sym, ◌∙◌, subst, arith, inl, inr, append_assoc}
 use Rattle.std.specs.Prelude.{Option, Some, None, ◌==◌, if◌then◌else◌, is_some, filter, nat_lt, zip, slice_index_or, drop}
 use Rattle.std.proofs.lemmas.Bool.Decides.{eqb_tells, nat_tests}
 use Rattle.std.proofs.lemmas.Bool.{ne_eqb}
 use Rattle.std.proofs.lemmas.List.{append-nil, map-append, append_cancel_left}
-use Rattle.lin_frame.specs.Words.{choose, numbers}
-use Rattle.lin_parts.specs.declared.parts.Parts.{Parts}
-use Rattle.lin_parts.specs.Cluster.{nodes, line_of}
-use Rattle.lin_core.specs.History.{Slot, open_slot, hurt, asked, seen}
+use Rattle.lin_frame.specs.Words.{numbers}
+use Rattle.lin_cluster_parts.specs.declared.parts.Parts.{Parts}
+use Rattle.lin_cluster_parts.specs.Cluster.{nodes, line_of}
+use Rattle.lin_core.specs.History.{Slot, open_slot, slot_after_hurt, is_sleep_asked, seen_of}
 use Rattle.lin_core.specs.Links.{Link, same_link, link_of, Message, host_of, accepted_from, Sign, Fate, blocks, waits, reading, is_waiting, Sending, sendings, sendings_from, fate_of}
 use Rattle.lin_core.specs.Slots.{put, due_nodes, next_due}
 use Rattle.lin_core.specs.Replies.{refusal, refusals, put_event, opening_events, done_events, reply, receiver_of, report, reports, all_reports, new_messages, all_links, finish_events, quiet_entry, sleeps}
-use Rattle.lin_parts.specs.Sound.{IsSound}
+use Rattle.lin_cluster_parts.specs.Sound.{IsSound}
 use Rattle.lin_core.specs.declared.log.LogEntry.{LogEntry}
 use Rattle.lin_core.specs.declared.port.PortId.{PortId}
 use Rattle.lin_core.specs.declared.step.Step.{Step}
 use Rattle.lin_core.specs.declared.step.Step.TheVariants.{Send, Write, Open, Answer, Leave, Hurt, Finish, Timeout, Switch, AskSleep, Wake, Close}
 use Rattle.lin_core.specs.declared.event.Event.{Event}
 use Rattle.lin_core.specs.declared.event.Event.TheVariants.{Due, Put as PutEvent, Message as MessageEvent, Asleep as SleepEvent, Seen as SeenEvent}
-use Rattle.lin_parts.specs.declared.parts.Entry.{Entry}
+use Rattle.lin_cluster_parts.specs.declared.parts.Entry.{Entry}
 use Rattle.lin_core.specs.declared.reply.Reply.TheVariants.{Done, Refused}
 use Rattle.lin_core.specs.declared.reply.Refusal.{Refusal}
 use Rattle.lin_core.specs.declared.link.Cause.TheVariants.{TimedOut}
@@ -37,7 +37,8 @@ use Rattle.lin_core.proofs.links.Results.{outcomes, waiting_one}
 use Rattle.lin_core.proofs.steps.Steps.{step-known, none-of, more_if, start-known, timeout-known, is_open-false}
 use Rattle.lin_core.proofs.laws.Ends.{Held, held-now}
 use Rattle.std.specs.List.{flat_map}
-use Rattle.lin_core.specs.Reports.{is_report, reported, numbered, ReportsFates}
+use Rattle.std.specs.Option.{option_map_or}
+use Rattle.lin_core.specs.Reports.{is_report, reports_to, reports_from, ReportsFates}
 use Rattle.lin_core.proofs.laws.Fixed.{Grows, finish-grows, marked-grows, waiting-messages}
 
 -- the reports that changed fates make
@@ -68,23 +69,23 @@ changed-done : (c : Parts) (x h k : ℕ) (ps xs ys : List (Message × Fate)) →
 changed-done c x h k [] xs ys d = refl
 changed-done c x h k (p ∷ ps) xs ys d = rw d.0.settled (changed-done c x h (suc k) ps xs ys d.1)
 
-changed-waiting : (h k : ℕ) (ms : List Message) (ys : List (Message × Fate)) → map message_of ys ≡ ms → changed h k (map waiting_one ms) ys ≡ numbered h k ys
+changed-waiting : (h k : ℕ) (ms : List Message) (ys : List (Message × Fate)) → map message_of ys ≡ ms → changed h k (map waiting_one ms) ys ≡ reports_from h k ys
 changed-waiting h k [] [] e = refl
 changed-waiting h k [] (y ∷ ys) e = cc
 changed-waiting h k (m ∷ ms) [] e = refl
 changed-waiting h k (m ∷ ms) (y ∷ ys) e = ap (λ (xs : List Event). report h k y.1 ++ xs) (changed-waiting h (suc k) ms ys (let t : map message_of ys ≡ ms = cc in t))
 
-numbered-append : (h k : ℕ) (xs ys : List (Message × Fate)) → numbered h k (xs ++ ys) ≡ numbered h k xs ++ numbered h (ahead k xs) ys
+numbered-append : (h k : ℕ) (xs ys : List (Message × Fate)) → reports_from h k (xs ++ ys) ≡ reports_from h k xs ++ reports_from h (ahead k xs) ys
 numbered-append h k [] ys = refl
-numbered-append h k (x ∷ xs) ys = ap (λ (es : List Event). report h k x.1 ++ es) (numbered-append h (suc k) xs ys) ∙ sym (append_assoc (report h k x.1) (numbered h (suc k) xs) (numbered h (ahead (suc k) xs) ys))
+numbered-append h k (x ∷ xs) ys = ap (λ (es : List Event). report h k x.1 ++ es) (numbered-append h (suc k) xs ys) ∙ sym (append_assoc (report h k x.1) (reports_from h (suc k) xs) (reports_from h (ahead (suc k) xs) ys))
 
-numbered-waiting : (h k : ℕ) (ms : List Message) → numbered h k (map waiting_one ms) ≡ []
+numbered-waiting : (h k : ℕ) (ms : List Message) → reports_from h k (map waiting_one ms) ≡ []
 numbered-waiting h k [] = refl
 numbered-waiting h k (m ∷ ms) = numbered-waiting h (suc k) ms
 
 -- what the reports of a finish or a timeout are
 pub reports-are : (c : Parts) (e : LogEntry) (past : List LogEntry) (h : ℕ) → IsSound c → (k : Known c past) (k' : Known c (e ∷ past)) (g : Grows (k.states h) (k'.states h))
-    → accepted_from (e ∷ past) h ≡ accepted_from past h → reports c e past h ≡ numbered h (ahead 1 (k.states h).done) g.more
+    → accepted_from (e ∷ past) h ≡ accepted_from past h → reports c e past h ≡ reports_from h (ahead 1 (k.states h).done) g.more
 reports-are c e past h sound k k' g same =
     let a : Held c past h (k.states h).done = held-now c past h sound k
     in let b : Held c (e ∷ past) h (k'.states h).done = held-now c (e ∷ past) h sound k'
@@ -104,8 +105,8 @@ reports-are c e past h sound k k' g same =
     ∙ changed-done c h h 1 done (map waiting_one a.rest) tail (k.hosts h).are_done
     ∙ changed-waiting h (ahead 1 done) a.rest tail ms
     ∙ numbered-append h (ahead 1 done) g.more (map waiting_one b.rest)
-    ∙ ap (λ (es : List Event). numbered h (ahead 1 done) g.more ++ es) (numbered-waiting h (ahead (ahead 1 done) g.more) b.rest)
-    ∙ append-nil (numbered h (ahead 1 done) g.more)
+    ∙ ap (λ (es : List Event). reports_from h (ahead 1 done) g.more ++ es) (numbered-waiting h (ahead (ahead 1 done) g.more) b.rest)
+    ∙ append-nil (reports_from h (ahead 1 done) g.more)
 
 -- reports to one host among those to all
 told-own : (h n : ℕ) (f : Fate) → filter (is_report h) (report h n f) ≡ report h n f
@@ -185,7 +186,7 @@ all-own : (c : Parts) (e : LogEntry) (past : List LogEntry) (h : ℕ) → Known 
 all-own c e past h k = all-own-if c e past h (nat_lt h (nodes c)) refl k
 
 -- the other events are no reports
-none-seen : (h : ℕ) (o : Option Slot) → filter (is_report h) (choose o [] (λ s. SeenEvent (seen s) ∷ [])) ≡ []
+none-seen : (h : ℕ) (o : Option Slot) → filter (is_report h) (option_map_or (λ s. SeenEvent (seen_of s) ∷ []) o []) ≡ []
 none-seen h None = refl
 none-seen h (Some s) = refl
 
@@ -207,22 +208,22 @@ four h a b d e p q r = rw (filter-append (is_report h) ((a ++ b) ++ d) e, filter
 finish-only : (c : Parts) (port : PortId) (past : List LogEntry) (h : ℕ) → filter (is_report h) (finish_events c port past) ≡ filter (is_report h) (all_reports c (quiet_entry port Finish) past)
 finish-only c port past h =
     let e : LogEntry = quiet_entry port Finish
-    in four h (choose (open_slot past) [] (λ s. SeenEvent (seen s) ∷ [])) (flat_map (new_messages c e past) (all_links c)) (if sleeps past then SleepEvent ∷ [] else []) (all_reports c e past)
+    in four h (option_map_or (λ s. SeenEvent (seen_of s) ∷ []) (open_slot past) []) (flat_map (new_messages c e past) (all_links c)) (if sleeps past then SleepEvent ∷ [] else []) (all_reports c e past)
     (none-seen h (open_slot past)) (none-messages c h e past (all_links c)) (none-sleep h (sleeps past))
 
 none-due : (h : ℕ) (ns : List ℕ) → filter (is_report h) (map Due ns) ≡ []
 none-due h [] = refl
 none-due h (n ∷ ns) = none-due h ns
 
-none-put : (h node : ℕ) (o : Option ℕ) (f : ℕ → List ℕ) → filter (is_report h) (choose o [] (λ x. PutEvent node (f x) ∷ [])) ≡ []
+none-put : (h node : ℕ) (o : Option ℕ) (f : ℕ → List ℕ) → filter (is_report h) (option_map_or (λ x. PutEvent node (f x) ∷ []) o []) ≡ []
 none-put h node None f = refl
 none-put h node (Some x) f = refl
 
-none-answer : (c : Parts) (past : List LogEntry) (h node : ℕ) (o : Option Slot) → filter (is_report h) (choose o [] (put_event c past node)) ≡ []
+none-answer : (c : Parts) (past : List LogEntry) (h node : ℕ) (o : Option Slot) → filter (is_report h) (option_map_or (put_event c past node) o []) ≡ []
 none-answer c past h node None = refl
 none-answer c past h node (Some s) = none-put h node s.header (λ x. put c past (line_of c s.table s.entry).entry x node)
 
-finish-same : (c : Parts) (past : List LogEntry) (port : PortId) (es : List Event) (sound : IsSound c) (k : Known c past) (o : Option Slot) (is : open_slot past ≡ o) (shape : SlotIs c (asked past) k.states o) (x : ℕ)
+finish-same : (c : Parts) (past : List LogEntry) (port : PortId) (es : List Event) (sound : IsSound c) (k : Known c past) (o : Option Slot) (is : open_slot past ≡ o) (shape : SlotIs c (is_sleep_asked past) k.states o) (x : ℕ)
     → (finish-known c past port es sound k o is shape).states x ≡ (finish-known c past port [] sound k o is shape).states x
 finish-same c past port es sound k None is closed x = refl
 finish-same c past port es sound k (Some _) is (other s p q) x = refl
@@ -232,10 +233,10 @@ finish-same c past port es sound k (Some _) is (sleep table entry due left true 
 finish-same c past port es sound k (Some _) is (sleep table entry due left false only) x = refl
 finish-same c past port es sound k (Some _) is (carries table entry due left hurt h m ms j only host r n) x = refl
 
-quiet-told : (past : List LogEntry) (h : ℕ) (es ns : List Event) → filter (is_report h) es ≡ [] → reported past h ≡ ns → reported past h ++ filter (is_report h) es ≡ ns
-quiet-told past h es ns e p = ap (λ (x : List Event). reported past h ++ x) e ∙ append-nil (reported past h) ∙ p
+quiet-told : (past : List LogEntry) (h : ℕ) (es ns : List Event) → filter (is_report h) es ≡ [] → reports_to past h ≡ ns → reports_to past h ++ filter (is_report h) es ≡ ns
+quiet-told past h es ns e p = ap (λ (x : List Event). reports_to past h ++ x) e ∙ append-nil (reports_to past h) ∙ p
 
-grown-told : (h : ℕ) (a b : HostState) (old new : List Event) (g : Grows a b) → old ≡ numbered h 1 a.done → new ≡ numbered h (ahead 1 a.done) g.more → old ++ new ≡ numbered h 1 b.done
+grown-told : (h : ℕ) (a b : HostState) (old new : List Event) (g : Grows a b) → old ≡ reports_from h 1 a.done → new ≡ reports_from h (ahead 1 a.done) g.more → old ++ new ≡ reports_from h 1 b.done
 grown-told h a b old new g p q = rw (g.is, p, q) (sym (numbered-append h 1 a.done g.more))
 
 send-done : (b : Bool) (m : Message) (s : HostState) → (more_if b m s).done ≡ s.done
@@ -243,35 +244,35 @@ send-done true m s = refl
 send-done false m s = refl
 
 step-told : (c : Parts) (opening capacity : ℕ) (past : List LogEntry) (port : PortId) (step : Step) (sound : IsSound c) (k : Known c past) (r : Option Refusal) (e : refusal c capacity past port step ≡ r)
-    → ((h : ℕ) → reported past h ≡ numbered h 1 (k.states h).done) → (h : ℕ)
-    → reported (record { port = port; step = step; reply = choose r (Done (done_events c opening past port step)) Refused } ∷ past) h ≡ numbered h 1 ((step-known c opening capacity past port step sound k r e).states h).done
-step-told c opening capacity past port step sound k (Some r) e p h = append-nil (reported past h) ∙ p h
-step-told c opening capacity past port (Send from to message) sound k None e p h = append-nil (reported past h) ∙ p h ∙ ap (numbered h 1) (sym (send-done (from == h) (record { link = link_of from to; bytes = message }) (k.states h)))
-step-told c opening capacity past port (Write by signal value) sound k None e p h = append-nil (reported past h) ∙ p h
+    → ((h : ℕ) → reports_to past h ≡ reports_from h 1 (k.states h).done) → (h : ℕ)
+    → reports_to (record { port = port; step = step; reply = option_map_or Refused r (Done (done_events c opening past port step)) } ∷ past) h ≡ reports_from h 1 ((step-known c opening capacity past port step sound k r e).states h).done
+step-told c opening capacity past port step sound k (Some r) e p h = append-nil (reports_to past h) ∙ p h
+step-told c opening capacity past port (Send from to message) sound k None e p h = append-nil (reports_to past h) ∙ p h ∙ ap (reports_from h 1) (sym (send-done (from == h) (record { link = link_of from to; bytes = message }) (k.states h)))
+step-told c opening capacity past port (Write by signal value) sound k None e p h = append-nil (reports_to past h) ∙ p h
 step-told c opening capacity past port Open sound k None e p h = let at : ℕ × ℕ = next_due c opening past in let kind : Entry = (line_of c at.0 at.1).entry in quiet-told past h (opening_events c opening past) _ (none-due h (due_nodes c past kind)) (p h)
-step-told c opening capacity past port (Answer node) sound k None e p h = quiet-told past h (choose (open_slot past) [] (put_event c past node)) _ (none-answer c past h node (open_slot past)) (p h)
-step-told c opening capacity past port (Leave node) sound k None e p h = append-nil (reported past h) ∙ p h
-step-told c opening capacity past port (Hurt bytes) sound k None e p h = append-nil (reported past h) ∙ p h
+step-told c opening capacity past port (Answer node) sound k None e p h = quiet-told past h (option_map_or (put_event c past node) (open_slot past) []) _ (none-answer c past h node (open_slot past)) (p h)
+step-told c opening capacity past port (Leave node) sound k None e p h = append-nil (reports_to past h) ∙ p h
+step-told c opening capacity past port (Hurt bytes) sound k None e p h = append-nil (reports_to past h) ∙ p h
 step-told c opening capacity past port Finish sound k None e p h =
     let k' : Known c (finish_entry port [] ∷ past) = finish-known c past port [] sound k (open_slot past) refl k.slot
     in let g : Grows (k.states h) (k'.states h) = finish-grows c past port [] sound k (open_slot past) refl k.slot h
-    in grown-told h (k.states h) (k'.states h) (reported past h) (filter (is_report h) (finish_events c port past)) g (p h)
+    in grown-told h (k.states h) (k'.states h) (reports_to past h) (filter (is_report h) (finish_events c port past)) g (p h)
     (finish-only c port past h ∙ all-own c (quiet_entry port Finish) past h k ∙ reports-are c (quiet_entry port Finish) past h sound k k' g refl)
-    ∙ ap (λ (s : HostState). numbered h 1 s.done) (sym (finish-same c past port (done_events c opening past port Finish) sound k (open_slot past) refl k.slot h))
+    ∙ ap (λ (s : HostState). reports_from h 1 s.done) (sym (finish-same c past port (done_events c opening past port Finish) sound k (open_slot past) refl k.slot h))
 step-told c opening capacity past port (Timeout node dir) sound k None e p h =
     let none = is_open-false (open_slot past) (none-of (refusals c capacity past port (Timeout node dir)) e).1.0
     in let k' : Known c (quiet_entry port (Timeout node dir) ∷ past) = timeout-known c past port node dir [] none k
     in let g : Grows (k.states h) (k'.states h) = marked-grows (λ l. same_link l (record_of node dir)) TimedOut (k.states h).done (k.states h).rest (k.states h).count
-    in grown-told h (k.states h) (k'.states h) (reported past h) (filter (is_report h) (all_reports c (quiet_entry port (Timeout node dir)) past)) g (p h)
+    in grown-told h (k.states h) (k'.states h) (reports_to past h) (filter (is_report h) (all_reports c (quiet_entry port (Timeout node dir)) past)) g (p h)
     (all-own c (quiet_entry port (Timeout node dir)) past h k ∙ reports-are c (quiet_entry port (Timeout node dir)) past h sound k k' g refl)
-step-told c opening capacity past port (Switch table) sound k None e p h = append-nil (reported past h) ∙ p h
-step-told c opening capacity past port AskSleep sound k None e p h = append-nil (reported past h) ∙ p h
-step-told c opening capacity past port Wake sound k None e p h = append-nil (reported past h) ∙ p h
-step-told c opening capacity past port (Close host) sound k None e p h = append-nil (reported past h) ∙ p h
+step-told c opening capacity past port (Switch table) sound k None e p h = append-nil (reports_to past h) ∙ p h
+step-told c opening capacity past port AskSleep sound k None e p h = append-nil (reports_to past h) ∙ p h
+step-told c opening capacity past port Wake sound k None e p h = append-nil (reports_to past h) ∙ p h
+step-told c opening capacity past port (Close host) sound k None e p h = append-nil (reports_to past h) ∙ p h
 
 record Told (c : Parts) (past : List LogEntry) : Type 0 where
   known : Known c past
-  told : (h : ℕ) → reported past h ≡ numbered h 1 (known.states h).done
+  told : (h : ℕ) → reports_to past h ≡ reports_from h 1 (known.states h).done
 
 history-told : (c : Parts) (opening capacity : ℕ) (steps : List (PortId × Step)) → IsSound c → Told c (history c opening capacity steps)
 unfolding reply
@@ -289,7 +290,7 @@ known-told c past h sound k =
     let s : HostState = k.known.states h
     in let a : Held c past h s.done = held-now c past h sound k.known
     in rw (outcomes c h (blocks c past) (accepted_from past h) s.done a.rest a.block a.holds, numbered-append h 1 s.done (map waiting_one a.rest), numbered-waiting h (ahead 1 s.done) a.rest)
-    (k.told h ∙ sym (append-nil (numbered h 1 s.done)))
+    (k.told h ∙ sym (append-nil (reports_from h 1 s.done)))
 
 pub reports-fates : (c : Parts) (opening capacity : ℕ) (steps : List (PortId × Step)) → IsSound c → (h : ℕ) → ReportsFates c (history c opening capacity steps) h
 reports-fates c opening capacity steps sound h = known-told c (history c opening capacity steps) h sound (history-told c opening capacity steps sound)

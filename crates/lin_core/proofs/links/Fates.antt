@@ -4,8 +4,9 @@ use Rattle.std.specs.Prelude.{Option, Some, None, cond, eqb, ◌&&◌, ◌||◌}
 use Rattle.std.specs.List.{list_any, list_all}
 use Rattle.std.proofs.lemmas.Bool.Decides.{eqb_tells}
 use Rattle.std.proofs.lemmas.List.{append-nil, map-append}
-use Rattle.lin_frame.specs.Words.{choose, numbers}
+use Rattle.lin_frame.specs.Words.{numbers}
 use Rattle.std.specs.Cmp.Lexicographic.{pointwise}
+use Rattle.std.specs.Option.{option_map_or}
 use Rattle.lin_transport.specs.Transport.{frame, frames, frame_count, first}
 use Rattle.lin_core.specs.Links.{Sign, Fate, fate, is_waiting, frames_of, before_mark, first_mark, is_damaged, is_good, begins_good, same_frames}
 use Rattle.lin_core.specs.Links.Sign.{Put, Mark}
@@ -44,17 +45,17 @@ frames-mark [] c = refl
 frames-mark (Put f how ∷ b) c = ap (λ (x : List (List ℕ)). f ∷ x) (frames-mark b c)
 frames-mark (Mark d ∷ b) c = frames-mark b c
 
-pub first-mark : (b : List Sign) (c : Cause) → first_mark (b ++ Mark c ∷ []) ≡ choose (first_mark b) (Some c) (λ d. Some d)
+pub first-mark : (b : List Sign) (c : Cause) → first_mark (b ++ Mark c ∷ []) ≡ option_map_or (λ d. Some d) (first_mark b) (Some c)
 first-mark [] c = refl
 first-mark (Put f how ∷ b) c = first-mark b c
 first-mark (Mark d ∷ b) c = refl
 
 -- the fate by what it reads of a block
 abbrev fate_by : Bool → Bool → Option Cause → Bool → Fate
-fate_by hurt whole mark begun = cond hurt (Lost Damaged) (cond whole Sent (choose mark Waiting (λ cause. cond begun (Lost cause) Waiting)))
+fate_by hurt whole mark begun = cond hurt (Lost Damaged) (cond whole Sent (option_map_or (λ cause. cond begun (Lost cause) Waiting) mark Waiting))
 
 settled-by : (hurt whole : Bool) (mark : Option Cause) (begun : Bool) (c : Cause) → is_waiting (fate_by hurt whole mark begun) ≡ false
-    → fate_by hurt whole (choose mark (Some c) (λ d. Some d)) begun ≡ fate_by hurt whole mark begun
+    → fate_by hurt whole (option_map_or (λ d. Some d) mark (Some c)) begun ≡ fate_by hurt whole mark begun
 settled-by true whole mark begun c h = refl
 settled-by false true mark begun c h = refl
 settled-by false false None begun c h = cc
@@ -123,7 +124,7 @@ cut-lost f ps fs c l =
     (damaged-mark (map good_sign (f ∷ ps)) c ∙ goods-unhurt (f ∷ ps))
     (before-mark (map good_sign (f ∷ ps)) c ∙ goods-whole (f ∷ ps))
     (rw (goods-good ps) (ap (λ (xs : List (List ℕ)). same_frames xs fs) (goods-frames (f ∷ ps)) ∙ fewer))
-    (first-mark (map good_sign (f ∷ ps)) c ∙ ap (λ (o : Option Cause). choose o (Some c) (λ d. Some d)) (goods-unmarked (f ∷ ps)))
+    (first-mark (map good_sign (f ∷ ps)) c ∙ ap (λ (o : Option Cause). option_map_or (λ d. Some d) o (Some c)) (goods-unmarked (f ∷ ps)))
 
 pub goods-cut : (n : ℕ) (m : List ℕ) (k : ℕ) (c : Cause) → suc k < frame_count (length m) → fate (frames n m) (goods n m (suc k) ++ Mark c ∷ []) ≡ Lost c
 goods-cut n m k c l =

@@ -5,17 +5,17 @@ use Rattle.std.specs.List.{cons_option}
 use Rattle.std.proofs.lemmas.Bool.Decides.{eqb_tells, nat_tests}
 use Rattle.std.proofs.lemmas.Bool.{ne_eqb}
 use Rattle.std.proofs.lemmas.List.{take_at, get_or_append_left}
-use Rattle.lin_frame.specs.Words.{choose}
+use Rattle.std.specs.Option.{option_map_or, unwrap_or}
 use Rattle.lin_frame.specs.Frame.{classic}
 use Rattle.lin_transport.specs.Transport.{frame, Heard}
 use Rattle.lin_transport.specs.Transport.Heard.{Reset}
-use Rattle.lin_parts.specs.declared.parts.Parts.{Parts}
-use Rattle.lin_parts.specs.Cluster.{nad}
-use Rattle.lin_core.specs.History.{Slot, open_slot, seen, header_is, good_under, is_sleep_slot}
+use Rattle.lin_cluster_parts.specs.declared.parts.Parts.{Parts}
+use Rattle.lin_cluster_parts.specs.Cluster.{nad}
+use Rattle.lin_core.specs.History.{Slot, open_slot, seen_of, header_is, good_under, is_sleep_slot}
 use Rattle.lin_core.specs.Links.{Link, same_dir, same_link, host_of, Sign, nad_on, put_signs, signs, heard_on, heard_good, diagnostic_header}
 use Rattle.lin_core.specs.Links.Sign.{Mark}
 use Rattle.lin_core.specs.Slots.{with_classic, sleep_frame}
-use Rattle.lin_parts.specs.Sound.{IsSound}
+use Rattle.lin_cluster_parts.specs.Sound.{IsSound}
 use Rattle.lin_core.specs.declared.log.LogEntry.{LogEntry}
 use Rattle.lin_core.specs.declared.port.PortId.{PortId}
 use Rattle.lin_core.specs.declared.step.Step.TheVariants.{Finish}
@@ -33,10 +33,10 @@ finish_entry port es = record { port = port; step = Finish; reply = Done es }
 
 -- what a finished slot adds to a link
 abbrev pub slot_signs : Parts → Slot → Link → List Sign
-slot_signs c s l = cons_option (if is_sleep_slot s then Some (Mark Slept) else None) (put_signs c l (Some (seen s)) s)
+slot_signs c s l = cons_option (if is_sleep_slot s then Some (Mark Slept) else None) (put_signs c l (Some (seen_of s)) s)
 
 abbrev pub slot_heard : Parts → Slot → Link → List Heard
-slot_heard c s l = (if is_sleep_slot s then Reset ∷ [] else []) ++ choose (good_under (diagnostic_header l.dir) s) [] (heard_good (nad_on c l))
+slot_heard c s l = (if is_sleep_slot s then Reset ∷ [] else []) ++ option_map_or (heard_good (nad_on c l)) (good_under (diagnostic_header l.dir) s) []
 
 pub mark-some : (b : Bool) → is_some (if b then Some (Mark Slept) else None) ≡ b
 mark-some true = refl
@@ -163,7 +163,7 @@ frame-adds-by c table entry due left true a b Up Down f n k sound p q i = rw (an
 frame-adds-by c table entry due left false a b Up Down f n k sound p q i = rw (and-false (a == b)) (record { signs = refl; heard = refl })
 
 pub nad-is : (c : Parts) (l : Link) (n : ℕ) → nad c l.node ≡ Some n → nad_on c l ≡ n
-nad-is c l n e = ap (λ (o : Option ℕ). choose o 0 (λ x. x)) e
+nad-is c l n e = ap (λ (o : Option ℕ). unwrap_or o 0) e
 
 pub frame-adds : (c : Parts) (table entry : ℕ) (due left : List ℕ) (hurt : Bool) (m l : Link) (f : List ℕ) → IsSound c → HasNad c m.node → HasNad c l.node → IsFrameOf (nad_on c m) f
     → Adds c (frame_slot table entry due left hurt m f) l (same_link m l) hurt f

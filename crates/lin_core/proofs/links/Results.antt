@@ -4,10 +4,10 @@ use Rattle.std.specs.Prelude.{⊤, Option, Some, None, cond, ◌&&◌, if◌then
 use Rattle.std.proofs.lemmas.List.{append-nil, map-append, length-append}
 use Rattle.std.proofs.lemmas.List.Elements.{filter-append}
 use Rattle.lin_transport.specs.Transport.{frames, messages_in, Heard, first}
-use Rattle.lin_parts.specs.declared.parts.Parts.{Parts}
+use Rattle.lin_cluster_parts.specs.declared.parts.Parts.{Parts}
 use Rattle.lin_core.specs.Links.{Link, Message, Sign, Fate, fate, frames_of, Sending, nad_on, sendings_from}
 use Rattle.lin_core.specs.Links.Fate.{Waiting, Sent, Lost}
-use Rattle.lin_core.specs.Law.{is_sent, sent_over, IsPrefix, InOrder}
+use Rattle.lin_core.specs.Law.{is_sent, is_sent_over, IsPrefix, InOrder}
 use Rattle.lin_transport.proofs.Frames.{reads-none, and-false, count-some}
 use Rattle.lin_core.proofs.links.Fates.{goods-wait}
 use Rattle.lin_core.proofs.links.Tracks.{AreSettled, sent_of, reads-nothing}
@@ -99,9 +99,9 @@ pub went-if : (c : Parts) (q : Bool) (x : Sending) (xs : List Sending) (ys : Lis
 went-if c true x xs ys e = ap (λ (zs : List (List ℕ)). x.message.bytes ∷ zs) e
 went-if c false x xs ys e = e
 
-pub went-outcomes : (c : Parts) (l : Link) (xs : List Sending) → map (λ (s : Sending). s.message.bytes) (filter (sent_over c l) xs) ≡ map bytes_of (filter (went l) (map (outcome c) xs))
+pub went-outcomes : (c : Parts) (l : Link) (xs : List Sending) → map (λ (s : Sending). s.message.bytes) (filter (is_sent_over c l) xs) ≡ map bytes_of (filter (went l) (map (outcome c) xs))
 went-outcomes c l [] = refl
-went-outcomes c l (x ∷ xs) = went-if c (sent_over c l x) x (filter (sent_over c l) xs) (filter (went l) (map (outcome c) xs)) (went-outcomes c l xs)
+went-outcomes c l (x ∷ xs) = went-if c (is_sent_over c l x) x (filter (is_sent_over c l) xs) (filter (went l) (map (outcome c) xs)) (went-outcomes c l xs)
 
 pub went-waiting : (l : Link) (ms : List Message) → filter (went l) (map waiting_one ms) ≡ []
 went-waiting l [] = refl
@@ -119,7 +119,7 @@ went-done l [] = refl
 went-done l (p ∷ ps) = went-done-by l (on l p.0) p.0 p.1 ps (went-done l ps)
 
 pub sent-are : (c : Parts) (h : ℕ) (blocks : Link → List (List Sign)) (accepted : List Message) (done : List (Message × Fate)) (rest : List Message) (b : List Sign) (l : Link)
-    → Holds c h blocks accepted done rest b → map (λ (s : Sending). s.message.bytes) (filter (sent_over c l) (sendings_from blocks [] accepted)) ≡ sent_of (on_link l done)
+    → Holds c h blocks accepted done rest b → map (λ (s : Sending). s.message.bytes) (filter (is_sent_over c l) (sendings_from blocks [] accepted)) ≡ sent_of (on_link l done)
 sent-are c h blocks accepted done rest b l t =
     went-outcomes c l (sendings_from blocks [] accepted)
     ∙ ap (λ (ps : List (Message × Fate)). map bytes_of (filter (went l) ps)) (outcomes c h blocks accepted done rest b t)

@@ -4,10 +4,10 @@ use Rattle.std.specs.Prelude.{⊤, Option, Some, None, cond, ◌==◌, if◌then
 use Rattle.std.proofs.lemmas.Bool.Decides.{nat_tests}
 use Rattle.std.proofs.lemmas.List.{append-nil, map-append, length-append, get_or_past}
 use Rattle.std.proofs.lemmas.List.Elements.{filter-append}
-use Rattle.lin_frame.specs.Words.{choose}
+use Rattle.std.specs.Option.{option_map_or}
 use Rattle.lin_transport.specs.Transport.{frame, frames, frame_count, Heard, CanSend, first}
-use Rattle.lin_parts.specs.Cluster.{nad}
-use Rattle.lin_parts.specs.declared.parts.Parts.{Parts}
+use Rattle.lin_cluster_parts.specs.Cluster.{nad}
+use Rattle.lin_cluster_parts.specs.declared.parts.Parts.{Parts}
 use Rattle.lin_core.specs.Links.{Link, same_dir, same_link, Message, host_of, Sign, Fate, fate, is_waiting, frames_of, begins_good, blocks_of, Sending, nad_on, sendings_from, fate_of, waits, is_begun}
 use Rattle.lin_core.specs.declared.link.Direction.{Direction}
 use Rattle.lin_core.specs.declared.link.Direction.TheVariants.{Down, Up}
@@ -345,6 +345,6 @@ host-stands c h blocks accepted heard signs s e t = record {
 -- the frame that comes next
 pub next-begun : (c : Parts) (h : ℕ) (blocks : Link → List (List Sign)) (accepted : List Message) (done : List (Message × Fate)) (m : Message) (ms : List Message) (j : ℕ) (rest : List ℕ)
     → Stands c h blocks accepted (record { done = done; rest = m ∷ ms; count = suc j })
-    → choose (find (is_begun c) (sendings_from blocks [] accepted)) rest (λ s. frame_at c s (length (frames_of s.block))) ≡ frame (nad_on c m.link) m.bytes (suc j)
+    → option_map_or (λ s. frame_at c s (length (frames_of s.block))) (find (is_begun c) (sendings_from blocks [] accepted)) rest ≡ frame (nad_on c m.link) m.bytes (suc j)
 next-begun c h blocks accepted done m ms j rest t =
     rw (begun-first c h blocks accepted done m ms j t, goods-frames (first (nad_on c m.link) m.bytes (suc j)), length-first (nad_on c m.link) m.bytes (suc j))

@@ -6,9 +6,9 @@ use Rattle.std.proofs.lemmas.List.{append-nil}
 use Rattle.lin_transport.specs.Transport.{first, frame}
 use Rattle.lin_transport.specs.Sender.{Sending as Sender}
 use Rattle.lin_transport.proofs.Frames.{length-first}
-use Rattle.lin_parts.specs.declared.parts.Parts.{Parts}
-use Rattle.lin_parts.specs.Sound.{IsSound}
-use Rattle.lin_core.specs.History.{Slot, asked, open_slot}
+use Rattle.lin_cluster_parts.specs.declared.parts.Parts.{Parts}
+use Rattle.lin_cluster_parts.specs.Sound.{IsSound}
+use Rattle.lin_core.specs.History.{Slot, is_sleep_asked, open_slot}
 use Rattle.lin_core.specs.kept.Hosts.{sender_now, sender_of}
 use Rattle.lin_core.specs.Links.{Link, same_link, Message, Sending, Sign, Fate, accepted_from, begins_good, blocks, blocks_of, fate_of, heard_on, is_begun, is_good, is_waiting, nad_on, sendings_from, signs}
 use Rattle.lin_core.specs.Links.Sign.{Put}
@@ -106,7 +106,7 @@ plain-sender c past h k e =
     in held-sender c h (blocks c past) (accepted_from past h) s.done s.rest s.count (begun_block c s.rest s.count) (k.hosts h).counts
     (plain-held c h (blocks c past) (accepted_from past h) (heard_on c past) (signs c past) s e (k.hosts h)) (plain-good c s.rest s.count (k.hosts h).counts)
 
-sender-by : (c : Parts) (past : List LogEntry) (h : ℕ) → IsSound c → (k : Known c past) → (o : Option Slot) → open_slot past ≡ o → SlotIs c (asked past) k.states o → sender_now c past h ≡ sender_for c (k.states h).rest (k.states h).count
+sender-by : (c : Parts) (past : List LogEntry) (h : ℕ) → IsSound c → (k : Known c past) → (o : Option Slot) → open_slot past ≡ o → SlotIs c (is_sleep_asked past) k.states o → sender_now c past h ≡ sender_for c (k.states h).rest (k.states h).count
 sender-by c past h sound k None is closed = plain-sender c past h k (λ l i. blocks-closed c past l is)
 sender-by c past h sound k (Some _) is (other s p q) = plain-sender c past h k (λ l i. put-no c past l s is (put-other c s l.node l.dir p q))
 sender-by c past h sound k (Some _) is (master table entry due left hurt line only w) = plain-sender c past h k (λ l i. blocks-empty c past l table entry (Some 0x3C) due left hurt is)

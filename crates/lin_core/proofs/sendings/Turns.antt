@@ -6,11 +6,11 @@ use Rattle.std.proofs.lemmas.Bool.{ne_eqb}
 use Rattle.std.proofs.lemmas.List.{append-nil}
 use Rattle.lin_transport.specs.Transport.{frame}
 use Rattle.lin_transport.proofs.Frames.{and-false}
-use Rattle.lin_parts.specs.Cluster.{line_of}
-use Rattle.lin_parts.specs.Sound.{IsSound}
-use Rattle.lin_parts.specs.declared.parts.Parts.{Parts}
-use Rattle.lin_core.specs.History.{Slot, asked, has_decided, header_is, is_in, is_sleep_slot, open_slot}
-use Rattle.lin_core.specs.Links.{Fate, Link, Message, Sending, Sign, accepted_from, begun, blocks, heard_on, diagnostic_header, host_of, is_begun, nad_on, same_link, sendings, sendings_from, signs, waiting}
+use Rattle.lin_cluster_parts.specs.Cluster.{line_of}
+use Rattle.lin_cluster_parts.specs.Sound.{IsSound}
+use Rattle.lin_cluster_parts.specs.declared.parts.Parts.{Parts}
+use Rattle.lin_core.specs.History.{Slot, is_sleep_asked, has_decided, header_is, is_in, is_sleep_slot, open_slot}
+use Rattle.lin_core.specs.Links.{Fate, Link, Message, Sending, Sign, accepted_from, begun_sending, blocks, heard_on, diagnostic_header, host_of, is_begun, nad_on, same_link, sendings, sendings_from, signs, waiting}
 use Rattle.lin_core.specs.Replies.{begun_on, in_slot, link_at, refusal}
 use Rattle.lin_core.specs.Slots.{next_frame, put, sleep_frame, with_classic}
 use Rattle.lin_core.specs.kept.Slots.{pdu_of}
@@ -41,12 +41,12 @@ pub next-of : (c : Parts) (past : List LogEntry) (h : ℕ) (done : List (Message
     → HostIs c h (accepted_from past h) (heard_on c past) (signs c past) (record { done = done; rest = rest; count = k }) → next_frame c past h sleeping ≡ next_of c rest k sleeping
 next-of c past h done [] k sleeping q i =
     let st : Stands c h (blocks c past) (accepted_from past h) (record { done = done; rest = []; count = k }) = stands c past h (record { done = done; rest = []; count = k }) q i
-    in let e : begun c past h ≡ None = begun-none c h (blocks c past) (accepted_from past h) done k st
+    in let e : begun_sending c past h ≡ None = begun-none c h (blocks c past) (accepted_from past h) done k st
     in let w : waiting c past h ≡ [] = waiting-none c h (blocks c past) (accepted_from past h) done k st
     in rw (e, w)
 next-of c past h done (m ∷ ms) zero sleeping q i =
     let st : Stands c h (blocks c past) (accepted_from past h) (record { done = done; rest = m ∷ ms; count = 0 }) = stands c past h (record { done = done; rest = m ∷ ms; count = 0 }) q i
-    in let e : begun c past h ≡ None = begun-fresh c h (blocks c past) (accepted_from past h) done m ms st
+    in let e : begun_sending c past h ≡ None = begun-fresh c h (blocks c past) (accepted_from past h) done m ms st
     in rw (e, waiting-fresh c h (blocks c past) (accepted_from past h) done m ms st)
 next-of c past h done (m ∷ ms) (suc j) sleeping q i =
     next-begun c h (blocks c past) (accepted_from past h) done m ms j _ (stands c past h (record { done = done; rest = m ∷ ms; count = suc j }) q i)
@@ -84,12 +84,12 @@ begun-by : (c : Parts) (past : List LogEntry) (n : ℕ) (d : Direction) (done : 
     → is_some (begun_on c past n d) ≡ begun_at rest k (link_at n d)
 begun-by c past n d done [] zero q i =
     let h : ℕ = host_of (link_at n d)
-    in let e : begun c past h ≡ None = begun-none c h (blocks c past) (accepted_from past h) done 0 (stands c past h (record { done = done; rest = []; count = 0 }) q i)
+    in let e : begun_sending c past h ≡ None = begun-none c h (blocks c past) (accepted_from past h) done 0 (stands c past h (record { done = done; rest = []; count = 0 }) q i)
     in rw (find-no (is_begun c) (λ s. same_link s.message.link (link_at n d)) (sendings c past h) e)
 begun-by c past n d done [] (suc j) q i = absurd i.counts
 begun-by c past n d done (m ∷ ms) zero q i =
     let h : ℕ = host_of (link_at n d)
-    in let e : begun c past h ≡ None = begun-fresh c h (blocks c past) (accepted_from past h) done m ms (stands c past h (record { done = done; rest = m ∷ ms; count = 0 }) q i)
+    in let e : begun_sending c past h ≡ None = begun-fresh c h (blocks c past) (accepted_from past h) done m ms (stands c past h (record { done = done; rest = m ∷ ms; count = 0 }) q i)
     in rw (find-no (is_begun c) (λ s. same_link s.message.link (link_at n d)) (sendings c past h) e)
 begun-by c past n d done (m ∷ ms) (suc j) q i =
     let h : ℕ = host_of (link_at n d)
@@ -112,12 +112,12 @@ begun-is c past n d none k =
 -- what an answer that is done finds, and what it puts
 pub data AnswerIs (c : Parts) (past : List LogEntry) (states : ℕ → HostState) (node : ℕ) : Slot → Type 0 where
   signals : (s : Slot) → header_is 0x3C s.header ≡ false → header_is 0x7D s.header ≡ false → AnswerIs c past states node s
-  request : (s : Slot) → s.header ≡ Some 0x3C → s.puts ≡ [] → node ≡ 0 → (has_rest (states 0).rest || asked past) ≡ true
-      → put c past (line_of c s.table s.entry).entry 0x3C node ≡ with_classic (next_of c (states 0).rest (states 0).count (asked past)) → AnswerIs c past states node s
+  request : (s : Slot) → s.header ≡ Some 0x3C → s.puts ≡ [] → node ≡ 0 → (has_rest (states 0).rest || is_sleep_asked past) ≡ true
+      → put c past (line_of c s.table s.entry).entry 0x3C node ≡ with_classic (next_of c (states 0).rest (states 0).count (is_sleep_asked past)) → AnswerIs c past states node s
   response : (s : Slot) → s.header ≡ Some 0x7D → s.puts ≡ [] → node ≢ 0 → has_rest (states node).rest ≡ true
       → put c past (line_of c s.table s.entry).entry 0x7D node ≡ with_classic (next_of c (states node).rest (states node).count false) → AnswerIs c past states node s
 
-answer-by : (c : Parts) (past : List LogEntry) (node : ℕ) → (k : Known c past) → (o : Option Slot) → open_slot past ≡ o → SlotIs c (asked past) k.states o
+answer-by : (c : Parts) (past : List LogEntry) (node : ℕ) → (k : Known c past) → (o : Option Slot) → open_slot past ≡ o → SlotIs c (is_sleep_asked past) k.states o
     → in_slot past (λ s. is_in s.due node) ≡ true → in_slot past (λ s. has_decided s node) ≡ false → (s : Slot) → o ≡ Some s → AnswerIs c past k.states node s
 answer-by c past node k None is closed d decided s e = cc
 answer-by c past node k (Some _) is (other t p q) d decided s e = subst (AnswerIs c past k.states node) (let same : t ≡ s = cc in same) (signals t p q)
@@ -125,8 +125,8 @@ answer-by c past node k (Some _) is (master table entry due left hurt line only 
     let t : Slot = slot_of table entry (Some 0x3C) due [] left hurt
     in let z : node ≡ 0 = only node (rw is at d)
     in let quiet : IsQuietNow c past = record { blocks = λ l. blocks-empty c past l table entry (Some 0x3C) due left hurt is }
-    in let bytes : put c past (line_of c table entry).entry 0x3C node ≡ with_classic (next_of c (k.states 0).rest (k.states 0).count (asked past))
-    = rw line (ap with_classic (next-of c past 0 (k.states 0).done (k.states 0).rest (k.states 0).count (asked past) quiet (k.hosts 0)))
+    in let bytes : put c past (line_of c table entry).entry 0x3C node ≡ with_classic (next_of c (k.states 0).rest (k.states 0).count (is_sleep_asked past))
+    = rw line (ap with_classic (next-of c past 0 (k.states 0).done (k.states 0).rest (k.states 0).count (is_sleep_asked past) quiet (k.hosts 0)))
     in subst (AnswerIs c past k.states node) (let same : t ≡ s = cc in same) (request t refl refl z w bytes)
 answer-by c past node k (Some _) is (slave table entry due left hurt h line only w) d decided s e =
     let t : Slot = slot_of table entry (Some 0x7D) due [] left hurt
@@ -174,7 +174,7 @@ pub data FinishIs (c : Parts) (states states' : ℕ → HostState) : Option Slot
 pub other-pdu : (s : Slot) → header_is 0x3C s.header ≡ false → header_is 0x7D s.header ≡ false → pdu_of s ≡ Nothing
 other-pdu s p q = rw (p, q)
 
-pub finish-is : (c : Parts) (past : List LogEntry) (port : PortId) (es : List Event) (sound : IsSound c) (k : Known c past) → (o : Option Slot) (is : open_slot past ≡ o) (shape : SlotIs c (asked past) k.states o)
+pub finish-is : (c : Parts) (past : List LogEntry) (port : PortId) (es : List Event) (sound : IsSound c) (k : Known c past) → (o : Option Slot) (is : open_slot past ≡ o) (shape : SlotIs c (is_sleep_asked past) k.states o)
     → FinishIs c k.states ((finish-known c past port es sound k o is shape).states) o
 finish-is c past port es sound k None is closed = shut (λ x. refl)
 finish-is c past port es sound k (Some _) is (other s p q) = still s (other-pdu s p q) (other-awake s p) (λ x. refl)

@@ -3,17 +3,17 @@ use Rattle.std.proofs.Common.{◌≡◌, ℕ, zero, suc, get_or, ◌<◌, ◌≤
 use Rattle.std.specs.Prelude.{Option, Some, None, IfSome, IsTrue, All, find, if◌then◌else◌, ◌&&◌}
 use Rattle.std.specs.List.{AllZip}
 use Rattle.std.proofs.lemmas.List.Elements.{All-get_or}
-use Rattle.lin_frame.specs.Bits.{all_fit, fits_place, good_layout}
+use Rattle.lin_frame.specs.Bits.{all_fit, fits_place, is_good_layout}
 use Rattle.lin_frame.specs.declared.layout.Place.{Place}
 use Rattle.lin_frame.specs.declared.value.Value.{Value}
 use Rattle.lin_frame.specs.declared.value.Value.TheVariants.{Scalar, Bytes}
-use Rattle.lin_parts.specs.Cluster.{signal_of, frame_of, sporadic_of, event_of}
-use Rattle.lin_parts.specs.Rules.{place_at, IsCluster, IsCommanders, IsResponders, IsSignalAt}
-use Rattle.lin_parts.specs.declared.parts.EventFrame.{EventFrame}
-use Rattle.lin_parts.specs.declared.parts.SignalFrame.{SignalFrame}
-use Rattle.lin_parts.specs.declared.parts.Parts.{Parts}
+use Rattle.lin_cluster_parts.specs.Cluster.{signal_of, frame_of, sporadic_of, event_of}
+use Rattle.lin_cluster_parts.specs.Rules.{place_at, IsCluster, IsCommanders, IsResponders, IsSignalAt}
+use Rattle.lin_cluster_parts.specs.declared.parts.EventFrame.{EventFrame}
+use Rattle.lin_cluster_parts.specs.declared.parts.SignalFrame.{SignalFrame}
+use Rattle.lin_cluster_parts.specs.declared.parts.Parts.{Parts}
 use Rattle.lin_frame.specs.declared.sums.SumKind.TheVariants.{Enhanced}
-use Rattle.lin_parts.specs.declared.parts.Signal.{Signal}
+use Rattle.lin_cluster_parts.specs.declared.parts.Signal.{Signal}
 
 -- the signal and the frames of numbers out of range
 abbrev pub no_signal : Signal
@@ -104,7 +104,7 @@ zip-fits c publisher g (p ∷ ps) (s ∷ ss) z fits =
     (subst IsTrue (fits-anywhere (place_at 0 (signal_of c s)) p (g s) (sym (ap (λ (q : Place). q.size) at)) (sym (ap (λ (q : Place). q.array) at))) own) (zip-fits c publisher g ps ss z.1 fits)
 
 pub record FrameIs (c : Parts) (f : ℕ) : Type 0 where
-  pub good : IsTrue (good_layout (frame_of c f).layout)
+  pub good : IsTrue (is_good_layout (frame_of c f).layout)
   pub known : All (λ s. s < length c.signals) (frame_of c f).signals
   pub same : length (frame_of c f).signals ≡ length (frame_of c f).layout.places
   pub fits : (g : ℕ → Value) → ((s : ℕ) → s < length c.signals → IsTrue (fits_place (place_at 0 (signal_of c s)) (g s))) → IsTrue (all_fit (frame_of c f).layout.places (map g (frame_of c f).signals))
@@ -114,7 +114,7 @@ frame-is c f rules l =
     let z : AllZip (IsSignalAt c (frame_of c f).publisher) (frame_of c f).layout.places (frame_of c f).signals
     = All-get_or (λ (x : SignalFrame). AllZip (IsSignalAt c x.publisher) x.layout.places x.signals) c.frames f no_frame l rules.frames.signals
     in record {
-      good = All-get_or (λ (x : SignalFrame). IsTrue (good_layout x.layout)) c.frames f no_frame l rules.frames.layouts;
+      good = All-get_or (λ (x : SignalFrame). IsTrue (is_good_layout x.layout)) c.frames f no_frame l rules.frames.layouts;
       known = zip-known c (frame_of c f).publisher (frame_of c f).layout.places (frame_of c f).signals z;
       same = zip-long c (frame_of c f).publisher (frame_of c f).layout.places (frame_of c f).signals z;
       fits = λ g fits. zip-fits c (frame_of c f).publisher g (frame_of c f).layout.places (frame_of c f).signals z fits;

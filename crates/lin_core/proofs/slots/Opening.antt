@@ -7,23 +7,24 @@ use Rattle.std.proofs.lemmas.Bool.{ne_eqb}
 use Rattle.std.proofs.lemmas.Bool.Decides.{eqb_tells, nat_tests}
 use Rattle.std.proofs.lemmas.List.{map-append}
 use Rattle.std.proofs.lemmas.List.Folds.{list_any-append}
-use Rattle.lin_frame.specs.Words.{choose, numbers}
-use Rattle.lin_parts.specs.Cluster.{frame_of, sporadic_of, event_of, line_of, nodes}
-use Rattle.lin_parts.specs.Rules.{IsCluster, IsEntry}
-use Rattle.lin_parts.specs.Sound.{IsSignalPid, IsSound}
-use Rattle.lin_parts.specs.declared.parts.Parts.{Parts}
-use Rattle.lin_parts.specs.declared.parts.Entry.{Entry}
-use Rattle.lin_parts.specs.declared.parts.Entry.TheVariants.{Frame, Sporadic, Event, MasterReq, SlaveResp, Quiet}
+use Rattle.std.specs.Option.{option_map_or}
+use Rattle.lin_frame.specs.Words.{numbers}
+use Rattle.lin_cluster_parts.specs.Cluster.{frame_of, sporadic_of, event_of, line_of, nodes}
+use Rattle.lin_cluster_parts.specs.Rules.{IsCluster, IsEntry}
+use Rattle.lin_cluster_parts.specs.Sound.{IsSignalPid, IsSound}
+use Rattle.lin_cluster_parts.specs.declared.parts.Parts.{Parts}
+use Rattle.lin_cluster_parts.specs.declared.parts.Entry.{Entry}
+use Rattle.lin_cluster_parts.specs.declared.parts.Entry.TheVariants.{Frame, Sporadic, Event, MasterReq, SlaveResp, Quiet}
 use Rattle.lin_schedule.specs.Due.{due_for}
 use Rattle.lin_schedule.specs.Walker.{HasEntry}
 use Rattle.lin_transport.proofs.Frames.{and-false}
 use Rattle.lin_core.proofs.links.Finishes.{and-true}
 use Rattle.lin_core.specs.kept.Slots.{HasDue, header_of, is_due_of, CanAnswer, IsOpen, put_in, slot_in}
-use Rattle.lin_core.specs.History.{asked, has_decided, header_is, is_in, open_slot}
+use Rattle.lin_core.specs.History.{is_sleep_asked, has_decided, header_is, is_in, open_slot}
 use Rattle.lin_core.specs.Links.{waiting}
 use Rattle.lin_core.specs.Replies.{refusal}
-use Rattle.lin_core.specs.Signals.{pending}
-use Rattle.lin_core.specs.Slots.{due_nodes, header, is_due, selected}
+use Rattle.lin_core.specs.Signals.{is_pending}
+use Rattle.lin_core.specs.Slots.{due_nodes, header, is_due, selected_node}
 use Rattle.lin_core.specs.declared.log.LogEntry.{LogEntry}
 use Rattle.lin_core.specs.declared.port.PortId.{PortId}
 use Rattle.lin_core.specs.declared.slot.OpenSlot.{OpenSlot}
@@ -44,40 +45,40 @@ some-if : (b : Bool) → is_some {T = ℕ} (if b then Some 0x3C else None) ≡ b
 some-if true = refl
 some-if false = refl
 
-pub header-due : (c : Parts) (past : List LogEntry) (flags : List Bool) (waits : Bool) (kind : Entry) → ((f : ℕ) → slice_index_or flags f false ≡ pending c past f) → (nat_lt 0 (length (waiting c past 0)) || asked past) ≡ waits
+pub header-due : (c : Parts) (past : List LogEntry) (flags : List Bool) (waits : Bool) (kind : Entry) → ((f : ℕ) → slice_index_or flags f false ≡ is_pending c past f) → (nat_lt 0 (length (waiting c past 0)) || is_sleep_asked past) ≡ waits
     → header_of c waits (due_for c flags kind) ≡ header c past kind
 header-due c past flags waits (Frame f) e w = refl
-header-due c past flags waits (Sporadic k) e w = ap (λ (p : ℕ → Bool). option_map (λ f. (frame_of c f).pid) (find p (sporadic_of c k))) (same-flags flags (pending c past) e)
+header-due c past flags waits (Sporadic k) e w = ap (λ (p : ℕ → Bool). option_map (λ f. (frame_of c f).pid) (find p (sporadic_of c k))) (same-flags flags (is_pending c past) e)
 header-due c past flags waits (Event v) e w = refl
 header-due c past flags waits MasterReq e w = rw w refl
 header-due c past flags waits SlaveResp e w = refl
 header-due c past flags waits Quiet e w = refl
 
-responder-by : (c : Parts) (past : List LogEntry) (n k : ℕ) (b : Bool) → nat_lt 0 (length (waiting c past k)) ≡ b → choose (if b then Some k else None) false (λ x. n == x) ≡ (n == k && nat_lt 0 (length (waiting c past k)))
+responder-by : (c : Parts) (past : List LogEntry) (n k : ℕ) (b : Bool) → nat_lt 0 (length (waiting c past k)) ≡ b → option_map_or (λ x. n == x) (if b then Some k else None) false ≡ (n == k && nat_lt 0 (length (waiting c past k)))
 responder-by c past n k true e = rw e (sym (and-true (n == k)))
 responder-by c past n k false e = rw e (sym (and-false (n == k)))
 
 responder-due : (c : Parts) (past : List LogEntry) (n : ℕ) (o : Option ℕ)
-    → choose (choose o None (λ k. if nat_lt 0 (length (waiting c past k)) then Some k else None)) false (λ x. n == x) ≡ choose o false (λ k. n == k && nat_lt 0 (length (waiting c past k)))
+    → option_map_or (λ x. n == x) (option_map_or (λ k. if nat_lt 0 (length (waiting c past k)) then Some k else None) o None) false ≡ option_map_or (λ k. n == k && nat_lt 0 (length (waiting c past k))) o false
 responder-due c past n None = refl
 responder-due c past n (Some k) = responder-by c past n k (nat_lt 0 (length (waiting c past k))) refl
 
 -- the responder that is due in a slave response: the selected one, where one of its messages waits
 abbrev pub responder_now : Parts → List LogEntry → Option ℕ
-responder_now c past = choose (selected c past) None (λ k. if nat_lt 0 (length (waiting c past k)) then Some k else None)
+responder_now c past = option_map_or (λ k. if nat_lt 0 (length (waiting c past k)) then Some k else None) (selected_node c past) None
 
-due-due : (c : Parts) (past : List LogEntry) (flags : List Bool) (waits : Bool) (responder : Option ℕ) (kind : Entry) (n : ℕ) → ((f : ℕ) → slice_index_or flags f false ≡ pending c past f) → (nat_lt 0 (length (waiting c past 0)) || asked past) ≡ waits → responder ≡ responder_now c past
+due-due : (c : Parts) (past : List LogEntry) (flags : List Bool) (waits : Bool) (responder : Option ℕ) (kind : Entry) (n : ℕ) → ((f : ℕ) → slice_index_or flags f false ≡ is_pending c past f) → (nat_lt 0 (length (waiting c past 0)) || is_sleep_asked past) ≡ waits → responder ≡ responder_now c past
     → is_due_of c flags waits responder (due_for c flags kind) n ≡ is_due c past kind n
 due-due c past flags waits responder (Frame f) n e w r = refl
 due-due c past flags waits responder (Sporadic k) n e w r =
-    ap (λ (p : ℕ → Bool). n == 0 && is_some (find p (sporadic_of c k))) (same-flags flags (pending c past) e)
-    ∙ ap (λ (b : Bool). n == 0 && b) (sym (some-map (find (pending c past) (sporadic_of c k)) (λ f. (frame_of c f).pid)))
-due-due c past flags waits responder (Event v) n e w r = ap (λ (p : ℕ → Bool). list_any (λ f. n == (frame_of c f).publisher && p f) (event_of c v).frames) (same-flags flags (pending c past) e)
-due-due c past flags waits responder MasterReq n e w r = ap (λ (b : Bool). n == 0 && b) (sym w ∙ sym (some-if (nat_lt 0 (length (waiting c past 0)) || asked past)))
-due-due c past flags waits responder SlaveResp n e w r = rw r (responder-due c past n (selected c past))
+    ap (λ (p : ℕ → Bool). n == 0 && is_some (find p (sporadic_of c k))) (same-flags flags (is_pending c past) e)
+    ∙ ap (λ (b : Bool). n == 0 && b) (sym (some-map (find (is_pending c past) (sporadic_of c k)) (λ f. (frame_of c f).pid)))
+due-due c past flags waits responder (Event v) n e w r = ap (λ (p : ℕ → Bool). list_any (λ f. n == (frame_of c f).publisher && p f) (event_of c v).frames) (same-flags flags (is_pending c past) e)
+due-due c past flags waits responder MasterReq n e w r = ap (λ (b : Bool). n == 0 && b) (sym w ∙ sym (some-if (nat_lt 0 (length (waiting c past 0)) || is_sleep_asked past)))
+due-due c past flags waits responder SlaveResp n e w r = rw r (responder-due c past n (selected_node c past))
 due-due c past flags waits responder Quiet n e w r = refl
 
-pub nodes-due : (c : Parts) (past : List LogEntry) (flags : List Bool) (waits : Bool) (responder : Option ℕ) (kind : Entry) → ((f : ℕ) → slice_index_or flags f false ≡ pending c past f) → (nat_lt 0 (length (waiting c past 0)) || asked past) ≡ waits → responder ≡ responder_now c past
+pub nodes-due : (c : Parts) (past : List LogEntry) (flags : List Bool) (waits : Bool) (responder : Option ℕ) (kind : Entry) → ((f : ℕ) → slice_index_or flags f false ≡ is_pending c past f) → (nat_lt 0 (length (waiting c past 0)) || is_sleep_asked past) ≡ waits → responder ≡ responder_now c past
     → filter (is_due_of c flags waits responder (due_for c flags kind)) (numbers (nodes c)) ≡ due_nodes c past kind
 nodes-due c past flags waits responder kind e w r =
     ap (λ (p : ℕ → Bool). filter p (numbers (nodes c))) (fun_ext {f = is_due_of c flags waits responder (due_for c flags kind)} {g = is_due c past kind} (λ n. due-due c past flags waits responder kind n e w r))
@@ -100,7 +101,7 @@ request-some c (Some f) kind sound h = request-pid (frame_of c f).pid kind (soun
 
 pub request-is : (c : Parts) (past : List LogEntry) (kind : Entry) → IsSound c → header_is 0x3C (header c past kind) ≡ true → kind ≡ MasterReq
 request-is c past (Frame f) sound h = request-pid (frame_of c f).pid (Frame f) (sound.frames f) h
-request-is c past (Sporadic k) sound h = request-some c (find (pending c past) (sporadic_of c k)) (Sporadic k) sound h
+request-is c past (Sporadic k) sound h = request-some c (find (is_pending c past) (sporadic_of c k)) (Sporadic k) sound h
 request-is c past (Event e) sound h = request-pid (event_of c e).pid (Event e) (sound.events e) h
 request-is c past MasterReq sound h = refl
 request-is c past SlaveResp sound h = cc
@@ -144,14 +145,14 @@ request-answers c n false h = absurd (cc)
 pub can-answer : (c : Parts) (past : List LogEntry) (kind : Entry) (n : ℕ) → is_due c past kind n ≡ true → CanAnswer c kind (header c past kind) n
 can-answer c past (Frame f) n h = ((frame_of c f).pid, refl, inl (f, refl))
 can-answer c past (Sporadic k) n h =
-    sporadic-answers c k n (pending c past) (find (pending c past) (sporadic_of c k)) refl (and-parts (n == 0) (is_some (option_map (λ f. (frame_of c f).pid) (find (pending c past) (sporadic_of c k)))) h).1
+    sporadic-answers c k n (is_pending c past) (find (is_pending c past) (sporadic_of c k)) refl (and-parts (n == 0) (is_some (option_map (λ f. (frame_of c f).pid) (find (is_pending c past) (sporadic_of c k)))) h).1
 can-answer c past (Event e) n h = (
   (event_of c e).pid,
   refl,
-  inl (any-found (λ f. n == (frame_of c f).publisher && pending c past f) (λ f. n == (frame_of c f).publisher) (event_of c e).frames (λ f t. (and-parts (n == (frame_of c f).publisher) (pending c past f) t).0) h),
+  inl (any-found (λ f. n == (frame_of c f).publisher && is_pending c past f) (λ f. n == (frame_of c f).publisher) (event_of c e).frames (λ f t. (and-parts (n == (frame_of c f).publisher) (is_pending c past f) t).0) h),
 )
 can-answer c past MasterReq n h =
-    let waits : Bool = nat_lt 0 (length (waiting c past 0)) || asked past
+    let waits : Bool = nat_lt 0 (length (waiting c past 0)) || is_sleep_asked past
     in request-answers c n waits (and-parts (n == 0) (is_some {T = ℕ} (if waits then Some 0x3C else None)) h).1
 can-answer c past SlaveResp n h = (0x7D, refl, inr (inr (refl, refl)))
 can-answer c past Quiet n h = absurd (cc)

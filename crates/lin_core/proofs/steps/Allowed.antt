@@ -4,9 +4,9 @@ use Rattle.std.specs.Prelude.{Option, Some, nat_le, not, slice_get, slice_index_
 use Rattle.std.proofs.lemmas.Bool.Decides.{nat_tests}
 use Rattle.std.proofs.lemmas.List.{length-append}
 use Rattle.std.proofs.lemmas.Option.{slice_get_read}
-use Rattle.lin_parts.specs.Cluster.{nodes}
+use Rattle.lin_cluster_parts.specs.Cluster.{nodes}
 use Rattle.lin_core.specs.Core.{answered}
-use Rattle.lin_core.specs.History.{closed, has_decided, is_in, open_slot}
+use Rattle.lin_core.specs.History.{is_host_closed, has_decided, is_in, open_slot}
 use Rattle.lin_core.specs.kept.State.{Keeps, stage_data, done_of, IsKept, IsMade, IsReady, Stage}
 use Rattle.lin_core.specs.kept.Slots.{slot_in}
 use Rattle.lin_core.specs.Replies.{done_events, is_open, refusals}
@@ -87,7 +87,7 @@ leave-room a by node o n =
     in omega arith
 
 -- == a refusal
-pub closed-inside : (a : Stage) (hosts : List Host) (h : ℕ) (shut : Bool) → IsKept a → hosts ≡ a.state.hosts.items → ((host : Host) → slice_get hosts h ≡ Some host → shut ≡ host.closed) → h < nodes a.cluster → closed (past_in a) h ≡ shut
+pub closed-inside : (a : Stage) (hosts : List Host) (h : ℕ) (shut : Bool) → IsKept a → hosts ≡ a.state.hosts.items → ((host : Host) → slice_get hosts h ≡ Some host → shut ≡ host.closed) → h < nodes a.cluster → is_host_closed (past_in a) h ≡ shut
 closed-inside a hosts h shut w e is below =
     let count = w.kept.hosts_count
     in let x = get-there a.state.hosts.items h (omega arith)

@@ -3,17 +3,17 @@ use Rattle.std.proofs.Common.{◌≡◌, ℕ, ◌<◌, ◌≤◌, Bool, true, fa
 use Rattle.std.specs.Prelude.{Option, Some, None, IfSome, ◌&&◌, ◌||◌, ◌==◌, if◌then◌else◌, is_some, slice_index_or, slice_set, vec_capacity}
 use Rattle.std.proofs.lemmas.Bool.Decides.{nat_tests}
 use Rattle.std.proofs.Math.ListN.{length-set}
-use Rattle.lin_frame.specs.Words.{choose}
+use Rattle.std.specs.Option.{option_map_or}
 use Rattle.lin_frame.specs.Frame.{answer_of}
-use Rattle.lin_parts.specs.Cluster.{frame_of, line_of}
-use Rattle.lin_parts.specs.declared.parts.Parts.{Parts}
-use Rattle.lin_parts.specs.declared.parts.Entry.{Entry}
-use Rattle.lin_parts.specs.declared.parts.Entry.TheVariants.{Frame, Sporadic, Event as EventEntry, MasterReq, SlaveResp, Quiet}
+use Rattle.lin_cluster_parts.specs.Cluster.{frame_of, line_of}
+use Rattle.lin_cluster_parts.specs.declared.parts.Parts.{Parts}
+use Rattle.lin_cluster_parts.specs.declared.parts.Entry.{Entry}
+use Rattle.lin_cluster_parts.specs.declared.parts.Entry.TheVariants.{Frame, Sporadic, Event as EventEntry, MasterReq, SlaveResp, Quiet}
 use Rattle.lin_core.specs.kept.Slots.{frame_answered, frame_by, frame_model, CanAnswer, IsOpen, IsThere, put_in, slot_in}
 use Rattle.lin_core.specs.History.{Slot, header_is, is_in, has_decided, open_slot}
 use Rattle.lin_core.specs.kept.Signals.{KeepsSignals}
 use Rattle.lin_core.specs.Replies.{put_event}
-use Rattle.lin_core.specs.Signals.{carried, signal_bytes}
+use Rattle.lin_core.specs.Signals.{carried_frame, signal_bytes}
 use Rattle.lin_core.specs.Slots.{put}
 use Rattle.lin_core.specs.kept.State.{IsKept, Stage}
 use Rattle.lin_core.specs.declared.event.Event.TheVariants.{Put as PutEvent}
@@ -30,7 +30,7 @@ use Rattle.lin_core.proofs.kept.SignalKeeping.{Answers, cleared-by, cleared-flag
 use Rattle.lin_core.proofs.steps.Steps.{and-parts, answer-allowed}
 
 -- == the slot
-in-some : (o : Option Slot) (test : Slot → Bool) → choose o false test ≡ true → is_some o ≡ true
+in-some : (o : Option Slot) (test : Slot → Bool) → option_map_or test o false ≡ true → is_some o ≡ true
 in-some None test h = cc
 in-some (Some s) test h = refl
 
@@ -95,12 +95,12 @@ put-is c past SlaveResp h n frame e = cc
 put-is c past Quiet h n frame e = cc
 
 pub put-told : (c : Parts) (past : List LogEntry) (slot : OpenSlot) (h n frame : ℕ) (bytes : List ℕ) → open_slot past ≡ Some (slot_in slot) → slot.header ≡ Some h → frame_by c (line_of c slot.table slot.entry).entry h n ≡ Some frame
-    → bytes ≡ answer_of (frame_model c (line_of c slot.table slot.entry).entry frame) h (signal_bytes c past frame) → PutEvent n bytes ∷ [] ≡ choose (open_slot past) [] (put_event c past n)
+    → bytes ≡ answer_of (frame_model c (line_of c slot.table slot.entry).entry frame) h (signal_bytes c past frame) → PutEvent n bytes ∷ [] ≡ option_map_or (put_event c past n) (open_slot past) []
 put-told c past slot h n frame bytes is e by made =
     rw (is, e) (ap (λ (xs : List ℕ). PutEvent n xs ∷ []) (made ∙ sym (put-is c past (line_of c slot.table slot.entry).entry h n frame by)))
 
 -- == what it makes of what is kept
-carried-now : (c : Parts) (slot : OpenSlot) (p : Put) (h : ℕ) → slot.header ≡ Some h → slot.puts.items ≡ [] → carried c (slot_in (with_put slot p)) ≡ frame_by c (line_of c slot.table slot.entry).entry h p.node
+carried-now : (c : Parts) (slot : OpenSlot) (p : Put) (h : ℕ) → slot.header ≡ Some h → slot.puts.items ≡ [] → carried_frame c (slot_in (with_put slot p)) ≡ frame_by c (line_of c slot.table slot.entry).entry h p.node
 carried-now c slot p h e empty =
     carried-one c (line_of c slot.table slot.entry).entry (slot_in (with_put slot p)) h p.node p.answer e (ap (λ (ps : List Put). map put_in (ps ++ p ∷ [])) empty)
 
@@ -121,7 +121,7 @@ frame-answers c slot p h frame signals signals' e by l cleared values heard flag
       let same : frame ≡ g = (let t : Some frame ≡ Some g = sym by ∙ sym (carried-now c slot p h e none) ∙ carries in cc)
       in rw (flags, ← same) (get_or-set_same signals.pending.items frame false false l);
   own = λ none g is.
-      let both : (slice_index_or signals.pending.items frame false && (frame == g)) ≡ true = sym (cleared-by (slice_index_or signals.pending.items frame false) frame g) ∙ ap (λ (o : Option ℕ). choose o false (λ x. x == g)) (sym cleared) ∙ is
+      let both : (slice_index_or signals.pending.items frame false && (frame == g)) ≡ true = sym (cleared-by (slice_index_or signals.pending.items frame false) frame g) ∙ ap (λ (o : Option ℕ). option_map_or (λ x. x == g) o false) (sym cleared) ∙ is
       in let test : (frame == g) ≡ true = (and-parts (slice_index_or signals.pending.items frame false) (frame == g) both).1
       in let same : frame ≡ g = grind (arith, nat_tests, test)
       in carried-now c slot p h e none ∙ by ∙ ap (λ (x : ℕ). Some x) same;

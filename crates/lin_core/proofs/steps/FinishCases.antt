@@ -7,10 +7,10 @@ use Rattle.std.proofs.lemmas.Bool.{ne_eqb}
 use Rattle.std.proofs.lemmas.Bool.Decides.{nat_tests}
 use Rattle.std.proofs.lemmas.List.{append-nil}
 use Rattle.lin_frame.specs.Words.{numbers}
-use Rattle.lin_parts.specs.Cluster.{nodes}
-use Rattle.lin_parts.specs.declared.parts.Parts.{Parts}
-use Rattle.lin_parts.specs.Sound.{IsSound}
-use Rattle.lin_core.specs.History.{Slot, asked, is_sleep_slot, open_slot, seen}
+use Rattle.lin_cluster_parts.specs.Cluster.{nodes}
+use Rattle.lin_cluster_parts.specs.declared.parts.Parts.{Parts}
+use Rattle.lin_cluster_parts.specs.Sound.{IsSound}
+use Rattle.lin_core.specs.History.{Slot, is_sleep_asked, is_sleep_slot, open_slot, seen_of}
 use Rattle.lin_core.specs.Links.{Fate, Message, reading}
 use Rattle.lin_core.specs.Links.Fate.{Lost, Sent}
 use Rattle.lin_core.specs.Replies.{finish_events, receiver_of}
@@ -39,7 +39,7 @@ abbrev pub known_after : (c : Parts) (past : List LogEntry) (by : PortId) (es : 
 known_after c past by es sound k = finish-known c past by es sound k (open_slot past) refl k.slot
 
 -- the hosts' states don't hang on the events
-states-same : (c : Parts) (past : List LogEntry) (by : PortId) (es ds : List Event) (sound : IsSound c) (k : Known c past) (o : Option Slot) (is : open_slot past ≡ o) (shape : SlotIs c (asked past) k.states o) (x : ℕ)
+states-same : (c : Parts) (past : List LogEntry) (by : PortId) (es ds : List Event) (sound : IsSound c) (k : Known c past) (o : Option Slot) (is : open_slot past ≡ o) (shape : SlotIs c (is_sleep_asked past) k.states o) (x : ℕ)
     → (finish-known c past by es sound k o is shape).states x ≡ (finish-known c past by ds sound k o is shape).states x
 states-same c past by es ds sound k None is closed x = refl
 states-same c past by es ds sound k (Some _) is (other s p q) x = refl
@@ -114,7 +114,7 @@ case-is c past by es sound k = finish-is c past by es sound k (open_slot past) r
 
 -- nothing moves
 pub record Still (c : Parts) (past : List LogEntry) (by : PortId) (s : Slot) (sound : IsSound c) (k : Known c past) : Type 0 where
-  pub told : finish_events c by past ≡ SeenEvent (seen s) ∷ []
+  pub told : finish_events c by past ≡ SeenEvent (seen_of s) ∷ []
   pub same : (es : List Event) (x : ℕ) → of_states c past by sound k es x ≡ k.states x
 
 still-by : (c : Parts) (past : List LogEntry) (by : PortId) (s : Slot) (sound : IsSound c) (k : Known c past) → open_slot past ≡ Some s → is_sleep_slot s ≡ false → ((es : List Event) (x : ℕ) → of_states c past by sound k es x ≡ k.states x) → Still c past by s sound k
@@ -146,7 +146,7 @@ finishes-quiet c past by s sound k is t = quiet-by c past by s sound k (pdu_of s
 -- one more frame of a message was seen good
 pub record Part (c : Parts) (past : List LogEntry) (by : PortId) (s : Slot) (sound : IsSound c) (k : Known c past) (h : ℕ) : Type 0 where
   pub message : Message
-  pub told : finish_events c by past ≡ SeenEvent (seen s) ∷ []
+  pub told : finish_events c by past ≡ SeenEvent (seen_of s) ∷ []
   pub goes : (es : List Event) → GoesOn c past (entry_is by Finish es) k (known_after c past by es sound k) h
   pub is : (es : List Event) → (goes es).message ≡ message
 
@@ -201,7 +201,7 @@ finishes-part c past by s sound k h m ms is pdu calm first last =
 
 -- a message is settled: it was sent whole, or one of its frames was damaged
 pub record Done (c : Parts) (past : List LogEntry) (by : PortId) (s : Slot) (sound : IsSound c) (k : Known c past) (h : ℕ) (es : List Event) : Type 0 where
-  pub told : finish_events c by past ≡ SeenEvent (seen s) ∷ es
+  pub told : finish_events c by past ≡ SeenEvent (seen_of s) ∷ es
   pub settles : (ds : List Event) → Settles c past (entry_is by Finish ds) k (known_after c past by ds sound k) h
 
 record SettledIs (c : Parts) (k states' : ℕ → HostState) (h : ℕ) (m : Message) (f : Fate) : Type 0 where
@@ -270,7 +270,7 @@ finishes-damaged c past by s sound k h is pdu hurt =
 
 -- the cluster goes to sleep
 pub record Sleeps (c : Parts) (past : List LogEntry) (by : PortId) (s : Slot) (sound : IsSound c) (k : Known c past) : Type 0 where
-  pub told : finish_events c by past ≡ SeenEvent (seen s) ∷ SleepEvent ∷ flat_map (lost_by k.states (λ l. true) Slept) (numbers (nodes c))
+  pub told : finish_events c by past ≡ SeenEvent (seen_of s) ∷ SleepEvent ∷ flat_map (lost_by k.states (λ l. true) Slept) (numbers (nodes c))
   pub states_are : (es : List Event) (x : ℕ) → of_states c past by sound k es x ≡ marked (λ l. true) Slept (k.states x).done (k.states x).rest (k.states x).count
 
 pub finishes-asleep : (c : Parts) (past : List LogEntry) (by : PortId) (s : Slot) (sound : IsSound c) (k : Known c past) → open_slot past ≡ Some s → pdu_of s ≡ Sleep → s.hurt ≡ false → Sleeps c past by s sound k

@@ -5,11 +5,11 @@ use Rattle.std.proofs.lemmas.Bool.Decides.{eqb_tells, nat_tests}
 use Rattle.std.proofs.lemmas.Bool.{ne_eqb}
 use Rattle.std.proofs.lemmas.List.{append-nil, map-append, drop_at}
 use Rattle.lin_frame.specs.Words.{numbers}
-use Rattle.lin_parts.specs.Cluster.{nad, nodes}
-use Rattle.lin_parts.specs.declared.parts.Parts.{Parts}
-use Rattle.lin_core.specs.History.{Slot, open_slot, seen, header_is, is_sleep_slot}
+use Rattle.lin_cluster_parts.specs.Cluster.{nad, nodes}
+use Rattle.lin_cluster_parts.specs.declared.parts.Parts.{Parts}
+use Rattle.lin_core.specs.History.{Slot, open_slot, seen_of, header_is, is_sleep_slot}
 use Rattle.lin_core.specs.Links.{Link, same_dir, same_link, Message, host_of, Fate, nad_on, signs, heard_on, reading, accepted_from}
-use Rattle.lin_parts.specs.Sound.{IsSound}
+use Rattle.lin_cluster_parts.specs.Sound.{IsSound}
 use Rattle.lin_core.specs.declared.log.LogEntry.{LogEntry}
 use Rattle.lin_core.specs.declared.port.PortId.{PortId}
 use Rattle.lin_core.specs.declared.step.Step.TheVariants.{Finish, Timeout}
@@ -28,7 +28,7 @@ use Rattle.lin_core.proofs.laws.Fixed.{Grows}
 use Rattle.std.proofs.lemmas.List.Elements.{filter_map-append}
 use Rattle.lin_core.proofs.links.Tracks.{sent_of, if_sent}
 use Rattle.lin_core.proofs.laws.Reports.{flat-append, index-some, reports-are, ahead, host-below}
-use Rattle.lin_core.specs.Reports.{numbered}
+use Rattle.lin_core.specs.Reports.{reports_from}
 use Rattle.lin_core.specs.declared.link.Cause.{Cause}
 use Rattle.lin_core.specs.declared.link.Cause.TheVariants.{TimedOut, Slept}
 use Rattle.lin_core.proofs.links.Finishes.{frame_slot, slot_of, same-cond, IsFrameOf}
@@ -146,7 +146,7 @@ frame-awake c table entry due left false node Up f n sound is i = refl
 
 -- a finish that settles nothing
 pub finish-quiet : (c : Parts) (past : List LogEntry) (port : PortId) (s : Slot) → IsSound c → (k : Known c past) (k' : Known c (quiet_entry port Finish ∷ past))
-    → ((x : ℕ) → (k'.states x).done ≡ (k.states x).done) → is_sleep_slot s ≡ false → open_slot past ≡ Some s → finish_events c port past ≡ SeenEvent (seen s) ∷ []
+    → ((x : ℕ) → (k'.states x).done ≡ (k.states x).done) → is_sleep_slot s ≡ false → open_slot past ≡ Some s → finish_events c port past ≡ SeenEvent (seen_of s) ∷ []
 finish-quiet c past port s sound k k' same awake is =
     let e : LogEntry = quiet_entry port Finish
     in let g : (x : ℕ) → Grows (k.states x) (k'.states x) = λ x. record { more = []; is = same x ∙ sym (append-nil (k.states x).done) }
@@ -187,7 +187,7 @@ on-one l m f h true q e p s = on-fate l m f q s
 on-one l m f h false true e p s = absurd (let z : h ≡ host_of l = sym e ∙ ap host_of (same-is m.link l s) in let t : (h == host_of l) ≡ true = grind (arith, nat_tests, z) in let bad : true ≡ false = sym t ∙ p in cc)
 on-one l m f h false false e p s = refl
 
-told-one : (h x k : ℕ) (b : Bool) (m : Message) (f : Fate) → numbered x k (if b then (m, f) ∷ [] else []) ≡ (if b then report x k f else [])
+told-one : (h x k : ℕ) (b : Bool) (m : Message) (f : Fate) → reports_from x k (if b then (m, f) ∷ [] else []) ≡ (if b then report x k f else [])
 told-one h x k true m f = append-nil (report x k f)
 told-one h x k false m f = refl
 
@@ -218,7 +218,7 @@ one-gains c past port h m link k k' more =
 -- a finish by which one message is whole or lost
 pub finish-one : (c : Parts) (past : List LogEntry) (port : PortId) (s : Slot) (h : ℕ) (m : Message) (f : Fate) → IsSound c → IsLink c h m.link → (k : Known c past) (k' : Known c (quiet_entry port Finish ∷ past))
     → ((x : ℕ) → (k'.states x).done ≡ (k.states x).done ++ (if h == x then (m, f) ∷ [] else [])) → is_sleep_slot s ≡ false → open_slot past ≡ Some s
-    → finish_events c port past ≡ SeenEvent (seen s) ∷ events_of h m.link (sent_bytes f m.bytes) ++ report h (suc (length (k.states h).done)) f
+    → finish_events c port past ≡ SeenEvent (seen_of s) ∷ events_of h m.link (sent_bytes f m.bytes) ++ report h (suc (length (k.states h).done)) f
 finish-one c past port s h m f sound link k k' more awake is =
     let e : LogEntry = quiet_entry port Finish
     in let g : (x : ℕ) → Grows (k.states x) (k'.states x) = λ x. record { more = if h == x then (m, f) ∷ [] else []; is = more x }
@@ -231,7 +231,7 @@ finish-one c past port s h m f sound link k k' more awake is =
     = only-one (reports c e past) h (nodes c) (report h (suc (length (k.states h).done)) f)
     (λ x. reports-are c e past x sound k k' (g x) refl ∙ told-one h x (ahead 1 (k.states x).done) (h == x) m f ∙ told-at h x (λ (y : ℕ). ahead 1 (k.states y).done) (suc (length (k.states h).done)) f (next-number (k.states h).done) (h == x) refl)
     (host-below c h m.link.node m.link.dir link)
-    in rw (is, awake, heard, told) (ap (λ (es : List Event). SeenEvent (seen s) ∷ es ++ report h (suc (length (k.states h).done)) f) (append-nil event))
+    in rw (is, awake, heard, told) (ap (λ (es : List Event). SeenEvent (seen_of s) ∷ es ++ report h (suc (length (k.states h).done)) f) (append-nil event))
 
 -- what a mark makes of a host's messages: the first one is lost, if it is begun and the mark is on its link
 abbrev pub cut_if : Bool → Message → Cause → List (Message × Fate)
@@ -256,14 +256,14 @@ marked-done t cause done (m ∷ ms) (suc j) = cut-done (t m.link) cause done m m
 
 -- what its host is told
 abbrev pub lost_by : (ℕ → HostState) → (Link → Bool) → Cause → ℕ → List Event
-lost_by states t cause x = numbered x (suc (length (states x).done)) (cut_of t cause (states x).rest (states x).count)
+lost_by states t cause x = reports_from x (suc (length (states x).done)) (cut_of t cause (states x).rest (states x).count)
 
 marked-told : (c : Parts) (past : List LogEntry) (e : LogEntry) (t : Link → Bool) (cause : Cause) (x : ℕ) → IsSound c → (k : Known c past) (k' : Known c (e ∷ past))
     → k'.states x ≡ marked t cause (k.states x).done (k.states x).rest (k.states x).count → accepted_from (e ∷ past) x ≡ accepted_from past x → reports c e past x ≡ lost_by k.states t cause x
 marked-told c past e t cause x sound k k' same accepted =
     let more : List (Message × Fate) = cut_of t cause (k.states x).rest (k.states x).count
     in let g : Grows (k.states x) (k'.states x) = record { more = more; is = ap (λ (s : HostState). s.done) same ∙ marked-done t cause (k.states x).done (k.states x).rest (k.states x).count }
-    in reports-are c e past x sound k k' g accepted ∙ ap (λ (n : ℕ). numbered x n more) (next-number (k.states x).done)
+    in reports-are c e past x sound k k' g accepted ∙ ap (λ (n : ℕ). reports_from x n more) (next-number (k.states x).done)
 
 cut-if : (b : Bool) (l : Link) (m : Message) (cause : Cause) → sent_of (on_link l (cut_if b m cause)) ≡ []
 cut-if true l m cause = on-fate l m (Lost cause) (same_link m.link l) refl ∙ same-cond (same_link m.link l) []
@@ -277,7 +277,7 @@ cut-nothing t cause l (m ∷ ms) (suc j) = cut-if (t m.link) l m cause
 -- a finish that puts the cluster to sleep
 pub finish-sleep : (c : Parts) (past : List LogEntry) (port : PortId) (s : Slot) → IsSound c → (k : Known c past) (k' : Known c (quiet_entry port Finish ∷ past))
     → ((x : ℕ) → k'.states x ≡ marked (λ l. true) Slept (k.states x).done (k.states x).rest (k.states x).count) → is_sleep_slot s ≡ true → open_slot past ≡ Some s
-    → finish_events c port past ≡ SeenEvent (seen s) ∷ SleepEvent ∷ flat_map (lost_by k.states (λ l. true) Slept) (numbers (nodes c))
+    → finish_events c port past ≡ SeenEvent (seen_of s) ∷ SleepEvent ∷ flat_map (lost_by k.states (λ l. true) Slept) (numbers (nodes c))
 finish-sleep c past port s sound k k' same asleep is =
     let e : LogEntry = quiet_entry port Finish
     in let t : Link → Bool = λ l. true
@@ -319,4 +319,4 @@ lost-one c past k t cause h m ms j first begun at own link =
   where
     lost-at : (x : ℕ) (b : Bool) → (h == x) ≡ b → lost_by k.states t cause x ≡ (if b then LostEvent h (suc (length (k.states h).done)) cause ∷ [] else [])
     lost-at x true e = let same : h ≡ x = grind (arith, nat_tests, e) in subst (λ (y : ℕ). lost_by k.states t cause y ≡ LostEvent h (suc (length (k.states h).done)) cause ∷ []) same (rw (first, begun, at))
-    lost-at x false e = ap (numbered x (suc (length (k.states x).done))) (lost-other c x h t cause (k.states x).rest (k.states x).count (k.hosts x).can_go own (λ z. let t : (h == x) ≡ true = grind (arith, nat_tests, z) in let bad : true ≡ false = sym t ∙ e in cc))
+    lost-at x false e = ap (reports_from x (suc (length (k.states x).done))) (lost-other c x h t cause (k.states x).rest (k.states x).count (k.hosts x).can_go own (λ z. let t : (h == x) ≡ true = grind (arith, nat_tests, z) in let bad : true ≡ false = sym t ∙ e in cc))

@@ -4,17 +4,17 @@ use Rattle.std.proofs.Common.{◌≡◌, ◌≢◌, ℕ, Bool, true, false, List
 use Rattle.std.specs.Prelude.{Option, Some, None, ◌||◌, ◌==◌, if◌then◌else◌, is_some, option_map}
 use Rattle.std.proofs.lemmas.Bool.Decides.{eqb_tells}
 use Rattle.lin_transport.specs.Transport.{frame, Heard}
-use Rattle.lin_parts.specs.declared.parts.Parts.{Parts}
-use Rattle.lin_parts.specs.Cluster.{nad, line_of}
-use Rattle.lin_core.specs.History.{Slot, open_slot, leave, hurt, header_is, asked, is_in}
+use Rattle.lin_cluster_parts.specs.declared.parts.Parts.{Parts}
+use Rattle.lin_cluster_parts.specs.Cluster.{nad, line_of}
+use Rattle.lin_core.specs.History.{Slot, open_slot, leave, slot_after_hurt, header_is, is_sleep_asked, is_in}
 use Rattle.lin_core.specs.Links.{Link, same_link, Message, host_of, accepted_from, Sign, nad_on, signs, heard_on}
-use Rattle.lin_parts.specs.Sound.{IsSound}
+use Rattle.lin_cluster_parts.specs.Sound.{IsSound}
 use Rattle.lin_core.specs.declared.log.LogEntry.{LogEntry}
 use Rattle.lin_core.specs.declared.port.PortId.{PortId}
 use Rattle.lin_core.specs.declared.step.Step.{Step}
 use Rattle.lin_core.specs.declared.step.Step.TheVariants.{Write, Leave, Hurt, Switch, AskSleep, Wake, Close}
 use Rattle.lin_core.specs.declared.event.Event.{Event}
-use Rattle.lin_parts.specs.declared.parts.Entry.TheVariants.{MasterReq, SlaveResp}
+use Rattle.lin_cluster_parts.specs.declared.parts.Entry.TheVariants.{MasterReq, SlaveResp}
 use Rattle.lin_core.specs.declared.reply.Reply.TheVariants.{Done, Refused}
 use Rattle.lin_core.specs.declared.reply.Refusal.{Refusal}
 use Rattle.lin_core.specs.declared.link.Cause.TheVariants.{Slept}
@@ -45,7 +45,7 @@ pub data SlotIs (c : Parts) (asked : Bool) (states : ℕ → HostState) : Option
 pub record Known (c : Parts) (past : List LogEntry) : Type 0 where
   pub states : ℕ → HostState
   pub hosts : (h : ℕ) → HostIs c h (accepted_from past h) (heard_on c past) (signs c past) (states h)
-  pub slot : SlotIs c (asked past) states (open_slot past)
+  pub slot : SlotIs c (is_sleep_asked past) states (open_slot past)
 
 abbrev pub entry_is : PortId → Step → List Event → LogEntry
 entry_is port step es = record { port = port; step = step; reply = Done es }
@@ -80,7 +80,7 @@ slot-asked c a states (Some _) (sleep table entry due left hurt only) = sleep ta
 slot-asked c a states (Some _) (carries table entry due left hurt h m ms k only at r n) = carries table entry due left hurt h m ms k only at r n
 
 abbrev pub ask-known : (c : Parts) (past : List LogEntry) (port : PortId) (es : List Event) → Known c past → Known c (entry_is port AskSleep es ∷ past)
-ask-known c past port es k = record { states = k.states; hosts = k.hosts; slot = slot-asked c (asked past) k.states (open_slot past) k.slot }
+ask-known c past port es k = record { states = k.states; hosts = k.hosts; slot = slot-asked c (is_sleep_asked past) k.states (open_slot past) k.slot }
 
 -- a leave and a hurt
 pub slot-left : (c : Parts) (a : Bool) (states : ℕ → HostState) (node : ℕ) (o : Option Slot) → SlotIs c a states o → SlotIs c a states (option_map (leave node) o)
@@ -92,18 +92,18 @@ slot-left c a states node (Some _) (sleep table entry due left hurt only) = slee
 slot-left c a states node (Some _) (carries table entry due left hurt h m ms k only at r n) = carries table entry due (left ++ node ∷ []) hurt h m ms k only at r n
 
 abbrev pub leave-known : (c : Parts) (past : List LogEntry) (port : PortId) (node : ℕ) (es : List Event) → Known c past → Known c (entry_is port (Leave node) es ∷ past)
-leave-known c past port node es k = record { states = k.states; hosts = k.hosts; slot = slot-left c (asked past) k.states node (open_slot past) k.slot }
+leave-known c past port node es k = record { states = k.states; hosts = k.hosts; slot = slot-left c (is_sleep_asked past) k.states node (open_slot past) k.slot }
 
-pub slot-hurt : (c : Parts) (a : Bool) (states : ℕ → HostState) (o : Option Slot) → SlotIs c a states o → SlotIs c a states (option_map hurt o)
+pub slot-hurt : (c : Parts) (a : Bool) (states : ℕ → HostState) (o : Option Slot) → SlotIs c a states o → SlotIs c a states (option_map slot_after_hurt o)
 slot-hurt c a states None closed = closed
-slot-hurt c a states (Some _) (other s p q) = other (hurt s) p q
+slot-hurt c a states (Some _) (other s p q) = other (slot_after_hurt s) p q
 slot-hurt c a states (Some _) (master table entry due left x line only w) = master table entry due left true line only w
 slot-hurt c a states (Some _) (slave table entry due left x h line only w) = slave table entry due left true h line only w
 slot-hurt c a states (Some _) (sleep table entry due left x only) = sleep table entry due left true only
 slot-hurt c a states (Some _) (carries table entry due left x h m ms k only at r n) = carries table entry due left true h m ms k only at r n
 
 abbrev pub hurt-known : (c : Parts) (past : List LogEntry) (port : PortId) (bytes : List ℕ) (es : List Event) → Known c past → Known c (entry_is port (Hurt bytes) es ∷ past)
-hurt-known c past port bytes es k = record { states = k.states; hosts = k.hosts; slot = slot-hurt c (asked past) k.states (open_slot past) k.slot }
+hurt-known c past port bytes es k = record { states = k.states; hosts = k.hosts; slot = slot-hurt c (is_sleep_asked past) k.states (open_slot past) k.slot }
 
 -- a finish
 pub as-state : (c : Parts) (h : ℕ) (accepted : List Message) (heard : Link → List Heard) (signs : Link → List Sign) (s : HostState) (rest : List Message) (k : ℕ)
@@ -183,7 +183,7 @@ host-frame c past port es table entry due left hurt h m ms j x sound host states
           (puts-by c past port es table entry due left hurt m.link l f (nad_on c m.link) is (frame-adds c table entry due left hurt m.link l f sound nad_m (has-nad c l.node i.address) (frame-is (nad_on c m.link) m.bytes j)))))
     ]
 
-abbrev pub finish-known : (c : Parts) (past : List LogEntry) (port : PortId) (es : List Event) → IsSound c → (k : Known c past) → (o : Option Slot) → open_slot past ≡ o → SlotIs c (asked past) k.states o → Known c (finish_entry port es ∷ past)
+abbrev pub finish-known : (c : Parts) (past : List LogEntry) (port : PortId) (es : List Event) → IsSound c → (k : Known c past) → (o : Option Slot) → open_slot past ≡ o → SlotIs c (is_sleep_asked past) k.states o → Known c (finish_entry port es ∷ past)
 finish-known c past port es sound k None is closed = none-known c past port es is k
 finish-known c past port es sound k (Some _) is (other s p q) = quiet-known c past port es s is (λ l i. other-quiet c s l.node l.dir p q) k
 finish-known c past port es sound k (Some _) is (master table entry due left hurt line only w) = quiet-known c past port es _ is (λ l i. empty-quiet c table entry (Some 0x3C) due left hurt l.node l.dir) k

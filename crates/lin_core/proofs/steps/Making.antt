@@ -1,11 +1,11 @@
 -- What stands inside a core as it makes a step.
 use Rattle.std.proofs.Common.{◌≡◌, ℕ, zero, suc, ◌+◌, ◌-◌, ◌^◌, ◌<◌, ◌≤◌, List, [], reverse, length, refl, ap, sym, ◌∙◌, subst, arith}
 use Rattle.std.specs.Prelude.{Some, None, slice_get, slice_index_or, Bool, not, ◌==◌, nat_lt, Option, option_map, true, false, is_some, filter, ◌||◌}
-use Rattle.lin_parts.specs.Cluster.{nodes, line_of}
-use Rattle.lin_core.specs.History.{asked, Slot, open_slot}
+use Rattle.lin_cluster_parts.specs.Cluster.{nodes, line_of}
+use Rattle.lin_core.specs.History.{is_sleep_asked, Slot, open_slot}
 use Rattle.lin_core.specs.kept.Hosts.{KeepsHost}
-use Rattle.lin_core.specs.kept.Slots.{slot_in, begun, header_of, is_due_of}
-use Rattle.lin_core.specs.kept.Signals.{cleared_in}
+use Rattle.lin_core.specs.kept.Slots.{slot_in, opening_slot, header_of, is_due_of}
+use Rattle.lin_core.specs.kept.Signals.{is_cleared_in}
 use Rattle.lin_core.specs.Links.{waiting}
 use Rattle.lin_core.specs.Replies.{refusal, refusals}
 use Rattle.lin_core.specs.Runs.{steps_of}
@@ -18,13 +18,13 @@ use Rattle.lin_core.specs.declared.step.Step.TheVariants.{Send, Finish, Open}
 use Rattle.lin_core.proofs.kept.Keeping.{host-few, host-at, send-room, queue-length, Opens, shut-slot}
 use Rattle.std.proofs.lemmas.Bool.Decides.{nat_tests}
 use Rattle.std.proofs.lemmas.Option.{slice_get_read}
-use Rattle.lin_parts.specs.declared.parts.Entry.{Entry}
+use Rattle.lin_cluster_parts.specs.declared.parts.Entry.{Entry}
 use Rattle.lin_core.specs.Slots.{header, due_nodes}
 use Rattle.lin_core.specs.declared.slot.OpenSlot.{OpenSlot}
 use Rattle.lin_core.proofs.steps.Known.{Known}
 use Rattle.lin_core.proofs.slots.OpenSlots.{or-false}
 use Rattle.lin_core.proofs.slots.Opening.{header-due, nodes-due, new-open, responder_now}
-use Rattle.lin_core.specs.Signals.{pending}
+use Rattle.lin_core.specs.Signals.{is_pending}
 use Rattle.lin_frame.specs.Words.{numbers}
 use Rattle.lin_schedule.specs.Due.{due_for}
 use Rattle.lin_schedule.specs.Walker.{HasEntry, Position}
@@ -74,21 +74,21 @@ pub commander-at : (a : Stage) (host : Host) → IsKept a → host ≡ slice_ind
 commander-at a host w e = let n = w.rules.nodes.number.0 in slice_get_read a.state.hosts.items (nodes a.cluster) 0 host (sym w.kept.hosts_count) (omega arith) e
 
 -- where no slot is open, the frames that are kept as pending are those that are
-pub flags-inside : (a : Stage) → IsKept a → a.state.slot ≡ None → (f : ℕ) → slice_index_or a.state.signals.pending.items f false ≡ pending a.cluster (past_in a) f
+pub flags-inside : (a : Stage) → IsKept a → a.state.slot ≡ None → (f : ℕ) → slice_index_or a.state.signals.pending.items f false ≡ is_pending a.cluster (past_in a) f
 flags-inside a w shut f =
     sym (or-false (slice_index_or a.state.signals.pending.items f false))
-    ∙ (let t : (slice_index_or a.state.signals.pending.items f false || cleared_in None f) ≡ pending a.cluster (past_in a) f = subst (λ (o : Option OpenSlot). (slice_index_or a.state.signals.pending.items f false || cleared_in o f) ≡ pending a.cluster (past_in a) f) shut (w.kept.signals_are.each_pending f) in t)
+    ∙ (let t : (slice_index_or a.state.signals.pending.items f false || is_cleared_in None f) ≡ is_pending a.cluster (past_in a) f = subst (λ (o : Option OpenSlot). (slice_index_or a.state.signals.pending.items f false || is_cleared_in o f) ≡ is_pending a.cluster (past_in a) f) shut (w.kept.signals_are.each_pending f) in t)
 
 pub opens-inside : (a : Stage) (by : PortId) (host : Host) (slot : OpenSlot) (waits : Bool) (responder : Option ℕ) (place : ℕ × ℕ) (due : Due) → IsKept a → Allowed a by Open → host ≡ slice_index_or a.state.hosts.items 0 host
     → waits ≡ (not (length host.queue.items == 0) || a.state.bus.asked) → responder ≡ responder_now a.cluster (past_in a) → place ≡ a.state.walker.place → due ≡ due_for a.cluster a.state.signals.pending.items (line_of a.cluster a.state.walker.place.0 a.state.walker.place.1).entry
-    → slot_in slot ≡ begun place.0 place.1 (header_of a.cluster waits due) (filter (is_due_of a.cluster a.state.signals.pending.items waits responder due) (numbers (nodes a.cluster)))
+    → slot_in slot ≡ opening_slot place.0 place.1 (header_of a.cluster waits due) (filter (is_due_of a.cluster a.state.signals.pending.items waits responder due) (numbers (nodes a.cluster)))
     → slot.kind ≡ (line_of a.cluster slot.table slot.entry).entry → length slot.due.items ≤ 16 → slot.puts.items ≡ [] → slot.left.items ≡ [] → slot.hurt ≡ false → Opens a.cluster a.opening (past_in a) slot
 opens-inside a by host slot waits responder place due w s e b r at d is own few empty none calm =
     let past : List LogEntry = past_in a
     in let kept : KeepsHost a.cluster a.capacity a.log past 0 host = w.kept.each_host 0 host (commander-at a host w e)
     in let n = queue-length a.cluster a.capacity a.log past 0 host kept
-    in let waiting_is : (nat_lt 0 (length (waiting a.cluster past 0)) || asked past) ≡ waits
-    = ap (λ (x : Bool). x || asked past) (waits-by (length host.queue.items) (length (waiting a.cluster past 0)) n) ∙ ap (λ (x : Bool). not (length host.queue.items == 0) || x) (sym w.late.bus_is.asked_is) ∙ sym b
+    in let waiting_is : (nat_lt 0 (length (waiting a.cluster past 0)) || is_sleep_asked past) ≡ waits
+    = ap (λ (x : Bool). x || is_sleep_asked past) (waits-by (length host.queue.items) (length (waiting a.cluster past 0)) n) ∙ ap (λ (x : Bool). not (length host.queue.items == 0) || x) (sym w.late.bus_is.asked_is) ∙ sym b
     in let shut : a.state.slot ≡ None = shut-slot a.cluster a.capacity past by a.state.slot s.allowed w.kept.slot_is
     in let flags = flags-inside a w shut
     in let kind : Entry = (line_of a.cluster a.state.walker.place.0 a.state.walker.place.1).entry

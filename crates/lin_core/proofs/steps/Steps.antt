@@ -1,30 +1,31 @@
 -- The steps that need their refusals: a timeout, a send, an open, an answer; and the whole history.
-use Rattle.lin_parts.specs.Cluster.{sporadic_of, nad, nodes, line_of, frame_of, event_of}
+use Rattle.lin_cluster_parts.specs.Cluster.{sporadic_of, nad, nodes, line_of, frame_of, event_of}
 use Rattle.std.proofs.Common.{◌≡◌, ◌≢◌, ℕ, zero, suc, Bool, true, false, List, [], ◌∷◌, ◌++◌, length, map, refl, ap, sym, ◌∙◌, subst, arith, inl, inr, append_assoc}
 use Rattle.std.specs.Prelude.{⊤, Option, Some, None, cond, ◌&&◌, ◌||◌, not, ◌==◌, if◌then◌else◌, is_some, option_map, filter, find, nat_lt, nat_le, slice_index}
 use Rattle.std.specs.List.{list_any, cons_option}
 use Rattle.std.proofs.lemmas.Bool.Decides.{eqb_tells, nat_tests}
 use Rattle.std.proofs.lemmas.Bool.{ne_eqb}
 use Rattle.std.proofs.lemmas.List.{append-nil}
-use Rattle.lin_frame.specs.Words.{choose, numbers}
+use Rattle.std.specs.Option.{option_map_or, unwrap_or}
+use Rattle.lin_frame.specs.Words.{numbers}
 use Rattle.lin_transport.specs.Transport.{frame, Heard, CanSend}
 use Rattle.lin_transport.specs.Transport.Heard.{Reset}
-use Rattle.lin_parts.specs.declared.parts.Parts.{Parts}
-use Rattle.lin_core.specs.History.{finished, is_sleep_mark, Slot, open_slot, told_all, hurt, header_is, asked, good_under, is_in, has_decided}
-use Rattle.lin_core.specs.Signals.{pending}
-use Rattle.lin_core.specs.Links.{Link, same_link, link_of, Message, host_of, accepted_from, Sign, Fate, nad_on, put_on, signs, heard_on, blocks, blocks_of, waiting, begun}
+use Rattle.lin_cluster_parts.specs.declared.parts.Parts.{Parts}
+use Rattle.lin_core.specs.History.{finished_slot, is_sleep_mark, Slot, open_slot, slot_after_events, slot_after_hurt, header_is, is_sleep_asked, good_under, is_in, has_decided}
+use Rattle.lin_core.specs.Signals.{is_pending}
+use Rattle.lin_core.specs.Links.{Link, same_link, link_of, Message, host_of, accepted_from, Sign, Fate, nad_on, put_on, signs, heard_on, blocks, blocks_of, waiting, begun_sending}
 use Rattle.lin_core.specs.Links.Sign.{Mark}
-use Rattle.lin_core.specs.Slots.{with_classic, sleep_frame, next_frame, first_frame, put, header, is_due, due_nodes, selected, addressed, node_with, next_due}
+use Rattle.lin_core.specs.Slots.{with_classic, sleep_frame, next_frame, first_frame, put, header, is_due, due_nodes, selected_node, addressee, node_with, next_due}
 use Rattle.lin_core.specs.Replies.{refusal, refusals, in_slot, has_address, put_event, opening_events, done_events, reply}
-use Rattle.lin_parts.specs.Sound.{IsSound, IsSignalPid}
+use Rattle.lin_cluster_parts.specs.Sound.{IsSound, IsSignalPid}
 use Rattle.lin_core.specs.declared.log.LogEntry.{LogEntry}
 use Rattle.lin_core.specs.declared.port.PortId.{PortId}
 use Rattle.lin_core.specs.declared.step.Step.{Step}
 use Rattle.lin_core.specs.declared.step.Step.TheVariants.{Send, Write, Open, Answer, Leave, Hurt, Finish, Timeout, Switch, AskSleep, Wake, Close}
 use Rattle.lin_core.specs.declared.event.Event.{Event}
 use Rattle.lin_core.specs.declared.event.Event.TheVariants.{Due, Put as PutEvent}
-use Rattle.lin_parts.specs.declared.parts.Entry.{Entry}
-use Rattle.lin_parts.specs.declared.parts.Entry.TheVariants.{Frame as FrameEntry, Sporadic, Event as EventEntry, MasterReq, SlaveResp, Quiet}
+use Rattle.lin_cluster_parts.specs.declared.parts.Entry.{Entry}
+use Rattle.lin_cluster_parts.specs.declared.parts.Entry.TheVariants.{Frame as FrameEntry, Sporadic, Event as EventEntry, MasterReq, SlaveResp, Quiet}
 use Rattle.lin_core.specs.declared.reply.Reply.TheVariants.{Done, Refused}
 use Rattle.lin_core.specs.declared.reply.Refusal.{Refusal}
 use Rattle.lin_core.specs.declared.link.Cause.TheVariants.{TimedOut}
@@ -105,7 +106,7 @@ host-send c h accepted heard signs s m g i = record {
 }
 
 pub host-send-if : (c : Parts) (x : ℕ) (b : Bool) (accepted : List Message) (heard : Link → List Heard) (signs : Link → List Sign) (s : HostState) (m : Message)
-    → (b ≡ true → CanGo c x m) → HostIs c x accepted heard signs s → HostIs c x (choose (if b then Some m else None) accepted (λ y. accepted ++ y ∷ [])) heard signs (more_if b m s)
+    → (b ≡ true → CanGo c x m) → HostIs c x accepted heard signs s → HostIs c x (option_map_or (λ y. accepted ++ y ∷ []) (if b then Some m else None) accepted) heard signs (more_if b m s)
 host-send-if c x true accepted heard signs s m g i = host-send c x accepted heard signs s m (g refl) i
 host-send-if c x false accepted heard signs s m g i = i
 
@@ -173,7 +174,7 @@ send-known c capacity past port from to message es h k =
       states = λ x. more_if (from == x) m (k.states x);
       hosts = λ x. host-send-if c x (from == x) (accepted_from past x) (heard_on c past) (signs c past) (k.states x) m
           (λ e. let same : from ≡ x = grind (arith, nat_tests, e) in subst (λ (y : ℕ). CanGo c y m) same go) (k.hosts x);
-      slot = slot-more c (asked past) k.states from m (open_slot past) k.slot;
+      slot = slot-more c (is_sleep_asked past) k.states from m (open_slot past) k.slot;
     }
 
 -- while nothing is put in the open slot, the blocks are those of the finished slots
@@ -220,14 +221,14 @@ pub next-is : (c : Parts) (past : List LogEntry) (h : ℕ) (done : List (Message
     → NextIs c (next_frame c past h sleeping) (record { done = done; rest = rest; count = k })
 next-is c past h done [] k false q i w = cc
 next-is c past h done [] k true q i w =
-    let e : begun c past h ≡ None = begun-none c h (blocks c past) (accepted_from past h) done k (stands c past h (record { done = done; rest = []; count = k }) q i)
+    let e : begun_sending c past h ≡ None = begun-none c h (blocks c past) (accepted_from past h) done k (stands c past h (record { done = done; rest = []; count = k }) q i)
     in is_sleep (rw e)
 next-is c past h done (m ∷ ms) zero true q i w =
-    let e : begun c past h ≡ None = begun-fresh c h (blocks c past) (accepted_from past h) done m ms (stands c past h (record { done = done; rest = m ∷ ms; count = 0 }) q i)
+    let e : begun_sending c past h ≡ None = begun-fresh c h (blocks c past) (accepted_from past h) done m ms (stands c past h (record { done = done; rest = m ∷ ms; count = 0 }) q i)
     in is_sleep (rw e)
 next-is c past h done (m ∷ ms) zero false q i w =
     let st : Stands c h (blocks c past) (accepted_from past h) (record { done = done; rest = m ∷ ms; count = 0 }) = stands c past h (record { done = done; rest = m ∷ ms; count = 0 }) q i
-    in let e : begun c past h ≡ None = begun-fresh c h (blocks c past) (accepted_from past h) done m ms st
+    in let e : begun_sending c past h ≡ None = begun-fresh c h (blocks c past) (accepted_from past h) done m ms st
     in is_frame m ms 0 refl refl (rw (e, waiting-fresh c h (blocks c past) (accepted_from past h) done m ms st))
 next-is c past h done (m ∷ ms) (suc j) sleeping q i w =
     is_frame m ms (suc j) refl refl (next-begun c h (blocks c past) (accepted_from past h) done m ms j (if sleeping then sleep_frame else first_frame c (waiting c past h)) (stands c past h (record { done = done; rest = m ∷ ms; count = suc j }) q i))
@@ -239,7 +240,7 @@ pub next-frame : (c : Parts) (past : List LogEntry) (h : ℕ) (done : List (Mess
 next-frame c past h done [] k q i w = cc
 next-frame c past h done (m ∷ ms) zero q i w =
     let st : Stands c h (blocks c past) (accepted_from past h) (record { done = done; rest = m ∷ ms; count = 0 }) = stands c past h (record { done = done; rest = m ∷ ms; count = 0 }) q i
-    in let e : begun c past h ≡ None = begun-fresh c h (blocks c past) (accepted_from past h) done m ms st
+    in let e : begun_sending c past h ≡ None = begun-fresh c h (blocks c past) (accepted_from past h) done m ms st
     in (m, ms, refl, rw (e, waiting-fresh c h (blocks c past) (accepted_from past h) done m ms st))
 next-frame c past h done (m ∷ ms) (suc j) q i w =
     (m, ms, refl, next-begun c h (blocks c past) (accepted_from past h) done m ms j (first_frame c (waiting c past h)) (stands c past h (record { done = done; rest = m ∷ ms; count = suc j }) q i))
@@ -253,7 +254,7 @@ answer-allowed c capacity past port node h =
     in (not-false _ (both-false _ _ all.1.1.0).1, all.1.1.1.0)
 
 abbrev pub answer_entry : Parts → List LogEntry → PortId → ℕ → LogEntry
-answer_entry c past port node = entry_is port (Answer node) (choose (open_slot past) [] (put_event c past node))
+answer_entry c past port node = entry_is port (Answer node) (option_map_or (put_event c past node) (open_slot past) [])
 
 -- host 0 sends down and the others up
 pub link-down : (c : Parts) (node : ℕ) (dir : Direction) → IsSound c → IsLink c 0 (record_of node dir) → dir ≡ Down
@@ -278,7 +279,7 @@ slot-up c table entry due left hurt node dir f e = rw e
 pub host-up : (node : ℕ) (dir : Direction) (h : ℕ) → dir ≡ Up → host_of (record_of node dir) ≡ h → node ≡ h
 host-up node dir h e p = rw e at p
 
-pub told-header : (o : Option ℕ) (n : ℕ) (f : ℕ → List ℕ) (s : Slot) → (told_all (choose o [] (λ h. PutEvent n (f h) ∷ [])) s).header ≡ s.header
+pub told-header : (o : Option ℕ) (n : ℕ) (f : ℕ → List ℕ) (s : Slot) → (slot_after_events (option_map_or (λ h. PutEvent n (f h) ∷ []) o []) s).header ≡ s.header
 told-header None n f s = refl
 told-header (Some h) n f s = refl
 
@@ -290,16 +291,16 @@ first-go c h accepted heard signs s m ms e i = let g : AllCanGo c h (m ∷ ms) =
 
 -- the slot after an answer
 pub master-slot : (c : Parts) (past : List LogEntry) (port : PortId) (node table entry : ℕ) (due left : List ℕ) (hurt : Bool) → IsSound c → (k : Known c past) → open_slot past ≡ Some (slot_of table entry (Some 0x3C) due [] left hurt)
-    → (line_of c table entry).entry ≡ MasterReq → OnlyDue due 0 → node ≡ 0 → NextIs c (next_frame c past 0 (asked past)) (k.states 0) → SlotIs c (asked past) k.states (open_slot (answer_entry c past port node ∷ past))
+    → (line_of c table entry).entry ≡ MasterReq → OnlyDue due 0 → node ≡ 0 → NextIs c (next_frame c past 0 (is_sleep_asked past)) (k.states 0) → SlotIs c (is_sleep_asked past) k.states (open_slot (answer_entry c past port node ∷ past))
 master-slot c past port node table entry due left hurt sound k is line only z (is_sleep e) = rw (is, line, z, e) (sleep table entry due left hurt only)
 master-slot c past port node table entry due left hurt sound k is line only z (is_frame m ms j r n e) =
     let go : CanGo c 0 m = first-go c 0 (accepted_from past 0) (heard_on c past) (signs c past) (k.states 0) m ms r (k.hosts 0)
     in let down : m.link.dir ≡ Down = link-down c m.link.node m.link.dir sound go.link
-    in let shape : SlotIs c (asked past) k.states (Some (frame_slot table entry due left hurt m.link (frame (nad_on c m.link) m.bytes j))) = carries table entry due left hurt 0 m ms j only go.link.host r n
-    in rw (is, line, z, e) (subst (λ (s : Slot). SlotIs c (asked past) k.states (Some s)) (slot-down c table entry due left hurt m.link.node m.link.dir (frame (nad_on c m.link) m.bytes j) down) shape)
+    in let shape : SlotIs c (is_sleep_asked past) k.states (Some (frame_slot table entry due left hurt m.link (frame (nad_on c m.link) m.bytes j))) = carries table entry due left hurt 0 m ms j only go.link.host r n
+    in rw (is, line, z, e) (subst (λ (s : Slot). SlotIs c (is_sleep_asked past) k.states (Some s)) (slot-down c table entry due left hurt m.link.node m.link.dir (frame (nad_on c m.link) m.bytes j) down) shape)
 
 pub slave-slot : (c : Parts) (past : List LogEntry) (port : PortId) (node table entry : ℕ) (due left : List ℕ) (hurt : Bool) (h : ℕ) → (k : Known c past) → open_slot past ≡ Some (slot_of table entry (Some 0x7D) due [] left hurt)
-    → (line_of c table entry).entry ≡ SlaveResp → OnlyDue due h → node ≡ h → h ≢ 0 → IsQuietNow c past → has_rest (k.states h).rest ≡ true → SlotIs c (asked past) k.states (open_slot (answer_entry c past port node ∷ past))
+    → (line_of c table entry).entry ≡ SlaveResp → OnlyDue due h → node ≡ h → h ≢ 0 → IsQuietNow c past → has_rest (k.states h).rest ≡ true → SlotIs c (is_sleep_asked past) k.states (open_slot (answer_entry c past port node ∷ past))
 slave-slot c past port node table entry due left hurt h k is line only z some q w =
     let next = next-frame c past h (k.states h).done (k.states h).rest (k.states h).count q (k.hosts h) w
     in let m : Message = next.0
@@ -308,23 +309,23 @@ slave-slot c past port node table entry due left hurt h k is line only z some q 
     in let go : CanGo c h m = first-go c h (accepted_from past h) (heard_on c past) (signs c past) (k.states h) m next.1 next.2 (k.hosts h)
     in let up : m.link.dir ≡ Up = link-up c h m.link.node m.link.dir some go.link
     in let own : m.link.node ≡ h = host-up m.link.node m.link.dir h up go.link.host
-    in let shape : SlotIs c (asked past) k.states (Some (frame_slot table entry due left hurt m.link f)) = carries table entry due left hurt h m next.1 j only go.link.host next.2 refl
-    in let at : SlotIs c (asked past) k.states (Some (slot_of table entry (Some 0x7D) due ((m.link.node, with_classic f) ∷ []) left hurt)) = subst (λ (s : Slot). SlotIs c (asked past) k.states (Some s)) (slot-up c table entry due left hurt m.link.node m.link.dir f up) shape
-    in let there : SlotIs c (asked past) k.states (Some (slot_of table entry (Some 0x7D) due ((h, with_classic f) ∷ []) left hurt)) = subst (λ (x : ℕ). SlotIs c (asked past) k.states (Some (slot_of table entry (Some 0x7D) due ((x, with_classic f) ∷ []) left hurt))) own at
+    in let shape : SlotIs c (is_sleep_asked past) k.states (Some (frame_slot table entry due left hurt m.link f)) = carries table entry due left hurt h m next.1 j only go.link.host next.2 refl
+    in let at : SlotIs c (is_sleep_asked past) k.states (Some (slot_of table entry (Some 0x7D) due ((m.link.node, with_classic f) ∷ []) left hurt)) = subst (λ (s : Slot). SlotIs c (is_sleep_asked past) k.states (Some s)) (slot-up c table entry due left hurt m.link.node m.link.dir f up) shape
+    in let there : SlotIs c (is_sleep_asked past) k.states (Some (slot_of table entry (Some 0x7D) due ((h, with_classic f) ∷ []) left hurt)) = subst (λ (x : ℕ). SlotIs c (is_sleep_asked past) k.states (Some (slot_of table entry (Some 0x7D) due ((x, with_classic f) ∷ []) left hurt))) own at
     in rw (is, line, z, next.3) there
 
-pub answer-slot : (c : Parts) (past : List LogEntry) (port : PortId) (node : ℕ) → IsSound c → (k : Known c past) → (o : Option Slot) → open_slot past ≡ o → SlotIs c (asked past) k.states o
+pub answer-slot : (c : Parts) (past : List LogEntry) (port : PortId) (node : ℕ) → IsSound c → (k : Known c past) → (o : Option Slot) → open_slot past ≡ o → SlotIs c (is_sleep_asked past) k.states o
     → in_slot past (λ s. is_in s.due node) ≡ true → in_slot past (λ s. has_decided s node) ≡ false
-    → SlotIs c (asked past) k.states (open_slot (answer_entry c past port node ∷ past))
+    → SlotIs c (is_sleep_asked past) k.states (open_slot (answer_entry c past port node ∷ past))
 answer-slot c past port node sound k None is closed due decided = rw is closed
 answer-slot c past port node sound k (Some _) is (other s p q) due decided =
     let es : List Event = put_event c past node s
-    in let e : (told_all es s).header ≡ s.header = told-header s.header node (λ h. put c past (line_of c s.table s.entry).entry h node) s
-    in rw is (other (told_all es s) (rw e p) (rw e q))
+    in let e : (slot_after_events es s).header ≡ s.header = told-header s.header node (λ h. put c past (line_of c s.table s.entry).entry h node) s
+    in rw is (other (slot_after_events es s) (rw e p) (rw e q))
 answer-slot c past port node sound k (Some _) is (master table entry due left hurt line only w) d decided =
     let quiet : IsQuietNow c past = record { blocks = λ l. blocks-empty c past l table entry (Some 0x3C) due left hurt is }
     in let z : node ≡ 0 = only node (rw is at d)
-    in master-slot c past port node table entry due left hurt sound k is line only z (next-is c past 0 (k.states 0).done (k.states 0).rest (k.states 0).count (asked past) quiet (k.hosts 0) w)
+    in master-slot c past port node table entry due left hurt sound k is line only z (next-is c past 0 (k.states 0).done (k.states 0).rest (k.states 0).count (is_sleep_asked past) quiet (k.hosts 0) w)
 answer-slot c past port node sound k (Some _) is (slave table entry due left hurt h line only w) d decided =
     let quiet : IsQuietNow c past = record { blocks = λ l. blocks-empty c past l table entry (Some 0x7D) due left hurt is }
     in let yes : is_in due node ≡ true = rw is at d
@@ -348,7 +349,7 @@ answer-known c capacity past port node sound h k =
     in record { states = k.states; hosts = k.hosts; slot = answer-slot c past port node sound k (open_slot past) refl k.slot a.0 a.1 }
 
 -- an open
-pub told-due : (ns : List ℕ) (table entry : ℕ) (header : Option ℕ) (due : List ℕ) → told_all (map Due ns) (slot_of table entry header due [] [] false) ≡ slot_of table entry header (due ++ ns) [] [] false
+pub told-due : (ns : List ℕ) (table entry : ℕ) (header : Option ℕ) (due : List ℕ) → slot_after_events (map Due ns) (slot_of table entry header due [] [] false) ≡ slot_of table entry header (due ++ ns) [] [] false
 told-due [] table entry header due = rw (append-nil due)
 told-due (n ∷ ns) table entry header due = told-due ns table entry header (due ++ n ∷ []) ∙ rw (append_assoc due (n ∷ []) ns)
 
@@ -377,10 +378,10 @@ or-of false true d f h = rw (or-right d)
 or-of false false d f h = cc
 
 pub master-by : (c : Parts) (past : List LogEntry) (table entry : ℕ) (due : List ℕ) (b : Bool) → (k : Known c past) → IsQuietNow c past → (line_of c table entry).entry ≡ MasterReq → OnlyDue due 0
-    → (nat_lt 0 (length (waiting c past 0)) || asked past) ≡ b → SlotIs c (asked past) k.states (Some (slot_of table entry (if b then Some 0x3C else None) due [] [] false))
-master-by c past table entry due false k q line only e = none-other c (asked past) k.states table entry due
+    → (nat_lt 0 (length (waiting c past 0)) || is_sleep_asked past) ≡ b → SlotIs c (is_sleep_asked past) k.states (Some (slot_of table entry (if b then Some 0x3C else None) due [] [] false))
+master-by c past table entry due false k q line only e = none-other c (is_sleep_asked past) k.states table entry due
 master-by c past table entry due true k q line only e =
-    master table entry due [] false line only (or-of (nat_lt 0 (length (waiting c past 0))) (asked past) (has_rest (k.states 0).rest) (rest-some c past 0 (k.states 0) q (k.hosts 0)) e)
+    master table entry due [] false line only (or-of (nat_lt 0 (length (waiting c past 0))) (is_sleep_asked past) (has_rest (k.states 0).rest) (rest-some c past 0 (k.states 0) q (k.hosts 0)) e)
 
 pub eq-zero : (n : ℕ) (b : Bool) → (n == 0 && b) ≡ true → n ≡ 0
 eq-zero n b h = let e : (n == 0) ≡ true = (and-parts (n == 0) b h).0 in grind (arith, nat_tests, e)
@@ -399,10 +400,10 @@ found-passes p (x ∷ xs) n h = found-by p x xs n (p x) (found-passes p xs n) re
 
 pub node-some : (c : Parts) (k : ℕ) → IsSound c → NotZero (node_with c k)
 node-some c k sound n h z =
-    let p : choose (nad c n) false (λ own. own == k) ≡ true = found-passes (λ j. choose (nad c j) false (λ own. own == k)) (numbers (nodes c)) n h
+    let p : option_map_or (λ own. own == k) (nad c n) false ≡ true = found-passes (λ j. option_map_or (λ own. own == k) (nad c j) false) (numbers (nodes c)) n h
     in let bad : false ≡ true = rw (z, sound.commander) at p in cc
 
-pub choose-some : (o : Option (Option ℕ)) (d : Option ℕ) → NotZero d → ((x : Option ℕ) → o ≡ Some x → NotZero x) → NotZero (choose o d (λ n. n))
+pub choose-some : (o : Option (Option ℕ)) (d : Option ℕ) → NotZero d → ((x : Option ℕ) → o ≡ Some x → NotZero x) → NotZero (unwrap_or o d)
 choose-some None d p q = p
 choose-some (Some x) d p q = q x refl
 
@@ -411,11 +412,11 @@ addressed-by c true k x sound e = let same : node_with c k ≡ x = cc in subst N
 addressed-by c false k x sound e = cc
 
 pub addressed-some : (c : Parts) (o : Option (List ℕ)) (x : Option ℕ) → IsSound c
-    → choose o None (λ bytes. if nat_le 1 (slice_index bytes 0) && nat_le (slice_index bytes 0) 125 then Some (node_with c (slice_index bytes 0)) else None) ≡ Some x → NotZero x
+    → option_map_or (λ bytes. if nat_le 1 (slice_index bytes 0) && nat_le (slice_index bytes 0) 125 then Some (node_with c (slice_index bytes 0)) else None) o None ≡ Some x → NotZero x
 addressed-some c None x sound e = cc
 addressed-some c (Some bytes) x sound e = addressed-by c (nat_le 1 (slice_index bytes 0) && nat_le (slice_index bytes 0) 125) (slice_index bytes 0) x sound e
 
-pub slot-some : (c : Parts) (o : Option Slot) (x : Option ℕ) → IsSound c → choose o None (addressed c) ≡ Some x → NotZero x
+pub slot-some : (c : Parts) (o : Option Slot) (x : Option ℕ) → IsSound c → option_map_or (addressee c) o None ≡ Some x → NotZero x
 slot-some c None x sound e = cc
 slot-some c (Some s) x sound e = addressed-some c (good_under 0x3C s) x sound e
 
@@ -423,14 +424,14 @@ pub if-some : (b : Bool) (o : Option ℕ) → NotZero o → NotZero (if b then N
 if-some true o p = λ n e. cc
 if-some false o p = p
 
-pub selected-some : (c : Parts) (past : List LogEntry) → IsSound c → NotZero (selected c past)
+pub selected-some : (c : Parts) (past : List LogEntry) → IsSound c → NotZero (selected_node c past)
 selected-some c [] sound = λ n e. cc
-selected-some c (e ∷ past) sound = if-some (is_sleep_mark e past) (choose (choose (finished e past) None (addressed c)) (selected c past) (λ n. n))
-    (choose-some (choose (finished e past) None (addressed c)) (selected c past) (selected-some c past sound) (λ x h. slot-some c (finished e past) x sound h))
+selected-some c (e ∷ past) sound = if-some (is_sleep_mark e past) (unwrap_or (option_map_or (addressee c) (finished_slot e past) None) (selected_node c past))
+    (choose-some (option_map_or (addressee c) (finished_slot e past) None) (selected_node c past) (selected-some c past sound) (λ x h. slot-some c (finished_slot e past) x sound h))
 
 pub slave-by : (c : Parts) (past : List LogEntry) (table entry : ℕ) (o : Option ℕ) → (k : Known c past) → IsQuietNow c past → (line_of c table entry).entry ≡ SlaveResp → NotZero o → (due : List ℕ)
-    → ((n : ℕ) → is_in due n ≡ true → choose o false (λ k. n == k && nat_lt 0 (length (waiting c past k))) ≡ true)
-    → SlotIs c (asked past) k.states (Some (slot_of table entry (Some 0x7D) due [] [] false))
+    → ((n : ℕ) → is_in due n ≡ true → option_map_or (λ k. n == k && nat_lt 0 (length (waiting c past k))) o false ≡ true)
+    → SlotIs c (is_sleep_asked past) k.states (Some (slot_of table entry (Some 0x7D) due [] [] false))
 slave-by c past table entry None k q line some due d = slave table entry due [] false 0 line (λ n i. absurd (let bad = d n i in cc)) (λ i. absurd (let bad = d 0 i in cc))
 slave-by c past table entry (Some h) k q line some due d =
     slave table entry due [] false h line
@@ -438,16 +439,16 @@ slave-by c past table entry (Some h) k q line some due d =
     (λ i. (some h refl, rest-some c past h (k.states h) q (k.hosts h) (and-parts (h == h) (nat_lt 0 (length (waiting c past h))) (d h i)).1))
 
 pub opened : (c : Parts) (past : List LogEntry) (table entry : ℕ) (kind : Entry) → IsSound c → (k : Known c past) → IsQuietNow c past → (line_of c table entry).entry ≡ kind
-    → SlotIs c (asked past) k.states (Some (slot_of table entry (header c past kind) (due_nodes c past kind) [] [] false))
-opened c past table entry (FrameEntry f) sound k q line = signal-other c (asked past) k.states table entry (frame_of c f).pid _ (sound.frames f)
-opened c past table entry (Sporadic j) sound k q line = sporadic-other c (asked past) k.states table entry (find (pending c past) (sporadic_of c j)) _ sound
-opened c past table entry (EventEntry e) sound k q line = signal-other c (asked past) k.states table entry (event_of c e).pid _ (sound.events e)
+    → SlotIs c (is_sleep_asked past) k.states (Some (slot_of table entry (header c past kind) (due_nodes c past kind) [] [] false))
+opened c past table entry (FrameEntry f) sound k q line = signal-other c (is_sleep_asked past) k.states table entry (frame_of c f).pid _ (sound.frames f)
+opened c past table entry (Sporadic j) sound k q line = sporadic-other c (is_sleep_asked past) k.states table entry (find (is_pending c past) (sporadic_of c j)) _ sound
+opened c past table entry (EventEntry e) sound k q line = signal-other c (is_sleep_asked past) k.states table entry (event_of c e).pid _ (sound.events e)
 opened c past table entry MasterReq sound k q line =
-    master-by c past table entry (due_nodes c past MasterReq) (nat_lt 0 (length (waiting c past 0)) || asked past) k q line
+    master-by c past table entry (due_nodes c past MasterReq) (nat_lt 0 (length (waiting c past 0)) || is_sleep_asked past) k q line
     (λ n i. eq-zero n (is_some (header c past MasterReq)) (in-filter (is_due c past MasterReq) (numbers (nodes c)) n i)) refl
 opened c past table entry SlaveResp sound k q line =
-    slave-by c past table entry (selected c past) k q line (selected-some c past sound) (due_nodes c past SlaveResp) (λ n i. in-filter (is_due c past SlaveResp) (numbers (nodes c)) n i)
-opened c past table entry Quiet sound k q line = none-other c (asked past) k.states table entry _
+    slave-by c past table entry (selected_node c past) k q line (selected-some c past sound) (due_nodes c past SlaveResp) (λ n i. in-filter (is_due c past SlaveResp) (numbers (nodes c)) n i)
+opened c past table entry Quiet sound k q line = none-other c (is_sleep_asked past) k.states table entry _
 
 abbrev pub open-known : (c : Parts) (opening capacity : ℕ) (past : List LogEntry) (port : PortId) → IsSound c
     → refusal c capacity past port Open ≡ None → Known c past → Known c (entry_is port Open (opening_events c opening past) ∷ past)
@@ -458,14 +459,14 @@ open-known c opening capacity past port sound h k =
     in record {
       states = k.states;
       hosts = k.hosts;
-      slot = subst (λ (s : Slot). SlotIs c (asked past) k.states (Some s)) (sym (told-due (due_nodes c past kind) at.0 at.1 (header c past kind) []))
+      slot = subst (λ (s : Slot). SlotIs c (is_sleep_asked past) k.states (Some s)) (sym (told-due (due_nodes c past kind) at.0 at.1 (header c past kind) []))
           (opened c past at.0 at.1 kind sound k (record { blocks = λ l. blocks-closed c past l none }) refl);
     }
 
 -- each step, and each history
 abbrev pub step-known : (c : Parts) (opening capacity : ℕ) (past : List LogEntry) (port : PortId) (step : Step) → IsSound c → Known c past
     → (r : Option Refusal) → refusal c capacity past port step ≡ r
-    → Known c (record { port = port; step = step; reply = choose r (Done (done_events c opening past port step)) Refused } ∷ past)
+    → Known c (record { port = port; step = step; reply = option_map_or Refused r (Done (done_events c opening past port step)) } ∷ past)
 step-known c opening capacity past port step sound k (Some r) h = refused-known c past port step r k
 step-known c opening capacity past port (Send from to message) sound k None h = send-known c capacity past port from to message _ h k
 step-known c opening capacity past port (Write by signal value) sound k None h = write-known c past port by signal value k

@@ -4,11 +4,11 @@ use Rattle.std.specs.Prelude.{Option, Some, None, is_none, is_some, ◌&&◌, na
 use Rattle.std.proofs.lemmas.Bool.Decides.{nat_tests}
 use Rattle.std.proofs.lemmas.List.{length-map}
 use Rattle.lin_transport.specs.Sender.{Sending as Sender}
-use Rattle.lin_parts.specs.Cluster.{nad, nodes}
-use Rattle.lin_parts.specs.declared.parts.Parts.{Parts}
+use Rattle.lin_cluster_parts.specs.Cluster.{nad, nodes}
+use Rattle.lin_cluster_parts.specs.declared.parts.Parts.{Parts}
 use Rattle.lin_core.specs.History.{open_slot}
 use Rattle.lin_core.specs.kept.State.{Keeps, KeepsLate, IsKept, Stage}
-use Rattle.lin_core.specs.kept.Hosts.{KeepsHost, message_at, message_of, settled}
+use Rattle.lin_core.specs.kept.Hosts.{KeepsHost, message_at, message_of, host_after_settling}
 use Rattle.lin_core.specs.Links.{Link, Message, accepted_from, heard_on, host_of, same_link, signs, waiting}
 use Rattle.lin_core.specs.Replies.{all_reports, begun_on, link_at, quiet_entry, refusals}
 use Rattle.lin_core.specs.declared.event.Event.{Event}
@@ -31,7 +31,7 @@ use Rattle.lin_core.proofs.sendings.Senders.{sender-is, sender_for}
 use Rattle.lin_core.proofs.kept.Settling.{Settles, marked-other, marked-own, settled-hosts, settled-late}
 use Rattle.lin_core.proofs.kept.SignalKeeping.{signals-same}
 use Rattle.std.proofs.Math.ListN.{length-set}
-use Rattle.lin_parts.specs.Sound.{IsSound}
+use Rattle.lin_cluster_parts.specs.Sound.{IsSound}
 use Rattle.lin_schedule.specs.Walker.{Position}
 use Rattle.lin_core.specs.declared.link.Direction.TheVariants.{Down, Up}
 use Rattle.lin_core.specs.declared.bus_state.BusState.{BusState}
@@ -168,7 +168,7 @@ times-out a by node dir host w n e =
 pub timeout-keeps : (c : Parts) (opening capacity : ℕ) (log past : List LogEntry) (slot : Option OpenSlot) (clock : ℕ) (walker : Position) (hosts : List Host) (signals : Signals) (host : Host) (by : PortId) (node : ℕ) (dir : Direction) (es : List Event)
     → IsSound c → (k : Known c past) (none : open_slot past ≡ None) → slice_get hosts (host_of (link_at node dir)) ≡ Some host
     → Settles c past (entry_is by (Timeout node dir) es) k (timeout-known c past by node dir es none k) (host_of (link_at node dir)) → Keeps c opening capacity log past slot clock walker hosts signals
-    → Keeps c opening capacity (log ++ entry_is by (Timeout node dir) es ∷ []) (entry_is by (Timeout node dir) es ∷ past) slot clock walker (slice_set hosts (host_of (link_at node dir)) (settled host)) signals
+    → Keeps c opening capacity (log ++ entry_is by (Timeout node dir) es ∷ []) (entry_is by (Timeout node dir) es ∷ past) slot clock walker (slice_set hosts (host_of (link_at node dir)) (host_after_settling host)) signals
 timeout-keeps c opening capacity log past slot clock walker hosts signals host by node dir es sound known none here s k =
     let e : LogEntry = entry_is by (Timeout node dir) es
     in let h : ℕ = host_of (link_at node dir)
@@ -180,7 +180,7 @@ timeout-keeps c opening capacity log past slot clock walker hosts signals host b
       clock_few = let t = k.clock_few in omega arith;
       stands = k.stands;
       walks = k.walks;
-      hosts_count = length-set hosts h (settled host) ∙ k.hosts_count;
+      hosts_count = length-set hosts h (host_after_settling host) ∙ k.hosts_count;
       each_host = settled-hosts c capacity log past e h host hosts sound known known' s here k.each_host;
       signals_are = signals-same c past e slot signals (λ n. refl) (λ n. refl) (λ f. refl) (λ f. refl) k.signals_are;
     }
@@ -188,7 +188,7 @@ timeout-keeps c opening capacity log past slot clock walker hosts signals host b
 pub timeout-late : (c : Parts) (past : List LogEntry) (bus : BusState) (hosts : List Host) (host : Host) (by : PortId) (node : ℕ) (dir : Direction) (es : List Event)
     → IsSound c → (k : Known c past) (none : open_slot past ≡ None) → slice_get hosts (host_of (link_at node dir)) ≡ Some host
     → Settles c past (entry_is by (Timeout node dir) es) k (timeout-known c past by node dir es none k) (host_of (link_at node dir)) → KeepsLate c past bus hosts
-    → KeepsLate c (entry_is by (Timeout node dir) es ∷ past) bus (slice_set hosts (host_of (link_at node dir)) (settled host))
+    → KeepsLate c (entry_is by (Timeout node dir) es ∷ past) bus (slice_set hosts (host_of (link_at node dir)) (host_after_settling host))
 timeout-late c past bus hosts host by node dir es sound known none here s late =
     settled-late c past (entry_is by (Timeout node dir) es) (host_of (link_at node dir)) host bus bus hosts sound known (timeout-known c past by node dir es none known) s here (λ x. refl)
     (record { asleep_is = late.bus_is.asleep_is; asked_is = late.bus_is.asked_is; selected_is = late.bus_is.selected_is }) late

@@ -1,13 +1,12 @@
 -- An answer with a frame of a message, or with the sleep frame.
 use Rattle.std.proofs.Common.{◌≡◌, ℕ, ◌<◌, Bool, true, false, List, [], ◌∷◌, refl, ap, sym, ◌∙◌, subst, arith}
 use Rattle.std.specs.Prelude.{Some, None, ◌==◌, ◌&&◌, ◌||◌, slice_get, slice_index_or, nat_le}
-use Rattle.lin_frame.specs.Words.{choose}
 use Rattle.lin_core.specs.kept.Slots.{frame_answered, slot_in}
-use Rattle.lin_core.specs.History.{Slot, asked, header_is, open_slot}
+use Rattle.lin_core.specs.History.{Slot, is_sleep_asked, header_is, open_slot}
 use Rattle.lin_core.specs.kept.Hosts.{message_at, HasNext, bytes_next}
 use Rattle.lin_core.specs.Replies.{put_event, refusals}
 use Rattle.lin_core.specs.Slots.{put, with_classic}
-use Rattle.lin_parts.specs.Cluster.{line_of, nodes}
+use Rattle.lin_cluster_parts.specs.Cluster.{line_of, nodes}
 use Rattle.lin_core.specs.kept.State.{IsKept, IsReady, Stage}
 use Rattle.lin_core.specs.declared.event.Event.TheVariants.{Put as PutEvent}
 use Rattle.lin_core.specs.declared.host.Host.{Host}
@@ -22,17 +21,18 @@ use Rattle.lin_core.proofs.sendings.Nexts.{next-has, next-inside, next-same}
 use Rattle.lin_core.proofs.sendings.Turns.{AnswerIs, answer-is, next_of}
 use Rattle.lin_core.proofs.sendings.Turns.AnswerIs.{request, response, signals}
 use Rattle.std.proofs.lemmas.Bool.Decides.{nat_tests}
+use Rattle.std.specs.Option.{option_map_or}
 use Rattle.lin_core.proofs.steps.Steps.{none-of}
 use Rattle.lin_core.specs.declared.slot.OpenSlot.{OpenSlot}
 use Rattle.lin_core.specs.declared.log.LogEntry.{LogEntry}
-use Rattle.lin_parts.specs.declared.parts.Parts.{Parts}
+use Rattle.lin_cluster_parts.specs.declared.parts.Parts.{Parts}
 
 -- in a slot under a header of the transport: something is due, and what is put
 record TurnIs (c : Parts) (past : List LogEntry) (states : ℕ → HostState) (node : ℕ) (s : Slot) : Type 0 where
   header : ℕ
   header_is : s.header ≡ Some header
-  some : (has_rest (states node).rest || (header == 0x3C && asked past)) ≡ true
-  bytes : put c past (line_of c s.table s.entry).entry header node ≡ with_classic (next_of c (states node).rest (states node).count (header == 0x3C && asked past))
+  some : (has_rest (states node).rest || (header == 0x3C && is_sleep_asked past)) ≡ true
+  bytes : put c past (line_of c s.table s.entry).entry header node ≡ with_classic (next_of c (states node).rest (states node).count (header == 0x3C && is_sleep_asked past))
 
 or-more : (a b : Bool) → a ≡ true → (a || b) ≡ true
 or-more true b e = refl
@@ -43,8 +43,8 @@ turn-is c past states node s (signals t p q) head = absurd (let no : (header_is 
 turn-is c past states node s (request t h empty z some bytes) head = record {
   header = 0x3C;
   header_is = h;
-  some = subst (λ (n : ℕ). (has_rest (states n).rest || asked past) ≡ true) (sym z) some;
-  bytes = subst (λ (n : ℕ). put c past (line_of c t.table t.entry).entry 0x3C node ≡ with_classic (next_of c (states n).rest (states n).count (asked past))) (sym z) bytes;
+  some = subst (λ (n : ℕ). (has_rest (states n).rest || is_sleep_asked past) ≡ true) (sym z) some;
+  bytes = subst (λ (n : ℕ). put c past (line_of c t.table t.entry).entry 0x3C node ≡ with_classic (next_of c (states n).rest (states n).count (is_sleep_asked past))) (sym z) bytes;
 }
 turn-is c past states node s (response t h empty some rest bytes) head = record { header = 0x7D; header_is = h; some = or-more (has_rest (states node).rest) false rest; bytes = bytes }
 
@@ -53,7 +53,7 @@ pub record AnswersNext (a : Stage) (by : PortId) (node : ℕ) (host : Host) (pla
   pub step : Allowed a by (Answer node)
   pub slot : AnswerSlot a node
   pub has : HasNext a.cluster (message_at a.log place) host.sender sleeping
-  pub told : PutEvent node (with_classic (bytes_next a.cluster (message_at a.log place) host.sender sleeping)) ∷ [] ≡ choose (open_slot (past_in a)) [] (put_event a.cluster (past_in a) node)
+  pub told : PutEvent node (with_classic (bytes_next a.cluster (message_at a.log place) host.sender sleeping)) ∷ [] ≡ option_map_or (put_event a.cluster (past_in a) node) (open_slot (past_in a)) []
 
 pub answers-next : (a : Stage) (by : PortId) (node : ℕ) (host : Host) (place header : ℕ) (sleeping : Bool) → IsReady a by (Answer node)
     → frame_answered a.cluster (past_in a) node ≡ None → host ≡ slice_index_or a.state.hosts.items node host → ((p : ℕ) → slice_get host.queue.items 0 ≡ Some p → place ≡ p)
@@ -70,7 +70,7 @@ answers-next a by node host place header sleeping r none e at own is head sleeps
     in let x : AnswerIs c past s.known.states node (slot_in o.slot) = answer-is c a.capacity past by node s.known s.allowed (slot_in o.slot) o.is
     in let t : TurnIs c past s.known.states node (slot_in o.slot) = turn-is c past s.known.states node (slot_in o.slot) x (transport-head a node o none)
     in let same : header ≡ t.header = (let both : Some header ≡ Some t.header = head ∙ ap (λ (x : OpenSlot). x.header) (same-slot a node o own is) ∙ t.header_is in cc)
-    in let asleep_is : sleeping ≡ (t.header == 0x3C && asked past) = sleeps ∙ ap (λ (x : ℕ). x == 0x3C && a.state.bus.asked) same ∙ ap (λ (b : Bool). t.header == 0x3C && b) w.late.bus_is.asked_is
+    in let asleep_is : sleeping ≡ (t.header == 0x3C && is_sleep_asked past) = sleeps ∙ ap (λ (x : ℕ). x == 0x3C && a.state.bus.asked) same ∙ ap (λ (b : Bool). t.header == 0x3C && b) w.late.bus_is.asked_is
     in let next = next-inside a node host place w s.known here at
     in let some : (has_rest (s.known.states node).rest || sleeping) ≡ true = rw asleep_is t.some
     in record {

@@ -1,12 +1,16 @@
 -- No promise rests on this: the hosts' messages.
-use Rattle.std.specs.Prelude.{◌≡◌, ⊤, ℕ, ◌+◌, ◌≤◌, ◌<◌, Bool, true, false, List, [], ◌∷◌, ◌++◌, drop, flat_map, map, length, filter, slice_get, Option, Some, None, option_map}
-use Rattle.lin_frame.specs.Words.{choose, numbers}
+use Rattle.std.specs.Prelude.{◌≡◌, ⊤, ℕ, ◌+◌, ◌≤◌, ◌<◌, Bool, true, false, List, [], ◌∷◌, ◌++◌}
+use Rattle.std.specs.Prelude.{drop, flat_map, map, length, filter, slice_get, Option, Some, None}
+use Rattle.std.specs.Prelude.{option_map}
+use Rattle.std.specs.Option.{option_map_or}
+use Rattle.lin_frame.specs.Words.{numbers}
 use Rattle.circular_buffer.specs.Buffer.{buffer}
 use Rattle.lin_transport.specs.Transport.{frame, frame_count}
 use Rattle.lin_transport.specs.Sender.{Sending as Sender}
-use Rattle.lin_parts.specs.Cluster.{nodes}
-use Rattle.lin_core.specs.History.{closed, LogEntry, Step, Parts}
-use Rattle.lin_core.specs.Links.{Message, Sending, accepted_from, begun, is_good, link_of, nad_on, waiting}
+use Rattle.lin_cluster_parts.specs.Cluster.{nodes}
+use Rattle.lin_core.specs.History.{is_host_closed, LogEntry, Step, Parts}
+use Rattle.lin_core.specs.Links.{Message, Sending, accepted_from, begun_sending, is_good, link_of}
+use Rattle.lin_core.specs.Links.{nad_on, waiting}
 use Rattle.lin_core.specs.Slots.{sleep_frame}
 use Rattle.lin_core.specs.declared.event.Event.{Event}
 use Rattle.lin_core.specs.declared.event.Event.TheVariants.{Lost}
@@ -20,26 +24,31 @@ sent_in (Send from to message) = Some (record { link = link_of from to; bytes = 
 sent_in step = None
 
 abbrev pub message_at : List LogEntry → ℕ → Option Message
-message_at log i = choose (slice_get log i) None (λ e. sent_in e.step)
+message_at log i = option_map_or (λ e. sent_in e.step) (slice_get log i) None
 
 abbrev pub message_of : Sending → Message
 message_of s = s.message
 
 -- the queue has the places of the messages that wait in the log, and all others are settled
-pub record KeepsHost (c : Parts) (capacity : ℕ) (log past : List LogEntry) (h : ℕ) (host : Host) : Type 0 where
+pub record KeepsHost (c : Parts) (capacity : ℕ) (log past : List LogEntry) (h : ℕ)
+    (host : Host) : Type 0 where
   pub queue : map (message_at log) host.queue.items ≡ map Some (map message_of (waiting c past h))
   pub count : host.settled + length host.queue.items ≡ length (accepted_from past h)
   pub capacity_is : host.queue.capacity ≡ capacity
 
 -- the sender of the message that is begun
 abbrev pub sender_of : Parts → Sending → Sender
-sender_of c s = record { nad = nad_on c s.message.link; size = length s.message.bytes; sent = length (filter is_good s.block) }
+sender_of c s = record {
+  nad = nad_on c s.message.link;
+  size = length s.message.bytes;
+  sent = length (filter is_good s.block);
+}
 
 abbrev pub sender_now : Parts → List LogEntry → ℕ → Option Sender
-sender_now c past h = option_map (sender_of c) (begun c past h)
+sender_now c past h = option_map (sender_of c) (begun_sending c past h)
 
 pub record KeepsSender (c : Parts) (past : List LogEntry) (h : ℕ) (host : Host) : Type 0 where
-  pub closed_is : host.closed ≡ closed past h
+  pub closed_is : host.closed ≡ is_host_closed past h
   pub sender_is : host.sender ≡ sender_now c past h
 
 -- a host that has sent nothing
@@ -47,33 +56,44 @@ abbrev pub fresh : ℕ → Host
 fresh capacity = record { settled = 0; queue = buffer [] capacity; sender = None; closed = false }
 
 -- one more message waits, whose step stands at this place in the log
-abbrev pub queued : Host → ℕ → Host
-queued host place = record host { queue = buffer (host.queue.items ++ place ∷ []) host.queue.capacity }
+abbrev pub host_after_send : Host → ℕ → Host
+host_after_send host place = record host {
+  queue = buffer (host.queue.items ++ place ∷ []) host.queue.capacity;
+}
 
 -- the next message is settled, and none is begun
-abbrev pub settled : Host → Host
-settled host = record host { settled = host.settled + 1; queue = buffer (drop 1 host.queue.items) host.queue.capacity; sender = None }
+abbrev pub host_after_settling : Host → Host
+host_after_settling host = record host {
+  settled = host.settled + 1;
+  queue = buffer (drop 1 host.queue.items) host.queue.capacity;
+  sender = None;
+}
 
 -- how many frames of the next message were seen good, and how long it is where it has no sender
 abbrev pub sent_of : Host → ℕ
-sent_of host = choose host.sender 0 (λ s. s.sent)
+sent_of host = option_map_or (λ s. s.sent) host.sender 0
 
 abbrev pub size_of : Host → ℕ → ℕ
-size_of host len = choose host.sender len (λ s. s.size)
+size_of host len = option_map_or (λ s. s.size) host.sender len
 
 -- one more frame of the next message is seen good, to this address and of this length
-abbrev pub gone_on : Host → ℕ → ℕ → Host
-gone_on host address len = record host { sender = Some (choose host.sender (record { nad = address; size = len; sent = 1 }) (λ s. record s { sent = s.sent + 1 })) }
+abbrev pub host_after_frame : Host → ℕ → ℕ → Host
+host_after_frame host address len = record host {
+  sender =
+      Some (option_map_or {T = Sender}
+      (λ s. record s { sent = s.sent + 1 }) host.sender
+      (record { nad = address; size = len; sent = 1 }));
+}
 
 -- the cluster goes to sleep: what is begun is lost, and the hosts are told, by rising number
-abbrev pub slept : Host → Host
-slept host = choose host.sender host (λ s. settled host)
+abbrev pub host_after_sleep : Host → Host
+host_after_sleep host = option_map_or (λ s. host_after_settling host) host.sender host
 
-abbrev pub lost_of : ℕ → Host → List Event
-lost_of h host = choose host.sender [] (λ s. Lost h (host.settled + 1) Slept ∷ [])
+abbrev pub loss_of : ℕ → Host → List Event
+loss_of h host = option_map_or (λ s. Lost h (host.settled + 1) Slept ∷ []) host.sender []
 
 abbrev pub losses_of : List Host → ℕ → List Event
-losses_of hosts h = choose (slice_get hosts h) [] (lost_of h)
+losses_of hosts h = option_map_or (loss_of h) (slice_get hosts h) []
 
 abbrev pub losses : List Host → List Event
 losses hosts = flat_map (losses_of hosts) (numbers (length hosts))
@@ -89,6 +109,9 @@ bytes_next c (Some m) None false = frame (nad_on c m.link) m.bytes 0
 
 -- there is such a frame
 abbrev pub HasNext : Parts → Option Message → Option Sender → Bool → Type 0
-HasNext c o (Some s) sleeping = (m : Message) × (o ≡ Some m) × (length m.bytes ≡ s.size) × (s.sent < frame_count s.size)
+HasNext c o (Some s) sleeping =
+    (m : Message) × (o ≡ Some m) × (length m.bytes ≡ s.size) × (s.sent < frame_count s.size)
 HasNext c o None true = ⊤
-HasNext c o None false = (m : Message) × (o ≡ Some m) × (1 ≤ length m.bytes) × (length m.bytes ≤ 4095) × (m.link.node < nodes c)
+HasNext c o None false =
+    (m : Message) × (o ≡ Some m) × (1 ≤ length m.bytes) × (length m.bytes ≤ 4095)
+    × (m.link.node < nodes c)

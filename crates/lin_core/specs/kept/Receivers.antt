@@ -1,9 +1,10 @@
 -- No promise rests on this: the receivers of the links.
-use Rattle.std.specs.Prelude.{◌≡◌, ℕ, true, List, ◌∷◌, length, slice_get, slice_set, Option, Some, is_some}
+use Rattle.std.specs.Prelude.{◌≡◌, ℕ, true, List, ◌∷◌, length, slice_get, slice_set, Option, Some}
+use Rattle.std.specs.Prelude.{is_some}
 use Rattle.lin_transport.specs.Transport.{Heard}
 use Rattle.lin_transport.specs.Transport.Heard.{Reset}
 use Rattle.lin_transport.specs.Receiver.{Hears, Reception, Stands}
-use Rattle.lin_parts.specs.Cluster.{nad, nodes}
+use Rattle.lin_cluster_parts.specs.Cluster.{nad, nodes}
 use Rattle.lin_core.specs.Links.{Link, heard_on, nad_on}
 use Rattle.lin_core.specs.Replies.{link_at}
 use Rattle.lin_core.specs.declared.link.Direction.{Direction}
@@ -21,22 +22,26 @@ opposite Down = Up
 opposite Up = Down
 
 -- a receiver stands for what the receiver of its link is given
-pub record KeepsReceiver (c : Parts) (past : List LogEntry) (l : Link) (r : Reception) : Type 0 where
+pub record KeepsReceiver (c : Parts) (past : List LogEntry) (l : Link)
+    (r : Reception) : Type 0 where
   pub nad_is : r.nad ≡ nad_on c l
   pub stands : Stands r (heard_on c past l)
 
 -- two of each node; those of a node that has no address are never used
 pub record KeepsHeard (c : Parts) (past : List LogEntry) (receivers : List Receivers) : Type 0 where
   pub count : length receivers ≡ nodes c
-  pub each : (h : ℕ) (rs : Receivers) (d : Direction) → slice_get receivers h ≡ Some rs → is_some (nad c h) ≡ true → KeepsReceiver c past (link_at h d) (receiver_in d rs)
+  pub each : (h : ℕ) (rs : Receivers) (d : Direction) → slice_get receivers h ≡ Some rs
+      → is_some (nad c h) ≡ true → KeepsReceiver c past (link_at h d) (receiver_in d rs)
 
 -- the receiver of a link hears a frame, and gives this message or none; the others hear nothing
-pub record HearsOn (l : Link) (frame : List ℕ) (given : Option (List ℕ)) (old new : List Receivers) : Type 0 where
+pub record HearsOn (l : Link) (frame : List ℕ) (given : Option (List ℕ))
+    (old new : List Receivers) : Type 0 where
   pub was : Receivers
   pub is : Receivers
   pub there : slice_get old l.node ≡ Some was
   pub set : new ≡ slice_set old l.node is
-  pub hears : (heard : List Heard) → Stands (receiver_in l.dir was) heard → Hears (receiver_in l.dir was) frame heard given (receiver_in l.dir is)
+  pub hears : (heard : List Heard) → Stands (receiver_in l.dir was) heard
+      → Hears (receiver_in l.dir was) frame heard given (receiver_in l.dir is)
   pub other : receiver_in (opposite l.dir) is ≡ receiver_in (opposite l.dir) was
 
 -- a receiver that was reset, and both of a node

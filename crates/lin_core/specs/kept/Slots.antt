@@ -1,12 +1,17 @@
 -- No promise rests on this: the open slot, and what is due in it, by what is kept.
-use Rattle.std.specs.Prelude.{◌≡◌, ⊤, ℕ, ◌+◌, ◌≤◌, ◌<◌, ◌==◌, ◌&&◌, Bool, true, false, if◌then◌else◌, not, List, [], ◌∷◌, map, length, filter, find, slice_index, slice_index_or, ◌⊎◌, Option, Some, None, is_some, option_map, IfSome}
+use Rattle.std.specs.Prelude.{◌≡◌, ⊤, ℕ, ◌+◌, ◌≤◌, ◌<◌, ◌==◌, ◌&&◌, Bool, true, false}
+use Rattle.std.specs.Prelude.{if◌then◌else◌, not, List, [], ◌∷◌, map, length, filter, find}
+use Rattle.std.specs.Prelude.{slice_index, slice_index_or, ◌⊎◌, Option, Some, None, is_some}
+use Rattle.std.specs.Prelude.{option_map, IfSome}
 use Rattle.std.specs.List.{list_any}
-use Rattle.lin_frame.specs.Words.{choose}
+use Rattle.std.specs.Option.{option_map_or}
 use Rattle.lin_frame.specs.declared.sums.SumKind.{SumKind}
-use Rattle.lin_parts.specs.Cluster.{frame_of, sporadic_of, event_of, line_of}
-use Rattle.lin_parts.specs.Rules.{IsEntry}
-use Rattle.lin_parts.specs.declared.parts.Entry.{Entry}
-use Rattle.lin_parts.specs.declared.parts.Entry.TheVariants.{Frame, Sporadic, Event, MasterReq, SlaveResp}
+use Rattle.lin_cluster_parts.specs.Cluster.{frame_of, sporadic_of, event_of, line_of}
+use Rattle.lin_cluster_parts.specs.Rules.{IsEntry}
+use Rattle.lin_cluster_parts.specs.declared.parts.Entry.{Entry}
+use Rattle.lin_cluster_parts.specs.declared.parts.Entry.TheVariants.{Frame, Sporadic, Event}
+use Rattle.lin_cluster_parts.specs.declared.parts.Entry.TheVariants.{MasterReq}
+use Rattle.lin_cluster_parts.specs.declared.parts.Entry.TheVariants.{SlaveResp}
 use Rattle.lin_schedule.specs.Walker.{HasEntry}
 use Rattle.lin_schedule.specs.declared.due.Due.{Due}
 use Rattle.lin_schedule.specs.declared.due.Due.TheVariants.{
@@ -17,7 +22,8 @@ use Rattle.lin_schedule.specs.declared.due.Due.TheVariants.{
   SlaveResp as SlaveRespDue,
   Quiet as QuietDue,
 }
-use Rattle.lin_core.specs.History.{Slot, has_decided, header_is, is_in, no_slot, open_slot, LogEntry, Parts}
+use Rattle.lin_core.specs.History.{Slot, has_decided, header_is, is_in, no_slot, open_slot}
+use Rattle.lin_core.specs.History.{LogEntry, Parts}
 use Rattle.lin_core.specs.declared.pdu.Pdu.{Pdu}
 use Rattle.lin_core.specs.declared.pdu.Pdu.TheVariants.{Nothing, Sleep, OfMessage}
 use Rattle.lin_core.specs.declared.slot.OpenSlot.{OpenSlot}
@@ -28,14 +34,27 @@ abbrev pub put_in : Put → ℕ × List ℕ
 put_in p = (p.node, p.answer)
 
 abbrev pub slot_in : OpenSlot → Slot
-slot_in s = record { table = s.table; entry = s.entry; header = s.header; due = s.due.items; puts = map put_in s.puts.items; left = s.left.items; hurt = s.hurt }
+slot_in s = record {
+  table = s.table;
+  entry = s.entry;
+  header = s.header;
+  due = s.due.items;
+  puts = map put_in s.puts.items;
+  left = s.left.items;
+  hurt = s.hurt;
+}
 
 -- a slot that opens, and as it is kept
-abbrev pub begun : ℕ → ℕ → Option ℕ → List ℕ → Slot
-begun table entry header due = record no_slot { table = table; entry = entry; header = header; due = due }
+abbrev pub opening_slot : ℕ → ℕ → Option ℕ → List ℕ → Slot
+opening_slot table entry header due = record no_slot {
+  table = table;
+  entry = entry;
+  header = header;
+  due = due;
+}
 
-abbrev pub opened : Parts → ℕ × ℕ → Option ℕ → List ℕ → OpenSlot
-opened c place header due = record {
+abbrev pub opening_slot_kept : Parts → ℕ × ℕ → Option ℕ → List ℕ → OpenSlot
+opening_slot_kept c place header due = record {
   table = place.0;
   entry = place.1;
   kind = (line_of c place.0 place.1).entry;
@@ -66,9 +85,11 @@ header_of c waits QuietDue = None
 abbrev pub is_due_of : Parts → List Bool → Bool → Option ℕ → Due → ℕ → Bool
 is_due_of c flags waits responder (FrameDue f) n = n == (frame_of c f).publisher
 is_due_of c flags waits responder (SporadicDue o) n = n == 0 && is_some o
-is_due_of c flags waits responder (EventDue e) n = list_any (λ f. n == (frame_of c f).publisher && slice_index_or flags f false) (event_of c e).frames
+is_due_of c flags waits responder (EventDue e) n =
+    list_any (λ f. n == (frame_of c f).publisher && slice_index_or flags f false)
+    (event_of c e).frames
 is_due_of c flags waits responder MasterReqDue n = n == 0 && waits
-is_due_of c flags waits responder SlaveRespDue n = choose responder false (λ k. n == k)
+is_due_of c flags waits responder SlaveRespDue n = option_map_or (λ k. n == k) responder false
 is_due_of c flags waits responder QuietDue n = false
 
 -- the frame of a node's response in a slot for an entry, under its header, and in the open slot
@@ -79,7 +100,10 @@ frame_by c (Event e) h n = find (λ f. n == (frame_of c f).publisher) (event_of 
 frame_by c entry h n = None
 
 abbrev pub frame_answered : Parts → List LogEntry → ℕ → Option ℕ
-frame_answered c past n = choose (open_slot past) None (λ o. choose o.header None (λ h. frame_by c (line_of c o.table o.entry).entry h n))
+frame_answered c past n =
+    option_map_or
+    (λ o. option_map_or (λ h. frame_by c (line_of c o.table o.entry).entry h n) o.header None)
+    (open_slot past) None
 
 -- the checksum model of that response
 abbrev pub frame_model : Parts → Entry → ℕ → SumKind
@@ -88,7 +112,10 @@ frame_model c entry f = (frame_of c f).model
 
 -- a node's response is a frame of signals, or one of a message
 abbrev pub CanAnswer : Parts → Entry → Option ℕ → ℕ → Type 0
-CanAnswer c entry header n = (h : ℕ) × (header ≡ Some h) × (((f : ℕ) × (frame_by c entry h n ≡ Some f)) ⊎ (((entry ≡ MasterReq) × (h ≡ 0x3C)) ⊎ ((entry ≡ SlaveResp) × (h ≡ 0x7D))))
+CanAnswer c entry header n =
+    (h : ℕ) × (header ≡ Some h)
+    × (((f : ℕ) × (frame_by c entry h n ≡ Some f))
+    ⊎ (((entry ≡ MasterReq) × (h ≡ 0x3C)) ⊎ ((entry ≡ SlaveResp) × (h ≡ 0x7D))))
 
 -- an open slot is one of the schedule, whose entry is kept, those that are due can answer, and
 -- there is room for the responses that are left
@@ -97,8 +124,10 @@ pub record IsOpen (c : Parts) (s : OpenSlot) : Type 0 where
   pub kind_is : s.kind ≡ (line_of c s.table s.entry).entry
   pub known : IsEntry c s.kind
   pub request : header_is 0x3C s.header ≡ true → (line_of c s.table s.entry).entry ≡ MasterReq
-  pub answers : (n : ℕ) → is_in s.due.items n ≡ true → CanAnswer c (line_of c s.table s.entry).entry s.header n
-  pub room : length s.puts.items + length s.left.items + length (filter (λ n. not (has_decided (slot_in s) n)) s.due.items) ≤ 16
+  pub answers : (n : ℕ) → is_in s.due.items n ≡ true
+      → CanAnswer c (line_of c s.table s.entry).entry s.header n
+  pub room : length s.puts.items + length s.left.items + length
+      (filter (λ n. not (has_decided (slot_in s) n)) s.due.items) ≤ 16
 
 abbrev pub IsThere : Parts → Option OpenSlot → Type 0
 IsThere c None = ⊤
@@ -114,7 +143,9 @@ pdu_up [] = Nothing
 pdu_up (p ∷ ps) = OfMessage p.0
 
 abbrev pub pdu_of : Slot → Pdu
-pdu_of s = if header_is 0x3C s.header then pdu_down s.puts else if header_is 0x7D s.header then pdu_up s.puts else Nothing
+pdu_of s =
+    if header_is 0x3C s.header then pdu_down s.puts else if header_is 0x7D s.header
+    then pdu_up s.puts else Nothing
 
 -- no message moves on at the slot's finish, and the cluster stays awake
 abbrev pub is_still : Pdu → Bool → Bool
@@ -124,4 +155,5 @@ is_still (OfMessage host) hurt = false
 
 -- the open slot carries a frame of a host's message, disturbed or not
 abbrev pub IsCarried : List LogEntry → ℕ → Bool → Type 0
-IsCarried past h hurt = (s : Slot) × (open_slot past ≡ Some s) × (pdu_of s ≡ OfMessage h) × (s.hurt ≡ hurt)
+IsCarried past h hurt =
+    (s : Slot) × (open_slot past ≡ Some s) × (pdu_of s ≡ OfMessage h) × (s.hurt ≡ hurt)

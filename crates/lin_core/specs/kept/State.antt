@@ -1,8 +1,9 @@
 -- No promise rests on this: the state that is kept, and what a step makes of it.
-use Rattle.std.specs.Prelude.{Result, MatchResult, ◌≡◌, ◌+◌, ◌*◌, ◌-◌, ◌^◌, ◌≤◌, ◌<◌, ℕ, List, [], ◌∷◌, ◌++◌, length, reverse, slice_get, Option, Some, None, option_map}
-use Rattle.lin_parts.specs.Cluster.{line_of, nodes}
-use Rattle.lin_parts.specs.Rules.{IsCluster}
-use Rattle.lin_parts.specs.Sound.{IsSound}
+use Rattle.std.specs.Prelude.{Result, MatchResult, ◌≡◌, ◌+◌, ◌*◌, ◌-◌, ◌^◌, ◌≤◌, ◌<◌, ℕ, List, []}
+use Rattle.std.specs.Prelude.{◌∷◌, ◌++◌, length, reverse, slice_get, Option, Some, None, option_map}
+use Rattle.lin_cluster_parts.specs.Cluster.{line_of, nodes}
+use Rattle.lin_cluster_parts.specs.Rules.{IsCluster}
+use Rattle.lin_cluster_parts.specs.Sound.{IsSound}
 use Rattle.lin_schedule.specs.Schedule.{Move}
 use Rattle.lin_schedule.specs.Schedule.Move.{Slot as SlotMove}
 use Rattle.lin_schedule.specs.Walker.{Position, Stands, Walks}
@@ -29,7 +30,9 @@ use Rattle.lin_core.specs.declared.state.State.{State}
 
 -- the open slot, the time, the walker, the queues and the signals are those of this log, whose
 -- newest entry stands first in `past`
-pub record Keeps (c : Parts) (opening capacity : ℕ) (log past : List LogEntry) (slot : Option OpenSlot) (clock : ℕ) (walker : Position) (hosts : List Host) (signals : Signals) : Type 0 where
+pub record Keeps (c : Parts) (opening capacity : ℕ) (log past : List LogEntry)
+    (slot : Option OpenSlot) (clock : ℕ) (walker : Position) (hosts : List Host)
+    (signals : Signals) : Type 0 where
   pub slot_is : option_map slot_in slot ≡ open_slot past
   pub slot_there : IsThere c slot
   pub clock_is : clock ≡ time c past
@@ -37,20 +40,24 @@ pub record Keeps (c : Parts) (opening capacity : ℕ) (log past : List LogEntry)
   pub stands : Stands c opening walker (moves past)
   pub walks : Walks c walker
   pub hosts_count : length hosts ≡ nodes c
-  pub each_host : (h : ℕ) (host : Host) → slice_get hosts h ≡ Some host → KeepsHost c capacity log past h host
+  pub each_host : (h : ℕ) (host : Host) → slice_get hosts h ≡ Some host
+      → KeepsHost c capacity log past h host
   pub signals_are : KeepsSignals c past slot signals
 
 -- and the bus, and the senders
-pub record KeepsLate (c : Parts) (past : List LogEntry) (bus : BusState) (hosts : List Host) : Type 0 where
+pub record KeepsLate (c : Parts) (past : List LogEntry) (bus : BusState)
+    (hosts : List Host) : Type 0 where
   pub bus_is : KeepsBus c past bus
-  pub each_sender : (h : ℕ) (host : Host) → slice_get hosts h ≡ Some host → KeepsSender c past h host
+  pub each_sender : (h : ℕ) (host : Host) → slice_get hosts h ≡ Some host
+      → KeepsSender c past h host
 
 -- the end of a slot: it is closed, its delay is over, and the schedule and the bus go on
 pub record Passes (c : Parts) (slot : OpenSlot) (old new : State) : Type 0 where
   pub shut : new.slot ≡ None
   pub clock : new.time ≡ old.time + (line_of c slot.table slot.entry).delay_us
   pub few : (line_of c slot.table slot.entry).delay_us ≤ 1000000000
-  pub stands : (opening : ℕ) (moves : List Move) → Stands c opening old.walker moves → Stands c opening new.walker (SlotMove (is_clash (slot_in slot)) ∷ moves)
+  pub stands : (opening : ℕ) (moves : List Move) → Stands c opening old.walker moves
+      → Stands c opening new.walker (SlotMove (is_clash (slot_in slot)) ∷ moves)
   pub walks : Walks c new.walker
   pub signals : Ends c slot old.signals new.signals
   pub bus : new.bus ≡ bus_after c (slot_in slot) old.bus
@@ -64,11 +71,23 @@ pub record Stage : Type 0 where
   pub state : State
 
 abbrev pub stage : Setup → LogData → State → Stage
-stage setup log state = record { cluster = setup.cluster; opening = setup.opening; capacity = setup.capacity; log = log.entries; state = state }
+stage setup log state = record {
+  cluster = setup.cluster;
+  opening = setup.opening;
+  capacity = setup.capacity;
+  log = log.entries;
+  state = state;
+}
 
 -- what contracts see of it, but for the room that was made
 abbrev pub stage_data : Stage → CoreData
-stage_data a = record { cluster = a.cluster; opening = a.opening; capacity = a.capacity; log = a.log; spare = 0 }
+stage_data a = record {
+  cluster = a.cluster;
+  opening = a.opening;
+  capacity = a.capacity;
+  log = a.log;
+  spare = 0;
+}
 
 -- the log is the history of its steps, and the state is that of the log
 pub record IsKept (a : Stage) : Type 0 where
@@ -76,7 +95,8 @@ pub record IsKept (a : Stage) : Type 0 where
   pub rules : IsCluster a.cluster
   pub sound : IsSound a.cluster
   pub opening : a.opening < length a.cluster.tables
-  pub kept : Keeps a.cluster a.opening a.capacity a.log (reverse a.log) a.state.slot a.state.time a.state.walker a.state.hosts.items a.state.signals
+  pub kept : Keeps a.cluster a.opening a.capacity a.log
+      (reverse a.log) a.state.slot a.state.time a.state.walker a.state.hosts.items a.state.signals
   pub late : KeepsLate a.cluster (reverse a.log) a.state.bus a.state.hosts.items
   pub heard : KeepsHeard a.cluster (reverse a.log) a.state.receivers.items
   pub history : IsHistory (stage_data a)
@@ -92,16 +112,24 @@ pub record IsReady (a : Stage) (by : PortId) (step : Step) : Type 0 where
 
 -- the entry of a step that is done
 abbrev pub done_of : Stage → PortId → Step → LogEntry
-done_of a by step = record { port = by; step = step; reply = Done (done_events a.cluster a.opening (reverse a.log) by step) }
+done_of a by step = record {
+  port = by;
+  step = step;
+  reply = Done (done_events a.cluster a.opening (reverse a.log) by step);
+}
 
 -- a step was made: its events are those that are due, and the state is that of the log with one
 -- more entry
-pub record IsMade (a : Stage) (by : PortId) (step : Step) (events : List Event) (new : State) : Type 0 where
+pub record IsMade (a : Stage) (by : PortId) (step : Step) (events : List Event)
+    (new : State) : Type 0 where
   pub told : events ≡ done_events a.cluster a.opening (reverse a.log) by step
-  pub kept : Keeps a.cluster a.opening a.capacity (a.log ++ done_of a by step ∷ []) (done_of a by step ∷ reverse a.log) new.slot new.time new.walker new.hosts.items new.signals
+  pub kept : Keeps a.cluster a.opening a.capacity (a.log ++ done_of a by step ∷ [])
+      (done_of a by step ∷ reverse a.log) new.slot new.time new.walker new.hosts.items new.signals
   pub late : KeepsLate a.cluster (done_of a by step ∷ reverse a.log) new.bus new.hosts.items
   pub heard : KeepsHeard a.cluster (done_of a by step ∷ reverse a.log) new.receivers.items
 
 -- a step was made, or there was no memory, and what is kept is still that of the log
 abbrev pub Makes : {E : Type 0} → Stage → PortId → Step → Result (List Event) E → State → Type 0
-Makes a by step result new = MatchResult result (λ events. IsMade a by step events new) (λ e. IsKept (record a { state = new }))
+Makes a by step result new =
+    MatchResult result (λ events. IsMade a by step events new)
+    (λ e. IsKept (record a { state = new }))

@@ -26,7 +26,8 @@ impl State {
     /// A finish of a slot by which no message moves on, and the cluster stays awake.
     pub(super) fn finish_plain(&mut self, setup: &Setup, log: &Log, by: PortId) -> Events
         requires ready { IsReady (stage setup.now log.now self.old) by Step.Finish }
-        requires still { (s : OpenedSlot) → open_slot (reverse log.now.entries) ≡ Some s → is_still (pdu_of s) s.hurt ≡ true }
+        requires still { (s : OpenedSlot) → open_slot (reverse log.now.entries) ≡ Some s
+            → is_still (pdu_of s) s.hurt ≡ true }
         ensures { IsMade (stage setup.now log.now self.old) by Step.Finish result self.new }
     {
         let seen = self.pass_slot(&setup.cluster);
@@ -42,7 +43,8 @@ impl State {
         sender: u8,
     ) -> Result<Events, AllocError>
         requires ready { IsReady (stage setup.now log.now self.old) by Step.Finish }
-        requires carried { (s : OpenedSlot) → open_slot (reverse log.now.entries) ≡ Some s → (pdu_of s ≡ OfMessage sender) × (s.hurt ≡ true) }
+        requires carried { (s : OpenedSlot) → open_slot (reverse log.now.entries) ≡ Some s
+            → (pdu_of s ≡ OfMessage sender) × (s.hurt ≡ true) }
         ensures { Makes (stage setup.now log.now self.old) by Step.Finish result self.new }
     {
         let room = Vec::with_capacity(setup.alloc, 2)?;
@@ -109,7 +111,8 @@ impl State {
         by: PortId,
     ) -> Result<Events, AllocError>
         requires ready { IsReady (stage setup.now log.now self.old) by Step.Finish }
-        requires asleep { (s : OpenedSlot) → open_slot (reverse log.now.entries) ≡ Some s → (pdu_of s ≡ Sleep) × (s.hurt ≡ false) }
+        requires asleep { (s : OpenedSlot) → open_slot (reverse log.now.entries) ≡ Some s
+            → (pdu_of s ≡ Sleep) × (s.hurt ≡ false) }
         ensures { Makes (stage setup.now log.now self.old) by Step.Finish result self.new }
     {
         let room = Vec::with_capacity(setup.alloc, 2 + self.hosts.len())?;

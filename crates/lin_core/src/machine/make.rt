@@ -35,7 +35,8 @@ impl State {
         message: &Payload,
     ) -> Events
         requires { IsReady (stage setup.now log.now self.old) by (Step.Send from to message.now) }
-        ensures { IsMade (stage setup.now log.now self.old) by (Step.Send from to message.now) result self.new }
+        ensures { IsMade (stage setup.now log.now self.old) by
+            (Step.Send from to message.now) result self.new }
     {
         let place = log.len() as u32;
         let host = &mut self.hosts[from as usize];
@@ -54,8 +55,10 @@ impl State {
         signal: u16,
         value: &Value,
     ) -> Events
-        requires { IsReady (stage setup.now log.now self.old) by (Step.Write node signal value.now) }
-        ensures { IsMade (stage setup.now log.now self.old) by (Step.Write node signal value.now) result self.new }
+        requires { IsReady (stage setup.now log.now self.old) by
+            (Step.Write node signal value.now) }
+        ensures { IsMade (stage setup.now log.now self.old) by
+            (Step.Write node signal value.now) result self.new }
     {
         self.signals.write(&setup.cluster, signal, *value);
         no_events(setup)
@@ -159,7 +162,8 @@ impl State {
     /// The one response in the slot is disturbed.
     fn hurt(&mut self, setup: &Setup, log: &Log, by: PortId, bytes: &Payload) -> Events
         requires { IsReady (stage setup.now log.now self.old) by (Step.Hurt bytes.now) }
-        ensures { IsMade (stage setup.now log.now self.old) by (Step.Hurt bytes.now) result self.new }
+        ensures { IsMade (stage setup.now log.now self.old) by
+            (Step.Hurt bytes.now) result self.new }
     {
         self.slot.hurt();
         no_events(setup)
@@ -193,7 +197,7 @@ impl State {
         no_events(setup)
     }
 
-    /// Makes a step that isn't refused: the events of it. An error is out of memory, and nothing
+    /// Makes a step that isn't refused: the events of it. An error means out of memory, and nothing
     /// is changed.
     pub(super) fn make(
         &mut self,

@@ -15,14 +15,15 @@ use crate::state::State;
 use crate::step::Step;
 
 impl Core {
-    ghost use Rattle.lin_parts.specs.Cluster.{nodes};
+    ghost use Rattle.lin_cluster_parts.specs.Cluster.{nodes};
     ghost use Rattle.lin_core.specs.Core.{past_of};
     ghost use Rattle.lin_core.specs.History.{open_slot};
     ghost use Rattle.lin_core.specs.Replies.{begun_on};
 
     /// Whether a message is begun on a link, where no slot is open.
     pub(super) fn is_begun(&self, link: Link) -> bool
-        ensures { link.node < nodes self.now.cluster → open_slot (past_of self.now) ≡ None → is_some (begun_on self.now.cluster (past_of self.now) link.node link.dir) ≡ result }
+        ensures { link.node < nodes self.now.cluster → open_slot (past_of self.now) ≡ None
+            → is_some (begun_on self.now.cluster (past_of self.now) link.node link.dir) ≡ result }
     {
         let hosts = self.state.hosts.as_slice();
         let host = link.sender();
@@ -41,7 +42,8 @@ impl State {
     /// of it.
     pub(super) fn time_out(&mut self, setup: &Setup, log: &Log, by: PortId, link: Link) -> Events
         requires { IsReady (stage setup.now log.now self.old) by (Step.Timeout link.node link.dir) }
-        ensures { IsMade (stage setup.now log.now self.old) by (Step.Timeout link.node link.dir) result self.new }
+        ensures { IsMade (stage setup.now log.now self.old) by
+            (Step.Timeout link.node link.dir) result self.new }
     {
         let host = link.sender();
         let kept = &mut self.hosts[host as usize];

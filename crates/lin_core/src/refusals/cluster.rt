@@ -1,7 +1,7 @@
 //! When a write, a switch, an ask for sleep or a wake is refused.
 
 ghost use Rattle.std.specs.Prelude.{◌≡◌, ℕ, List, option_map};
-ghost use Rattle.lin_parts.specs.declared.parts.Parts.{Parts};
+ghost use Rattle.lin_cluster_parts.specs.declared.parts.Parts.{Parts};
 ghost use Rattle.lin_core.specs.History.{asleep, open_slot};
 ghost use Rattle.lin_core.specs.kept.Slots.{slot_in};
 ghost use Rattle.lin_core.specs.Replies.{refusal};
@@ -12,8 +12,8 @@ use crate::refusals::may_act;
 use crate::reply::Refusal;
 use crate::slot::Slot;
 use crate::step::Step;
+use lin_cluster_parts::Cluster;
 use lin_frame::{Place, Value};
-use lin_parts::Cluster;
 
 /// Why a write is refused.
 pub(crate) fn refuse_write(
@@ -23,7 +23,8 @@ pub(crate) fn refuse_write(
     signal: u16,
     value: &Value,
 ) -> Option<Refusal>
-    ensures { (capacity : ℕ) (past : List LogEntry) → result ≡ refusal cluster.now capacity past by (Step.Write node signal value.now) }
+    ensures { (capacity : ℕ) (past : List LogEntry)
+        → result ≡ refusal cluster.now capacity past by (Step.Write node signal value.now) }
 {
     if node as usize >= cluster.nodes() {
         return Some(Refusal::NoSuchNode);
@@ -55,7 +56,8 @@ pub(crate) fn refuse_switch(
     by: PortId,
     table: u16,
 ) -> Option<Refusal>
-    ensures { (capacity : ℕ) (past : List LogEntry) → option_map slot_in slot.now ≡ open_slot past → result ≡ refusal cluster.now capacity past by (Step.Switch table) }
+    ensures { (capacity : ℕ) (past : List LogEntry) → option_map slot_in slot.now ≡ open_slot past
+        → result ≡ refusal cluster.now capacity past by (Step.Switch table) }
 {
     if table as usize >= cluster.tables() {
         return Some(Refusal::NoSuchTable);
@@ -71,7 +73,8 @@ pub(crate) fn refuse_switch(
 
 /// Why an ask for sleep is refused, where the cluster is asleep or not.
 pub(crate) fn refuse_ask_sleep(sleeping: bool, by: PortId) -> Option<Refusal>
-    ensures { (c : Parts) (capacity : ℕ) (past : List LogEntry) → sleeping ≡ asleep past → result ≡ refusal c capacity past by Step.AskSleep }
+    ensures { (c : Parts) (capacity : ℕ) (past : List LogEntry) → sleeping ≡ asleep past
+        → result ≡ refusal c capacity past by Step.AskSleep }
 {
     if sleeping {
         return Some(Refusal::Asleep);
@@ -84,7 +87,8 @@ pub(crate) fn refuse_ask_sleep(sleeping: bool, by: PortId) -> Option<Refusal>
 
 /// Why a wake is refused, where the cluster is asleep or not.
 pub(crate) fn refuse_wake(sleeping: bool, by: PortId) -> Option<Refusal>
-    ensures { (c : Parts) (capacity : ℕ) (past : List LogEntry) → sleeping ≡ asleep past → result ≡ refusal c capacity past by Step.Wake }
+    ensures { (c : Parts) (capacity : ℕ) (past : List LogEntry) → sleeping ≡ asleep past
+        → result ≡ refusal c capacity past by Step.Wake }
 {
     if !sleeping {
         return Some(Refusal::Awake);

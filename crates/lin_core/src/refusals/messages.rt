@@ -1,8 +1,8 @@
 //! When a send, a timeout or a close is refused.
 
 ghost use Rattle.std.specs.Prelude.{◌≡◌, ℕ, ◌<◌, List, None, length, option_map, is_some};
-ghost use Rattle.lin_parts.specs.Cluster.{nodes};
-ghost use Rattle.lin_core.specs.History.{closed, open_slot};
+ghost use Rattle.lin_cluster_parts.specs.Cluster.{nodes};
+ghost use Rattle.lin_core.specs.History.{is_host_closed, open_slot};
 ghost use Rattle.lin_core.specs.kept.Slots.{slot_in};
 ghost use Rattle.lin_core.specs.Links.{waiting};
 ghost use Rattle.lin_core.specs.Replies.{begun_on, has_address, refusal};
@@ -15,7 +15,7 @@ use crate::refusals::may_act;
 use crate::reply::Refusal;
 use crate::slot::Slot;
 use crate::step::Step;
-use lin_parts::Cluster;
+use lin_cluster_parts::Cluster;
 
 /// The most bytes that a message has (ISO 17987-2, transport layer).
 const MESSAGE_BYTES: usize = 4095;
@@ -41,7 +41,10 @@ pub(crate) fn refuse_send(
     to: u8,
     message: &Payload,
 ) -> Option<Refusal>
-    ensures { (past : List LogEntry) → (from < nodes cluster.now → (length (waiting cluster.now past from) ≡ queued) × (closed past from ≡ shut)) → result ≡ refusal cluster.now capacity past by (Step.Send from to message.now) }
+    ensures { (past : List LogEntry)
+        → (from < nodes cluster.now
+        → (length (waiting cluster.now past from) ≡ queued) × (is_host_closed past from ≡ shut))
+        → result ≡ refusal cluster.now capacity past by (Step.Send from to message.now) }
 {
     let nodes = cluster.nodes();
     if from as usize >= nodes || to as usize >= nodes {
@@ -74,7 +77,10 @@ pub(crate) fn refuse_timeout(
     by: PortId,
     link: Link,
 ) -> Option<Refusal>
-    ensures { (capacity : ℕ) (past : List LogEntry) → option_map slot_in slot.now ≡ open_slot past → (link.node < nodes cluster.now → open_slot past ≡ None → is_some (begun_on cluster.now past link.node link.dir) ≡ begun) → result ≡ refusal cluster.now capacity past by (Step.Timeout link.node link.dir) }
+    ensures { (capacity : ℕ) (past : List LogEntry) → option_map slot_in slot.now ≡ open_slot past
+        → (link.node < nodes cluster.now → open_slot past ≡ None
+        → is_some (begun_on cluster.now past link.node link.dir) ≡ begun)
+        → result ≡ refusal cluster.now capacity past by (Step.Timeout link.node link.dir) }
 {
     if link.node as usize >= cluster.nodes() {
         return Some(Refusal::NoSuchNode);
@@ -93,7 +99,9 @@ pub(crate) fn refuse_timeout(
 
 /// Why a close is refused, where the host is closed or not.
 pub(crate) fn refuse_close(cluster: &Cluster, shut: bool, by: PortId, host: u8) -> Option<Refusal>
-    ensures { (capacity : ℕ) (past : List LogEntry) → (host < nodes cluster.now → closed past host ≡ shut) → result ≡ refusal cluster.now capacity past by (Step.Close host) }
+    ensures { (capacity : ℕ) (past : List LogEntry)
+        → (host < nodes cluster.now → is_host_closed past host ≡ shut)
+        → result ≡ refusal cluster.now capacity past by (Step.Close host) }
 {
     if host as usize >= cluster.nodes() {
         return Some(Refusal::NoSuchNode);

@@ -4,7 +4,7 @@ ghost use Rattle.std.specs.Prelude.{◌≡◌, ℕ, ◌<◌, List, option_map};
 ghost use Rattle.lin_core.specs.History.{asleep, open_slot};
 ghost use Rattle.lin_core.specs.kept.Slots.{slot_in, IsOpen, IsThere};
 ghost use Rattle.lin_core.specs.Replies.{refusal, may, passes_in};
-ghost use Rattle.lin_parts.specs.declared.parts.Parts.{Parts};
+ghost use Rattle.lin_cluster_parts.specs.declared.parts.Parts.{Parts};
 ghost use Rattle.lin_core.specs.declared.log.LogEntry.{LogEntry};
 
 use crate::port::PortId;
@@ -12,8 +12,8 @@ use crate::reply::Refusal;
 use crate::response_frames::model_under;
 use crate::slot::{OpenSlot, Slot};
 use crate::step::Step;
+use lin_cluster_parts::Cluster;
 use lin_frame::passes;
-use lin_parts::Cluster;
 
 /// Whether a port may answer for a node, or leave its response out.
 fn may_answer(by: PortId, node: u8) -> bool
@@ -29,7 +29,9 @@ fn may_answer(by: PortId, node: u8) -> bool
 
 /// Why an open is refused, where the cluster is asleep or not.
 pub(crate) fn refuse_open(slot: &Slot, sleeping: bool, by: PortId) -> Option<Refusal>
-    ensures { (c : Parts) (capacity : ℕ) (past : List LogEntry) → option_map slot_in slot.now ≡ open_slot past → sleeping ≡ asleep past → result ≡ refusal c capacity past by Step.Open }
+    ensures { (c : Parts) (capacity : ℕ) (past : List LogEntry)
+        → option_map slot_in slot.now ≡ open_slot past → sleeping ≡ asleep past
+        → result ≡ refusal c capacity past by Step.Open }
 {
     if sleeping {
         return Some(Refusal::Asleep);
@@ -45,8 +47,10 @@ pub(crate) fn refuse_open(slot: &Slot, sleeping: bool, by: PortId) -> Option<Ref
 
 /// Why an answer, or a response left out, is refused.
 pub(crate) fn refuse_answer(cluster: &Cluster, slot: &Slot, by: PortId, node: u8) -> Option<Refusal>
-    ensures answer { (capacity : ℕ) (past : List LogEntry) → option_map slot_in slot.now ≡ open_slot past → result ≡ refusal cluster.now capacity past by (Step.Answer node) }
-    ensures leave { (capacity : ℕ) (past : List LogEntry) → option_map slot_in slot.now ≡ open_slot past → result ≡ refusal cluster.now capacity past by (Step.Leave node) }
+    ensures answer { (capacity : ℕ) (past : List LogEntry) → option_map slot_in slot.now ≡ open_slot past
+        → result ≡ refusal cluster.now capacity past by (Step.Answer node) }
+    ensures leave { (capacity : ℕ) (past : List LogEntry) → option_map slot_in slot.now ≡ open_slot past
+        → result ≡ refusal cluster.now capacity past by (Step.Leave node) }
 {
     if node as usize >= cluster.nodes() {
         return Some(Refusal::NoSuchNode);
@@ -87,7 +91,8 @@ pub(crate) fn refuse_hurt(
     bytes: &[u8],
 ) -> Option<Refusal>
     requires { IsThere cluster.now slot.now }
-    ensures { (capacity : ℕ) (past : List LogEntry) → option_map slot_in slot.now ≡ open_slot past → result ≡ refusal cluster.now capacity past by (Step.Hurt bytes.now) }
+    ensures { (capacity : ℕ) (past : List LogEntry) → option_map slot_in slot.now ≡ open_slot past
+        → result ≡ refusal cluster.now capacity past by (Step.Hurt bytes.now) }
 {
     if !slot.is_open() {
         return Some(Refusal::NoSlot);
@@ -110,7 +115,9 @@ pub(crate) fn refuse_hurt(
 
 /// Why a finish is refused.
 pub(crate) fn refuse_finish(slot: &Slot, by: PortId) -> Option<Refusal>
-    ensures { (c : Parts) (capacity : ℕ) (past : List LogEntry) → option_map slot_in slot.now ≡ open_slot past → result ≡ refusal c capacity past by Step.Finish }
+    ensures { (c : Parts) (capacity : ℕ) (past : List LogEntry)
+        → option_map slot_in slot.now ≡ open_slot past
+        → result ≡ refusal c capacity past by Step.Finish }
 {
     if !slot.is_open() {
         return Some(Refusal::NoSlot);

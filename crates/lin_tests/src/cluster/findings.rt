@@ -32,7 +32,7 @@ fn found(alloc: Global, text: &[u8]) -> Result<Vec<u8>, Fail> {
     Ok(out)
 }
 
-/// Each line has a text and, behind an arrow, what is found. The front stands before each text.
+/// Each line has a text and, after an arrow, what is found. The front stands before each text.
 fn expect_findings(
     rt: &impl Abort,
     alloc: Global,
@@ -73,7 +73,8 @@ fn rules_broken_alone(rt: HostRuntime) -> Result<(), Fail> {
     expect_findings(&rt, rt.alloc(), &[HEADER], ENTRIES)
 }
 
-/// An item of which a text may have so many, with the parts of its text before and behind its number.
+/// An item of which a text may have so many, with the parts of its text before and after its
+/// number.
 struct Limit<'a> {
     front: &'a [&'a [u8]],
     item: (&'a [u8], &'a [u8]),

@@ -65,7 +65,7 @@ fn ldf_text(rt: HostRuntime) -> Result<(), Fail> {
     expect_changes(&rt, rt.alloc(), CHANGES)
 }
 
-/// Texts that end behind a separator or a comment.
+/// Texts that end after a separator or a comment.
 #[test]
 fn end_of_the_text(rt: HostRuntime) -> Result<(), Fail> {
     expect_outcomes(&rt, rt.alloc(), b"\n", " => 2:1 fault 4 Unexpected")?;
@@ -206,7 +206,7 @@ fn lists_and_groups(rt: HostRuntime) -> Result<(), Fail> {
     expect_outcomes(&rt, rt.alloc(), HEADER, LISTS_AND_GROUPS)
 }
 
-/// Initial values, and words behind them.
+/// Initial values, and words after them.
 const INITS: &str =
     "Signals { a: 8, {5}, m; b: 16, {1, 2}, m, s, t; c: 8, {1, 1, 1}, m; } => accepted
 Signals { a: 8, {}, m; } => 6:18 fault 4 Unexpected

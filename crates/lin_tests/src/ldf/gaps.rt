@@ -18,7 +18,8 @@ fn without(alloc: Global, text: &[u8], token: &Token) -> Result<Vec<u8>, Fail> {
     Ok(out)
 }
 
-/// How many tokens behind a gap its fault stands: a digit, a letter from 10 on, or `.` for the end of the text.
+/// How many tokens after a gap its fault stands: a digit, a letter from 10 on, or `.` for the end
+/// of the text.
 fn distance(letter: u8) -> usize {
     match letter {
         b'0'..=b'9' => usize::from(letter.saturating_sub(b'0')),
@@ -27,7 +28,7 @@ fn distance(letter: u8) -> usize {
     }
 }
 
-/// The line and column behind the last byte of a text.
+/// The line and column after the last byte of a text.
 fn end_of(text: &[u8]) -> (u64, u64) {
     let mut line = 1u64;
     let mut column = 1u64;
@@ -79,7 +80,7 @@ fn expect_gap(
     Ok(())
 }
 
-/// Each token behind the front lacks in turn.
+/// Each token after the front lacks in turn.
 fn expect_gaps(
     rt: &impl Abort,
     alloc: Global,
@@ -128,8 +129,8 @@ fn tokens_that_lack(rt: HostRuntime) -> Result<(), Fail> {
     expect_all_gaps(&rt, rt.alloc(), HEADER, SECTIONS)
 }
 
-/// What the outcome ends with where the text is its first `length` bytes; it is accepted up to the last brace
-/// of its lines 5, 6 and 7, and up to their ends.
+/// What the outcome ends with where the text is its first `length` bytes; it is accepted up to the
+/// last brace of its lines 5, 6 and 7, and up to their ends.
 fn wanted_end(length: usize, is_open_text: bool) -> &'static [u8] {
     match length {
         155 | 156 | 229 | 230 | 304 | 305 => b"accepted",

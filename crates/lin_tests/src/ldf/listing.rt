@@ -14,7 +14,7 @@ use std::test::Fail;
 
 const BYTE_ORDER_MARK: &[u8] = b"\xEF\xBB\xBF";
 
-/// The text is read, behind a byte-order mark too.
+/// The text is read, after a byte-order mark too.
 fn expect_read(rt: &impl Abort, alloc: Global, text: &[u8]) -> Result<(), Fail> {
     expect_outcomes(rt, alloc, text, " => accepted")?;
     let marked = joined(alloc, &[BYTE_ORDER_MARK, text])?;

@@ -14,7 +14,7 @@ pub(super) fn outcome(alloc: Global, source: &[u8]) -> Result<String, Fail> {
     }
 }
 
-/// Each line has a text and, behind an arrow, its outcome. The front stands before each text.
+/// Each line has a text and, after an arrow, its outcome. The front stands before each text.
 pub(super) fn expect_outcomes(
     rt: &impl Abort,
     alloc: Global,

@@ -46,7 +46,7 @@ fn spelled(alloc: Global, source: &[u8]) -> Result<Vec<u8>, Fail> {
     }
 }
 
-/// A case is a text and, behind an arrow, its tokens or its fault.
+/// A case is a text and, after an arrow, its tokens or its fault.
 fn expect_case(rt: &impl Abort, alloc: Global, case: &str) -> Result<(), Fail> {
     let (source, want) = case.split_once(" => ").ok_or("no arrow")?;
     let found = spelled(alloc, source.as_bytes())?;
@@ -310,8 +310,8 @@ LIN_description_file; /* x => 1:23 fault 2 OpenComment
 \"/* => 1:1 fault 3 OpenText
 ";
 
-/// Texts of several lines: CR takes a column, LF alone ends a line, also in texts and comments. The first fault from the
-/// left.
+/// Texts of several lines: CR takes a column, LF alone ends a line, also in texts and comments. The
+/// first fault from the left.
 const FAULTS_OF_LINES: &str = "LIN_description_file\u{80} => 1:21 fault 1 BadByte
 ---
 a\r\x0B => 1:3 fault 1 BadByte

@@ -23,7 +23,7 @@ const QUEUE_FULL: &[u8] = b"h0 send 0 1 01\n> refused 9\n";
 
 const SECOND_SEND: &[u8] = b"h0 send 0 1 01\n> accepted 0 2\n";
 
-/// A run on the cluster with a door, and the state behind it.
+/// A run on the cluster with a door, and the state after it.
 fn expect_state(
     rt: &impl Abort,
     alloc: Global,

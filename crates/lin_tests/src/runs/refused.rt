@@ -19,7 +19,7 @@ fn with_long(alloc: Global, text: &str) -> Result<Vec<u8>, Fail> {
     Ok(out)
 }
 
-/// Steps behind a run that are all refused, which changes nothing.
+/// Steps after a run that are all refused, which changes nothing.
 fn expect_refused(
     rt: &impl Abort,
     alloc: Global,

@@ -1,4 +1,4 @@
-//! Room for a step behind a long log.
+//! Room for a step after a long log.
 
 use super::state;
 use crate::samples::{DOOR_CLUSTER, core_of};

@@ -35,7 +35,8 @@ Node_attributes {
 }
 ";
 
-/// Two sporadic frames, and the event-triggered frame of the keys, whose collisions the second table resolves.
+/// Two sporadic frames, and the event-triggered frame of the keys, whose collisions the second
+/// table resolves.
 const KEYED: &[u8] = b"Sporadic_frames { Spor: Light, Fan; Alone: Fan; }
 Event_triggered_frames { Keys: Resolve, 0x04, LeftKey, RightKey; }
 Schedule_tables {
@@ -53,7 +54,7 @@ const PLAIN: &[u8] = b"Schedule_tables {
 }
 ";
 
-/// What holds of the core behind a run on the cluster with these frames.
+/// What holds of the core after a run on the cluster with these frames.
 fn expect_core<F: FnOnce(&Core) -> bool>(
     rt: &impl Abort,
     alloc: Global,

@@ -1,6 +1,6 @@
 use Rattle.std.proofs.Common.{◌≡◌, ◌∙◌, sym, ap, arith, ℕ, Bool, List, length}
 use Rattle.std.specs.Str.{bytes_eq}
-use Rattle.lin_parts.specs.Cluster.{signal_of}
+use Rattle.lin_cluster_parts.specs.Cluster.{signal_of}
 use Rattle.lin_bench.proofs.Found.{first-passing, none-passing}
 use Rattle.lin_bench.proofs.names.signal_named.Goals as goal
 

@@ -2,7 +2,7 @@ use Rattle.std.proofs.Common.{◌≡◌, None}
 use Rattle.std.specs.Prelude.{find}
 use Rattle.std.specs.Str.{bytes_eq}
 use Rattle.lin_frame.specs.Words.{numbers}
-use Rattle.lin_parts.specs.Cluster.{named_table}
+use Rattle.lin_cluster_parts.specs.Cluster.{named_table}
 use Rattle.lin_bench.proofs.names.table_named.Given as goal
 
 abbrev pub invariant-loop-table : goal.invariant-loop-table

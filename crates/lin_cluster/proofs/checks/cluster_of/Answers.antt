@@ -1,6 +1,6 @@
 use Rattle.std.proofs.Common.{sym, subst}
-use Rattle.lin_parts.specs.Rules.{IsCluster}
-use Rattle.lin_parts.specs.declared.parts.Parts.{Parts}
+use Rattle.lin_cluster_parts.specs.Rules.{IsCluster}
+use Rattle.lin_cluster_parts.specs.declared.parts.Parts.{Parts}
 use Rattle.lin_cluster.proofs.DescribedClusters.{described-cluster, numbers-fit}
 use Rattle.lin_cluster.proofs.checks.cluster_of.Goals as goal
 

@@ -1,8 +1,8 @@
 use Rattle.std.proofs.Common.{◌≡◌, ◌<◌, ℕ, zero, suc, List, [], ◌∷◌, ◌++◌, length, refl, ap, sym, ◌∙◌, subst, arith, inl, inr, length-append}
 use Rattle.std.specs.Prelude.{◌⊎◌, Some, slice_get}
-use Rattle.lin_frame.specs.Words.{choose}
-use Rattle.lin_parts.specs.Cluster.{nad, nodes}
-use Rattle.lin_parts.specs.declared.parts.Parts.{Parts}
+use Rattle.std.specs.Option.{unwrap_or}
+use Rattle.lin_cluster_parts.specs.Cluster.{nad, nodes}
+use Rattle.lin_cluster_parts.specs.declared.parts.Parts.{Parts}
 use Rattle.lin_transport.specs.Receiver.{Reception, Stands}
 use Rattle.lin_core.specs.kept.Receivers.{receiver_in, KeepsReceiver}
 use Rattle.lin_core.specs.Replies.{link_at}
@@ -22,7 +22,7 @@ get-more (a ∷ xs) x y (suc h) e = elim (get-more xs x y h e) [
 
 -- a receiver that has heard nothing
 record IsFresh (c : Parts) (n : ℕ) (r : Reception) : Type 0 where
-  address : r.nad ≡ choose (nad c n) 0 (λ k. k)
+  address : r.nad ≡ unwrap_or (nad c n) 0
   stands : Stands r []
 
 keeps-fresh : (c : Parts) (n : ℕ) (rs : Receivers) (d : Direction) → IsFresh c n rs.down → IsFresh c n rs.up → KeepsReceiver c [] (link_at n d) (receiver_in d rs)

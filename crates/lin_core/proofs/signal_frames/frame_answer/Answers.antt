@@ -1,13 +1,13 @@
 use Rattle.std.proofs.Common.{◌≡◌, ◌-◌, ℕ, zero, suc, List, [], ◌∷◌, length-append, length, map, take, refl, ap, sym, ◌∙◌, arith}
 use Rattle.std.specs.Prelude.{replicate, slice_index_or}
 use Rattle.std.proofs.lemmas.Option.{slice_get-get_or, get_or_from_slice_get}
-use Rattle.lin_frame.specs.Bits.{byte_of_bits, frame_bit, packed, padded}
+use Rattle.lin_frame.specs.Bits.{byte_of_bits, frame_bit, packed_bytes, padded_bytes}
 use Rattle.lin_frame.specs.Words.{numbers}
 use Rattle.std.proofs.lemmas.List.{length-map, take_all, take-append-le}
 use Rattle.lin_frame.specs.Frame.{answer_of}
 use Rattle.lin_frame.specs.declared.layout.Layout.{Layout}
 use Rattle.lin_frame.specs.declared.value.Value.{Value}
-use Rattle.lin_parts.specs.Cluster.{frame_of}
+use Rattle.lin_cluster_parts.specs.Cluster.{frame_of}
 use Rattle.lin_core.proofs.slots.ClusterFrames.{FrameIs, frame-is, no_value}
 use Rattle.lin_core.proofs.signal_frames.frame_answer.Goals as goal
 
@@ -15,10 +15,10 @@ numbers-length : (n : ℕ) → length (numbers n) ≡ n
 numbers-length zero = refl
 numbers-length (suc n) = length-append (numbers n) (n ∷ []) ∙ (let e = numbers-length n in omega arith)
 
-data-of : (layout : Layout) (values : List Value) → take layout.len (padded layout.len (packed layout values)) ≡ packed layout values
+data-of : (layout : Layout) (values : List Value) → take layout.len (padded_bytes layout.len (packed_bytes layout values)) ≡ packed_bytes layout values
 data-of layout values =
-    let n : length (packed layout values) ≡ layout.len = length-map (numbers layout.len) (byte_of_bits (frame_bit layout values)) ∙ numbers-length layout.len
-    in take-append-le layout.len (packed layout values) (replicate (8 - layout.len) 255) (omega arith) ∙ take_all layout.len (packed layout values) (omega arith)
+    let n : length (packed_bytes layout values) ≡ layout.len = length-map (numbers layout.len) (byte_of_bits (frame_bit layout values)) ∙ numbers-length layout.len
+    in take-append-le layout.len (packed_bytes layout values) (replicate (8 - layout.len) 255) (omega arith) ∙ take_all layout.len (packed_bytes layout values) (omega arith)
 
 pub gather-requires-clause-known : goal.gather-requires-clause-known
 gather-requires-clause-known c =

@@ -1,11 +1,11 @@
 use Rattle.std.proofs.Common.{◌≡◌, ◌<◌, ◌-◌, ℕ, suc, List, length, refl, ◌∙◌, subst, arith}
 use Rattle.std.specs.Prelude.{All, slice_index_or}
 use Rattle.std.proofs.Math.ListN.{length-set}
-use Rattle.lin_frame.specs.Words.{choose}
+use Rattle.std.specs.Option.{unwrap_or}
 use Rattle.lin_frame.specs.declared.layout.Layout.{Layout}
 use Rattle.lin_frame.specs.declared.layout.Place.{Place}
 use Rattle.lin_core.specs.Signals.{ArePointwise}
-use Rattle.lin_parts.specs.Cluster.{frame_of}
+use Rattle.lin_cluster_parts.specs.Cluster.{frame_of}
 use Rattle.lin_core.proofs.slots.ClusterFrames.{FrameIs, frame-is}
 use Rattle.lin_core.proofs.slots.Hearing.{from_place, hear-none, hear-more, hear-all, no_place}
 use Rattle.lin_core.proofs.signal_frames.hear_frame.Goals as goal
@@ -47,7 +47,7 @@ loop-left-preserved c =
       few = omega arith;
       values = λ g p.
           hear-more c.data-data.result signals places g c.loop-left.heard.items i c.unpack.result below inside (c.unpack.ensures no_place)
-          (subst (λ (m : ℕ). ArePointwise (λ s. choose (from_place c.data-data.result signals places m s) (g s) (λ x. x)) c.loop-left.heard.items) next (v.values g p));
+          (subst (λ (m : ℕ). ArePointwise (λ s. unwrap_or (from_place c.data-data.result signals places m s) (g s)) c.loop-left.heard.items) next (v.values g p));
     }
 
 pub returns-clause-heard : goal.returns-clause-heard
@@ -55,6 +55,6 @@ returns-clause-heard c = λ g p.
     let x = c.args.cluster.now in
     let z : c.loop-left.left ≡ 0 = let t = c.loop-left-test.false in omega arith in
     hear-all x c.args.frame c.data-data.result c.args.answer.now g c.loop-left.heard.items c.loop-left.left z c.data-data.ensures.each
-    (subst (λ (ss : List ℕ). ArePointwise (λ s. choose (from_place c.data-data.result ss (frame_of x c.args.frame).layout.places c.loop-left.left s) (g s) (λ y. y)) c.loop-left.heard.items) c.frame_signals-signals.ensures
-    (subst (λ (l : Layout). ArePointwise (λ s. choose (from_place c.data-data.result c.frame_signals-signals.result.now l.places c.loop-left.left s) (g s) (λ y. y)) c.loop-left.heard.items) c.layout-layout.ensures
+    (subst (λ (ss : List ℕ). ArePointwise (λ s. unwrap_or (from_place c.data-data.result ss (frame_of x c.args.frame).layout.places c.loop-left.left s) (g s)) c.loop-left.heard.items) c.frame_signals-signals.ensures
+    (subst (λ (l : Layout). ArePointwise (λ s. unwrap_or (from_place c.data-data.result c.frame_signals-signals.result.now l.places c.loop-left.left s) (g s)) c.loop-left.heard.items) c.layout-layout.ensures
     (c.loop-left.invariant.values g p)))

@@ -1,6 +1,6 @@
 use Rattle.std.proofs.Common.{take, flat_map, map}
 use Rattle.lin_text.specs.Written.{Grows}
-use Rattle.lin_parts.specs.declared.parts.Signal.{Signal}
+use Rattle.lin_cluster_parts.specs.declared.parts.Signal.{Signal}
 use Rattle.lin_export.specs.Csv.{comma}
 use Rattle.lin_export.proofs.csv.put_signal_names.Given as goal
 

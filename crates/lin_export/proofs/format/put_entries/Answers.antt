@@ -1,7 +1,7 @@
 use Rattle.std.proofs.Common.{refl, ◌≡◌, ◌+◌, ◌∷◌, ◌++◌, [], drop, sym, ap, subst, ◌∙◌, append_assoc, take, arith, List, ℕ, reverse}
 use Rattle.std.proofs.lemmas.Grind.{common_steps}
 use Rattle.lin_core.specs.declared.log.LogEntry.{LogEntry}
-use Rattle.lin_parts.specs.declared.parts.Parts.{Parts}
+use Rattle.lin_cluster_parts.specs.declared.parts.Parts.{Parts}
 use Rattle.lin_text.proofs.Growing.{grows-more, grows-nothing}
 use Rattle.lin_export.proofs.OfTexts.{of-both, of-other, of-same, of-this}
 use Rattle.lin_export.proofs.Puttings.{puts-all, puts-some}

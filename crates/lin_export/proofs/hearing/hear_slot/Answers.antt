@@ -1,6 +1,6 @@
 use Rattle.std.proofs.Common.{◌≡◌, sym, ap, ◌∙◌}
 use Rattle.std.specs.Prelude.{Option, Some}
-use Rattle.lin_frame.specs.Words.{choose}
+use Rattle.std.specs.Option.{unwrap_or}
 use Rattle.lin_frame.specs.declared.value.Value.{Value}
 use Rattle.lin_core.specs.History.{good, good_bytes}
 use Rattle.lin_export.specs.Look.{looks}
@@ -16,4 +16,4 @@ returns-clause-heard c = λ g p s v at.
     let is_good : good slot ≡ Some bytes = ap good_bytes (sym c.look.ensures ∙ ap looks c.in-Good.is) in
     let is = hears-value x slot s bytes c.in-Some.frame is_good (sym c.carried.ensures.frame ∙ c.in-Some.is) in
     c.hear_frame.ensures.heard g p s v at
-    ∙ ap (λ (o : Option Value). choose o (g s) (λ y. y)) (sym is)
+    ∙ ap (λ (o : Option Value). unwrap_or o (g s)) (sym is)

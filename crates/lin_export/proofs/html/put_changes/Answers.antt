@@ -1,6 +1,6 @@
 use Rattle.std.proofs.Common.{◌≡◌, ◌<◌, length, get_or, sym, arith}
 use Rattle.lin_core.proofs.slots.ClusterFrames.{FrameIs, frame-is}
-use Rattle.lin_parts.specs.Cluster.{frame_of}
+use Rattle.lin_cluster_parts.specs.Cluster.{frame_of}
 use Rattle.lin_export.proofs.html.put_changes.Goals as goal
 
 pub unpack-now-requires-clause-in_range : goal.unpack-now-requires-clause-in_range

@@ -1,13 +1,13 @@
 use Rattle.std.proofs.Common.{◌≡◌, ◌+◌, ◌<◌, ◌++◌, ℕ, List, length, take, flat_map, get_or, sym, ap, ◌∙◌, arith}
 use Rattle.std.specs.Prelude.{zip}
 use Rattle.std.proofs.lemmas.List.{take_all}
-use Rattle.lin_frame.specs.Bits.{unpacked}
+use Rattle.lin_frame.specs.Bits.{unpacked_value}
 use Rattle.lin_frame.specs.declared.layout.Layout.{Layout}
 use Rattle.lin_frame.specs.declared.layout.Place.{Place}
-use Rattle.lin_parts.specs.Cluster.{frame_of, signal_of}
+use Rattle.lin_cluster_parts.specs.Cluster.{frame_of, signal_of}
 use Rattle.lin_core.proofs.slots.ClusterFrames.{FrameIs, frame-is}
 use Rattle.lin_core.proofs.slots.Hearing.{no_place, unpacked-same}
-use Rattle.lin_log.specs.Words.{spaced, value_word}
+use Rattle.lin_log.specs.Words.{spaced_word, value_word}
 use Rattle.lin_text.proofs.Growing.{grows-more, same-growth}
 use Rattle.lin_export.specs.Named.{signal_words}
 use Rattle.lin_export.specs.NamedWords.{word_shown}
@@ -46,13 +46,13 @@ loop-place-preserved g c =
     let inside : i < length places = omega arith in
     let count = length-zip signals places f.same in
     let at : get_or pairs i (0, no_place) ≡ item = zip-at signals places i 0 no_place below inside in
-    let text : flat_map spaced (flat_map says (take (i + 1) pairs)) ≡ flat_map spaced (flat_map says (take i pairs)) ++ flat_map spaced (says item)
-    = ap (flat_map spaced) (texts-more says pairs i (0, no_place) (omega arith) ∙ ap (λ (p : ℕ × Place). flat_map says (take i pairs) ++ says p) at) ∙ flat-append spaced (flat_map says (take i pairs)) (says item) in
+    let text : flat_map spaced_word (flat_map says (take (i + 1) pairs)) ≡ flat_map spaced_word (flat_map says (take i pairs)) ++ flat_map spaced_word (says item)
+    = ap (flat_map spaced_word) (texts-more says pairs i (0, no_place) (omega arith) ∙ ap (λ (p : ℕ × Place). flat_map says (take i pairs) ++ says p) at) ∙ flat-append spaced_word (flat_map says (take i pairs)) (says item) in
     let name : c.signal_name-name.result.now ≡ (signal_of x (get_or signals i 0)).name
     = c.signal_name-name.ensures ∙ ap (λ (ss : List ℕ). (signal_of x (get_or ss i 0)).name) c.frame_signals-signals.ensures in
-    let value : word_shown c.value_word.result ≡ value_word (unpacked (get_or places i no_place) (take 8 answer))
+    let value : word_shown c.value_word.result ≡ value_word (unpacked_value (get_or places i no_place) (take 8 answer))
     = c.value_word.ensures
-    ∙ ap value_word (c.unpack-value.ensures no_place ∙ ap (λ (l : Layout). unpacked (get_or l.places i no_place) c.data-data.result) c.layout-layout.ensures
+    ∙ ap value_word (c.unpack-value.ensures no_place ∙ ap (λ (l : Layout). unpacked_value (get_or l.places i no_place) c.data-data.result) c.layout-layout.ensures
     ∙ unpacked-same (get_or places i no_place) c.data-data.result (take 8 answer) c.data-data.ensures.each) in
     same-growth (sym text) (grows-more c.loop-place.invariant (rw (name, value) at c.put_words.ensures))
 
@@ -64,5 +64,5 @@ returns g c =
     let places : List Place = (frame_of x c.args.frame).layout.places in
     let long : length signals ≡ length c.frame_signals-signals.result.now = ap length (sym c.frame_signals-signals.ensures) in
     let count = length-zip signals places f.same in
-    same-growth (ap (λ (ps : List (ℕ × Place)). flat_map spaced (flat_map (signal_words x c.args.answer.now) ps)) (take_all c.loop-place.place (zip signals places) (omega arith)))
+    same-growth (ap (λ (ps : List (ℕ × Place)). flat_map spaced_word (flat_map (signal_words x c.args.answer.now) ps)) (take_all c.loop-place.place (zip signals places) (omega arith)))
     c.loop-place.invariant

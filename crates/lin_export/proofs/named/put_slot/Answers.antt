@@ -1,7 +1,7 @@
 use Rattle.std.proofs.Common.{◌∷◌, [], map, ap, codes}
 use Rattle.std.specs.Fmt.{decimal}
 use Rattle.std.specs.Option.{option_to_list}
-use Rattle.lin_parts.specs.Cluster.{line_of}
+use Rattle.lin_cluster_parts.specs.Cluster.{line_of}
 use Rattle.lin_log.specs.Words.{header_word}
 use Rattle.lin_text.proofs.Growing.{grows-more, same-growth}
 use Rattle.lin_export.specs.Named.{sporadic_frame, table_word}

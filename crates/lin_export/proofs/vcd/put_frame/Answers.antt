@@ -1,11 +1,11 @@
 use Rattle.std.proofs.Common.{◌≡◌, ◌+◌, ◌<◌, ◌++◌, ℕ, List, length, take, flat_map, get_or, sym, ap, ◌∙◌, arith}
 use Rattle.std.specs.Prelude.{zip}
 use Rattle.std.proofs.lemmas.List.{take_all}
-use Rattle.lin_frame.specs.Bits.{unpacked}
+use Rattle.lin_frame.specs.Bits.{unpacked_value}
 use Rattle.lin_frame.specs.declared.layout.Layout.{Layout}
 use Rattle.lin_frame.specs.declared.layout.Place.{Place}
 use Rattle.lin_frame.specs.declared.value.Value.{Value}
-use Rattle.lin_parts.specs.Cluster.{frame_of}
+use Rattle.lin_cluster_parts.specs.Cluster.{frame_of}
 use Rattle.lin_core.proofs.slots.ClusterFrames.{FrameIs, frame-is}
 use Rattle.lin_core.proofs.slots.Hearing.{no_place, unpacked-same}
 use Rattle.lin_text.proofs.Growing.{grows-more, same-growth}
@@ -47,8 +47,8 @@ loop-place-preserved g c =
     let at : get_or pairs i (0, no_place) ≡ item = zip-at signals places i 0 no_place below inside in
     let text : flat_map says (take (i + 1) pairs) ≡ flat_map says (take i pairs) ++ says item
     = texts-more says pairs i (0, no_place) (omega arith) ∙ ap (λ (p : ℕ × Place). flat_map says (take i pairs) ++ says p) at in
-    let value : c.unpack-value.result ≡ unpacked (get_or places i no_place) (take 8 answer)
-    = c.unpack-value.ensures no_place ∙ ap (λ (l : Layout). unpacked (get_or l.places i no_place) c.data-data.result) c.layout-layout.ensures
+    let value : c.unpack-value.result ≡ unpacked_value (get_or places i no_place) (take 8 answer)
+    = c.unpack-value.ensures no_place ∙ ap (λ (l : Layout). unpacked_value (get_or l.places i no_place) c.data-data.result) c.layout-layout.ensures
     ∙ unpacked-same (get_or places i no_place) c.data-data.result (take 8 answer) c.data-data.ensures.each in
     let change = ap (λ (ss : List ℕ). heard_change x (get_or ss i 0) c.unpack-value.result) c.frame_signals-signals.ensures ∙ ap (λ (v : Value). heard_change x (get_or signals i 0) v) value in
     same-growth (sym text) (grows-more c.loop-place.invariant (same-growth change c.put_heard.ensures))

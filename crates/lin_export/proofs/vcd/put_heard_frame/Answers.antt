@@ -1,7 +1,7 @@
 use Rattle.std.proofs.Common.{◌≡◌, sym, ap, ◌∙◌}
 use Rattle.std.specs.Prelude.{Some}
 use Rattle.lin_core.specs.History.{good, good_bytes}
-use Rattle.lin_core.specs.Signals.{carried}
+use Rattle.lin_core.specs.Signals.{carried_frame}
 use Rattle.lin_export.specs.Look.{looks}
 use Rattle.lin_export.specs.Open.{slot_in}
 use Rattle.lin_export.specs.Vcd.{frame_changes}
@@ -14,7 +14,7 @@ returns g c =
     let slot = slot_in c.args.slot.now in
     let bytes = c.in-Good.answer.now in
     let is_good : good slot ≡ Some bytes = ap good_bytes (sym c.look.ensures ∙ ap looks c.in-Good.is) in
-    let frame : carried x slot ≡ Some c.in-Some.frame = sym c.carried.ensures.frame ∙ c.in-Some.is in
+    let frame : carried_frame x slot ≡ Some c.in-Some.frame = sym c.carried.ensures.frame ∙ c.in-Some.is in
     same-groups (sym (heard-one x c.args.end slot bytes c.in-Some.frame is_good frame))
     (groups-one c.args.last.now c.put_stamp.new.last c.args.end (frame_changes x c.in-Some.frame bytes) c.put_stamp.ensures.text c.put_stamp.ensures.shown
     c.put_frame.ensures)

@@ -1,10 +1,10 @@
 use Rattle.std.proofs.Common.{◌≡◌, ◌+◌, length}
-use Rattle.lin_ldf.specs.Scanning.{close_at, shifted}
+use Rattle.lin_ldf.specs.Scanning.{close_at, option_shift}
 use Rattle.lin_ldf.proofs.lexer.close_at.Given as goal
 
 abbrev pub invariant-loop-n : goal.invariant-loop-n
 invariant-loop-n l = record {
-  found : shifted l.passed (close_at l.rest) ≡ close_at l.text;
+  found : option_shift l.passed (close_at l.rest) ≡ close_at l.text;
   passed : l.passed + length l.rest ≡ length l.text;
 }
 

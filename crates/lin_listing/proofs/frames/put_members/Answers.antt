@@ -1,6 +1,6 @@
 use Rattle.std.proofs.Common.{sym, ap, ◌∙◌, ◌++◌, map, take, flat_map, arith}
 use Rattle.std.proofs.lemmas.List.{take_all}
-use Rattle.lin_log.specs.Words.{ended, spaced}
+use Rattle.lin_log.specs.Words.{line_tail, spaced_word}
 use Rattle.lin_names.specs.Names.{frame_name}
 use Rattle.lin_text.proofs.Growing.{grows-more, same-growth}
 use Rattle.lin_listing.proofs.Lines.{ended-flat, words-next}
@@ -10,7 +10,7 @@ pub loop-frame-preserved : goal.loop-frame-preserved
 loop-frame-preserved g c =
     let says = frame_name c.args.names.now in
     same-growth
-    (ap (λ l. flat_map spaced (map says (take c.loop-frame.frame-index c.args.frames.now)) ++ spaced l) c.frame_name.ensures
+    (ap (λ l. flat_map spaced_word (map says (take c.loop-frame.frame-index c.args.frames.now)) ++ spaced_word l) c.frame_name.ensures
     ∙ sym (words-next says c.args.frames.now c.loop-frame.frame-index _ (omega arith)))
     (grows-more c.loop-frame.invariant c.put_spaced.ensures)
 
@@ -18,4 +18,4 @@ pub returns : goal.returns
 returns g c =
     let says = frame_name c.args.names.now in
     let all = take_all c.loop-frame.frame-index c.args.frames.now (omega arith) in
-    same-growth (ap (λ fs. ended (map says fs)) all) (same-growth (ended-flat (map says (take c.loop-frame.frame-index c.args.frames.now))) (grows-more c.loop-frame.invariant c.put_byte.ensures))
+    same-growth (ap (λ fs. line_tail (map says fs)) all) (same-growth (ended-flat (map says (take c.loop-frame.frame-index c.args.frames.now))) (grows-more c.loop-frame.invariant c.put_byte.ensures))

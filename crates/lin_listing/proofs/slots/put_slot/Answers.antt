@@ -1,6 +1,6 @@
 use Rattle.std.proofs.Common.{◌≤◌}
-use Rattle.lin_parts.specs.Cluster.{line_of}
-use Rattle.lin_listing.specs.Slots.{needed}
+use Rattle.lin_cluster_parts.specs.Cluster.{line_of}
+use Rattle.lin_listing.specs.Slots.{slot_need}
 use Rattle.lin_listing.proofs.LongSlots.{long-slots}
 use Rattle.lin_listing.proofs.slots.put_slot.Goals as goal
 
@@ -9,5 +9,5 @@ overflow_sub-delay g c =
     let x = c.args.cluster.now in
     let n = c.args.names.now in
     let line = line_of x c.args.table c.args.number in
-    let long : needed x n line.entry ≤ line.delay_us = long-slots x n c.requires.together c.sound.ensures.rules c.args.table _ c.requires.table c.args.number _ c.requires.entry in
+    let long : slot_need x n line.entry ≤ line.delay_us = long-slots x n c.requires.together c.sound.ensures.rules c.args.table _ c.requires.table c.args.number _ c.requires.entry in
     rw (c.needed_us-needed.ensures, c.jitter_us.ensures, c.speed.ensures, c.from.ensures, c.slot_bytes-bytes.ensures, c.entry-entry.ensures, c.from-delay.ensures, c.delay_us.ensures.value) long

@@ -3,7 +3,7 @@ use Rattle.std.proofs.lemmas.Grind.{common_steps}
 use Rattle.lin_core.specs.declared.port.PortId.{PortId}
 use Rattle.lin_core.specs.declared.step.Step.{Step}
 use Rattle.lin_core.specs.Core.{answered}
-use Rattle.lin_log.specs.Script.{prefixed}
+use Rattle.lin_log.specs.Script.{with_prefix}
 use Rattle.lin_log.proofs.Judging.{log-more, prefixed-more, prefixed-nothing}
 use Rattle.lin_log.proofs.replaying.make_steps.Goals as goal
 
@@ -26,7 +26,7 @@ loop-fault-preserved c =
     record {
       made = record {
         steps = m.steps ++ step ∷ [];
-        read = prefixed-more m.steps (step ∷ []) _ ∙ ap (prefixed m.steps) (sym next) ∙ m.read;
+        read = prefixed-more m.steps (step ∷ []) _ ∙ ap (with_prefix m.steps) (sym next) ∙ m.read;
         log_is = (rw (a.0, a.1, a.2) at made) ∙ log-more _ _ _ m.steps step _ m.log_is;
       };
       alike = search rules;

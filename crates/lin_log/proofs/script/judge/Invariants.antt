@@ -1,11 +1,11 @@
 use Rattle.std.proofs.Common.{◌≡◌, ◌+◌, ◌≤◌, length}
-use Rattle.lin_log.specs.Script.{prefixed, script}
+use Rattle.lin_log.specs.Script.{with_prefix, script}
 use Rattle.lin_log.specs.Judged.{left_of, said}
 use Rattle.lin_log.proofs.script.judge.Given as goal
 
 abbrev pub invariant-loop-steps : goal.invariant-loop-steps
 invariant-loop-steps l = record {
-  read : prefixed l.steps.items (said l.lines) ≡ script l.fn.bytes;
+  read : with_prefix l.steps.items (said l.lines) ≡ script l.fn.bytes;
   few : l.lines.number + left_of l.lines.left ≤ length l.fn.bytes + 2;
   each : length l.steps.items + 1 ≤ l.lines.number;
   most : length l.fn.bytes ≤ 16777216;

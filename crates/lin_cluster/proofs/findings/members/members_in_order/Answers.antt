@@ -1,8 +1,9 @@
-use Rattle.std.proofs.Common.{sym, ap, ◌∙◌, ◌++◌}
+use Rattle.std.proofs.Common.{sym, ap, ◌∙◌, ◌++◌, false}
 use Rattle.std.specs.Prelude.{nat_eq}
+use Rattle.std.specs.Option.{option_map_or}
 use Rattle.indexmap.specs.IndexSet.{contains}
 use Rattle.lin_cluster.specs.Findings.{in_event_member}
-use Rattle.lin_cluster.specs.FindingsNames.{frame_named, knows}
+use Rattle.lin_cluster.specs.FindingsNames.{frame_named}
 use Rattle.lin_cluster.specs.FindingsNodes.{node_of, is_number}
 use Rattle.lin_cluster.proofs.FindingsLists.{each_step_at}
 use Rattle.lin_cluster.proofs.FindingsMaps.{seen_more}
@@ -17,6 +18,6 @@ loop-member-preserved c = record {
       (member_same c.args.judged.now c.args.members.now c.loop-member.member-index c.member-item.result c.first_frame-first.result c.frame-frame.result (contains nat_eq c.loop-member.publishers) c.is_any_frame-is_known.result
       c.first_frame-first.ensures c.frame-frame.ensures c.is_any_frame-is_known.ensures c.loop-member.invariant.publishers));
   publishers = λ q.
-      seen_more (λ m. knows (frame_named c.args.judged.now m) (λ g. is_number q (node_of c.args.judged.now g.publisher))) c.args.members.now c.loop-member.member-index c.member-item.result _ _ _ c.loop-member-test.true
-      (publisher_same c.args.judged.now q c.member-item.result c.frame-frame.result c.frame-frame.ensures ∙ ap (λ m. knows (frame_named c.args.judged.now m) (λ g. is_number q (node_of c.args.judged.now g.publisher))) c.member-item.is) (c.loop-member.invariant.publishers q) (c.in_ok-add_publisher.ensures q);
+      seen_more (λ m. option_map_or (λ g. is_number q (node_of c.args.judged.now g.publisher)) (frame_named c.args.judged.now m) false) c.args.members.now c.loop-member.member-index c.member-item.result _ _ _ c.loop-member-test.true
+      (publisher_same c.args.judged.now q c.member-item.result c.frame-frame.result c.frame-frame.ensures ∙ ap (λ m. option_map_or (λ g. is_number q (node_of c.args.judged.now g.publisher)) (frame_named c.args.judged.now m) false) c.member-item.is) (c.loop-member.invariant.publishers q) (c.in_ok-add_publisher.ensures q);
 }

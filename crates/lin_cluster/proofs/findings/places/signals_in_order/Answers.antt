@@ -1,12 +1,13 @@
-use Rattle.std.proofs.Common.{sym, ap, ◌∙◌, ◌++◌, take, append_assoc}
+use Rattle.std.proofs.Common.{sym, ap, ◌∙◌, ◌++◌, take, append_assoc, false}
 use Rattle.std.specs.List.{list_any}
 use Rattle.std.specs.Prelude.{◌==◌}
+use Rattle.std.specs.Option.{option_map_or}
 use Rattle.lin_cluster.specs.Described.{signal_number}
 use Rattle.lin_cluster.specs.Findings.{in_placed}
 use Rattle.lin_cluster.specs.Overlaps.{overlap_at, meets}
 use Rattle.lin_cluster.specs.Places.{wrong_publisher_at, outside_at}
 use Rattle.lin_cluster.specs.UnknownNames.{unknown_signal}
-use Rattle.lin_cluster.specs.FindingsNames.{at_number, knows, signal_named, when}
+use Rattle.lin_cluster.specs.FindingsNames.{at_number, signal_named, when}
 use Rattle.lin_cluster.specs.FindingsNodes.{node_of}
 use Rattle.lin_cluster.specs.FindingsPlaces.{lies_in}
 use Rattle.lin_cluster.specs.FindingsRanges.{Meets}
@@ -38,6 +39,6 @@ loop-placed-preserved c =
           seen_more (λ x. signal_number d x.signal == q) all c.loop-placed.placed-index p (c.numbered-number.result.0 == q) _ _ c.loop-placed-test.true
           (ap (λ n. n == q) c.numbered-number.ensures.number ∙ ap (λ x. signal_number d x.signal == q) c.placed-item.is) (c.loop-placed.invariant.numbers q) (c.in_ok-twice.ensures.added q);
       ranges = λ a b ab.
-          more_bits (Meets c.loop-placed.ranges a b) (Meets c.add_bits.new.ranges a b) (λ x. knows (signal_named d x.signal) (λ t. lies_in a b x t.size.value)) all c.loop-placed.placed-index p c.loop-placed-test.true (sym c.placed-item.is)
+          more_bits (Meets c.loop-placed.ranges a b) (Meets c.add_bits.new.ranges a b) (λ x. option_map_or (λ t. lies_in a b x t.size.value) (signal_named d x.signal) false) all c.loop-placed.placed-index p c.loop-placed-test.true (sym c.placed-item.is)
           (c.loop-placed.invariant.ranges a b ab) (bits_same d (lies_in a b p) (Meets c.loop-placed.ranges a b) (Meets c.add_bits.new.ranges a b) named c.numbered-number.result.1 c.numbered-number.ensures.facts (c.in_ok-add_bits.ensures.meets a b ab));
     }

@@ -1,11 +1,12 @@
-use Rattle.std.proofs.Common.{◌≡◌, ◌++◌, ◌<◌, ℕ, true, take}
+use Rattle.std.proofs.Common.{◌≡◌, ◌++◌, ◌<◌, ℕ, true, take, false}
 use Rattle.std.specs.Prelude.{◌↔◌, ◌==◌, nat_eq}
 use Rattle.std.specs.List.{flat_map, list_any}
 use Rattle.std.specs.List.{enumerate_from}
+use Rattle.std.specs.Option.{option_map_or}
 use Rattle.indexmap.specs.IndexSet.{contains}
 use Rattle.lin_cluster.specs.Described.{signal_number}
 use Rattle.lin_cluster.specs.Findings.{in_placed}
-use Rattle.lin_cluster.specs.FindingsNames.{knows, signal_named}
+use Rattle.lin_cluster.specs.FindingsNames.{signal_named}
 use Rattle.lin_cluster.specs.FindingsPlaces.{lies_in}
 use Rattle.lin_cluster.specs.FindingsRanges.{Meets, AreApart}
 use Rattle.lin_cluster.proofs.findings.places.signals_in_order.Given as goal
@@ -15,5 +16,5 @@ invariant-loop-placed l = record {
   found : l.found.items ≡ l.fn.found.items ++ flat_map (in_placed l.signals l.frame l.all_placed) (take l.placed-index (enumerate_from 0 l.all_placed));
   apart : AreApart l.ranges;
   numbers : (q : ℕ) → contains nat_eq l.numbers q ≡ list_any (λ p. signal_number l.signals p.signal == q) (take l.placed-index l.all_placed);
-  ranges : (a b : ℕ) → a < b → Meets l.ranges a b ↔ (list_any (λ p. knows (signal_named l.signals p.signal) (λ t. lies_in a b p t.size.value)) (take l.placed-index l.all_placed) ≡ true);
+  ranges : (a b : ℕ) → a < b → Meets l.ranges a b ↔ (list_any (λ p. option_map_or (λ t. lies_in a b p t.size.value) (signal_named l.signals p.signal) false) (take l.placed-index l.all_placed) ≡ true);
 }

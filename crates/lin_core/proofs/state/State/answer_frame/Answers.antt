@@ -1,9 +1,9 @@
 use Rattle.std.proofs.Common.{refl, ◌≡◌, ◌<◌, ℕ, List, [], ◌∷◌, ◌++◌, length, ap, sym, ◌∙◌, subst, arith}
 use Rattle.std.specs.Prelude.{Option, Some, None, is_some, vec_capacity}
-use Rattle.lin_frame.specs.Words.{choose}
+use Rattle.std.specs.Option.{option_map_or}
 use Rattle.lin_frame.specs.Frame.{answer_of}
 use Rattle.lin_frame.specs.declared.sums.SumKind.{SumKind}
-use Rattle.lin_parts.specs.Cluster.{line_of}
+use Rattle.lin_cluster_parts.specs.Cluster.{line_of}
 use Rattle.lin_core.specs.kept.Slots.{frame_by, frame_model}
 use Rattle.lin_core.specs.History.{open_slot}
 use Rattle.lin_core.specs.Signals.{ArePointwise, signal_bytes, value}
@@ -67,7 +67,7 @@ by c =
     sym (answered-by (here c).cluster (past_in (here c)) c.args.node s.can.0 s.slot s.is s.can.1) ∙ c.requires.carried
 
 abbrev events : (c : After-one) → List Event
-events c = choose (open_slot (past_in (here c))) [] (put_event (here c).cluster (past_in (here c)) c.args.node)
+events c = option_map_or (put_event (here c).cluster (past_in (here c)) c.args.node) (open_slot (past_in (here c))) []
 
 abbrev entry : (c : After-one) → LogEntry
 entry c = done_entry c.args.by (Answer c.args.node) (events c)

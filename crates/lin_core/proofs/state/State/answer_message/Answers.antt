@@ -1,6 +1,6 @@
 use Rattle.std.proofs.Common.{refl, ◌≡◌, ◌<◌, ℕ, List, [], ◌∷◌, ◌++◌, length, ap, sym, ◌∙◌, subst}
 use Rattle.std.specs.Prelude.{Option, Some, None, is_some}
-use Rattle.lin_frame.specs.Words.{choose}
+use Rattle.std.specs.Option.{option_map_or}
 use Rattle.lin_core.specs.History.{open_slot}
 use Rattle.lin_core.specs.kept.State.{Keeps, Stage, stage}
 use Rattle.lin_core.specs.Replies.{put_event}
@@ -37,7 +37,7 @@ next_bytes-data-requires c =
     x.has
 
 abbrev events : (c : After-one) → List Event
-events c = choose (open_slot (past_in (here c))) [] (put_event (here c).cluster (past_in (here c)) c.args.node)
+events c = option_map_or (put_event (here c).cluster (past_in (here c)) c.args.node) (open_slot (past_in (here c))) []
 
 abbrev entry : (c : After-one) → LogEntry
 entry c = done_entry c.args.by (Answer c.args.node) (events c)

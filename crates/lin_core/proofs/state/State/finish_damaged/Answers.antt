@@ -6,7 +6,7 @@ use Rattle.lin_core.specs.declared.event.Event.TheVariants.{Seen, Lost}
 use Rattle.lin_core.specs.declared.log.LogEntry.{LogEntry}
 use Rattle.std.specs.Prelude.{slice_set, true, is_some}
 use Rattle.std.proofs.Math.ListN.{length-set}
-use Rattle.lin_core.specs.kept.Hosts.{settled}
+use Rattle.lin_core.specs.kept.Hosts.{host_after_settling}
 use Rattle.lin_core.specs.declared.link.Cause.TheVariants.{Damaged}
 use Rattle.lin_core.specs.declared.pdu.Pdu.TheVariants.{OfMessage}
 use Rattle.lin_core.proofs.steps.Settled.{DamagedIs, damaged-inside}
@@ -81,8 +81,8 @@ kept c =
     let x = damaged c in
     let es = finish_events a.cluster c.args.by (past_in a) in
     rw (c.pass_slot-seen.ensures.hosts, c.settle.ensures)
-    (passed-keeps a c.args.by o c.pass_slot-seen.new.self (slice_set a.state.hosts.items c.args.sender (settled host)) w (passes c)
-    (length-set a.state.hosts.items c.args.sender (settled host))
+    (passed-keeps a c.args.by o c.pass_slot-seen.new.self (slice_set a.state.hosts.items c.args.sender (host_after_settling host)) w (passes c)
+    (length-set a.state.hosts.items c.args.sender (host_after_settling host))
     (settled-hosts a.cluster a.capacity a.log (past_in a) (entry c) c.args.sender host a.state.hosts.items w.sound o.step.known (known_after a.cluster (past_in a) c.args.by es w.sound o.step.known) (x.done.settles es) x.own.here w.kept.each_host))
 
 bus_is : (c : After-two_events) → KeepsBus (here c).cluster (entry c ∷ past_in (here c)) c.pass_slot-seen.new.self.bus

@@ -1,8 +1,8 @@
 use Rattle.std.proofs.Common.{refl, ◌≡◌, ℕ, suc, length, List, [], ◌∷◌, ap, sym, ◌∙◌, arith}
 use Rattle.std.specs.Prelude.{Some, false, is_some, option_map, slice_set, true}
 use Rattle.std.proofs.Math.ListN.{length-set}
-use Rattle.lin_core.specs.History.{seen}
-use Rattle.lin_core.specs.kept.Hosts.{gone_on, settled, message_at}
+use Rattle.lin_core.specs.History.{seen_of}
+use Rattle.lin_core.specs.kept.Hosts.{host_after_frame, host_after_settling, message_at}
 use Rattle.lin_core.specs.kept.Slots.{slot_in}
 use Rattle.lin_core.specs.kept.Receivers.{KeepsHeard}
 use Rattle.lin_core.specs.kept.Bus.{KeepsBus}
@@ -110,7 +110,7 @@ heard_frame c =
 heard : (c : After-index_mut-host) → KeepsHeard (here c).cluster (entry c ∷ past_in (here c)) c.pass_slot-seen.new.self.receivers.items
 heard c = rw c.pass_slot-seen.ensures.receivers (heard_frame c).keeps
 
-seen_is : (c : After-index_mut-host) → c.pass_slot-seen.result ≡ seen (slot_in (opened c).slot)
+seen_is : (c : After-index_mut-host) → c.pass_slot-seen.result ≡ seen_of (slot_in (opened c).slot)
 seen_is c = c.pass_slot-seen.ensures.seen (opened c).slot (opened c).at
 
 -- == the message goes on
@@ -124,10 +124,10 @@ part c more =
 goes : (c : After-index_mut-host) → c.is_last-last.result ≡ false → GoesOn (here c).cluster (past_in (here c)) (entry c) (opened c).step.known (known_after (here c).cluster (past_in (here c)) c.args.by (finish_events (here c).cluster c.args.by (past_in (here c))) c.requires.ready.whole.sound (opened c).step.known) c.args.sender
 goes c more = (part c more).goes (finish_events (here c).cluster c.args.by (past_in (here c)))
 
-gone-same : (host other : Host) (n k len size : ℕ) → host ≡ other → n ≡ k → len ≡ size → gone_on host n len ≡ gone_on other k size
+gone-same : (host other : Host) (n k len size : ℕ) → host ≡ other → n ≡ k → len ≡ size → host_after_frame host n len ≡ host_after_frame other k size
 gone-same host other n k len size p q r = rw (p, q, r) refl
 
-after : (c : After-index_mut-host) → (more : c.is_last-last.result ≡ false) → gone_on c.index_mut-host.result.now c.message_at-message.result.address (length c.message_at-message.result.bytes.now) ≡ gone_on c.index-host.result.now (nad_on (here c).cluster (goes c more).message.link) (length (goes c more).message.bytes)
+after : (c : After-index_mut-host) → (more : c.is_last-last.result ≡ false) → host_after_frame c.index_mut-host.result.now c.message_at-message.result.address (length c.message_at-message.result.bytes.now) ≡ host_after_frame c.index-host.result.now (nad_on (here c).cluster (goes c more).message.link) (length (goes c more).message.bytes)
 after c more =
     let g = good c in
     let both : g.message ∷ g.later ≡ (goes c more).message ∷ (goes c more).later = sym g.first ∙ (goes c more).first in
@@ -158,7 +158,7 @@ returns c =
     let host = c.index-host.result.now in
     let more = c.if-last-2.false in
     let m = (goes b more).message in
-    let new : Host = gone_on host (nad_on a.cluster m.link) (length m.bytes) in
+    let new : Host = host_after_frame host (nad_on a.cluster m.link) (length m.bytes) in
     let es = finish_events a.cluster c.args.by (past_in a) in
     let k = known_after a.cluster (past_in a) c.args.by es w.sound o.step.known in
     record {
@@ -211,7 +211,7 @@ returns-then-last-2 c =
           ∙ three-events _ _ _ _ _ _ _ _ _ (seen_is b) (c.receiver-to.ensures ∙ ap (λ (m : Message). receiver_of m.link.dir m.link.node) (lent b)) (c.new-bytes.ensures ∙ items-given c.in_ok-whole.whole c.unwrap.result (good b).message.bytes c.unwrap.ensures (given b is)) (own b).number
           ∙ sym (done b is).told;
       kept = rw (c.pass_slot-seen.ensures.hosts, c.settle.ensures)
-          (passed-keeps a c.args.by o c.pass_slot-seen.new.self (slice_set a.state.hosts.items c.args.sender (settled host)) w (passes b) (length-set a.state.hosts.items c.args.sender (settled host))
+          (passed-keeps a c.args.by o c.pass_slot-seen.new.self (slice_set a.state.hosts.items c.args.sender (host_after_settling host)) w (passes b) (length-set a.state.hosts.items c.args.sender (host_after_settling host))
           (settled-hosts a.cluster a.capacity a.log (past_in a) (entry b) c.args.sender host a.state.hosts.items w.sound o.step.known k ((done b is).settles es) (own b).here w.kept.each_host));
       late = rw (c.pass_slot-seen.ensures.hosts, c.settle.ensures)
           (settled-late a.cluster (past_in a) (entry b) c.args.sender host a.state.bus c.pass_slot-seen.new.self.bus a.state.hosts.items w.sound o.step.known k ((done b is).settles es) (own b).here (λ y. refl) (bus_is b) w.late);

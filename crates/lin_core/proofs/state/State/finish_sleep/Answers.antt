@@ -1,5 +1,5 @@
 use Rattle.std.proofs.Common.{refl, ◌≡◌, List, [], ◌∷◌, ◌++◌, ap, sym, ◌∙◌}
-use Rattle.lin_core.specs.History.{seen}
+use Rattle.lin_core.specs.History.{seen_of}
 use Rattle.lin_core.specs.kept.State.{Keeps, Stage, stage, KeepsLate, Passes}
 use Rattle.lin_core.specs.kept.Slots.{slot_in, pdu_of}
 use Rattle.lin_core.specs.Replies.{finish_events}
@@ -87,7 +87,7 @@ told c =
     let a = here c in
     let s = (opened c).slot in
     (rw c.pass_slot-seen.ensures.hosts at c.sleep_events.ensures.events) ∙ ap (λ (x : _). Seen x ∷ SleepEvent ∷ losses a.state.hosts.items) (c.pass_slot-seen.ensures.seen s (opened c).at)
-    ∙ ap (λ (es : List Event). Seen (seen (slot_in s)) ∷ SleepEvent ∷ es) (losses-are a c.requires.ready.whole (opened c).step.known) ∙ sym (sleeps c).told
+    ∙ ap (λ (es : List Event). Seen (seen_of (slot_in s)) ∷ SleepEvent ∷ es) (losses-are a c.requires.ready.whole (opened c).step.known) ∙ sym (sleeps c).told
 
 pub returns : goal.returns
 returns c = record { told = told c; kept = kept c; late = late c; heard = heard c }

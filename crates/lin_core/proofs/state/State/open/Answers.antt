@@ -1,10 +1,10 @@
 use Rattle.std.proofs.Common.{refl, ◌≡◌, List, ◌∷◌, ap, sym, ◌∙◌, subst}
 use Rattle.std.specs.Prelude.{not, Bool, ◌||◌, filter}
-use Rattle.lin_parts.specs.Cluster.{line_of, nodes}
+use Rattle.lin_cluster_parts.specs.Cluster.{line_of, nodes}
 use Rattle.lin_frame.specs.Words.{numbers}
 use Rattle.lin_schedule.specs.Due.{due_for}
 use Rattle.lin_schedule.proofs.Clusters.{line-entry}
-use Rattle.lin_core.specs.kept.Slots.{HasDue, is_due_of, opened}
+use Rattle.lin_core.specs.kept.Slots.{HasDue, is_due_of, opening_slot_kept}
 use Rattle.lin_core.proofs.slots.Opening.{has-due}
 use Rattle.lin_core.specs.kept.State.{done_of, IsKept, Stage, stage}
 use Rattle.lin_core.specs.declared.step.Step.TheVariants.{Open}
@@ -36,7 +36,7 @@ returns c =
     let flags : c.as_slice-pending.result.now ≡ a.state.signals.pending.items = c.as_slice-pending.ensures.value in
     let due : c.due-due.result ≡ due_for a.cluster a.state.signals.pending.items (line_of a.cluster a.state.walker.place.0 a.state.walker.place.1).entry
     = c.due-due.ensures.entry ∙ ap (λ (bs : List Bool). due_for a.cluster bs (line_of a.cluster a.state.walker.place.0 a.state.walker.place.1).entry) flags in
-    let slot : OpenSlot = opened a.cluster c.place-place.result c.header_of-header.result c.due_nodes-nodes.result.items in
+    let slot : OpenSlot = opening_slot_kept a.cluster c.place-place.result c.header_of-header.result c.due_nodes-nodes.result.items in
     let nodes : c.due_nodes-nodes.result.items ≡ filter (is_due_of a.cluster a.state.signals.pending.items c.has_request-requests.result c.responder-responder.result c.due-due.result) (numbers (nodes a.cluster))
     = c.due_nodes-nodes.ensures.due ∙ ap (λ (bs : List Bool). filter (is_due_of a.cluster bs c.has_request-requests.result c.responder-responder.result c.due-due.result) (numbers (nodes a.cluster))) flags in
     let opens : Opens a.cluster a.opening (past_in a) slot

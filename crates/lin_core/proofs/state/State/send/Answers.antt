@@ -2,7 +2,7 @@ use Rattle.lin_core.specs.Links.{accepted_from}
 use Rattle.lin_core.specs.declared.event.Event.TheVariants.{Accepted}
 use Rattle.std.proofs.Common.{suc, refl, ℕ, ◌≡◌, ◌+◌, length, [], ◌∷◌, ap, ◌∙◌, arith}
 use Rattle.std.specs.Prelude.{slice_set}
-use Rattle.lin_core.specs.kept.Hosts.{queued}
+use Rattle.lin_core.specs.kept.Hosts.{host_after_send}
 use Rattle.lin_core.specs.kept.State.{done_of, Stage, stage}
 use Rattle.lin_core.specs.declared.step.Step.TheVariants.{Send}
 use Rattle.lin_core.proofs.kept.Keeping.{send-keeps}
@@ -49,7 +49,7 @@ returns c =
     let count = k.count in
     let l = c.len.ensures.len in
     let number : host.settled + c.len.result + 1 ≡ suc (length (accepted_from (past_in a) c.args.from)) = omega arith in
-    let queue : c.accept.new.self ≡ queued host (length a.log) = c.accept.ensures ∙ ap (queued host) c.len-place.ensures.len in
+    let queue : c.accept.new.self ≡ host_after_send host (length a.log) = c.accept.ensures ∙ ap (host_after_send host) c.len-place.ensures.len in
     record {
       told = c.one.ensures ∙ ap (λ (n : ℕ). Accepted c.args.from n ∷ []) number;
       kept = send-keeps a.cluster a.opening a.capacity a.log (past_in a) a.state.slot a.state.time a.state.walker a.state.hosts.items _ a.state.signals host c.args.by c.args.from c.args.to c.args.message.now (suc (length (accepted_from (past_in a) c.args.from)))

@@ -1,7 +1,7 @@
 use Rattle.std.proofs.Common.{◌∷◌, sym, ap, ◌∙◌}
 use Rattle.std.specs.Prelude.{option_map}
 use Rattle.lin_core.specs.History.{Slot, open_slot, time}
-use Rattle.lin_core.specs.Signals.{heard}
+use Rattle.lin_core.specs.Signals.{heard_value}
 use Rattle.lin_text.proofs.Growing.{same-growth}
 use Rattle.lin_export.specs.Csv.{slot_line}
 use Rattle.lin_export.specs.Open.{slot_in}
@@ -15,7 +15,7 @@ returns-in-Some-clause-keeps g c = λ past is kept.
     let t = slot_in c.in-Some.slot in
     let o : Shows (open_slot past) t = shows (open_slot past) t (ap (option_map slot_in) (sym c.in-Some.is) ∙ c.slot.ensures ∙ ap (λ (d : TrackData). d.slot) is) in
     λ s v at.
-    c.hear_slot.ensures.heard (heard x past) kept s v at ∙ heard-finish x c.args.entry.now past c.in-Done.field-0 o.slot t s c.in-Done.is c.in-Finish.is o.is_open o.same
+    c.hear_slot.ensures.heard (heard_value x past) kept s v at ∙ heard-finish x c.args.entry.now past c.in-Done.field-0 o.slot t s c.in-Done.is c.in-Finish.is o.is_open o.same
 
 pub returns-in-Some-clause-text : goal.returns-in-Some-clause-text
 returns-in-Some-clause-text g c = λ past is kept.
@@ -24,12 +24,12 @@ returns-in-Some-clause-text g c = λ past is kept.
     let e = c.args.entry.now in
     let t = slot_in c.in-Some.slot in
     let o : Shows (open_slot past) t = shows (open_slot past) t (ap (option_map slot_in) (sym c.in-Some.is) ∙ c.slot.ensures ∙ ap (λ (d : TrackData). d.slot) is) in
-    let values = heard x (e ∷ past) in
+    let values = heard_value x (e ∷ past) in
     same-growth
     (ap (λ (d : TrackData). slot_line x names d.slots d.time t values) is
     ∙ ap (λ (u : Slot). slot_line x names (slots_in past) (time x past) u values) o.same
     ∙ line-shown x names (slots_in past) (time x past) o.slot values
     ∙ sym (row-finish x names e past c.in-Done.field-0 o.slot c.in-Done.is c.in-Finish.is o.is_open))
     (c.put_line.ensures values (λ s v at.
-    c.hear_slot.ensures.heard (heard x past) kept s v (rw c.as_slice.ensures.value at at)
+    c.hear_slot.ensures.heard (heard_value x past) kept s v (rw c.as_slice.ensures.value at at)
     ∙ heard-finish x e past c.in-Done.field-0 o.slot t s c.in-Done.is c.in-Finish.is o.is_open o.same))

@@ -2,7 +2,7 @@ use Rattle.std.proofs.Common.{◌∷◌, List, flat_map, sym, ap, ◌∙◌}
 use Rattle.std.specs.Prelude.{slice_index}
 use Rattle.lin_core.specs.declared.event.Event.{Event}
 use Rattle.lin_export.specs.PutsGroups.{AreCounts}
-use Rattle.lin_export.specs.Vcd.{counted_all, event_group, groups, latest, timed, waits}
+use Rattle.lin_export.specs.Vcd.{counted_all, event_group, groups, latest, timed_groups, waits}
 use Rattle.lin_export.proofs.Groups.{counts-done, groups-done, groups-more, same-groups}
 use Rattle.lin_text.proofs.Growing.{same-growth}
 use Rattle.lin_export.proofs.vcd.DumpFormat.put_entry.Goals as goal
@@ -33,4 +33,4 @@ returns-clause-text g c = λ past is kept.
     ∙ ap (counted_all h es) (kept.waiting h few) ∙ counts-done e past es h c.in-Done.is in
     let behind = same-groups (ap (flat_map (event_group x end (waits (e ∷ past)))) c.as_slice-2.ensures) (c.put_events.ensures (waits (e ∷ past)) waiting) in
     let all = same-groups (sym (groups-done x e past es end c.in-Done.is (c.time_behind-end.ensures past is))) (groups-more (c.put_step.ensures past is) behind) in
-    same-growth (ap (λ n. timed n (groups x e past)) kept.shown) all.text
+    same-growth (ap (λ n. timed_groups n (groups x e past)) kept.shown) all.text

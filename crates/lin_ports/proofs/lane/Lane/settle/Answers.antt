@@ -1,6 +1,6 @@
 use Rattle.std.proofs.Common.{◌≡◌, ◌<◌, ℕ, length, refl, ap, subst, arith}
 use mathlib.Core.List.{IsPrefix}
-use Rattle.lin_ports.specs.Lanes.{popped}
+use Rattle.lin_ports.specs.Lanes.{steps_from_ring}
 use Rattle.lin_ports.specs.Ports.{puts}
 use Rattle.lin_ports.proofs.PortLemmas.{from_same, one_port, same_port_wiring}
 use Rattle.lin_ports.proofs.SettleLemmas.{all_popped, some_left}
@@ -20,7 +20,7 @@ returns-then-is_whole-clause-settles c =
         took = told.looked.1;
       },
       (_, told.fifo),
-      subst (λ (k : ℕ). popped k c.left_beside-left.new.self ≡ puts n c.left_beside-left.new.put) one (all_popped _ rest.0 _ _ rest.1 rest.2 c.if-is_whole.true),
+      subst (λ (k : ℕ). steps_from_ring k c.left_beside-left.new.self ≡ puts n c.left_beside-left.new.put) one (all_popped _ rest.0 _ _ rest.1 rest.2 c.if-is_whole.true),
       refl,
     )
 
@@ -39,6 +39,6 @@ returns-else-is_whole-clause-settles c =
         took = told.looked.1;
       },
       (_, told.fifo),
-      subst (λ (k : ℕ). length (popped k c.left_beside-left.new.self) < length (puts n c.left_beside-left.new.put)) one (some_left _ rest.0 _ _ rest.1 rest.2 (omega arith)),
-      subst (λ (k : ℕ). IsPrefix (popped k c.left_beside-left.new.self) (puts n c.left_beside-left.new.put)) one (rest.0, rest.1),
+      subst (λ (k : ℕ). length (steps_from_ring k c.left_beside-left.new.self) < length (puts n c.left_beside-left.new.put)) one (some_left _ rest.0 _ _ rest.1 rest.2 (omega arith)),
+      subst (λ (k : ℕ). IsPrefix (steps_from_ring k c.left_beside-left.new.self) (puts n c.left_beside-left.new.put)) one (rest.0, rest.1),
     )

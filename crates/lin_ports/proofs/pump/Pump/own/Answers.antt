@@ -1,5 +1,5 @@
 use Rattle.std.proofs.Common.{refl}
-use Rattle.lin_parts.specs.Cluster.{nodes}
+use Rattle.lin_cluster_parts.specs.Cluster.{nodes}
 use Rattle.lin_ports.proofs.LaneLemmas.{bus_serves, bus_longer, bus_own, bus_alike, bus_prefix}
 use Rattle.lin_ports.proofs.SettleLemmas.{bus_settled}
 use Rattle.lin_ports.proofs.pump.Pump.own.Goals as goal

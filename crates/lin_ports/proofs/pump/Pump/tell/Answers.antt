@@ -1,5 +1,5 @@
 use Rattle.std.proofs.Common.{refl}
-use Rattle.lin_parts.specs.Cluster.{nodes}
+use Rattle.lin_cluster_parts.specs.Cluster.{nodes}
 use Rattle.lin_ports.proofs.LaneLemmas.{at_lane, all_serve, same_wirings, in_order}
 use Rattle.lin_ports.proofs.RoundLemmas.{prefix_same}
 use Rattle.lin_ports.proofs.SettleLemmas.{passed_set, settled_given, settled_lanes}

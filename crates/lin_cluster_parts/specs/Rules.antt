@@ -4,18 +4,19 @@ use Rattle.std.specs.Prelude.{◌≡◌, ◌≢◌, ◌<◌, ◌≤◌, ℕ, Boo
 use Rattle.std.specs.Prelude.{◌++◌, length, map, All, AllPairs, EachIndex, Some, None, IfSome}
 use Rattle.std.specs.Prelude.{IsTrue}
 use Rattle.std.specs.List.{AllZip, list_any}
-use Rattle.lin_frame.specs.Bits.{fits_place, good_layout, has_good_size}
+use Rattle.lin_frame.specs.Bits.{fits_place, is_good_layout, has_good_size}
 use Rattle.lin_frame.specs.Frame.{pid}
 use Rattle.lin_frame.specs.declared.layout.Place.{Place}
 use Rattle.lin_frame.specs.declared.value.Value.{Value}
 use Rattle.lin_frame.specs.declared.value.Value.TheVariants.{Scalar, Bytes}
-use Rattle.lin_parts.specs.Cluster.{nodes, nad, signal_of, frame_of, table_of}
-use Rattle.lin_parts.specs.declared.parts.Entry.{Entry}
-use Rattle.lin_parts.specs.declared.parts.Entry.TheVariants.{Frame, Sporadic, Event, MasterReq}
-use Rattle.lin_parts.specs.declared.parts.Entry.TheVariants.{SlaveResp, Quiet}
-use Rattle.lin_parts.specs.declared.parts.Node.{Node}
-use Rattle.lin_parts.specs.declared.parts.Parts.{Parts}
-use Rattle.lin_parts.specs.declared.parts.Signal.{Signal}
+use Rattle.lin_cluster_parts.specs.Cluster.{nodes, nad, signal_of, frame_of, table_of}
+use Rattle.lin_cluster_parts.specs.declared.parts.Entry.{Entry}
+use Rattle.lin_cluster_parts.specs.declared.parts.Entry.TheVariants.{Frame, Sporadic, Event}
+use Rattle.lin_cluster_parts.specs.declared.parts.Entry.TheVariants.{MasterReq}
+use Rattle.lin_cluster_parts.specs.declared.parts.Entry.TheVariants.{SlaveResp, Quiet}
+use Rattle.lin_cluster_parts.specs.declared.parts.Node.{Node}
+use Rattle.lin_cluster_parts.specs.declared.parts.Parts.{Parts}
+use Rattle.lin_cluster_parts.specs.declared.parts.Signal.{Signal}
 
 -- the diagnostic addresses of responders
 abbrev pub IsAddress : ℕ → Type 0
@@ -80,7 +81,7 @@ pub record CarriesSignals (p : ℕ) : Type 0 where
 -- twice
 pub record AreFrames (c : Parts) : Type 0 where
   pub publishers : All (λ f. f.publisher < nodes c) c.frames
-  pub layouts : All (λ f. IsTrue (good_layout f.layout)) c.frames
+  pub layouts : All (λ f. IsTrue (is_good_layout f.layout)) c.frames
   pub signals : All (λ f. AllZip (IsSignalAt c f.publisher) f.layout.places f.signals) c.frames
   pub signals_once : All (λ f. AllPairs ◌≢◌ f.signals) c.frames
 

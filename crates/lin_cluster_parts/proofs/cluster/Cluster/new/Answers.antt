@@ -1,6 +1,6 @@
 use Rattle.std.proofs.Common.{arith, length, ◌+◌, ◌≤◌}
-use Rattle.lin_parts.proofs.Limits.{few-identifiers}
-use Rattle.lin_parts.proofs.cluster.Cluster.new.Goals as goal
+use Rattle.lin_cluster_parts.proofs.Limits.{few-identifiers}
+use Rattle.lin_cluster_parts.proofs.cluster.Cluster.new.Goals as goal
 
 pub all_carriers-requires-clause-frames : goal.all_carriers-requires-clause-frames
 all_carriers-requires-clause-frames c =

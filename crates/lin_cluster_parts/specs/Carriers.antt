@@ -1,8 +1,8 @@
 -- What a cluster keeps beside its parts.
 use Rattle.std.specs.Prelude.{ℕ, List, length, map}
 use Rattle.std.specs.List.{range_with_len}
-use Rattle.lin_parts.specs.Cluster.{frames_with}
-use Rattle.lin_parts.specs.declared.parts.Parts.{Parts}
+use Rattle.lin_cluster_parts.specs.Cluster.{frames_with}
+use Rattle.lin_cluster_parts.specs.declared.parts.Parts.{Parts}
 
 -- the frames of each signal
 abbrev pub all_carriers : Parts → List (List ℕ)

@@ -1,7 +1,7 @@
 use Rattle.std.proofs.Common.{◌≡◌, filter}
 use Rattle.std.specs.List.{range_with_len}
-use Rattle.lin_parts.specs.Cluster.{has_signal}
-use Rattle.lin_parts.proofs.carriers.frames_with.Given as goal
+use Rattle.lin_cluster_parts.specs.Cluster.{has_signal}
+use Rattle.lin_cluster_parts.proofs.carriers.frames_with.Given as goal
 
 abbrev pub invariant-loop-frame : goal.invariant-loop-frame
 invariant-loop-frame l =

@@ -2,7 +2,7 @@
 //! kind from 0.
 
 ghost use Rattle.std.specs.Prelude.{◌≡◌};
-ghost use Rattle.lin_parts.specs.Rules.{is_array, place_at};
+ghost use Rattle.lin_cluster_parts.specs.Rules.{is_array, place_at};
 
 use lin_frame::{Layout, Place, SumKind, Value};
 use lin_lists::{Many, Text};

@@ -2,10 +2,10 @@ use Rattle.std.proofs.Common.{◌==◌, ◌≡◌, ◌∙◌, ◌+◌, ◌<◌, 
 use Rattle.std.specs.List.{list_any, range_with_len}
 use Rattle.std.proofs.lemmas.List.Elements.{All-filter}
 use Rattle.std.proofs.lemmas.List.FromFn.{get_or-map-range_with_len, get_or-range_with_len, length-map-range_with_len, length-range_with_len}
-use Rattle.lin_parts.specs.Cluster.{frames_with, has_signal}
-use Rattle.lin_parts.specs.declared.parts.Parts.{Parts}
-use Rattle.lin_parts.proofs.Carrying.{is-found}
-use Rattle.lin_parts.proofs.cluster.Cluster.frames_with.Goals as goal
+use Rattle.lin_cluster_parts.specs.Cluster.{frames_with, has_signal}
+use Rattle.lin_cluster_parts.specs.declared.parts.Parts.{Parts}
+use Rattle.lin_cluster_parts.proofs.Carrying.{is-found}
+use Rattle.lin_cluster_parts.proofs.cluster.Cluster.frames_with.Goals as goal
 
 -- the numbers below n are below n
 below : (n : ℕ) → All (λ f. f < n) (range_with_len 0 n)

@@ -4,11 +4,12 @@ ghost use Rattle.std.specs.Prelude.{ℕ, ◌≡◌, ◌==◌, ◌+◌, ◌<◌, 
 ghost use Rattle.std.specs.Prelude.{IfSome};
 ghost use Rattle.std.specs.List.{list_any};
 ghost use Rattle.std.specs.Str.{bytes_eq};
-ghost use Rattle.lin_parts.specs.Cluster.{has_signal, nodes, nad, node_of, signal_of, frame_of};
-ghost use Rattle.lin_parts.specs.Cluster.{frames_with, sporadic_of, event_of, named_table};
-ghost use Rattle.lin_parts.specs.Cluster.{table_of, line_of, first_table};
-ghost use Rattle.lin_parts.specs.Rules.{IsCluster, IsDelay};
-ghost use Rattle.lin_parts.specs.Sound.{IsSound};
+ghost use Rattle.lin_cluster_parts.specs.Cluster.{has_signal, nodes, nad, node_of, signal_of};
+ghost use Rattle.lin_cluster_parts.specs.Cluster.{frame_of};
+ghost use Rattle.lin_cluster_parts.specs.Cluster.{frames_with, sporadic_of, event_of, named_table};
+ghost use Rattle.lin_cluster_parts.specs.Cluster.{table_of, line_of, first_table};
+ghost use Rattle.lin_cluster_parts.specs.Rules.{IsCluster, IsDelay};
+ghost use Rattle.lin_cluster_parts.specs.Sound.{IsSound};
 
 use crate::carriers::all_carriers;
 use crate::parts::{Entry, EventFrame, Line, Node, Parts, Signal, SignalFrame, Table};
@@ -25,14 +26,14 @@ pub struct Cluster {
 }
 
 impl Model for Cluster {
-    ghost use Rattle.lin_parts.specs.declared.parts.Parts.{Parts};
+    ghost use Rattle.lin_cluster_parts.specs.declared.parts.Parts.{Parts};
 
     ghost Value = { Parts };
 
     ghost view = { λ c. c.parts };
 
-    ghost use Rattle.lin_parts.specs.Rules.{IsCluster};
-    ghost use Rattle.lin_parts.specs.Carriers.{all_carriers};
+    ghost use Rattle.lin_cluster_parts.specs.Rules.{IsCluster};
+    ghost use Rattle.lin_cluster_parts.specs.Carriers.{all_carriers};
     ghost use Rattle.std.specs.Prelude.{◌≡◌};
 
     ghost invariant = { λ c. IsCluster c.parts × (c.carriers.items ≡ all_carriers c.parts) };

@@ -6,14 +6,14 @@ use Rattle.std.specs.List.{list_any, range_with_len}
 use Rattle.std.specs.Str.{bytes_eq}
 use Rattle.lin_frame.specs.declared.sums.SumKind.TheVariants.{Enhanced}
 use Rattle.lin_frame.specs.declared.value.Value.TheVariants.{Scalar}
-use Rattle.lin_parts.specs.declared.parts.Entry.TheVariants.{Quiet}
-use Rattle.lin_parts.specs.declared.parts.Node.{Node}
-use Rattle.lin_parts.specs.declared.parts.Signal.{Signal}
-use Rattle.lin_parts.specs.declared.parts.SignalFrame.{SignalFrame}
-use Rattle.lin_parts.specs.declared.parts.EventFrame.{EventFrame}
-use Rattle.lin_parts.specs.declared.parts.Line.{Line}
-use Rattle.lin_parts.specs.declared.parts.Table.{Table}
-use Rattle.lin_parts.specs.declared.parts.Parts.{Parts}
+use Rattle.lin_cluster_parts.specs.declared.parts.Entry.TheVariants.{Quiet}
+use Rattle.lin_cluster_parts.specs.declared.parts.Node.{Node}
+use Rattle.lin_cluster_parts.specs.declared.parts.Signal.{Signal}
+use Rattle.lin_cluster_parts.specs.declared.parts.SignalFrame.{SignalFrame}
+use Rattle.lin_cluster_parts.specs.declared.parts.EventFrame.{EventFrame}
+use Rattle.lin_cluster_parts.specs.declared.parts.Line.{Line}
+use Rattle.lin_cluster_parts.specs.declared.parts.Table.{Table}
+use Rattle.lin_cluster_parts.specs.declared.parts.Parts.{Parts}
 
 -- how many nodes there are: their numbers are those below this
 abbrev pub nodes : Parts → ℕ
@@ -33,7 +33,15 @@ signal_of c s =
 
 -- out of range: a frame of identifier 0, whose protected identifier is 80
 abbrev pub frame_of : Parts → ℕ → SignalFrame
-frame_of c f = slice_index_or c.frames f (record { pid = 0x80; model = Enhanced; publisher = 0; layout = record { len = 1; pid = None; places = [] }; signals = [] })
+frame_of c f =
+    slice_index_or c.frames f
+    (record {
+      pid = 0x80;
+      model = Enhanced;
+      publisher = 0;
+      layout = record { len = 1; pid = None; places = [] };
+      signals = [];
+    })
 
 -- whether a frame has a signal
 abbrev pub has_signal : Parts → ℕ → ℕ → Bool

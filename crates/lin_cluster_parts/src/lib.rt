@@ -1,4 +1,5 @@
-//! LIN clusters: nodes, signals, frames and schedule tables, with what every cluster has (ISO 17987-3; LIN 2.2A, section 9).
+//! LIN clusters: nodes, signals, frames and schedule tables, with what every cluster has (ISO
+//! 17987-3; LIN 2.2A, section 9).
 //!
 //! ```
 //! // the diagnostic address of node 1, and what the first entry of table 0 asks for

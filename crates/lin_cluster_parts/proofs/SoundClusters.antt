@@ -5,14 +5,14 @@ use Rattle.std.proofs.lemmas.List.Elements.{All-head, All-tail}
 use Rattle.std.proofs.lemmas.List.{get_or_past}
 use Rattle.std.proofs.lemmas.Bool.{cases_lt}
 use Rattle.lin_frame.specs.Frame.{pid}
-use Rattle.lin_parts.specs.Cluster.{nodes, nad}
-use Rattle.lin_parts.specs.Rules.{IsCluster, CarriesSignals, IsAddress, HaveOwnAddresses}
-use Rattle.lin_parts.specs.Sound.{IsSound, IsSignalPid}
-use Rattle.lin_parts.specs.declared.parts.EventFrame.{EventFrame}
-use Rattle.lin_parts.specs.declared.parts.Node.{Node}
-use Rattle.lin_parts.specs.declared.parts.Parts.{Parts}
-use Rattle.lin_parts.specs.declared.parts.SignalFrame.{SignalFrame}
-use Rattle.lin_parts.proofs.Identifiers.{all-carry}
+use Rattle.lin_cluster_parts.specs.Cluster.{nodes, nad}
+use Rattle.lin_cluster_parts.specs.Rules.{IsCluster, CarriesSignals, IsAddress, HaveOwnAddresses}
+use Rattle.lin_cluster_parts.specs.Sound.{IsSound, IsSignalPid}
+use Rattle.lin_cluster_parts.specs.declared.parts.EventFrame.{EventFrame}
+use Rattle.lin_cluster_parts.specs.declared.parts.Node.{Node}
+use Rattle.lin_cluster_parts.specs.declared.parts.Parts.{Parts}
+use Rattle.lin_cluster_parts.specs.declared.parts.SignalFrame.{SignalFrame}
+use Rattle.lin_cluster_parts.proofs.Identifiers.{all-carry}
 
 -- what holds of each item and of the default holds at each number
 pub at-any : {X : Type 0} (P : X → Type 0) (xs : List X) (d : X) → All P xs → P d → (k : ℕ) → P (get_or xs k d)

@@ -7,12 +7,12 @@ use Rattle.std.proofs.lemmas.List.{length-map}
 use Rattle.std.proofs.lemmas.List.Elements.{All-map, All-head, All-tail, recursion_from_All}
 use Rattle.std.proofs.lemmas.Map.Steps.{length-le_from_distinct_below}
 use Rattle.lin_frame.specs.Frame.{pid}
-use Rattle.lin_parts.specs.Rules.{AreIdentifiers, CarriesSignals, pids}
-use Rattle.lin_parts.specs.declared.parts.EventFrame.{EventFrame}
-use Rattle.lin_parts.specs.declared.parts.Parts.{Parts}
-use Rattle.lin_parts.specs.declared.parts.SignalFrame.{SignalFrame}
-use Rattle.lin_parts.proofs.Pairs.{pairs-first, pairs-rest, pairs-map}
-use Rattle.lin_parts.proofs.SoundClusters.{pid-low}
+use Rattle.lin_cluster_parts.specs.Rules.{AreIdentifiers, CarriesSignals, pids}
+use Rattle.lin_cluster_parts.specs.declared.parts.EventFrame.{EventFrame}
+use Rattle.lin_cluster_parts.specs.declared.parts.Parts.{Parts}
+use Rattle.lin_cluster_parts.specs.declared.parts.SignalFrame.{SignalFrame}
+use Rattle.lin_cluster_parts.proofs.Pairs.{pairs-first, pairs-rest, pairs-map}
+use Rattle.lin_cluster_parts.proofs.SoundClusters.{pid-low}
 
 abbrev Apart : ℕ → ℕ → Type 0
 Apart p q = p ≢ q

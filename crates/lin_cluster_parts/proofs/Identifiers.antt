@@ -2,11 +2,11 @@
 use Rattle.std.proofs.Common.{◌≢◌, ◌↔◌, ℕ, List, map, get_or}
 use Rattle.std.specs.Prelude.{All, AllPairs}
 use Rattle.std.proofs.lemmas.List.Elements.{All-append, All-map}
-use Rattle.lin_parts.specs.Rules.{pids, CarriesSignals}
-use Rattle.lin_parts.specs.declared.parts.EventFrame.{EventFrame}
-use Rattle.lin_parts.specs.declared.parts.Parts.{Parts}
-use Rattle.lin_parts.specs.declared.parts.SignalFrame.{SignalFrame}
-use Rattle.lin_parts.proofs.Pairs.{all-front, all-back, all-of-map, pairs-append, pairs-front, pairs-back, pairs-cross, pairs-map, pairs-of-map}
+use Rattle.lin_cluster_parts.specs.Rules.{pids, CarriesSignals}
+use Rattle.lin_cluster_parts.specs.declared.parts.EventFrame.{EventFrame}
+use Rattle.lin_cluster_parts.specs.declared.parts.Parts.{Parts}
+use Rattle.lin_cluster_parts.specs.declared.parts.SignalFrame.{SignalFrame}
+use Rattle.lin_cluster_parts.proofs.Pairs.{all-front, all-back, all-of-map, pairs-append, pairs-front, pairs-back, pairs-cross, pairs-map, pairs-of-map}
 
 abbrev frame_pid : SignalFrame → ℕ
 frame_pid f = f.pid

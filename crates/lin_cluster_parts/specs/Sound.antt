@@ -1,8 +1,8 @@
 -- What the transport over a cluster rests on: addresses and identifiers that tell their frames
 -- apart.
 use Rattle.std.specs.Prelude.{◌≡◌, ◌≢◌, ◌≤◌, ℕ, Some, None}
-use Rattle.lin_parts.specs.Cluster.{nad, frame_of, event_of}
-use Rattle.lin_parts.specs.declared.parts.Parts.{Parts}
+use Rattle.lin_cluster_parts.specs.Cluster.{nad, frame_of, event_of}
+use Rattle.lin_cluster_parts.specs.declared.parts.Parts.{Parts}
 
 -- neither of the two protected identifiers of diagnostic frames (ISO 17987-3: master request, slave
 -- response)

@@ -6,8 +6,8 @@ use Rattle.std.proofs.lemmas.List.Folds.{list_any_at}
 use Rattle.std.proofs.lemmas.Map.Views.{any-filter_same}
 use Rattle.std.proofs.lemmas.List.FromFn.{filter_of_map_range_with_len_more, get_or-range_with_len, length-range_with_len, map-range_with_len_more}
 use Rattle.std.specs.List.{list_any, range_with_len}
-use Rattle.lin_parts.specs.Cluster.{frames_with, has_signal}
-use Rattle.lin_parts.specs.declared.parts.Parts.{Parts}
+use Rattle.lin_cluster_parts.specs.Cluster.{frames_with, has_signal}
+use Rattle.lin_cluster_parts.specs.declared.parts.Parts.{Parts}
 
 pub signals_more : (c : Parts) (n : ℕ) → map (frames_with c) (range_with_len 0 (n + 1)) ≡ map (frames_with c) (range_with_len 0 n) ++ frames_with c n ∷ []
 signals_more c n = map-range_with_len_more (frames_with c) 0 n n (omega arith)

@@ -1,8 +1,8 @@
 //! The frames of each signal.
 
 ghost use Rattle.std.specs.Prelude.{◌≡◌, ◌<◌, ◌≤◌, length, IfOk};
-ghost use Rattle.lin_parts.specs.Cluster.{frame_of, frames_with, has_signal};
-ghost use Rattle.lin_parts.specs.Carriers.{all_carriers};
+ghost use Rattle.lin_cluster_parts.specs.Cluster.{frame_of, frames_with, has_signal};
+ghost use Rattle.lin_cluster_parts.specs.Carriers.{all_carriers};
 
 use crate::parts::Parts;
 use lin_lists::Many;
