@@ -4,8 +4,8 @@ use crate::log::fakes::{Broken, Refusing};
 use crate::samples::{BODY_CLUSTER, DOOR_CLUSTER, cluster_of, expect_text};
 use lin_log::run_script;
 use lin_tool::{
-    Described, Fault, Format, Notes, Wanted, cluster_of_reader, cluster_of_text, opening_table,
-    read_text, replay_script, write_list, write_shown,
+    Described, Fault, Format, Lists, Notes, Wanted, cluster_of_reader, cluster_of_text,
+    opening_table, read_text, replay_script, write_list, write_lists, write_shown,
 };
 use std::alloc::Global;
 use std::io::ErrorKind;
@@ -86,6 +86,36 @@ fn list_is_written_once_where_that_fails(rt: HostRuntime) -> Result<(), Fail> {
     }
     Ok(())
 }
+
+#[test]
+fn lists_end_where_a_write_fails(rt: HostRuntime) -> Result<(), Fail> {
+    let alloc = rt.alloc();
+    let described = cluster_of_text(alloc, BODY_CLUSTER)?;
+    let all = Lists {
+        frames: true,
+        slots: true,
+    };
+    let mut whole = Vec::new(alloc);
+    write_lists(&described, all, &mut whole)?;
+    for good in 0..whole.len() {
+        let mut writer = Refusing {
+            taken: Vec::new(alloc),
+            good,
+        };
+        assert!(rt; write_lists(&described, all, &mut writer).is_err());
+        expect_text(
+            &rt,
+            &writer.taken,
+            &whole[..good],
+            "a beginning of the lists",
+        );
+    }
+    Ok(())
+}
+
+/// A message, a signal that isn't there, and a slot that is open at the end.
+const STEPS: &[u8] =
+    b"h0 send 0 1 22062E\nbus open\nn0 answer 0\nbus finish\nbus write 0 0 1\nbus open\n";
 
 #[test]
 fn formats_end_where_a_write_fails(rt: HostRuntime) -> Result<(), Fail> {
