@@ -73,6 +73,7 @@ fn put_value<W: Write>(out: &mut TextWriter<'_, W>, value: &Value)
     ensures { Grows W.contents out.old out.new (comma (value_cell value.now)) }
 {
     match value {
+        Value::Scalar(number) if *number < 10 => out.put(&[b',', b'0' + *number as u8]),
         Value::Scalar(number) => put_next(out, Cell::Number(u64::from(*number))),
         Value::Bytes(bytes) => put_next(out, Cell::Hex(bytes.as_slice())),
     }
