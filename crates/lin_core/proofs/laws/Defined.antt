@@ -159,6 +159,8 @@ pub sound-a : IsSound cluster_a
 sound-a = record {
   apart = λ j k n p q. (nad-one j n p).0 ∙ sym (nad-one k n q).0;
   some = λ k n p. let h : n ≡ 1 = (nad-one k n p).1 in omega arith;
+  most = λ k n p. let h : n ≡ 1 = (nad-one k n p).1 in omega arith;
+  few = λ k n p. let h : k ≡ 1 = (nad-one k n p).0 in omega arith;
   commander = refl;
   frames = λ f. record { request = λ e. omega arith; response = λ e. omega arith };
   events = λ f. record { request = λ e. omega arith; response = λ e. omega arith };
