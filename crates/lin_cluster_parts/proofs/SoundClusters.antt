@@ -63,10 +63,15 @@ apart c j k n own here there =
       ]
     ]
 
+address-at : (c : Parts) (k n : ℕ) → All (λ (node : Node). IfSome node.nad IsAddress) c.nodes → nad c k ≡ Some n → IsAddress n
+address-at c k n addresses is = subst (λ a. IfSome a IsAddress) is (at-any (λ (node : Node). IfSome node.nad IsAddress) c.nodes _ addresses tt k)
+
 pub sound-clusters : (c : Parts) → IsCluster c → IsSound c
 sound-clusters c cluster = record {
   apart = λ j k n. apart c j k n cluster.nodes.own_addresses;
-  some = λ k n is. (subst (λ a. IfSome a IsAddress) is (at-any (λ (node : Node). IfSome node.nad IsAddress) c.nodes _ cluster.nodes.addresses tt k)).0;
+  some = λ k n is. (address-at c k n cluster.nodes.addresses is).0;
+  most = λ k n is. (address-at c k n cluster.nodes.addresses is).1;
+  few = λ k n is. let below : k < nodes c = present c k n is in omega (arith, cluster.nodes.number.1);
   commander = cluster.nodes.commander;
   frames = λ f. at-any (λ (frame : SignalFrame). IsSignalPid frame.pid) c.frames _ (λ k d lt. signals-pid _ (((all-carry c).1 cluster.identifiers.carriers).0 k d lt)) default-pid f;
   events = λ e. at-any (λ (event : EventFrame). IsSignalPid event.pid) c.events _ (λ k d lt. signals-pid _ (((all-carry c).1 cluster.identifiers.carriers).1 k d lt)) default-pid e;

@@ -1,9 +1,8 @@
 -- Promises rest on this: the laws that hold of every history of a cluster.
 use Rattle.std.specs.Prelude.{◌≡◌, ℕ, ◌==◌, ⊤, Bool, true, false, ◌&&◌, ◌||◌, not, List, [], ◌∷◌}
 use Rattle.std.specs.Prelude.{◌++◌, map, filter}
-use Rattle.lin_transport.specs.Transport.{frames}
 use Rattle.lin_core.specs.History.{did, is_host_closed, is_sleep_mark, LogEntry, Step, Parts}
-use Rattle.lin_core.specs.Links.{Link, same_link, host_of, Sign, Fate, fate, is_waiting, frames_of}
+use Rattle.lin_core.specs.Links.{Link, goes_over, host_of, Sign, Fate, fate, is_waiting, frames_of}
 use Rattle.lin_core.specs.Links.{Message, Sending, sendings, fate_of, reading, waiting}
 use Rattle.lin_core.specs.Links.{accepted_messages}
 use Rattle.lin_core.specs.Links.Fate.{Waiting, Sent, Lost}
@@ -14,7 +13,7 @@ is_sent Sent = true
 is_sent fate = false
 
 abbrev pub is_sent_over : Parts → Link → Sending → Bool
-is_sent_over c l s = same_link s.message.link l && is_sent (fate_of c s)
+is_sent_over c l s = goes_over s.message.link l && is_sent (fate_of c s)
 
 -- the receiver of a link reads the messages whose fate is Sent, in order
 abbrev pub ReadsSent : Parts → List LogEntry → Link → Type 0
@@ -29,13 +28,12 @@ IsPrefix xs ys = (zs : List (List ℕ)) × (ys ≡ xs ++ zs)
 
 -- there are no more blocks than messages; each block is a beginning of the frames of its message;
 -- where another block follows, the message is sent or lost
-abbrev pub InOrder : ℕ → List (List ℕ) → List (List Sign) → Type 0
-InOrder n ms [] = ⊤
-InOrder n [] (b ∷ bs) = ⊥
-InOrder n (m ∷ ms) (b ∷ []) = IsPrefix (frames_of b) (frames n m)
-InOrder n (m ∷ ms) (b ∷ d ∷ bs) =
-    IsPrefix (frames_of b) (frames n m) × (is_waiting (fate (frames n m) b) ≡ false)
-    × InOrder n ms (d ∷ bs)
+abbrev pub InOrder : List (List (List ℕ)) → List (List Sign) → Type 0
+InOrder fss [] = ⊤
+InOrder [] (b ∷ bs) = ⊥
+InOrder (fs ∷ fss) (b ∷ []) = IsPrefix (frames_of b) fs
+InOrder (fs ∷ fss) (b ∷ d ∷ bs) =
+    IsPrefix (frames_of b) fs × (is_waiting (fate fs b) ≡ false) × InOrder fss (d ∷ bs)
 
 -- the messages of a host with their fates
 abbrev pub outcomes_of : Parts → List LogEntry → ℕ → List (Message × Fate)

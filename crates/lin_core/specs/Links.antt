@@ -7,7 +7,7 @@ use Rattle.std.specs.List.{list_any, list_all, cons_option}
 use Rattle.std.specs.Cmp.Lexicographic.{pointwise}
 use Rattle.std.specs.Option.{option_map_or, unwrap_or}
 use Rattle.lin_transport.specs.Words.{with_last}
-use Rattle.lin_transport.specs.Transport.{frames, begins, Heard, messages_in}
+use Rattle.lin_transport.specs.Transport.{frames, begins, Ear, Heard, looks_at, messages_to, plain}
 use Rattle.lin_transport.specs.Transport.Heard.{Frame, Reset}
 use Rattle.lin_cluster_parts.specs.Cluster.{nad}
 use Rattle.lin_core.specs.History.{Slot, open_slot, finished_slot, done, did, seen_of, good_under}
@@ -64,10 +64,17 @@ accepted_from (e ∷ past) h =
     (λ m. accepted_from past h ++ m ∷ []) (option_map_or (sent_from h) (done e) None)
     (accepted_from past h)
 
--- those that go over a link, in the same order
+-- whether what goes to a place goes over a link
+abbrev pub goes_over : Link → Link → Bool
+goes_over to l = same_link to l
+
+-- the messages that go over a link, in the order in which they were accepted
+abbrev pub messages_on : List LogEntry → Link → List Message
+messages_on past l = filter (λ m. goes_over m.link l) (accepted_from past (host_of l))
+
+-- their bytes
 abbrev pub accepted_messages : List LogEntry → Link → List (List ℕ)
-accepted_messages past l =
-    map (λ m. m.bytes) (filter (λ m. same_link m.link l) (accepted_from past (host_of l)))
+accepted_messages past l = map (λ m. m.bytes) (messages_on past l)
 
 -- what happens on a link: a frame, as it was seen where its slot is finished, or a mark
 pub data Sign : Type 0 where
@@ -184,7 +191,7 @@ abbrev pub is_waiting : Fate → Bool
 is_waiting Waiting = true
 is_waiting f = false
 
--- a message of a host: its number there, and its block on its link, if one was begun
+-- a message of a host: its number there, and its block on its home link, if one was begun
 pub record Sending : Type 0 where
   pub number : ℕ
   pub message : Message
@@ -193,25 +200,38 @@ pub record Sending : Type 0 where
 abbrev pub nad_on : Parts → Link → ℕ
 nad_on c l = unwrap_or (nad c l.node) 0
 
+-- the link by whose blocks a message's fate is told
+abbrev pub home : Parts → Link → Link
+home c to = to
+
+-- the address in the frames of a message that goes here
+abbrev pub address : Parts → Link → ℕ
+address c to = nad_on c to
+
+abbrev pub frames_to : Parts → Message → List (List ℕ)
+frames_to c m = frames (address c m.link) m.bytes
+
 -- the messages of a host with their numbers and blocks: a message has the place among the blocks of
--- its link that it has among the messages of its link. `before` is the messages that were accepted
--- earlier
-abbrev pub sendings_from : (Link → List (List Sign)) → List Message → List Message → List Sending
-sendings_from blocks before [] = []
-sendings_from blocks before (m ∷ ms) =
+-- its home link that it has among the messages of that link. `before` is the messages that were
+-- accepted earlier
+abbrev pub sendings_from : Parts → (Link → List (List Sign)) → List Message → List Message
+    → List Sending
+sendings_from c blocks before [] = []
+sendings_from c blocks before (m ∷ ms) =
     record {
       number = suc (length before);
       message = m;
       block =
-          slice_index_or (blocks m.link) (length (filter (λ k. same_link k.link m.link) before)) [];
+          slice_index_or (blocks (home c m.link))
+          (length (filter (λ k. goes_over k.link (home c m.link)) before)) [];
     }
-    ∷ sendings_from blocks (before ++ m ∷ []) ms
+    ∷ sendings_from c blocks (before ++ m ∷ []) ms
 
 abbrev pub sendings : Parts → List LogEntry → ℕ → List Sending
-sendings c past h = sendings_from (blocks c past) [] (accepted_from past h)
+sendings c past h = sendings_from c (blocks c past) [] (accepted_from past h)
 
 abbrev pub fate_of : Parts → Sending → Fate
-fate_of c s = fate (frames (nad_on c s.message.link) s.message.bytes) s.block
+fate_of c s = fate (frames_to c s.message) s.block
 
 abbrev pub waits : Parts → Sending → Bool
 waits c s = is_waiting (fate_of c s)
@@ -225,9 +245,13 @@ waiting c past h = filter (waits c) (sendings c past h)
 abbrev pub begun_sending : Parts → List LogEntry → ℕ → Option Sending
 begun_sending c past h = find (is_begun c) (sendings c past h)
 
--- what the receiver of a link is given: the good frames with its address, and the marks
-abbrev pub heard_good : ℕ → List ℕ → List Heard
-heard_good k bytes = if slice_index bytes 0 == k then Frame (take 8 bytes) ∷ [] else []
+-- what the receiver of a link listens to
+abbrev pub ear_on : Parts → Link → Ear
+ear_on c l = plain (nad_on c l)
+
+-- what the receiver of a link is given: the good frames that it looks at, and the marks
+abbrev pub heard_good : Ear → List ℕ → List Heard
+heard_good e bytes = if looks_at e (slice_index bytes 0) then Frame (take 8 bytes) ∷ [] else []
 
 abbrev pub diagnostic_header : Direction → ℕ
 diagnostic_header Down = 0x3C
@@ -236,7 +260,7 @@ diagnostic_header Up = 0x7D
 abbrev pub heard_at : Parts → Link → LogEntry → List LogEntry → List Heard
 heard_at c l e past =
     (if is_some (mark l e past) then Reset ∷ [] else [])
-    ++ option_map_or (heard_good (nad_on c l))
+    ++ option_map_or (heard_good (ear_on c l))
     (option_map_or (good_under (diagnostic_header l.dir)) (finished_slot e past) None) []
 
 abbrev pub heard_on : Parts → List LogEntry → Link → List Heard
@@ -245,4 +269,4 @@ heard_on c (e ∷ past) l = heard_at c l e past ++ heard_on c past l
 
 -- the messages that the receiver of a link reads
 abbrev pub reading : Parts → List LogEntry → Link → List (List ℕ)
-reading c past l = messages_in (nad_on c l) (heard_on c past l)
+reading c past l = messages_to (ear_on c l) (heard_on c past l)

@@ -1,11 +1,11 @@
 -- Promises rest on this: the laws, each as one statement over the history of a log.
-use Rattle.std.specs.Prelude.{◌≡◌, ℕ, ⊤, true, List, [], ◌∷◌, is_some}
+use Rattle.std.specs.Prelude.{◌≡◌, ℕ, ⊤, true, List, [], ◌∷◌, is_some, map}
 use Rattle.lin_cluster_parts.specs.Cluster.{nad}
 use Rattle.lin_core.specs.Defined.{AreDefined, TellsDue}
 use Rattle.lin_core.specs.History.{done, events, LogEntry, Parts}
 use Rattle.lin_core.specs.Law.{InOrder, NoneLost, NoSendAfterClose, ReadsAll, ReadsSent, Stays}
 use Rattle.lin_core.specs.Law.{is_calm, outcomes_of}
-use Rattle.lin_core.specs.Links.{Link, accepted_messages, blocks, nad_on}
+use Rattle.lin_core.specs.Links.{Link, blocks, frames_to, messages_on}
 use Rattle.lin_core.specs.Reports.{ReportsFates, TellsReading}
 
 -- exact delivery: the receiver of each link reads the messages that were accepted for it and sent,
@@ -19,7 +19,7 @@ DeliversExactly c past =
 abbrev pub PutsInOrder : Parts → List LogEntry → Type 0
 PutsInOrder c past =
     (l : Link) → is_some (nad c l.node) ≡ true
-    → InOrder (nad_on c l) (accepted_messages past l) (blocks c past l)
+    → InOrder (map (frames_to c) (messages_on past l)) (blocks c past l)
 
 -- a host's fates stay as they are, from each entry to the next
 abbrev pub AllStay : Parts → List LogEntry → ℕ → Type 0

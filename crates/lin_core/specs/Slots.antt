@@ -19,7 +19,7 @@ use Rattle.lin_schedule.specs.Schedule.{Move, standing, due}
 use Rattle.lin_schedule.specs.Schedule.Move.{Slot as SlotMove, Switch as SwitchMove, Restart}
 use Rattle.lin_core.specs.History.{Slot, is_sleep_asked, done, finished_slot, good_under, is_clash}
 use Rattle.lin_core.specs.History.{is_sleep_mark, LogEntry, Step, Parts}
-use Rattle.lin_core.specs.Links.{Sending, waiting, begun_sending, frames_of, nad_on}
+use Rattle.lin_core.specs.Links.{Sending, waiting, begun_sending, frames_of, address}
 use Rattle.lin_core.specs.Signals.{is_pending, signal_bytes}
 use Rattle.lin_core.specs.declared.step.Step.TheVariants.{Switch, Wake}
 
@@ -90,7 +90,7 @@ due_nodes c past entry = filter (is_due c past entry) (numbers (nodes c))
 
 -- the frame of a sending with this index
 abbrev pub frame_at : Parts → Sending → ℕ → List ℕ
-frame_at c s k = frame (nad_on c s.message.link) s.message.bytes k
+frame_at c s k = frame (address c s.message.link) s.message.bytes k
 
 -- the frame that puts the cluster to sleep
 abbrev pub sleep_frame : List ℕ

@@ -4,7 +4,7 @@ ghost use Rattle.std.specs.Prelude.{◌≡◌, ◌<◌, Some, is_some, true};
 ghost use Rattle.std.specs.Option.{unwrap_or};
 ghost use Rattle.lin_cluster_parts.specs.Cluster.{nad, nodes};
 ghost use Rattle.lin_core.specs.kept.Hosts.{message_at, bytes_next, HasNext};
-ghost use Rattle.lin_core.specs.Links.{nad_on};
+ghost use Rattle.lin_core.specs.Links.{address};
 
 use crate::host::Host;
 use crate::link::Link;
@@ -37,7 +37,7 @@ pub(crate) fn message_at<'a>(cluster: &Cluster, log: &'a Log, place: usize) -> M
     requires { is_some (message_at log.now.entries place) ≡ true }
     ensures message { message_at log.now.entries place
         ≡ Some (record { link = result.link; bytes = result.bytes.now }) }
-    ensures address { result.link.node < nodes cluster.now → result.address ≡ nad_on cluster.now result.link }
+    ensures address { result.link.node < nodes cluster.now → result.address ≡ address cluster.now result.link }
 {
     match &log.entry(place).step {
         Step::Send { from, to, message } => {

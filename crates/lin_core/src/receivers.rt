@@ -3,7 +3,7 @@
 
 ghost use Rattle.std.specs.Prelude.{◌≡◌, ◌<◌, ℕ, [], List, length, option_map, slice_get, Some};
 ghost use Rattle.std.specs.Prelude.{IfOk, OnErr};
-ghost use Rattle.lin_transport.specs.Receiver.{Hears, Stands};
+ghost use Rattle.lin_transport.specs.Receiver.{HasHeard, Reads};
 ghost use Rattle.lin_transport.specs.Transport.{Heard};
 ghost use Rattle.lin_core.specs.kept.Receivers.{opposite, receiver_in, AreReset, HearsOn, IsReset};
 ghost use Rattle.lin_core.specs.kept.Receivers.{KeepsHeard};
@@ -32,9 +32,9 @@ impl Receivers {
         dir: Direction,
         frame: &[u8; 8],
     ) -> Result<Option<Vec<u8>>, AllocError>
-        ensures hears { (heard : List Heard) → Stands (receiver_in dir self.old) heard
+        ensures hears { (heard : List Heard) → HasHeard (receiver_in dir self.old) heard
             → IfOk result
-            (λ m. Hears (receiver_in dir self.old) frame.now heard (option_map (λ v. v.items) m)
+            (λ m. Reads (receiver_in dir self.old) frame.now heard (option_map (λ v. v.items) m)
             (receiver_in dir self.new)) }
         ensures other { receiver_in (opposite dir) self.new ≡ receiver_in (opposite dir) self.old }
         ensures unchanged { OnErr result (self.new ≡ self.old) }

@@ -5,15 +5,15 @@ use Rattle.std.proofs.Math.ListN.{length-set}
 use Rattle.std.proofs.lemmas.Bool.Decides.{eqb_tells}
 use Rattle.std.proofs.lemmas.List.{drop_at}
 use Rattle.std.proofs.lemmas.Option.{slice_get_within}
-use Rattle.lin_transport.specs.Transport.{Heard, frame, heard_with, messages_in}
+use Rattle.lin_transport.specs.Transport.{Ear, Heard, frame, heard_to, looks_at, messages_to}
 use Rattle.lin_transport.specs.Transport.Heard.{Frame, Reset}
-use Rattle.lin_transport.specs.Receiver.{Hears, Reception, Stands}
+use Rattle.lin_transport.specs.Receiver.{HasHeard, Reads, Reception}
 use Rattle.lin_cluster_parts.specs.Cluster.{nad}
 use Rattle.lin_cluster_parts.specs.Sound.{IsSound}
 use Rattle.lin_cluster_parts.specs.declared.parts.Parts.{Parts}
 use Rattle.lin_core.specs.History.{Slot, is_sleep_asked, open_slot}
 use Rattle.lin_core.specs.kept.Receivers.{AreReset, HearsOn, IsReset, KeepsHeard, KeepsReceiver, opposite, receiver_in}
-use Rattle.lin_core.specs.Links.{Link, Message, accepted_from, heard_on, nad_on, reading, same_link, signs}
+use Rattle.lin_core.specs.Links.{Link, Message, accepted_from, address, ear_on, goes_over, heard_on, reading, same_link, signs}
 use Rattle.lin_core.specs.kept.Slots.{is_still, pdu_of}
 use Rattle.lin_core.specs.Replies.{link_at}
 use Rattle.lin_core.specs.Slots.{with_classic}
@@ -27,18 +27,18 @@ use Rattle.lin_core.specs.declared.port.PortId.{PortId}
 use Rattle.lin_core.specs.declared.receivers.Receivers.{Receivers}
 use Rattle.lin_core.specs.declared.step.Step.TheVariants.{Finish, Timeout}
 use Rattle.lin_transport.proofs.Frames.{frame-address}
-use Rattle.lin_core.proofs.links.Finishes.{HasNad, IsFrameOf, empty-quiet, finish-heard, frame-adds, frame-is, frame_slot, nad-is, other-quiet, same-cond, sleep-good, sleep-hurt, sleep_slot, slot_of}
-use Rattle.lin_core.proofs.sendings.Hosts.{CanGo, IsLink, eqb-self, same-self}
-use Rattle.lin_core.proofs.steps.Known.{Known, SlotIs, entry_is, has-nad}
+use Rattle.lin_core.proofs.links.Finishes.{IsPlace, empty-quiet, finish-heard, frame-adds, frame-is, frame_slot, other-quiet, same-cond, sleep-good, sleep-hurt, sleep_slot, slot_of, some-address}
+use Rattle.lin_core.proofs.sendings.Hosts.{CanGo, IsLink, same-self}
+use Rattle.lin_core.proofs.steps.Known.{Known, SlotIs, entry_is, has-nad, place-of}
 use Rattle.lin_core.proofs.steps.Known.SlotIs.{carries, closed, master, other, slave, sleep}
-use Rattle.lin_core.proofs.sendings.Moves.{heard_by, record_of, same-is}
+use Rattle.lin_core.proofs.sendings.Moves.{heard_by, over-is, record_of, same-is}
 use Rattle.lin_core.proofs.kept.Places.{get-there, set-other, set-own}
 use Rattle.lin_core.proofs.steps.Steps.{first-go}
 use Rattle.lin_core.proofs.sendings.Turns.{pdu-frame, other-pdu}
 
 -- == nothing is heard
 receiver-same : (c : Parts) (past past' : List LogEntry) (l : Link) (r : Reception) → heard_on c past' l ≡ heard_on c past l → KeepsReceiver c past l r → KeepsReceiver c past' l r
-receiver-same c past past' l r e k = record { nad_is = k.nad_is; stands = subst (λ (x : List Heard). Stands r x) (sym e) k.stands }
+receiver-same c past past' l r e k = record { ear_is = k.ear_is; stands = subst (λ (x : List Heard). HasHeard r x) (sym e) k.stands }
 
 pub heard-same : (c : Parts) (past past' : List LogEntry) (rs : List Receivers) → ((l : Link) → is_some (nad c l.node) ≡ true → heard_on c past' l ≡ heard_on c past l) → KeepsHeard c past rs → KeepsHeard c past' rs
 heard-same c past past' rs same k = record {
@@ -81,7 +81,7 @@ reset-of Down x y r = r.down
 reset-of Up x y r = r.up
 
 pub receiver-reset : (c : Parts) (past past' : List LogEntry) (l : Link) (old new : Reception) → IsReset old new → heard_on c past' l ≡ Reset ∷ heard_on c past l → KeepsReceiver c past l old → KeepsReceiver c past' l new
-receiver-reset c past past' l old new r e k = record { nad_is = r.address ∙ k.nad_is; stands = subst (λ (x : List Heard). Stands new x) (sym e) (r.stands (heard_on c past l) k.stands) }
+receiver-reset c past past' l old new r e k = record { ear_is = r.ear ∙ k.ear_is; stands = subst (λ (x : List Heard). HasHeard new x) (sym e) (r.ends (heard_on c past l)) }
 
 pub heard-reset : (c : Parts) (past past' : List LogEntry) (rs new : List Receivers) → length new ≡ length rs → ((h : ℕ) (x y : Receivers) → slice_get rs h ≡ Some x → slice_get new h ≡ Some y → AreReset x y)
     → ((l : Link) → is_some (nad c l.node) ≡ true → heard_on c past' l ≡ Reset ∷ heard_on c past l) → KeepsHeard c past rs → KeepsHeard c past' new
@@ -100,9 +100,10 @@ pub record CarriesFrame (c : Parts) (past : List LogEntry) (by : PortId) (k : Kn
   pub later : List Message
   pub first : (k.states h).rest ≡ message ∷ later
   pub link : IsLink c h message.link
-  pub puts : s.puts ≡ (h, with_classic (frame (nad_on c message.link) message.bytes (k.states h).count)) ∷ []
+  pub looks : looks_at (ear_on c message.link) (address c message.link) ≡ true
+  pub puts : s.puts ≡ (h, with_classic (frame (address c message.link) message.bytes (k.states h).count)) ∷ []
   pub heard : (es : List Event) (l : Link) → is_some (nad c l.node) ≡ true
-      → heard_on c (entry_is by Finish es ∷ past) l ≡ (if same_link message.link l then heard_by s.hurt (frame (nad_on c message.link) message.bytes (k.states h).count) else []) ++ heard_on c past l
+      → heard_on c (entry_is by Finish es ∷ past) l ≡ (if goes_over message.link l then heard_by s.hurt (frame (address c message.link) message.bytes (k.states h).count) else []) ++ heard_on c past l
 
 frame-by : (c : Parts) (past : List LogEntry) (by : PortId) (sound : IsSound c) (k : Known c past) (o : Option Slot) (s : Slot) (h : ℕ) → open_slot past ≡ o → SlotIs c (is_sleep_asked past) k.states o → o ≡ Some s → pdu_of s ≡ OfMessage h → CarriesFrame c past by k s h
 frame-by c past by sound k None s h is closed e pdu = cc
@@ -114,13 +115,12 @@ frame-by c past by sound k (Some _) s h is (slave table entry due left hurt g li
 frame-by c past by sound k (Some _) s h is (sleep table entry due left hurt only) e pdu =
     absurd (let t : Slot = sleep_slot table entry due left hurt in let same : t ≡ s = cc in let bad : Sleep ≡ OfMessage h = ap pdu_of same ∙ pdu in cc)
 frame-by c past by sound k (Some _) s h is (carries table entry due left hurt g m ms j only host r n) e pdu =
-    let f : List ℕ = frame (nad_on c m.link) m.bytes j
+    let f : List ℕ = frame (address c m.link) m.bytes j
     in let t : Slot = frame_slot table entry due left hurt m.link f
     in let go : CanGo c g m = first-go c g (accepted_from past g) (heard_on c past) (signs c past) (k.states g) m ms r (k.hosts g)
-    in let a : HasNad c m.link.node = has-nad c m.link.node go.link.address
-    in let frame_of_it : IsFrameOf a.n f = subst (λ (x : ℕ). IsFrameOf x f) (nad-is c m.link a.n a.is) (frame-is (nad_on c m.link) m.bytes j)
+    in let place : IsPlace c m.link = place-of c g m go
     in let same : t ≡ s = cc
-    in let pdu_is : pdu_of t ≡ OfMessage g = pdu-frame table entry due left hurt m.link.node m.link.dir f a.n (sound.some m.link.node a.n a.is) frame_of_it ∙ ap OfMessage host
+    in let pdu_is : pdu_of t ≡ OfMessage g = pdu-frame table entry due left hurt m.link.node m.link.dir f (address c m.link) (some-address c m.link sound place) (frame-is (address c m.link) m.bytes j) ∙ ap OfMessage host
     in let both : OfMessage g ≡ OfMessage h = sym pdu_is ∙ ap pdu_of same ∙ pdu
     in let hosts : g ≡ h = cc
     in let own : CarriesFrame c past by k t g = record {
@@ -128,8 +128,9 @@ frame-by c past by sound k (Some _) s h is (carries table entry due left hurt g 
       later = ms;
       first = r;
       link = go.link;
+      looks = (go.meant m.link go.link (same-self m.link)).heard;
       puts = rw n (ap (λ (x : ℕ). (x, with_classic f) ∷ []) host);
-      heard = λ es l b. rw n (finish-heard c past by es t l is ∙ ap (λ (x : List Heard). x ++ heard_on c past l) (frame-adds c table entry due left hurt m.link l f sound a (has-nad c l.node b) (frame-is (nad_on c m.link) m.bytes j)).heard);
+      heard = λ es l b. rw n (finish-heard c past by es t l is ∙ ap (λ (x : List Heard). x ++ heard_on c past l) (frame-adds c table entry due left hurt m.link l f sound place (has-nad c l.node b) (frame-is (address c m.link) m.bytes j)).heard);
     }
     in subst (λ (x : ℕ). CarriesFrame c past by k s x) hosts (subst (λ (y : Slot). CarriesFrame c past by k y g) same own)
 
@@ -139,7 +140,7 @@ carries-frame c past by sound k s h is pdu = frame-by c past by sound k (open_sl
 -- a damaged one isn't heard
 pub hurt-heard : (c : Parts) (past : List LogEntry) (by : PortId) (k : Known c past) (s : Slot) (h : ℕ) → CarriesFrame c past by k s h → s.hurt ≡ true → (es : List Event) (l : Link) → is_some (nad c l.node) ≡ true
     → heard_on c (entry_is by Finish es ∷ past) l ≡ heard_on c past l
-hurt-heard c past by k s h i hurt es l a = i.heard es l a ∙ rw (hurt, same-cond (same_link i.message.link l)) refl
+hurt-heard c past by k s h i hurt es l a = i.heard es l a ∙ rw (hurt, same-cond (goes_over i.message.link l)) refl
 
 -- a slot by which nothing moves adds nothing
 still-by : (c : Parts) (past : List LogEntry) (by : PortId) (es : List Event) (sound : IsSound c) (k : Known c past) (o : Option Slot) (s : Slot) → open_slot past ≡ o → SlotIs c (is_sleep_asked past) k.states o → o ≡ Some s → is_still (pdu_of s) s.hurt ≡ true
@@ -156,13 +157,11 @@ still-by c past by es sound k (Some _) s is (sleep table entry due left false on
     absurd (let t : Slot = sleep_slot table entry due left false in let same : t ≡ s = cc in let bad : false ≡ true = ap (λ (y : Slot). is_still (pdu_of y) y.hurt) same ∙ still in cc)
 still-by c past by es sound k (Some _) s is (carries table entry due left hurt g m ms j only host r n) e still l a =
     absurd (
-    let f : List ℕ = frame (nad_on c m.link) m.bytes j
+    let f : List ℕ = frame (address c m.link) m.bytes j
     in let t : Slot = frame_slot table entry due left hurt m.link f
     in let go : CanGo c g m = first-go c g (accepted_from past g) (heard_on c past) (signs c past) (k.states g) m ms r (k.hosts g)
-    in let b : HasNad c m.link.node = has-nad c m.link.node go.link.address
-    in let frame_of_it : IsFrameOf b.n f = subst (λ (x : ℕ). IsFrameOf x f) (nad-is c m.link b.n b.is) (frame-is (nad_on c m.link) m.bytes j)
     in let same : t ≡ s = cc
-    in let pdu_is = pdu-frame table entry due left hurt m.link.node m.link.dir f b.n (sound.some m.link.node b.n b.is) frame_of_it
+    in let pdu_is = pdu-frame table entry due left hurt m.link.node m.link.dir f (address c m.link) (some-address c m.link sound (place-of c g m go)) (frame-is (address c m.link) m.bytes j)
     in let bad : false ≡ true = sym (ap (λ (x : Pdu). is_still x hurt) pdu_is) ∙ ap (λ (y : Slot). is_still (pdu_of y) y.hurt) same ∙ still
     in cc
     )
@@ -186,13 +185,11 @@ sleep-by c past by es sound k (Some _) s is (sleep table entry due left false on
     finish-heard c past by es (sleep_slot table entry due left false) l is ∙ ap (λ (x : List Heard). x ++ heard_on c past l) (sleep-good c table entry due left l.node l.dir sound (has-nad c l.node a)).heard
 sleep-by c past by es sound k (Some _) s is (carries table entry due left hurt g m ms j only host r n) e pdu calm l a =
     absurd (
-    let f : List ℕ = frame (nad_on c m.link) m.bytes j
+    let f : List ℕ = frame (address c m.link) m.bytes j
     in let t : Slot = frame_slot table entry due left hurt m.link f
     in let go : CanGo c g m = first-go c g (accepted_from past g) (heard_on c past) (signs c past) (k.states g) m ms r (k.hosts g)
-    in let b : HasNad c m.link.node = has-nad c m.link.node go.link.address
-    in let frame_of_it : IsFrameOf b.n f = subst (λ (x : ℕ). IsFrameOf x f) (nad-is c m.link b.n b.is) (frame-is (nad_on c m.link) m.bytes j)
     in let same : t ≡ s = cc
-    in let pdu_is = pdu-frame table entry due left hurt m.link.node m.link.dir f b.n (sound.some m.link.node b.n b.is) frame_of_it
+    in let pdu_is = pdu-frame table entry due left hurt m.link.node m.link.dir f (address c m.link) (some-address c m.link sound (place-of c g m go)) (frame-is (address c m.link) m.bytes j)
     in let bad : OfMessage _ ≡ Sleep = sym pdu_is ∙ ap pdu_of same ∙ pdu
     in cc
     )
@@ -210,11 +207,11 @@ timeout-own : (c : Parts) (past : List LogEntry) (by : PortId) (node : ℕ) (dir
 timeout-own c past by node dir es e = rw e refl
 
 -- == a good frame is heard
-with-nad : (n : ℕ) (f : List ℕ) (heard : List Heard) → slice_index f 0 ≡ n → heard_with n f heard ≡ Frame f ∷ heard
-with-nad n f heard e = rw (e, eqb-self n) refl
+heard-to : (e : Ear) (f : List ℕ) (heard : List Heard) → looks_at e (slice_index f 0) ≡ true → heard_to e f heard ≡ Frame f ∷ heard
+heard-to e f heard looks = rw looks refl
 
-other-link : (l x : Link) (b : Bool) → same_link l x ≡ b → x ≢ l → b ≡ false
-other-link l x true e differ = absurd (differ (sym (same-is l x e)))
+other-link : (l x : Link) (b : Bool) → goes_over l x ≡ b → x ≢ l → b ≡ false
+other-link l x true e differ = absurd (differ (sym (over-is l x e)))
 other-link l x false e differ = refl
 
 -- what the receivers stand for then, and what the link's receiver gave
@@ -223,25 +220,27 @@ pub record HeardFrame (c : Parts) (past past' : List LogEntry) (l : Link) (given
   pub gains : drop (length (reading c past l)) (reading c past' l) ≡ option_to_list given
 
 pub heard-frame : (c : Parts) (past : List LogEntry) (by : PortId) (es : List Event) (k : Known c past) (s : Slot) (h : ℕ) (i : CarriesFrame c past by k s h) (given : Option (List ℕ)) (rs rs' : List Receivers) → s.hurt ≡ false
-    → HearsOn i.message.link (frame (nad_on c i.message.link) i.message.bytes (k.states h).count) given rs rs' → KeepsHeard c past rs → HeardFrame c past (entry_is by Finish es ∷ past) i.message.link given rs'
+    → HearsOn i.message.link (frame (address c i.message.link) i.message.bytes (k.states h).count) given rs rs' → KeepsHeard c past rs → HeardFrame c past (entry_is by Finish es ∷ past) i.message.link given rs'
 heard-frame c past by es k s h i given rs rs' calm on kept =
     let l : Link = i.message.link
-    in let n : ℕ = nad_on c l
+    in let e : Ear = ear_on c l
+    in let n : ℕ = address c l
     in let f : List ℕ = frame n i.message.bytes (k.states h).count
     in let past' : List LogEntry = entry_is by Finish es ∷ past
     in let before : List Heard = heard_on c past l
     in let heard : heard_on c past' l ≡ Frame f ∷ before = i.heard es l i.link.address ∙ rw (same-self l, calm) refl
     in let was : KeepsReceiver c past l (receiver_in l.dir on.was) = kept.each l.node on.was l.dir on.there i.link.address
-    in let hears : Hears (receiver_in l.dir on.was) f before given (receiver_in l.dir on.is) = on.hears before was.stands
-    in let all : heard_with n f before ≡ heard_on c past' l = with-nad n f before (frame-address n i.message.bytes (k.states h).count) ∙ sym heard
-    in let read : messages_in n (heard_with n f before) ≡ messages_in n before ++ option_to_list given
-    = subst (λ (x : ℕ). messages_in x (heard_with x f before) ≡ messages_in x before ++ option_to_list given) was.nad_is hears.reads
-    in let reads : reading c past' l ≡ reading c past l ++ option_to_list given = ap (messages_in n) (sym all) ∙ read
-    in let stands : Stands (receiver_in l.dir on.is) (heard_on c past' l)
-    = subst (λ (x : List Heard). Stands (receiver_in l.dir on.is) x) all (subst (λ (x : ℕ). Stands (receiver_in l.dir on.is) (heard_with x f before)) was.nad_is hears.stands)
+    in let hears : Reads (receiver_in l.dir on.was) f before given (receiver_in l.dir on.is) = on.hears before was.stands
+    in let looks : looks_at e (slice_index f 0) ≡ true = rw (frame-address n i.message.bytes (k.states h).count) (i.looks)
+    in let all : heard_to e f before ≡ heard_on c past' l = heard-to e f before looks ∙ sym heard
+    in let read : messages_to e (heard_to e f before) ≡ messages_to e before ++ option_to_list given
+    = subst (λ (x : Ear). messages_to x (heard_to x f before) ≡ messages_to x before ++ option_to_list given) was.ear_is hears.reads
+    in let reads : reading c past' l ≡ reading c past l ++ option_to_list given = ap (messages_to e) (sym all) ∙ read
+    in let stands : HasHeard (receiver_in l.dir on.is) (heard_on c past' l)
+    = subst (λ (x : List Heard). HasHeard (receiver_in l.dir on.is) x) all (subst (λ (x : Ear). HasHeard (receiver_in l.dir on.is) (heard_to x f before)) was.ear_is hears.stands)
     in record {
-      keeps = rw on.set (heard-one c past past' rs l on.was on.is on.there (record { nad_is = hears.address ∙ was.nad_is; stands = stands }) on.other
-          (λ x a differ. i.heard es x a ∙ rw (other-link l x (same_link l x) refl differ) refl) kept);
+      keeps = rw on.set (heard-one c past past' rs l on.was on.is on.there (record { ear_is = hears.ear ∙ was.ear_is; stands = stands }) on.other
+          (λ x a differ. i.heard es x a ∙ rw (other-link l x (goes_over l x) refl differ) refl) kept);
       gains = ap (drop (length (reading c past l))) reads ∙ drop_at (reading c past l) (option_to_list given) (length (reading c past l)) refl;
     }
 

@@ -6,8 +6,8 @@ use Rattle.std.proofs.lemmas.List.{append-nil}
 use Rattle.std.specs.Option.{option_map_or}
 use Rattle.lin_cluster_parts.specs.declared.parts.Parts.{Parts}
 use Rattle.lin_cluster_parts.specs.Cluster.{nad, line_of}
-use Rattle.lin_core.specs.History.{Slot, open_slot, slot_after_events, leave, slot_after_hurt, is_sleep_asked, done}
-use Rattle.lin_core.specs.Links.{Link, link_of, Message, host_of, accepted_from, Fate, nad_on, signs, heard_on, blocks, waits, is_waiting, sendings, Sending}
+use Rattle.lin_core.specs.History.{Slot, open_slot, slot_after_events, leave, is_sleep_asked}
+use Rattle.lin_core.specs.Links.{Link, link_of, Message, host_of, accepted_from, Fate, ear_on, signs, heard_on, blocks, waits, is_waiting, sendings, Sending}
 use Rattle.lin_core.specs.Slots.{put, header, due_nodes, next_due}
 use Rattle.lin_core.specs.Replies.{refusal, put_event, done_events, reply}
 use Rattle.lin_cluster_parts.specs.Sound.{IsSound}
@@ -20,7 +20,7 @@ use Rattle.lin_core.specs.declared.event.Event.TheVariants.{Put as PutEvent}
 use Rattle.lin_cluster_parts.specs.declared.parts.Entry.{Entry}
 use Rattle.lin_core.specs.declared.reply.Reply.TheVariants.{Done, Refused}
 use Rattle.lin_core.specs.declared.reply.Refusal.{Refusal}
-use Rattle.lin_core.proofs.sendings.Hosts.{HostState, IsLink, on_link, part, message_of, on, plain, AllDone, outcome}
+use Rattle.lin_core.proofs.sendings.Hosts.{HostState, IsLink, on_link, part, message_of, on, outcome_on, AllDone, outcome}
 use Rattle.lin_core.proofs.sendings.Moves.{advanced, is_last}
 use Rattle.lin_core.proofs.links.Finishes.{finish_entry}
 use Rattle.lin_core.specs.Links.Fate.{Sent}
@@ -29,7 +29,7 @@ use Rattle.lin_core.proofs.steps.Known.{SlotIs, Known, finish-known}
 use Rattle.lin_core.proofs.steps.Known.SlotIs.{closed, other, master, slave, sleep, carries}
 use Rattle.lin_core.proofs.links.Results.{outcomes, track-reads, waiting_one}
 use Rattle.lin_core.proofs.steps.Steps.{step-known, more_if, and-parts, told-due, start-known}
-use Rattle.lin_core.proofs.laws.Ends.{Held, held-now, bytes-on}
+use Rattle.lin_core.proofs.laws.Ends.{Held, held-now}
 use Rattle.lin_core.proofs.links.Tracks.{sent_of}
 
 abbrev AllSent : List (Message × Fate) → Type 0
@@ -137,14 +137,14 @@ left-none [] (m ∷ ms) e = cc
 left-none (p ∷ ps) ms e = left-by (is_waiting p.1) p (filter (λ (p : Message × Fate). is_waiting p.1) (ps ++ map waiting_one ms)) ms (left-none ps ms) e
 
 -- all that was settled was read
-sent-if : (b : Bool) (p : Message × Fate) (ps : List (Message × Fate)) → p.1 ≡ Sent → sent_of (map plain ps) ≡ map (λ (p : List ℕ × Fate). p.0) (map plain ps)
-    → sent_of (map plain (cond b (p ∷ ps) ps)) ≡ map (λ (p : List ℕ × Fate). p.0) (map plain (cond b (p ∷ ps) ps))
-sent-if true p ps s e = rw s (ap (λ (xs : List (List ℕ)). p.0.bytes ∷ xs) e)
-sent-if false p ps s e = e
+sent-if : (c : Parts) (b : Bool) (p : Message × Fate) (ps : List (Message × Fate)) (ms : List Message) → p.1 ≡ Sent → sent_of (map (outcome_on c) ps) ≡ map (λ (m : Message). m.bytes) ms
+    → sent_of (map (outcome_on c) (cond b (p ∷ ps) ps)) ≡ map (λ (m : Message). m.bytes) (cond b (p.0 ∷ ms) ms)
+sent-if c true p ps ms s e = rw s (ap (λ (xs : List (List ℕ)). p.0.bytes ∷ xs) e)
+sent-if c false p ps ms s e = e
 
-sent-all : (l : Link) (ps : List (Message × Fate)) → AllSent ps → sent_of (on_link l ps) ≡ map (λ (p : List ℕ × Fate). p.0) (on_link l ps)
-sent-all l [] a = refl
-sent-all l (p ∷ ps) a = sent-if (on l p.0) p (filter (λ (q : Message × Fate). on l q.0) ps) a.0 (sent-all l ps a.1)
+sent-all : (c : Parts) (l : Link) (ps : List (Message × Fate)) → AllSent ps → sent_of (on_link c l ps) ≡ map (λ (m : Message). m.bytes) (filter (on l) (map message_of ps))
+sent-all c l [] a = refl
+sent-all c l (p ∷ ps) a = sent-if c (on l p.0) p (filter (λ (q : Message × Fate). on l q.0) ps) (filter (on l) (map message_of ps)) a.0 (sent-all c l ps a.1)
 
 calm-reads : (c : Parts) (past : List LogEntry) (l : Link) → IsSound c → is_some (nad c l.node) ≡ true → KnownCalm c past → is_calm past ≡ true → ReadsAll c past l
 calm-reads c past l sound a k q none =
@@ -154,9 +154,8 @@ calm-reads c past l sound a k q none =
     in let out : map (outcome c) (sendings c past (host_of l)) ≡ s.done ++ map waiting_one hh.rest = outcomes c (host_of l) (blocks c past) (accepted_from past (host_of l)) s.done hh.rest hh.block hh.holds
     in let gone : hh.rest ≡ [] = left-none s.done hh.rest (ap (filter (λ (p : Message × Fate). is_waiting p.1)) (sym out) ∙ sym (waits-outcomes c (sendings c past (host_of l))) ∙ ap (map (outcome c)) none)
     in let all : accepted_from past (host_of l) ≡ map message_of s.done = hh.holds.accepted_is ∙ ap (λ (xs : List Message). map message_of s.done ++ xs) gone ∙ append-nil (map message_of s.done)
-    in track-reads (nad_on c l) (heard_on c past l) (signs c past l) (on_link l s.done) (part s.rest s.count l) ((k.known.hosts (host_of l)).links l i)
-    ∙ sent-all l s.done ((k.calm q).sent (host_of l))
-    ∙ sym (bytes-on l s.done)
+    in track-reads (ear_on c l) (heard_on c past l) (signs c past l) (on_link c l s.done) (part c s.rest s.count l) ((k.known.hosts (host_of l)).links l i)
+    ∙ sent-all c l s.done ((k.calm q).sent (host_of l))
     ∙ ap (λ (xs : List Message). map (λ (m : Message). m.bytes) (filter (on l) xs)) (sym all)
 
 pub reads-all : (c : Parts) (opening capacity : ℕ) (steps : List (PortId × Step)) → IsSound c → (l : Link) → is_some (nad c l.node) ≡ true → is_calm (history c opening capacity steps) ≡ true → ReadsAll c (history c opening capacity steps) l

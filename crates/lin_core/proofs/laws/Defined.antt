@@ -3,7 +3,6 @@ use Rattle.lin_core.proofs.examples.Rows.{cluster_a}
 use Rattle.std.proofs.Common.{◌≡◌, ℕ, zero, suc, ◌≤◌, ◌<◌, Bool, true, false, List, [], ◌∷◌, ◌++◌, length, map, refl, sym, ◌∙◌, arith}
 use Rattle.std.specs.Prelude.{Option, Some, None, if◌then◌else◌, zip, slice_index_or, drop}
 use Rattle.lin_frame.specs.Words.{numbers}
-use Rattle.lin_transport.specs.Transport.{frames}
 use Rattle.lin_cluster_parts.specs.declared.parts.Parts.{Parts}
 use Rattle.lin_cluster_parts.specs.Cluster.{nad, nodes, line_of}
 use Rattle.lin_core.specs.History.{Slot, open_slot, seen_of, reply_events, done, done_step, events}
@@ -128,26 +127,26 @@ unfolding reply
 dues-told c opening capacity s earlier = step-due c opening (history c opening capacity earlier) s.0 s.1 (refusal c capacity (history c opening capacity earlier) s.0 s.1)
 
 -- blocks by index
-pub order-few : (n : ℕ) (ms : List (List ℕ)) (bs : List (List Sign)) → InOrder n ms bs → length bs ≤ length ms
-order-few n ms [] o = omega arith
-order-few n [] (b ∷ bs) o = absurd o
-order-few n (m ∷ ms) (b ∷ []) o = omega arith
-order-few n (m ∷ ms) (b ∷ d ∷ bs) o = let r = order-few n ms (d ∷ bs) o.2 in omega arith
+pub order-few : (fss : List (List (List ℕ))) (bs : List (List Sign)) → InOrder fss bs → length bs ≤ length fss
+order-few fss [] o = omega arith
+order-few [] (b ∷ bs) o = absurd o
+order-few (fs ∷ fss) (b ∷ []) o = omega arith
+order-few (fs ∷ fss) (b ∷ d ∷ bs) o = let r = order-few fss (d ∷ bs) o.2 in omega arith
 
-pub order-begins : (n : ℕ) (ms : List (List ℕ)) (bs : List (List Sign)) → InOrder n ms bs → (i : ℕ) → i < length bs → IsPrefix (frames_of (slice_index_or bs i [])) (frames n (slice_index_or ms i []))
-order-begins n ms [] o i l = absurd (omega arith)
-order-begins n [] (b ∷ bs) o i l = absurd o
-order-begins n (m ∷ ms) (b ∷ []) o zero l = o
-order-begins n (m ∷ ms) (b ∷ []) o (suc i) l = absurd (omega arith)
-order-begins n (m ∷ ms) (b ∷ d ∷ bs) o zero l = o.0
-order-begins n (m ∷ ms) (b ∷ d ∷ bs) o (suc i) l = order-begins n ms (d ∷ bs) o.2 i (omega arith)
+pub order-begins : (fss : List (List (List ℕ))) (bs : List (List Sign)) → InOrder fss bs → (i : ℕ) → i < length bs → IsPrefix (frames_of (slice_index_or bs i [])) (slice_index_or fss i [])
+order-begins fss [] o i l = absurd (omega arith)
+order-begins [] (b ∷ bs) o i l = absurd o
+order-begins (fs ∷ fss) (b ∷ []) o zero l = o
+order-begins (fs ∷ fss) (b ∷ []) o (suc i) l = absurd (omega arith)
+order-begins (fs ∷ fss) (b ∷ d ∷ bs) o zero l = o.0
+order-begins (fs ∷ fss) (b ∷ d ∷ bs) o (suc i) l = order-begins fss (d ∷ bs) o.2 i (omega arith)
 
-pub order-settled : (n : ℕ) (ms : List (List ℕ)) (bs : List (List Sign)) → InOrder n ms bs → (i : ℕ) → suc i < length bs → is_waiting (fate (frames n (slice_index_or ms i [])) (slice_index_or bs i [])) ≡ false
-order-settled n ms [] o i l = absurd (omega arith)
-order-settled n [] (b ∷ bs) o i l = absurd o
-order-settled n (m ∷ ms) (b ∷ []) o i l = absurd (omega arith)
-order-settled n (m ∷ ms) (b ∷ d ∷ bs) o zero l = o.1
-order-settled n (m ∷ ms) (b ∷ d ∷ bs) o (suc i) l = order-settled n ms (d ∷ bs) o.2 i (omega arith)
+pub order-settled : (fss : List (List (List ℕ))) (bs : List (List Sign)) → InOrder fss bs → (i : ℕ) → suc i < length bs → is_waiting (fate (slice_index_or fss i []) (slice_index_or bs i [])) ≡ false
+order-settled fss [] o i l = absurd (omega arith)
+order-settled [] (b ∷ bs) o i l = absurd o
+order-settled (fs ∷ fss) (b ∷ []) o i l = absurd (omega arith)
+order-settled (fs ∷ fss) (b ∷ d ∷ bs) o zero l = o.1
+order-settled (fs ∷ fss) (b ∷ d ∷ bs) o (suc i) l = order-settled fss (d ∷ bs) o.2 i (omega arith)
 
 -- the cluster of the worked rows is sound
 nad-one : (j n : ℕ) → nad cluster_a j ≡ Some n → (j ≡ 1) × (n ≡ 1)
@@ -159,6 +158,8 @@ pub sound-a : IsSound cluster_a
 sound-a = record {
   apart = λ j k n p q. (nad-one j n p).0 ∙ sym (nad-one k n q).0;
   some = λ k n p. let h : n ≡ 1 = (nad-one k n p).1 in omega arith;
+  most = λ k n p. let h : n ≡ 1 = (nad-one k n p).1 in omega arith;
+  few = λ k n p. let h : k ≡ 1 = (nad-one k n p).0 in omega arith;
   commander = refl;
   frames = λ f. record { request = λ e. omega arith; response = λ e. omega arith };
   events = λ f. record { request = λ e. omega arith; response = λ e. omega arith };

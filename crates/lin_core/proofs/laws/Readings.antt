@@ -5,12 +5,13 @@ use Rattle.std.proofs.lemmas.Bool.Decides.{eqb_tells}
 use Rattle.std.proofs.lemmas.Bool.{ne_eqb}
 use Rattle.std.proofs.lemmas.List.{append-nil, map-append, drop_at}
 use Rattle.lin_frame.specs.Words.{numbers}
-use Rattle.lin_transport.specs.Transport.{Heard, pieces, messages_in}
+use Rattle.lin_transport.specs.Transport.{Ear, Heard, pieces, messages_to}
+use Rattle.lin_transport.proofs.Pieces.{reads-nothing}
 use Rattle.lin_transport.specs.Transport.Heard.{Reset}
 use Rattle.lin_cluster_parts.specs.declared.parts.Parts.{Parts}
 use Rattle.lin_cluster_parts.specs.Cluster.{nad, nodes, line_of}
 use Rattle.lin_core.specs.History.{Slot, open_slot, seen_of, reply_events}
-use Rattle.lin_core.specs.Links.{Link, same_dir, same_link, Message, host_of, Fate, nad_on, signs, heard_on, waits, reading, Sending, sendings, fate_of}
+use Rattle.lin_core.specs.Links.{Link, same_dir, same_link, Message, host_of, Fate, ear_on, signs, heard_on, waits, reading, Sending, sendings, fate_of}
 use Rattle.lin_core.specs.Links.Sign.{Mark}
 use Rattle.lin_core.specs.Slots.{put, due_nodes, next_due}
 use Rattle.lin_core.specs.Replies.{refusal, put_event, done_events, reply, receiver_of, report, reports, all_reports, new_messages, all_links, finish_events, quiet_entry, sleeps, link_at}
@@ -40,7 +41,7 @@ use Rattle.lin_core.proofs.laws.Fixed.{Grows, finish-grows}
 use Rattle.std.proofs.lemmas.List.Elements.{filter_map-append}
 use Rattle.std.specs.Option.{option_map_or}
 use Rattle.lin_core.specs.Reports.{message_for, TellsReading}
-use Rattle.lin_core.proofs.links.Tracks.{sent_of, if_sent, reads-nothing}
+use Rattle.lin_core.proofs.links.Tracks.{sent_of, if_sent}
 use Rattle.lin_core.proofs.laws.Reports.{flat-append, index-some}
 
 own-messages : (l : Link) (a b : ℕ) (q : Bool) (ms : List (List ℕ)) → (a == host_of l && b == receiver_of l.dir l.node) ≡ q → filter_map (message_for l) (map (λ m. MessageEvent a b m) ms) ≡ (if q then ms else [])
@@ -156,17 +157,17 @@ grows-reading c past past' l a k k' g =
     let i : IsLink c (host_of l) l = record { host = refl; address = a }
     in let s : HostState = k.states (host_of l)
     in let s' : HostState = k'.states (host_of l)
-    in let old : reading c past l ≡ sent_of (on_link l s.done) = track-reads (nad_on c l) (heard_on c past l) (signs c past l) (on_link l s.done) (part s.rest s.count l) ((k.hosts (host_of l)).links l i)
-    in let new : reading c past' l ≡ sent_of (on_link l s'.done) = track-reads (nad_on c l) (heard_on c past' l) (signs c past' l) (on_link l s'.done) (part s'.rest s'.count l) ((k'.hosts (host_of l)).links l i)
-    in let more : List (List ℕ) = sent_of (on_link l g.more)
+    in let old : reading c past l ≡ sent_of (on_link c l s.done) = track-reads (ear_on c l) (heard_on c past l) (signs c past l) (on_link c l s.done) (part c s.rest s.count l) ((k.hosts (host_of l)).links l i)
+    in let new : reading c past' l ≡ sent_of (on_link c l s'.done) = track-reads (ear_on c l) (heard_on c past' l) (signs c past' l) (on_link c l s'.done) (part c s'.rest s'.count l) ((k'.hosts (host_of l)).links l i)
+    in let more : List (List ℕ) = sent_of (on_link c l g.more)
     in let e : reading c past' l ≡ reading c past l ++ more
-    = new ∙ ap (λ (ps : List (Message × Fate)). sent_of (on_link l ps)) g.is ∙ ap sent_of (on-append l s.done g.more) ∙ filter_map-append if_sent (on_link l s.done) (on_link l g.more)
+    = new ∙ ap (λ (ps : List (Message × Fate)). sent_of (on_link c l ps)) g.is ∙ ap sent_of (on-append c l s.done g.more) ∙ filter_map-append if_sent (on_link c l s.done) (on_link c l g.more)
     ∙ ap (λ (xs : List (List ℕ)). xs ++ more) (sym old)
     in e ∙ ap (λ (xs : List (List ℕ)). reading c past l ++ xs) (sym (ap (drop (length (reading c past l))) e ∙ drop_at (reading c past l) more (length (reading c past l)) refl))
 
-timeout-reading : (n : ℕ) (b : Bool) (heard : List Heard) → messages_in n (((if is_some (if b then Some (Mark TimedOut) else None) then Reset ∷ [] else []) ++ []) ++ heard) ≡ messages_in n heard
-timeout-reading n true heard = reads-nothing n (pieces heard) [] refl
-timeout-reading n false heard = refl
+timeout-reading : (e : Ear) (b : Bool) (heard : List Heard) → messages_to e (((if is_some (if b then Some (Mark TimedOut) else None) then Reset ∷ [] else []) ++ []) ++ heard) ≡ messages_to e heard
+timeout-reading e true heard = reads-nothing e (pieces heard) [] refl
+timeout-reading e false heard = refl
 
 no-due : (l : Link) (ns : List ℕ) → filter_map (message_for l) (map Due ns) ≡ []
 no-due l [] = refl
@@ -197,7 +198,7 @@ step-reading c opening capacity past port Finish l sound a k None e =
     in let g : Grows (k.states (host_of l)) (k'.states (host_of l)) = finish-grows c past port [] sound k (open_slot past) refl k.slot (host_of l)
     in ap (λ (xs : List (List ℕ)). reading c past l ++ xs) (finish-messages c port past l sound a) ∙ sym (grows-reading c past (finish_entry port [] ∷ past) l a k k' g)
 step-reading c opening capacity past port (Timeout node dir) l sound a k None e =
-    quiet-reading (reading c past l) _ (no-all c (quiet_entry port (Timeout node dir)) past l (numbers (nodes c))) ∙ sym (timeout-reading (nad_on c l) (same_link l (record_of node dir)) (heard_on c past l))
+    quiet-reading (reading c past l) _ (no-all c (quiet_entry port (Timeout node dir)) past l (numbers (nodes c))) ∙ sym (timeout-reading (ear_on c l) (same_link l (record_of node dir)) (heard_on c past l))
 step-reading c opening capacity past port (Switch table) l sound a k None e = append-nil (reading c past l)
 step-reading c opening capacity past port AskSleep l sound a k None e = append-nil (reading c past l)
 step-reading c opening capacity past port Wake l sound a k None e = append-nil (reading c past l)

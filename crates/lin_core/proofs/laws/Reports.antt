@@ -8,7 +8,7 @@ use Rattle.std.proofs.lemmas.List.{append-nil, map-append, append_cancel_left}
 use Rattle.lin_frame.specs.Words.{numbers}
 use Rattle.lin_cluster_parts.specs.declared.parts.Parts.{Parts}
 use Rattle.lin_cluster_parts.specs.Cluster.{nodes, line_of}
-use Rattle.lin_core.specs.History.{Slot, open_slot, slot_after_hurt, is_sleep_asked, seen_of}
+use Rattle.lin_core.specs.History.{Slot, open_slot, is_sleep_asked, seen_of}
 use Rattle.lin_core.specs.Links.{Link, same_link, link_of, Message, host_of, accepted_from, Sign, Fate, blocks, waits, reading, is_waiting, Sending, sendings, sendings_from, fate_of}
 use Rattle.lin_core.specs.Slots.{put, due_nodes, next_due}
 use Rattle.lin_core.specs.Replies.{refusal, refusals, put_event, opening_events, done_events, reply, receiver_of, report, reports, all_reports, new_messages, all_links, finish_events, quiet_entry, sleeps}
@@ -59,11 +59,11 @@ length-more [] m = refl
 length-more (x ∷ xs) m = ap suc (length-more xs m)
 
 reports-changed : (c : Parts) (h k : ℕ) (B B' : Link → List (List Sign)) (before before' ms ms' : List Message) → suc (length before') ≡ k
-    → flat_map (told_of c h) (zip (sendings_from B before ms) (sendings_from B' before' ms')) ≡ changed h k (map (outcome c) (sendings_from B before ms)) (map (outcome c) (sendings_from B' before' ms'))
+    → flat_map (told_of c h) (zip (sendings_from c B before ms) (sendings_from c B' before' ms')) ≡ changed h k (map (outcome c) (sendings_from c B before ms)) (map (outcome c) (sendings_from c B' before' ms'))
 reports-changed c h k B B' before before' [] ms' e = refl
 reports-changed c h k B B' before before' (m ∷ ms) [] e = refl
 reports-changed c h k B B' before before' (m ∷ ms) (m' ∷ ms') e =
-    rw e (ap (λ (xs : List Event). (if waits c (sending_at B before m) then report h k (fate_of c (sending_at B' before' m')) else []) ++ xs) (reports-changed c h (suc k) B B' (before ++ m ∷ []) (before' ++ m' ∷ []) ms ms' (ap suc (length-more before' m' ∙ e))))
+    rw e (ap (λ (xs : List Event). (if waits c (sending_at c B before m) then report h k (fate_of c (sending_at c B' before' m')) else []) ++ xs) (reports-changed c h (suc k) B B' (before ++ m ∷ []) (before' ++ m' ∷ []) ms ms' (ap suc (length-more before' m' ∙ e))))
 
 changed-done : (c : Parts) (x h k : ℕ) (ps xs ys : List (Message × Fate)) → AllDone c x ps → changed h k (ps ++ xs) (ps ++ ys) ≡ changed h (ahead k ps) xs ys
 changed-done c x h k [] xs ys d = refl

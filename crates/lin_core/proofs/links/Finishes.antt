@@ -12,7 +12,7 @@ use Rattle.lin_transport.specs.Transport.Heard.{Reset}
 use Rattle.lin_cluster_parts.specs.declared.parts.Parts.{Parts}
 use Rattle.lin_cluster_parts.specs.Cluster.{nad}
 use Rattle.lin_core.specs.History.{Slot, open_slot, seen_of, header_is, good_under, is_sleep_slot}
-use Rattle.lin_core.specs.Links.{Link, same_dir, same_link, host_of, Sign, nad_on, put_signs, signs, heard_on, heard_good, diagnostic_header}
+use Rattle.lin_core.specs.Links.{Link, same_dir, host_of, Sign, address, ear_on, goes_over, nad_on, put_signs, signs, heard_on, heard_good, diagnostic_header}
 use Rattle.lin_core.specs.Links.Sign.{Mark}
 use Rattle.lin_core.specs.Slots.{with_classic, sleep_frame}
 use Rattle.lin_cluster_parts.specs.Sound.{IsSound}
@@ -36,7 +36,7 @@ abbrev pub slot_signs : Parts → Slot → Link → List Sign
 slot_signs c s l = cons_option (if is_sleep_slot s then Some (Mark Slept) else None) (put_signs c l (Some (seen_of s)) s)
 
 abbrev pub slot_heard : Parts → Slot → Link → List Heard
-slot_heard c s l = (if is_sleep_slot s then Reset ∷ [] else []) ++ option_map_or (heard_good (nad_on c l)) (good_under (diagnostic_header l.dir) s) []
+slot_heard c s l = (if is_sleep_slot s then Reset ∷ [] else []) ++ option_map_or (heard_good (ear_on c l)) (good_under (diagnostic_header l.dir) s) []
 
 pub mark-some : (b : Bool) → is_some (if b then Some (Mark Slept) else None) ≡ b
 mark-some true = refl
@@ -165,7 +165,14 @@ frame-adds-by c table entry due left false a b Up Down f n k sound p q i = rw (a
 pub nad-is : (c : Parts) (l : Link) (n : ℕ) → nad c l.node ≡ Some n → nad_on c l ≡ n
 nad-is c l n e = ap (λ (o : Option ℕ). unwrap_or o 0) e
 
-pub frame-adds : (c : Parts) (table entry : ℕ) (due left : List ℕ) (hurt : Bool) (m l : Link) (f : List ℕ) → IsSound c → HasNad c m.node → HasNad c l.node → IsFrameOf (nad_on c m) f
-    → Adds c (frame_slot table entry due left hurt m f) l (same_link m l) hurt f
-frame-adds c table entry due left hurt m l f sound p q i =
-    frame-adds-by c table entry due left hurt m.node l.node m.dir l.dir f p.n q.n sound p.is q.is (rw (nad-is c m p.n p.is) at i)
+-- where a message goes: a node that has an address
+abbrev pub IsPlace : Parts → Link → Type 0
+IsPlace c to = HasNad c to.node
+
+pub some-address : (c : Parts) (to : Link) → IsSound c → IsPlace c to → 1 ≤ address c to
+some-address c to sound p = rw (nad-is c to p.n p.is) (sound.some to.node p.n p.is)
+
+pub frame-adds : (c : Parts) (table entry : ℕ) (due left : List ℕ) (hurt : Bool) (to l : Link) (f : List ℕ) → IsSound c → IsPlace c to → HasNad c l.node → IsFrameOf (address c to) f
+    → Adds c (frame_slot table entry due left hurt to f) l (goes_over to l) hurt f
+frame-adds c table entry due left hurt to l f sound p q i =
+    frame-adds-by c table entry due left hurt to.node l.node to.dir l.dir f p.n q.n sound p.is q.is (rw (nad-is c to p.n p.is) at i)

@@ -3,10 +3,11 @@ use Rattle.std.proofs.Common.{◌≡◌, ℕ, zero, suc, ◌<◌, Bool, true, fa
 use Rattle.std.specs.Prelude.{Option, Some, None, ◌&&◌, ◌==◌, if◌then◌else◌}
 use Rattle.std.proofs.lemmas.Bool.Decides.{eqb_tells, nat_tests}
 use Rattle.std.proofs.lemmas.List.{append-nil, map-append}
-use Rattle.lin_transport.specs.Transport.{frame, frame_count, Heard, CanSend}
+use Rattle.lin_transport.specs.Law.{Addressed, IsFor}
+use Rattle.lin_transport.specs.Transport.{frame, frame_count, Ear, Heard}
 use Rattle.lin_transport.specs.Transport.Heard.{Frame, Reset}
 use Rattle.lin_cluster_parts.specs.declared.parts.Parts.{Parts}
-use Rattle.lin_core.specs.Links.{Link, same_dir, same_link, Message, Sign, Fate, nad_on}
+use Rattle.lin_core.specs.Links.{Link, same_dir, same_link, Message, Sign, Fate, address, ear_on, goes_over, home, host_of}
 use Rattle.lin_core.specs.Links.Sign.{Mark}
 use Rattle.lin_core.specs.Links.Fate.{Sent, Lost}
 use Rattle.lin_core.specs.declared.link.Cause.{Cause}
@@ -16,40 +17,40 @@ use Rattle.lin_core.specs.declared.link.Direction.TheVariants.{Down, Up}
 use Rattle.lin_transport.proofs.Frames.{count-some, and-false}
 use Rattle.lin_core.proofs.links.Fates.{good_sign, hurt_sign}
 use Rattle.lin_core.proofs.links.Tracks.{idle-mark, busy-mark, idle-hurt, busy-hurt, idle-whole, idle-part, busy-part, busy-whole}
-use Rattle.lin_core.proofs.sendings.Hosts.{HostState, HostIs, LinkIs, IsLink, IsCount, IsDone, AllDone, CanGo, AllCanGo, on_link, on-append, message_of, part, part-there}
+use Rattle.lin_core.proofs.sendings.Hosts.{HostState, HostIs, LinkIs, IsLink, IsCount, IsDone, AllDone, CanGo, AllCanGo, addressed, on, on_link, on-append, message_of, part, part-there}
 
 abbrev pub record_of : ℕ → Direction → Link
 record_of a d = record { node = a; dir = d }
 
 -- the first message's part in a link: nothing where it goes over another or was not begun
-abbrev pub busy_if : Bool → List ℕ → ℕ → Option (List ℕ × ℕ)
+abbrev pub busy_if : Bool → Addressed → ℕ → Option (Addressed × ℕ)
 busy_if b m zero = None
 busy_if b m (suc j) = if b then Some (m, j) else None
 
-pub link-last : (n : ℕ) (heard : List Heard) (signs : List Sign) (ps : List (List ℕ × Fate)) (m : List ℕ) (k : ℕ) → CanSend m → suc k ≡ frame_count (length m)
-    → LinkIs n heard signs ps (busy_if true m k) → LinkIs n (Frame (frame n m k) ∷ heard) (good_sign (frame n m k) ∷ signs) (ps ++ (m, Sent) ∷ []) None
-link-last n heard signs ps m zero can last t = record { heard_is = ap (λ (x : List Heard). Frame (frame n m 0) ∷ x) t.heard_is; track = idle-whole n signs ps m can (sym last) t.track }
-link-last n heard signs ps m (suc j) can last t = record { heard_is = ap (λ (x : List Heard). Frame (frame n m (suc j)) ∷ x) t.heard_is; track = busy-whole n signs ps m j (sym last) t.track }
+pub link-last : (e : Ear) (heard : List Heard) (signs : List Sign) (ps : List (Addressed × Fate)) (m : Addressed) (k : ℕ) → IsFor e m → suc k ≡ frame_count (length m.bytes)
+    → LinkIs e heard signs ps (busy_if true m k) → LinkIs e (Frame (frame m.nad m.bytes k) ∷ heard) (good_sign (frame m.nad m.bytes k) ∷ signs) (ps ++ (m, Sent) ∷ []) None
+link-last e heard signs ps m zero can last t = record { heard_is = ap (λ (x : List Heard). Frame (frame m.nad m.bytes 0) ∷ x) t.heard_is; track = idle-whole e signs ps m can (sym last) t.track }
+link-last e heard signs ps m (suc j) can last t = record { heard_is = ap (λ (x : List Heard). Frame (frame m.nad m.bytes (suc j)) ∷ x) t.heard_is; track = busy-whole e signs ps m j (sym last) t.track }
 
-pub link-more : (n : ℕ) (heard : List Heard) (signs : List Sign) (ps : List (List ℕ × Fate)) (m : List ℕ) (k : ℕ) → CanSend m → suc k < frame_count (length m)
-    → LinkIs n heard signs ps (busy_if true m k) → LinkIs n (Frame (frame n m k) ∷ heard) (good_sign (frame n m k) ∷ signs) ps (Some (m, k))
-link-more n heard signs ps m zero can more t = record { heard_is = ap (λ (x : List Heard). Frame (frame n m 0) ∷ x) t.heard_is; track = idle-part n signs ps m can more t.track }
-link-more n heard signs ps m (suc j) can more t = record { heard_is = ap (λ (x : List Heard). Frame (frame n m (suc j)) ∷ x) t.heard_is; track = busy-part n signs ps m j more t.track }
+pub link-more : (e : Ear) (heard : List Heard) (signs : List Sign) (ps : List (Addressed × Fate)) (m : Addressed) (k : ℕ) → IsFor e m → suc k < frame_count (length m.bytes)
+    → LinkIs e heard signs ps (busy_if true m k) → LinkIs e (Frame (frame m.nad m.bytes k) ∷ heard) (good_sign (frame m.nad m.bytes k) ∷ signs) ps (Some (m, k))
+link-more e heard signs ps m zero can more t = record { heard_is = ap (λ (x : List Heard). Frame (frame m.nad m.bytes 0) ∷ x) t.heard_is; track = idle-part e signs ps m can more t.track }
+link-more e heard signs ps m (suc j) can more t = record { heard_is = ap (λ (x : List Heard). Frame (frame m.nad m.bytes (suc j)) ∷ x) t.heard_is; track = busy-part e signs ps m j more t.track }
 
-pub link-hurt : (n : ℕ) (heard : List Heard) (signs : List Sign) (ps : List (List ℕ × Fate)) (m : List ℕ) (k : ℕ) → CanSend m
-    → LinkIs n heard signs ps (busy_if true m k) → LinkIs n heard (hurt_sign (frame n m k) ∷ signs) (ps ++ (m, Lost Damaged) ∷ []) None
-link-hurt n heard signs ps m zero can t = record { heard_is = t.heard_is; track = idle-hurt n signs ps m can t.track }
-link-hurt n heard signs ps m (suc j) can t = record { heard_is = t.heard_is; track = busy-hurt n signs ps m j t.track }
+pub link-hurt : (e : Ear) (heard : List Heard) (signs : List Sign) (ps : List (Addressed × Fate)) (m : Addressed) (k : ℕ) → IsFor e m
+    → LinkIs e heard signs ps (busy_if true m k) → LinkIs e heard (hurt_sign (frame m.nad m.bytes k) ∷ signs) (ps ++ (m, Lost Damaged) ∷ []) None
+link-hurt e heard signs ps m zero can t = record { heard_is = t.heard_is; track = idle-hurt e signs ps m can t.track }
+link-hurt e heard signs ps m (suc j) can t = record { heard_is = t.heard_is; track = busy-hurt e signs ps m j t.track }
 
 -- the messages after a mark
-abbrev pub cut_by : Cause → List (List ℕ × Fate) → Option (List ℕ × ℕ) → List (List ℕ × Fate)
+abbrev pub cut_by : Cause → List (Addressed × Fate) → Option (Addressed × ℕ) → List (Addressed × Fate)
 cut_by c ps None = ps
 cut_by c ps (Some x) = ps ++ (x.0, Lost c) ∷ []
 
-pub link-mark : (n : ℕ) (heard : List Heard) (signs : List Sign) (ps : List (List ℕ × Fate)) (o : Option (List ℕ × ℕ)) (c : Cause)
-    → LinkIs n heard signs ps o → LinkIs n (Reset ∷ heard) (Mark c ∷ signs) (cut_by c ps o) None
-link-mark n heard signs ps None c t = record { heard_is = ap (λ (x : List Heard). Reset ∷ x) t.heard_is; track = idle-mark n signs ps c t.track }
-link-mark n heard signs ps (Some x) c t = record { heard_is = ap (λ (x : List Heard). Reset ∷ x) t.heard_is; track = busy-mark n signs ps x.0 x.1 c t.track }
+pub link-mark : (e : Ear) (heard : List Heard) (signs : List Sign) (ps : List (Addressed × Fate)) (o : Option (Addressed × ℕ)) (c : Cause)
+    → LinkIs e heard signs ps o → LinkIs e (Reset ∷ heard) (Mark c ∷ signs) (cut_by c ps o) None
+link-mark e heard signs ps None c t = record { heard_is = ap (λ (x : List Heard). Reset ∷ x) t.heard_is; track = idle-mark e signs ps c t.track }
+link-mark e heard signs ps (Some x) c t = record { heard_is = ap (λ (x : List Heard). Reset ∷ x) t.heard_is; track = busy-mark e signs ps x.0 x.1 c t.track }
 
 -- equal links
 pub same-by : (a b : ℕ) (d e : Direction) → (a == b && same_dir d e) ≡ true → record_of a d ≡ record_of b e
@@ -61,10 +62,18 @@ same-by a b Up Down h = absurd (let bad : false ≡ true = rw and-false at h in 
 pub same-is : (a b : Link) → same_link a b ≡ true → a ≡ b
 same-is a b h = same-by a.node b.node a.dir b.dir h
 
--- one more settled message, on its link and on another
-pub on-more : (l : Link) (ps : List (Message × Fate)) (m : Message) (f : Fate) (b : Bool) → same_link m.link l ≡ b → on_link l (ps ++ (m, f) ∷ []) ≡ on_link l ps ++ (if b then (m.bytes, f) ∷ [] else [])
-on-more l ps m f true e = on-append l ps ((m, f) ∷ []) ∙ rw e
-on-more l ps m f false e = on-append l ps ((m, f) ∷ []) ∙ rw e
+-- where a message goes over a link, that is its link
+pub over-is : (to l : Link) → goes_over to l ≡ true → to ≡ l
+over-is to l over = same-is to l over
+
+-- and both have one host
+pub over-host : (to l : Link) → goes_over to l ≡ true → host_of to ≡ host_of l
+over-host to l over = ap host_of (over-is to l over)
+
+-- one more settled message, on a link that it goes over and on another
+pub on-more : (c : Parts) (l : Link) (ps : List (Message × Fate)) (m : Message) (f : Fate) (b : Bool) → on l m ≡ b → on_link c l (ps ++ (m, f) ∷ []) ≡ on_link c l ps ++ (if b then (addressed c m, f) ∷ [] else [])
+on-more c l ps m f true e = on-append c l ps ((m, f) ∷ []) ∙ rw e
+on-more c l ps m f false e = on-append c l ps ((m, f) ∷ []) ∙ rw e
 
 pub done-more : (c : Parts) (h : ℕ) (ps : List (Message × Fate)) (p : Message × Fate) → AllDone c h ps → IsDone c h p → AllDone c h (ps ++ p ∷ [])
 done-more c h [] p d i = (i, tt)
@@ -86,44 +95,45 @@ abbrev pub heard_by : Bool → List ℕ → List Heard
 heard_by hurt f = if hurt then [] else Frame f ∷ []
 
 -- what the frame leaves on a link
-pub record Puts (n : ℕ) (b hurt : Bool) (f : List ℕ) (heard heard' : List Heard) (signs signs' : List Sign) : Type 0 where
+pub record Puts (b hurt : Bool) (f : List ℕ) (heard heard' : List Heard) (signs signs' : List Sign) : Type 0 where
   pub heard_is : heard' ≡ (if b then heard_by hurt f else []) ++ heard
   pub signs_is : signs' ≡ (if b then sign_by hurt f ∷ [] else []) ++ signs
 
 abbrev pub is_last : List ℕ → ℕ → Bool
 is_last m k = suc k == frame_count (length m)
 
-pub part-busy : (m : Message) (ms : List Message) (k : ℕ) (l : Link) (b : Bool) → same_link m.link l ≡ b → part (m ∷ ms) k l ≡ busy_if b m.bytes k
-part-busy m ms zero l b e = refl
-part-busy m ms (suc j) l b e = rw e
+pub part-busy : (c : Parts) (m : Message) (ms : List Message) (k : ℕ) (l : Link) (b : Bool) → on l m ≡ b → part c (m ∷ ms) k l ≡ busy_if b (addressed c m) k
+part-busy c m ms zero l b e = refl
+part-busy c m ms (suc j) l b e = rw e
 
 -- how many frames were good so far
 pub count-less : (c : Parts) (h : ℕ) (accepted : List Message) (heard : Link → List Heard) (signs : Link → List Sign) (done : List (Message × Fate)) (m : Message) (ms : List Message) (k : ℕ)
     → HostIs c h accepted heard signs (record { done = done; rest = m ∷ ms; count = k }) → k < frame_count (length m.bytes)
 count-less c h accepted heard signs done m ms zero t = count-some m.bytes
 count-less c h accepted heard signs done m ms (suc j) t =
-    let busy : LinkIs (nad_on c m.link) (heard m.link) (signs m.link) (on_link m.link done) (Some (m.bytes, j))
-    = subst (λ (o : Option (List ℕ × ℕ)). LinkIs (nad_on c m.link) (heard m.link) (signs m.link) (on_link m.link done) o) (part-there m ms j) (t.links m.link t.can_go.0.link)
+    let l : Link = home c m.link
+    in let busy : LinkIs (ear_on c l) (heard l) (signs l) (on_link c l done) (Some (addressed c m, j))
+    = subst (λ (o : Option (Addressed × ℕ)). LinkIs (ear_on c l) (heard l) (signs l) (on_link c l done) o) (part-there c m ms j l t.can_go.0.over) (t.links l t.can_go.0.home_is)
     in busy.track.more
 
 -- a link that the message does not go over
-pub idle-if : (n : ℕ) (heard : List Heard) (signs : List Sign) (ps : List (List ℕ × Fate)) (m : List ℕ) (k : ℕ) → LinkIs n heard signs ps (busy_if false m k) → LinkIs n heard signs ps None
-idle-if n heard signs ps m zero t = t
-idle-if n heard signs ps m (suc j) t = t
+pub idle-if : (e : Ear) (heard : List Heard) (signs : List Sign) (ps : List (Addressed × Fate)) (m : Addressed) (k : ℕ) → LinkIs e heard signs ps (busy_if false m k) → LinkIs e heard signs ps None
+idle-if e heard signs ps m zero t = t
+idle-if e heard signs ps m (suc j) t = t
 
 -- one link after the frame
-pub link-put : (n : ℕ) (heard heard' : List Heard) (signs signs' : List Sign) (done : List (Message × Fate)) (m : Message) (ms : List Message) (k : ℕ) (l : Link) (b hurt last : Bool)
-    → CanSend m.bytes → k < frame_count (length m.bytes) → same_link m.link l ≡ b → is_last m.bytes k ≡ last → Puts n b hurt (frame n m.bytes k) heard heard' signs signs'
-    → LinkIs n heard signs (on_link l done) (busy_if b m.bytes k)
-    → LinkIs n heard' signs' (on_link l (advanced hurt last done m ms k).done) (part (advanced hurt last done m ms k).rest (advanced hurt last done m ms k).count l)
-link-put n heard heard' signs signs' done m ms k l true true last can less e x p t = rw (p.heard_is, p.signs_is, on-more l done m (Lost Damaged) true e) (link-hurt n heard signs (on_link l done) m.bytes k can t)
-link-put n heard heard' signs signs' done m ms k l true false true can less e x p t = rw (p.heard_is, p.signs_is, on-more l done m Sent true e) (link-last n heard signs (on_link l done) m.bytes k can (grind (arith, nat_tests, x)) t)
-link-put n heard heard' signs signs' done m ms k l true false false can less e x p t =
+pub link-put : (c : Parts) (ear : Ear) (heard heard' : List Heard) (signs signs' : List Sign) (done : List (Message × Fate)) (m : Message) (ms : List Message) (k : ℕ) (l : Link) (b hurt last : Bool)
+    → (on l m ≡ true → IsFor ear (addressed c m)) → k < frame_count (length m.bytes) → on l m ≡ b → is_last m.bytes k ≡ last → Puts b hurt (frame (address c m.link) m.bytes k) heard heard' signs signs'
+    → LinkIs ear heard signs (on_link c l done) (busy_if b (addressed c m) k)
+    → LinkIs ear heard' signs' (on_link c l (advanced hurt last done m ms k).done) (part c (advanced hurt last done m ms k).rest (advanced hurt last done m ms k).count l)
+link-put c ear heard heard' signs signs' done m ms k l true true last meant less e x p t = rw (p.heard_is, p.signs_is, on-more c l done m (Lost Damaged) true e) (link-hurt ear heard signs (on_link c l done) (addressed c m) k (meant e) t)
+link-put c ear heard heard' signs signs' done m ms k l true false true meant less e x p t = rw (p.heard_is, p.signs_is, on-more c l done m Sent true e) (link-last ear heard signs (on_link c l done) (addressed c m) k (meant e) (grind (arith, nat_tests, x)) t)
+link-put c ear heard heard' signs signs' done m ms k l true false false meant less e x p t =
     let more : suc k < frame_count (length m.bytes) = grind (arith, nat_tests, x)
-    in rw (p.heard_is, p.signs_is, e) (link-more n heard signs (on_link l done) m.bytes k can more t)
-link-put n heard heard' signs signs' done m ms k l false true last can less e x p t = rw (p.heard_is, p.signs_is, on-more l done m (Lost Damaged) false e, append-nil (on_link l done)) (idle-if n heard signs (on_link l done) m.bytes k t)
-link-put n heard heard' signs signs' done m ms k l false false true can less e x p t = rw (p.heard_is, p.signs_is, on-more l done m Sent false e, append-nil (on_link l done)) (idle-if n heard signs (on_link l done) m.bytes k t)
-link-put n heard heard' signs signs' done m ms k l false false false can less e x p t = rw (p.heard_is, p.signs_is, e) (idle-if n heard signs (on_link l done) m.bytes k t)
+    in rw (p.heard_is, p.signs_is, e) (link-more ear heard signs (on_link c l done) (addressed c m) k (meant e) more t)
+link-put c ear heard heard' signs signs' done m ms k l false true last meant less e x p t = rw (p.heard_is, p.signs_is, on-more c l done m (Lost Damaged) false e, append-nil (on_link c l done)) (idle-if ear heard signs (on_link c l done) (addressed c m) k t)
+link-put c ear heard heard' signs signs' done m ms k l false false true meant less e x p t = rw (p.heard_is, p.signs_is, on-more c l done m Sent false e, append-nil (on_link c l done)) (idle-if ear heard signs (on_link c l done) (addressed c m) k t)
+link-put c ear heard heard' signs signs' done m ms k l false false false meant less e x p t = rw (p.heard_is, p.signs_is, e) (idle-if ear heard signs (on_link c l done) (addressed c m) k t)
 
 pub advanced-accepted : (hurt last : Bool) (done : List (Message × Fate)) (m : Message) (ms : List Message) (k : ℕ)
     → map message_of done ++ m ∷ ms ≡ map message_of (advanced hurt last done m ms k).done ++ (advanced hurt last done m ms k).rest
@@ -148,24 +158,19 @@ advanced-counts true last done m ms k = tt
 advanced-counts false true done m ms k = tt
 advanced-counts false false done m ms k = tt
 
-pub puts-at : (c : Parts) (m : Message) (k : ℕ) (l : Link) (b hurt : Bool) (heard heard' : List Heard) (signs signs' : List Sign) → same_link m.link l ≡ b
-    → Puts (nad_on c m.link) b hurt (frame (nad_on c m.link) m.bytes k) heard heard' signs signs' → Puts (nad_on c l) b hurt (frame (nad_on c l) m.bytes k) heard heard' signs signs'
-puts-at c m k l true hurt heard heard' signs signs' e p = subst (λ (x : Link). Puts (nad_on c x) true hurt (frame (nad_on c x) m.bytes k) heard heard' signs signs') (same-is m.link l e) p
-puts-at c m k l false hurt heard heard' signs signs' e p = record { heard_is = p.heard_is; signs_is = p.signs_is }
-
 -- a host whose next frame was put and seen
 pub host-put : (c : Parts) (h : ℕ) (accepted : List Message) (heard heard' : Link → List Heard) (signs signs' : Link → List Sign) (done : List (Message × Fate)) (m : Message) (ms : List Message) (k : ℕ) (hurt : Bool)
     → HostIs c h accepted heard signs (record { done = done; rest = m ∷ ms; count = k })
-    → ((l : Link) → IsLink c h l → Puts (nad_on c m.link) (same_link m.link l) hurt (frame (nad_on c m.link) m.bytes k) (heard l) (heard' l) (signs l) (signs' l))
+    → ((l : Link) → IsLink c h l → Puts (on l m) hurt (frame (address c m.link) m.bytes k) (heard l) (heard' l) (signs l) (signs' l))
     → HostIs c h accepted heard' signs' (advanced hurt (is_last m.bytes k) done m ms k)
 host-put c h accepted heard heard' signs signs' done m ms k hurt t p = record {
   accepted_is = t.accepted_is ∙ advanced-accepted hurt (is_last m.bytes k) done m ms k;
   are_done = advanced-done c h hurt (is_last m.bytes k) done m ms k t.are_done t.can_go.0;
   can_go = advanced-go c h hurt (is_last m.bytes k) done m ms k t.can_go;
   counts = advanced-counts hurt (is_last m.bytes k) done m ms k;
-  links = λ l i. link-put (nad_on c l) (heard l) (heard' l) (signs l) (signs' l) done m ms k l (same_link m.link l) hurt (is_last m.bytes k) t.can_go.0.can (count-less c h accepted heard signs done m ms k t) refl refl
-      (puts-at c m k l (same_link m.link l) hurt (heard l) (heard' l) (signs l) (signs' l) refl (p l i))
-      (subst (λ (o : Option (List ℕ × ℕ)). LinkIs (nad_on c l) (heard l) (signs l) (on_link l done) o) (part-busy m ms k l (same_link m.link l) refl) (t.links l i));
+  links = λ l i. link-put c (ear_on c l) (heard l) (heard' l) (signs l) (signs' l) done m ms k l (on l m) hurt (is_last m.bytes k) (t.can_go.0.meant l i) (count-less c h accepted heard signs done m ms k t) refl refl
+      (p l i)
+      (subst (λ (o : Option (Addressed × ℕ)). LinkIs (ear_on c l) (heard l) (signs l) (on_link c l done) o) (part-busy c m ms k l (on l m) refl) (t.links l i));
 }
 
 -- a host whose links have nothing more
@@ -189,30 +194,30 @@ pub record Marks (b : Bool) (c : Cause) (heard heard' : List Heard) (signs signs
   pub heard_is : heard' ≡ (if b then Reset ∷ [] else []) ++ heard
   pub signs_is : signs' ≡ (if b then Mark c ∷ [] else []) ++ signs
 
-pub link-maybe : (n : ℕ) (b : Bool) (c : Cause) (heard heard' : List Heard) (signs signs' : List Sign) (ps : List (List ℕ × Fate)) → Marks b c heard heard' signs signs' → LinkIs n heard signs ps None → LinkIs n heard' signs' ps None
-link-maybe n true c heard heard' signs signs' ps p t = rw (p.heard_is, p.signs_is) (link-mark n heard signs ps None c t)
-link-maybe n false c heard heard' signs signs' ps p t = rw (p.heard_is, p.signs_is) t
+pub link-maybe : (e : Ear) (b : Bool) (c : Cause) (heard heard' : List Heard) (signs signs' : List Sign) (ps : List (Addressed × Fate)) → Marks b c heard heard' signs signs' → LinkIs e heard signs ps None → LinkIs e heard' signs' ps None
+link-maybe e true c heard heard' signs signs' ps p t = rw (p.heard_is, p.signs_is) (link-mark e heard signs ps None c t)
+link-maybe e false c heard heard' signs signs' ps p t = rw (p.heard_is, p.signs_is) t
 
 -- where the first message is cut
 pub link-cut : (c : Parts) (t : Link → Bool) (cause : Cause) (done : List (Message × Fate)) (m : Message) (j : ℕ) (l : Link) (q : Bool) (heard heard' : List Heard) (signs signs' : List Sign)
-    → t m.link ≡ true → same_link m.link l ≡ q → Marks (t l) cause heard heard' signs signs' → LinkIs (nad_on c l) heard signs (on_link l done) (busy_if q m.bytes (suc j))
-    → LinkIs (nad_on c l) heard' signs' (on_link l (done ++ (m, Lost cause) ∷ [])) None
+    → t m.link ≡ true → on l m ≡ q → Marks (t l) cause heard heard' signs signs' → LinkIs (ear_on c l) heard signs (on_link c l done) (busy_if q (addressed c m) (suc j))
+    → LinkIs (ear_on c l) heard' signs' (on_link c l (done ++ (m, Lost cause) ∷ [])) None
 link-cut c t cause done m j l true heard heard' signs signs' e same p i =
-    let there : t l ≡ true = ap t (sym (same-is m.link l same)) ∙ e
+    let there : t l ≡ true = ap t (sym (over-is m.link l same)) ∙ e
     in let p' : Marks true cause heard heard' signs signs' = subst (λ (b : Bool). Marks b cause heard heard' signs signs') there p
-    in rw (on-more l done m (Lost cause) true same, p'.heard_is, p'.signs_is) (link-mark (nad_on c l) heard signs (on_link l done) (Some (m.bytes, j)) cause i)
+    in rw (on-more c l done m (Lost cause) true same, p'.heard_is, p'.signs_is) (link-mark (ear_on c l) heard signs (on_link c l done) (Some (addressed c m, j)) cause i)
 link-cut c t cause done m j l false heard heard' signs signs' e same p i =
-    rw (on-more l done m (Lost cause) false same, append-nil (on_link l done)) (link-maybe (nad_on c l) (t l) cause heard heard' signs signs' (on_link l done) p i)
+    rw (on-more c l done m (Lost cause) false same, append-nil (on_link c l done)) (link-maybe (ear_on c l) (t l) cause heard heard' signs signs' (on_link c l done) p i)
 
 -- and where it is not
 pub link-uncut : (c : Parts) (t : Link → Bool) (cause : Cause) (done : List (Message × Fate)) (m : Message) (j : ℕ) (l : Link) (q : Bool) (heard heard' : List Heard) (signs signs' : List Sign)
-    → t m.link ≡ false → same_link m.link l ≡ q → Marks (t l) cause heard heard' signs signs' → LinkIs (nad_on c l) heard signs (on_link l done) (busy_if q m.bytes (suc j))
-    → LinkIs (nad_on c l) heard' signs' (on_link l done) (busy_if q m.bytes (suc j))
+    → t m.link ≡ false → on l m ≡ q → Marks (t l) cause heard heard' signs signs' → LinkIs (ear_on c l) heard signs (on_link c l done) (busy_if q (addressed c m) (suc j))
+    → LinkIs (ear_on c l) heard' signs' (on_link c l done) (busy_if q (addressed c m) (suc j))
 link-uncut c t cause done m j l true heard heard' signs signs' e same p i =
-    let there : t l ≡ false = ap t (sym (same-is m.link l same)) ∙ e
+    let there : t l ≡ false = ap t (sym (over-is m.link l same)) ∙ e
     in let p' : Marks false cause heard heard' signs signs' = subst (λ (b : Bool). Marks b cause heard heard' signs signs') there p
     in rw (p'.heard_is, p'.signs_is) i
-link-uncut c t cause done m j l false heard heard' signs signs' e same p i = link-maybe (nad_on c l) (t l) cause heard heard' signs signs' (on_link l done) p i
+link-uncut c t cause done m j l false heard heard' signs signs' e same p i = link-maybe (ear_on c l) (t l) cause heard heard' signs signs' (on_link c l done) p i
 
 pub host-cut : (c : Parts) (h : ℕ) (accepted : List Message) (heard heard' : Link → List Heard) (signs signs' : Link → List Sign) (done : List (Message × Fate)) (m : Message) (ms : List Message) (j : ℕ) (t : Link → Bool) (cause : Cause) (b : Bool)
     → t m.link ≡ b → HostIs c h accepted heard signs (record { done = done; rest = m ∷ ms; count = suc j })
@@ -223,14 +228,14 @@ host-cut c h accepted heard heard' signs signs' done m ms j t cause true e i p =
   are_done = done-more c h done (m, Lost cause) i.are_done (record { go = i.can_go.0; settled = refl });
   can_go = i.can_go.1;
   counts = tt;
-  links = λ l a. link-cut c t cause done m j l (same_link m.link l) (heard l) (heard' l) (signs l) (signs' l) e refl (p l a) (i.links l a);
+  links = λ l a. link-cut c t cause done m j l (on l m) (heard l) (heard' l) (signs l) (signs' l) e refl (p l a) (i.links l a);
 }
 host-cut c h accepted heard heard' signs signs' done m ms j t cause false e i p = record {
   accepted_is = i.accepted_is;
   are_done = i.are_done;
   can_go = i.can_go;
   counts = i.counts;
-  links = λ l a. link-uncut c t cause done m j l (same_link m.link l) (heard l) (heard' l) (signs l) (signs' l) e refl (p l a) (i.links l a);
+  links = λ l a. link-uncut c t cause done m j l (on l m) (heard l) (heard' l) (signs l) (signs' l) e refl (p l a) (i.links l a);
 }
 
 pub host-mark : (c : Parts) (h : ℕ) (accepted : List Message) (heard heard' : Link → List Heard) (signs signs' : Link → List Sign) (done : List (Message × Fate)) (rest : List Message) (k : ℕ) (t : Link → Bool) (cause : Cause)
@@ -242,13 +247,13 @@ host-mark c h accepted heard heard' signs signs' done rest zero t cause i p = re
   are_done = i.are_done;
   can_go = i.can_go;
   counts = i.counts;
-  links = λ l a. link-maybe (nad_on c l) (t l) cause (heard l) (heard' l) (signs l) (signs' l) (on_link l done) (p l a) (i.links l a);
+  links = λ l a. link-maybe (ear_on c l) (t l) cause (heard l) (heard' l) (signs l) (signs' l) (on_link c l done) (p l a) (i.links l a);
 }
 host-mark c h accepted heard heard' signs signs' done [] (suc j) t cause i p = record {
   accepted_is = i.accepted_is;
   are_done = i.are_done;
   can_go = i.can_go;
   counts = i.counts;
-  links = λ l a. link-maybe (nad_on c l) (t l) cause (heard l) (heard' l) (signs l) (signs' l) (on_link l done) (p l a) (i.links l a);
+  links = λ l a. link-maybe (ear_on c l) (t l) cause (heard l) (heard' l) (signs l) (signs' l) (on_link c l done) (p l a) (i.links l a);
 }
 host-mark c h accepted heard heard' signs signs' done (m ∷ ms) (suc j) t cause i p = host-cut c h accepted heard heard' signs signs' done m ms j t cause (t m.link) refl i p

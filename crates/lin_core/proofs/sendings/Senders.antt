@@ -10,14 +10,14 @@ use Rattle.lin_cluster_parts.specs.declared.parts.Parts.{Parts}
 use Rattle.lin_cluster_parts.specs.Sound.{IsSound}
 use Rattle.lin_core.specs.History.{Slot, is_sleep_asked, open_slot}
 use Rattle.lin_core.specs.kept.Hosts.{sender_now, sender_of}
-use Rattle.lin_core.specs.Links.{Link, same_link, Message, Sending, Sign, Fate, accepted_from, begins_good, blocks, blocks_of, fate_of, heard_on, is_begun, is_good, is_waiting, nad_on, sendings_from, signs}
+use Rattle.lin_core.specs.Links.{Link, Message, Sending, Sign, Fate, accepted_from, address, begins_good, blocks, blocks_of, fate_of, heard_on, is_begun, goes_over, home, is_good, is_waiting, sendings_from, signs}
 use Rattle.lin_core.specs.Links.Sign.{Put}
 use Rattle.lin_core.specs.declared.log.LogEntry.{LogEntry}
 use Rattle.lin_core.proofs.laws.Ends.{begun_block, blocks-carried, carried-held, plain-held, put-no, put-other, put-sleep, put_block, sign-none}
 use Rattle.lin_core.proofs.links.Fates.{good_sign, goods}
 use Rattle.lin_core.proofs.links.Finishes.{frame-is}
 use Rattle.lin_core.proofs.sendings.Hosts.{HostIs, HostState, IsCount, IsLink, OnLinks, all-fresh, block-after, done-outcomes, fresh-begun, none-begun, on, outcome, sendings-append, settled_ones, AllDone, message_of}
-use Rattle.lin_core.proofs.steps.Known.{Known, SlotIs, as-state, has-nad, other-host}
+use Rattle.lin_core.proofs.steps.Known.{Known, SlotIs, as-state, has-nad, other-host, place-of}
 use Rattle.lin_core.proofs.steps.Known.SlotIs.{carries, closed, master, other, slave, sleep}
 use Rattle.lin_core.proofs.links.Results.{Holds, few-held, tail-first, tails_with}
 use Rattle.lin_core.proofs.steps.Steps.{blocks-closed, blocks-empty}
@@ -26,7 +26,7 @@ use Rattle.lin_core.proofs.steps.Steps.{blocks-closed, blocks-empty}
 abbrev pub sender_for : Parts → List Message → ℕ → Option Sender
 sender_for c rest zero = None
 sender_for c [] (suc j) = None
-sender_for c (m ∷ ms) (suc j) = Some (record { nad = nad_on c m.link; size = length m.bytes; sent = suc j })
+sender_for c (m ∷ ms) (suc j) = Some (record { nad = address c m.link; size = length m.bytes; sent = suc j })
 
 -- a block of so many good frames, and perhaps one more that is in the open slot
 pub record HasGood (b : List Sign) (k : ℕ) : Type 0 where
@@ -74,31 +74,32 @@ found-by : (c : Parts) (m : Message) (ms : List Message) (k : ℕ) (s : Sending)
 found-by c m ms zero s later is g w none = let e : begins_good s.block ≡ false = g.none refl in rw (w, e, none)
 found-by c m ms (suc j) s later is g w none = let e : begins_good s.block ≡ true = g.begins j refl in rw (w, e) (rw (is, g.count) refl)
 
-ones-settled : (c : Parts) (h : ℕ) (blocks tails : Link → List (List Sign)) (done : List (Message × Fate)) → OnLinks c h blocks tails done → AllDone c h done → AllDone c h (map (outcome c) (settled_ones blocks done))
+ones-settled : (c : Parts) (h : ℕ) (blocks tails : Link → List (List Sign)) (done : List (Message × Fate)) → OnLinks c h blocks tails done → AllDone c h done → AllDone c h (map (outcome c) (settled_ones c blocks done))
 ones-settled c h blocks tails done o d = rw (done-outcomes c h blocks tails [] done o d) d
 
 held-sender : (c : Parts) (h : ℕ) (blocks : Link → List (List Sign)) (accepted : List Message) (done : List (Message × Fate)) (rest : List Message) (k : ℕ) (b : List Sign)
-    → IsCount rest k → Holds c h blocks accepted done rest b → HasGood b k → option_map (sender_of c) (find (is_begun c) (sendings_from blocks [] accepted)) ≡ sender_for c rest k
+    → IsCount rest k → Holds c h blocks accepted done rest b → HasGood b k → option_map (sender_of c) (find (is_begun c) (sendings_from c blocks [] accepted)) ≡ sender_for c rest k
 held-sender c h blocks accepted done [] zero b i t g =
-    rw (t.accepted_is, sendings-append blocks [] (map message_of done) [])
-    (ap (option_map (sender_of c)) (none-begun c h (settled_ones blocks done) [] (ones-settled c h blocks (tails_with b []) done t.links t.are_done)))
+    rw (t.accepted_is, sendings-append c blocks [] (map message_of done) [])
+    (ap (option_map (sender_of c)) (none-begun c h (settled_ones c blocks done) [] (ones-settled c h blocks (tails_with b []) done t.links t.are_done)))
 held-sender c h blocks accepted done [] (suc j) b i t g = absurd i
 held-sender c h blocks accepted done (m ∷ ms) k b i t g =
     let before : List Message = map message_of done
-    in let e : slice_index_or (blocks m.link) (length (filter (on m.link) before)) [] ≡ b
-    = block-after c h blocks (tails_with b (m ∷ ms)) done m.link t.links t.can_go.0.link ∙ tail-first b m ms
-    in let later : List Sending = sendings_from blocks (before ++ m ∷ []) ms
+    in let l : Link = home c m.link
+    in let e : slice_index_or (blocks l) (length (filter (on l) before)) [] ≡ b
+    = block-after c h blocks (tails_with b (m ∷ ms)) done l t.links t.can_go.0.home_is ∙ tail-first b m ms l t.can_go.0.over
+    in let later : List Sending = sendings_from c blocks (before ++ m ∷ []) ms
     in let none : find (is_begun c) later ≡ None = fresh-begun c later (all-fresh c h blocks (before ++ m ∷ []) ms (few-held c h blocks done m ms b t.links) t.can_go.1)
     in let s : Sending = record { number = suc (length before); message = m; block = b }
     in let w : is_waiting (fate_of c s) ≡ true = rw t.waits.waiting refl
-    in rw (t.accepted_is, sendings-append blocks [] before (m ∷ ms), none-begun c h (settled_ones blocks done) (sendings_from blocks before (m ∷ ms)) (ones-settled c h blocks (tails_with b (m ∷ ms)) done t.links t.are_done), e)
+    in rw (t.accepted_is, sendings-append c blocks [] before (m ∷ ms), none-begun c h (settled_ones c blocks done) (sendings_from c blocks before (m ∷ ms)) (ones-settled c h blocks (tails_with b (m ∷ ms)) done t.links t.are_done), e)
     (found-by c m ms k s later refl g w none)
 
 -- the block of a host with no frame in the open slot
 plain-good : (c : Parts) (rest : List Message) (k : ℕ) → IsCount rest k → HasGood (begun_block c rest k) k
 plain-good c [] zero i = record { count = refl; begins = λ j e. cc; none = λ e. refl }
 plain-good c [] (suc j) i = absurd i
-plain-good c (m ∷ ms) k i = good-plain (nad_on c m.link) m.bytes k
+plain-good c (m ∷ ms) k i = good-plain (address c m.link) m.bytes k
 
 plain-sender : (c : Parts) (past : List LogEntry) (h : ℕ) (k : Known c past) → ((l : Link) → IsLink c h l → blocks c past l ≡ blocks_of (signs c past l)) → sender_now c past h ≡ sender_for c (k.states h).rest (k.states h).count
 plain-sender c past h k e =
@@ -114,15 +115,15 @@ sender-by c past h sound k (Some _) is (slave table entry due left hurt x line o
 sender-by c past h sound k (Some _) is (sleep table entry due left hurt only) = plain-sender c past h k (λ l i. put-no c past l _ is (put-sleep c table entry due left hurt l.node l.dir sound (has-nad c l.node i.address)))
 sender-by c past h sound k (Some _) is (carries table entry due left hurt x m ms j only host r n) =
     let own : HostIs c x (accepted_from past x) (heard_on c past) (signs c past) (record { done = (k.states x).done; rest = m ∷ ms; count = j }) = as-state c x (accepted_from past x) (heard_on c past) (signs c past) (k.states x) (m ∷ ms) j r n (k.hosts x)
-    in let f : List ℕ = frame (nad_on c m.link) m.bytes j
+    in let f : List ℕ = frame (address c m.link) m.bytes j
     in elim (eqb_tells x h) [
       | inl same ↦
           subst (λ (y : ℕ). sender_now c past y ≡ sender_for c (k.states y).rest (k.states y).count) same.1
           (rw (r, n) (held-sender c x (blocks c past) (accepted_from past x) (k.states x).done (m ∷ ms) j (put_block c m j) own.counts
-          (carried-held c past table entry due left hurt x m ms j (k.states x).done sound own is) (good-more (nad_on c m.link) m.bytes j f)))
+          (carried-held c past table entry due left hurt x m ms j (k.states x).done sound own is) (good-more (address c m.link) m.bytes j f)))
       | inr differ ↦ plain-sender c past h k (λ l i.
-          blocks-carried c past table entry due left hurt m.link l f sound (has-nad c m.link.node own.can_go.0.link.address) (has-nad c l.node i.address) (frame-is (nad_on c m.link) m.bytes j) is
-          ∙ ap blocks_of (sign-none (same_link m.link l) f (signs c past l) (other-host m.link l (same_link m.link l) refl (λ e. differ.1 (sym host ∙ e ∙ i.host)))))
+          blocks-carried c past table entry due left hurt m.link l f sound (place-of c x m own.can_go.0) (has-nad c l.node i.address) (frame-is (address c m.link) m.bytes j) is
+          ∙ ap blocks_of (sign-none (goes_over m.link l) f (signs c past l) (other-host m.link l (goes_over m.link l) refl (λ e. differ.1 (sym host ∙ e ∙ i.host)))))
     ]
 
 pub sender-is : (c : Parts) (past : List LogEntry) (h : ℕ) → IsSound c → (k : Known c past) → sender_now c past h ≡ sender_for c (k.states h).rest (k.states h).count

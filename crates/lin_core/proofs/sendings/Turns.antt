@@ -10,7 +10,7 @@ use Rattle.lin_cluster_parts.specs.Cluster.{line_of}
 use Rattle.lin_cluster_parts.specs.Sound.{IsSound}
 use Rattle.lin_cluster_parts.specs.declared.parts.Parts.{Parts}
 use Rattle.lin_core.specs.History.{Slot, is_sleep_asked, has_decided, header_is, is_in, is_sleep_slot, open_slot}
-use Rattle.lin_core.specs.Links.{Fate, Link, Message, Sending, Sign, accepted_from, begun_sending, blocks, heard_on, diagnostic_header, host_of, is_begun, nad_on, same_link, sendings, sendings_from, signs, waiting}
+use Rattle.lin_core.specs.Links.{Fate, Link, Message, Sending, Sign, accepted_from, begun_sending, blocks, heard_on, diagnostic_header, host_of, is_begun, address, same_link, sendings, sendings_from, signs, waiting}
 use Rattle.lin_core.specs.Replies.{begun_on, in_slot, link_at, refusal}
 use Rattle.lin_core.specs.Slots.{next_frame, put, sleep_frame, with_classic}
 use Rattle.lin_core.specs.kept.Slots.{pdu_of}
@@ -23,9 +23,9 @@ use Rattle.lin_core.specs.declared.log.LogEntry.{LogEntry}
 use Rattle.lin_core.specs.declared.port.PortId.{PortId}
 use Rattle.lin_core.specs.declared.step.Step.TheVariants.{Answer}
 use Rattle.lin_core.proofs.steps.FinishEvents.{empty-awake, frame-awake, other-awake}
-use Rattle.lin_core.proofs.links.Finishes.{HasNad, IsFrameOf, frame-is, frame_slot, nad-is, slot_of}
+use Rattle.lin_core.proofs.links.Finishes.{IsFrameOf, frame-is, frame_slot, slot_of, some-address}
 use Rattle.lin_core.proofs.sendings.Hosts.{CanGo, HostIs, HostState, IsLink, Stands, begun-fresh, begun-none, first-begun, fresh-begun, message_of, next-begun, none-begun, ones-done, ones-fresh, sending_of, sendings-split, settled_ones, waiting-fresh, waiting-none}
-use Rattle.lin_core.proofs.steps.Known.{Known, SlotIs, finish-known, has-nad, has_rest}
+use Rattle.lin_core.proofs.steps.Known.{Known, SlotIs, finish-known, has_rest, place-of}
 use Rattle.lin_core.proofs.steps.Known.SlotIs.{carries, closed, master, other, slave, sleep}
 use Rattle.lin_core.proofs.sendings.Moves.{advanced, is_last, marked, record_of}
 use Rattle.lin_core.proofs.steps.Steps.{IsQuietNow, answer-allowed, any-of, blocks-closed, blocks-empty, first-go, stands}
@@ -34,8 +34,8 @@ use Rattle.lin_core.proofs.steps.Steps.{IsQuietNow, answer-allowed, any-of, bloc
 -- what waits first
 abbrev pub next_of : Parts → List Message → ℕ → Bool → List ℕ
 next_of c [] k sleeping = if sleeping then sleep_frame else []
-next_of c (m ∷ ms) zero sleeping = if sleeping then sleep_frame else frame (nad_on c m.link) m.bytes 0
-next_of c (m ∷ ms) (suc j) sleeping = frame (nad_on c m.link) m.bytes (suc j)
+next_of c (m ∷ ms) zero sleeping = if sleeping then sleep_frame else frame (address c m.link) m.bytes 0
+next_of c (m ∷ ms) (suc j) sleeping = frame (address c m.link) m.bytes (suc j)
 
 pub next-of : (c : Parts) (past : List LogEntry) (h : ℕ) (done : List (Message × Fate)) (rest : List Message) (k : ℕ) (sleeping : Bool) → IsQuietNow c past
     → HostIs c h (accepted_from past h) (heard_on c past) (signs c past) (record { done = done; rest = rest; count = k }) → next_frame c past h sleeping ≡ next_of c rest k sleeping
@@ -95,12 +95,12 @@ begun-by c past n d done (m ∷ ms) (suc j) q i =
     let h : ℕ = host_of (link_at n d)
     in let bs : Link → List (List Sign) = blocks c past
     in let st : Stands c h bs (accepted_from past h) (record { done = done; rest = m ∷ ms; count = suc j }) = stands c past h (record { done = done; rest = m ∷ ms; count = suc j }) q i
-    in let older : find (is_begun c) (settled_ones bs done) ≡ None
-    = rw (append-nil (settled_ones bs done)) at (none-begun c h (settled_ones bs done) [] (ones-done c h bs (accepted_from past h) (record { done = done; rest = m ∷ ms; count = suc j }) st))
-    in let later : List Sending = sendings_from bs (map message_of done ++ m ∷ []) ms
+    in let older : find (is_begun c) (settled_ones c bs done) ≡ None
+    = rw (append-nil (settled_ones c bs done)) at (none-begun c h (settled_ones c bs done) [] (ones-done c h bs (accepted_from past h) (record { done = done; rest = m ∷ ms; count = suc j }) st))
+    in let later : List Sending = sendings_from c bs (map message_of done ++ m ∷ []) ms
     in let newer : find (is_begun c) later ≡ None = fresh-begun c later (ones-fresh c h bs (accepted_from past h) done m ms (suc j) st)
     in rw (sendings-split c h bs (accepted_from past h) done m ms (suc j) st)
-    (find-one (is_begun c) (λ s. same_link s.message.link (link_at n d)) (settled_ones bs done) (sending_of c (map message_of done) m (suc j)) later older (first-begun c h bs (accepted_from past h) done m ms j st) newer)
+    (find-one (is_begun c) (λ s. same_link s.message.link (link_at n d)) (settled_ones c bs done) (sending_of c (map message_of done) m (suc j)) later older (first-begun c h bs (accepted_from past h) done m ms j st) newer)
 
 -- what a timeout finds
 pub begun-is : (c : Parts) (past : List LogEntry) (n : ℕ) (d : Direction) → open_slot past ≡ None → (k : Known c past)
@@ -144,7 +144,7 @@ answer-by c past node k (Some _) is (sleep table entry due left hurt only) d dec
     in let no : (list_any (λ (p : ℕ × List ℕ). p.0 == node) ((0, with_classic sleep_frame) ∷ []) || is_in left node) ≡ false = rw is at decided
     in absurd (let yes = any-of left 0 node (with_classic sleep_frame) z in let bad : true ≡ false = sym yes ∙ no in cc)
 answer-by c past node k (Some _) is (carries table entry due left hurt h m ms j only host r n) d decided s e =
-    let f : List ℕ = frame (nad_on c m.link) m.bytes j
+    let f : List ℕ = frame (address c m.link) m.bytes j
     in let z : node ≡ host_of m.link = only node (rw is at d) ∙ sym host
     in let no : (list_any (λ (p : ℕ × List ℕ). p.0 == node) ((host_of m.link, with_classic f) ∷ []) || is_in left node) ≡ false = rw is at decided
     in absurd (let yes = any-of left (host_of m.link) node (with_classic f) z in let bad : true ≡ false = sym yes ∙ no in cc)
@@ -168,7 +168,7 @@ pub data FinishIs (c : Parts) (states states' : ℕ → HostState) : Option Slot
   asleep : (s : Slot) → pdu_of s ≡ Sleep → s.hurt ≡ false → is_sleep_slot s ≡ true
       → ((x : ℕ) → states' x ≡ marked (λ l. true) Slept (states x).done (states x).rest (states x).count) → FinishIs c states states' (Some s)
   carried : (s : Slot) (h : ℕ) (m : Message) (ms : List Message) (k : ℕ) → pdu_of s ≡ OfMessage h → is_sleep_slot s ≡ false → s.header ≡ Some (diagnostic_header m.link.dir)
-      → s.puts ≡ (h, with_classic (frame (nad_on c m.link) m.bytes k)) ∷ [] → (states h).rest ≡ m ∷ ms → (states h).count ≡ k → IsLink c h m.link
+      → s.puts ≡ (h, with_classic (frame (address c m.link) m.bytes k)) ∷ [] → (states h).rest ≡ m ∷ ms → (states h).count ≡ k → IsLink c h m.link
       → ((x : ℕ) → states' x ≡ (if h == x then advanced s.hurt (is_last m.bytes k) (states h).done m ms k else states x)) → FinishIs c states states' (Some s)
 
 pub other-pdu : (s : Slot) → header_is 0x3C s.header ≡ false → header_is 0x7D s.header ≡ false → pdu_of s ≡ Nothing
@@ -183,10 +183,10 @@ finish-is c past port es sound k (Some _) is (slave table entry due left hurt h 
 finish-is c past port es sound k (Some _) is (sleep table entry due left true only) = awake _ refl refl refl (λ x. refl)
 finish-is c past port es sound k (Some _) is (sleep table entry due left false only) = asleep _ refl refl refl (λ x. refl)
 finish-is c past port es sound k (Some _) is (carries table entry due left hurt h m ms j only host r n) =
-    let f : List ℕ = frame (nad_on c m.link) m.bytes j
+    let f : List ℕ = frame (address c m.link) m.bytes j
     in let s : Slot = frame_slot table entry due left hurt m.link f
     in let go : CanGo c h m = first-go c h (accepted_from past h) (heard_on c past) (signs c past) (k.states h) m ms r (k.hosts h)
-    in let a : HasNad c m.link.node = has-nad c m.link.node go.link.address
-    in let frame_of_it : IsFrameOf a.n f = subst (λ (x : ℕ). IsFrameOf x f) (nad-is c m.link a.n a.is) (frame-is (nad_on c m.link) m.bytes j)
-    in carried s h m ms j (pdu-frame table entry due left hurt m.link.node m.link.dir f a.n (sound.some m.link.node a.n a.is) frame_of_it ∙ ap OfMessage host)
-    (frame-awake c table entry due left hurt m.link.node m.link.dir f a.n sound a.is frame_of_it) refl (ap (λ (x : ℕ). (x, with_classic f) ∷ []) host) r n go.link (λ x. refl)
+    in let some : 1 ≤ address c m.link = some-address c m.link sound (place-of c h m go)
+    in let frame_of_it : IsFrameOf (address c m.link) f = frame-is (address c m.link) m.bytes j
+    in carried s h m ms j (pdu-frame table entry due left hurt m.link.node m.link.dir f (address c m.link) some frame_of_it ∙ ap OfMessage host)
+    (frame-awake table entry due left hurt m.link.node m.link.dir f (address c m.link) some frame_of_it) refl (ap (λ (x : ℕ). (x, with_classic f) ∷ []) host) r n go.link (λ x. refl)

@@ -8,7 +8,7 @@ use Rattle.lin_frame.specs.Words.{numbers}
 use Rattle.lin_cluster_parts.specs.Cluster.{nad, nodes}
 use Rattle.lin_cluster_parts.specs.declared.parts.Parts.{Parts}
 use Rattle.lin_core.specs.History.{Slot, open_slot, seen_of, header_is, is_sleep_slot}
-use Rattle.lin_core.specs.Links.{Link, same_dir, same_link, Message, host_of, Fate, nad_on, signs, heard_on, reading, accepted_from}
+use Rattle.lin_core.specs.Links.{Link, same_dir, same_link, Message, host_of, Fate, ear_on, goes_over, signs, heard_on, reading, accepted_from}
 use Rattle.lin_cluster_parts.specs.Sound.{IsSound}
 use Rattle.lin_core.specs.declared.log.LogEntry.{LogEntry}
 use Rattle.lin_core.specs.declared.port.PortId.{PortId}
@@ -16,8 +16,8 @@ use Rattle.lin_core.specs.declared.step.Step.TheVariants.{Finish, Timeout}
 use Rattle.lin_core.specs.declared.event.Event.{Event}
 use Rattle.lin_core.specs.declared.link.Direction.{Direction}
 use Rattle.lin_core.specs.declared.link.Direction.TheVariants.{Down, Up}
-use Rattle.lin_core.proofs.sendings.Hosts.{HostState, IsLink, on_link, part, on-append, same-self, AllCanGo}
-use Rattle.lin_core.proofs.sendings.Moves.{same-is, marked, record_of}
+use Rattle.lin_core.proofs.sendings.Hosts.{HostState, IsLink, on, on_link, part, on-append, same-self, AllCanGo}
+use Rattle.lin_core.proofs.sendings.Moves.{same-is, over-host, marked, record_of}
 use Rattle.lin_core.specs.Links.Fate.{Sent, Waiting, Lost}
 use Rattle.lin_core.proofs.steps.Known.{Known}
 use Rattle.lin_core.proofs.links.Results.{track-reads}
@@ -111,16 +111,16 @@ flat-links c f xs each = links-filtered c f xs ∙ flat-none (if_link c f) xs (�
 
 -- the messages that a link gained, by what its host's settled messages gained
 pub gained-messages : (c : Parts) (past past' : List LogEntry) (l : Link) → is_some (nad c l.node) ≡ true → (k : Known c past) (k' : Known c past') (g : Grows (k.states (host_of l)) (k'.states (host_of l)))
-    → drop (length (reading c past l)) (reading c past' l) ≡ sent_of (on_link l g.more)
+    → drop (length (reading c past l)) (reading c past' l) ≡ sent_of (on_link c l g.more)
 gained-messages c past past' l a k k' g =
     let i : IsLink c (host_of l) l = record { host = refl; address = a }
     in let s : HostState = k.states (host_of l)
     in let s' : HostState = k'.states (host_of l)
-    in let old : reading c past l ≡ sent_of (on_link l s.done) = track-reads (nad_on c l) (heard_on c past l) (signs c past l) (on_link l s.done) (part s.rest s.count l) ((k.hosts (host_of l)).links l i)
-    in let new : reading c past' l ≡ sent_of (on_link l s'.done) = track-reads (nad_on c l) (heard_on c past' l) (signs c past' l) (on_link l s'.done) (part s'.rest s'.count l) ((k'.hosts (host_of l)).links l i)
-    in let more : List (List ℕ) = sent_of (on_link l g.more)
+    in let old : reading c past l ≡ sent_of (on_link c l s.done) = track-reads (ear_on c l) (heard_on c past l) (signs c past l) (on_link c l s.done) (part c s.rest s.count l) ((k.hosts (host_of l)).links l i)
+    in let new : reading c past' l ≡ sent_of (on_link c l s'.done) = track-reads (ear_on c l) (heard_on c past' l) (signs c past' l) (on_link c l s'.done) (part c s'.rest s'.count l) ((k'.hosts (host_of l)).links l i)
+    in let more : List (List ℕ) = sent_of (on_link c l g.more)
     in let e : reading c past' l ≡ reading c past l ++ more
-    = new ∙ ap (λ (ps : List (Message × Fate)). sent_of (on_link l ps)) g.is ∙ ap sent_of (on-append l s.done g.more) ∙ filter_map-append if_sent (on_link l s.done) (on_link l g.more)
+    = new ∙ ap (λ (ps : List (Message × Fate)). sent_of (on_link c l ps)) g.is ∙ ap sent_of (on-append c l s.done g.more) ∙ filter_map-append if_sent (on_link c l s.done) (on_link c l g.more)
     ∙ ap (λ (xs : List (List ℕ)). xs ++ more) (sym old)
     in ap (drop (length (reading c past l))) e ∙ drop_at (reading c past l) more (length (reading c past l)) refl
 
@@ -137,12 +137,12 @@ pub empty-awake : (table entry : ℕ) (header : Option ℕ) (due left : List ℕ
 empty-awake table entry None due left hurt = refl
 empty-awake table entry (Some h) due left hurt = rw (same-cond (h == 0x3C))
 
-pub frame-awake : (c : Parts) (table entry : ℕ) (due left : List ℕ) (hurt : Bool) (node : ℕ) (dir : Direction) (f : List ℕ) (n : ℕ) → IsSound c → nad c node ≡ Some n → IsFrameOf n f
+pub frame-awake : (table entry : ℕ) (due left : List ℕ) (hurt : Bool) (node : ℕ) (dir : Direction) (f : List ℕ) (n : ℕ) → 1 ≤ n → IsFrameOf n f
     → is_sleep_slot (frame_slot table entry due left hurt (record_of node dir) f) ≡ false
-frame-awake c table entry due left true node Down f n sound is i = refl
-frame-awake c table entry due left false node Down f n sound is i = let some : 1 ≤ n = sound.some node n is in rw (i.address, ne_eqb n 0 (λ z. omega arith))
-frame-awake c table entry due left true node Up f n sound is i = refl
-frame-awake c table entry due left false node Up f n sound is i = refl
+frame-awake table entry due left true node Down f n some i = refl
+frame-awake table entry due left false node Down f n some i = rw (i.address, ne_eqb n 0 (λ z. omega arith))
+frame-awake table entry due left true node Up f n some i = refl
+frame-awake table entry due left false node Up f n some i = refl
 
 -- a finish that settles nothing
 pub finish-quiet : (c : Parts) (past : List LogEntry) (port : PortId) (s : Slot) → IsSound c → (k : Known c past) (k' : Known c (quiet_entry port Finish ∷ past))
@@ -174,18 +174,18 @@ sent_bytes Waiting m = []
 sent_bytes Sent m = m ∷ []
 sent_bytes (Lost cause) m = []
 
-on-fate : (l : Link) (m : Message) (f : Fate) (q : Bool) → same_link m.link l ≡ q → sent_of (on_link l ((m, f) ∷ [])) ≡ (if q then sent_bytes f m.bytes else [])
-on-fate l m Waiting true q = rw q
-on-fate l m Waiting false q = rw q
-on-fate l m Sent true q = rw q
-on-fate l m Sent false q = rw q
-on-fate l m (Lost cause) true q = rw q
-on-fate l m (Lost cause) false q = rw q
+on-fate : (c : Parts) (l : Link) (m : Message) (f : Fate) (q : Bool) → on l m ≡ q → sent_of (on_link c l ((m, f) ∷ [])) ≡ (if q then sent_bytes f m.bytes else [])
+on-fate c l m Waiting true q = rw q
+on-fate c l m Waiting false q = rw q
+on-fate c l m Sent true q = rw q
+on-fate c l m Sent false q = rw q
+on-fate c l m (Lost cause) true q = rw q
+on-fate c l m (Lost cause) false q = rw q
 
-on-one : (l : Link) (m : Message) (f : Fate) (h : ℕ) (b q : Bool) → host_of m.link ≡ h → (h == host_of l) ≡ b → same_link m.link l ≡ q → sent_of (on_link l (if b then (m, f) ∷ [] else [])) ≡ (if q then sent_bytes f m.bytes else [])
-on-one l m f h true q e p s = on-fate l m f q s
-on-one l m f h false true e p s = absurd (let z : h ≡ host_of l = sym e ∙ ap host_of (same-is m.link l s) in let t : (h == host_of l) ≡ true = grind (arith, nat_tests, z) in let bad : true ≡ false = sym t ∙ p in cc)
-on-one l m f h false false e p s = refl
+on-one : (c : Parts) (l : Link) (m : Message) (f : Fate) (h : ℕ) (b q : Bool) → host_of m.link ≡ h → (h == host_of l) ≡ b → on l m ≡ q → sent_of (on_link c l (if b then (m, f) ∷ [] else [])) ≡ (if q then sent_bytes f m.bytes else [])
+on-one c l m f h true q e p s = on-fate c l m f q s
+on-one c l m f h false true e p s = absurd (let z : h ≡ host_of l = sym e ∙ over-host m.link l s in let t : (h == host_of l) ≡ true = grind (arith, nat_tests, z) in let bad : true ≡ false = sym t ∙ p in cc)
+on-one c l m f h false false e p s = refl
 
 told-one : (h x k : ℕ) (b : Bool) (m : Message) (f : Fate) → reports_from x k (if b then (m, f) ∷ [] else []) ≡ (if b then report x k f else [])
 told-one h x k true m f = append-nil (report x k f)
@@ -212,7 +212,7 @@ pub one-gains : (c : Parts) (past : List LogEntry) (port : PortId) (h : ℕ) (m 
 one-gains c past port h m link k k' more =
     let g : (x : ℕ) → Grows (k.states x) (k'.states x) = λ x. record { more = if h == x then (m, Sent) ∷ [] else []; is = more x }
     in gained-messages c past (quiet_entry port Finish ∷ past) m.link link.address k k' (g (host_of m.link))
-    ∙ on-one m.link m Sent h (h == host_of m.link) (same_link m.link m.link) link.host refl refl
+    ∙ on-one c m.link m Sent h (h == host_of m.link) (goes_over m.link m.link) link.host refl refl
     ∙ rw (same-self m.link) refl
 
 -- a finish by which one message is whole or lost
@@ -225,7 +225,7 @@ finish-one c past port s h m f sound link k k' more awake is =
     in let event : List Event = events_of h m.link (sent_bytes f m.bytes)
     in let heard : flat_map (new_messages c e past) (all_links c) ≡ event
     = only-link c (new_messages c e past) m.link event link.address
-    (λ l a. ap (events_of (host_of l) l) (gained-messages c past (e ∷ past) l a k k' (g (host_of l)) ∙ on-one l m f h (h == host_of l) (same_link m.link l) link.host refl refl)
+    (λ l a. ap (events_of (host_of l) l) (gained-messages c past (e ∷ past) l a k k' (g (host_of l)) ∙ on-one c l m f h (h == host_of l) (goes_over m.link l) link.host refl refl)
     ∙ event-at l m (sent_bytes f m.bytes) h (same_link m.link l) (same_link l m.link) link.host refl refl)
     in let told : all_reports c e past ≡ report h (suc (length (k.states h).done)) f
     = only-one (reports c e past) h (nodes c) (report h (suc (length (k.states h).done)) f)
@@ -265,14 +265,14 @@ marked-told c past e t cause x sound k k' same accepted =
     in let g : Grows (k.states x) (k'.states x) = record { more = more; is = ap (λ (s : HostState). s.done) same ∙ marked-done t cause (k.states x).done (k.states x).rest (k.states x).count }
     in reports-are c e past x sound k k' g accepted ∙ ap (λ (n : ℕ). reports_from x n more) (next-number (k.states x).done)
 
-cut-if : (b : Bool) (l : Link) (m : Message) (cause : Cause) → sent_of (on_link l (cut_if b m cause)) ≡ []
-cut-if true l m cause = on-fate l m (Lost cause) (same_link m.link l) refl ∙ same-cond (same_link m.link l) []
-cut-if false l m cause = refl
+cut-if : (c : Parts) (b : Bool) (l : Link) (m : Message) (cause : Cause) → sent_of (on_link c l (cut_if b m cause)) ≡ []
+cut-if c true l m cause = on-fate c l m (Lost cause) (on l m) refl ∙ same-cond (on l m) []
+cut-if c false l m cause = refl
 
-cut-nothing : (t : Link → Bool) (cause : Cause) (l : Link) (rest : List Message) (k : ℕ) → sent_of (on_link l (cut_of t cause rest k)) ≡ []
-cut-nothing t cause l rest zero = refl
-cut-nothing t cause l [] (suc j) = refl
-cut-nothing t cause l (m ∷ ms) (suc j) = cut-if (t m.link) l m cause
+cut-nothing : (c : Parts) (t : Link → Bool) (cause : Cause) (l : Link) (rest : List Message) (k : ℕ) → sent_of (on_link c l (cut_of t cause rest k)) ≡ []
+cut-nothing c t cause l rest zero = refl
+cut-nothing c t cause l [] (suc j) = refl
+cut-nothing c t cause l (m ∷ ms) (suc j) = cut-if c (t m.link) l m cause
 
 -- a finish that puts the cluster to sleep
 pub finish-sleep : (c : Parts) (past : List LogEntry) (port : PortId) (s : Slot) → IsSound c → (k : Known c past) (k' : Known c (quiet_entry port Finish ∷ past))
@@ -285,7 +285,7 @@ finish-sleep c past port s sound k k' same asleep is =
     = λ x. record { more = cut_of t Slept (k.states x).rest (k.states x).count; is = ap (λ (s : HostState). s.done) (same x) ∙ marked-done t Slept (k.states x).done (k.states x).rest (k.states x).count }
     in let heard : flat_map (new_messages c e past) (all_links c) ≡ []
     = flat-links c (new_messages c e past) (map (λ n. link_at n Down) (numbers (nodes c)) ++ map (λ n. link_at n Up) (numbers (nodes c)))
-    (λ l a. ap (map (λ m. MessageEvent (host_of l) (receiver_of l.dir l.node) m)) (gained-messages c past (e ∷ past) l a k k' (g (host_of l)) ∙ cut-nothing t Slept l (k.states (host_of l)).rest (k.states (host_of l)).count))
+    (λ l a. ap (map (λ m. MessageEvent (host_of l) (receiver_of l.dir l.node) m)) (gained-messages c past (e ∷ past) l a k k' (g (host_of l)) ∙ cut-nothing c t Slept l (k.states (host_of l)).rest (k.states (host_of l)).count))
     in let told : all_reports c e past ≡ flat_map (lost_by k.states t Slept) (numbers (nodes c))
     = flat-same (reports c e past) (lost_by k.states t Slept) (numbers (nodes c)) (λ x. marked-told c past e t Slept x sound k k' (same x) refl)
     in rw (is, asleep, heard, told) refl

@@ -7,7 +7,7 @@ use Rattle.lin_transport.specs.Transport.{frame, Heard}
 use Rattle.lin_cluster_parts.specs.declared.parts.Parts.{Parts}
 use Rattle.lin_cluster_parts.specs.Cluster.{nad, line_of}
 use Rattle.lin_core.specs.History.{Slot, open_slot, leave, slot_after_hurt, header_is, is_sleep_asked, is_in}
-use Rattle.lin_core.specs.Links.{Link, same_link, Message, host_of, accepted_from, Sign, nad_on, signs, heard_on}
+use Rattle.lin_core.specs.Links.{Link, Message, host_of, accepted_from, Sign, address, goes_over, signs, heard_on}
 use Rattle.lin_cluster_parts.specs.Sound.{IsSound}
 use Rattle.lin_core.specs.declared.log.LogEntry.{LogEntry}
 use Rattle.lin_core.specs.declared.port.PortId.{PortId}
@@ -18,9 +18,9 @@ use Rattle.lin_cluster_parts.specs.declared.parts.Entry.TheVariants.{MasterReq, 
 use Rattle.lin_core.specs.declared.reply.Reply.TheVariants.{Done, Refused}
 use Rattle.lin_core.specs.declared.reply.Refusal.{Refusal}
 use Rattle.lin_core.specs.declared.link.Cause.TheVariants.{Slept}
-use Rattle.lin_core.proofs.sendings.Hosts.{HostState, HostIs}
-use Rattle.lin_core.proofs.sendings.Moves.{Puts, advanced, is_last, marked, host-put, host-same, host-mark, same-is}
-use Rattle.lin_core.proofs.links.Finishes.{finish_entry, slot_of, sleep_slot, frame_slot, finish-signs, finish-heard, IsQuiet, other-quiet, empty-quiet, sleep-hurt, sleep-good, Sleeps, HasNad, value-of, Adds, frame-adds, frame-is}
+use Rattle.lin_core.proofs.sendings.Hosts.{HostState, HostIs, CanGo}
+use Rattle.lin_core.proofs.sendings.Moves.{Puts, advanced, is_last, marked, host-put, host-same, host-mark, over-host}
+use Rattle.lin_core.proofs.links.Finishes.{finish_entry, slot_of, sleep_slot, frame_slot, finish-signs, finish-heard, IsQuiet, other-quiet, empty-quiet, sleep-hurt, sleep-good, Sleeps, HasNad, IsPlace, value-of, Adds, frame-adds, frame-is}
 
 -- whether a host has something that waits
 abbrev pub has_rest : List Message → Bool
@@ -40,7 +40,7 @@ pub data SlotIs (c : Parts) (asked : Bool) (states : ℕ → HostState) : Option
       → SlotIs c asked states (Some (slot_of table entry (Some 0x7D) due [] left hurt))
   sleep : (table entry : ℕ) (due left : List ℕ) (hurt : Bool) → OnlyDue due 0 → SlotIs c asked states (Some (sleep_slot table entry due left hurt))
   carries : (table entry : ℕ) (due left : List ℕ) (hurt : Bool) (h : ℕ) (m : Message) (ms : List Message) (k : ℕ) → OnlyDue due h → host_of m.link ≡ h → (states h).rest ≡ m ∷ ms → (states h).count ≡ k
-      → SlotIs c asked states (Some (frame_slot table entry due left hurt m.link (frame (nad_on c m.link) m.bytes k)))
+      → SlotIs c asked states (Some (frame_slot table entry due left hurt m.link (frame (address c m.link) m.bytes k)))
 
 pub record Known (c : Parts) (past : List LogEntry) : Type 0 where
   pub states : ℕ → HostState
@@ -143,44 +143,48 @@ sleep-known c past port es table entry due left sound is k =
       slot = closed;
     }
 
+-- the place of a message of a host
+pub place-of : (c : Parts) (h : ℕ) (m : Message) → CanGo c h m → IsPlace c m.link
+place-of c h m go = has-nad c m.link.node go.link.address
+
 -- the frame on the links of its host, and of others
-pub puts-by : (c : Parts) (past : List LogEntry) (port : PortId) (es : List Event) (table entry : ℕ) (due left : List ℕ) (hurt : Bool) (m l : Link) (f : List ℕ) (n : ℕ)
-    → open_slot past ≡ Some (frame_slot table entry due left hurt m f) → Adds c (frame_slot table entry due left hurt m f) l (same_link m l) hurt f
-    → Puts n (same_link m l) hurt f (heard_on c past l) (heard_on c (finish_entry port es ∷ past) l) (signs c past l) (signs c (finish_entry port es ∷ past) l)
-puts-by c past port es table entry due left hurt m l f n is a =
-    let s : Slot = frame_slot table entry due left hurt m f
+pub puts-by : (c : Parts) (past : List LogEntry) (port : PortId) (es : List Event) (table entry : ℕ) (due left : List ℕ) (hurt : Bool) (to l : Link) (f : List ℕ)
+    → open_slot past ≡ Some (frame_slot table entry due left hurt to f) → Adds c (frame_slot table entry due left hurt to f) l (goes_over to l) hurt f
+    → Puts (goes_over to l) hurt f (heard_on c past l) (heard_on c (finish_entry port es ∷ past) l) (signs c past l) (signs c (finish_entry port es ∷ past) l)
+puts-by c past port es table entry due left hurt to l f is a =
+    let s : Slot = frame_slot table entry due left hurt to f
     in record {
       heard_is = finish-heard c past port es s l is ∙ ap (λ (x : List Heard). x ++ heard_on c past l) a.heard;
       signs_is = finish-signs c past port es s l is ∙ ap (λ (x : List Sign). x ++ signs c past l) a.signs;
     }
 
-pub other-host : (m l : Link) (b : Bool) → same_link m l ≡ b → host_of m ≢ host_of l → b ≡ false
-other-host m l true e differ = absurd (differ (ap host_of (same-is m l e)))
-other-host m l false e differ = refl
+pub other-host : (to l : Link) (b : Bool) → goes_over to l ≡ b → host_of to ≢ host_of l → b ≡ false
+other-host to l true e differ = absurd (differ (over-host to l e))
+other-host to l false e differ = refl
 
-pub puts-none : (n : ℕ) (b hurt : Bool) (f : List ℕ) (heard heard' : List Heard) (signs signs' : List Sign) → b ≡ false → Puts n b hurt f heard heard' signs signs' → (heard' ≡ heard) × (signs' ≡ signs)
-puts-none n true hurt f heard heard' signs signs' e p = cc
-puts-none n false hurt f heard heard' signs signs' e p = (p.heard_is, p.signs_is)
+pub puts-none : (b hurt : Bool) (f : List ℕ) (heard heard' : List Heard) (signs signs' : List Sign) → b ≡ false → Puts b hurt f heard heard' signs signs' → (heard' ≡ heard) × (signs' ≡ signs)
+puts-none true hurt f heard heard' signs signs' e p = cc
+puts-none false hurt f heard heard' signs signs' e p = (p.heard_is, p.signs_is)
 
 pub host-frame : (c : Parts) (past : List LogEntry) (port : PortId) (es : List Event) (table entry : ℕ) (due left : List ℕ) (hurt : Bool) (h : ℕ) (m : Message) (ms : List Message) (j x : ℕ)
     → IsSound c → host_of m.link ≡ h → (states : ℕ → HostState) → (states h).rest ≡ m ∷ ms → (states h).count ≡ j
-    → open_slot past ≡ Some (frame_slot table entry due left hurt m.link (frame (nad_on c m.link) m.bytes j))
+    → open_slot past ≡ Some (frame_slot table entry due left hurt m.link (frame (address c m.link) m.bytes j))
     → ((y : ℕ) → HostIs c y (accepted_from past y) (heard_on c past) (signs c past) (states y))
     → HostIs c x (accepted_from past x) (heard_on c (finish_entry port es ∷ past)) (signs c (finish_entry port es ∷ past)) (if h == x then advanced hurt (is_last m.bytes j) (states h).done m ms j else states x)
 host-frame c past port es table entry due left hurt h m ms j x sound host states r n is k =
-    let f : List ℕ = frame (nad_on c m.link) m.bytes j
+    let f : List ℕ = frame (address c m.link) m.bytes j
     in let own : HostIs c h (accepted_from past h) (heard_on c past) (signs c past) (record { done = (states h).done; rest = m ∷ ms; count = j }) = as-state c h (accepted_from past h) (heard_on c past) (signs c past) (states h) (m ∷ ms) j r n (k h)
-    in let nad_m : HasNad c m.link.node = has-nad c m.link.node own.can_go.0.link.address
+    in let place : IsPlace c m.link = place-of c h m own.can_go.0
     in elim (eqb_tells h x) [
       | inl same ↦
           rw same.0 (subst (λ (y : ℕ). HostIs c y (accepted_from past y) (heard_on c (finish_entry port es ∷ past)) (signs c (finish_entry port es ∷ past)) (advanced hurt (is_last m.bytes j) (states h).done m ms j)) same.1
           (host-put c h (accepted_from past h) (heard_on c past) (heard_on c (finish_entry port es ∷ past)) (signs c past) (signs c (finish_entry port es ∷ past)) (states h).done m ms j hurt own
-          (λ l i. puts-by c past port es table entry due left hurt m.link l f (nad_on c m.link) is (frame-adds c table entry due left hurt m.link l f sound nad_m (has-nad c l.node i.address) (frame-is (nad_on c m.link) m.bytes j)))))
+          (λ l i. puts-by c past port es table entry due left hurt m.link l f is (frame-adds c table entry due left hurt m.link l f sound place (has-nad c l.node i.address) (frame-is (address c m.link) m.bytes j)))))
       | inr differ ↦
           rw differ.0 (host-same c x (accepted_from past x) (heard_on c past) (heard_on c (finish_entry port es ∷ past)) (signs c past) (signs c (finish_entry port es ∷ past)) (states x) (k x)
-          (λ l i. puts-none (nad_on c m.link) (same_link m.link l) hurt f (heard_on c past l) (heard_on c (finish_entry port es ∷ past) l) (signs c past l) (signs c (finish_entry port es ∷ past) l)
-          (other-host m.link l (same_link m.link l) refl (λ e. differ.1 (sym host ∙ e ∙ i.host)))
-          (puts-by c past port es table entry due left hurt m.link l f (nad_on c m.link) is (frame-adds c table entry due left hurt m.link l f sound nad_m (has-nad c l.node i.address) (frame-is (nad_on c m.link) m.bytes j)))))
+          (λ l i. puts-none (goes_over m.link l) hurt f (heard_on c past l) (heard_on c (finish_entry port es ∷ past) l) (signs c past l) (signs c (finish_entry port es ∷ past) l)
+          (other-host m.link l (goes_over m.link l) refl (λ e. differ.1 (sym host ∙ e ∙ i.host)))
+          (puts-by c past port es table entry due left hurt m.link l f is (frame-adds c table entry due left hurt m.link l f sound place (has-nad c l.node i.address) (frame-is (address c m.link) m.bytes j)))))
     ]
 
 abbrev pub finish-known : (c : Parts) (past : List LogEntry) (port : PortId) (es : List Event) → IsSound c → (k : Known c past) → (o : Option Slot) → open_slot past ≡ o → SlotIs c (is_sleep_asked past) k.states o → Known c (finish_entry port es ∷ past)

@@ -8,7 +8,7 @@ use Rattle.lin_transport.proofs.Frames.{length-frame}
 use Rattle.lin_cluster_parts.specs.declared.parts.Parts.{Parts}
 use Rattle.lin_core.specs.kept.Slots.{put_in, slot_in, IsCarried}
 use Rattle.lin_core.specs.kept.Receivers.{HearsOn}
-use Rattle.lin_core.specs.Links.{Link, Message, nad_on}
+use Rattle.lin_core.specs.Links.{Link, Message, address}
 use Rattle.lin_core.specs.Replies.{finish_events}
 use Rattle.lin_core.specs.Slots.{with_classic}
 use Rattle.lin_core.specs.declared.log.LogEntry.{LogEntry}
@@ -35,9 +35,9 @@ one-put (p ∷ q ∷ ps) h bytes e = cc
 
 -- the frame that is looked for in the slot is the message's
 pub frame-there : (c : Parts) (past : List LogEntry) (by : PortId) (k : Known c past) (slot : OpenSlot) (h : ℕ) (i : CarriesFrame c past by k (slot_in slot) h) (o : OpenSlot) (f : List ℕ) → o ≡ slot
-    → ((put : Put) → o.puts.items ≡ put ∷ [] → 8 ≤ length put.answer → f ≡ take 8 put.answer) → f ≡ frame (nad_on c i.message.link) i.message.bytes (k.states h).count
+    → ((put : Put) → o.puts.items ≡ put ∷ [] → 8 ≤ length put.answer → f ≡ take 8 put.answer) → f ≡ frame (address c i.message.link) i.message.bytes (k.states h).count
 frame-there c past by k slot h i o f at is =
-    let n : ℕ = nad_on c i.message.link
+    let n : ℕ = address c i.message.link
     in let g : List ℕ = frame n i.message.bytes (k.states h).count
     in let one = one-put slot.puts.items h (with_classic g) i.puts
     in let eight : length g ≡ 8 = length-frame n i.message.bytes (k.states h).count
@@ -66,8 +66,8 @@ heard-inside a by o h host place w g carried l f given rs link own at frame_is o
     in let both : g.message ∷ g.later ≡ i.message ∷ i.later = sym g.first ∙ i.first
     in let one : g.message ≡ i.message = cc
     in let same : own ≡ o.slot = (let two : Some own ≡ Some o.slot = sym at ∙ o.at in cc)
-    in let there : f ≡ frame (nad_on c i.message.link) i.message.bytes (k.states h).count = frame-there c past by k o.slot h i own f same frame_is
-    in let hears : HearsOn i.message.link (frame (nad_on c i.message.link) i.message.bytes (k.states h).count) given a.state.receivers.items rs
+    in let there : f ≡ frame (address c i.message.link) i.message.bytes (k.states h).count = frame-there c past by k o.slot h i own f same frame_is
+    in let hears : HearsOn i.message.link (frame (address c i.message.link) i.message.bytes (k.states h).count) given a.state.receivers.items rs
     = hears-message g.message i.message l f _ given a.state.receivers.items rs link one there on
     in subst (λ (m : Message). HeardFrame c past (finish_of a by ∷ past) m.link given rs) (sym one)
     (heard-frame c past by (finish_events c by past) k (slot_in o.slot) h i given a.state.receivers.items rs q.1 hears w.heard)

@@ -8,12 +8,13 @@ use Rattle.std.proofs.lemmas.Bool.{ne_eqb}
 use Rattle.std.proofs.lemmas.List.{append-nil}
 use Rattle.std.specs.Option.{option_map_or, unwrap_or}
 use Rattle.lin_frame.specs.Words.{numbers}
+use Rattle.lin_transport.specs.Law.{IsFor}
 use Rattle.lin_transport.specs.Transport.{frame, Heard, CanSend}
 use Rattle.lin_transport.specs.Transport.Heard.{Reset}
 use Rattle.lin_cluster_parts.specs.declared.parts.Parts.{Parts}
-use Rattle.lin_core.specs.History.{finished_slot, is_sleep_mark, Slot, open_slot, slot_after_events, slot_after_hurt, header_is, is_sleep_asked, good_under, is_in, has_decided}
+use Rattle.lin_core.specs.History.{finished_slot, is_sleep_mark, Slot, open_slot, slot_after_events, header_is, is_sleep_asked, good_under, is_in, has_decided}
 use Rattle.lin_core.specs.Signals.{is_pending}
-use Rattle.lin_core.specs.Links.{Link, same_link, link_of, Message, host_of, accepted_from, Sign, Fate, nad_on, put_on, signs, heard_on, blocks, blocks_of, waiting, begun_sending}
+use Rattle.lin_core.specs.Links.{Link, same_link, link_of, Message, host_of, accepted_from, Sign, Fate, address, ear_on, goes_over, nad_on, put_on, signs, heard_on, blocks, blocks_of, waiting, begun_sending}
 use Rattle.lin_core.specs.Links.Sign.{Mark}
 use Rattle.lin_core.specs.Slots.{with_classic, sleep_frame, next_frame, first_frame, put, header, is_due, due_nodes, selected_node, addressee, node_with, next_due}
 use Rattle.lin_core.specs.Replies.{refusal, refusals, in_slot, has_address, put_event, opening_events, done_events, reply}
@@ -32,8 +33,8 @@ use Rattle.lin_core.specs.declared.link.Cause.TheVariants.{TimedOut}
 use Rattle.lin_core.specs.declared.link.Direction.{Direction}
 use Rattle.lin_core.specs.declared.link.Direction.TheVariants.{Down, Up}
 use Rattle.lin_transport.proofs.Frames.{and-false}
-use Rattle.lin_core.proofs.sendings.Hosts.{HostState, HostIs, IsLink, IsCount, CanGo, AllCanGo, part, message_of, Stands, host-stands, next-begun, begun-none, begun-fresh, waiting-none, waiting-fresh}
-use Rattle.lin_core.proofs.sendings.Moves.{record_of, Marks, marked, host-mark}
+use Rattle.lin_core.proofs.sendings.Hosts.{HostState, HostIs, IsLink, IsCount, CanGo, AllCanGo, eqb-self, same-self, part, message_of, Stands, host-stands, next-begun, begun-none, begun-fresh, waiting-none, waiting-fresh}
+use Rattle.lin_core.proofs.sendings.Moves.{record_of, over-is, Marks, marked, host-mark}
 use Rattle.lin_core.proofs.links.Finishes.{slot_of, frame_slot, same-cond}
 use Rattle.lin_core.specs.Runs.{history}
 use Rattle.lin_core.proofs.steps.Known.{or-right, has_rest, OnlyDue, SlotIs, Known, entry_is, refused-known, write-known, switch-known, wake-known, close-known, ask-known, leave-known, hurt-known, finish-known}
@@ -81,15 +82,30 @@ is_open-false (Some s) h = cc
 abbrev pub more_if : Bool → Message → HostState → HostState
 more_if b m s = if b then record { done = s.done; rest = s.rest ++ m ∷ []; count = s.count } else s
 
-pub part-more : (rest : List Message) (m : Message) (k : ℕ) (l : Link) → IsCount rest k → part (rest ++ m ∷ []) k l ≡ part rest k l
-part-more rest m zero l i = refl
-part-more [] m (suc j) l i = absurd i
-part-more (x ∷ xs) m (suc j) l i = refl
+pub part-more : (c : Parts) (rest : List Message) (m : Message) (k : ℕ) (l : Link) → IsCount rest k → part c (rest ++ m ∷ []) k l ≡ part c rest k l
+part-more c rest m zero l i = refl
+part-more c [] m (suc j) l i = absurd i
+part-more c (x ∷ xs) m (suc j) l i = refl
 
 pub counts-more : (rest : List Message) (m : Message) (k : ℕ) → IsCount rest k → IsCount (rest ++ m ∷ []) k
 counts-more rest m zero i = tt
 counts-more [] m (suc j) i = absurd i
 counts-more (x ∷ xs) m (suc j) i = tt
+
+-- the receiver of a message's link is meant by its frames
+meant-by : (c : Parts) (to l : Link) (bytes : List ℕ) → CanSend bytes → goes_over to l ≡ true → IsFor (ear_on c l) (record { nad = address c to; bytes = bytes })
+meant-by c to l bytes can over =
+    subst (λ (x : Link). IsFor (ear_on c x) (record { nad = address c to; bytes = bytes })) (over-is to l over)
+    (record { heard = eqb-self (nad_on c to); can = can; short = λ all functional. absurd (let bad : false ≡ true = all in cc) })
+
+pub can-go : (c : Parts) (h : ℕ) (m : Message) → IsLink c h m.link → CanSend m.bytes → CanGo c h m
+can-go c h m link can = record {
+  link = link;
+  home_is = link;
+  over = same-self m.link;
+  can = can;
+  meant = λ l i over. meant-by c m.link l m.bytes can over;
+}
 
 pub go-more : (c : Parts) (h : ℕ) (ms : List Message) (m : Message) → AllCanGo c h ms → CanGo c h m → AllCanGo c h (ms ++ m ∷ [])
 go-more c h [] m g i = (i, tt)
@@ -102,7 +118,7 @@ host-send c h accepted heard signs s m g i = record {
   are_done = i.are_done;
   can_go = go-more c h s.rest m i.can_go g;
   counts = counts-more s.rest m s.count i.counts;
-  links = λ l a. rw (part-more s.rest m s.count l i.counts) (i.links l a);
+  links = λ l a. rw (part-more c s.rest m s.count l i.counts) (i.links l a);
 }
 
 pub host-send-if : (c : Parts) (x : ℕ) (b : Bool) (accepted : List Message) (heard : Link → List Heard) (signs : Link → List Sign) (s : HostState) (m : Message)
@@ -169,7 +185,7 @@ send-known c capacity past port from to message es h k =
     in let m : Message = record { link = link_of from to; bytes = message }
     in let size = both-false (length message == 0) (nat_lt 4095 (length message)) all.1.1.0
     in let can : CanSend message = record { some = let e : (length message == 0) ≡ false = size.0 in grind (arith, nat_tests); few = let e : nat_lt 4095 (length message) ≡ false = size.1 in grind (arith, nat_tests) }
-    in let go : CanGo c from m = record { link = link-is c from to (from == 0) refl (not-false (has_address c from to) all.1.0); can = can }
+    in let go : CanGo c from m = can-go c from m (link-is c from to (from == 0) refl (not-false (has_address c from to) all.1.0)) can
     in record {
       states = λ x. more_if (from == x) m (k.states x);
       hosts = λ x. host-send-if c x (from == x) (accepted_from past x) (heard_on c past) (signs c past) (k.states x) m
@@ -214,7 +230,7 @@ rest-some c past h s q i w = rest-by c past h s (has_rest s.rest) q i refl w
 -- the next frame of a host
 pub data NextIs (c : Parts) (bytes : List ℕ) (s : HostState) : Type 0 where
   is_sleep : bytes ≡ sleep_frame → NextIs c bytes s
-  is_frame : (m : Message) (ms : List Message) (k : ℕ) → s.rest ≡ m ∷ ms → s.count ≡ k → bytes ≡ frame (nad_on c m.link) m.bytes k → NextIs c bytes s
+  is_frame : (m : Message) (ms : List Message) (k : ℕ) → s.rest ≡ m ∷ ms → s.count ≡ k → bytes ≡ frame (address c m.link) m.bytes k → NextIs c bytes s
 
 pub next-is : (c : Parts) (past : List LogEntry) (h : ℕ) (done : List (Message × Fate)) (rest : List Message) (k : ℕ) (sleeping : Bool) → IsQuietNow c past
     → HostIs c h (accepted_from past h) (heard_on c past) (signs c past) (record { done = done; rest = rest; count = k }) → (has_rest rest || sleeping) ≡ true
@@ -236,7 +252,7 @@ next-is c past h done (m ∷ ms) (suc j) sleeping q i w =
 -- without an ask for sleep it is a frame
 pub next-frame : (c : Parts) (past : List LogEntry) (h : ℕ) (done : List (Message × Fate)) (rest : List Message) (k : ℕ) → IsQuietNow c past
     → HostIs c h (accepted_from past h) (heard_on c past) (signs c past) (record { done = done; rest = rest; count = k }) → has_rest rest ≡ true
-    → (m : Message) × (ms : List Message) × (rest ≡ m ∷ ms) × (next_frame c past h false ≡ frame (nad_on c m.link) m.bytes k)
+    → (m : Message) × (ms : List Message) × (rest ≡ m ∷ ms) × (next_frame c past h false ≡ frame (address c m.link) m.bytes k)
 next-frame c past h done [] k q i w = cc
 next-frame c past h done (m ∷ ms) zero q i w =
     let st : Stands c h (blocks c past) (accepted_from past h) (record { done = done; rest = m ∷ ms; count = 0 }) = stands c past h (record { done = done; rest = m ∷ ms; count = 0 }) q i
@@ -296,8 +312,8 @@ master-slot c past port node table entry due left hurt sound k is line only z (i
 master-slot c past port node table entry due left hurt sound k is line only z (is_frame m ms j r n e) =
     let go : CanGo c 0 m = first-go c 0 (accepted_from past 0) (heard_on c past) (signs c past) (k.states 0) m ms r (k.hosts 0)
     in let down : m.link.dir ≡ Down = link-down c m.link.node m.link.dir sound go.link
-    in let shape : SlotIs c (is_sleep_asked past) k.states (Some (frame_slot table entry due left hurt m.link (frame (nad_on c m.link) m.bytes j))) = carries table entry due left hurt 0 m ms j only go.link.host r n
-    in rw (is, line, z, e) (subst (λ (s : Slot). SlotIs c (is_sleep_asked past) k.states (Some s)) (slot-down c table entry due left hurt m.link.node m.link.dir (frame (nad_on c m.link) m.bytes j) down) shape)
+    in let shape : SlotIs c (is_sleep_asked past) k.states (Some (frame_slot table entry due left hurt m.link (frame (address c m.link) m.bytes j))) = carries table entry due left hurt 0 m ms j only go.link.host r n
+    in rw (is, line, z, e) (subst (λ (s : Slot). SlotIs c (is_sleep_asked past) k.states (Some s)) (slot-down c table entry due left hurt m.link.node m.link.dir (frame (address c m.link) m.bytes j) down) shape)
 
 pub slave-slot : (c : Parts) (past : List LogEntry) (port : PortId) (node table entry : ℕ) (due left : List ℕ) (hurt : Bool) (h : ℕ) → (k : Known c past) → open_slot past ≡ Some (slot_of table entry (Some 0x7D) due [] left hurt)
     → (line_of c table entry).entry ≡ SlaveResp → OnlyDue due h → node ≡ h → h ≢ 0 → IsQuietNow c past → has_rest (k.states h).rest ≡ true → SlotIs c (is_sleep_asked past) k.states (open_slot (answer_entry c past port node ∷ past))
@@ -305,7 +321,7 @@ slave-slot c past port node table entry due left hurt h k is line only z some q 
     let next = next-frame c past h (k.states h).done (k.states h).rest (k.states h).count q (k.hosts h) w
     in let m : Message = next.0
     in let j : ℕ = (k.states h).count
-    in let f : List ℕ = frame (nad_on c m.link) m.bytes j
+    in let f : List ℕ = frame (address c m.link) m.bytes j
     in let go : CanGo c h m = first-go c h (accepted_from past h) (heard_on c past) (signs c past) (k.states h) m next.1 next.2 (k.hosts h)
     in let up : m.link.dir ≡ Up = link-up c h m.link.node m.link.dir some go.link
     in let own : m.link.node ≡ h = host-up m.link.node m.link.dir h up go.link.host
@@ -337,7 +353,7 @@ answer-slot c past port node sound k (Some _) is (sleep table entry due left hur
     in let no : (list_any (λ (p : ℕ × List ℕ). p.0 == node) ((0, with_classic sleep_frame) ∷ []) || is_in left node) ≡ false = rw is at decided
     in absurd (let yes = any-of left 0 node (with_classic sleep_frame) z in let bad : true ≡ false = sym yes ∙ no in cc)
 answer-slot c past port node sound k (Some _) is (carries table entry due left hurt h m ms j only host r n) d decided =
-    let f : List ℕ = frame (nad_on c m.link) m.bytes j
+    let f : List ℕ = frame (address c m.link) m.bytes j
     in let z : node ≡ host_of m.link = only node (rw is at d) ∙ sym host
     in let no : (list_any (λ (p : ℕ × List ℕ). p.0 == node) ((host_of m.link, with_classic f) ∷ []) || is_in left node) ≡ false = rw is at decided
     in absurd (let yes = any-of left (host_of m.link) node (with_classic f) z in let bad : true ≡ false = sym yes ∙ no in cc)

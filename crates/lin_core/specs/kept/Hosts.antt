@@ -10,7 +10,7 @@ use Rattle.lin_transport.specs.Sender.{Sending as Sender}
 use Rattle.lin_cluster_parts.specs.Cluster.{nodes}
 use Rattle.lin_core.specs.History.{is_host_closed, LogEntry, Step, Parts}
 use Rattle.lin_core.specs.Links.{Message, Sending, accepted_from, begun_sending, is_good, link_of}
-use Rattle.lin_core.specs.Links.{nad_on, waiting}
+use Rattle.lin_core.specs.Links.{address, waiting}
 use Rattle.lin_core.specs.Slots.{sleep_frame}
 use Rattle.lin_core.specs.declared.event.Event.{Event}
 use Rattle.lin_core.specs.declared.event.Event.TheVariants.{Lost}
@@ -39,7 +39,7 @@ pub record KeepsHost (c : Parts) (capacity : ℕ) (log past : List LogEntry) (h 
 -- the sender of the message that is begun
 abbrev pub sender_of : Parts → Sending → Sender
 sender_of c s = record {
-  nad = nad_on c s.message.link;
+  nad = address c s.message.link;
   size = length s.message.bytes;
   sent = length (filter is_good s.block);
 }
@@ -105,7 +105,7 @@ bytes_next c None (Some s) sleeping = []
 bytes_next c (Some m) (Some s) sleeping = frame s.nad m.bytes s.sent
 bytes_next c o None true = sleep_frame
 bytes_next c None None false = []
-bytes_next c (Some m) None false = frame (nad_on c m.link) m.bytes 0
+bytes_next c (Some m) None false = frame (address c m.link) m.bytes 0
 
 -- there is such a frame
 abbrev pub HasNext : Parts → Option Message → Option Sender → Bool → Type 0

@@ -3,9 +3,9 @@ use Rattle.std.specs.Prelude.{◌≡◌, ℕ, true, List, ◌∷◌, length, sli
 use Rattle.std.specs.Prelude.{is_some}
 use Rattle.lin_transport.specs.Transport.{Heard}
 use Rattle.lin_transport.specs.Transport.Heard.{Reset}
-use Rattle.lin_transport.specs.Receiver.{Hears, Reception, Stands}
+use Rattle.lin_transport.specs.Receiver.{ear_of, HasHeard, Reads, Reception}
 use Rattle.lin_cluster_parts.specs.Cluster.{nad, nodes}
-use Rattle.lin_core.specs.Links.{Link, heard_on, nad_on}
+use Rattle.lin_core.specs.Links.{Link, ear_on, heard_on}
 use Rattle.lin_core.specs.Replies.{link_at}
 use Rattle.lin_core.specs.declared.link.Direction.{Direction}
 use Rattle.lin_core.specs.declared.link.Direction.TheVariants.{Down, Up}
@@ -24,8 +24,8 @@ opposite Up = Down
 -- a receiver stands for what the receiver of its link is given
 pub record KeepsReceiver (c : Parts) (past : List LogEntry) (l : Link)
     (r : Reception) : Type 0 where
-  pub nad_is : r.nad ≡ nad_on c l
-  pub stands : Stands r (heard_on c past l)
+  pub ear_is : ear_of r ≡ ear_on c l
+  pub stands : HasHeard r (heard_on c past l)
 
 -- two of each node; those of a node that has no address are never used
 pub record KeepsHeard (c : Parts) (past : List LogEntry) (receivers : List Receivers) : Type 0 where
@@ -40,14 +40,14 @@ pub record HearsOn (l : Link) (frame : List ℕ) (given : Option (List ℕ))
   pub is : Receivers
   pub there : slice_get old l.node ≡ Some was
   pub set : new ≡ slice_set old l.node is
-  pub hears : (heard : List Heard) → Stands (receiver_in l.dir was) heard
-      → Hears (receiver_in l.dir was) frame heard given (receiver_in l.dir is)
+  pub hears : (heard : List Heard) → HasHeard (receiver_in l.dir was) heard
+      → Reads (receiver_in l.dir was) frame heard given (receiver_in l.dir is)
   pub other : receiver_in (opposite l.dir) is ≡ receiver_in (opposite l.dir) was
 
 -- a receiver that was reset, and both of a node
 pub record IsReset (old new : Reception) : Type 0 where
-  pub address : new.nad ≡ old.nad
-  pub stands : (heard : List Heard) → Stands old heard → Stands new (Reset ∷ heard)
+  pub ear : ear_of new ≡ ear_of old
+  pub ends : (heard : List Heard) → HasHeard new (Reset ∷ heard)
 
 pub record AreReset (old new : Receivers) : Type 0 where
   pub down : IsReset old.down new.down

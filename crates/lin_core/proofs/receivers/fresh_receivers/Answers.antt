@@ -1,9 +1,10 @@
-use Rattle.std.proofs.Common.{◌≡◌, ◌<◌, ℕ, zero, suc, List, [], ◌∷◌, ◌++◌, length, refl, ap, sym, ◌∙◌, subst, arith, inl, inr, length-append}
+use Rattle.std.proofs.Common.{◌≡◌, ◌<◌, ℕ, Bool, zero, suc, List, [], ◌∷◌, ◌++◌, length, refl, ap, sym, ◌∙◌, subst, arith, inl, inr, length-append}
 use Rattle.std.specs.Prelude.{◌⊎◌, Some, slice_get}
 use Rattle.std.specs.Option.{unwrap_or}
 use Rattle.lin_cluster_parts.specs.Cluster.{nad, nodes}
 use Rattle.lin_cluster_parts.specs.declared.parts.Parts.{Parts}
-use Rattle.lin_transport.specs.Receiver.{Reception, Stands}
+use Rattle.lin_transport.specs.Receiver.{ear_of, HasHeard, Reception, Stands}
+use Rattle.lin_transport.specs.Transport.{plain}
 use Rattle.lin_core.specs.kept.Receivers.{receiver_in, KeepsReceiver}
 use Rattle.lin_core.specs.Replies.{link_at}
 use Rattle.lin_core.specs.declared.link.Direction.{Direction}
@@ -22,12 +23,19 @@ get-more (a ∷ xs) x y (suc h) e = elim (get-more xs x y h e) [
 
 -- a receiver that has heard nothing
 record IsFresh (c : Parts) (n : ℕ) (r : Reception) : Type 0 where
-  address : r.nad ≡ unwrap_or (nad c n) 0
-  stands : Stands r []
+  ear : ear_of r ≡ plain (unwrap_or (nad c n) 0)
+  stands : HasHeard r []
+
+-- a new receiver that listens to this address alone
+plain-fresh : (c : Parts) (n address : ℕ) (r : Reception) → r.nad ≡ address → address ≡ unwrap_or (nad c n) 0 → Stands r [] → IsFresh c n r
+plain-fresh c n address r own is s = record {
+  ear = ap (λ (b : Bool). record { nad = r.nad; all = b }) s.0 ∙ ap plain (own ∙ is);
+  stands = s.1;
+}
 
 keeps-fresh : (c : Parts) (n : ℕ) (rs : Receivers) (d : Direction) → IsFresh c n rs.down → IsFresh c n rs.up → KeepsReceiver c [] (link_at n d) (receiver_in d rs)
-keeps-fresh c n rs Down down up = record { nad_is = down.address; stands = down.stands }
-keeps-fresh c n rs Up down up = record { nad_is = up.address; stands = up.stands }
+keeps-fresh c n rs Down down up = record { ear_is = down.ear; stands = down.stands }
+keeps-fresh c n rs Up down up = record { ear_is = up.ear; stands = up.stands }
 
 pub loop-node-preserved : goal.loop-node-preserved
 loop-node-preserved c =
@@ -39,8 +47,8 @@ loop-node-preserved c =
     let below : c.loop-node.node < nodes p = omega arith in
     let made : Receivers = record { down = c.new.result; up = c.new-in-loop-node.result } in
     let address = c.address_of-address.ensures below in
-    let down : IsFresh p c.loop-node.node c.new.result = record { address = c.new.ensures.address ∙ address; stands = c.new.ensures.stands } in
-    let up : IsFresh p c.loop-node.node c.new-in-loop-node.result = record { address = c.new-in-loop-node.ensures.address ∙ address; stands = c.new-in-loop-node.ensures.stands } in
+    let down : IsFresh p c.loop-node.node c.new.result = plain-fresh p c.loop-node.node _ c.new.result c.new.ensures.address address c.new.ensures.stands in
+    let up : IsFresh p c.loop-node.node c.new-in-loop-node.result = plain-fresh p c.loop-node.node _ c.new-in-loop-node.result c.new-in-loop-node.ensures.address address c.new-in-loop-node.ensures.stands in
     let items : c.push.new.self.items ≡ c.loop-node.made.items ++ made ∷ [] = c.in_ok-push.ensures.items in
     let count = v.count in
     record {

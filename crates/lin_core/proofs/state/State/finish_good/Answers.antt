@@ -6,7 +6,7 @@ use Rattle.lin_core.specs.kept.Hosts.{host_after_frame, host_after_settling, mes
 use Rattle.lin_core.specs.kept.Slots.{slot_in}
 use Rattle.lin_core.specs.kept.Receivers.{KeepsHeard}
 use Rattle.lin_core.specs.kept.Bus.{KeepsBus}
-use Rattle.lin_core.specs.Links.{Message, nad_on}
+use Rattle.lin_core.specs.Links.{Message, address}
 use Rattle.lin_core.specs.kept.State.{Passes, Stage, stage}
 use Rattle.lin_core.specs.Replies.{finish_events, receiver_of}
 use Rattle.lin_core.specs.declared.event.Event.TheVariants.{Message as MessageEvent, Seen, Sent}
@@ -127,14 +127,14 @@ goes c more = (part c more).goes (finish_events (here c).cluster c.args.by (past
 gone-same : (host other : Host) (n k len size : ℕ) → host ≡ other → n ≡ k → len ≡ size → host_after_frame host n len ≡ host_after_frame other k size
 gone-same host other n k len size p q r = rw (p, q, r) refl
 
-after : (c : After-index_mut-host) → (more : c.is_last-last.result ≡ false) → host_after_frame c.index_mut-host.result.now c.message_at-message.result.address (length c.message_at-message.result.bytes.now) ≡ host_after_frame c.index-host.result.now (nad_on (here c).cluster (goes c more).message.link) (length (goes c more).message.bytes)
+after : (c : After-index_mut-host) → (more : c.is_last-last.result ≡ false) → host_after_frame c.index_mut-host.result.now c.message_at-message.result.address (length c.message_at-message.result.bytes.now) ≡ host_after_frame c.index-host.result.now (address (here c).cluster (goes c more).message.link) (length (goes c more).message.bytes)
 after c more =
     let g = good c in
     let both : g.message ∷ g.later ≡ (goes c more).message ∷ (goes c more).later = sym g.first ∙ (goes c more).first in
     let one : g.message ≡ (goes c more).message = cc in
     let link = ap (λ (m : Message). m.link) (lent c) in
-    gone-same c.index_mut-host.result.now c.index-host.result.now c.message_at-message.result.address (nad_on (here c).cluster (goes c more).message.link) (length c.message_at-message.result.bytes.now) (length (goes c more).message.bytes) (same c)
-    (c.message_at-message.ensures.address (rw link g.node) ∙ ap (nad_on (here c).cluster) link ∙ ap (λ (m : Message). nad_on (here c).cluster m.link) one)
+    gone-same c.index_mut-host.result.now c.index-host.result.now c.message_at-message.result.address (address (here c).cluster (goes c more).message.link) (length c.message_at-message.result.bytes.now) (length (goes c more).message.bytes) (same c)
+    (c.message_at-message.ensures.address (rw link g.node) ∙ ap (address (here c).cluster) link ∙ ap (λ (m : Message). address (here c).cluster m.link) one)
     (size c ∙ ap (λ (m : Message). length m.bytes) one)
 
 pub go_on-requires-clause-some : goal.go_on-requires-clause-some
@@ -158,7 +158,7 @@ returns c =
     let host = c.index-host.result.now in
     let more = c.if-last-2.false in
     let m = (goes b more).message in
-    let new : Host = host_after_frame host (nad_on a.cluster m.link) (length m.bytes) in
+    let new : Host = host_after_frame host (address a.cluster m.link) (length m.bytes) in
     let es = finish_events a.cluster c.args.by (past_in a) in
     let k = known_after a.cluster (past_in a) c.args.by es w.sound o.step.known in
     record {
