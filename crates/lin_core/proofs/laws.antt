@@ -1,5 +1,6 @@
 -- The laws, of each history.
 pub mod Ends
+pub mod Agreeing
 pub mod Calm
 pub mod Fixed
 pub mod Reports

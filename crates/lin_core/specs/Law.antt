@@ -4,7 +4,7 @@ use Rattle.std.specs.Prelude.{◌++◌, map, filter}
 use Rattle.lin_core.specs.History.{did, is_host_closed, is_sleep_mark, LogEntry, Step, Parts}
 use Rattle.lin_core.specs.Links.{Link, goes_over, host_of, Sign, Fate, fate, is_waiting, frames_of}
 use Rattle.lin_core.specs.Links.{Message, Sending, sendings, fate_of, reading, waiting}
-use Rattle.lin_core.specs.Links.{accepted_messages}
+use Rattle.lin_core.specs.Links.{accepted_messages, blocks, frames_to, messages_on}
 use Rattle.lin_core.specs.Links.Fate.{Waiting, Sent, Lost}
 use Rattle.lin_core.specs.declared.step.Step.TheVariants.{Send, Hurt, Timeout}
 
@@ -34,6 +34,20 @@ InOrder [] (b ∷ bs) = ⊥
 InOrder (fs ∷ fss) (b ∷ []) = IsPrefix (frames_of b) fs
 InOrder (fs ∷ fss) (b ∷ d ∷ bs) =
     IsPrefix (frames_of b) fs × (is_waiting (fate fs b) ≡ false) × InOrder fss (d ∷ bs)
+
+-- the fates of messages with these frames, by the blocks at their places
+abbrev pub fates_in : List (List (List ℕ)) → List (List Sign) → List Fate
+fates_in [] bs = []
+fates_in (fs ∷ fss) [] = fate fs [] ∷ fates_in fss []
+fates_in (fs ∷ fss) (b ∷ bs) = fate fs b ∷ fates_in fss bs
+
+-- a message has one fate: the blocks of a link tell of the messages that go over it what those of
+-- their home links tell
+abbrev pub AgreesOn : Parts → List LogEntry → Link → Type 0
+AgreesOn c past l =
+    fates_in (map (frames_to c) (messages_on past l)) (blocks c past l)
+    ≡ map (fate_of c)
+    (filter (λ (s : Sending). goes_over s.message.link l) (sendings c past (host_of l)))
 
 -- the messages of a host with their fates
 abbrev pub outcomes_of : Parts → List LogEntry → ℕ → List (Message × Fate)

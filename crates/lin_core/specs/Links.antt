@@ -1,15 +1,16 @@
 -- Promises rest on this: messages on their links: what was accepted, what was put, and what became
 -- of it (ISO 17987-2, transport layer).
-use Rattle.std.specs.Prelude.{ℕ, suc, ◌==◌, eqb, Bool, true, false, ◌&&◌, if◌then◌else◌, List, []}
+use Rattle.std.specs.Prelude.{ℕ, suc, ◌==◌, eqb, Bool, true, false, ◌&&◌, ◌||◌, if◌then◌else◌, List, []}
 use Rattle.std.specs.Prelude.{◌∷◌, ◌++◌, map, find, filter, length, reverse, take, slice_index}
 use Rattle.std.specs.Prelude.{slice_index_or, Option, Some, None, is_some}
 use Rattle.std.specs.List.{list_any, list_all, cons_option}
 use Rattle.std.specs.Cmp.Lexicographic.{pointwise}
 use Rattle.std.specs.Option.{option_map_or, unwrap_or}
 use Rattle.lin_transport.specs.Words.{with_last}
-use Rattle.lin_transport.specs.Transport.{frames, begins, Ear, Heard, looks_at, messages_to, plain}
+use Rattle.lin_transport.specs.Transport.{frames, begins, functional, Ear, Heard, looks_at, messages_to}
 use Rattle.lin_transport.specs.Transport.Heard.{Frame, Reset}
-use Rattle.lin_cluster_parts.specs.Cluster.{nad}
+use Rattle.lin_frame.specs.Words.{numbers}
+use Rattle.lin_cluster_parts.specs.Cluster.{nad, nodes}
 use Rattle.lin_core.specs.History.{Slot, open_slot, finished_slot, done, did, seen_of, good_under}
 use Rattle.lin_core.specs.History.{header_is, is_sleep_mark, LogEntry, Step, Parts}
 use Rattle.lin_core.specs.declared.step.Step.TheVariants.{Send, Timeout}
@@ -21,7 +22,8 @@ use Rattle.lin_core.specs.declared.link.Cause.TheVariants.{Damaged, TimedOut, Sl
 use Rattle.lin_core.specs.declared.event.Seen.{Seen}
 use Rattle.lin_core.specs.declared.event.Seen.TheVariants.{Good, Damaged as SeenDamaged}
 
--- a link: a responder and a direction
+-- a link: a responder and a direction. As the place where a message goes also node 126, down: all
+-- responders that have an address (ISO 17987-2, functional node address); no node has this number
 abbrev pub Link : Type 0
 Link = DeclaredLink
 
@@ -64,9 +66,22 @@ accepted_from (e ∷ past) h =
     (λ m. accepted_from past h ++ m ∷ []) (option_map_or (sent_from h) (done e) None)
     (accepted_from past h)
 
+-- whether what goes to a place goes to all responders
+abbrev pub is_to_all_by : Direction → ℕ → Bool
+is_to_all_by Down node = node == functional
+is_to_all_by Up node = false
+
+abbrev pub is_to_all : Link → Bool
+is_to_all to = is_to_all_by to.dir to.node
+
+-- what goes to all goes over each link down
+abbrev pub reaches : Direction → Bool → Bool
+reaches Down all = all
+reaches Up all = false
+
 -- whether what goes to a place goes over a link
 abbrev pub goes_over : Link → Link → Bool
-goes_over to l = same_link to l
+goes_over to l = reaches l.dir (is_to_all to) || same_link to l
 
 -- the messages that go over a link, in the order in which they were accepted
 abbrev pub messages_on : List LogEntry → Link → List Message
@@ -86,7 +101,9 @@ abbrev pub put_by : Direction → ℕ → Option ℕ → Slot → List (List ℕ
 put_by Down node k s =
     if header_is 0x3C s.header
     then map (λ (p : ℕ × List ℕ). take 8 p.1)
-    (filter (λ (p : ℕ × List ℕ). option_map_or (λ n. slice_index p.1 0 == n) k false) s.puts)
+    (filter
+    (λ (p : ℕ × List ℕ). option_map_or
+    (λ n. looks_at (record { nad = n; all = true }) (slice_index p.1 0)) k false) s.puts)
     else []
 put_by Up node k s =
     if header_is 0x7D s.header
@@ -200,13 +217,18 @@ pub record Sending : Type 0 where
 abbrev pub nad_on : Parts → Link → ℕ
 nad_on c l = unwrap_or (nad c l.node) 0
 
--- the link by whose blocks a message's fate is told
+-- the first responder that has an address
+abbrev pub first_addressed : Parts → ℕ
+first_addressed c = unwrap_or (find (λ n. is_some (nad c n)) (numbers (nodes c))) 0
+
+-- the link by whose blocks a message's fate is told: its own, and of a message to all responders the
+-- one down to the first of them that has an address
 abbrev pub home : Parts → Link → Link
-home c to = to
+home c to = if is_to_all to then record { node = first_addressed c; dir = Down } else to
 
 -- the address in the frames of a message that goes here
 abbrev pub address : Parts → Link → ℕ
-address c to = nad_on c to
+address c to = if is_to_all to then functional else nad_on c to
 
 abbrev pub frames_to : Parts → Message → List (List ℕ)
 frames_to c m = frames (address c m.link) m.bytes
@@ -245,9 +267,13 @@ waiting c past h = filter (waits c) (sendings c past h)
 abbrev pub begun_sending : Parts → List LogEntry → ℕ → Option Sending
 begun_sending c past h = find (is_begun c) (sendings c past h)
 
--- what the receiver of a link listens to
+-- what the receiver of a link listens to: the address of its node, and down the functional one too
+abbrev pub is_down : Direction → Bool
+is_down Down = true
+is_down Up = false
+
 abbrev pub ear_on : Parts → Link → Ear
-ear_on c l = plain (nad_on c l)
+ear_on c l = record { nad = nad_on c l; all = is_down l.dir }
 
 -- what the receiver of a link is given: the good frames that it looks at, and the marks
 abbrev pub heard_good : Ear → List ℕ → List Heard

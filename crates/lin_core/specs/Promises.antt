@@ -4,7 +4,7 @@ use Rattle.lin_cluster_parts.specs.Cluster.{nad}
 use Rattle.lin_core.specs.Defined.{AreDefined, TellsDue}
 use Rattle.lin_core.specs.History.{done, events, LogEntry, Parts}
 use Rattle.lin_core.specs.Law.{InOrder, NoneLost, NoSendAfterClose, ReadsAll, ReadsSent, Stays}
-use Rattle.lin_core.specs.Law.{is_calm, outcomes_of}
+use Rattle.lin_core.specs.Law.{is_calm, outcomes_of, AgreesOn}
 use Rattle.lin_core.specs.Links.{Link, blocks, frames_to, messages_on}
 use Rattle.lin_core.specs.Reports.{ReportsFates, TellsReading}
 
@@ -27,10 +27,13 @@ AllStay c [] h = ⊤
 AllStay c (e ∷ past) h =
     Stays (outcomes_of c past h) (outcomes_of c (e ∷ past) h) × AllStay c past h
 
--- one final fate per message: a fate that isn't Waiting never changes, and each host is told once
--- of each of its messages that waits no longer
+-- one final fate per message: a fate that isn't Waiting never changes, each host is told once of
+-- each of its messages that waits no longer, and a message has the same fate on each link that it
+-- goes over
 abbrev pub FatesAreFinal : Parts → List LogEntry → Type 0
-FatesAreFinal c past = (h : ℕ) → AllStay c past h × ReportsFates c past h
+FatesAreFinal c past =
+    ((h : ℕ) → AllStay c past h × ReportsFates c past h)
+    × ((l : Link) → is_some (nad c l.node) ≡ true → AgreesOn c past l)
 
 -- every slot carries its frame: each slot event has the due entry and its header, and after it
 -- stands a due event for each node that is due, in order; each put has the bytes of the slot's

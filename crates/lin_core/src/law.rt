@@ -23,7 +23,8 @@ pub fn puts_in_order()
         → PutsInOrder c (history c opening capacity steps) }
 {}
 
-/// A message's fate that isn't to wait never changes, and its host is told of it once.
+/// A message's fate that isn't to wait never changes, its host is told of it once, and each link
+/// that it goes over tells the same.
 pub fn fates_are_final()
     ensures { (c : Parts) (opening capacity : ℕ) (steps : List (PortId × Step)) → IsSound c
         → FatesAreFinal c (history c opening capacity steps) }

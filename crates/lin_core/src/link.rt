@@ -1,5 +1,7 @@
 //! The links that messages go over, and why a message is cut short.
 
+use lin_transport::FUNCTIONAL;
+
 /// Which way a diagnostic message goes: down from host 0 to a responder, or up from a responder's
 /// host to host 0 (ISO 17987-2, transport layer).
 #[derive(Clone, Copy, Debug, PartialEq, Eq)]
@@ -18,7 +20,7 @@ pub(crate) struct Link {
 
 impl Link {
     ghost use Rattle.std.specs.Prelude.{◌≡◌};
-    ghost use Rattle.lin_core.specs.Links.{host_of, link_of, same_link};
+    ghost use Rattle.lin_core.specs.Links.{host_of, is_to_all, link_of, same_link};
     ghost use Rattle.lin_core.specs.Replies.{receiver_of};
 
     /// The link that a message from one host to another goes over.
@@ -54,6 +56,16 @@ impl Link {
         match self.dir {
             Direction::Down => self.node,
             Direction::Up => 0,
+        }
+    }
+
+    /// Whether what goes here goes to all responders (ISO 17987-2, functional node address).
+    pub(crate) fn is_to_all(self) -> bool
+        ensures { result ≡ is_to_all self }
+    {
+        match self.dir {
+            Direction::Down => self.node == FUNCTIONAL,
+            Direction::Up => false,
         }
     }
 

@@ -1,17 +1,17 @@
 //! Messages that wait, by their places in the log.
 
-ghost use Rattle.std.specs.Prelude.{◌≡◌, ◌<◌, Some, is_some, true};
+ghost use Rattle.std.specs.Prelude.{◌≡◌, ◌<◌, ◌⊎◌, Some, is_some, true};
 ghost use Rattle.std.specs.Option.{unwrap_or};
 ghost use Rattle.lin_cluster_parts.specs.Cluster.{nad, nodes};
 ghost use Rattle.lin_core.specs.kept.Hosts.{message_at, bytes_next, HasNext};
-ghost use Rattle.lin_core.specs.Links.{address};
+ghost use Rattle.lin_core.specs.Links.{address, is_to_all};
 
 use crate::host::Host;
 use crate::link::Link;
 use crate::log::Log;
 use crate::step::Step;
 use lin_cluster_parts::Cluster;
-use lin_transport::Sender;
+use lin_transport::{FUNCTIONAL, Sender};
 
 /// A message, lent from the entry of the log that accepted it: the link that it goes over, its
 /// bytes, and the address on the link.
@@ -32,12 +32,24 @@ pub(crate) fn address_of(cluster: &Cluster, node: u8) -> u8
     cluster.nad(node).unwrap_or(0)
 }
 
+/// The address in the frames of a message that goes to a place; 0 where that has none.
+fn address_to(cluster: &Cluster, to: Link) -> u8
+    ensures { (is_to_all to ≡ true) ⊎ (to.node < nodes cluster.now)
+        → result ≡ address cluster.now to }
+{
+    if to.is_to_all() {
+        return FUNCTIONAL;
+    }
+    address_of(cluster, to.node)
+}
+
 /// The message whose step stands at a place in the log.
 pub(crate) fn message_at<'a>(cluster: &Cluster, log: &'a Log, place: usize) -> Message<'a>
     requires { is_some (message_at log.now.entries place) ≡ true }
     ensures message { message_at log.now.entries place
         ≡ Some (record { link = result.link; bytes = result.bytes.now }) }
-    ensures address { result.link.node < nodes cluster.now → result.address ≡ address cluster.now result.link }
+    ensures address { (is_to_all result.link ≡ true) ⊎ (result.link.node < nodes cluster.now)
+        → result.address ≡ address cluster.now result.link }
 {
     match &log.entry(place).step {
         Step::Send { from, to, message } => {
@@ -45,7 +57,7 @@ pub(crate) fn message_at<'a>(cluster: &Cluster, log: &'a Log, place: usize) -> M
             Message {
                 link,
                 bytes: message.as_slice(),
-                address: address_of(cluster, link.node),
+                address: address_to(cluster, link),
             }
         }
         _ => unreachable!(),

@@ -16,7 +16,7 @@ use lin_transport::Receiver;
 use std::alloc::{AllocError, Global};
 
 /// The receivers of the two links of a node (ISO 17987-2, transport layer): its own, of the
-/// messages down to it, and the one of host 0, of the messages up from it. A node without an
+/// messages down to it and to all responders, and the one of host 0, of the messages up from it. A node without an
 /// address has no links, and its two hear nothing.
 #[derive(Drop)]
 pub(crate) struct Receivers {
@@ -77,7 +77,7 @@ pub(crate) fn fresh_receivers(
     for node in 0..cluster.nodes() as u8 {
         let address = address_of(cluster, node);
         made.push(Receivers {
-            down: Receiver::new(alloc, address),
+            down: Receiver::functional(alloc, address),
             up: Receiver::new(alloc, address),
         })?;
     }

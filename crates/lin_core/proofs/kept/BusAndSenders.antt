@@ -152,7 +152,7 @@ pub send-late : (c : Parts) (capacity : ℕ) (past : List LogEntry) (by : PortId
 send-late c capacity past by from to message es place host bus hosts hosts' sound k allowed here set late =
     let e : LogEntry = entry_is by (Send from to message) es
     in let m : Message = record { link = link_of from to; bytes = message }
-    in let k' : Known c (e ∷ past) = send-known c capacity past by from to message es allowed k
+    in let k' : Known c (e ∷ past) = send-known c capacity past by from to message es sound allowed k
     in let stays : (h : ℕ) (x : Host) → KeepsSender c past h x → KeepsSender c (e ∷ past) h x
     = λ h x own. record { closed_is = own.closed_is; sender_is = own.sender_is ∙ sym (sender-is c (e ∷ past) h sound k' ∙ state-more c (from == h) m (k.states h) (k.hosts h).counts ∙ sym (sender-is c past h sound k)) }
     in record {

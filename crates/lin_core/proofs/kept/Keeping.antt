@@ -141,7 +141,7 @@ pub send-keeps : (c : Parts) (opening capacity : ℕ) (log past : List LogEntry)
 send-keeps c opening capacity log past slot clock walker hosts hosts' signals host by from to message number sound known allowed at set k =
     let e : LogEntry = send_entry by from to message number
     in let m : Message = record { link = link_of from to; bytes = message }
-    in let known' : Known c (e ∷ past) = send-known c capacity past by from to message (Accepted from number ∷ []) allowed known
+    in let known' : Known c (e ∷ past) = send-known c capacity past by from to message (Accepted from number ∷ []) sound allowed known
     in let more : (x : ℕ) → map message_of (waiting c (e ∷ past) x) ≡ map message_of (waiting c past x) ++ (if from == x then m ∷ [] else [])
     = λ x. waiting-are c (e ∷ past) x sound known' ∙ rest-more (from == x) m (known.states x) ∙ ap (λ (ms : List Message). ms ++ (if from == x then m ∷ [] else [])) (sym (waiting-are c past x sound known))
     in record {

@@ -13,7 +13,7 @@ use Rattle.lin_cluster_parts.specs.Sound.{IsSound}
 use Rattle.lin_cluster_parts.specs.declared.parts.Parts.{Parts}
 use Rattle.lin_core.specs.History.{Slot, is_sleep_asked, open_slot}
 use Rattle.lin_core.specs.kept.Receivers.{AreReset, HearsOn, IsReset, KeepsHeard, KeepsReceiver, opposite, receiver_in}
-use Rattle.lin_core.specs.Links.{Link, Message, accepted_from, address, ear_on, goes_over, heard_on, reading, same_link, signs}
+use Rattle.lin_core.specs.Links.{Link, Message, accepted_from, address, ear_on, goes_over, heard_on, is_to_all, reading, same_link, signs}
 use Rattle.lin_core.specs.kept.Slots.{is_still, pdu_of}
 use Rattle.lin_core.specs.Replies.{link_at}
 use Rattle.lin_core.specs.Slots.{with_classic}
@@ -31,7 +31,7 @@ use Rattle.lin_core.proofs.links.Finishes.{IsPlace, empty-quiet, finish-heard, f
 use Rattle.lin_core.proofs.sendings.Hosts.{CanGo, IsLink, same-self}
 use Rattle.lin_core.proofs.steps.Known.{Known, SlotIs, entry_is, has-nad, place-of}
 use Rattle.lin_core.proofs.steps.Known.SlotIs.{carries, closed, master, other, slave, sleep}
-use Rattle.lin_core.proofs.sendings.Moves.{heard_by, over-is, record_of, same-is}
+use Rattle.lin_core.proofs.sendings.Moves.{heard_by, over-is, over-self, record_of, same-is}
 use Rattle.lin_core.proofs.kept.Places.{get-there, set-other, set-own}
 use Rattle.lin_core.proofs.steps.Steps.{first-go}
 use Rattle.lin_core.proofs.sendings.Turns.{pdu-frame, other-pdu}
@@ -100,6 +100,7 @@ pub record CarriesFrame (c : Parts) (past : List LogEntry) (by : PortId) (k : Kn
   pub later : List Message
   pub first : (k.states h).rest ≡ message ∷ later
   pub link : IsLink c h message.link
+  pub one : is_to_all message.link ≡ false
   pub looks : looks_at (ear_on c message.link) (address c message.link) ≡ true
   pub puts : s.puts ≡ (h, with_classic (frame (address c message.link) message.bytes (k.states h).count)) ∷ []
   pub heard : (es : List Event) (l : Link) → is_some (nad c l.node) ≡ true
@@ -128,7 +129,8 @@ frame-by c past by sound k (Some _) s h is (carries table entry due left hurt g 
       later = ms;
       first = r;
       link = go.link;
-      looks = (go.meant m.link go.link (same-self m.link)).heard;
+      one = go.one;
+      looks = (go.meant m.link go.link (over-self m.link)).heard;
       puts = rw n (ap (λ (x : ℕ). (x, with_classic f) ∷ []) host);
       heard = λ es l b. rw n (finish-heard c past by es t l is ∙ ap (λ (x : List Heard). x ++ heard_on c past l) (frame-adds c table entry due left hurt m.link l f sound place (has-nad c l.node b) (frame-is (address c m.link) m.bytes j)).heard);
     }
@@ -210,9 +212,9 @@ timeout-own c past by node dir es e = rw e refl
 heard-to : (e : Ear) (f : List ℕ) (heard : List Heard) → looks_at e (slice_index f 0) ≡ true → heard_to e f heard ≡ Frame f ∷ heard
 heard-to e f heard looks = rw looks refl
 
-other-link : (l x : Link) (b : Bool) → goes_over l x ≡ b → x ≢ l → b ≡ false
-other-link l x true e differ = absurd (differ (sym (over-is l x e)))
-other-link l x false e differ = refl
+other-link : (l x : Link) (b : Bool) → is_to_all l ≡ false → goes_over l x ≡ b → x ≢ l → b ≡ false
+other-link l x true one e differ = absurd (differ (sym (over-is l x one e)))
+other-link l x false one e differ = refl
 
 -- what the receivers stand for then, and what the link's receiver gave
 pub record HeardFrame (c : Parts) (past past' : List LogEntry) (l : Link) (given : Option (List ℕ)) (rs : List Receivers) : Type 0 where
@@ -228,7 +230,7 @@ heard-frame c past by es k s h i given rs rs' calm on kept =
     in let f : List ℕ = frame n i.message.bytes (k.states h).count
     in let past' : List LogEntry = entry_is by Finish es ∷ past
     in let before : List Heard = heard_on c past l
-    in let heard : heard_on c past' l ≡ Frame f ∷ before = i.heard es l i.link.address ∙ rw (same-self l, calm) refl
+    in let heard : heard_on c past' l ≡ Frame f ∷ before = i.heard es l i.link.address ∙ rw (over-self l, calm) refl
     in let was : KeepsReceiver c past l (receiver_in l.dir on.was) = kept.each l.node on.was l.dir on.there i.link.address
     in let hears : Reads (receiver_in l.dir on.was) f before given (receiver_in l.dir on.is) = on.hears before was.stands
     in let looks : looks_at e (slice_index f 0) ≡ true = rw (frame-address n i.message.bytes (k.states h).count) (i.looks)
@@ -240,7 +242,7 @@ heard-frame c past by es k s h i given rs rs' calm on kept =
     = subst (λ (x : List Heard). HasHeard (receiver_in l.dir on.is) x) all (subst (λ (x : Ear). HasHeard (receiver_in l.dir on.is) (heard_to x f before)) was.ear_is hears.stands)
     in record {
       keeps = rw on.set (heard-one c past past' rs l on.was on.is on.there (record { ear_is = hears.ear ∙ was.ear_is; stands = stands }) on.other
-          (λ x a differ. i.heard es x a ∙ rw (other-link l x (goes_over l x) refl differ) refl) kept);
+          (λ x a differ. i.heard es x a ∙ rw (other-link l x (goes_over l x) i.one refl differ) refl) kept);
       gains = ap (drop (length (reading c past l))) reads ∙ drop_at (reading c past l) (option_to_list given) (length (reading c past l)) refl;
     }
 

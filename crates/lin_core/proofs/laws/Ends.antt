@@ -5,11 +5,11 @@ use Rattle.std.proofs.lemmas.Bool.Decides.{eqb_tells, nat_tests}
 use Rattle.std.proofs.lemmas.List.{append-nil, map-append}
 use Rattle.lin_frame.specs.Words.{numbers}
 use Rattle.lin_transport.specs.Law.{Addressed}
-use Rattle.lin_transport.specs.Transport.{frame, frame_count, Ear, Heard, CanSend}
+use Rattle.lin_transport.specs.Transport.{frame, frame_count, functional, Ear, Heard, CanSend}
 use Rattle.lin_cluster_parts.specs.declared.parts.Parts.{Parts}
 use Rattle.lin_cluster_parts.specs.Cluster.{nad}
 use Rattle.lin_core.specs.History.{Slot, open_slot, header_is, is_sleep_asked}
-use Rattle.lin_core.specs.Links.{Link, same_dir, Message, host_of, accepted_from, Sign, Fate, address, ear_on, frames_to, goes_over, put_on, signs, heard_on, blocks, blocks_of, messages_on}
+use Rattle.lin_core.specs.Links.{Link, same_dir, Message, host_of, accepted_from, Sign, Fate, address, ear_on, frames_to, goes_over, is_down, is_to_all, put_on, signs, heard_on, blocks, blocks_of, messages_on}
 use Rattle.lin_core.specs.Links.Sign.{Put as PutSign}
 use Rattle.lin_cluster_parts.specs.Sound.{IsSound}
 use Rattle.lin_core.specs.declared.log.LogEntry.{LogEntry}
@@ -19,8 +19,8 @@ use Rattle.lin_core.specs.declared.link.Direction.{Direction}
 use Rattle.lin_core.specs.declared.link.Direction.TheVariants.{Down, Up}
 use Rattle.lin_transport.proofs.Frames.{and-false, first-cons, frame-begins, frame-continues}
 use Rattle.lin_core.proofs.sendings.Hosts.{HostState, HostIs, IsLink, addressed, on_link, outcome_on, part, message_of, on, HasBlocks, tail_of, track-blocks, Track}
-use Rattle.lin_core.proofs.sendings.Moves.{record_of, count-less, part-busy, busy_if}
-use Rattle.lin_core.proofs.links.Finishes.{sleep_slot, frame_slot, HasNad, IsPlace, frame-is, IsFrameOf, other-nad, zero-not, nad-is}
+use Rattle.lin_core.proofs.sendings.Moves.{record_of, over-all, over-one, to-all-is, count-less, part-busy, busy_if}
+use Rattle.lin_core.proofs.links.Finishes.{sleep_slot, frame_slot, HasNad, IsPlace, frame-is, IsFrameOf, not-all, other-nad, zero-not, nad-is}
 use Rattle.std.specs.List.{cons_option}
 use Rattle.std.proofs.lemmas.List.Elements.{filter-append}
 use Rattle.lin_core.specs.Runs.{history}
@@ -79,8 +79,8 @@ plain-held c h blocks accepted heard signs s e i = record {
 pub put-frame-by : (c : Parts) (table entry : ℕ) (due left : List ℕ) (hurt : Bool) (a b : ℕ) (d e : Direction) (f : List ℕ) (n k : ℕ) → IsSound c → nad c a ≡ Some n → nad c b ≡ Some k → IsFrameOf n f
     → put_on c (record_of b e) (frame_slot table entry due left hurt (record_of a d) f) ≡ (if a == b && same_dir d e then f ∷ [] else [])
 put-frame-by c table entry due left hurt a b Down Down f n k sound p q i = elim (eqb_tells a b) [
-  | inl same ↦ let nk : (n == k) ≡ true = let z : Some n ≡ Some k = sym p ∙ ap (nad c) same.1 ∙ q in let y : n ≡ k = cc in grind (arith, nat_tests, y) in rw (q, i.address, nk, same.0, i.data_is)
-  | inr differ ↦ rw (q, i.address, other-nad c a b n k sound p q differ.1, differ.0)
+  | inl same ↦ let nk : (n == k) ≡ true = let z : Some n ≡ Some k = sym p ∙ ap (nad c) same.1 ∙ q in let y : n ≡ k = cc in grind (arith, nat_tests, y) in rw (q, i.address, not-all n (sound.most a n p), nk, same.0, i.data_is)
+  | inr differ ↦ rw (q, i.address, not-all n (sound.most a n p), other-nad c a b n k sound p q differ.1, differ.0)
 ]
 put-frame-by c table entry due left hurt a b Up Up f n k sound p q i = elim (eqb_tells a b) [
   | inl same ↦ rw (same.0, i.data_is)
@@ -89,9 +89,23 @@ put-frame-by c table entry due left hurt a b Up Up f n k sound p q i = elim (eqb
 put-frame-by c table entry due left hurt a b Down Up f n k sound p q i = rw (and-false (a == b))
 put-frame-by c table entry due left hurt a b Up Down f n k sound p q i = rw (and-false (a == b))
 
+put-frame-all : (c : Parts) (table entry : ℕ) (due left : List ℕ) (hurt : Bool) (b : ℕ) (e : Direction) (f : List ℕ) (k : ℕ) → nad c b ≡ Some k → IsFrameOf functional f
+    → put_on c (record_of b e) (frame_slot table entry due left hurt (record_of functional Down) f) ≡ (if is_down e then f ∷ [] else [])
+put-frame-all c table entry due left hurt b Down f k q i = rw (q, i.address, i.data_is)
+put-frame-all c table entry due left hurt b Up f k q i = refl
+
+put-frame-to : (c : Parts) (table entry : ℕ) (due left : List ℕ) (hurt : Bool) (to l : Link) (f : List ℕ) (b : Bool) → is_to_all to ≡ b → IsSound c → IsPlace c to → HasNad c l.node → IsFrameOf (address c to) f
+    → put_on c l (frame_slot table entry due left hurt to f) ≡ (if goes_over to l then f ∷ [] else [])
+put-frame-to c table entry due left hurt to l f true all sound p q i =
+    subst (λ (x : Link). IsFrameOf (address c x) f → put_on c l (frame_slot table entry due left hurt x f) ≡ (if goes_over x l then f ∷ [] else [])) (sym (to-all-is to.node to.dir all))
+    (λ j. rw (over-all l.node l.dir) (put-frame-all c table entry due left hurt l.node l.dir f q.n q.is j)) i
+put-frame-to c table entry due left hurt to l f false one sound p q i =
+    let at : HasNad c to.node = p one
+    in rw (over-one to l one) (put-frame-by c table entry due left hurt to.node l.node to.dir l.dir f at.n q.n sound at.is q.is (rw (one, nad-is c to at.n at.is) at i))
+
 pub put-frame : (c : Parts) (table entry : ℕ) (due left : List ℕ) (hurt : Bool) (to l : Link) (f : List ℕ) → IsSound c → IsPlace c to → HasNad c l.node → IsFrameOf (address c to) f
     → put_on c l (frame_slot table entry due left hurt to f) ≡ (if goes_over to l then f ∷ [] else [])
-put-frame c table entry due left hurt to l f sound p q i = put-frame-by c table entry due left hurt to.node l.node to.dir l.dir f p.n q.n sound p.is q.is (rw (nad-is c to p.n p.is) at i)
+put-frame c table entry due left hurt to l f sound p q i = put-frame-to c table entry due left hurt to l f (is_to_all to) refl sound p q i
 
 pub put-sleep : (c : Parts) (table entry : ℕ) (due left : List ℕ) (hurt : Bool) (node : ℕ) (dir : Direction) → IsSound c → HasNad c node → put_on c (record_of node dir) (sleep_slot table entry due left hurt) ≡ []
 put-sleep c table entry due left hurt node Down sound a = rw (a.is, zero-not a.n (sound.some node a.n a.is))

@@ -8,6 +8,7 @@ use Rattle.lin_core.specs.Runs.{history, steps_of}
 use Rattle.lin_core.specs.declared.log.LogEntry.{LogEntry}
 use Rattle.lin_core.specs.declared.port.PortId.{PortId}
 use Rattle.lin_core.specs.declared.step.Step.{Step}
+use Rattle.lin_core.proofs.laws.Agreeing.{links-agree}
 use Rattle.lin_core.proofs.laws.Calm.{none-lost, reads-all}
 use Rattle.lin_core.proofs.laws.Defined.{dues-told, slots-defined}
 use Rattle.lin_core.proofs.laws.Ends.{blocks-order, reads-sent}
@@ -26,7 +27,7 @@ all-stay c opening capacity [] h sound = tt
 all-stay c opening capacity (s ∷ earlier) h sound = (fates-stay c opening capacity s earlier sound h, all-stay c opening capacity earlier h sound)
 
 pub history-final : (c : Parts) (opening capacity : ℕ) (steps : List (PortId × Step)) → IsSound c → FatesAreFinal c (history c opening capacity steps)
-history-final c opening capacity steps sound = λ h. (all-stay c opening capacity steps h sound, reports-fates c opening capacity steps sound h)
+history-final c opening capacity steps sound = ((λ h. (all-stay c opening capacity steps h sound, reports-fates c opening capacity steps sound h)), λ l a. links-agree c opening capacity steps sound l a)
 
 pub history-carries : (c : Parts) (opening capacity : ℕ) (steps : List (PortId × Step)) → CarriesFrames c opening (history c opening capacity steps)
 history-carries c opening capacity [] = tt

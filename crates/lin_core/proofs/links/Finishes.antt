@@ -1,5 +1,5 @@
 -- What the finish of a slot leaves on each link.
-use Rattle.std.proofs.Common.{◌≡◌, ◌≢◌, ℕ, ◌≤◌, Bool, true, false, List, [], ◌∷◌, ◌++◌, length, take, refl, ap, ◌∙◌, subst, arith, inl, inr}
+use Rattle.std.proofs.Common.{◌≡◌, ◌≢◌, ℕ, ◌≤◌, ◌<◌, Bool, true, false, List, [], ◌∷◌, ◌++◌, length, take, refl, ap, sym, ◌∙◌, subst, arith, inl, inr}
 use Rattle.std.specs.Prelude.{Option, Some, None, cond, ◌&&◌, ◌==◌, if◌then◌else◌, is_some, slice_index}
 use Rattle.std.specs.List.{cons_option}
 use Rattle.std.proofs.lemmas.Bool.Decides.{eqb_tells, nat_tests}
@@ -7,12 +7,12 @@ use Rattle.std.proofs.lemmas.Bool.{ne_eqb}
 use Rattle.std.proofs.lemmas.List.{take_at, get_or_append_left}
 use Rattle.std.specs.Option.{option_map_or, unwrap_or}
 use Rattle.lin_frame.specs.Frame.{classic}
-use Rattle.lin_transport.specs.Transport.{frame, Heard}
+use Rattle.lin_transport.specs.Transport.{frame, functional, Heard}
 use Rattle.lin_transport.specs.Transport.Heard.{Reset}
 use Rattle.lin_cluster_parts.specs.declared.parts.Parts.{Parts}
 use Rattle.lin_cluster_parts.specs.Cluster.{nad}
 use Rattle.lin_core.specs.History.{Slot, open_slot, seen_of, header_is, good_under, is_sleep_slot}
-use Rattle.lin_core.specs.Links.{Link, same_dir, host_of, Sign, address, ear_on, goes_over, nad_on, put_signs, signs, heard_on, heard_good, diagnostic_header}
+use Rattle.lin_core.specs.Links.{Link, same_dir, host_of, Sign, address, is_down, is_to_all, ear_on, goes_over, nad_on, put_signs, signs, heard_on, heard_good, diagnostic_header}
 use Rattle.lin_core.specs.Links.Sign.{Mark}
 use Rattle.lin_core.specs.Slots.{with_classic, sleep_frame}
 use Rattle.lin_cluster_parts.specs.Sound.{IsSound}
@@ -26,7 +26,7 @@ use Rattle.lin_core.specs.declared.link.Direction.{Direction}
 use Rattle.lin_core.specs.declared.link.Direction.TheVariants.{Down, Up}
 use Rattle.lin_transport.proofs.Frames.{length-frame, frame-address, and-false}
 use Rattle.lin_core.proofs.sendings.Hosts.{eqb-self}
-use Rattle.lin_core.proofs.sendings.Moves.{sign_by, heard_by, record_of}
+use Rattle.lin_core.proofs.sendings.Moves.{sign_by, heard_by, over-all, over-one, record_of, to-all-is}
 
 abbrev pub finish_entry : PortId → List Event → LogEntry
 finish_entry port es = record { port = port; step = Finish; reply = Done es }
@@ -120,12 +120,15 @@ pub record Adds (c : Parts) (s : Slot) (l : Link) (b hurt : Bool) (f : List ℕ)
   pub signs : slot_signs c s l ≡ (if b then sign_by hurt f ∷ [] else [])
   pub heard : slot_heard c s l ≡ (if b then heard_by hurt f else [])
 
-pub frame-adds-there : (c : Parts) (table entry : ℕ) (due left : List ℕ) (hurt : Bool) (a : ℕ) (d : Direction) (f : List ℕ) (n : ℕ) → nad c a ≡ Some n → 1 ≤ n → IsFrameOf n f
+pub not-all : (n : ℕ) → n ≤ 125 → (n == functional) ≡ false
+not-all n most = ne_eqb n functional (λ z. let bad : n ≡ 126 = z in omega arith)
+
+pub frame-adds-there : (c : Parts) (table entry : ℕ) (due left : List ℕ) (hurt : Bool) (a : ℕ) (d : Direction) (f : List ℕ) (n : ℕ) → nad c a ≡ Some n → 1 ≤ n → n ≤ 125 → IsFrameOf n f
     → Adds c (frame_slot table entry due left hurt (record_of a d) f) (record_of a d) true hurt f
-frame-adds-there c table entry due left true a Down f n e p i = record { signs = rw (e, i.address, eqb-self n, i.data_is); heard = refl }
-frame-adds-there c table entry due left false a Down f n e p i = record { signs = rw (e, i.address, ne_eqb n 0 (λ z. omega arith), eqb-self n, i.data_is); heard = rw (e, i.address, ne_eqb n 0 (λ z. omega arith), eqb-self n, i.data_is) }
-frame-adds-there c table entry due left true a Up f n e p i = record { signs = rw (eqb-self a, i.data_is); heard = refl }
-frame-adds-there c table entry due left false a Up f n e p i = record { signs = rw (eqb-self a, i.data_is); heard = rw (e, i.address, eqb-self n, i.data_is) }
+frame-adds-there c table entry due left true a Down f n e p q i = record { signs = rw (e, i.address, not-all n q, eqb-self n, i.data_is); heard = refl }
+frame-adds-there c table entry due left false a Down f n e p q i = record { signs = rw (e, i.address, ne_eqb n 0 (λ z. omega arith), not-all n q, eqb-self n, i.data_is); heard = rw (e, i.address, ne_eqb n 0 (λ z. omega arith), not-all n q, eqb-self n, i.data_is) }
+frame-adds-there c table entry due left true a Up f n e p q i = record { signs = rw (eqb-self a, i.data_is); heard = refl }
+frame-adds-there c table entry due left false a Up f n e p q i = record { signs = rw (eqb-self a, i.data_is); heard = rw (e, i.address, eqb-self n, i.data_is) }
 
 -- an address is the one node's
 pub other-nad : (c : Parts) (a b n k : ℕ) → IsSound c → nad c a ≡ Some n → nad c b ≡ Some k → a ≢ b → (n == k) ≡ false
@@ -133,17 +136,18 @@ other-nad c a b n k sound p q differ = ne_eqb n k (λ e. differ (sound.apart a b
 
 pub frame-adds-elsewhere : (c : Parts) (table entry : ℕ) (due left : List ℕ) (hurt : Bool) (a b : ℕ) (d : Direction) (f : List ℕ) (n k : ℕ) → IsSound c → nad c a ≡ Some n → nad c b ≡ Some k → a ≢ b → IsFrameOf n f
     → Adds c (frame_slot table entry due left hurt (record_of a d) f) (record_of b d) false hurt f
-frame-adds-elsewhere c table entry due left true a b Down f n k sound p q differ i = record { signs = rw (q, i.address, other-nad c a b n k sound p q differ); heard = refl }
+frame-adds-elsewhere c table entry due left true a b Down f n k sound p q differ i = record { signs = rw (q, i.address, not-all n (sound.most a n p), other-nad c a b n k sound p q differ); heard = refl }
 frame-adds-elsewhere c table entry due left false a b Down f n k sound p q differ i =
     let some : 1 ≤ n = sound.some a n p
-    in record { signs = rw (q, i.address, ne_eqb n 0 (λ z. omega arith), other-nad c a b n k sound p q differ); heard = rw (q, i.address, ne_eqb n 0 (λ z. omega arith), other-nad c a b n k sound p q differ) }
+    in let most : n ≤ 125 = sound.most a n p
+    in record { signs = rw (q, i.address, ne_eqb n 0 (λ z. omega arith), not-all n most, other-nad c a b n k sound p q differ); heard = rw (q, i.address, ne_eqb n 0 (λ z. omega arith), not-all n most, other-nad c a b n k sound p q differ) }
 frame-adds-elsewhere c table entry due left true a b Up f n k sound p q differ i = record { signs = rw (ne_eqb a b differ); heard = refl }
 frame-adds-elsewhere c table entry due left false a b Up f n k sound p q differ i = record { signs = rw (ne_eqb a b differ); heard = rw (q, i.address, other-nad c a b n k sound p q differ) }
 
 pub frame-adds-same : (c : Parts) (table entry : ℕ) (due left : List ℕ) (hurt : Bool) (a b : ℕ) (d : Direction) (f : List ℕ) (n k : ℕ) → IsSound c → nad c a ≡ Some n → nad c b ≡ Some k → IsFrameOf n f
     → Adds c (frame_slot table entry due left hurt (record_of a d) f) (record_of b d) (a == b) hurt f
 frame-adds-same c table entry due left hurt a b d f n k sound p q i = elim (eqb_tells a b) [
-  | inl same ↦ rw same.0 (subst (λ (x : ℕ). Adds c (frame_slot table entry due left hurt (record_of a d) f) (record_of x d) true hurt f) same.1 (frame-adds-there c table entry due left hurt a d f n p (sound.some a n p) i))
+  | inl same ↦ rw same.0 (subst (λ (x : ℕ). Adds c (frame_slot table entry due left hurt (record_of a d) f) (record_of x d) true hurt f) same.1 (frame-adds-there c table entry due left hurt a d f n p (sound.some a n p) (sound.most a n p) i))
   | inr differ ↦ rw differ.0 (frame-adds-elsewhere c table entry due left hurt a b d f n k sound p q differ.1 i)
 ]
 
@@ -165,14 +169,39 @@ frame-adds-by c table entry due left false a b Up Down f n k sound p q i = rw (a
 pub nad-is : (c : Parts) (l : Link) (n : ℕ) → nad c l.node ≡ Some n → nad_on c l ≡ n
 nad-is c l n e = ap (λ (o : Option ℕ). unwrap_or o 0) e
 
--- where a message goes: a node that has an address
+-- where a message goes: to all responders, or to one that has an address
 abbrev pub IsPlace : Parts → Link → Type 0
-IsPlace c to = HasNad c to.node
+IsPlace c to = is_to_all to ≡ false → HasNad c to.node
+
+some-by : (c : Parts) (to : Link) (b : Bool) → is_to_all to ≡ b → IsSound c → IsPlace c to → 1 ≤ address c to
+some-by c to true all sound p = rw all (omega arith)
+some-by c to false one sound p = let at : HasNad c to.node = p one in rw (one, nad-is c to at.n at.is) (sound.some to.node at.n at.is)
 
 pub some-address : (c : Parts) (to : Link) → IsSound c → IsPlace c to → 1 ≤ address c to
-some-address c to sound p = rw (nad-is c to p.n p.is) (sound.some to.node p.n p.is)
+some-address c to sound p = some-by c to (is_to_all to) refl sound p
+
+-- a link of a node that has an address goes to it alone
+pub one-by : (c : Parts) (node : ℕ) (dir : Direction) → IsSound c → is_some (nad c node) ≡ true → is_to_all (record_of node dir) ≡ false
+one-by c node Down sound a = let v = value-of (nad c node) a in let few : node < 16 = sound.few node v.0 v.1 in ne_eqb node functional (λ z. let bad : node ≡ 126 = z in omega arith)
+one-by c node Up sound a = refl
+
+-- a frame to all
+frame-adds-all : (c : Parts) (table entry : ℕ) (due left : List ℕ) (hurt : Bool) (b : ℕ) (e : Direction) (f : List ℕ) (k : ℕ) → nad c b ≡ Some k → IsFrameOf functional f
+    → Adds c (frame_slot table entry due left hurt (record_of functional Down) f) (record_of b e) (is_down e) hurt f
+frame-adds-all c table entry due left true b Down f k q i = record { signs = rw (q, i.address, i.data_is); heard = refl }
+frame-adds-all c table entry due left false b Down f k q i = record { signs = rw (q, i.address, i.data_is); heard = rw (q, i.address, i.data_is) }
+frame-adds-all c table entry due left true b Up f k q i = record { signs = refl; heard = refl }
+frame-adds-all c table entry due left false b Up f k q i = record { signs = rw i.address; heard = rw i.address }
+
+adds-to : (c : Parts) (table entry : ℕ) (due left : List ℕ) (hurt : Bool) (to l : Link) (f : List ℕ) (b : Bool) → is_to_all to ≡ b → IsSound c → IsPlace c to → HasNad c l.node → IsFrameOf (address c to) f
+    → Adds c (frame_slot table entry due left hurt to f) l (goes_over to l) hurt f
+adds-to c table entry due left hurt to l f true all sound p q i =
+    subst (λ (x : Link). IsFrameOf (address c x) f → Adds c (frame_slot table entry due left hurt x f) l (goes_over x l) hurt f) (sym (to-all-is to.node to.dir all))
+    (λ j. rw (over-all l.node l.dir) (frame-adds-all c table entry due left hurt l.node l.dir f q.n q.is j)) i
+adds-to c table entry due left hurt to l f false one sound p q i =
+    let at : HasNad c to.node = p one
+    in rw (over-one to l one) (frame-adds-by c table entry due left hurt to.node l.node to.dir l.dir f at.n q.n sound at.is q.is (rw (one, nad-is c to at.n at.is) at i))
 
 pub frame-adds : (c : Parts) (table entry : ℕ) (due left : List ℕ) (hurt : Bool) (to l : Link) (f : List ℕ) → IsSound c → IsPlace c to → HasNad c l.node → IsFrameOf (address c to) f
     → Adds c (frame_slot table entry due left hurt to f) l (goes_over to l) hurt f
-frame-adds c table entry due left hurt to l f sound p q i =
-    frame-adds-by c table entry due left hurt to.node l.node to.dir l.dir f p.n q.n sound p.is q.is (rw (nad-is c to p.n p.is) at i)
+frame-adds c table entry due left hurt to l f sound p q i = adds-to c table entry due left hurt to l f (is_to_all to) refl sound p q i

@@ -9,7 +9,7 @@ use Rattle.lin_transport.specs.Law.{Addressed, IsFor}
 use Rattle.lin_transport.specs.Transport.{frame, frame_count, Ear, Heard, CanSend, first}
 use Rattle.lin_cluster_parts.specs.Cluster.{nad}
 use Rattle.lin_cluster_parts.specs.declared.parts.Parts.{Parts}
-use Rattle.lin_core.specs.Links.{Link, same_dir, same_link, Message, host_of, Sign, Fate, fate, is_waiting, frames_of, begins_good, blocks_of, Sending, address, ear_on, frames_to, goes_over, home, sendings_from, fate_of, waits, is_begun}
+use Rattle.lin_core.specs.Links.{Link, same_dir, same_link, Message, host_of, Sign, Fate, fate, is_waiting, frames_of, begins_good, blocks_of, Sending, address, ear_on, frames_to, goes_over, home, is_to_all, sendings_from, fate_of, waits, is_begun}
 use Rattle.lin_core.specs.declared.link.Direction.{Direction}
 use Rattle.lin_core.specs.declared.link.Direction.TheVariants.{Down, Up}
 use Rattle.lin_core.specs.Slots.{frame_at}
@@ -58,6 +58,7 @@ pub record IsLink (c : Parts) (h : ℕ) (l : Link) : Type 0 where
 -- a message of a host: it has a home link, and the receiver of each link that it goes over is meant by its frames
 pub record CanGo (c : Parts) (h : ℕ) (m : Message) : Type 0 where
   pub link : IsLink c h m.link
+  pub one : is_to_all m.link ≡ false
   pub home_is : IsLink c h (home c m.link)
   pub over : goes_over m.link (home c m.link) ≡ true
   pub can : CanSend m.bytes

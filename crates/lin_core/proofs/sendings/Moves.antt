@@ -4,10 +4,10 @@ use Rattle.std.specs.Prelude.{Option, Some, None, ◌&&◌, ◌==◌, if◌then�
 use Rattle.std.proofs.lemmas.Bool.Decides.{eqb_tells, nat_tests}
 use Rattle.std.proofs.lemmas.List.{append-nil, map-append}
 use Rattle.lin_transport.specs.Law.{Addressed, IsFor}
-use Rattle.lin_transport.specs.Transport.{frame, frame_count, Ear, Heard}
+use Rattle.lin_transport.specs.Transport.{frame, frame_count, functional, Ear, Heard}
 use Rattle.lin_transport.specs.Transport.Heard.{Frame, Reset}
 use Rattle.lin_cluster_parts.specs.declared.parts.Parts.{Parts}
-use Rattle.lin_core.specs.Links.{Link, same_dir, same_link, Message, Sign, Fate, address, ear_on, goes_over, home, host_of}
+use Rattle.lin_core.specs.Links.{Link, same_dir, same_link, Message, Sign, Fate, address, ear_on, goes_over, home, host_of, is_down, is_to_all, reaches}
 use Rattle.lin_core.specs.Links.Sign.{Mark}
 use Rattle.lin_core.specs.Links.Fate.{Sent, Lost}
 use Rattle.lin_core.specs.declared.link.Cause.{Cause}
@@ -15,9 +15,9 @@ use Rattle.lin_core.specs.declared.link.Cause.TheVariants.{Damaged}
 use Rattle.lin_core.specs.declared.link.Direction.{Direction}
 use Rattle.lin_core.specs.declared.link.Direction.TheVariants.{Down, Up}
 use Rattle.lin_transport.proofs.Frames.{count-some, and-false}
-use Rattle.lin_core.proofs.links.Fates.{good_sign, hurt_sign}
+use Rattle.lin_core.proofs.links.Fates.{good_sign, hurt_sign, or-true}
 use Rattle.lin_core.proofs.links.Tracks.{idle-mark, busy-mark, idle-hurt, busy-hurt, idle-whole, idle-part, busy-part, busy-whole}
-use Rattle.lin_core.proofs.sendings.Hosts.{HostState, HostIs, LinkIs, IsLink, IsCount, IsDone, AllDone, CanGo, AllCanGo, addressed, on, on_link, on-append, message_of, part, part-there}
+use Rattle.lin_core.proofs.sendings.Hosts.{HostState, HostIs, LinkIs, IsLink, IsCount, IsDone, AllDone, CanGo, AllCanGo, addressed, on, on_link, on-append, message_of, part, part-there, same-self}
 
 abbrev pub record_of : ℕ → Direction → Link
 record_of a d = record { node = a; dir = d }
@@ -62,13 +62,41 @@ same-by a b Up Down h = absurd (let bad : false ≡ true = rw and-false at h in 
 pub same-is : (a b : Link) → same_link a b ≡ true → a ≡ b
 same-is a b h = same-by a.node b.node a.dir b.dir h
 
--- where a message goes over a link, that is its link
-pub over-is : (to l : Link) → goes_over to l ≡ true → to ≡ l
-over-is to l over = same-is to l over
+-- what goes to one responder or up goes over its own link alone
+no-reach : (d : Direction) → reaches d false ≡ false
+no-reach Down = refl
+no-reach Up = refl
 
--- and both have one host
+pub over-one : (to l : Link) → is_to_all to ≡ false → goes_over to l ≡ same_link to l
+over-one to l one = rw (one, no-reach l.dir)
+
+pub over-self : (l : Link) → goes_over l l ≡ true
+over-self l = rw (same-self l) (or-true (reaches l.dir (is_to_all l)))
+
+pub over-is : (to l : Link) → is_to_all to ≡ false → goes_over to l ≡ true → to ≡ l
+over-is to l one over = same-is to l (sym (over-one to l one) ∙ over)
+
+-- what goes to all responders goes over each link down
+pub to-all-is : (node : ℕ) (dir : Direction) → is_to_all (record_of node dir) ≡ true → record_of node dir ≡ record_of functional Down
+to-all-is node Down e = let same : node ≡ functional = grind (arith, nat_tests, e) in ap (λ (n : ℕ). record_of n Down) same
+to-all-is node Up e = cc
+
+pub over-all : (node : ℕ) (dir : Direction) → goes_over (record_of functional Down) (record_of node dir) ≡ is_down dir
+over-all node Down = refl
+over-all node Up = and-false (functional == node)
+
+-- a place and the links over which what goes there goes have one host
+all-host : (a b : ℕ) (d e : Direction) → is_to_all (record_of a d) ≡ true → goes_over (record_of a d) (record_of b e) ≡ true → host_of (record_of a d) ≡ host_of (record_of b e)
+all-host a b Down Down all over = refl
+all-host a b Down Up all over = absurd (let bad : false ≡ true = sym (and-false (a == b)) ∙ over in cc)
+all-host a b Up e all over = cc
+
+over-host-by : (to l : Link) (b : Bool) → is_to_all to ≡ b → goes_over to l ≡ true → host_of to ≡ host_of l
+over-host-by to l true all over = all-host to.node l.node to.dir l.dir all over
+over-host-by to l false one over = ap host_of (over-is to l one over)
+
 pub over-host : (to l : Link) → goes_over to l ≡ true → host_of to ≡ host_of l
-over-host to l over = ap host_of (over-is to l over)
+over-host to l over = over-host-by to l (is_to_all to) refl over
 
 -- one more settled message, on a link that it goes over and on another
 pub on-more : (c : Parts) (l : Link) (ps : List (Message × Fate)) (m : Message) (f : Fate) (b : Bool) → on l m ≡ b → on_link c l (ps ++ (m, f) ∷ []) ≡ on_link c l ps ++ (if b then (addressed c m, f) ∷ [] else [])
@@ -200,24 +228,24 @@ link-maybe e false c heard heard' signs signs' ps p t = rw (p.heard_is, p.signs_
 
 -- where the first message is cut
 pub link-cut : (c : Parts) (t : Link → Bool) (cause : Cause) (done : List (Message × Fate)) (m : Message) (j : ℕ) (l : Link) (q : Bool) (heard heard' : List Heard) (signs signs' : List Sign)
-    → t m.link ≡ true → on l m ≡ q → Marks (t l) cause heard heard' signs signs' → LinkIs (ear_on c l) heard signs (on_link c l done) (busy_if q (addressed c m) (suc j))
+    → is_to_all m.link ≡ false → t m.link ≡ true → on l m ≡ q → Marks (t l) cause heard heard' signs signs' → LinkIs (ear_on c l) heard signs (on_link c l done) (busy_if q (addressed c m) (suc j))
     → LinkIs (ear_on c l) heard' signs' (on_link c l (done ++ (m, Lost cause) ∷ [])) None
-link-cut c t cause done m j l true heard heard' signs signs' e same p i =
-    let there : t l ≡ true = ap t (sym (over-is m.link l same)) ∙ e
+link-cut c t cause done m j l true heard heard' signs signs' one e same p i =
+    let there : t l ≡ true = ap t (sym (over-is m.link l one same)) ∙ e
     in let p' : Marks true cause heard heard' signs signs' = subst (λ (b : Bool). Marks b cause heard heard' signs signs') there p
     in rw (on-more c l done m (Lost cause) true same, p'.heard_is, p'.signs_is) (link-mark (ear_on c l) heard signs (on_link c l done) (Some (addressed c m, j)) cause i)
-link-cut c t cause done m j l false heard heard' signs signs' e same p i =
+link-cut c t cause done m j l false heard heard' signs signs' one e same p i =
     rw (on-more c l done m (Lost cause) false same, append-nil (on_link c l done)) (link-maybe (ear_on c l) (t l) cause heard heard' signs signs' (on_link c l done) p i)
 
 -- and where it is not
 pub link-uncut : (c : Parts) (t : Link → Bool) (cause : Cause) (done : List (Message × Fate)) (m : Message) (j : ℕ) (l : Link) (q : Bool) (heard heard' : List Heard) (signs signs' : List Sign)
-    → t m.link ≡ false → on l m ≡ q → Marks (t l) cause heard heard' signs signs' → LinkIs (ear_on c l) heard signs (on_link c l done) (busy_if q (addressed c m) (suc j))
+    → is_to_all m.link ≡ false → t m.link ≡ false → on l m ≡ q → Marks (t l) cause heard heard' signs signs' → LinkIs (ear_on c l) heard signs (on_link c l done) (busy_if q (addressed c m) (suc j))
     → LinkIs (ear_on c l) heard' signs' (on_link c l done) (busy_if q (addressed c m) (suc j))
-link-uncut c t cause done m j l true heard heard' signs signs' e same p i =
-    let there : t l ≡ false = ap t (sym (over-is m.link l same)) ∙ e
+link-uncut c t cause done m j l true heard heard' signs signs' one e same p i =
+    let there : t l ≡ false = ap t (sym (over-is m.link l one same)) ∙ e
     in let p' : Marks false cause heard heard' signs signs' = subst (λ (b : Bool). Marks b cause heard heard' signs signs') there p
     in rw (p'.heard_is, p'.signs_is) i
-link-uncut c t cause done m j l false heard heard' signs signs' e same p i = link-maybe (ear_on c l) (t l) cause heard heard' signs signs' (on_link c l done) p i
+link-uncut c t cause done m j l false heard heard' signs signs' one e same p i = link-maybe (ear_on c l) (t l) cause heard heard' signs signs' (on_link c l done) p i
 
 pub host-cut : (c : Parts) (h : ℕ) (accepted : List Message) (heard heard' : Link → List Heard) (signs signs' : Link → List Sign) (done : List (Message × Fate)) (m : Message) (ms : List Message) (j : ℕ) (t : Link → Bool) (cause : Cause) (b : Bool)
     → t m.link ≡ b → HostIs c h accepted heard signs (record { done = done; rest = m ∷ ms; count = suc j })
@@ -228,14 +256,14 @@ host-cut c h accepted heard heard' signs signs' done m ms j t cause true e i p =
   are_done = done-more c h done (m, Lost cause) i.are_done (record { go = i.can_go.0; settled = refl });
   can_go = i.can_go.1;
   counts = tt;
-  links = λ l a. link-cut c t cause done m j l (on l m) (heard l) (heard' l) (signs l) (signs' l) e refl (p l a) (i.links l a);
+  links = λ l a. link-cut c t cause done m j l (on l m) (heard l) (heard' l) (signs l) (signs' l) i.can_go.0.one e refl (p l a) (i.links l a);
 }
 host-cut c h accepted heard heard' signs signs' done m ms j t cause false e i p = record {
   accepted_is = i.accepted_is;
   are_done = i.are_done;
   can_go = i.can_go;
   counts = i.counts;
-  links = λ l a. link-uncut c t cause done m j l (on l m) (heard l) (heard' l) (signs l) (signs' l) e refl (p l a) (i.links l a);
+  links = λ l a. link-uncut c t cause done m j l (on l m) (heard l) (heard' l) (signs l) (signs' l) i.can_go.0.one e refl (p l a) (i.links l a);
 }
 
 pub host-mark : (c : Parts) (h : ℕ) (accepted : List Message) (heard heard' : Link → List Heard) (signs signs' : Link → List Sign) (done : List (Message × Fate)) (rest : List Message) (k : ℕ) (t : Link → Bool) (cause : Cause)

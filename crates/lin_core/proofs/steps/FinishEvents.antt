@@ -8,7 +8,7 @@ use Rattle.lin_frame.specs.Words.{numbers}
 use Rattle.lin_cluster_parts.specs.Cluster.{nad, nodes}
 use Rattle.lin_cluster_parts.specs.declared.parts.Parts.{Parts}
 use Rattle.lin_core.specs.History.{Slot, open_slot, seen_of, header_is, is_sleep_slot}
-use Rattle.lin_core.specs.Links.{Link, same_dir, same_link, Message, host_of, Fate, ear_on, goes_over, signs, heard_on, reading, accepted_from}
+use Rattle.lin_core.specs.Links.{Link, same_dir, same_link, Message, host_of, Fate, ear_on, goes_over, is_to_all, signs, heard_on, reading, accepted_from}
 use Rattle.lin_cluster_parts.specs.Sound.{IsSound}
 use Rattle.lin_core.specs.declared.log.LogEntry.{LogEntry}
 use Rattle.lin_core.specs.declared.port.PortId.{PortId}
@@ -17,7 +17,7 @@ use Rattle.lin_core.specs.declared.event.Event.{Event}
 use Rattle.lin_core.specs.declared.link.Direction.{Direction}
 use Rattle.lin_core.specs.declared.link.Direction.TheVariants.{Down, Up}
 use Rattle.lin_core.proofs.sendings.Hosts.{HostState, IsLink, on, on_link, part, on-append, same-self, AllCanGo}
-use Rattle.lin_core.proofs.sendings.Moves.{same-is, over-host, marked, record_of}
+use Rattle.lin_core.proofs.sendings.Moves.{same-is, over-host, over-one, over-self, marked, record_of}
 use Rattle.lin_core.specs.Links.Fate.{Sent, Waiting, Lost}
 use Rattle.lin_core.proofs.steps.Known.{Known}
 use Rattle.lin_core.proofs.links.Results.{track-reads}
@@ -31,7 +31,7 @@ use Rattle.lin_core.proofs.laws.Reports.{flat-append, index-some, reports-are, a
 use Rattle.lin_core.specs.Reports.{reports_from}
 use Rattle.lin_core.specs.declared.link.Cause.{Cause}
 use Rattle.lin_core.specs.declared.link.Cause.TheVariants.{TimedOut, Slept}
-use Rattle.lin_core.proofs.links.Finishes.{frame_slot, slot_of, same-cond, IsFrameOf}
+use Rattle.lin_core.proofs.links.Finishes.{one-by, frame_slot, slot_of, same-cond, IsFrameOf}
 use Rattle.lin_core.proofs.steps.Steps.{timeout-known}
 
 -- one item of a list of numbers alone has something
@@ -213,7 +213,7 @@ one-gains c past port h m link k k' more =
     let g : (x : ℕ) → Grows (k.states x) (k'.states x) = λ x. record { more = if h == x then (m, Sent) ∷ [] else []; is = more x }
     in gained-messages c past (quiet_entry port Finish ∷ past) m.link link.address k k' (g (host_of m.link))
     ∙ on-one c m.link m Sent h (h == host_of m.link) (goes_over m.link m.link) link.host refl refl
-    ∙ rw (same-self m.link) refl
+    ∙ rw (over-self m.link) refl
 
 -- a finish by which one message is whole or lost
 pub finish-one : (c : Parts) (past : List LogEntry) (port : PortId) (s : Slot) (h : ℕ) (m : Message) (f : Fate) → IsSound c → IsLink c h m.link → (k : Known c past) (k' : Known c (quiet_entry port Finish ∷ past))
@@ -222,10 +222,11 @@ pub finish-one : (c : Parts) (past : List LogEntry) (port : PortId) (s : Slot) (
 finish-one c past port s h m f sound link k k' more awake is =
     let e : LogEntry = quiet_entry port Finish
     in let g : (x : ℕ) → Grows (k.states x) (k'.states x) = λ x. record { more = if h == x then (m, f) ∷ [] else []; is = more x }
+    in let one : is_to_all m.link ≡ false = one-by c m.link.node m.link.dir sound link.address
     in let event : List Event = events_of h m.link (sent_bytes f m.bytes)
     in let heard : flat_map (new_messages c e past) (all_links c) ≡ event
     = only-link c (new_messages c e past) m.link event link.address
-    (λ l a. ap (events_of (host_of l) l) (gained-messages c past (e ∷ past) l a k k' (g (host_of l)) ∙ on-one c l m f h (h == host_of l) (goes_over m.link l) link.host refl refl)
+    (λ l a. ap (events_of (host_of l) l) (gained-messages c past (e ∷ past) l a k k' (g (host_of l)) ∙ on-one c l m f h (h == host_of l) (same_link m.link l) link.host refl (over-one m.link l one))
     ∙ event-at l m (sent_bytes f m.bytes) h (same_link m.link l) (same_link l m.link) link.host refl refl)
     in let told : all_reports c e past ≡ report h (suc (length (k.states h).done)) f
     = only-one (reports c e past) h (nodes c) (report h (suc (length (k.states h).done)) f)

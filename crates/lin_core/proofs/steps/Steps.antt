@@ -1,6 +1,6 @@
 -- The steps that need their refusals: a timeout, a send, an open, an answer; and the whole history.
 use Rattle.lin_cluster_parts.specs.Cluster.{sporadic_of, nad, nodes, line_of, frame_of, event_of}
-use Rattle.std.proofs.Common.{◌≡◌, ◌≢◌, ℕ, zero, suc, Bool, true, false, List, [], ◌∷◌, ◌++◌, length, map, refl, ap, sym, ◌∙◌, subst, arith, inl, inr, append_assoc}
+use Rattle.std.proofs.Common.{◌≡◌, ◌≤◌, ◌≢◌, ℕ, zero, suc, Bool, true, false, List, [], ◌∷◌, ◌++◌, length, map, refl, ap, sym, ◌∙◌, subst, arith, inl, inr, append_assoc}
 use Rattle.std.specs.Prelude.{⊤, Option, Some, None, cond, ◌&&◌, ◌||◌, not, ◌==◌, if◌then◌else◌, is_some, option_map, filter, find, nat_lt, nat_le, slice_index}
 use Rattle.std.specs.List.{list_any, cons_option}
 use Rattle.std.proofs.lemmas.Bool.Decides.{eqb_tells, nat_tests}
@@ -9,12 +9,12 @@ use Rattle.std.proofs.lemmas.List.{append-nil}
 use Rattle.std.specs.Option.{option_map_or, unwrap_or}
 use Rattle.lin_frame.specs.Words.{numbers}
 use Rattle.lin_transport.specs.Law.{IsFor}
-use Rattle.lin_transport.specs.Transport.{frame, Heard, CanSend}
+use Rattle.lin_transport.specs.Transport.{frame, functional, Heard, CanSend}
 use Rattle.lin_transport.specs.Transport.Heard.{Reset}
 use Rattle.lin_cluster_parts.specs.declared.parts.Parts.{Parts}
 use Rattle.lin_core.specs.History.{finished_slot, is_sleep_mark, Slot, open_slot, slot_after_events, header_is, is_sleep_asked, good_under, is_in, has_decided}
 use Rattle.lin_core.specs.Signals.{is_pending}
-use Rattle.lin_core.specs.Links.{Link, same_link, link_of, Message, host_of, accepted_from, Sign, Fate, address, ear_on, goes_over, nad_on, put_on, signs, heard_on, blocks, blocks_of, waiting, begun_sending}
+use Rattle.lin_core.specs.Links.{Link, same_link, link_of, Message, host_of, accepted_from, Sign, Fate, address, ear_on, goes_over, home, is_down, is_to_all, nad_on, put_on, signs, heard_on, blocks, blocks_of, waiting, begun_sending}
 use Rattle.lin_core.specs.Links.Sign.{Mark}
 use Rattle.lin_core.specs.Slots.{with_classic, sleep_frame, next_frame, first_frame, put, header, is_due, due_nodes, selected_node, addressee, node_with, next_due}
 use Rattle.lin_core.specs.Replies.{refusal, refusals, in_slot, has_address, put_event, opening_events, done_events, reply}
@@ -33,11 +33,12 @@ use Rattle.lin_core.specs.declared.link.Cause.TheVariants.{TimedOut}
 use Rattle.lin_core.specs.declared.link.Direction.{Direction}
 use Rattle.lin_core.specs.declared.link.Direction.TheVariants.{Down, Up}
 use Rattle.lin_transport.proofs.Frames.{and-false}
-use Rattle.lin_core.proofs.sendings.Hosts.{HostState, HostIs, IsLink, IsCount, CanGo, AllCanGo, eqb-self, same-self, part, message_of, Stands, host-stands, next-begun, begun-none, begun-fresh, waiting-none, waiting-fresh}
-use Rattle.lin_core.proofs.sendings.Moves.{record_of, over-is, Marks, marked, host-mark}
-use Rattle.lin_core.proofs.links.Finishes.{slot_of, frame_slot, same-cond}
+use Rattle.lin_core.proofs.sendings.Hosts.{HostState, HostIs, IsLink, IsCount, CanGo, AllCanGo, eqb-self, part, message_of, Stands, host-stands, next-begun, begun-none, begun-fresh, waiting-none, waiting-fresh}
+use Rattle.lin_core.proofs.sendings.Moves.{record_of, over-is, over-self, Marks, marked, host-mark}
+use Rattle.lin_core.proofs.links.Fates.{or-true}
+use Rattle.lin_core.proofs.links.Finishes.{HasNad, nad-is, one-by, slot_of, frame_slot, same-cond}
 use Rattle.lin_core.specs.Runs.{history}
-use Rattle.lin_core.proofs.steps.Known.{or-right, has_rest, OnlyDue, SlotIs, Known, entry_is, refused-known, write-known, switch-known, wake-known, close-known, ask-known, leave-known, hurt-known, finish-known}
+use Rattle.lin_core.proofs.steps.Known.{or-right, has-nad, has_rest, OnlyDue, SlotIs, Known, entry_is, refused-known, write-known, switch-known, wake-known, close-known, ask-known, leave-known, hurt-known, finish-known}
 use Rattle.lin_core.proofs.steps.Known.SlotIs.{closed, other, master, slave, sleep, carries}
 
 -- a timeout
@@ -93,19 +94,35 @@ counts-more [] m (suc j) i = absurd i
 counts-more (x ∷ xs) m (suc j) i = tt
 
 -- the receiver of a message's link is meant by its frames
-meant-by : (c : Parts) (to l : Link) (bytes : List ℕ) → CanSend bytes → goes_over to l ≡ true → IsFor (ear_on c l) (record { nad = address c to; bytes = bytes })
-meant-by c to l bytes can over =
-    subst (λ (x : Link). IsFor (ear_on c x) (record { nad = address c to; bytes = bytes })) (over-is to l over)
-    (record { heard = eqb-self (nad_on c to); can = can; short = λ all functional. absurd (let bad : false ≡ true = all in cc) })
-
-pub can-go : (c : Parts) (h : ℕ) (m : Message) → IsLink c h m.link → CanSend m.bytes → CanGo c h m
-can-go c h m link can = record {
-  link = link;
-  home_is = link;
-  over = same-self m.link;
+meant-own : (c : Parts) (to : Link) (bytes : List ℕ) → IsSound c → HasNad c to.node → is_to_all to ≡ false → CanSend bytes → IsFor (ear_on c to) (record { nad = address c to; bytes = bytes })
+meant-own c to bytes sound at one can = record {
+  heard = rw (one, eqb-self (nad_on c to)) (or-true (is_down to.dir && nad_on c to == functional));
   can = can;
-  meant = λ l i over. meant-by c m.link l m.bytes can over;
+  short = λ all z.
+      let same : nad_on c to ≡ functional = rw one at z
+      in let bad : at.n ≡ 126 = sym (nad-is c to at.n at.is) ∙ same
+      in let most : at.n ≤ 125 = sound.most to.node at.n at.is
+      in absurd (omega arith);
 }
+
+meant-by : (c : Parts) (to l : Link) (bytes : List ℕ) → IsSound c → HasNad c to.node → is_to_all to ≡ false → CanSend bytes → goes_over to l ≡ true → IsFor (ear_on c l) (record { nad = address c to; bytes = bytes })
+meant-by c to l bytes sound at one can over =
+    subst (λ (x : Link). IsFor (ear_on c x) (record { nad = address c to; bytes = bytes })) (over-is to l one over) (meant-own c to bytes sound at one can)
+
+pub home-own : (c : Parts) (to : Link) → is_to_all to ≡ false → home c to ≡ to
+home-own c to one = rw one
+
+pub can-go : (c : Parts) (h : ℕ) (m : Message) → IsSound c → IsLink c h m.link → CanSend m.bytes → CanGo c h m
+can-go c h m sound link can =
+    let one : is_to_all m.link ≡ false = one-by c m.link.node m.link.dir sound link.address
+    in record {
+      link = link;
+      one = one;
+      home_is = subst (IsLink c h) (sym (home-own c m.link one)) link;
+      over = subst (λ (x : Link). goes_over m.link x ≡ true) (sym (home-own c m.link one)) (over-self m.link);
+      can = can;
+      meant = λ l i over. meant-by c m.link l m.bytes sound (has-nad c m.link.node link.address) one can over;
+    }
 
 pub go-more : (c : Parts) (h : ℕ) (ms : List Message) (m : Message) → AllCanGo c h ms → CanGo c h m → AllCanGo c h (ms ++ m ∷ [])
 go-more c h [] m g i = (i, tt)
@@ -179,13 +196,13 @@ link-is c from to true e h =
 link-is c from to false e h = record { host = refl; address = address-other c from to (rw e at h) }
 
 abbrev pub send-known : (c : Parts) (capacity : ℕ) (past : List LogEntry) (port : PortId) (from to : ℕ) (message : List ℕ) (es : List Event)
-    → refusal c capacity past port (Send from to message) ≡ None → Known c past → Known c (entry_is port (Send from to message) es ∷ past)
-send-known c capacity past port from to message es h k =
+    → IsSound c → refusal c capacity past port (Send from to message) ≡ None → Known c past → Known c (entry_is port (Send from to message) es ∷ past)
+send-known c capacity past port from to message es sound h k =
     let all : AllFalse (refusals c capacity past port (Send from to message)) = none-of (refusals c capacity past port (Send from to message)) h
     in let m : Message = record { link = link_of from to; bytes = message }
     in let size = both-false (length message == 0) (nat_lt 4095 (length message)) all.1.1.0
     in let can : CanSend message = record { some = let e : (length message == 0) ≡ false = size.0 in grind (arith, nat_tests); few = let e : nat_lt 4095 (length message) ≡ false = size.1 in grind (arith, nat_tests) }
-    in let go : CanGo c from m = can-go c from m (link-is c from to (from == 0) refl (not-false (has_address c from to) all.1.0)) can
+    in let go : CanGo c from m = can-go c from m sound (link-is c from to (from == 0) refl (not-false (has_address c from to) all.1.0)) can
     in record {
       states = λ x. more_if (from == x) m (k.states x);
       hosts = λ x. host-send-if c x (from == x) (accepted_from past x) (heard_on c past) (signs c past) (k.states x) m
@@ -484,7 +501,7 @@ abbrev pub step-known : (c : Parts) (opening capacity : ℕ) (past : List LogEnt
     → (r : Option Refusal) → refusal c capacity past port step ≡ r
     → Known c (record { port = port; step = step; reply = option_map_or Refused r (Done (done_events c opening past port step)) } ∷ past)
 step-known c opening capacity past port step sound k (Some r) h = refused-known c past port step r k
-step-known c opening capacity past port (Send from to message) sound k None h = send-known c capacity past port from to message _ h k
+step-known c opening capacity past port (Send from to message) sound k None h = send-known c capacity past port from to message _ sound h k
 step-known c opening capacity past port (Write by signal value) sound k None h = write-known c past port by signal value k
 step-known c opening capacity past port Open sound k None h = open-known c opening capacity past port sound h k
 step-known c opening capacity past port (Answer node) sound k None h = answer-known c capacity past port node sound h k

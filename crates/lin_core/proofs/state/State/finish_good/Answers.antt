@@ -1,4 +1,4 @@
-use Rattle.std.proofs.Common.{refl, ◌≡◌, ℕ, suc, length, List, [], ◌∷◌, ap, sym, ◌∙◌, arith}
+use Rattle.std.proofs.Common.{refl, ◌≡◌, ℕ, suc, length, List, [], ◌∷◌, ap, sym, ◌∙◌, arith, inr}
 use Rattle.std.specs.Prelude.{Some, false, is_some, option_map, slice_set, true}
 use Rattle.std.proofs.Math.ListN.{length-set}
 use Rattle.lin_core.specs.History.{seen_of}
@@ -134,7 +134,7 @@ after c more =
     let one : g.message ≡ (goes c more).message = cc in
     let link = ap (λ (m : Message). m.link) (lent c) in
     gone-same c.index_mut-host.result.now c.index-host.result.now c.message_at-message.result.address (address (here c).cluster (goes c more).message.link) (length c.message_at-message.result.bytes.now) (length (goes c more).message.bytes) (same c)
-    (c.message_at-message.ensures.address (rw link g.node) ∙ ap (address (here c).cluster) link ∙ ap (λ (m : Message). address (here c).cluster m.link) one)
+    (c.message_at-message.ensures.address (inr (rw link g.node)) ∙ ap (address (here c).cluster) link ∙ ap (λ (m : Message). address (here c).cluster m.link) one)
     (size c ∙ ap (λ (m : Message). length m.bytes) one)
 
 pub go_on-requires-clause-some : goal.go_on-requires-clause-some
