@@ -1,16 +1,16 @@
 -- No file ends in a stop: its last token is a closing brace.
-use Rattle.std.proofs.Common.{◌≡◌, ℕ, zero, suc, true, false, List, [], ◌∷◌, ◌++◌, Option, Some, None, reverse, sym, ap, subst, ◌∙◌, append_assoc}
+use Rattle.std.proofs.Common.{◌≡◌, ℕ, Bool, zero, suc, true, false, List, [], ◌∷◌, ◌++◌, Option, Some, None, reverse, sym, ap, subst, ◌∙◌, append_assoc}
 use Rattle.std.proofs.lemmas.List.{reverse-append, map-append}
 use Rattle.lin_ldf.specs.Symbols.{Symbol, is_kind, symbol_in, symbols_in}
 use Rattle.lin_ldf.specs.Stream.{stop}
 use Rattle.lin_ldf.specs.Forms.{Form, never, as_value, ◌&>◌, ◌<&◌, ◌&=◌}
 use Rattle.lin_ldf.specs.Loops.{Steps}
-use Rattle.lin_ldf.specs.Words.{block, no_word, group, once, close_brace, consed_of}
-use Rattle.lin_ldf.specs.Laws.{Behind, Lawful, Taking, mark_takes, keyword_takes, value_lawful, then_lawful, left_lawful}
+use Rattle.lin_ldf.specs.Words.{block, is_word_but, group, once, close_brace, consed_of}
+use Rattle.lin_ldf.specs.Laws.{Behind, Lawful, Taking, anything, token_takes, mark_takes, keyword_takes, value_lawful, then_lawful}
 use Rattle.lin_ldf.specs.LoopLaws.{several_lawful}
 use Rattle.lin_ldf.specs.UpToLaws.{up_to_lawful}
-use Rattle.lin_ldf.specs.Grammar.{signal, with_signal, frame, with_frame, sporadic_frame, with_sporadic, event_frame, with_event, attribute_block, with_block, table, with_table, with_signals, with_frames, with_sporadics, with_events, with_attributes, with_tables, section_of, front_section, section, slaves, nodes, nodes_of, node_names, no_sections}
-use Rattle.lin_ldf.specs.GrammarLaws.{word_takes, declared_takes, other_declared_lawful, header_takes, master_takes, signal_takes, frame_takes, sporadic_frame_takes, event_frame_takes, attribute_block_takes, table_takes}
+use Rattle.lin_ldf.specs.Grammar.{signal, section_words, with_signal, frame, with_frame, sporadic_frame, with_sporadic, event_frame, with_event, attribute_block, with_block, table, with_table, with_signals, with_frames, with_sporadics, with_events, with_attributes, with_tables, section_of, section, slaves, nodes, nodes_of, node_names, no_sections}
+use Rattle.lin_ldf.specs.GrammarLaws.{is_of, words_end, declared_takes, other_declared_lawful, header_takes, master_takes, signal_takes, frame_takes, sporadic_frame_takes, event_frame_takes, attribute_block_takes, table_takes}
 use Rattle.lin_ldf.specs.Describes.{Spells}
 use Rattle.lin_ldf.specs.declared.token.TokenKind.TheVariants as kinds
 use Rattle.lin_ldf.specs.declared.section.SectionWord.{SectionWord}
@@ -34,13 +34,13 @@ after ts mid rest (v, e) (w, t, f, k) = (v ++ w, t, e ∙ ap (λ (x : List Symbo
 as_behind : (ts rest : List Symbol) → Closed ts rest → Behind ts rest
 as_behind ts rest (w, t, e, k) = (w ++ t ∷ [], e ∙ sym (append_assoc w (t ∷ []) rest))
 
-closes_left : {A : Type 0} {f : Form A} → Lawful f → Closes (f <& close_brace)
+closes_left : {A : Type 0} {ends : List Symbol → Bool} {f : Form A} → Lawful ends f → Closes (f <& close_brace)
 closes_left {f = f} p = record { closed = λ ts a rest h. after ts h.0 rest (p.behind ts a h.0 h.2) ([], h.3.0, h.3.1, h.3.2) }
 
-closes_right : {A B : Type 0} {f : Form A} {g : Form B} → Lawful f → Closes g → Closes (f &> g)
+closes_right : {A B : Type 0} {ends : List Symbol → Bool} {f : Form A} {g : Form B} → Lawful ends f → Closes g → Closes (f &> g)
 closes_right {f = f} {g = g} p q = record { closed = λ ts b rest h. after ts h.1 rest (p.behind ts h.0 h.1 h.2) (q.closed h.1 b rest h.3) }
 
-closes_then : {A B : Type 0} {f : Form A} {g : A → Form B} → Lawful f → ((a : A) → Closes (g a)) → Closes (f &= g)
+closes_then : {A B : Type 0} {ends : List Symbol → Bool} {f : Form A} {g : A → Form B} → Lawful ends f → ((a : A) → Closes (g a)) → Closes (f &= g)
 closes_then {f = f} {g = g} p q = record { closed = λ ts ab rest h. after ts h.0 rest (p.behind ts ab.0 h.0 h.1) ((q ab.0).closed h.0 ab.1 rest h.2) }
 
 closes_value : {A B : Type 0} {f : Form A} (make : A → B) → Closes f → Closes (as_value make f)
@@ -53,15 +53,15 @@ closes_once : {A B : Type 0} (o : Option A) {f : Form B} → Closes f → Closes
 closes_once None q = q
 closes_once (Some x) q = never_closes
 
-block_closes : {A S : Type 0} (next : S → A → S) (f : S → Form A) → ((s : S) → Taking (f s)) → (s : S) → Closes (block next f s)
-block_closes next f p s = closes_right (mark_takes kinds.OpenBrace).lawful (closes_left (several_lawful no_word next f p s))
+block_closes : {A S : Type 0} (next : S → A → S) (f : S → Form A) → ((s : S) → Taking (is_of kinds.Word) anything (f s)) → (s : S) → Closes (block next f s)
+block_closes next f p s = closes_right (mark_takes kinds.OpenBrace).lawful (closes_left (several_lawful (is_of kinds.Word) next f p s))
 
 group_closes : Closes group
 group_closes = closes_right (mark_takes kinds.OpenBrace).lawful (closes_left (up_to_lawful kinds.CloseBrace))
 
 slaves_close : (m : Name) → Closes (slaves m)
 slaves_close m = closes_right (keyword_takes _).lawful (closes_right (mark_takes kinds.Colon).lawful
-    (closes_left (left_lawful (value_lawful consed_of (then_lawful (declared_takes (m.text ∷ [])).lawful (λ n. other_declared_lawful (m.text ∷ n.text ∷ [])))) (mark_takes kinds.Semicolon).lawful)))
+    (closes_left (words_end (value_lawful consed_of (then_lawful (declared_takes (m.text ∷ [])).lawful (λ n. other_declared_lawful (m.text ∷ n.text ∷ [])))))))
 
 nodes_close : Closes nodes
 nodes_close = closes_value nodes_of (closes_then master_takes.lawful (λ m. slaves_close m.0))
@@ -74,12 +74,12 @@ section_closes s words_of.Event = closes_value (with_events s) (closes_once s.ev
 section_closes s words_of.Attributes = closes_value (with_attributes s) (closes_once s.attributes (closes_right (keyword_takes _).lawful (block_closes with_block attribute_block attribute_block_takes s.blocks)))
 section_closes s words_of.Tables = closes_value (with_tables s) (closes_once s.tables (closes_right (keyword_takes _).lawful (block_closes with_table table table_takes [])))
 section_closes s words_of.Nodes = never_closes
-section_closes s words_of.Unused = closes_value (λ u. s) (closes_right word_takes.lawful group_closes)
+section_closes s words_of.Unused = closes_value (λ u. s) (closes_right (token_takes (is_word_but section_words) _).lawful group_closes)
 
-steps_close : (n : ℕ) (whole : List Symbol) (s : Sections) (ts : List Symbol) (last : Sections) (rest : List Symbol) → Closed whole ts → Steps no_word (λ x. (section x).spells) n s ts last rest → Closed whole rest
-steps_close zero whole s ts last rest c h = subst (Closed whole) (sym h.2) c
+steps_close : (n : ℕ) (whole : List Symbol) (s : Sections) (ts : List Symbol) (last : Sections) (rest : List Symbol) → Closed whole ts → Steps (λ x. (section x).spells) n s ts last rest → Closed whole rest
+steps_close zero whole s ts last rest c h = subst (Closed whole) (sym h.1) c
 steps_close (suc n) whole s ts last rest c h =
-    steps_close n whole h.1 h.2 last rest (after whole ts h.2 (as_behind whole ts c) ((section_closes s (front_section ts)).closed ts h.1 h.2 h.3)) h.4
+    steps_close n whole h.0 h.1 last rest (after whole ts h.1 (as_behind whole ts c) ((section_closes s h.2.0).closed ts h.0 h.1 h.2.1)) h.3
 
 file_closes : (ss : List Symbol) (d : Description) → Spells ss d → Closed ss []
 unfolding Spells
