@@ -222,7 +222,7 @@ entry-captured c opening capacity s earlier =
     let past = history c opening capacity earlier in
     step-captured c opening past s.0 s.1 (refusal c capacity past s.0 s.1) (history-whole c opening capacity earlier)
 
-each-newest : (says : LogEntry → List LogEntry → List ℕ) (e : LogEntry) (past : List LogEntry)
+pub each-newest : (says : LogEntry → List LogEntry → List ℕ) (e : LogEntry) (past : List LogEntry)
     → each_entry says [] (reverse (e ∷ past)) ≡ each_entry says [] (reverse past) ++ says e past
 each-newest says e past =
     ap (each_entry says []) (reverse-append (e ∷ []) past) ∙ each-append says [] (reverse past) (e ∷ [])

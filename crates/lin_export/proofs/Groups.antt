@@ -31,7 +31,7 @@ pub numbers-more : (f : ℕ → List ℕ) (n : ℕ) → flat_map f (numbers (n +
 numbers-more f n =
     ap (λ k. flat_map f (numbers k)) (add-one n) ∙ flat-append f (numbers n) (n ∷ []) ∙ ap (λ l. flat_map f (numbers n) ++ l) (append-nil (f n))
 
-timed-append : (last : ℕ) (gs hs : List Group) → timed_groups last (gs ++ hs) ≡ timed_groups last gs ++ timed_groups (latest last gs) hs
+pub timed-append : (last : ℕ) (gs hs : List Group) → timed_groups last (gs ++ hs) ≡ timed_groups last gs ++ timed_groups (latest last gs) hs
 timed-append last [] hs = refl
 timed-append last (g ∷ gs) hs =
     ap (λ l. stamp last g.at ++ (g.changes ++ l)) (timed-append (later last g.at) gs hs)

@@ -8,3 +8,4 @@ pub mod Sinces
 pub mod Rows
 pub mod Lines
 pub mod Groups
+pub mod Dumps

@@ -11,4 +11,5 @@ pub mod Cells
 pub mod Named
 pub mod NamedWords
 pub mod Vcd
+pub mod Dumped
 pub mod PutsGroups

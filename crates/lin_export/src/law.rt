@@ -5,7 +5,10 @@ ghost use Rattle.lin_core.specs.Runs.{history};
 ghost use Rattle.lin_core.specs.declared.port.PortId.{PortId};
 ghost use Rattle.lin_core.specs.declared.step.Step.{Step};
 ghost use Rattle.lin_export.specs.Captured.{IsCaptured};
+ghost use Rattle.lin_export.specs.Dumped.{IsDumped};
 ghost use Rattle.lin_cluster_parts.specs.declared.parts.Parts.{Parts};
+
+use lin_cluster_parts::Cluster;
 
 /// The good frames of a capture have the data and the checksums that were seen good, in order, and
 /// the times of its packets never fall.
@@ -13,3 +16,12 @@ pub fn captures_what_was_seen()
     ensures { (c : Parts) (opening capacity : ℕ) (steps : List (PortId × Step))
         → IsCaptured c (history c opening capacity steps) }
 {}
+
+/// The last value of each signal in a dump, as it is heard and as it is written, is the one that
+/// the core has.
+pub fn dumps_last_values(cluster: &Cluster)
+    ensures { (opening capacity : ℕ) (steps : List (PortId × Step))
+        → IsDumped cluster.now (history cluster.now opening capacity steps) }
+{
+    cluster.sound();
+}

@@ -26,7 +26,7 @@ mod words;
 pub use csv::write_csv;
 pub use fault::ExportFault;
 pub use html::write_html;
-pub use law::captures_what_was_seen;
+pub use law::{captures_what_was_seen, dumps_last_values};
 pub use named::write_named;
 pub use pcap::write_pcap;
 pub use vcd::write_vcd;
