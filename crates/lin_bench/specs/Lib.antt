@@ -10,3 +10,4 @@ pub mod Verdicts
 pub mod Played
 pub mod Making
 pub mod Plays
+pub mod Texts

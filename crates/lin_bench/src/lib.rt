@@ -17,6 +17,7 @@ mod slots;
 mod steps;
 mod stop;
 mod taken;
+mod texts;
 mod values;
 mod verdicts;
 
@@ -27,3 +28,4 @@ pub use line::{Disturbance, Extent, Line};
 pub use playing::{Played, play};
 pub use reason::Reason;
 pub use script::read;
+pub use texts::{write_bad_line, write_unmet};

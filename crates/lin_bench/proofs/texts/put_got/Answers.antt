@@ -1,0 +1,15 @@
+use Rattle.lin_text.proofs.Growing.{grows-more}
+use Rattle.lin_bench.proofs.texts.put_got.Goals as goal
+
+pub returns-in-Sent : goal.returns-in-Sent
+returns-in-Sent g c = rw c.in-Sent.is (grows-more c.put_text.ensures (grows-more c.put_number-in-Sent.ensures c.put_text-in-Sent.ensures))
+
+pub returns-in-Lost : goal.returns-in-Lost
+returns-in-Lost g c = rw c.in-Lost.is
+    (grows-more c.put_text-in-Lost.ensures (grows-more c.put_number-in-Lost.ensures (rw c.cause_word.ensures at c.put_after.ensures)))
+
+pub returns-in-NoNode : goal.returns-in-NoNode
+returns-in-NoNode g c = rw c.in-NoNode.is c.put_text-in-NoNode.ensures
+
+pub returns-in-NoNodeOrSignal : goal.returns-in-NoNodeOrSignal
+returns-in-NoNodeOrSignal g c = rw c.in-NoNodeOrSignal.is c.put_text-in-NoNodeOrSignal.ensures

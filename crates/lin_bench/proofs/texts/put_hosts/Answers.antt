@@ -1,0 +1,10 @@
+use Rattle.std.proofs.Common.{ap, sym}
+use Rattle.lin_text.proofs.Growing.{grows-more, same-growth}
+use Rattle.lin_bench.specs.Texts.{hosts_text}
+use Rattle.lin_bench.proofs.Appending.{head-and-rest}
+use Rattle.lin_bench.proofs.texts.put_hosts.Goals as goal
+
+pub returns-in-len1-up : goal.returns-in-len1-up
+returns-in-len1-up g c =
+    same-growth (sym (ap (hosts_text c.args.cluster.now) (head-and-rest c.args.hosts.now (0, 0) c.in-len1-up.len_at_least)))
+    (grows-more c.put_waiting.ensures c.put_others.ensures)

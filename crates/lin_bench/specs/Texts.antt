@@ -1,0 +1,126 @@
+-- What is said of bad lines and of expectations that aren't met.
+use Rattle.std.specs.Prelude.{ℕ, ◌==◌, nat_lt, if◌then◌else◌, List, [], ◌∷◌, ◌++◌, flat_map, length}
+use Rattle.std.specs.Prelude.{codes}
+use Rattle.std.specs.Fmt.{decimal}
+use Rattle.lin_cluster_parts.specs.Cluster.{nodes, node_of, signal_of, named_table}
+use Rattle.lin_cluster_parts.specs.declared.parts.Parts.{Parts}
+use Rattle.lin_log.specs.Words.{cause_word, hex_word, spaced_word, value_word}
+use Rattle.lin_bench.specs.Verdicts.{look_word, refusal_word}
+use Rattle.lin_bench.specs.declared.reason.Reason.{Reason}
+use Rattle.lin_bench.specs.declared.reason.Reason.TheVariants as reason
+use Rattle.lin_bench.specs.declared.expected.Expected.{Expected}
+use Rattle.lin_bench.specs.declared.expected.Expected.TheVariants as expected
+use Rattle.lin_bench.specs.declared.got.Got.{Got}
+use Rattle.lin_bench.specs.declared.got.Got.TheVariants as got
+use Rattle.lin_bench.specs.declared.got.Unmet.{Unmet}
+use Rattle.lin_bench.specs.declared.got.Unmet.TheVariants as unmet
+
+-- fields with one space between two
+abbrev pub joined : List (List ℕ) → List ℕ
+joined [] = []
+joined (f ∷ fs) = f ++ flat_map spaced_word fs
+
+abbrev pub fields_word : ℕ → List ℕ
+fields_word count = if count == 1 then codes " field" else codes " fields"
+
+-- why a line is bad
+abbrev pub reason_text : Reason → List ℕ
+reason_text reason.NoStep = codes "no step"
+reason_text (reason.UnknownStep word) = codes "no step " ++ word
+reason_text (reason.NoNode name) = codes "no node " ++ name
+reason_text (reason.NoSignal name) = codes "no signal " ++ name
+reason_text (reason.NoTable name) = codes "no table " ++ name
+reason_text (reason.NoRefusal name) = codes "no refusal " ++ name
+reason_text (reason.NoNumber field most) = field ++ (codes " is no number up to " ++ decimal most)
+reason_text reason.TooSmall = codes "0 is too small"
+reason_text reason.NoBytes = codes "no bytes"
+reason_text (reason.NotBytes fields) = joined fields ++ codes " is no bytes"
+reason_text (reason.TooManyBytes field) = field ++ codes " has more than 8 bytes"
+reason_text (reason.Takes word fields) =
+    word ++ (codes " takes " ++ (decimal fields ++ fields_word fields))
+reason_text reason.SendForm = codes "send takes two nodes and bytes"
+reason_text reason.WriteForm = codes "write takes a signal and a value"
+reason_text reason.TimeoutForm = codes "timeout takes down or up"
+reason_text reason.SlotsForm = codes "slots takes a number, a number and ms, or idle"
+reason_text (reason.SlotForm word) = codes "slot takes hurt or leave, not " ++ word
+reason_text reason.LeaveForm = codes "slot leave takes nodes"
+reason_text reason.ExpectForm = codes "expect takes what is expected"
+reason_text (reason.UnknownExpectation fields) = codes "expect has no form " ++ joined fields
+
+-- the line of a bad line
+abbrev pub bad_line_text : ℕ → Reason → List ℕ
+bad_line_text n why =
+    codes "script " ++ (decimal n ++ (codes " bad line: " ++ (reason_text why ++ 10 ∷ [])))
+
+-- the name of a node, a signal or a table, or the number where it is none's
+abbrev pub node_word : Parts → ℕ → List ℕ
+node_word c n = if nat_lt n (nodes c) then (node_of c n).name else decimal n
+
+abbrev pub signal_word : Parts → ℕ → List ℕ
+signal_word c s = if nat_lt s (length c.signals) then (signal_of c s).name else decimal s
+
+abbrev pub table_word : Parts → ℕ → List ℕ
+table_word c t = if nat_lt t (length c.tables) then (named_table c t).name else decimal t
+
+-- what is expected
+abbrev pub expected_text : Parts → Expected → List ℕ
+expected_text c (expected.Signal node signal value) =
+    codes "signal "
+    ++ (node_word c node ++ (spaced_word (signal_word c signal) ++ spaced_word (value_word value)))
+expected_text c (expected.Waiting host count) =
+    codes "waiting " ++ (node_word c host ++ spaced_word (decimal count))
+expected_text c (expected.Message from to bytes) =
+    codes "message "
+    ++ (node_word c from ++ (spaced_word (node_word c to) ++ spaced_word (hex_word bytes)))
+expected_text c (expected.Sent host) = codes "sent " ++ node_word c host
+expected_text c (expected.Lost host cause) =
+    codes "lost " ++ (node_word c host ++ spaced_word (cause_word cause))
+expected_text c (expected.Seen how) = codes "seen " ++ look_word how
+expected_text c (expected.Slot table entry) =
+    codes "slot " ++ (table_word c table ++ spaced_word (decimal entry))
+expected_text c expected.Done = codes "done"
+expected_text c (expected.Refused why) = codes "refused " ++ refusal_word why
+expected_text c expected.Asleep = codes "asleep"
+expected_text c expected.Awake = codes "awake"
+
+-- what is so in its place
+abbrev pub got_text : Parts → Got → List ℕ
+got_text c (got.Value value) = value_word value
+got_text c (got.Waiting count) = decimal count
+got_text c (got.Message bytes) = hex_word bytes
+got_text c (got.Sent number) = codes "message " ++ (decimal number ++ codes " sent")
+got_text c (got.Lost number cause) =
+    codes "message " ++ (decimal number ++ (codes " lost " ++ cause_word cause))
+got_text c got.NoEvent = codes "none"
+got_text c (got.Seen how) = look_word how
+got_text c (got.Slot table entry) = table_word c table ++ spaced_word (decimal entry)
+got_text c got.NoSlot = codes "no slot"
+got_text c got.Done = codes "done"
+got_text c (got.Refused why) = codes "refused " ++ refusal_word why
+got_text c got.NoStep = codes "no step"
+got_text c got.Asleep = codes "asleep"
+got_text c got.Awake = codes "awake"
+got_text c got.NoNode = codes "no such node"
+got_text c got.NoNodeOrSignal = codes "no such node or signal"
+
+-- how many messages of a host wait
+abbrev pub waiting_text : Parts → ℕ × ℕ → List ℕ
+waiting_text c h = decimal h.1 ++ (codes " of " ++ (node_word c h.0 ++ codes " waiting"))
+
+abbrev pub other_host_text : Parts → ℕ × ℕ → List ℕ
+other_host_text c h = codes ", " ++ waiting_text c h
+
+abbrev pub hosts_text : Parts → List (ℕ × ℕ) → List ℕ
+hosts_text c [] = []
+hosts_text c (h ∷ hs) = waiting_text c h ++ flat_map (other_host_text c) hs
+
+-- what is expected and what is so
+abbrev pub judged_text : List ℕ → List ℕ → List ℕ
+judged_text what is = codes " expected " ++ (what ++ (codes ": " ++ (is ++ 10 ∷ [])))
+
+-- the line of an expectation that isn't met
+abbrev pub unmet_text : Parts → Unmet → List ℕ
+unmet_text c (unmet.Expected n what is) =
+    codes "script " ++ (decimal n ++ judged_text (expected_text c what) (got_text c is))
+unmet_text c (unmet.Idle n hosts) =
+    codes "script " ++ (decimal n ++ judged_text (codes "idle") (hosts_text c hosts))
