@@ -5,3 +5,7 @@ pub mod SlotSteps
 pub mod Events
 pub mod Hosts
 pub mod Runs
+pub mod PlainFields
+pub mod PlainBytes
+pub mod PlainSteps
+pub mod PlainLines

@@ -11,3 +11,4 @@ pub mod Played
 pub mod Making
 pub mod Plays
 pub mod Texts
+pub mod Plain

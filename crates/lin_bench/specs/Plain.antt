@@ -1,0 +1,22 @@
+-- Plain scripts: those that `replay` reads.
+use Rattle.std.specs.Prelude.{◌≡◌, ℕ, List, Result, Ok}
+use Rattle.lin_cluster_parts.specs.declared.parts.Parts.{Parts}
+use Rattle.lin_core.specs.declared.port.PortId.{PortId}
+use Rattle.lin_core.specs.declared.step.Step.{Step}
+use Rattle.lin_log.specs.Script.{script}
+use Rattle.lin_bench.specs.Lines.{read}
+use Rattle.lin_bench.specs.Played.{first, played}
+use Rattle.lin_bench.specs.declared.line.Line.{Line}
+
+-- a bench script that reads well, whose lines come to these steps and to nothing else: they make
+-- no slot of their own and expect nothing
+pub record SaysSteps (c : Parts) (opening : ℕ) (capacity : ℕ) (text : List ℕ)
+    (steps : List (PortId × Step)) : Type 0 where
+  pub lines : List (ℕ × Line)
+  pub reading : read c text ≡ Ok lines
+  pub steps_alone : played c opening capacity lines ≡ Ok (record first { steps = steps })
+
+-- a script of `replay` says the same steps as a bench script
+abbrev pub PlainScripts : Type 0
+PlainScripts = (c : Parts) (opening capacity : ℕ) (text : List ℕ) (steps : List (PortId × Step))
+    → script text ≡ Ok steps → SaysSteps c opening capacity text steps
