@@ -2,12 +2,13 @@
 
 use crate::runs::{expect_bytes, run};
 use crate::samples;
-use lin_export::{write_csv, write_named, write_pcap, write_vcd};
+use lin_export::{write_csv, write_html, write_named, write_pcap, write_vcd};
 use std::alloc::Global;
 use std::process::Abort;
 use std::test::Fail;
 
-/// A log, the LDF text of its cluster, and what it is written as.
+/// A log, the LDF text of its cluster, and what it is written as; of a picture what stands after
+/// its head.
 #[derive(Drop)]
 struct Sample<'a> {
     ldf: &'a [u8],
@@ -16,6 +17,7 @@ struct Sample<'a> {
     csv: &'a [u8],
     pcap: &'a [u8],
     vcd: &'a [u8],
+    html: &'a [u8],
 }
 
 fn expect_formats(rt: &impl Abort, alloc: Global, sample: &Sample<'_>) -> Result<(), Fail> {
@@ -32,6 +34,11 @@ fn expect_formats(rt: &impl Abort, alloc: Global, sample: &Sample<'_>) -> Result
     let mut vcd = Vec::new(alloc);
     write_vcd(alloc, core.cluster(), core.log(), &mut vcd)?;
     expect_bytes(rt, &vcd, sample.vcd, "vcd");
+    let mut html = Vec::new(alloc);
+    write_html(alloc, core.cluster(), &names, core.log(), &mut html)?;
+    let head = samples::HTML_HEAD;
+    assert!(rt; html.as_slice().starts_with(head));
+    expect_bytes(rt, &html.as_slice()[head.len()..], sample.html, "html");
     Ok(())
 }
 
@@ -44,6 +51,7 @@ fn first(rt: HostRuntime) -> Result<(), Fail> {
         csv: samples::FIRST_CSV,
         pcap: samples::FIRST_PCAP,
         vcd: samples::FIRST_VCD,
+        html: samples::FIRST_HTML,
     };
     expect_formats(&rt, rt.alloc(), &sample)
 }
@@ -57,6 +65,7 @@ fn wake(rt: HostRuntime) -> Result<(), Fail> {
         csv: samples::WAKE_CSV,
         pcap: samples::WAKE_PCAP,
         vcd: samples::WAKE_VCD,
+        html: samples::WAKE_HTML,
     };
     expect_formats(&rt, rt.alloc(), &sample)
 }
@@ -70,6 +79,7 @@ fn keys(rt: HostRuntime) -> Result<(), Fail> {
         csv: samples::KEYS_CSV,
         pcap: samples::KEYS_PCAP,
         vcd: samples::KEYS_VCD,
+        html: samples::KEYS_HTML,
     };
     expect_formats(&rt, rt.alloc(), &sample)
 }
@@ -83,6 +93,7 @@ fn window(rt: HostRuntime) -> Result<(), Fail> {
         csv: samples::WINDOW_CSV,
         pcap: samples::WINDOW_PCAP,
         vcd: samples::WINDOW_VCD,
+        html: samples::WINDOW_HTML,
     };
     expect_formats(&rt, rt.alloc(), &sample)
 }
@@ -96,6 +107,7 @@ fn task_c(rt: HostRuntime) -> Result<(), Fail> {
         csv: samples::TASK_C_CSV,
         pcap: samples::TASK_C_PCAP,
         vcd: samples::TASK_C_VCD,
+        html: samples::TASK_C_HTML,
     };
     expect_formats(&rt, rt.alloc(), &sample)
 }

@@ -1,0 +1,252 @@
+//! Each format with writers that fail, that take a few bytes a write or none, with an empty log,
+//! and with long names.
+
+ghost use Rattle.std.specs.Prelude.{Some};
+
+use crate::runs::{expect_bytes, run};
+use crate::samples;
+use lin_core::Core;
+use lin_export::{ExportFault, write_csv, write_html, write_named, write_pcap, write_vcd};
+use lin_names::Names;
+use std::alloc::{AllocError, Global};
+use std::io::{Error, ErrorKind, Write};
+use std::process::Abort;
+use std::test::Fail;
+
+/// How many bytes a write takes at most.
+const MOST: usize = 16;
+
+/// Takes a few bytes a write, and after some writes fails in one way or takes nothing; it counts
+/// the writes.
+#[derive(Drop)]
+struct Refusing {
+    taken: Vec<u8>,
+    good: usize,
+    calls: usize,
+    kind: Option<ErrorKind>,
+}
+
+impl Write for Refusing {
+    ghost contents = { λ w. Some w.taken.items };
+
+    fn write(&mut self, buf: &[u8]) -> std::io::Result<usize> {
+        self.calls = self.calls.saturating_add(1);
+        if self.good == 0 {
+            return match self.kind {
+                Some(kind) => Err(Error::from(kind)),
+                None => Ok(0),
+            };
+        }
+        self.good -= 1;
+        let count = buf.len().min(MOST);
+        if self.taken.extend_from_slice(&buf[..count]).is_err() {
+            return Err(Error::from(ErrorKind::OutOfMemory));
+        }
+        Ok(count)
+    }
+
+    fn flush(&mut self) -> std::io::Result<()> {
+        Ok(())
+    }
+}
+
+#[derive(Clone, Copy)]
+enum Form {
+    Named,
+    Csv,
+    Pcap,
+    Vcd,
+    Html,
+}
+
+const FORMS: [Form; 5] = [Form::Named, Form::Csv, Form::Pcap, Form::Vcd, Form::Html];
+
+fn write_form<W: Write>(
+    form: Form,
+    alloc: Global,
+    names: &Names,
+    core: &Core,
+    writer: &mut W,
+) -> Result<(), ExportFault> {
+    let cluster = core.cluster();
+    let log = core.log();
+    match form {
+        Form::Named => write_named(alloc, cluster, names, log, writer),
+        Form::Csv => write_csv(alloc, cluster, names, log, writer),
+        Form::Pcap => write_pcap(alloc, cluster, log, writer),
+        Form::Vcd => write_vcd(alloc, cluster, log, writer),
+        Form::Html => write_html(alloc, cluster, names, log, writer),
+    }
+}
+
+/// After some writes the writer fails: it has taken a beginning of the text, and isn't asked again.
+fn expect_beginning(
+    rt: &impl Abort,
+    alloc: Global,
+    form: Form,
+    run: &(Names, Core),
+    good: usize,
+    kind: Option<ErrorKind>,
+) -> Result<(), Fail> {
+    let mut text = Vec::new(alloc);
+    write_form(form, alloc, &run.0, &run.1, &mut text)?;
+    let mut writer = Refusing {
+        taken: Vec::new(alloc),
+        good,
+        calls: 0,
+        kind,
+    };
+    let written = write_form(form, alloc, &run.0, &run.1, &mut writer);
+    assert!(rt; matches!(written, Err(ExportFault::WriteFailed)));
+    assert!(rt; writer.calls == good.saturating_add(1));
+    assert!(rt; writer.taken.len() == good.saturating_mul(MOST));
+    assert!(rt; text.as_slice().starts_with(writer.taken.as_slice()));
+    Ok(())
+}
+
+#[test]
+fn each_write_fails_in_turn(rt: HostRuntime) -> Result<(), Fail> {
+    let run = run(rt.alloc(), samples::BUILT_IN, samples::FIRST_LOG)?;
+    for form in FORMS {
+        let mut text = Vec::new(rt.alloc());
+        write_form(form, rt.alloc(), &run.0, &run.1, &mut text)?;
+        for good in 0..text.len().div_ceil(MOST) {
+            expect_beginning(&rt, rt.alloc(), form, &run, good, Some(ErrorKind::Other))?;
+        }
+    }
+    Ok(())
+}
+
+#[test]
+fn writers_that_take_nothing(rt: HostRuntime) -> Result<(), Fail> {
+    let run = run(rt.alloc(), samples::LIGHTS, samples::KEYS_LOG)?;
+    for form in FORMS {
+        expect_beginning(&rt, rt.alloc(), form, &run, 0, None)?;
+        expect_beginning(&rt, rt.alloc(), form, &run, 0, Some(ErrorKind::BrokenPipe))?;
+        expect_beginning(&rt, rt.alloc(), form, &run, 2, Some(ErrorKind::StorageFull))?;
+        expect_beginning(&rt, rt.alloc(), form, &run, 1, Some(ErrorKind::Interrupted))?;
+    }
+    Ok(())
+}
+
+#[test]
+fn a_few_bytes_a_write(rt: HostRuntime) -> Result<(), Fail> {
+    let (names, core) = run(rt.alloc(), samples::BUILT_IN, samples::FIRST_LOG)?;
+    for form in FORMS {
+        let mut text = Vec::new(rt.alloc());
+        write_form(form, rt.alloc(), &names, &core, &mut text)?;
+        let mut writer = Refusing {
+            taken: Vec::new(rt.alloc()),
+            good: text.len(),
+            calls: 0,
+            kind: None,
+        };
+        write_form(form, rt.alloc(), &names, &core, &mut writer)?;
+        expect_bytes(&rt, &writer.taken, &text, "a few bytes a write");
+    }
+    Ok(())
+}
+
+#[test]
+fn empty_log(rt: HostRuntime) -> Result<(), Fail> {
+    let (names, core) = run(rt.alloc(), samples::BUILT_IN, b"")?;
+    let mut named = Vec::new(rt.alloc());
+    write_form(Form::Named, rt.alloc(), &names, &core, &mut named)?;
+    expect_bytes(&rt, &named, b"", "named");
+    let mut csv = Vec::new(rt.alloc());
+    write_form(Form::Csv, rt.alloc(), &names, &core, &mut csv)?;
+    let columns = b"slot,time_us,delay_us,table,entry,kind,frame,header,nodes,seen,data,checksum\n";
+    expect_bytes(&rt, &csv, columns, "csv");
+    let mut pcap = Vec::new(rt.alloc());
+    write_form(Form::Pcap, rt.alloc(), &names, &core, &mut pcap)?;
+    assert!(rt; pcap.len() == 24 && samples::FIRST_PCAP.starts_with(pcap.as_slice()));
+    let mut vcd = Vec::new(rt.alloc());
+    write_form(Form::Vcd, rt.alloc(), &names, &core, &mut vcd)?;
+    assert!(rt; samples::FIRST_VCD.starts_with(vcd.as_slice()));
+    assert!(rt; vcd.as_slice().ends_with(b"$end\n"));
+    let mut html = Vec::new(rt.alloc());
+    write_form(Form::Html, rt.alloc(), &names, &core, &mut html)?;
+    assert!(rt; html.as_slice().starts_with(b"<!DOCTYPE html>"));
+    assert!(rt; html.as_slice().ends_with(b"</html>\n"));
+    Ok(())
+}
+
+/// The text with each place of some bytes replaced.
+fn replaced(alloc: Global, text: &[u8], old: &[u8], new: &[u8]) -> Result<Vec<u8>, AllocError> {
+    let mut made = Vec::new(alloc);
+    let mut skip = 0usize;
+    for place in 0..text.len() {
+        if skip > 0 {
+            skip -= 1;
+        } else if text[place..].starts_with(old) {
+            made.extend_from_slice(new)?;
+            skip = old.len().saturating_sub(1);
+        } else {
+            made.push(text[place])?;
+        }
+    }
+    Ok(made)
+}
+
+/// A name of 1,000 bytes.
+const LONG: [u8; 1000] = [b'n'; 1000];
+
+/// A run of a cluster in which a name is a long one.
+fn renamed(alloc: Global, ldf: &[u8], name: &[u8], log: &[u8]) -> Result<(Names, Core), Fail> {
+    let ldf = replaced(alloc, ldf, name, &LONG)?;
+    run(alloc, &ldf, log)
+}
+
+/// Such a run is written as the one with the short name is, but for the name.
+fn expect_renamed(
+    rt: &impl Abort,
+    alloc: Global,
+    form: Form,
+    run: &(Names, Core),
+    text: &[u8],
+    name: &[u8],
+) -> Result<(), Fail> {
+    let mut found = Vec::new(alloc);
+    write_form(form, alloc, &run.0, &run.1, &mut found)?;
+    let mut want = Vec::new(alloc);
+    if matches!(form, Form::Html) {
+        want.extend_from_slice(samples::HTML_HEAD)?;
+    }
+    want.extend_from_slice(&replaced(alloc, text, name, &LONG)?)?;
+    expect_bytes(rt, &found, &want, "a long name");
+    Ok(())
+}
+
+#[test]
+fn nodes_of_1000_bytes(rt: HostRuntime) -> Result<(), Fail> {
+    let name = b"door";
+    let run = renamed(rt.alloc(), samples::BUILT_IN, name, samples::FIRST_LOG)?;
+    expect_renamed(
+        &rt,
+        rt.alloc(),
+        Form::Named,
+        &run,
+        samples::FIRST_NAMED,
+        name,
+    )?;
+    expect_renamed(&rt, rt.alloc(), Form::Pcap, &run, samples::FIRST_PCAP, name)?;
+    expect_renamed(&rt, rt.alloc(), Form::Vcd, &run, samples::FIRST_VCD, name)?;
+    expect_renamed(&rt, rt.alloc(), Form::Html, &run, samples::FIRST_HTML, name)
+}
+
+#[test]
+fn signals_of_1000_bytes(rt: HostRuntime) -> Result<(), Fail> {
+    let name = b"lkey";
+    let run = renamed(rt.alloc(), samples::LIGHTS, name, samples::KEYS_LOG)?;
+    expect_renamed(
+        &rt,
+        rt.alloc(),
+        Form::Named,
+        &run,
+        samples::KEYS_NAMED,
+        name,
+    )?;
+    expect_renamed(&rt, rt.alloc(), Form::Csv, &run, samples::KEYS_CSV, name)?;
+    expect_renamed(&rt, rt.alloc(), Form::Vcd, &run, samples::KEYS_VCD, name)?;
+    expect_renamed(&rt, rt.alloc(), Form::Html, &run, samples::KEYS_HTML, name)
+}
