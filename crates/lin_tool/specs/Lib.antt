@@ -3,6 +3,7 @@ pub mod Comparing
 pub mod Formats
 pub mod Listing
 pub mod Opening
+pub mod Playing
 pub mod Reading
 pub mod Replaying
 pub mod Running

@@ -5,10 +5,12 @@ use Rattle.lin_tool.specs.declared.fault.Fault.TheVariants.{BadLine, Ldf, Findin
 use Rattle.lin_tool.specs.declared.fault.Fault.TheVariants.{ScriptTooLong, NotHostStep, NoSuchTable}
 use Rattle.lin_tool.specs.declared.fault.Fault.TheVariants.{OutOfMemory, ReadFailed, WriteFailed}
 use Rattle.lin_tool.specs.declared.fault.Fault.TheVariants.{TaskLimit, NoThread, LogFull}
-use Rattle.lin_tool.specs.declared.fault.Fault.TheVariants.{LogDiffers}
+use Rattle.lin_tool.specs.declared.fault.Fault.TheVariants.{LogDiffers, BadBenchLine, SlotLimit}
+use Rattle.lin_tool.specs.declared.fault.Fault.TheVariants.{Unmet}
 
 -- 1 for a fault of the input, 3 for lack of memory, 4 where standard input, a file or standard
--- output failed, 5 where a run met a limit, 6 where a log isn't the text of its own history
+-- output failed, 5 where a run met a limit, 6 where a log isn't the text of its own history or
+-- expectations of a bench script aren't met
 abbrev pub status_of : Fault → ℕ
 status_of (BadLine n) = 1
 status_of (Ldf f) = 1
@@ -17,6 +19,8 @@ status_of LdfTooLong = 1
 status_of ScriptTooLong = 1
 status_of (NotHostStep n) = 1
 status_of NoSuchTable = 1
+status_of (BadBenchLine n told) = 1
+status_of (SlotLimit n) = 1
 status_of OutOfMemory = 3
 status_of ReadFailed = 4
 status_of WriteFailed = 4
@@ -24,3 +28,4 @@ status_of TaskLimit = 5
 status_of NoThread = 5
 status_of LogFull = 5
 status_of (LogDiffers line) = 6
+status_of (Unmet told) = 6

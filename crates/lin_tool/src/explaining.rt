@@ -130,12 +130,18 @@ pub(crate) fn put_tables(out: &mut String, cluster: &Cluster) -> Result<(), Allo
     out.push_str("\n")
 }
 
-/// Puts a line of a script that is in no form.
-pub(crate) fn put_bad_line(out: &mut String, script: &[u8], number: u64) -> Result<(), AllocError> {
+/// Puts a line of a script.
+pub(crate) fn put_line(out: &mut String, script: &[u8], number: u64) -> Result<(), AllocError> {
     let line = line_of(script, number);
     out.push_str("  ")?;
     put_shown(out, line.get(..WIDTH).unwrap_or(line))?;
-    out.push_str("\n  a line is a port (bus, h0, n1 ..), a step (open, send ..) and its fields\n")
+    out.push_str("\n")
+}
+
+/// Puts a line of a script that is in no form.
+pub(crate) fn put_bad_line(out: &mut String, script: &[u8], number: u64) -> Result<(), AllocError> {
+    put_line(out, script, number)?;
+    out.push_str("  a line is a port (bus, h0, n1 ..), a step (open, send ..) and its fields\n")
 }
 
 /// How many steps of a log were refused, by the refusals' numbers.

@@ -2,12 +2,14 @@
 
 ghost use Rattle.std.specs.Prelude.{◌≡◌};
 ghost use Rattle.lin_tool.specs.Formats.{export_fault};
+ghost use Rattle.lin_tool.specs.Playing.{play_fault};
 ghost use Rattle.lin_tool.specs.Replaying.{script_fault};
 ghost use Rattle.lin_tool.specs.Running.{split_fault};
 ghost use Rattle.lin_tool.specs.Statuses.{status_of};
 ghost use Rattle.lin_tool.specs.declared.fault.Fault.TheVariants.{OutOfMemory};
 
 use crate::findings::Findings;
+use lin_bench::PlayFault;
 use lin_export::ExportFault;
 use lin_ldf::LdfFault;
 use lin_log::ScriptFault;
@@ -21,7 +23,9 @@ use thiserror::Error;
 pub enum Fault {
     /// The script's first line that is in no form, counted from 1.
     #[error("{}", ScriptFault::BadLine {line: *.line})]
-    BadLine { line: u64 },
+    BadLine {
+        line: u64,
+    },
     /// The LDF text has a fault.
     #[error("ldf {0}")]
     Ldf(LdfFault),
@@ -37,7 +41,9 @@ pub enum Fault {
     /// The script's first step, counted from 0, that is none of a host of the cluster by its own
     /// port.
     #[error("script step {index} not a host step")]
-    NotHostStep { index: usize },
+    NotHostStep {
+        index: usize,
+    },
     /// The cluster has no schedule table of the name that the command line gives.
     #[error("no such table")]
     NoSuchTable,
@@ -61,13 +67,34 @@ pub enum Fault {
     /// A script isn't the text of its own history. Here is its first line, counted from 1, that
     /// differs from that text.
     #[error("log {line} differs")]
-    LogDiffers { line: u64 },
+    LogDiffers {
+        line: u64,
+    },
+    /// A bench script's first line that is bad, counted from 1. Why it is was told where the script
+    /// was played, if that could be written.
+    #[error("{}", ScriptFault::BadLine {line: *.line})]
+    BadBenchLine {
+        line: u64,
+        told: Result<(), WriteFailed>,
+    },
+    /// By this line, counted from 1, a bench script makes more than 1,000,000 slots.
+    #[error("script {line} slot limit")]
+    SlotLimit {
+        line: u64,
+    },
+    /// Expectations of a bench script aren't met. Which they are was told where it was played, if
+    /// that could be written.
+    #[error("expectations not met")]
+    Unmet {
+        told: Result<(), WriteFailed>,
+    },
 }
 
 impl Fault {
     /// The exit status: 1 for a fault of the input, 3 where memory ran out, 4 for a failed read or
-    /// write, 5 where a run met a limit, 6 where a log isn't the text of its own history. (0 is for
-    /// a run without a fault, and 2 for a wrong command line.)
+    /// write, 5 where a run met a limit, 6 where a log isn't the text of its own history or
+    /// expectations of a bench script aren't met. (0 is for a run without a fault, and 2 for a wrong
+    /// command line.)
     pub fn status(&self) -> u8
         ensures { result ≡ status_of self.now }
     {
@@ -78,11 +105,13 @@ impl Fault {
             | Fault::BadLine { .. }
             | Fault::ScriptTooLong
             | Fault::NotHostStep { .. }
-            | Fault::NoSuchTable => 1,
+            | Fault::NoSuchTable
+            | Fault::BadBenchLine { .. }
+            | Fault::SlotLimit { .. } => 1,
             Fault::OutOfMemory => 3,
             Fault::ReadFailed | Fault::WriteFailed => 4,
             Fault::TaskLimit | Fault::NoThread | Fault::LogFull => 5,
-            Fault::LogDiffers { .. } => 6,
+            Fault::LogDiffers { .. } | Fault::Unmet { .. } => 6,
         }
     }
 }
@@ -117,6 +146,18 @@ impl From<RunFault> for Fault {
             RunFault::LogFull => Fault::LogFull,
             RunFault::OutOfMemory => Fault::OutOfMemory,
             RunFault::NoThread => Fault::NoThread,
+        }
+    }
+}
+
+impl From<PlayFault> for Fault {
+    ghost from_gives = { λ x y. y ≡ play_fault x };
+
+    fn from(fault: PlayFault) -> Fault {
+        match fault {
+            PlayFault::SlotLimit { line } => Fault::SlotLimit { line },
+            PlayFault::LogFull => Fault::LogFull,
+            PlayFault::OutOfMemory => Fault::OutOfMemory,
         }
     }
 }

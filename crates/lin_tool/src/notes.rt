@@ -4,6 +4,8 @@
 use crate::explaining::{put_bad_line, put_refusals, put_tables, put_text};
 use crate::fault::Fault;
 use crate::locating::put_places;
+use crate::nearest::put_bad_bench_line;
+use lin_bench::Reason;
 use lin_cluster_parts::Cluster;
 use lin_core::Log;
 use std::alloc::{AllocError, Global};
@@ -57,6 +59,8 @@ impl<'a> Notes<'a> {
             (Some(file), Fault::LdfTooLong | Fault::ReadFailed) => {
                 eprintln!(rt; "{file}: {fault}")
             }
+            // (these were told while the script was played)
+            (_, Fault::BadBenchLine { .. } | Fault::Unmet { .. }) => Ok(()),
             _ => eprintln!(rt; "{fault}"),
         };
     }
@@ -102,6 +106,21 @@ impl<'a> Notes<'a> {
     pub(crate) fn add_line(&mut self, script: &[u8], line: u64) {
         if self.wanted.explained {
             self.is_cut = put_bad_line(&mut self.text, script, line).is_err();
+        }
+    }
+
+    /// Adds a bad line of a bench script, and names that there are.
+    pub(crate) fn add_bench_line(
+        &mut self,
+        alloc: Global,
+        script: &[u8],
+        line: u64,
+        cluster: &Cluster,
+        reason: &Reason,
+    ) {
+        if self.wanted.explained {
+            let put = put_bad_bench_line(alloc, &mut self.text, script, line, cluster, reason);
+            self.is_cut = put.is_err();
         }
     }
 

@@ -1,0 +1,58 @@
+-- What was written of a bench script that was played.
+use Rattle.std.proofs.Common.{◌≡◌, ◌≤◌, inr, ℕ, length, List, ◌++◌, Option, Some, None, IfSome, Result, Ok, Err, ap, ◌∙◌, flat_map}
+use Rattle.std.specs.Io.KnownBytes.{Appends, Keeps}
+use Rattle.lin_text.specs.Written.{WritesText}
+use Rattle.lin_bench.specs.Lines.{Script, read}
+use Rattle.lin_bench.specs.Played.{Run, played}
+use Rattle.lin_cluster_parts.specs.declared.parts.Parts.{Parts}
+use Rattle.lin_log.specs.Replay.{log_of}
+use Rattle.lin_bench.specs.Texts.{unmet_text}
+use Rattle.lin_bench.specs.declared.line.Line.{Line}
+use Rattle.lin_tool.specs.Formats.{log_as}
+use Rattle.lin_tool.specs.Playing.{PlaysScript, Says, WritesPlayed}
+use Rattle.lin_tool.specs.declared.describing.Described.{Described}
+use Rattle.lin_tool.specs.declared.fault.Fault.{Fault}
+use Rattle.lin_tool.specs.declared.fault.Fault.TheVariants.{OutOfMemory, Unmet, WriteFailed}
+use Rattle.lin_tool.specs.declared.formats.Format.{Format}
+
+pub says : (c : Parts) (told : Option (List ℕ)) (bytes : List ℕ) (said : Script) → IfSome told (λ b. bytes ≡ b) → length bytes ≤ 16777216 → read c bytes ≡ said
+    → Says c told said
+says c told bytes said known short all = record { bytes = bytes; known = known; short = short; all = all }
+
+-- what was kept at first
+keeps-more : (a b c : Option (List ℕ)) → Keeps a b → Keeps b c → Keeps a c
+keeps-more None b c h k = tt
+keeps-more (Some x) None c h k = absurd h
+keeps-more (Some x) (Some y) None h k = absurd k
+keeps-more (Some x) (Some y) (Some z) h k = k ∙ h
+
+appends-after : (a b c : Option (List ℕ)) (part : List ℕ) → Keeps a b → Appends b c part → Appends a c part
+appends-after None b c part h k = tt
+appends-after (Some x) None c part h k = absurd h
+appends-after (Some x) (Some y) None part h k = absurd k
+appends-after (Some x) (Some y) (Some z) part h k = k ∙ ap (λ l. l ++ part) h
+
+writes-after : {E : Type 0} {a b c : Option (List ℕ)} {r : Result Unit E} {text : List ℕ} → Keeps a b → WritesText b c r text → WritesText a c r text
+writes-after {a = a} {b = b} {c = c} h k = record {
+  part = k.part;
+  rest = k.rest;
+  written = appends-after a b c k.part h k.written;
+  whole = k.whole;
+  all = k.all;
+}
+
+-- a run of these lines was written, where nothing was told before
+pub plays : (format : Format) (d : Described) (opening capacity : ℕ) (result : Result Unit Fault)
+    (told old new silent mid heard : Option (List ℕ)) (ls : List (ℕ × Line)) (run : Run) → Says d.cluster told (Ok ls) → played d.cluster opening capacity ls ≡ Ok run
+    → Keeps silent mid
+    → WritesPlayed format (log_as format d.names d.cluster (log_of d.cluster opening capacity run.steps)) run.unmet (flat_map (unmet_text d.cluster) run.unmet) result old new mid heard
+    → PlaysScript format d opening capacity result told old new silent heard
+plays format d opening capacity (Ok done) told old new silent mid heard ls run says comes kept (shown, met, quiet) =
+    (run, (ls, says, comes), (shown, met, keeps-more silent mid heard kept quiet))
+plays format d opening capacity (Err (Unmet outcome)) told old new silent mid heard ls run says comes kept (shown, missed, said) =
+    (run, (ls, says, comes), (shown, missed, writes-after kept said))
+plays format d opening capacity (Err WriteFailed) told old new silent mid heard ls run says comes kept (begun, quiet) =
+    (run, (ls, says, comes), (begun, keeps-more silent mid heard kept quiet))
+plays format d opening capacity (Err OutOfMemory) told old new silent mid heard ls run says comes kept (other, begun, quiet) =
+    inr (run, (ls, says, comes), (other, begun, keeps-more silent mid heard kept quiet))
+plays format d opening capacity (Err _) told old new silent mid heard ls run says comes kept h = absurd h

@@ -1,0 +1,114 @@
+-- What the program's play answers.
+use Rattle.std.specs.Prelude.{◌≡◌, ◌≢◌, ◌⊎◌, ℕ, ◌≤◌, List, [], length, flat_map, Option, IfSome}
+use Rattle.std.specs.Prelude.{Result, Ok, Err}
+use Rattle.std.specs.Io.KnownBytes.{Keeps}
+use Rattle.lin_text.specs.Written.{WritesText}
+use Rattle.lin_cluster_parts.specs.declared.parts.Parts.{Parts}
+use Rattle.lin_log.specs.Replay.{log_of}
+use Rattle.lin_log.specs.declared.fault.ScriptFault.TheVariants as script
+use Rattle.lin_bench.specs.Lines.{Script, read}
+use Rattle.lin_bench.specs.Played.{Run, played}
+use Rattle.lin_bench.specs.Texts.{bad_line_text, unmet_text}
+use Rattle.lin_bench.specs.declared.fault.PlayFault.{PlayFault}
+use Rattle.lin_bench.specs.declared.fault.PlayFault.TheVariants as play
+use Rattle.lin_bench.specs.declared.got.Unmet.{Unmet as Missed}
+use Rattle.lin_bench.specs.declared.line.Line.{Line}
+use Rattle.lin_bench.specs.declared.reason.Reason.{Reason}
+use Rattle.lin_tool.specs.Formats.{Begins, Shows, log_as}
+use Rattle.lin_tool.specs.Replaying.{IsRefused}
+use Rattle.lin_tool.specs.declared.describing.Described.{Described}
+use Rattle.lin_tool.specs.declared.fault.Fault.{Fault}
+use Rattle.lin_tool.specs.declared.fault.Fault.TheVariants.{BadBenchLine, SlotLimit, Unmet}
+use Rattle.lin_tool.specs.declared.fault.Fault.TheVariants.{ScriptTooLong, OutOfMemory, LogFull}
+use Rattle.lin_tool.specs.declared.fault.Fault.TheVariants.{ReadFailed, WriteFailed}
+use Rattle.lin_tool.specs.declared.formats.Format.{Format}
+use Rattle.lin_tool.specs.declared.formats.Format.TheVariants.{Log}
+
+-- the program's fault for one of playing
+abbrev pub play_fault : PlayFault → Fault
+play_fault (play.SlotLimit n) = SlotLimit n
+play_fault play.LogFull = LogFull
+play_fault play.OutOfMemory = OutOfMemory
+
+-- A bench script of some bytes says this; where the reader tells bytes, they are those.
+pub record Says (c : Parts) (told : Option (List ℕ)) (said : Script) : Type 0 where
+  pub bytes : List ℕ
+  pub known : IfSome told (λ b. bytes ≡ b)
+  pub short : length bytes ≤ 16777216
+  pub all : read c bytes ≡ said
+
+-- the lines of a bench script come to this
+abbrev pub ComesTo : Parts → ℕ → ℕ → Option (List ℕ) → Result Run ℕ → Type 0
+ComesTo c opening capacity told end =
+    (ls : List (ℕ × Line)) × Says c told (Ok ls) × (played c opening capacity ls ≡ end)
+
+-- the log of a run in a format that has a definition
+abbrev pub run_as : Format → Described → ℕ → ℕ → Run → Option (List ℕ)
+run_as format d opening capacity run =
+    log_as format d.names d.cluster (log_of d.cluster opening capacity run.steps)
+
+-- What is written of a run: its log (this is the whole of it), and then to errors this text of the
+-- expectations that it missed, if it missed any; or writing the log stopped at some place. (The log's
+-- own text takes no memory.)
+abbrev pub WritesPlayed : Format → Option (List ℕ) → List Missed → List ℕ → Result Unit Fault
+    → Option (List ℕ) → Option (List ℕ) → Option (List ℕ) → Option (List ℕ) → Type 0
+WritesPlayed format whole missed text (Ok done) old new silent heard =
+    Shows old new whole × (missed ≡ []) × Keeps silent heard
+WritesPlayed format whole missed text (Err (Unmet outcome)) old new silent heard =
+    Shows old new whole × (missed ≢ []) × WritesText silent heard outcome text
+WritesPlayed format whole missed text (Err WriteFailed) old new silent heard =
+    Begins old new whole × Keeps silent heard
+WritesPlayed format whole missed text (Err OutOfMemory) old new silent heard =
+    (format ≢ Log) × Begins old new whole × Keeps silent heard
+WritesPlayed format whole missed text (Err _) old new silent heard = ⊥
+
+-- the lines of a bench script came to a run, and this was written of it
+abbrev pub WritesRunOf : Format → Described → ℕ → ℕ → Result Unit Fault → Option (List ℕ)
+    → Option (List ℕ) → Option (List ℕ) → Option (List ℕ) → Option (List ℕ) → Type 0
+WritesRunOf format d opening capacity result told old new silent heard =
+    (run : Run) × ComesTo d.cluster opening capacity told (Ok run)
+    × WritesPlayed format (run_as format d opening capacity run) run.unmet
+    (flat_map (unmet_text d.cluster) run.unmet) result old new silent heard
+
+-- What a play in this format answers, what the writer took (from old to new), and what the writer
+-- of errors took (from silent to heard). All expectations are met exactly where the answer is Ok.
+abbrev pub PlaysScript : Format → Described → ℕ → ℕ → Result Unit Fault → Option (List ℕ)
+    → Option (List ℕ) → Option (List ℕ) → Option (List ℕ) → Option (List ℕ) → Type 0
+PlaysScript format d opening capacity (Ok done) told old new silent heard =
+    WritesRunOf format d opening capacity (Ok done) told old new silent heard
+PlaysScript format d opening capacity (Err (Unmet outcome)) told old new silent heard =
+    WritesRunOf format d opening capacity (Err (Unmet outcome)) told old new silent heard
+PlaysScript format d opening capacity (Err (BadBenchLine n outcome)) told old new silent heard =
+    (why : Reason) × Says d.cluster told (Err (n, why)) × Keeps old new
+    × WritesText silent heard outcome (bad_line_text n why)
+PlaysScript format d opening capacity (Err (SlotLimit n)) told old new silent heard =
+    ComesTo d.cluster opening capacity told (Err n) × Keeps old new × Keeps silent heard
+PlaysScript format d opening capacity (Err ScriptTooLong) told old new silent heard =
+    IsRefused script.TooLong told old new × Keeps silent heard
+PlaysScript format d opening capacity (Err ReadFailed) told old new silent heard =
+    Keeps old new × Keeps silent heard
+PlaysScript format d opening capacity (Err LogFull) told old new silent heard =
+    Keeps old new × Keeps silent heard
+PlaysScript format d opening capacity (Err OutOfMemory) told old new silent heard =
+    (Keeps old new × Keeps silent heard)
+    ⊎ WritesRunOf format d opening capacity (Err OutOfMemory) told old new silent heard
+PlaysScript format d opening capacity (Err WriteFailed) told old new silent heard =
+    WritesRunOf format d opening capacity (Err WriteFailed) told old new silent heard
+PlaysScript format d opening capacity (Err _) told old new silent heard = ⊥
+
+-- what reading the lines of a bench script answers, and what the writer of errors took
+abbrev pub ReadsLines : {X : Type 0} → (X → List (ℕ × Line)) → Result X Fault → Script
+    → Option (List ℕ) → Option (List ℕ) → Type 0
+ReadsLines view (Ok x) said silent heard = (said ≡ Ok (view x)) × Keeps silent heard
+ReadsLines view (Err (BadBenchLine n outcome)) said silent heard =
+    (why : Reason) × (said ≡ Err (n, why)) × WritesText silent heard outcome (bad_line_text n why)
+ReadsLines view (Err OutOfMemory) said silent heard = Keeps silent heard
+ReadsLines view (Err _) said silent heard = ⊥
+
+-- what judging these expectations answers, of which this is told
+abbrev pub Judges : Result Unit Fault → List Missed → List ℕ
+    → Option (List ℕ) → Option (List ℕ) → Type 0
+Judges (Ok done) missed text silent heard = (missed ≡ []) × Keeps silent heard
+Judges (Err (Unmet outcome)) missed text silent heard =
+    (missed ≢ []) × WritesText silent heard outcome text
+Judges (Err _) missed text silent heard = ⊥

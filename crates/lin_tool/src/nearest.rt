@@ -1,0 +1,127 @@
+//! `--explain` of a bad line of a bench script: the line, and the names that there are.
+
+use crate::explaining::{put_line, put_shown};
+use crate::meanings::REFUSALS;
+use lin_bench::Reason;
+use lin_cluster_parts::Cluster;
+use std::alloc::{AllocError, Global};
+use strsim::generic_levenshtein;
+
+/// How many bytes of a name are compared.
+const COMPARED: usize = 64;
+
+/// The words that a line begins with.
+static WORDS: [&str; 16] = [
+    "send", "write", "open", "answer", "leave", "hurt", "finish", "timeout", "switch", "sleep",
+    "wake", "close", "slot", "slots", "expect", "bus",
+];
+
+/// What `expect` takes.
+const EXPECTATIONS: &str =
+    "signal NODE SIGNAL VALUE, waiting NODE K, message FROM TO BYTES, sent NODE, lost NODE damaged (timedout, slept), seen silent (none, good, damaged, collided), slot TABLE ENTRY, done, refused NAME, asleep, awake";
+
+/// The beginning of a name.
+fn beginning(name: &[u8]) -> &[u8] {
+    name.get(..COMPARED).unwrap_or(name)
+}
+
+/// Puts names, the ones nearest to the name that was read first.
+fn put_nearest(
+    alloc: Global,
+    out: &mut String,
+    things: &str,
+    names: &[&[u8]],
+    read: &[u8],
+) -> Result<(), AllocError> {
+    let mut near: Vec<(usize, &[u8])> = Vec::new(alloc);
+    for name in names {
+        let edits = generic_levenshtein(alloc, beginning(name), beginning(read))?;
+        near.push((edits, *name))?;
+    }
+    near.as_mut_slice().sort_by_key(alloc, |pair| pair.0)?;
+    write!(out, "  the {things} are")?;
+    for (_, name) in near.iter() {
+        out.push_str(" ")?;
+        put_shown(out, name)?;
+    }
+    out.push_str("\n")
+}
+
+fn put_nodes(
+    alloc: Global,
+    out: &mut String,
+    cluster: &Cluster,
+    read: &[u8],
+) -> Result<(), AllocError> {
+    let mut names = Vec::new(alloc);
+    for node in 0..cluster.nodes() as u8 {
+        names.push(cluster.node_name(node))?;
+    }
+    put_nearest(alloc, out, "nodes", names.as_slice(), read)
+}
+
+fn put_signals(
+    alloc: Global,
+    out: &mut String,
+    cluster: &Cluster,
+    read: &[u8],
+) -> Result<(), AllocError> {
+    let mut names = Vec::new(alloc);
+    for signal in 0..cluster.signals() as u16 {
+        names.push(cluster.signal_name(signal))?;
+    }
+    put_nearest(alloc, out, "signals", names.as_slice(), read)
+}
+
+fn put_tables(
+    alloc: Global,
+    out: &mut String,
+    cluster: &Cluster,
+    read: &[u8],
+) -> Result<(), AllocError> {
+    let mut names = Vec::new(alloc);
+    for table in 0..cluster.tables() as u16 {
+        names.push(cluster.table_name(table))?;
+    }
+    put_nearest(alloc, out, "schedule tables", names.as_slice(), read)
+}
+
+fn put_refusals(alloc: Global, out: &mut String, read: &[u8]) -> Result<(), AllocError> {
+    let mut names = Vec::new(alloc);
+    for (name, _) in REFUSALS.iter() {
+        names.push(name.as_bytes())?;
+    }
+    put_nearest(alloc, out, "refusals", names.as_slice(), read)
+}
+
+fn put_words(alloc: Global, out: &mut String, read: &[u8]) -> Result<(), AllocError> {
+    let mut names = Vec::new(alloc);
+    for word in WORDS.iter() {
+        names.push(word.as_bytes())?;
+    }
+    put_nearest(alloc, out, "words", names.as_slice(), read)
+}
+
+/// Puts a bad line of a bench script, and where it has a name that there isn't, those that there
+/// are.
+pub(crate) fn put_bad_bench_line(
+    alloc: Global,
+    out: &mut String,
+    script: &[u8],
+    line: u64,
+    cluster: &Cluster,
+    reason: &Reason,
+) -> Result<(), AllocError> {
+    put_line(out, script, line)?;
+    match reason {
+        Reason::NoNode(name) => put_nodes(alloc, out, cluster, name.as_slice()),
+        Reason::NoSignal(name) => put_signals(alloc, out, cluster, name.as_slice()),
+        Reason::NoTable(name) => put_tables(alloc, out, cluster, name.as_slice()),
+        Reason::NoRefusal(name) => put_refusals(alloc, out, name.as_slice()),
+        Reason::UnknownStep(word) => put_words(alloc, out, word.as_slice()),
+        Reason::ExpectForm | Reason::UnknownExpectation(_) => {
+            writeln!(out, "  expect takes {EXPECTATIONS}")
+        }
+        _ => Ok(()),
+    }
+}
