@@ -108,19 +108,19 @@ wrong-publisher = refl
 pub last-identifier : candidates (record body { frames = (record light { id = number 59 11 10 }) ∷ left ∷ [] }) ≡ []
 last-identifier = refl
 
-pub bad-identifier : candidates (record body { frames = (record light { id = number 60 11 10 }) ∷ left ∷ [] }) ≡ finding_at BadId 11 10 ∷ []
-bad-identifier = refl
+pub bad-id : candidates (record body { frames = (record light { id = number 60 11 10 }) ∷ left ∷ [] }) ≡ finding_at BadId 11 10 ∷ []
+bad-id = refl
 
 -- the event-triggered frame stands after the frame; in the other order the frame is the later one
-pub identifier-twice : candidates (record body { events = (record keys { id = number 2 21 20 }) ∷ [] }) ≡ finding_at IdTwice 21 20 ∷ []
-identifier-twice = refl
+pub id-twice : candidates (record body { events = (record keys { id = number 2 21 20 }) ∷ [] }) ≡ finding_at IdTwice 21 20 ∷ []
+id-twice = refl
 
-pub identifier-twice-before : candidates (record body { events = (record keys { id = number 2 3 20 }) ∷ [] }) ≡ finding_at IdTwice 12 10 ∷ []
-identifier-twice-before = refl
+pub id-twice-before : candidates (record body { events = (record keys { id = number 2 3 20 }) ∷ [] }) ≡ finding_at IdTwice 12 10 ∷ []
+id-twice-before = refl
 
 -- two at one place count as each other's earlier one
-pub identifier-twice-at-one-place : ids_twice (record body { events = (record keys { id = number 2 12 10 }) ∷ [] }) ≡ finding_at IdTwice 12 10 ∷ finding_at IdTwice 12 10 ∷ []
-identifier-twice-at-one-place = refl
+pub id-twice-at-one-place : ids_twice (record body { events = (record keys { id = number 2 12 10 }) ∷ [] }) ≡ finding_at IdTwice 12 10 ∷ finding_at IdTwice 12 10 ∷ []
+id-twice-at-one-place = refl
 
 -- a scalar of 17 bits at bit 0 of a frame of 16: its initial value is not judged
 pub bad-size : candidates (record body { signals = signal 6 (codes "level") 17 70000 (codes "cem") ∷ lkey ∷ [] }) ≡ finding_at BadSize 6 10 ∷ finding_at SignalOutside 11 45 ∷ []
@@ -134,11 +134,11 @@ pub signal-outside : candidates (record body { frames = (record light { placed =
 signal-outside = refl
 
 -- bits 0 to 3, then bits 3 to 6 of another signal, then the first signal again at bit 8
-pub signals-overlapping : candidates (record body { signals = level ∷ lkey ∷ signal 8 (codes "mode") 4 0 (codes "cem") ∷ []; frames = (record light { placed = placed 11 40 (codes "level") 0 ∷ placed 11 60 (codes "mode") 3 ∷ placed 11 80 (codes "level") 8 ∷ [] }) ∷ left ∷ [] }) ≡ finding_at SignalsOverlap 11 65 ∷ finding_at SignalsOverlap 11 85 ∷ []
-signals-overlapping = refl
+pub signals-overlap : candidates (record body { signals = level ∷ lkey ∷ signal 8 (codes "mode") 4 0 (codes "cem") ∷ []; frames = (record light { placed = placed 11 40 (codes "level") 0 ∷ placed 11 60 (codes "mode") 3 ∷ placed 11 80 (codes "level") 8 ∷ [] }) ∷ left ∷ [] }) ≡ finding_at SignalsOverlap 11 65 ∷ finding_at SignalsOverlap 11 85 ∷ []
+signals-overlap = refl
 
-pub bad-initial : candidates (record body { signals = signal 6 (codes "level") 4 16 (codes "cem") ∷ lkey ∷ [] }) ≡ finding_at BadInit 6 20 ∷ []
-bad-initial = refl
+pub bad-init : candidates (record body { signals = signal 6 (codes "level") 4 16 (codes "cem") ∷ lkey ∷ [] }) ≡ finding_at BadInit 6 20 ∷ []
+bad-init = refl
 
 -- two bytes need 100 + 1,400,000 * 64 / 19,200 = 4,766.7 microseconds, rounded up
 pub slot-too-short : candidates (record body { tables = main_table (entry 32 (codes "Spor") 4767 ∷ entry 33 (codes "Spor") 4766 ∷ []) ∷ resolve ∷ [] }) ≡ finding_at (SlotTooShort 4767) 33 1 ∷ []
@@ -148,18 +148,18 @@ pub zero-delay : candidates (record body { tables = main_table (entry 32 (codes 
 zero-delay = refl
 
 -- the commander's address is not judged
-pub bad-address : candidates (record body { attributes = address_of 26 (codes "lsm") 126 ∷ address_of 27 (codes "cem") 127 ∷ [] }) ≡ finding_at BadNad 26 20 ∷ []
-bad-address = refl
+pub bad-nad : candidates (record body { attributes = address_of 26 (codes "lsm") 126 ∷ address_of 27 (codes "cem") 127 ∷ [] }) ≡ finding_at BadNad 26 20 ∷ []
+bad-nad = refl
 
-pub address-twice : candidates (record body { slaves = name (codes "lsm") 5 30 ∷ name (codes "rsm") 5 40 ∷ []; attributes = address_of 26 (codes "cem") 1 ∷ address_of 27 (codes "lsm") 1 ∷ address_of 28 (codes "rsm") 1 ∷ [] }) ≡ finding_at NadTwice 28 20 ∷ []
-address-twice = refl
+pub nad-twice : candidates (record body { slaves = name (codes "lsm") 5 30 ∷ name (codes "rsm") 5 40 ∷ []; attributes = address_of 26 (codes "cem") 1 ∷ address_of 27 (codes "lsm") 1 ∷ address_of 28 (codes "rsm") 1 ∷ [] }) ≡ finding_at NadTwice 28 20 ∷ []
+nad-twice = refl
 
 -- the same frame twice, a sporadic frame, and a frame of the commander of the same size
-pub bad-members : candidates (record body { events = (record keys { members = name (codes "LeftKey") 21 30 ∷ name (codes "LeftKey") 21 40 ∷ name (codes "Spor") 21 50 ∷ name (codes "Light") 21 60 ∷ [] }) ∷ [] }) ≡ finding_at BadEventFrame 21 40 ∷ finding_at BadEventFrame 21 50 ∷ finding_at BadEventFrame 21 60 ∷ []
-bad-members = refl
+pub bad-event-frame : candidates (record body { events = (record keys { members = name (codes "LeftKey") 21 30 ∷ name (codes "LeftKey") 21 40 ∷ name (codes "Spor") 21 50 ∷ name (codes "Light") 21 60 ∷ [] }) ∷ [] }) ≡ finding_at BadEventFrame 21 40 ∷ finding_at BadEventFrame 21 50 ∷ finding_at BadEventFrame 21 60 ∷ []
+bad-event-frame = refl
 
-pub bad-sporadic-frame : candidates (record body { sporadic = (record spor { members = name (codes "Light") 16 10 ∷ name (codes "LeftKey") 16 20 ∷ [] }) ∷ [] }) ≡ finding_at BadSporadic 16 20 ∷ []
-bad-sporadic-frame = refl
+pub bad-sporadic : candidates (record body { sporadic = (record spor { members = name (codes "Light") 16 10 ∷ name (codes "LeftKey") 16 20 ∷ [] }) ∷ [] }) ≡ finding_at BadSporadic 16 20 ∷ []
+bad-sporadic = refl
 
 pub nested-collision : candidates (record body { events = (record keys { table = name (codes "Main") 21 10 }) ∷ [] }) ≡ finding_at NestedCollision 21 10 ∷ []
 nested-collision = refl
@@ -174,8 +174,8 @@ no-table = refl
 pub limits : candidates (record body { speed = number 20000 4 1; time_base = number 1000000000 5 10; jitter = number 100 5 20 }) ≡ []
 limits = refl
 
-pub limits-passed : candidates (record body { speed = number 20001 4 1; time_base = number 1000000001 5 10 }) ≡ finding_at LimitPassed 4 1 ∷ finding_at LimitPassed 5 10 ∷ []
-limits-passed = refl
+pub limit-passed : candidates (record body { speed = number 20001 4 1; time_base = number 1000000001 5 10 }) ≡ finding_at LimitPassed 4 1 ∷ finding_at LimitPassed 5 10 ∷ []
+limit-passed = refl
 
 -- two responders of these versions, each with a frame, and an event-triggered frame that lists both
 abbrev of_version : ℕ → List ℕ → List ℕ → Attributes

@@ -1,9 +1,8 @@
 -- What the names in a description name, and where findings stand. A name names the first
 -- declaration that has it.
-use Rattle.std.specs.Prelude.{List, ◌∷◌, [], codes, find, Option, is_some, Bool, false, not}
+use Rattle.std.specs.Prelude.{List, ◌∷◌, [], codes, find, Option, is_some, Bool, not}
 use Rattle.std.specs.Prelude.{if◌then◌else◌, ◌&&◌, ◌||◌}
 use Rattle.std.specs.List.{list_any}
-use Rattle.std.specs.Option.{option_map_or}
 use Rattle.std.specs.Str.{bytes_eq}
 use Rattle.lin_cluster.specs.Kinds.{finding_at}
 use Rattle.lin_cluster.specs.declared.finding.Finding.{Finding}

@@ -1,8 +1,7 @@
 -- Maps from names to the first declaration that has the name.
-use Rattle.std.specs.Prelude.{◌≡◌, ℕ, List, Option, Some, None}
+use Rattle.std.specs.Prelude.{◌≡◌, ℕ, List}
 use Rattle.std.specs.List.{position_from}
 use Rattle.std.specs.Str.{bytes_eq}
-use Rattle.std.specs.Option.{option_or}
 use Rattle.indexmap.specs.IndexMap.{IndexMap, get_by}
 use Rattle.lin_description.specs.declared.description.Name.{Name}
 use denote.Ref.{Bor}

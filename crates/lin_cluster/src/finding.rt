@@ -1,7 +1,7 @@
 //! What is wrong with a description, and why there is no cluster.
 
 ghost use Rattle.std.specs.Prelude.{◌≡◌, IfSome};
-ghost use Rattle.lin_cluster.specs.Kinds.{number_of, needed_by, finding_at};
+ghost use Rattle.lin_cluster.specs.Kinds.{number_of, finding_at};
 
 use lin_description::Place;
 use lin_lists::Many;
@@ -57,16 +57,6 @@ impl FindingKind {
             FindingKind::MixedChecksum => 18,
         }
     }
-
-    // The time in microseconds that a slot that is too short needs; otherwise 0.
-    fn needed_us(self) -> u64
-        ensures { result ≡ needed_by self }
-    {
-        match self {
-            FindingKind::SlotTooShort { needed_us } => needed_us,
-            _ => 0,
-        }
-    }
 }
 
 /// The name, and for a slot that is too short the time that it needs.
@@ -99,7 +89,10 @@ impl Finding {
             line: place.line,
             column: place.column,
             number: kind.number(),
-            needed_us: kind.needed_us(),
+            needed_us: match kind {
+                FindingKind::SlotTooShort { needed_us } => needed_us,
+                _ => 0,
+            },
         }
     }
 

@@ -18,8 +18,8 @@ mod tables;
 mod unknown_names;
 mod walk;
 
-ghost use Rattle.std.specs.Prelude.{◌≡◌, OnOk, IfOk, List, map, IsSorted, IsPermutation};
-ghost use Rattle.lin_cluster.specs.Findings.{candidates, finding_cmp, AreFindings};
+ghost use Rattle.std.specs.Prelude.{◌≡◌, IfOk, List, map};
+ghost use Rattle.lin_cluster.specs.Findings.{candidates, AreFindings};
 ghost use Rattle.lin_cluster.specs.declared.finding.Finding.{Finding};
 ghost use Rattle.lin_cluster.specs.Models.{frame_model};
 
@@ -56,39 +56,16 @@ fn gathered(alloc: Global, judged: &Judged) -> Result<Vec<Finding>, AllocError>
     Ok(found)
 }
 
-fn of_judged(alloc: Global, judged: &Judged) -> Result<Examined, AllocError>
-    ensures found { IfOk result (λ x. x.found.items ≡ candidates judged.now) }
-    ensures models { IfOk result (λ x. x.models.items ≡ map (frame_model judged.now) judged.now.frames) }
-{
-    let found = gathered(alloc, judged)?;
-    let models = judged.models()?;
-    Ok(Examined { found, models })
-}
-
-fn of_known(alloc: Global, known: &Known) -> Result<Examined, AllocError>
-    ensures found { IfOk result (λ x. x.found.items ≡ candidates known.now) }
-    ensures models { IfOk result (λ x. x.models.items ≡ map (frame_model known.now) known.now.frames) }
-{
-    let judged = Judged::new(alloc, known)?;
-    let examined = of_judged(alloc, &judged)?;
-    Ok(examined)
-}
-
 fn unordered(alloc: Global, description: &Description) -> Result<Examined, AllocError>
     ensures found { IfOk result (λ x. x.found.items ≡ candidates description.now) }
     ensures models { IfOk result
         (λ x. x.models.items ≡ map (frame_model description.now) description.now.frames) }
 {
     let known = Known::new(alloc, description)?;
-    let examined = of_known(alloc, &known)?;
-    Ok(examined)
-}
-
-fn sort(found: &mut Vec<Finding>) -> Result<(), AllocError>
-    ensures sorted { OnOk result (IsSorted finding_cmp found.new.items) }
-    ensures same { OnOk result (IsPermutation found.old.items found.new.items) }
-{
-    found.sort()
+    let judged = Judged::new(alloc, &known)?;
+    let found = gathered(alloc, &judged)?;
+    let models = judged.models()?;
+    Ok(Examined { found, models })
 }
 
 fn ordered(alloc: Global, description: &Description) -> Result<Examined, AllocError>
@@ -97,7 +74,7 @@ fn ordered(alloc: Global, description: &Description) -> Result<Examined, AllocEr
         (λ x. x.models.items ≡ map (frame_model description.now) description.now.frames) }
 {
     let Examined { mut found, models } = unordered(alloc, description)?;
-    sort(&mut found)?;
+    found.sort()?;
     Ok(Examined { found, models })
 }
 

@@ -3,7 +3,7 @@
 ghost use Rattle.std.specs.Prelude.{◌≡◌, ◌==◌, ◌<◌, ◌≤◌, ◌^◌, ℕ, All, IfOk, OnOk, length, map};
 ghost use Rattle.std.specs.List.{enumerate_from, list_any};
 ghost use Rattle.lin_frame.specs.Frame.{pid};
-ghost use Rattle.lin_cluster.specs.Described.{frame_number, signal_number, signals_of, own_pid};
+ghost use Rattle.lin_cluster.specs.Described.{frame_number, signal_number, signals_of};
 ghost use Rattle.lin_cluster.specs.Described.{described_place, described_layout, described_frame};
 ghost use Rattle.lin_cluster.specs.Described.{frames_of, members_of, sporadic_frames_of};
 ghost use Rattle.lin_cluster.specs.Described.{described_event, events_of};
@@ -97,19 +97,6 @@ fn signals_in(
     Ok(Many::new(numbers))
 }
 
-// What data byte 0 holds.
-fn own_pid(d: &Description, number: u16, frame: &Frame) -> Option<u8>
-    requires few { length d.now.frames ≤ 60 }
-    requires fits { frame.now.id.value < 64 }
-    ensures { result ≡ own_pid d.now (number, frame.now) }
-{
-    if is_member(d, d.events(), number) {
-        Some(pid_of(frame.id.value))
-    } else {
-        None
-    }
-}
-
 fn layout_of(
     alloc: Global,
     d: &Description,
@@ -122,9 +109,15 @@ fn layout_of(
     requires fits { FitsFrame frame.now }
     ensures { IfOk result (λ layout. layout ≡ described_layout d.now (number, frame.now)) }
 {
+    // what data byte 0 holds
+    let pid = if is_member(d, d.events(), number) {
+        Some(pid_of(frame.id.value))
+    } else {
+        None
+    };
     Ok(Layout {
         len: frame.size.value as u8,
-        pid: own_pid(d, number, frame),
+        pid,
         places: places_of(alloc, d, signals, frame.placed.as_slice())?,
     })
 }

@@ -46,16 +46,6 @@ fn entry_of(d: &Description, entry: &TableEntry) -> Entry
     }
 }
 
-fn line_of(d: &Description, entry: &TableEntry) -> Line
-    requires { FitsNumbers d.now }
-    ensures { result ≡ described_line d.now entry.now }
-{
-    Line {
-        entry: entry_of(d, entry),
-        delay_us: entry.delay.value,
-    }
-}
-
 fn lines_of(
     alloc: Global,
     d: &Description,
@@ -66,7 +56,10 @@ fn lines_of(
 {
     let mut lines = Vec::new(alloc);
     for entry in entries {
-        lines.push(line_of(d, entry))?;
+        lines.push(Line {
+            entry: entry_of(d, entry),
+            delay_us: entry.delay.value,
+        })?;
     }
     Ok(Many::new(lines))
 }

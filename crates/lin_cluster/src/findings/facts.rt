@@ -7,7 +7,7 @@ ghost use Rattle.lin_cluster.specs.Described.{signal_number};
 ghost use Rattle.lin_cluster.specs.FindingsNames.{signal_named};
 ghost use Rattle.lin_cluster.specs.Members.{is_in_front};
 ghost use Rattle.lin_cluster.specs.Known.{signal_facts};
-ghost use Rattle.lin_cluster.specs.Models.{is_lin_1, has_lin_1, carries_to_lin_1, is_classic};
+ghost use Rattle.lin_cluster.specs.Models.{has_lin_1, carries_to_lin_1, is_classic};
 ghost use Rattle.lin_cluster.specs.Models.{frame_model};
 
 use super::known::Known;
@@ -50,18 +50,13 @@ pub(super) fn at<V: Copy>(values: &[V], number: usize) -> Option<V>
     }
 }
 
-fn are_any_lin_1(known: &Known, nodes: &[Name]) -> bool
-    ensures { result ≡ list_any (is_lin_1 known.now) nodes.now }
-{
-    nodes.iter().any(|node| known.is_lin_1(node))
-}
-
 // Where no version of LIN 1.x is told, the subscribers aren't looked up.
 #[tactic(auto, using(crate::proofs::FindingsModels::untold_signal))]
 fn has_lin_1(known: &Known, signal: &Signal) -> bool
     ensures { result ≡ has_lin_1 known.now signal.now }
 {
-    known.has_version_1() && are_any_lin_1(known, signal.subscribers.as_slice())
+    let subscribers = signal.subscribers.as_slice();
+    known.has_version_1() && subscribers.iter().any(|node| known.is_lin_1(node))
 }
 
 impl Named for Signal {
@@ -174,19 +169,14 @@ impl<'k, 'a> Signals<'k, 'a> {
             .any(|placed| self.carries_to_lin_1(placed))
     }
 
-    // A frame with a node of LIN 1.x at one of its ends.
-    fn joins_lin_1(&self, frame: &Frame) -> bool
-        ensures { result ≡ is_classic self.now frame.now }
-    {
-        self.known().is_lin_1(&frame.publisher) || self.carry_to_lin_1(frame.placed.as_slice())
-    }
-
-    // Where no version of LIN 1.x is told, the signals aren't looked up.
+    // A frame with a node of LIN 1.x at one of its ends. Where no version of LIN 1.x is told, the signals aren't looked up.
     #[tactic(auto, using(crate::proofs::FindingsModels::untold_frame))]
     fn is_classic(&self, frame: &Frame) -> bool
         ensures { result ≡ is_classic self.now frame.now }
     {
-        self.known().has_version_1() && self.joins_lin_1(frame)
+        self.known().has_version_1()
+            && (self.known().is_lin_1(&frame.publisher)
+                || self.carry_to_lin_1(frame.placed.as_slice()))
     }
 
     fn model(&self, frame: &Frame) -> SumKind

@@ -1,25 +1,14 @@
 //! Bad identifier (3) and identifier twice (4), of frames and of event-triggered frames.
 
-ghost use Rattle.std.specs.Prelude.{◌≡◌, ◌++◌, OnOk, IfOk, map};
+ghost use Rattle.std.specs.Prelude.{◌≡◌, ◌++◌, OnOk, IfOk};
 ghost use Rattle.lin_cluster.specs.Identifiers.{ids, bad_ids, ids_twice};
 
 use super::known::Known;
 use super::repeats::Repeats;
 use super::walk::{Finds, at_number, each, push_when};
 use crate::finding::{Finding, FindingKind};
-use lin_description::{EventFrame, Frame, Number};
+use lin_description::Number;
 use std::alloc::{AllocError, Global};
-
-fn ids_of(alloc: Global, frames: &[Frame], events: &[EventFrame]) -> Result<Vec<Number>, AllocError>
-    ensures { IfOk result
-        (λ ids. ids.items ≡ map (λ f. f.id) frames.now ++ map (λ e. e.id) events.now) }
-{
-    frames
-        .iter()
-        .map(|frame| frame.id)
-        .chain(events.iter().map(|event| event.id))
-        .collect(alloc)
-}
 
 /// What is asked of an identifier by itself.
 #[derive(Clone, Copy)]
@@ -49,11 +38,17 @@ impl Finds<Number> for Repeats {
     }
 }
 
-fn all_ids(alloc: Global, known: &Known) -> Result<Vec<Number>, AllocError>
+fn ids(alloc: Global, known: &Known) -> Result<Vec<Number>, AllocError>
     ensures { IfOk result (λ v. v.items ≡ ids known.now) }
 {
     let description = known.description();
-    ids_of(alloc, description.frames(), description.events())
+    let events = description.events();
+    description
+        .frames()
+        .iter()
+        .map(|frame| frame.id)
+        .chain(events.iter().map(|event| event.id))
+        .collect(alloc)
 }
 
 /// Identifiers that no signals' frame has, and identifiers that an earlier frame has.
@@ -65,7 +60,7 @@ pub(super) fn bad_identifiers(
     ensures { OnOk result
         (found.new.items ≡ found.old.items ++ bad_ids known.now ++ ids_twice known.now) }
 {
-    let ids = Repeats::new(alloc, all_ids(alloc, known)?)?;
+    let ids = Repeats::new(alloc, ids(alloc, known)?)?;
     each(found, &EachIdentifier, ids.numbers())?;
     each(found, &ids, ids.numbers())
 }

@@ -8,7 +8,7 @@ ghost use Rattle.lin_cluster.specs.FindingsNames.{is_node, is_responder, frame_n
 ghost use Rattle.lin_cluster.specs.FindingsNames.{sporadic_named, event_named, is_diagnostic};
 ghost use Rattle.lin_cluster.specs.FindingsNames.{carries_frame, is_event_entry};
 ghost use Rattle.lin_cluster.specs.FindingsNodes.{node_of, is_responder_number};
-ghost use Rattle.lin_cluster.specs.Models.{tells_version_1, has_version_1, block_named, is_lin_1};
+ghost use Rattle.lin_cluster.specs.Models.{tells_version_1, has_version_1, is_lin_1};
 
 use crate::names::ByName;
 use lin_description::{
@@ -191,12 +191,6 @@ impl<'a> Known<'a> {
         is_responder_number(self.node(name))
     }
 
-    fn block(&self, name: &Name) -> Option<&'a Attributes>
-        ensures { option_copied result ≡ block_named self.now name.now }
-    {
-        self.nodes.blocks.find(name)
-    }
-
     /// Whether any block of attributes tells a version of LIN 1.x.
     pub(super) fn has_version_1(&self) -> bool
         ensures { result ≡ has_version_1 self.now }
@@ -208,7 +202,7 @@ impl<'a> Known<'a> {
     pub(super) fn is_lin_1(&self, name: &Name) -> bool
         ensures { result ≡ is_lin_1 self.now name.now }
     {
-        match self.block(name) {
+        match self.nodes.blocks.find(name) {
             Some(block) => tells_version_1(block) && self.is_node(name),
             None => false,
         }
@@ -218,18 +212,6 @@ impl<'a> Known<'a> {
         ensures { option_copied result ≡ frame_named self.now name.now }
     {
         self.kinds.frames.find(name)
-    }
-
-    fn sporadic(&self, name: &Name) -> Option<&'a Sporadic>
-        ensures { option_copied result ≡ sporadic_named self.now name.now }
-    {
-        self.kinds.sporadic.find(name)
-    }
-
-    fn event(&self, name: &Name) -> Option<&'a EventFrame>
-        ensures { option_copied result ≡ event_named self.now name.now }
-    {
-        self.kinds.events.find(name)
     }
 
     pub(super) fn signal_number(&self, name: &Name) -> usize
@@ -268,7 +250,7 @@ impl<'a> Known<'a> {
             ≡ (is_some (sporadic_named self.now name.now)
             || is_some (event_named self.now name.now)) }
     {
-        self.sporadic(name).is_some() || self.event(name).is_some()
+        self.kinds.sporadic.find(name).is_some() || self.kinds.events.find(name).is_some()
     }
 
     /// Whether the entry is for an event-triggered frame.
@@ -277,7 +259,7 @@ impl<'a> Known<'a> {
     {
         carries_frame(entry)
             && self.frame(&entry.name).is_none()
-            && self.sporadic(&entry.name).is_none()
-            && self.event(&entry.name).is_some()
+            && self.kinds.sporadic.find(&entry.name).is_none()
+            && self.kinds.events.find(&entry.name).is_some()
     }
 }

@@ -1,8 +1,7 @@
 //! Limit passed (17): of what is counted the first one too many is found.
 
 ghost use Rattle.std.specs.Prelude.{◌≡◌, ◌++◌, OnOk, slice_get};
-ghost use Rattle.lin_cluster.specs.Limits.{past, too_long, long_table, responder_limits};
-ghost use Rattle.lin_cluster.specs.Limits.{frame_limits, time_limits, limits_passed};
+ghost use Rattle.lin_cluster.specs.Limits.{past, too_long, long_table, limits_passed};
 
 use super::known::Known;
 use super::slots::is_speed;
@@ -49,26 +48,17 @@ pub(super) fn long_table(found: &mut Vec<Finding>, table: &Table) -> Result<(), 
     past(found, table.entries.as_slice(), 1024)
 }
 
-fn responder_limits(found: &mut Vec<Finding>, known: &Known) -> Result<(), AllocError>
-    ensures { OnOk result (found.new.items ≡ found.old.items ++ responder_limits known.now) }
-{
-    past(found, known.description().slaves(), 15)
-}
-
-fn frame_limits(found: &mut Vec<Finding>, known: &Known) -> Result<(), AllocError>
-    ensures { OnOk result (found.new.items ≡ found.old.items ++ frame_limits known.now) }
+/// What is counted or measured beyond its limit.
+pub(super) fn limits_passed(found: &mut Vec<Finding>, known: &Known) -> Result<(), AllocError>
+    ensures { OnOk result (found.new.items ≡ found.old.items ++ limits_passed known.now) }
 {
     let description = known.description();
+    past(found, description.slaves(), 15)?;
     past(found, description.signals(), 1024)?;
     past(found, description.frames(), 60)?;
     past(found, description.sporadic(), 256)?;
-    past(found, description.events(), 60)
-}
-
-fn time_limits(found: &mut Vec<Finding>, known: &Known) -> Result<(), AllocError>
-    ensures { OnOk result (found.new.items ≡ found.old.items ++ time_limits known.now) }
-{
-    let description = known.description();
+    past(found, description.events(), 60)?;
+    past(found, description.tables(), 256)?;
     let is_good = is_speed(description.speed.value);
     push_when(
         found,
@@ -77,14 +67,4 @@ fn time_limits(found: &mut Vec<Finding>, known: &Known) -> Result<(), AllocError
     )?;
     too_long(found, &description.time_base)?;
     too_long(found, &description.jitter)
-}
-
-/// What is counted or measured beyond its limit.
-pub(super) fn limits_passed(found: &mut Vec<Finding>, known: &Known) -> Result<(), AllocError>
-    ensures { OnOk result (found.new.items ≡ found.old.items ++ limits_passed known.now) }
-{
-    responder_limits(found, known)?;
-    frame_limits(found, known)?;
-    past(found, known.description().tables(), 256)?;
-    time_limits(found, known)
 }

@@ -12,7 +12,6 @@ ghost use Rattle.lin_cluster.specs.FindingsMembers.{in_member_after};
 ghost use Rattle.lin_cluster.specs.FindingsNames.{frame_named};
 ghost use Rattle.lin_cluster.specs.FindingsNodes.{is_number, is_responder_number};
 ghost use Rattle.lin_cluster.specs.Known.{frame_facts};
-ghost use Rattle.lin_cluster.specs.Models.{differ};
 
 use super::facts::FrameFacts;
 use super::judged::Judged;
@@ -52,29 +51,13 @@ fn first_frame(judged: &Judged, members: &[Name]) -> Option<FrameFacts>
     }
 }
 
-fn has_other_size(first: Option<FrameFacts>, frame: FrameFacts) -> bool
-    ensures { result ≡ option_map_or (λ g. not (nat_eq g.size frame.size)) first false }
-{
-    match first {
-        Some(first) => !(first.size == frame.size),
-        None => false,
-    }
-}
-
-fn is_number_of(node: usize, publisher: Option<usize>) -> bool
-    ensures { result ≡ is_number node publisher }
+// The commander publishes it, or a node that publishes an earlier one.
+fn has_bad_publisher(publishers: &IndexSet<usize>, publisher: Option<usize>) -> bool
+    ensures { result
+        ≡ (is_number 0 publisher || option_map_or (contains nat_eq publishers.now) publisher false) }
 {
     match publisher {
-        Some(publisher) => publisher == node,
-        None => false,
-    }
-}
-
-fn has_published(publishers: &IndexSet<usize>, publisher: Option<usize>) -> bool
-    ensures { result ≡ option_map_or (contains nat_eq publishers.now) publisher false }
-{
-    match publisher {
-        Some(node) => publishers.contains(&node),
+        Some(node) => node == 0 || publishers.contains(&node),
         None => false,
     }
 }
@@ -82,10 +65,11 @@ fn has_published(publishers: &IndexSet<usize>, publisher: Option<usize>) -> bool
 fn is_bad_frame(first: Option<FrameFacts>, publishers: &IndexSet<usize>, frame: FrameFacts) -> bool
     ensures { result ≡ is_bad_after first (contains nat_eq publishers.now) frame }
 {
-    is_number_of(0, frame.publisher)
-        || has_published(publishers, frame.publisher)
-        || has_other_size(first, frame)
-        || frame.has_front
+    let has_other_size = match first {
+        Some(first) => !(first.size == frame.size),
+        None => false,
+    };
+    has_bad_publisher(publishers, frame.publisher) || has_other_size || frame.has_front
 }
 
 fn is_wrong_member(
@@ -102,21 +86,15 @@ fn is_wrong_member(
     }
 }
 
-fn differ(model: SumKind, other: SumKind) -> bool
-    ensures { result ≡ differ model other }
-{
-    match (model, other) {
-        (SumKind::Classic, SumKind::Enhanced) => true,
-        (SumKind::Enhanced, SumKind::Classic) => true,
-        _ => false,
-    }
-}
-
 fn is_mixed(first: Option<FrameFacts>, frame: Option<FrameFacts>) -> bool
     ensures { result ≡ is_mixed_after first frame }
 {
     match (frame, first) {
-        (Some(frame), Some(first)) => differ(frame.model, first.model),
+        (Some(frame), Some(first)) => match (frame.model, first.model) {
+            (SumKind::Classic, SumKind::Enhanced) => true,
+            (SumKind::Enhanced, SumKind::Classic) => true,
+            _ => false,
+        },
         _ => false,
     }
 }
@@ -168,15 +146,6 @@ pub(super) fn members_in_order(
     Ok(())
 }
 
-fn is_no_commanders(frame: Option<FrameFacts>) -> bool
-    ensures { result ≡ option_map_or (λ f. is_responder_number f.publisher) frame true }
-{
-    match frame {
-        Some(frame) => is_responder_number(frame.publisher),
-        None => true,
-    }
-}
-
 /// The members of sporadic frames.
 #[derive(Clone, Copy)]
 pub(super) struct SporadicMembers<'j, 'k, 'a> {
@@ -191,10 +160,14 @@ impl<'j, 'k, 'a> Finds<Name> for SporadicMembers<'j, 'k, 'a> {
     fn find(&self, found: &mut Vec<Finding>, member: &Name) -> Result<(), AllocError> {
         let frame = self.judged.frame(member);
         let is_known = self.judged.is_any_frame(frame, member);
+        let is_no_commanders = match frame {
+            Some(frame) => is_responder_number(frame.publisher),
+            None => true,
+        };
         push_when(found, !is_known, at_name(FindingKind::UnknownName, member))?;
         push_when(
             found,
-            is_known && is_no_commanders(frame),
+            is_known && is_no_commanders,
             at_name(FindingKind::BadSporadic, member),
         )
     }

@@ -57,24 +57,6 @@ fn later(a: Number, b: Number) -> Number
 }
 
 // The first two of one more number.
-fn again(uses: &Uses, id: Number) -> Uses
-    ensures first { (x : Number) → is_up_to x result.first ≡ (is_up_to x uses.now.first || is_up_to x id) }
-    ensures second { (x : Number)
-        → option_map_or (is_up_to x) result.second false
-        ≡ (option_map_or (is_up_to x) uses.now.second false
-        || (is_up_to x uses.now.first && is_up_to x id)) }
-{
-    let both = later(uses.first, id);
-    let second = match uses.second {
-        Some(second) => earlier(second, both),
-        None => both,
-    };
-    Uses {
-        first: earlier(uses.first, id),
-        second: Some(second),
-    }
-}
-
 fn with_use(uses: Option<&Uses>, id: Number) -> Uses
     ensures first { (x : Number)
         → is_up_to x result.first ≡ (has_one (option_copied uses.entry) x || is_up_to x id) }
@@ -84,7 +66,17 @@ fn with_use(uses: Option<&Uses>, id: Number) -> Uses
         || (has_one (option_copied uses.entry) x && is_up_to x id)) }
 {
     match uses {
-        Some(uses) => again(uses, id),
+        Some(uses) => {
+            let both = later(uses.first, id);
+            let second = match uses.second {
+                Some(second) => earlier(second, both),
+                None => both,
+            };
+            Uses {
+                first: earlier(uses.first, id),
+                second: Some(second),
+            }
+        }
         None => Uses {
             first: id,
             second: None,

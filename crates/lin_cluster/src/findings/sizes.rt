@@ -3,7 +3,7 @@
 ghost use Rattle.std.specs.Prelude.{◌≡◌, ◌++◌, OnOk, nat_lt, IsTrue};
 ghost use Rattle.std.specs.List.{list_any};
 ghost use Rattle.lin_cluster.specs.Sizes.{is_array, is_good_size, bad_signal_size, is_frame_size};
-ghost use Rattle.lin_cluster.specs.Sizes.{bad_frame_size, is_good_init, init_place, bad_init};
+ghost use Rattle.lin_cluster.specs.Sizes.{bad_frame_size, is_good_init, bad_init};
 
 use super::walk::{at_number, push_when};
 use crate::finding::{Finding, FindingKind};
@@ -80,23 +80,17 @@ fn is_good_init(signal: &Signal) -> bool
     }
 }
 
-fn init_place(init: &Init) -> Place
-    ensures { result ≡ init_place init.now }
-{
-    match init {
-        Init::Scalar(number) => Place {
-            line: number.line,
-            column: number.column,
-        },
-        Init::Array(place, _) => *place,
-    }
-}
-
 /// An initial value that doesn't fit its signal.
 pub(super) fn bad_init(found: &mut Vec<Finding>, signal: &Signal) -> Result<(), AllocError>
     ensures { OnOk result (found.new.items ≡ found.old.items ++ bad_init signal.now) }
 {
     let is_bad = is_good_size(signal) && !is_good_init(signal);
-    let place = init_place(&signal.init);
+    let place = match &signal.init {
+        Init::Scalar(number) => Place {
+            line: number.line,
+            column: number.column,
+        },
+        Init::Array(place, _) => *place,
+    };
     push_when(found, is_bad, Finding::new(FindingKind::BadInit, place))
 }

@@ -100,29 +100,6 @@ pub(super) fn first_size(known: &Known, members: &[Name]) -> Option<u32>
     }
 }
 
-// A slot whose delay is below the time that it takes at most.
-fn short_slot_of(
-    found: &mut Vec<Finding>,
-    jitter: u32,
-    speed: u32,
-    entry: &TableEntry,
-    size: Option<u32>,
-) -> Result<(), AllocError>
-    ensures { OnOk result
-        (found.new.items ≡ found.old.items ++ short_slot jitter speed entry.now size) }
-{
-    if let Some(size) = size {
-        if !(entry.delay.value == 0) && is_speed(speed) {
-            let needed_us = needed_us(jitter, speed, size);
-            if u64::from(entry.delay.value) < needed_us {
-                let kind = FindingKind::SlotTooShort { needed_us };
-                found.push(at_name(kind, &entry.name))?;
-            }
-        }
-    }
-    Ok(())
-}
-
 /// A slot of this number of data bytes, where that is known, whose delay is below the time that it
 /// takes at most.
 pub(super) fn short_slot(
@@ -136,13 +113,17 @@ pub(super) fn short_slot(
         ≡ found.old.items ++ short_slot known.now.jitter.value known.now.speed.value entry.now size) }
 {
     let description = known.description();
-    short_slot_of(
-        found,
-        description.jitter.value,
-        description.speed.value,
-        entry,
-        size,
-    )
+    let speed = description.speed.value;
+    if let Some(size) = size {
+        if !(entry.delay.value == 0) && is_speed(speed) {
+            let needed_us = needed_us(description.jitter.value, speed, size);
+            if u64::from(entry.delay.value) < needed_us {
+                let kind = FindingKind::SlotTooShort { needed_us };
+                found.push(at_name(kind, &entry.name))?;
+            }
+        }
+    }
+    Ok(())
 }
 
 /// An entry without a delay.
