@@ -24,6 +24,7 @@ mod opening;
 mod replaying;
 mod running;
 mod scripts;
+mod telling;
 
 pub use checking::check;
 pub use comparing::{compare, compare_script, first_difference};
@@ -39,3 +40,4 @@ pub use notes::{Notes, Wanted};
 pub use opening::opening_table;
 pub use replaying::{replay, replay_script};
 pub use running::run;
+pub use telling::write_fault;
