@@ -1,4 +1,3 @@
-use Rattle.std.proofs.Common.{append_assoc}
 use Rattle.lin_text.proofs.Growing.{grows-more}
 use Rattle.lin_tool.proofs.findings.put_finding.Goals as goal
 
