@@ -52,3 +52,8 @@ TextFaults _ text = ⊥
 abbrev pub AnswersText : Result Described Fault → List ℕ → Type 0
 AnswersText (Ok answer) text = IsClusterOf text answer
 AnswersText (Err fault) text = TextFaults fault text
+
+-- the description of an LDF text, or why there is none
+abbrev pub AnswersParse : Result Description Fault → List ℕ → Type 0
+AnswersParse (Ok description) text = Describes text description
+AnswersParse (Err fault) text = TextFaults fault text

@@ -8,3 +8,4 @@ pub mod Reading
 pub mod Replaying
 pub mod Running
 pub mod Statuses
+pub mod Telling

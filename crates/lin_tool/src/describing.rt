@@ -1,9 +1,10 @@
 //! Clusters from LDF texts: that of a reader or a file is read, and that of the built-in cluster
 //! stands here.
 
-ghost use Rattle.std.specs.Prelude.{◌≡◌, IfOk, IsSome};
+ghost use Rattle.std.specs.Prelude.{◌≡◌, List, ℕ, IfOk, IsSome};
+ghost use Rattle.lin_ldf.specs.Describes.{Describes};
 ghost use Rattle.lin_listing.specs.Slots.{AreOfOneDescription};
-ghost use Rattle.lin_tool.specs.Clusters.{AnswersText, Tells};
+ghost use Rattle.lin_tool.specs.Clusters.{AnswersParse, AnswersText, Tells};
 ghost use Rattle.lin_tool.specs.Reading.{AnswersLdf, ReadsAll};
 
 use crate::fault::Fault;
@@ -11,6 +12,7 @@ use crate::findings::Findings;
 use crate::notes::Notes;
 use lin_cluster::{CheckFault, check};
 use lin_cluster_parts::Cluster;
+use lin_description::Description;
 use lin_ldf::{LdfFault, parse};
 use lin_names::Names;
 use lin_text::{ReadFault, read_whole};
@@ -67,6 +69,34 @@ fn fault_of(fault: LdfFault) -> Fault
     }
 }
 
+/// What an LDF text describes, as its declarations.
+///
+/// # Errors
+/// `Ldf` for the first fault of the text; `OutOfMemory`.
+fn description_of(alloc: Global, text: &[u8]) -> Result<Description, Fault>
+    ensures { AnswersParse result text.now }
+{
+    match parse(alloc, text) {
+        Ok(description) => Ok(description),
+        Err(fault) => Err(fault_of(fault)),
+    }
+}
+
+/// The cluster that a description says, and what it says that a cluster doesn't keep.
+///
+/// # Errors
+/// `Findings` for all the reasons why it says no cluster; `OutOfMemory`.
+fn said_by(alloc: Global, description: Description) -> Result<Described, Fault>
+    ensures { (text : List ℕ) → Describes text description → AnswersText result text }
+{
+    let names = Names::of(alloc, &description)?;
+    match check(alloc, description) {
+        Ok(cluster) => Ok(Described { cluster, names }),
+        Err(CheckFault::OutOfMemory) => Err(Fault::OutOfMemory),
+        Err(CheckFault::Findings(findings)) => Err(Fault::Findings(Findings(findings))),
+    }
+}
+
 /// What an LDF text describes.
 ///
 /// # Errors
@@ -75,16 +105,40 @@ fn fault_of(fault: LdfFault) -> Fault
 pub fn cluster_of_text(alloc: Global, text: &[u8]) -> Result<Described, Fault>
     ensures { AnswersText result text.now }
 {
-    let description = match parse(alloc, text) {
-        Ok(description) => description,
-        Err(fault) => return Err(fault_of(fault)),
-    };
-    let names = Names::of(alloc, &description)?;
-    match check(alloc, description) {
-        Ok(cluster) => Ok(Described { cluster, names }),
-        Err(CheckFault::OutOfMemory) => Err(Fault::OutOfMemory),
-        Err(CheckFault::Findings(findings)) => Err(Fault::Findings(Findings(findings))),
+    match description_of(alloc, text) {
+        Ok(description) => said_by(alloc, description),
+        Err(fault) => Err(fault),
     }
+}
+
+/// Gives the memory of a text back, but for a byte. (It is shrunk in place: once a block as large is
+/// freed, the C library's heap grows lists by copying them.)
+fn let_go(text: &mut Vec<u8>) {
+    text.truncate(1);
+    text.shrink_to_fit();
+}
+
+/// What an LDF text describes, as of `cluster_of_text`. Where it is at fault, the notes tell where;
+/// where they want no text, its memory is let go of before the description is checked.
+fn cluster_of_bytes(
+    alloc: Global,
+    mut bytes: Vec<u8>,
+    notes: &mut Notes<'_>,
+) -> Result<Described, Fault>
+    ensures { AnswersText result bytes.items }
+{
+    let parsed = description_of(alloc, bytes.as_slice());
+    if !notes.is_text_wanted() {
+        let_go(&mut bytes);
+    }
+    let answer = match parsed {
+        Ok(description) => said_by(alloc, description),
+        Err(fault) => Err(fault),
+    };
+    if let Err(fault) = &answer {
+        notes.add_text(alloc, bytes.as_slice(), fault)?;
+    }
+    answer
 }
 
 /// The cluster that the LDF text of a reader describes. Where the text is at fault, the notes tell
@@ -101,11 +155,7 @@ pub fn cluster_of_reader<R: Read>(
     ensures { AnswersLdf result (R.remaining reader.old) }
 {
     let text = read_text(alloc, reader)?;
-    let answer = cluster_of_text(alloc, text.as_slice());
-    if let Err(fault) = &answer {
-        notes.add_text(alloc, text.as_slice(), fault)?;
-    }
-    answer
+    cluster_of_bytes(alloc, text, notes)
 }
 
 /// The cluster that the LDF text on standard input describes.

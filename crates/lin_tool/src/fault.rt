@@ -16,78 +16,50 @@ use lin_log::ScriptFault;
 use lin_text::WriteFailed;
 use lin_threads::{RunFault, SplitFault};
 use std::alloc::{AllocError, AllocFailed};
-use thiserror::Error;
 
-/// Why the program ends early. What a fault displays is its line on standard error, or its lines.
-#[derive(Debug, Drop, Error)]
+/// Why the program ends early.
+#[derive(Debug, Drop)]
 pub enum Fault {
     /// The script's first line that is in no form, counted from 1.
-    #[error("{}", ScriptFault::BadLine {line: *.line})]
-    BadLine {
-        line: u64,
-    },
+    BadLine { line: u64 },
     /// The LDF text has a fault.
-    #[error("ldf {0}")]
     Ldf(LdfFault),
     /// The LDF text describes no cluster: a line for each reason.
-    #[error("{0}")]
     Findings(Findings),
     /// The LDF text is longer than 4,194,304 bytes.
-    #[error("ldf too long")]
     LdfTooLong,
     /// The script is longer than 16,777,216 bytes.
-    #[error("{}", ScriptFault::TooLong)]
     ScriptTooLong,
     /// The script's first step, counted from 0, that is none of a host of the cluster by its own
     /// port.
-    #[error("script step {index} not a host step")]
-    NotHostStep {
-        index: usize,
-    },
+    NotHostStep { index: usize },
     /// The cluster has no schedule table of the name that the command line gives.
-    #[error("no such table")]
     NoSuchTable,
-    #[error("{}", ScriptFault::OutOfMemory)]
     OutOfMemory,
     /// Standard input or the LDF file couldn't be read.
-    #[error("{}", ScriptFault::ReadFailed)]
     ReadFailed,
     /// Standard output didn't take what was written.
-    #[error("{}", lin_text::WriteFailed)]
     WriteFailed,
     /// A host's task had all its turns before it was done. The log was written.
-    #[error("task limit")]
     TaskLimit,
     /// A thread couldn't be started.
-    #[error("no thread")]
     NoThread,
     /// The log has 4,294,967,295 entries, and takes no more.
-    #[error("log full")]
     LogFull,
     /// A script isn't the text of its own history. Here is its first line, counted from 1, that
     /// differs from that text.
-    #[error("log {line} differs")]
-    LogDiffers {
-        line: u64,
-    },
+    LogDiffers { line: u64 },
     /// A bench script's first line that is bad, counted from 1. Why it is was told where the script
     /// was played, if that could be written.
-    #[error("{}", ScriptFault::BadLine {line: *.line})]
     BadBenchLine {
         line: u64,
         told: Result<(), WriteFailed>,
     },
     /// By this line, counted from 1, a bench script makes more than 1,000,000 slots.
-    #[error("script {line} slot limit")]
-    SlotLimit {
-        line: u64,
-    },
+    SlotLimit { line: u64 },
     /// Expectations of a bench script aren't met. Which they are was told where it was played, if
     /// that could be written.
-    #[error("expectations not met")]
-    Unmet {
-        told: Result<(), WriteFailed>,
-    },
+    Unmet { told: Result<(), WriteFailed> },
 }
 
 impl Fault {

@@ -1,37 +1,83 @@
 //! The findings of a description, as lines.
 
+ghost use Rattle.std.specs.Prelude.{◌≡◌, ◌++◌, codes, flat_map};
+ghost use Rattle.lin_text.specs.Written.{Grows};
+ghost use Rattle.lin_log.specs.Words.{line_tail};
+ghost use Rattle.lin_tool.specs.Telling.{finding_line, kind_word, needed_words, place_word};
+
 use lin_cluster::Finding;
 use lin_lists::Many;
-use std::fmt;
+use lin_text::TextWriter;
+use std::io::Write;
 
-fn put_line<W: fmt::Write>(f: &mut fmt::Formatter<W>, finding: &Finding) -> fmt::Result {
-    let Finding {
-        number,
-        line,
-        column,
-        needed_us: _,
-    } = *finding;
-    match finding.kind() {
-        Some(kind) => write!(f, "{line}:{column} finding {number} {kind}"),
-        None => write!(f, "{line}:{column} finding {number}"),
-    }
-}
-
-/// All that is wrong with a description. It displays a line for each finding, with no end after the
-/// last.
+/// All that is wrong with a description.
 #[derive(Debug, Drop)]
 pub struct Findings(pub Many<Finding>);
 
-impl fmt::Display for Findings {
-    fn fmt<W: fmt::Write>(&self, f: &mut fmt::Formatter<W>) -> fmt::Result {
-        let mut is_first = true;
-        for finding in self.0.as_slice() {
-            if !is_first {
-                f.write_str("\n")?;
-            }
-            put_line(f, finding)?;
-            is_first = false;
-        }
-        Ok(())
+/// The words of findings with this number; none but those from 1 to 18 has any.
+fn words_of(number: u8) -> &'static [u8]
+    ensures { result.now ≡ codes " finding " ++ kind_word number }
+{
+    match number {
+        1 => b" finding 1 UnknownName",
+        2 => b" finding 2 WrongPublisher",
+        3 => b" finding 3 BadId",
+        4 => b" finding 4 IdTwice",
+        5 => b" finding 5 BadSize",
+        6 => b" finding 6 SignalOutside",
+        7 => b" finding 7 SignalsOverlap",
+        8 => b" finding 8 BadInit",
+        9 => b" finding 9 SlotTooShort",
+        10 => b" finding 10 ZeroDelay",
+        11 => b" finding 11 BadNad",
+        12 => b" finding 12 NadTwice",
+        13 => b" finding 13 BadEventFrame",
+        14 => b" finding 14 BadSporadic",
+        15 => b" finding 15 NestedCollision",
+        16 => b" finding 16 EmptyTable",
+        17 => b" finding 17 LimitPassed",
+        18 => b" finding 18 MixedChecksum",
+        _ => b" finding ",
+    }
+}
+
+/// A line and a column, both from 1.
+pub(crate) fn put_place<W: Write>(out: &mut TextWriter<'_, W>, line: u64, column: u64)
+    ensures { Grows W.contents out.old out.new (place_word line column) }
+{
+    out.put_number(line);
+    out.put_byte(b':');
+    out.put_number(column);
+}
+
+/// Of a slot that is too short (9) the time in microseconds that it needs, and the line's end.
+fn put_needed<W: Write>(out: &mut TextWriter<'_, W>, finding: &Finding)
+    ensures { Grows W.contents out.old out.new (line_tail (needed_words finding.now)) }
+{
+    if finding.number == 9 {
+        out.put_byte(b' ');
+        out.put_number(finding.needed_us);
+        out.put_byte(b'\n');
+    } else {
+        out.put(b"\n");
+    }
+}
+
+/// The line of a finding: its place, its number and its name, and for a slot that is too short the
+/// time that it needs.
+fn put_finding<W: Write>(out: &mut TextWriter<'_, W>, finding: &Finding)
+    ensures { Grows W.contents out.old out.new (finding_line finding.now) }
+{
+    put_place(out, finding.line, finding.column);
+    out.put(words_of(finding.number));
+    put_needed(out, finding);
+}
+
+/// A line for each finding.
+pub(crate) fn put_findings<W: Write>(out: &mut TextWriter<'_, W>, findings: &[Finding])
+    ensures { Grows W.contents out.old out.new (flat_map finding_line findings.now) }
+{
+    for finding in findings {
+        put_finding(out, finding);
     }
 }

@@ -26,6 +26,7 @@ mod playing;
 mod replaying;
 mod running;
 mod scripts;
+mod telling;
 
 pub use checking::check;
 pub use comparing::{compare, compare_script, first_difference};
@@ -42,3 +43,4 @@ pub use opening::opening_table;
 pub use playing::{play, play_script};
 pub use replaying::{replay, replay_script};
 pub use running::run;
+pub use telling::write_fault;

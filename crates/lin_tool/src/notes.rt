@@ -5,10 +5,13 @@ use crate::explaining::{put_bad_line, put_refusals, put_tables, put_text};
 use crate::fault::Fault;
 use crate::locating::put_places;
 use crate::nearest::put_bad_bench_line;
+use crate::telling::{put_fault, write_fault};
 use lin_bench::Reason;
 use lin_cluster_parts::Cluster;
 use lin_core::Log;
+use lin_text::{TextWriter, WriteFailed, write_out};
 use std::alloc::{AllocError, Global};
+use std::io::Write;
 
 /// What is wanted on standard error beside the lines of a fault.
 #[derive(Clone, Copy, Debug, Default, Drop)]
@@ -40,29 +43,40 @@ impl<'a> Notes<'a> {
         }
     }
 
-    /// Prints the lines of a fault on standard error, if there is one, and those that explain.
-    pub fn print<R: Eprint>(&self, rt: &R, fault: Option<&Fault>) {
+    /// Writes the lines of a fault, if there is one, and those that explain.
+    ///
+    /// # Errors
+    /// `WriteFailed`, where what was written is the beginning of the lines. A failed write is tried
+    /// once.
+    pub fn write<W: Write>(
+        &self,
+        fault: Option<&Fault>,
+        writer: &mut W,
+    ) -> Result<(), WriteFailed> {
         if let Some(fault) = fault {
-            self.print_fault(rt, fault);
+            self.write_lines(fault, writer)?;
         }
-        let _ = eprint!(rt; "{}", self.text.as_str());
+        write_out(writer, self.text.as_bytes())?;
         if self.is_cut {
-            let _ = eprintln!(rt; "\n  no memory for more");
+            write_out(writer, b"\n  no memory for more\n")?;
         }
+        Ok(())
     }
 
-    fn print_fault<R: Eprint>(&self, rt: &R, fault: &Fault) {
-        let _ = match (self.wanted.file, fault) {
+    fn write_lines<W: Write>(&self, fault: &Fault, writer: &mut W) -> Result<(), WriteFailed> {
+        match (self.wanted.file, fault) {
             (Some(_), Fault::Ldf(_) | Fault::Findings(_)) => {
-                eprint!(rt; "{}", self.places.as_str())
+                write_out(writer, self.places.as_bytes())
             }
             (Some(file), Fault::LdfTooLong | Fault::ReadFailed) => {
-                eprintln!(rt; "{file}: {fault}")
+                let mut lines = TextWriter::new(writer);
+                lines.put_text(file);
+                lines.put_text(": ");
+                put_fault(&mut lines, fault);
+                lines.finish()
             }
-            // (these were told while the script was played)
-            (_, Fault::BadBenchLine { .. } | Fault::Unmet { .. }) => Ok(()),
-            _ => eprintln!(rt; "{fault}"),
-        };
+            _ => write_fault(fault, writer),
+        }
     }
 
     /// Adds the file that couldn't be read, by its path; without one standard input.
@@ -83,6 +97,11 @@ impl<'a> Notes<'a> {
         }
     }
 
+    /// Whether the LDF text is wanted where it is at fault.
+    pub(crate) fn is_text_wanted(&self) -> bool {
+        self.wanted.explained || self.wanted.file.is_some()
+    }
+
     /// Adds where an LDF text is at fault, and what that means.
     ///
     /// # Errors
@@ -93,13 +112,13 @@ impl<'a> Notes<'a> {
         text: &[u8],
         fault: &Fault,
     ) -> Result<(), AllocError> {
+        if let Some(file) = self.wanted.file {
+            put_places(alloc, &mut self.places, file, text, fault)?;
+        }
         if self.wanted.explained {
             self.is_cut = put_text(&mut self.text, text, fault).is_err();
         }
-        match self.wanted.file {
-            Some(file) => put_places(alloc, &mut self.places, file, text, fault),
-            None => Ok(()),
-        }
+        Ok(())
     }
 
     /// Adds the line of a script that is in no form.

@@ -8,10 +8,10 @@ mod arguments;
 
 use crate::arguments::{Asked, Request, read_words};
 use clap::error::ErrorKind;
-use lin_tool::{Fault, Notes};
+use lin_tool::{Fault, Notes, write_fault};
 use std::env::Env;
 use std::fs::Files;
-use std::io::{self, IsTerminal};
+use std::io::{self, IsTerminal, Write};
 use std::process::ExitCode;
 use std::sync::Wait;
 use std::thread::Threads;
@@ -80,12 +80,13 @@ fn is_read(request: Request<'_>) -> bool {
     }
 }
 
-/// Does what is asked for, prints what is to be said of a fault on standard error, and gives the
+/// Does what is asked for, writes what is to be said of a fault on standard error, and gives the
 /// exit status.
-fn answer<R: AllocGlobal + Files + Input + Print + Eprint + Threads + Wait>(
+fn answer<R: AllocGlobal + Files + Input + Print + Eprint + Threads + Wait, W: Write>(
     rt: &R,
     asked: Asked<'_>,
     terminals: Terminals,
+    errors: &mut W,
 ) -> ExitCode {
     let Asked { request, wanted } = asked;
     if wanted.explained && terminals.input && is_read(request) {
@@ -93,7 +94,7 @@ fn answer<R: AllocGlobal + Files + Input + Print + Eprint + Threads + Wait>(
     }
     let mut notes = Notes::new(rt.alloc(), wanted);
     let done = perform(rt, request, terminals.error, &mut notes);
-    notes.print(rt, done.as_ref().err());
+    let _ = notes.write(done.as_ref().err(), errors);
     match done {
         Ok(()) => ExitCode::SUCCESS,
         Err(fault) => ExitCode::from(fault.status()),
@@ -125,9 +126,10 @@ fn unread<R: Eprint>(rt: &R, error: &io::Error) -> Result<ExitCode, Fault> {
     Ok(ExitCode::from(COMMAND_LINE))
 }
 
-fn run<R: AllocGlobal + Env + Files + Input + Print + Eprint + Threads + Wait>(
+fn run<R: AllocGlobal + Env + Files + Input + Print + Eprint + Threads + Wait, W: Write>(
     rt: &R,
     terminals: Terminals,
+    errors: &mut W,
 ) -> Result<ExitCode, Fault> {
     let alloc = rt.alloc();
     let words: Vec<String> = match std::env::args(rt) {
@@ -135,7 +137,7 @@ fn run<R: AllocGlobal + Env + Files + Input + Print + Eprint + Threads + Wait>(
         Err(error) => return unread(rt, &error),
     };
     match read_words(alloc, words.as_slice()) {
-        Ok(Some(asked)) => Ok(answer(rt, asked, terminals)),
+        Ok(Some(asked)) => Ok(answer(rt, asked, terminals, errors)),
         Ok(None) => Ok(ExitCode::SUCCESS),
         Err(error) => refused(rt, &error),
     }
@@ -146,10 +148,11 @@ fn main(rt: HostRuntime) -> ExitCode {
         input: rt.stdin().is_terminal(),
         error: rt.stderr().is_terminal(),
     };
-    match run(&rt, terminals) {
+    let mut errors = rt.stderr();
+    match run(&rt, terminals, &mut errors) {
         Ok(status) => status,
         Err(fault) => {
-            let _ = eprintln!(rt; "{fault}");
+            let _ = write_fault(&fault, &mut errors);
             ExitCode::from(fault.status())
         }
     }

@@ -1,0 +1,77 @@
+-- What the program says of a fault, as lines.
+use Rattle.std.specs.Prelude.{ℕ, ◌==◌, List, [], ◌∷◌, ◌++◌, flat_map, if◌then◌else◌, codes}
+use Rattle.std.specs.Prelude.{slice_index_or}
+use Rattle.std.specs.Fmt.{decimal}
+use Rattle.lin_description.specs.declared.place.Place.{Place}
+use Rattle.lin_ldf.specs.declared.fault.LdfFault.{LdfFault}
+use Rattle.lin_ldf.specs.declared.fault.LdfFault.TheVariants as ldf
+use Rattle.lin_cluster.specs.declared.finding.Finding.{Finding}
+use Rattle.lin_log.specs.Words.{line}
+use Rattle.lin_tool.specs.declared.fault.Fault.{Fault}
+use Rattle.lin_tool.specs.declared.fault.Fault.TheVariants.{BadLine, Ldf, Findings, LdfTooLong}
+use Rattle.lin_tool.specs.declared.fault.Fault.TheVariants.{ScriptTooLong, NotHostStep, NoSuchTable}
+use Rattle.lin_tool.specs.declared.fault.Fault.TheVariants.{OutOfMemory, ReadFailed, WriteFailed}
+use Rattle.lin_tool.specs.declared.fault.Fault.TheVariants.{TaskLimit, NoThread, LogFull}
+use Rattle.lin_tool.specs.declared.fault.Fault.TheVariants.{LogDiffers, SlotLimit, BadBenchLine}
+use Rattle.lin_tool.specs.declared.fault.Fault.TheVariants.{Unmet}
+
+-- a line and a column
+abbrev pub place_word : ℕ → ℕ → List ℕ
+place_word line column = decimal line ++ 58 ∷ decimal column
+
+-- the numbers and names of findings, by their numbers, which begin at 1
+abbrev pub finding_kinds : List (List ℕ)
+finding_kinds =
+    [] ∷ codes "1 UnknownName" ∷ codes "2 WrongPublisher" ∷ codes "3 BadId" ∷ codes "4 IdTwice"
+    ∷ codes "5 BadSize" ∷ codes "6 SignalOutside" ∷ codes "7 SignalsOverlap" ∷ codes "8 BadInit"
+    ∷ codes "9 SlotTooShort" ∷ codes "10 ZeroDelay" ∷ codes "11 BadNad" ∷ codes "12 NadTwice"
+    ∷ codes "13 BadEventFrame" ∷ codes "14 BadSporadic" ∷ codes "15 NestedCollision"
+    ∷ codes "16 EmptyTable" ∷ codes "17 LimitPassed" ∷ codes "18 MixedChecksum" ∷ []
+
+abbrev pub kind_word : ℕ → List ℕ
+kind_word number = slice_index_or finding_kinds number []
+
+-- of a slot that is too short the time in microseconds that it needs
+abbrev pub needed_words : Finding → List (List ℕ)
+needed_words finding = if finding.number == 9 then decimal finding.needed_us ∷ [] else []
+
+abbrev pub finding_line : Finding → List ℕ
+finding_line f =
+    line (place_word f.line f.column ∷ codes "finding" ∷ kind_word f.number ∷ needed_words f)
+
+-- the line of a fault of an LDF text, by its number and name
+abbrev pub ldf_line : Place → List ℕ → List ℕ
+ldf_line place name =
+    line (codes "ldf" ∷ place_word place.line place.column ∷ codes "fault" ∷ name ∷ [])
+
+abbrev pub ldf_text : LdfFault → List ℕ
+ldf_text (ldf.BadByte place) = ldf_line place (codes "1 BadByte")
+ldf_text (ldf.OpenComment place) = ldf_line place (codes "2 OpenComment")
+ldf_text (ldf.OpenText place) = ldf_line place (codes "3 OpenText")
+ldf_text (ldf.Unexpected place) = ldf_line place (codes "4 Unexpected")
+ldf_text (ldf.NumberTooLarge place) = ldf_line place (codes "5 NumberTooLarge")
+ldf_text (ldf.SectionTwice place) = ldf_line place (codes "6 SectionTwice")
+ldf_text (ldf.NameTwice place) = ldf_line place (codes "7 NameTwice")
+ldf_text ldf.OutOfMemory = line (codes "ldf out of memory" ∷ [])
+
+-- the line of a fault, and the lines of findings; of a bench script's bad line and of what it expects
+-- all was told while it was played
+abbrev pub fault_text : Fault → List ℕ
+fault_text (BadLine n) = line (codes "script" ∷ decimal n ∷ codes "bad line" ∷ [])
+fault_text (Ldf fault) = ldf_text fault
+fault_text (Findings found) = flat_map finding_line found.0
+fault_text LdfTooLong = line (codes "ldf too long" ∷ [])
+fault_text ScriptTooLong = line (codes "script too long" ∷ [])
+fault_text (NotHostStep index) =
+    line (codes "script step" ∷ decimal index ∷ codes "not a host step" ∷ [])
+fault_text NoSuchTable = line (codes "no such table" ∷ [])
+fault_text OutOfMemory = line (codes "out of memory" ∷ [])
+fault_text ReadFailed = line (codes "read failed" ∷ [])
+fault_text WriteFailed = line (codes "write failed" ∷ [])
+fault_text TaskLimit = line (codes "task limit" ∷ [])
+fault_text NoThread = line (codes "no thread" ∷ [])
+fault_text LogFull = line (codes "log full" ∷ [])
+fault_text (LogDiffers n) = line (codes "log" ∷ decimal n ∷ codes "differs" ∷ [])
+fault_text (SlotLimit n) = line (codes "script" ∷ decimal n ∷ codes "slot limit" ∷ [])
+fault_text (BadBenchLine n told) = []
+fault_text (Unmet told) = []
