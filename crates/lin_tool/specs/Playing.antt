@@ -48,8 +48,8 @@ run_as format d opening capacity run =
     log_as format d.names d.cluster (log_of d.cluster opening capacity run.steps)
 
 -- What is written of a run: its log (this is the whole of it), and then to errors this text of the
--- expectations that it missed, if it missed any; or writing the log stopped at some place. (The log's
--- own text takes no memory.)
+-- expectations that it missed, if it missed any; or writing the log stopped at some place. (The
+-- log's own text takes no memory.)
 abbrev pub WritesPlayed : Format → Option (List ℕ) → List Missed → List ℕ → Result Unit Fault
     → Option (List ℕ) → Option (List ℕ) → Option (List ℕ) → Option (List ℕ) → Type 0
 WritesPlayed format whole missed text (Ok done) old new silent heard =

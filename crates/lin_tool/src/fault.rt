@@ -65,8 +65,8 @@ pub enum Fault {
 impl Fault {
     /// The exit status: 1 for a fault of the input, 3 where memory ran out, 4 for a failed read or
     /// write, 5 where a run met a limit, 6 where a log isn't the text of its own history or
-    /// expectations of a bench script aren't met. (0 is for a run without a fault, and 2 for a wrong
-    /// command line.)
+    /// expectations of a bench script aren't met. (0 is for a run without a fault, and 2 for a
+    /// wrong command line.)
     pub fn status(&self) -> u8
         ensures { result ≡ status_of self.now }
     {

@@ -17,8 +17,10 @@ static WORDS: [&str; 16] = [
 ];
 
 /// What `expect` takes.
-const EXPECTATIONS: &str =
-    "signal NODE SIGNAL VALUE, waiting NODE K, message FROM TO BYTES, sent NODE, lost NODE damaged (timedout, slept), seen silent (none, good, damaged, collided), slot TABLE ENTRY, done, refused NAME, asleep, awake";
+const EXPECTATIONS: &str = "signal NODE SIGNAL VALUE, waiting NODE K, message FROM TO BYTES, \
+                            sent NODE, lost NODE damaged (timedout, slept), seen silent (none, \
+                            good, damaged, collided), slot TABLE ENTRY, done, refused NAME, \
+                            asleep, awake";
 
 /// The beginning of a name.
 fn beginning(name: &[u8]) -> &[u8] {
