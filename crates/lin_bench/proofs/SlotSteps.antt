@@ -11,7 +11,7 @@ use Rattle.lin_core.specs.declared.port.PortId.TheVariants.{Bus}
 use Rattle.lin_core.specs.declared.step.Step.{Step}
 use Rattle.lin_core.specs.declared.step.Step.TheVariants.{Open, Answer, Leave, Hurt, Finish}
 use Rattle.lin_bench.specs.Making.{IsMade, extent_on}
-use Rattle.lin_bench.specs.Slots.{after, decision, due_now, extent_steps, goes_on, hurt_steps, is_opened, leaving, most, slot_rest, slot_steps, slots_in, slots_steps}
+use Rattle.lin_bench.specs.Slots.{after, decision, due_now, extent_steps, goes_on, hurt_steps, is_opened, leave_nodes, most, slot_rest, slot_steps, slots_in, slots_steps}
 use Rattle.lin_bench.specs.declared.line.Disturbance.{Disturbance}
 use Rattle.lin_bench.specs.declared.line.Disturbance.TheVariants as slot
 use Rattle.lin_bench.specs.declared.line.Extent.{Extent}
@@ -31,7 +31,7 @@ decisions-end-none : (how : Disturbance) (due : List ℕ) → slots_in (map (dec
 decisions-end-none how [] = refl
 decisions-end-none how (n ∷ ns) =
     let rest = filter (λ (s : PortId × Step). is_finish s.1) (map (decision how) ns) in
-    ap (λ b. length (cond b (decision how n ∷ rest) rest)) (choice-ends-none (is_in (leaving how) n) n) ∙ decisions-end-none how ns
+    ap (λ b. length (cond b (decision how n ∷ rest) rest)) (choice-ends-none (is_in (leave_nodes how) n) n) ∙ decisions-end-none how ns
 
 one-ends : (how : Disturbance) → slots_in (hurt_steps how ++ (Bus, Finish) ∷ []) ≡ 1
 one-ends slot.Undisturbed = refl

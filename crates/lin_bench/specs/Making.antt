@@ -34,9 +34,9 @@ MakesSlots old how extent left (Ok None) new = left < slots_in (extent_on old ho
 MakesSlots old how extent left (Err stop) new = Unit {0}
 
 -- the item after so many others, of these and more, or how many of those are left to the more
-abbrev pub skipped : {X A : Type 0} → (X → A) → Result X ℕ → List A → Option A
-skipped view (Ok x) more = Some (view x)
-skipped view (Err left) more = slice_get more left
+abbrev pub skip_result : {X A : Type 0} → (X → A) → Result X ℕ → List A → Option A
+skip_result view (Ok x) more = Some (view x)
+skip_result view (Err left) more = slice_get more left
 
 -- what a line is given: a player's core before it, and the steps that it says
 abbrev pub said_on : CoreData → Line → List (PortId × Step)

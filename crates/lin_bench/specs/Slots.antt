@@ -40,9 +40,9 @@ due_in (Done events) = Some (filter_map due_node events)
 due_in (Refused why) = None
 
 -- the nodes that leave their responses out
-abbrev pub leaving : Disturbance → List ℕ
-leaving (slot.Leave nodes) = nodes
-leaving how = []
+abbrev pub leave_nodes : Disturbance → List ℕ
+leave_nodes (slot.Leave nodes) = nodes
+leave_nodes how = []
 
 abbrev pub hurt_steps : Disturbance → List (PortId × Step)
 hurt_steps (slot.Hurt bytes) = (Bus, Hurt bytes) ∷ []
@@ -50,7 +50,7 @@ hurt_steps how = []
 
 -- a node that is due answers, or leaves its response out where it is to
 abbrev pub decision : Disturbance → ℕ → PortId × Step
-decision how node = (Bus, if is_in (leaving how) node then Leave node else Answer node)
+decision how node = (Bus, if is_in (leave_nodes how) node then Leave node else Answer node)
 
 -- the steps of a slot after its open; none where that was refused
 abbrev pub slot_rest : Disturbance → Option (List ℕ) → List (PortId × Step)

@@ -57,15 +57,15 @@ write_of by signal f = value_field f >>= (λ value. Ok (Write by signal value))
 abbrev pub published_write : Parts → List ℕ → List ℕ → Result Step Reason
 published_write c s v = signal_field c s >>= (λ signal. write_of (publisher c signal) signal v)
 
-abbrev pub written_by : Parts → List ℕ → List ℕ → List ℕ → Result Step Reason
-written_by c by s v = do
+abbrev pub node_write : Parts → List ℕ → List ℕ → List ℕ → Result Step Reason
+node_write c by s v = do
   node ← node_field c by
   signal ← signal_field c s
   write_of node signal v
 
 abbrev pub write_form : Parts → List (List ℕ) → Result Step Reason
 write_form c (s ∷ v ∷ []) = published_write c s v
-write_form c (by ∷ s ∷ v ∷ []) = written_by c by s v
+write_form c (by ∷ s ∷ v ∷ []) = node_write c by s v
 write_form c fs = Err WriteForm
 
 abbrev pub hurt_form : List (List ℕ) → Result Step Reason
@@ -74,14 +74,14 @@ hurt_form fs = bytes_fields fs >>= (λ bytes. Ok (Hurt bytes))
 unfoldable pub direction_field : List ℕ → Result Direction Reason
 direction_field f = or_bad (direction f) TimeoutForm
 
-abbrev pub timed_out : Parts → List ℕ → List ℕ → Result Step Reason
-timed_out c n d = do
+abbrev pub timeout_of : Parts → List ℕ → List ℕ → Result Step Reason
+timeout_of c n d = do
   node ← node_field c n
   dir ← direction_field d
   Ok (Timeout node dir)
 
 abbrev pub timeout_form : Parts → List ℕ → List (List ℕ) → Result Step Reason
-timeout_form c word (n ∷ d ∷ []) = timed_out c n d
+timeout_form c word (n ∷ d ∷ []) = timeout_of c n d
 timeout_form c word fs = Err (Takes word 2)
 
 abbrev pub switch_form : Parts → List ℕ → List (List ℕ) → Result Step Reason

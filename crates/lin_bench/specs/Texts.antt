@@ -16,9 +16,9 @@ use Rattle.lin_bench.specs.declared.got.Unmet.{Unmet}
 use Rattle.lin_bench.specs.declared.got.Unmet.TheVariants as unmet
 
 -- fields with one space between two
-abbrev pub joined : List (List ℕ) → List ℕ
-joined [] = []
-joined (f ∷ fs) = f ++ flat_map spaced_word fs
+abbrev pub fields_text : List (List ℕ) → List ℕ
+fields_text [] = []
+fields_text (f ∷ fs) = f ++ flat_map spaced_word fs
 
 abbrev pub fields_word : ℕ → List ℕ
 fields_word count = if count == 1 then codes " field" else codes " fields"
@@ -34,7 +34,7 @@ reason_text (reason.NoRefusal name) = codes "no refusal " ++ name
 reason_text (reason.NoNumber field most) = field ++ (codes " is no number up to " ++ decimal most)
 reason_text reason.TooSmall = codes "0 is too small"
 reason_text reason.NoBytes = codes "no bytes"
-reason_text (reason.NotBytes fields) = joined fields ++ codes " is no bytes"
+reason_text (reason.NotBytes fields) = fields_text fields ++ codes " is no bytes"
 reason_text (reason.TooManyBytes field) = field ++ codes " has more than 8 bytes"
 reason_text (reason.Takes word fields) =
     word ++ (codes " takes " ++ (decimal fields ++ fields_word fields))
@@ -45,7 +45,7 @@ reason_text reason.SlotsForm = codes "slots takes a number, a number and ms, or 
 reason_text (reason.SlotForm word) = codes "slot takes hurt or leave, not " ++ word
 reason_text reason.LeaveForm = codes "slot leave takes nodes"
 reason_text reason.ExpectForm = codes "expect takes what is expected"
-reason_text (reason.UnknownExpectation fields) = codes "expect has no form " ++ joined fields
+reason_text (reason.UnknownExpectation fields) = codes "expect has no form " ++ fields_text fields
 
 -- the line of a bad line
 abbrev pub bad_line_text : ℕ → Reason → List ℕ
@@ -115,12 +115,12 @@ hosts_text c [] = []
 hosts_text c (h ∷ hs) = waiting_text c h ++ flat_map (other_host_text c) hs
 
 -- what is expected and what is so
-abbrev pub judged_text : List ℕ → List ℕ → List ℕ
-judged_text what is = codes " expected " ++ (what ++ (codes ": " ++ (is ++ 10 ∷ [])))
+abbrev pub verdict_text : List ℕ → List ℕ → List ℕ
+verdict_text what is = codes " expected " ++ (what ++ (codes ": " ++ (is ++ 10 ∷ [])))
 
 -- the line of an expectation that isn't met
 abbrev pub unmet_text : Parts → Unmet → List ℕ
 unmet_text c (unmet.Expected n what is) =
-    codes "script " ++ (decimal n ++ judged_text (expected_text c what) (got_text c is))
+    codes "script " ++ (decimal n ++ verdict_text (expected_text c what) (got_text c is))
 unmet_text c (unmet.Idle n hosts) =
-    codes "script " ++ (decimal n ++ judged_text (codes "idle") (hosts_text c hosts))
+    codes "script " ++ (decimal n ++ verdict_text (codes "idle") (hosts_text c hosts))

@@ -52,8 +52,10 @@ impl<'a> LinesLeft<'a> {
     ) -> Result<Option<(u64, Line)>, ReadFault>
         requires { self.old.number + left_of self.old.left ≤ 16777218 }
         ensures line { NextLine result (said cluster.now self.old) (said cluster.now self.new) }
-        ensures bound { self.new.number + left_of self.new.left ≤ self.old.number + left_of self.old.left }
-        ensures passed { IfOk result (λ line. IfSome line (λ _. self.old.number + 1 ≤ self.new.number)) }
+        ensures bound { self.new.number + left_of self.new.left
+            ≤ self.old.number + left_of self.old.left }
+        ensures passed { IfOk result
+            (λ line. IfSome line (λ _. self.old.number + 1 ≤ self.new.number)) }
     {
         while let Some(text) = self.left {
             let (line, rest) = first_line(text);

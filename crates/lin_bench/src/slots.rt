@@ -8,8 +8,8 @@ ghost use Rattle.lin_core.specs.Core.{past_of};
 ghost use Rattle.lin_core.specs.declared.port.PortId.TheVariants.{Bus};
 ghost use Rattle.lin_bench.specs.Making.{IsMade, MakesSlots};
 ghost use Rattle.lin_bench.specs.Slots.{decision, due_in, due_now, goes_on, hosts_waiting};
-ghost use Rattle.lin_bench.specs.Slots.{due_node, hurt_steps, is_opened, leaving, most, slot_rest};
-ghost use Rattle.lin_bench.specs.Slots.{slot_steps, some_wait};
+ghost use Rattle.lin_bench.specs.Slots.{due_node, hurt_steps, is_opened, leave_nodes, most};
+ghost use Rattle.lin_bench.specs.Slots.{slot_rest, slot_steps, some_wait};
 
 use crate::line::{Disturbance, Extent};
 use crate::stop::Stop;
@@ -57,7 +57,7 @@ fn due_in(alloc: Global, reply: &Reply) -> Result<Option<Vec<u8>>, AllocError>
 
 /// Whether a node leaves its response out.
 fn leaves(how: &Disturbance, node: u8) -> bool
-    ensures { result ≡ is_in (leaving how.now) node }
+    ensures { result ≡ is_in (leave_nodes how.now) node }
 {
     match how {
         Disturbance::Leave(nodes) => nodes.as_slice().iter().any(|other| *other == node),

@@ -7,8 +7,8 @@ ghost use Rattle.lin_bench.specs.declared.fault.LineFault.{LineFault};
 ghost use Rattle.lin_bench.specs.declared.reason.Reason.{Reason};
 ghost use Rattle.lin_bench.specs.Steps.{alone, direction_field, hurt_form, is_port, node_form};
 ghost use Rattle.lin_bench.specs.Steps.{port, port_number, published_write, publisher, send_form};
-ghost use Rattle.lin_bench.specs.Steps.{step_after, step_form, switch_form, timed_out};
-ghost use Rattle.lin_bench.specs.Steps.{timeout_form, write_form, write_of, written_by};
+ghost use Rattle.lin_bench.specs.Steps.{step_after, step_form, switch_form, timeout_of};
+ghost use Rattle.lin_bench.specs.Steps.{timeout_form, write_form, write_of, node_write};
 ghost use Rattle.lin_bench.specs.Read.{Gives};
 
 use crate::fault::LineFault;
@@ -92,14 +92,14 @@ fn written(alloc: Global, by: u8, signal: u16, value: &[u8]) -> Result<Step, Lin
 }
 
 /// The write of a value by a node, by their fields.
-fn written_by(
+fn node_write(
     alloc: Global,
     cluster: &Cluster,
     by: &[u8],
     signal: &[u8],
     value: &[u8],
 ) -> Result<Step, LineFault>
-    ensures { Gives (λ s. s) result (written_by cluster.now by.now signal.now value.now) }
+    ensures { Gives (λ s. s) result (node_write cluster.now by.now signal.now value.now) }
 {
     let by = node_field(alloc, cluster, by)?;
     let signal = signal_field(alloc, cluster, signal)?;
@@ -124,7 +124,7 @@ fn write(alloc: Global, cluster: &Cluster, fields: &[&[u8]]) -> Result<Step, Lin
 {
     match fields {
         [signal, value] => published(alloc, cluster, signal, value),
-        [by, signal, value] => written_by(alloc, cluster, by, signal, value),
+        [by, signal, value] => node_write(alloc, cluster, by, signal, value),
         _ => Err(LineFault::Bad(Reason::WriteForm)),
     }
 }
@@ -159,8 +159,8 @@ fn direction_field(word: &[u8]) -> Result<Direction, LineFault>
 }
 
 /// The timeout of a transfer, by its fields.
-fn timed_out(alloc: Global, cluster: &Cluster, node: &[u8], dir: &[u8]) -> Result<Step, LineFault>
-    ensures { Gives (λ s. s) result (timed_out cluster.now node.now dir.now) }
+fn timeout_of(alloc: Global, cluster: &Cluster, node: &[u8], dir: &[u8]) -> Result<Step, LineFault>
+    ensures { Gives (λ s. s) result (timeout_of cluster.now node.now dir.now) }
 {
     Ok(Step::Timeout {
         node: node_field(alloc, cluster, node)?,
@@ -177,7 +177,7 @@ fn timeout(
     ensures { Gives (λ s. s) result (timeout_form cluster.now word.now (words fields.now)) }
 {
     match fields {
-        [node, dir] => timed_out(alloc, cluster, node, dir),
+        [node, dir] => timeout_of(alloc, cluster, node, dir),
         _ => Err(takes(alloc, word, 2)?),
     }
 }

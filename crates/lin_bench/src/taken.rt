@@ -3,7 +3,7 @@
 ghost use Rattle.std.specs.Prelude.{◌≡◌, ◌++◌, List, filter, find, option_map, reverse, slice_get};
 ghost use Rattle.lin_core.specs.History.{events};
 ghost use Rattle.lin_core.specs.declared.event.Event.{Event};
-ghost use Rattle.lin_bench.specs.Making.{skipped};
+ghost use Rattle.lin_bench.specs.Making.{skip_result};
 ghost use Rattle.lin_bench.specs.Verdicts.{all_events, is_of, same_kind};
 
 use lin_core::{Event, Log, LogEntry, Reply};
@@ -68,7 +68,7 @@ fn events_of(entry: &LogEntry) -> &[Event]
 fn skipped(events: &[Event], kind: EventKind, skip: usize) -> Result<&Event, usize>
     ensures { (more : List Event)
         → slice_get (filter (is_of kind) events.now ++ more) skip
-        ≡ skipped (λ e. e.now) result more }
+        ≡ skip_result (λ e. e.now) result more }
 {
     let mut skip = skip;
     for event in events {

@@ -5,7 +5,7 @@ ghost use Rattle.std.specs.Fmt.{decimal};
 ghost use Rattle.lin_log.specs.Words.{hex_word, spaced_word, value_word};
 ghost use Rattle.lin_text.specs.Written.{Grows, WritesText};
 ghost use Rattle.lin_bench.specs.Texts.{bad_line_text, expected_text, fields_word, got_text};
-ghost use Rattle.lin_bench.specs.Texts.{hosts_text, joined, node_word, other_host_text};
+ghost use Rattle.lin_bench.specs.Texts.{hosts_text, fields_text, node_word, other_host_text};
 ghost use Rattle.lin_bench.specs.Texts.{reason_text, signal_word, table_word, unmet_text};
 ghost use Rattle.lin_bench.specs.Texts.{waiting_text};
 
@@ -51,7 +51,7 @@ fn put_all_spaced<W: Write>(out: &mut TextWriter<'_, W>, words: &[Text])
 
 /// Fields with one space between two.
 fn put_fields<W: Write>(out: &mut TextWriter<'_, W>, fields: &[Text])
-    ensures { Grows W.contents out.old out.new (joined fields.now) }
+    ensures { Grows W.contents out.old out.new (fields_text fields.now) }
 {
     match fields {
         [] => {}

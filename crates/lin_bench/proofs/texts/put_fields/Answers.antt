@@ -1,10 +1,10 @@
 use Rattle.std.proofs.Common.{ap, sym}
 use Rattle.lin_text.proofs.Growing.{grows-more, same-growth}
-use Rattle.lin_bench.specs.Texts.{joined}
+use Rattle.lin_bench.specs.Texts.{fields_text}
 use Rattle.lin_bench.proofs.Appending.{first-and-rest}
 use Rattle.lin_bench.proofs.texts.put_fields.Goals as goal
 
 pub returns-in-len1-up : goal.returns-in-len1-up
 returns-in-len1-up g c =
-    same-growth (sym (ap joined (first-and-rest c.args.fields.now c.first-item.result c.in-len1-up.len_at_least c.first-item.is)))
+    same-growth (sym (ap fields_text (first-and-rest c.args.fields.now c.first-item.result c.in-len1-up.len_at_least c.first-item.is)))
     (grows-more (rw c.as_slice.ensures at c.put.ensures) c.put_all_spaced.ensures)
