@@ -11,7 +11,7 @@ use clap::error::ErrorKind;
 use lin_tool::{Fault, Notes};
 use std::env::Env;
 use std::fs::Files;
-use std::io::{self, IsTerminal};
+use std::io::{self, IsTerminal, Write};
 use std::process::ExitCode;
 use std::sync::Wait;
 use std::thread::Threads;
@@ -33,15 +33,31 @@ struct Terminals {
     error: bool,
 }
 
-/// Does what is asked for; where standard error is watched, a run says there that it begins.
-fn perform<R: AllocGlobal + Files + Input + Print + Eprint + Threads + Wait>(
+/// Does what is asked for; where standard error is watched, a run says there that it begins. A play
+/// says there what is wrong with its script.
+fn perform<R: AllocGlobal + Files + Input + Print + Eprint + Threads + Wait, W: Write>(
     rt: &R,
     request: Request<'_>,
     is_watched: bool,
     notes: &mut Notes<'_>,
+    errors: &mut W,
 ) -> Result<(), Fault> {
     match request {
         Request::Check { file, lists } => lin_tool::check(rt, file, lists, notes),
+        Request::Play {
+            file,
+            table,
+            capacity,
+            format,
+        } => lin_tool::play(
+            rt,
+            file,
+            table,
+            within_limits(capacity),
+            format,
+            notes,
+            errors,
+        ),
         Request::Replay {
             file,
             table,
@@ -76,23 +92,27 @@ fn perform<R: AllocGlobal + Files + Input + Print + Eprint + Threads + Wait>(
 fn is_read(request: Request<'_>) -> bool {
     match request {
         Request::Check { file, .. } => file == "-",
-        Request::Replay { .. } | Request::Compare { .. } | Request::Run { .. } => true,
+        Request::Play { .. }
+        | Request::Replay { .. }
+        | Request::Compare { .. }
+        | Request::Run { .. } => true,
     }
 }
 
 /// Does what is asked for, prints what is to be said of a fault on standard error, and gives the
 /// exit status.
-fn answer<R: AllocGlobal + Files + Input + Print + Eprint + Threads + Wait>(
+fn answer<R: AllocGlobal + Files + Input + Print + Eprint + Threads + Wait, W: Write>(
     rt: &R,
     asked: Asked<'_>,
     terminals: Terminals,
+    errors: &mut W,
 ) -> ExitCode {
     let Asked { request, wanted } = asked;
     if wanted.explained && terminals.input && is_read(request) {
         let _ = eprintln!(rt; "linsim: reads from the terminal, up to its end (Ctrl-D)");
     }
     let mut notes = Notes::new(rt.alloc(), wanted);
-    let done = perform(rt, request, terminals.error, &mut notes);
+    let done = perform(rt, request, terminals.error, &mut notes, errors);
     notes.print(rt, done.as_ref().err());
     match done {
         Ok(()) => ExitCode::SUCCESS,
@@ -125,9 +145,10 @@ fn unread<R: Eprint>(rt: &R, error: &io::Error) -> Result<ExitCode, Fault> {
     Ok(ExitCode::from(COMMAND_LINE))
 }
 
-fn run<R: AllocGlobal + Env + Files + Input + Print + Eprint + Threads + Wait>(
+fn run<R: AllocGlobal + Env + Files + Input + Print + Eprint + Threads + Wait, W: Write>(
     rt: &R,
     terminals: Terminals,
+    errors: &mut W,
 ) -> Result<ExitCode, Fault> {
     let alloc = rt.alloc();
     let words: Vec<String> = match std::env::args(rt) {
@@ -135,7 +156,7 @@ fn run<R: AllocGlobal + Env + Files + Input + Print + Eprint + Threads + Wait>(
         Err(error) => return unread(rt, &error),
     };
     match read_words(alloc, words.as_slice()) {
-        Ok(Some(asked)) => Ok(answer(rt, asked, terminals)),
+        Ok(Some(asked)) => Ok(answer(rt, asked, terminals, errors)),
         Ok(None) => Ok(ExitCode::SUCCESS),
         Err(error) => refused(rt, &error),
     }
@@ -146,7 +167,8 @@ fn main(rt: HostRuntime) -> ExitCode {
         input: rt.stdin().is_terminal(),
         error: rt.stderr().is_terminal(),
     };
-    match run(&rt, terminals) {
+    let mut errors = rt.stderr();
+    match run(&rt, terminals, &mut errors) {
         Ok(status) => status,
         Err(fault) => {
             let _ = eprintln!(rt; "{fault}");
