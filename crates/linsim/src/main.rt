@@ -55,8 +55,8 @@ fn perform<R: AllocGlobal + Files + Input + Print + Eprint + Threads + Wait, W: 
             table,
             within_limits(capacity),
             format,
-            notes,
             errors,
+            notes,
         ),
         Request::Replay {
             file,
