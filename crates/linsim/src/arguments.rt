@@ -5,13 +5,16 @@ use lin_tool::{Format, Lists, Wanted};
 use std::alloc::{AllocError, Global};
 
 const STATUS_NOTE: &str =
-    "Exit status: 0 done; 1 a fault of the input; 2 a wrong command line; 3 out of memory;\n4 a read or a write failed; 5 the run met a limit; 6 the log isn't that of its own steps (replay --same).\nA fault is one line on standard error; with --explain, lines below it say more.";
+    "Exit status: 0 done; 1 a fault of the input; 2 a wrong command line; 3 out of memory;\n4 a read or a write failed; 5 the run met a limit; 6 the log isn't that of its own steps (replay --same),\nor an expectation isn't met (play).\nA fault is one line on standard error; with --explain, lines below it say more.";
 
 const REPLAY_NOTE: &str =
     "Without FILE the cluster is the built-in one: the commander cem, the responder door with the diagnostic\naddress 1, and the schedule table diag with a master request and a slave response, 10 ms each.\n\nExample: linsim replay door.ldf --to csv < door.script > door.csv";
 
 const RUN_NOTE: &str =
     "The script's steps are the hosts' own: sends, writes and closes, each by its host's port. They are put while the slots run,\nso where a step stands among the slots isn't fixed; the log, read by replay, is written again.";
+
+const PLAY_NOTE: &str =
+    "A bench script has the steps of replay's scripts, and lines of its own: slot, slots N, slots N ms, slots idle, slot hurt BYTES,\nslot leave NODE.., expect WHAT. Nodes, signals and schedule tables stand by their names or numbers. A bad line, and each\nexpectation that isn't met, is a line on standard error; the log is written before expectations are told.\n\nExample: linsim play door.ldf < door.bench > door.log";
 
 const CHECK_NOTE: &str =
     "On standard output: node NUMBER NAME NAD (- for none), signal NUMBER NAME, table NUMBER NAME ENTRIES, one a line.\nOn standard error: ldf LINE:COLUMN fault NUMBER NAME for the first fault of the text, or ldf too long above 4,194,304 bytes;\notherwise a line LINE:COLUMN finding NUMBER NAME for each reason why it describes no cluster.";
@@ -133,6 +136,19 @@ fn run<'a>(alloc: Global) -> Result<Command<'a>, AllocError> {
         .arg(explain(alloc))
 }
 
+fn play<'a>(alloc: Global) -> Result<Command<'a>, AllocError> {
+    Command::new(alloc, "play")
+        .about(
+            "Makes the slots and steps of a bench script from standard input, writes the log, and judges what is expected",
+        )
+        .after_help(PLAY_NOTE)
+        .arg(file(alloc).required(true))?
+        .arg(table(alloc))?
+        .arg(capacity(alloc))?
+        .arg(format(alloc))?
+        .arg(explain(alloc))
+}
+
 /// What the program takes.
 fn command<'a>(alloc: Global) -> Result<Command<'a>, AllocError> {
     Command::new(alloc, "linsim")
@@ -141,6 +157,7 @@ fn command<'a>(alloc: Global) -> Result<Command<'a>, AllocError> {
         .after_help(STATUS_NOTE)
         .subcommand_required(true)
         .subcommand(check(alloc)?)?
+        .subcommand(play(alloc)?)?
         .subcommand(replay(alloc)?)?
         .subcommand(run(alloc)?)
 }
@@ -159,6 +176,13 @@ pub(crate) enum Request<'a> {
     Check {
         file: &'a str,
         lists: Lists,
+    },
+    /// `linsim play FILE [--table T] [--capacity N] [--to FORMAT]`
+    Play {
+        file: &'a str,
+        table: Option<&'a str>,
+        capacity: u16,
+        format: Format,
     },
     /// `linsim replay [FILE] [--table T] [--capacity N] [--to FORMAT]`
     Replay {
@@ -218,6 +242,12 @@ fn request_of<'a>(matches: &ArgMatches<'a>) -> Option<Request<'a>> {
                 frames: found.get_flag("frames"),
                 slots: found.get_flag("slots"),
             },
+        }),
+        Some(("play", found)) => Some(Request::Play {
+            file: found.get_str("file").unwrap_or(""),
+            table: found.get_str("table"),
+            capacity: found.get_one::<u16>("capacity").unwrap_or(16),
+            format: format_of(found.get_str("to")),
         }),
         Some(("replay", found)) if found.get_flag("same") => Some(Request::Compare {
             file: found.get_str("file"),

@@ -33,15 +33,31 @@ struct Terminals {
     error: bool,
 }
 
-/// Does what is asked for; where standard error is watched, a run says there that it begins.
-fn perform<R: AllocGlobal + Files + Input + Print + Eprint + Threads + Wait>(
+/// Does what is asked for; where standard error is watched, a run says there that it begins. A play
+/// says there what is wrong with its script.
+fn perform<R: AllocGlobal + Files + Input + Print + Eprint + Threads + Wait, W: Write>(
     rt: &R,
     request: Request<'_>,
     is_watched: bool,
     notes: &mut Notes<'_>,
+    errors: &mut W,
 ) -> Result<(), Fault> {
     match request {
         Request::Check { file, lists } => lin_tool::check(rt, file, lists, notes),
+        Request::Play {
+            file,
+            table,
+            capacity,
+            format,
+        } => lin_tool::play(
+            rt,
+            file,
+            table,
+            within_limits(capacity),
+            format,
+            errors,
+            notes,
+        ),
         Request::Replay {
             file,
             table,
@@ -76,7 +92,10 @@ fn perform<R: AllocGlobal + Files + Input + Print + Eprint + Threads + Wait>(
 fn is_read(request: Request<'_>) -> bool {
     match request {
         Request::Check { file, .. } => file == "-",
-        Request::Replay { .. } | Request::Compare { .. } | Request::Run { .. } => true,
+        Request::Play { .. }
+        | Request::Replay { .. }
+        | Request::Compare { .. }
+        | Request::Run { .. } => true,
     }
 }
 
@@ -93,7 +112,7 @@ fn answer<R: AllocGlobal + Files + Input + Print + Eprint + Threads + Wait, W: W
         let _ = eprintln!(rt; "linsim: reads from the terminal, up to its end (Ctrl-D)");
     }
     let mut notes = Notes::new(rt.alloc(), wanted);
-    let done = perform(rt, request, terminals.error, &mut notes);
+    let done = perform(rt, request, terminals.error, &mut notes, errors);
     let _ = notes.write(done.as_ref().err(), errors);
     match done {
         Ok(()) => ExitCode::SUCCESS,
