@@ -21,7 +21,9 @@ use std::alloc::{AllocError, AllocFailed};
 #[derive(Debug, Drop)]
 pub enum Fault {
     /// The script's first line that is in no form, counted from 1.
-    BadLine { line: u64 },
+    BadLine {
+        line: u64,
+    },
     /// The LDF text has a fault.
     Ldf(LdfFault),
     /// The LDF text describes no cluster: a line for each reason.
@@ -32,7 +34,9 @@ pub enum Fault {
     ScriptTooLong,
     /// The script's first step, counted from 0, that is none of a host of the cluster by its own
     /// port.
-    NotHostStep { index: usize },
+    NotHostStep {
+        index: usize,
+    },
     /// The cluster has no schedule table of the name that the command line gives.
     NoSuchTable,
     OutOfMemory,
@@ -48,7 +52,9 @@ pub enum Fault {
     LogFull,
     /// A script isn't the text of its own history. Here is its first line, counted from 1, that
     /// differs from that text.
-    LogDiffers { line: u64 },
+    LogDiffers {
+        line: u64,
+    },
     /// A bench script's first line that is bad, counted from 1. Why it is was told where the script
     /// was played, if that could be written.
     BadBenchLine {
@@ -56,10 +62,14 @@ pub enum Fault {
         told: Result<(), WriteFailed>,
     },
     /// By this line, counted from 1, a bench script makes more than 1,000,000 slots.
-    SlotLimit { line: u64 },
+    SlotLimit {
+        line: u64,
+    },
     /// Expectations of a bench script aren't met. Which they are was told where it was played, if
     /// that could be written.
-    Unmet { told: Result<(), WriteFailed> },
+    Unmet {
+        told: Result<(), WriteFailed>,
+    },
 }
 
 impl Fault {
