@@ -1,5 +1,12 @@
 //! Bench scripts: what a person writes to make slots on a cluster and to say what is expected of
 //! them.
+//!
+//! ```
+//! // a message, the slots that it takes, and what is expected
+//! let lines = read(alloc, &cluster, b"send cem door 3E\nslots idle\nexpect sent cem\n")?;
+//! let Played { core, unmet } = play(alloc, cluster, table, capacity, lines)?;
+//! write_unmet(core.cluster(), unmet.as_slice(), &mut errors)?;
+//! ```
 #![tactic(auto)]
 
 mod expectations;
