@@ -93,15 +93,6 @@ struct NodeNames<'a> {
     blocks: ByName<'a, Attributes>,
 }
 
-fn node_names<'a>(alloc: Global, description: &'a Description) -> Result<NodeNames<'a>, AllocError>
-    ensures slaves { IfOk result (λ n. n.slaves ≡ description.now.slaves) }
-    ensures blocks { IfOk result (λ n. n.blocks ≡ description.now.attributes) }
-{
-    let slaves = ByName::new(alloc, description.slaves())?;
-    let blocks = ByName::new(alloc, description.attributes())?;
-    Ok(NodeNames { slaves, blocks })
-}
-
 /// A description and what its names name. Contracts see the description.
 pub(super) struct Known<'a> {
     description: &'a Description,
@@ -144,13 +135,14 @@ impl<'a> Known<'a> {
         ensures { IfOk result (λ k. k ≡ description.now) }
     {
         let kinds = frame_names(alloc, description)?;
-        let nodes = node_names(alloc, description)?;
+        let slaves = ByName::new(alloc, description.slaves())?;
+        let blocks = ByName::new(alloc, description.attributes())?;
         let signals = ByName::new(alloc, description.signals())?;
         let tables = ByName::new(alloc, description.tables())?;
         let has_version_1 = has_version_1(description);
         Ok(Known {
             description,
-            nodes,
+            nodes: NodeNames { slaves, blocks },
             signals,
             kinds,
             tables,
