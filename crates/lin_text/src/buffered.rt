@@ -97,7 +97,9 @@ impl<'a, W: Write> TextWriter<'a, W> {
     pub fn put_byte(&mut self, byte: u8)
         ensures { Grows W.contents self.old self.new (byte ∷ []) }
     {
-        self.put(&[byte]);
+        if self.buffer.try_push(byte).is_err() {
+            self.put_over(&[byte]);
+        }
     }
 
     /// Puts an integer in decimal digits.
