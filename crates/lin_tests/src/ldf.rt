@@ -1,5 +1,6 @@
 //! LDF texts: their tokens, and the descriptions that they spell.
 
+mod beginnings;
 mod faults;
 mod gaps;
 mod listing;

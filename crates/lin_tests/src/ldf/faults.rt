@@ -79,6 +79,42 @@ fn end_of_the_text(rt: HostRuntime) -> Result<(), Fail> {
     )
 }
 
+/// A fault of the tokens after one of the grammar, before it and at it: that of the tokens is the first one.
+const BOTH_KINDS: &str = "Frames ; \" => 6:10 fault 3 OpenText
+Frames ; x /* => 6:12 fault 2 OpenComment
+Frames {} Frames {} \x7F => 6:21 fault 1 BadByte
+x { } } \x7F \" => 6:9 fault 1 BadByte
+Signals { a: 8, 5000000000, m; a: 8, 1, m; } /*/ => 6:46 fault 2 OpenComment
+\x7F Frames ; => 6:1 fault 1 BadByte
+Frames { \x7F ; => 6:10 fault 1 BadByte
+Frames { /* ; => 6:10 fault 2 OpenComment
+Frames \x7F => 6:8 fault 1 BadByte
+Frames \"{ => 6:8 fault 3 OpenText
+Frames /* { => 6:8 fault 2 OpenComment
+";
+
+/// Faults at the last byte.
+const AT_THE_LAST_BYTE: &str = "\x7F => 6:1 fault 1 BadByte
+Frames {}\x7F => 6:10 fault 1 BadByte
+Frames {}\" => 6:10 fault 3 OpenText
+Frames {}/* => 6:10 fault 2 OpenComment
+Frames {}/ => 6:10 fault 4 Unexpected
+Frames {}; => 6:10 fault 4 Unexpected
+Frames {}} => 6:10 fault 4 Unexpected
+Frames {}{ => 6:10 fault 4 Unexpected
+Frames {}x => 6:11 fault 4 Unexpected
+Frames { f => 6:11 fault 4 Unexpected
+Frames { f: 5000000000 => 6:13 fault 5 NumberTooLarge
+Signals { a: 8, 1, m; a => 6:23 fault 7 NameTwice
+Frames {} Frames => 6:11 fault 6 SectionTwice
+";
+
+#[test]
+fn faults_of_both_kinds(rt: HostRuntime) -> Result<(), Fail> {
+    expect_outcomes(&rt, rt.alloc(), HEADER, BOTH_KINDS)?;
+    expect_outcomes(&rt, rt.alloc(), HEADER, AT_THE_LAST_BYTE)
+}
+
 /// Sections in any order, each used one once.
 const SECTIONS: &str = " => accepted
 Signals {} Signals => 6:12 fault 6 SectionTwice

@@ -1,7 +1,7 @@
 //! Texts that lack a token or their end.
 
 use super::outcomes::outcome;
-use crate::samples::{DOOR_CLUSTER, HEADER, add_place, joined};
+use crate::samples::{HEADER, add_place, joined};
 use lin_ldf::{Token, lex};
 use std::alloc::Global;
 use std::process::Abort;
@@ -29,7 +29,7 @@ fn distance(letter: u8) -> usize {
 }
 
 /// The line and column after the last byte of a text.
-fn end_of(text: &[u8]) -> (u64, u64) {
+pub(super) fn end_of(text: &[u8]) -> (u64, u64) {
     let mut line = 1u64;
     let mut column = 1u64;
     for c in text {
@@ -127,35 +127,4 @@ const HEADER_AND_NODES: &str =
 fn tokens_that_lack(rt: HostRuntime) -> Result<(), Fail> {
     expect_all_gaps(&rt, rt.alloc(), b"", HEADER_AND_NODES)?;
     expect_all_gaps(&rt, rt.alloc(), HEADER, SECTIONS)
-}
-
-/// What the outcome ends with where the text is its first `length` bytes; it is accepted up to the
-/// last brace of its lines 5, 6 and 7, and up to their ends.
-fn wanted_end(length: usize, is_open_text: bool) -> &'static [u8] {
-    match length {
-        155 | 156 | 229 | 230 | 304 | 305 => b"accepted",
-        _ if is_open_text => b" fault 3 OpenText",
-        _ => b" fault 4 Unexpected",
-    }
-}
-
-fn expect_end(rt: &impl Abort, alloc: Global, text: &[u8], is_open_text: bool) -> Result<(), Fail> {
-    let found = outcome(alloc, text)?;
-    let length = text.len();
-    assert!(rt;
-        found.as_bytes().ends_with(wanted_end(length, is_open_text)),
-        "of {length} bytes"
-    );
-    Ok(())
-}
-
-#[test]
-fn beginnings_of_a_text(rt: HostRuntime) -> Result<(), Fail> {
-    let mut is_open_text = false;
-    for (i, c) in DOOR_CLUSTER.iter().enumerate() {
-        let text = DOOR_CLUSTER.get(..i).unwrap_or(b"");
-        expect_end(&rt, rt.alloc(), text, is_open_text)?;
-        is_open_text = is_open_text != (*c == b'"');
-    }
-    expect_end(&rt, rt.alloc(), DOOR_CLUSTER, is_open_text)
 }
