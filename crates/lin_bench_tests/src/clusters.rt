@@ -1,0 +1,57 @@
+//! Clusters of LDF texts, and bench scripts played on them.
+
+use lin_bench::{Line, PlayFault, Played, ReadFault, play, read, write_unmet};
+use lin_cluster::check;
+use lin_cluster_parts::Cluster;
+use lin_ldf::parse;
+use std::alloc::Global;
+use std::test::Fail;
+
+/// The cluster of an LDF text.
+pub fn cluster_of(alloc: Global, ldf: &[u8]) -> Result<Cluster, Fail> {
+    let description = parse(alloc, ldf)?;
+    Ok(check(alloc, description)?)
+}
+
+/// The lines of a text, or its fault.
+pub fn read_text(
+    alloc: Global,
+    cluster: &Cluster,
+    text: &[u8],
+) -> Result<Result<Vec<(u64, Line)>, ReadFault>, Fail> {
+    if text.len() > 16_777_216 {
+        return Err(Fail::from("too long"));
+    }
+    Ok(read(alloc, cluster, text))
+}
+
+/// The lines of a text.
+pub fn lines_of(alloc: Global, cluster: &Cluster, text: &[u8]) -> Result<Vec<(u64, Line)>, Fail> {
+    match read_text(alloc, cluster, text)? {
+        Ok(lines) => Ok(lines),
+        Err(ReadFault::OutOfMemory) => Err(Fail::from("OutOfMemory")),
+        Err(ReadFault::BadLine { .. }) => Err(Fail::from("not read")),
+    }
+}
+
+/// A text, played on the first table of a cluster.
+pub fn played(alloc: Global, ldf: &[u8], text: &[u8]) -> Result<Played, Fail> {
+    let cluster = cluster_of(alloc, ldf)?;
+    let lines = lines_of(alloc, &cluster, text)?;
+    if cluster.tables() == 0 {
+        return Err(Fail::from("no table"));
+    }
+    match play(alloc, cluster, 0, 16, lines) {
+        Ok(played) => Ok(played),
+        Err(PlayFault::SlotLimit { .. }) => Err(Fail::from("slot limit")),
+        Err(PlayFault::LogFull | PlayFault::OutOfMemory) => Err(Fail::from("OutOfMemory")),
+    }
+}
+
+/// The lines of the expectations of a text that aren't met.
+pub fn unmet_of(alloc: Global, ldf: &[u8], text: &[u8]) -> Result<Vec<u8>, Fail> {
+    let played = played(alloc, ldf, text)?;
+    let mut written = Vec::new(alloc);
+    write_unmet(played.core.cluster(), played.unmet.as_slice(), &mut written)?;
+    Ok(written)
+}
