@@ -2,3 +2,4 @@
 pub mod Rows
 pub mod SignalRows
 pub mod TransportRows
+pub mod ToAllRows

@@ -7,6 +7,7 @@ use Rattle.std.specs.Option.{option_map_or}
 use Rattle.lin_frame.specs.Words.{numbers}
 use Rattle.lin_frame.specs.Frame.{is_answer}
 use Rattle.lin_frame.specs.Bits.{fits_place}
+use Rattle.lin_transport.specs.Transport.{functional}
 use Rattle.lin_cluster_parts.specs.Cluster.{nodes, nad, line_of, signal_of}
 use Rattle.lin_cluster_parts.specs.Rules.{place_at}
 use Rattle.lin_core.specs.History.{Slot as OpenSlot, open_slot, asleep, is_host_closed, seen_of}
@@ -46,11 +47,21 @@ may (Node n) (Answer node) = node == n
 may (Node n) (Leave node) = node == n
 may (Node n) step = false
 
--- exactly one of sender and receiver is host 0, and the other one has an address
+-- whether a responder has an address
+abbrev pub is_addressed : Parts → Bool
+is_addressed c = list_any (λ n. is_some (nad c n)) (numbers (nodes c))
+
+-- exactly one of sender and receiver is host 0, and the other one has an address; or host 0 sends to
+-- all responders, and one of them has an address
 abbrev pub has_address : Parts → ℕ → ℕ → Bool
 has_address c from to =
-    (from == 0 && not (to == 0) && is_some (nad c to))
+    if to == functional then from == 0 && is_addressed c
+    else (from == 0 && not (to == 0) && is_some (nad c to))
     || (to == 0 && not (from == 0) && is_some (nad c from))
+
+-- the most bytes of a message to a receiver: to all responders those of a single frame
+abbrev pub longest : ℕ → ℕ
+longest to = if to == functional then 6 else 4095
 
 abbrev pub is_open : List LogEntry → Bool
 is_open past = is_some (open_slot past)
@@ -70,7 +81,7 @@ passes_in c s answer bytes =
     (λ h. is_answer (model_of c (line_of c s.table s.entry).entry h) h (length answer - 1) bytes)
     s.header false
 
--- the message that is begun on a link
+-- the message that is begun on a link; one to all is never begun
 abbrev pub begun_on : Parts → List LogEntry → ℕ → Direction → Option Sending
 begun_on c past n d =
     find (λ s. same_link s.message.link (link_at n d) && is_begun c s)
@@ -88,9 +99,9 @@ response_refusals c past allowed node =
 -- the conditions under which a step is refused, in the order of their numbers
 abbrev pub refusals : Parts → ℕ → List LogEntry → PortId → Step → List (Refusal × Bool)
 refusals c capacity past port (Send from to message) =
-    (NoSuchNode, nat_le (nodes c) from || nat_le (nodes c) to)
+    (NoSuchNode, nat_le (nodes c) from || (nat_le (nodes c) to && not (to == functional)))
     ∷ (NoAddress, not (has_address c from to))
-    ∷ (BadLength, length message == 0 || nat_lt 4095 (length message))
+    ∷ (BadLength, length message == 0 || nat_lt (longest to) (length message))
     ∷ (Closed, is_host_closed past from)
     ∷ (QueueFull, nat_le capacity (length (waiting c past from)))
     ∷ (NotYours, not (may port (Send from to message)))

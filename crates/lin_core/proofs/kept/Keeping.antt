@@ -94,9 +94,8 @@ pub send-room : (c : Parts) (capacity : ℕ) (past : List LogEntry) (by : PortId
     → (from < nodes c) × (length (waiting c past from) < capacity)
 send-room c capacity past by from to message h =
     let all : AllFalse (refusals c capacity past by (Send from to message)) = none-of (refusals c capacity past by (Send from to message)) h
-    in let one : (nat_le (nodes c) from || nat_le (nodes c) to) ≡ false = all.0
     in let two : nat_le capacity (length (waiting c past from)) ≡ false = all.1.1.1.1.0
-    in let far : nat_le (nodes c) from ≡ false = (both-false (nat_le (nodes c) from) (nat_le (nodes c) to) one).0
+    in let far : nat_le (nodes c) from ≡ false = (both-false (nat_le (nodes c) from) _ all.0).0
     in (grind (arith, nat_tests, far), grind (arith, nat_tests, two))
 
 accepted-one : (past : List LogEntry) (e : LogEntry) (from x : ℕ) (m : Message) (b : Bool) → (from == x) ≡ b → option_map_or (sent_from x) (done e) None ≡ (if from == x then Some m else None)

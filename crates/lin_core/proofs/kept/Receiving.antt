@@ -12,8 +12,8 @@ use Rattle.lin_cluster_parts.specs.Cluster.{nad}
 use Rattle.lin_cluster_parts.specs.Sound.{IsSound}
 use Rattle.lin_cluster_parts.specs.declared.parts.Parts.{Parts}
 use Rattle.lin_core.specs.History.{Slot, is_sleep_asked, open_slot}
-use Rattle.lin_core.specs.kept.Receivers.{AreReset, HearsOn, IsReset, KeepsHeard, KeepsReceiver, opposite, receiver_in}
-use Rattle.lin_core.specs.Links.{Link, Message, accepted_from, address, ear_on, goes_over, heard_on, is_to_all, reading, same_link, signs}
+use Rattle.lin_core.specs.kept.Receivers.{AreAlike, AreReset, HearAll, HearsOn, HearsToo, IsReset, KeepsHeard, KeepsReceiver, opposite, receiver_in}
+use Rattle.lin_core.specs.Links.{Link, Message, accepted_from, address, ear_on, goes_over, heard_on, is_down, is_to_all, reading, same_link, signs}
 use Rattle.lin_core.specs.kept.Slots.{is_still, pdu_of}
 use Rattle.lin_core.specs.Replies.{link_at}
 use Rattle.lin_core.specs.Slots.{with_classic}
@@ -31,7 +31,7 @@ use Rattle.lin_core.proofs.links.Finishes.{IsPlace, empty-quiet, finish-heard, f
 use Rattle.lin_core.proofs.sendings.Hosts.{CanGo, IsLink, same-self}
 use Rattle.lin_core.proofs.steps.Known.{Known, SlotIs, entry_is, has-nad, place-of}
 use Rattle.lin_core.proofs.steps.Known.SlotIs.{carries, closed, master, other, slave, sleep}
-use Rattle.lin_core.proofs.sendings.Moves.{heard_by, over-is, over-self, record_of, same-is}
+use Rattle.lin_core.proofs.sendings.Moves.{heard_by, over-all, over-host, over-is, over-self, record_of, same-is, to-all-is}
 use Rattle.lin_core.proofs.kept.Places.{get-there, set-other, set-own}
 use Rattle.lin_core.proofs.steps.Steps.{first-go}
 use Rattle.lin_core.proofs.sendings.Turns.{pdu-frame, other-pdu}
@@ -99,9 +99,7 @@ pub record CarriesFrame (c : Parts) (past : List LogEntry) (by : PortId) (k : Kn
   pub message : Message
   pub later : List Message
   pub first : (k.states h).rest ≡ message ∷ later
-  pub link : IsLink c h message.link
-  pub one : is_to_all message.link ≡ false
-  pub looks : looks_at (ear_on c message.link) (address c message.link) ≡ true
+  pub go : CanGo c h message
   pub puts : s.puts ≡ (h, with_classic (frame (address c message.link) message.bytes (k.states h).count)) ∷ []
   pub heard : (es : List Event) (l : Link) → is_some (nad c l.node) ≡ true
       → heard_on c (entry_is by Finish es ∷ past) l ≡ (if goes_over message.link l then heard_by s.hurt (frame (address c message.link) message.bytes (k.states h).count) else []) ++ heard_on c past l
@@ -128,9 +126,7 @@ frame-by c past by sound k (Some _) s h is (carries table entry due left hurt g 
       message = m;
       later = ms;
       first = r;
-      link = go.link;
-      one = go.one;
-      looks = (go.meant m.link go.link (over-self m.link)).heard;
+      go = go;
       puts = rw n (ap (λ (x : ℕ). (x, with_classic f) ∷ []) host);
       heard = λ es l b. rw n (finish-heard c past by es t l is ∙ ap (λ (x : List Heard). x ++ heard_on c past l) (frame-adds c table entry due left hurt m.link l f sound place (has-nad c l.node b) (frame-is (address c m.link) m.bytes j)).heard);
     }
@@ -221,19 +217,20 @@ pub record HeardFrame (c : Parts) (past past' : List LogEntry) (l : Link) (given
   pub keeps : KeepsHeard c past' rs
   pub gains : drop (length (reading c past l)) (reading c past' l) ≡ option_to_list given
 
-pub heard-frame : (c : Parts) (past : List LogEntry) (by : PortId) (es : List Event) (k : Known c past) (s : Slot) (h : ℕ) (i : CarriesFrame c past by k s h) (given : Option (List ℕ)) (rs rs' : List Receivers) → s.hurt ≡ false
+pub heard-frame : (c : Parts) (past : List LogEntry) (by : PortId) (es : List Event) (k : Known c past) (s : Slot) (h : ℕ) (i : CarriesFrame c past by k s h) (given : Option (List ℕ)) (rs rs' : List Receivers) → s.hurt ≡ false → is_to_all i.message.link ≡ false
     → HearsOn i.message.link (frame (address c i.message.link) i.message.bytes (k.states h).count) given rs rs' → KeepsHeard c past rs → HeardFrame c past (entry_is by Finish es ∷ past) i.message.link given rs'
-heard-frame c past by es k s h i given rs rs' calm on kept =
+heard-frame c past by es k s h i given rs rs' calm one on kept =
     let l : Link = i.message.link
+    in let link : IsLink c h l = i.go.one one
     in let e : Ear = ear_on c l
     in let n : ℕ = address c l
     in let f : List ℕ = frame n i.message.bytes (k.states h).count
     in let past' : List LogEntry = entry_is by Finish es ∷ past
     in let before : List Heard = heard_on c past l
-    in let heard : heard_on c past' l ≡ Frame f ∷ before = i.heard es l i.link.address ∙ rw (over-self l, calm) refl
-    in let was : KeepsReceiver c past l (receiver_in l.dir on.was) = kept.each l.node on.was l.dir on.there i.link.address
+    in let heard : heard_on c past' l ≡ Frame f ∷ before = i.heard es l link.address ∙ rw (over-self l, calm) refl
+    in let was : KeepsReceiver c past l (receiver_in l.dir on.was) = kept.each l.node on.was l.dir on.there link.address
     in let hears : Reads (receiver_in l.dir on.was) f before given (receiver_in l.dir on.is) = on.hears before was.stands
-    in let looks : looks_at e (slice_index f 0) ≡ true = rw (frame-address n i.message.bytes (k.states h).count) (i.looks)
+    in let looks : looks_at e (slice_index f 0) ≡ true = rw (frame-address n i.message.bytes (k.states h).count) ((i.go.meant l link (over-self l)).heard)
     in let all : heard_to e f before ≡ heard_on c past' l = heard-to e f before looks ∙ sym heard
     in let read : messages_to e (heard_to e f before) ≡ messages_to e before ++ option_to_list given
     = subst (λ (x : Ear). messages_to x (heard_to x f before) ≡ messages_to x before ++ option_to_list given) was.ear_is hears.reads
@@ -242,9 +239,70 @@ heard-frame c past by es k s h i given rs rs' calm on kept =
     = subst (λ (x : List Heard). HasHeard (receiver_in l.dir on.is) x) all (subst (λ (x : Ear). HasHeard (receiver_in l.dir on.is) (heard_to x f before)) was.ear_is hears.stands)
     in record {
       keeps = rw on.set (heard-one c past past' rs l on.was on.is on.there (record { ear_is = hears.ear ∙ was.ear_is; stands = stands }) on.other
-          (λ x a differ. i.heard es x a ∙ rw (other-link l x (goes_over l x) i.one refl differ) refl) kept);
+          (λ x a differ. i.heard es x a ∙ rw (other-link l x (goes_over l x) one refl differ) refl) kept);
       gains = ap (drop (length (reading c past l))) reads ∙ drop_at (reading c past l) (option_to_list given) (length (reading c past l)) refl;
     }
+
+-- room alone was made
+pub heard-alike : (c : Parts) (past : List LogEntry) (rs new : List Receivers) → AreAlike rs new → KeepsHeard c past rs → KeepsHeard c past new
+heard-alike c past rs new alike k = record {
+  count = alike.count ∙ k.count;
+  each = λ h y d at a.
+      let below : h < length new = slice_get_within new h y at in
+      let count = alike.count in
+      let x = get-there rs h (omega arith) in
+      let same = alike.each h d x.0 y x.1 at in
+      let was : KeepsReceiver c past (link_at h d) (receiver_in d x.0) = k.each h x.0 d x.1 a in
+      record { ear_is = same.0 ∙ was.ear_is; stands = rw (same.0, same.1) was.stands };
+}
+
+-- == a good frame to all is heard
+all-dir : (c : Parts) (past past' : List LogEntry) (h : ℕ) (d : Direction) (m : Message) (f : List ℕ) (x y : Receivers) → HearsToo f x y → goes_over m.link (link_at h d) ≡ is_down d
+    → (heard_on c past' (link_at h d) ≡ (if goes_over m.link (link_at h d) then Frame f ∷ [] else []) ++ heard_on c past (link_at h d))
+    → (d ≡ Down → looks_at (ear_on c (link_at h d)) (slice_index f 0) ≡ true) → KeepsReceiver c past (link_at h d) (receiver_in d x) → KeepsReceiver c past' (link_at h d) (receiver_in d y)
+all-dir c past past' h Up m f x y hears over heard looks was =
+    subst (KeepsReceiver c past' (link_at h Up)) (sym hears.up) (receiver-same c past past' (link_at h Up) x.up (heard ∙ rw over refl) was)
+all-dir c past past' h Down m f x y hears over heard looks was =
+    let l : Link = link_at h Down
+    in let before : List Heard = heard_on c past l
+    in let all : heard_to (ear_on c l) f before ≡ heard_on c past' l = heard-to (ear_on c l) f before (looks refl) ∙ sym (heard ∙ rw over refl)
+    in record {
+      ear_is = hears.ear before was.stands ∙ was.ear_is;
+      stands = subst (λ (z : List Heard). HasHeard y.down z) all (subst (λ (e : Ear). HasHeard y.down (heard_to e f before)) was.ear_is (hears.down before was.stands));
+    }
+
+pub to-all-heard : (c : Parts) (past : List LogEntry) (by : PortId) (es : List Event) (k : Known c past) (s : Slot) (h : ℕ) (i : CarriesFrame c past by k s h) (rs new : List Receivers) → s.hurt ≡ false → is_to_all i.message.link ≡ true
+    → HearAll c (frame (address c i.message.link) i.message.bytes (k.states h).count) rs new → KeepsHeard c past rs → KeepsHeard c (entry_is by Finish es ∷ past) new
+to-all-heard c past by es k s h i rs new calm all hears kept =
+    let to : Link = i.message.link
+    in let f : List ℕ = frame (address c to) i.message.bytes (k.states h).count
+    in let past' : List LogEntry = entry_is by Finish es ∷ past
+    in let over : (n : ℕ) (d : Direction) → goes_over to (link_at n d) ≡ is_down d = λ n d. ap (λ (x : Link). goes_over x (link_at n d)) (to-all-is to.node to.dir all) ∙ over-all n d
+    in let heard : (l : Link) → is_some (nad c l.node) ≡ true → heard_on c past' l ≡ (if goes_over to l then Frame f ∷ [] else []) ++ heard_on c past l = λ l a. i.heard es l a ∙ rw calm refl
+    in let looks : (n : ℕ) → is_some (nad c n) ≡ true → looks_at (ear_on c (link_at n Down)) (slice_index f 0) ≡ true
+    = λ n a. rw (frame-address (address c to) i.message.bytes (k.states h).count) ((i.go.meant (link_at n Down) (record { host = sym (over-host to (link_at n Down) (over n Down)) ∙ i.go.host; address = a }) (over n Down)).heard)
+    in record {
+      count = hears.count ∙ kept.count;
+      each = λ n y d at a.
+          let below : n < length new = slice_get_within new n y at in
+          let count = hears.count in
+          let x = get-there rs n (omega arith) in
+          all-dir c past past' n d i.message f x.0 y (hears.each n x.0 y x.1 at a) (over n d) (heard (link_at n d) a)
+          (λ e. subst (λ (z : Direction). looks_at (ear_on c (link_at n z)) (slice_index f 0) ≡ true) (sym e) (looks n a)) (kept.each n x.0 d x.1 a);
+    }
+
+-- what a receiver down has heard then
+pub all-adds : (c : Parts) (past : List LogEntry) (by : PortId) (es : List Event) (k : Known c past) (s : Slot) (h : ℕ) (i : CarriesFrame c past by k s h) → s.hurt ≡ false → is_to_all i.message.link ≡ true → (n : ℕ) → is_some (nad c n) ≡ true
+    → (goes_over i.message.link (link_at n Down) ≡ true)
+    × (heard_to (ear_on c (link_at n Down)) (frame (address c i.message.link) i.message.bytes (k.states h).count) (heard_on c past (link_at n Down)) ≡ heard_on c (entry_is by Finish es ∷ past) (link_at n Down))
+all-adds c past by es k s h i calm all n a =
+    let to : Link = i.message.link
+    in let l : Link = link_at n Down
+    in let f : List ℕ = frame (address c to) i.message.bytes (k.states h).count
+    in let over : goes_over to l ≡ true = ap (λ (x : Link). goes_over x l) (to-all-is to.node to.dir all) ∙ over-all n Down
+    in let looks : looks_at (ear_on c l) (slice_index f 0) ≡ true
+    = rw (frame-address (address c to) i.message.bytes (k.states h).count) ((i.go.meant l (record { host = sym (over-host to l over) ∙ i.go.host; address = a }) over).heard)
+    in (over, heard-to (ear_on c l) f (heard_on c past l) looks ∙ sym (i.heard es l a ∙ rw (over, calm) refl))
 
 -- the message that was given, where it is the one that is gained
 pub only-given : (o : Option (List ℕ)) (m : List ℕ) → option_to_list o ≡ m ∷ [] → o ≡ Some m

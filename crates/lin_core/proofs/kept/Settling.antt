@@ -94,7 +94,7 @@ marked-other c t cause done [] (suc j) h x g own differ = (refl, refl)
 marked-other c t cause done (m ∷ ms) (suc j) h x g own differ = by-test (t m.link) refl
   where
     by-test : (b : Bool) → t m.link ≡ b → ((marked t cause done (m ∷ ms) (suc j)).rest ≡ m ∷ ms) × ((marked t cause done (m ∷ ms) (suc j)).count ≡ suc j)
-    by-test true e = absurd (differ (sym (own m.link e) ∙ g.0.link.host))
+    by-test true e = absurd (differ (sym (own m.link e) ∙ g.0.host))
     by-test false e = (rw e refl, rw e refl)
 
 -- and settles the message that is begun on it

@@ -151,7 +151,7 @@ finish-messages c port past l sound a =
     (append-nil (new_for c e past l ++ []) ∙ append-nil (new_for c e past l))
 
 -- readings only grow, and by what is told
-grows-reading : (c : Parts) (past past' : List LogEntry) (l : Link) → is_some (nad c l.node) ≡ true → (k : Known c past) (k' : Known c past') (g : Grows (k.states (host_of l)) (k'.states (host_of l)))
+pub grows-reading : (c : Parts) (past past' : List LogEntry) (l : Link) → is_some (nad c l.node) ≡ true → (k : Known c past) (k' : Known c past') (g : Grows (k.states (host_of l)) (k'.states (host_of l)))
     → reading c past' l ≡ reading c past l ++ drop (length (reading c past l)) (reading c past' l)
 grows-reading c past past' l a k k' g =
     let i : IsLink c (host_of l) l = record { host = refl; address = a }

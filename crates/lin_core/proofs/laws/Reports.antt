@@ -9,7 +9,7 @@ use Rattle.lin_frame.specs.Words.{numbers}
 use Rattle.lin_cluster_parts.specs.declared.parts.Parts.{Parts}
 use Rattle.lin_cluster_parts.specs.Cluster.{nodes, line_of}
 use Rattle.lin_core.specs.History.{Slot, open_slot, is_sleep_asked, seen_of}
-use Rattle.lin_core.specs.Links.{Link, same_link, link_of, Message, host_of, accepted_from, Sign, Fate, blocks, waits, reading, is_waiting, Sending, sendings, sendings_from, fate_of}
+use Rattle.lin_core.specs.Links.{Link, same_link, link_of, Message, host_of, home, accepted_from, Sign, Fate, blocks, waits, reading, is_waiting, Sending, sendings, sendings_from, fate_of}
 use Rattle.lin_core.specs.Slots.{put, due_nodes, next_due}
 use Rattle.lin_core.specs.Replies.{refusal, refusals, put_event, opening_events, done_events, reply, receiver_of, report, reports, all_reports, new_messages, all_links, finish_events, quiet_entry, sleeps}
 use Rattle.lin_cluster_parts.specs.Sound.{IsSound}
@@ -168,8 +168,8 @@ host-below c h node Up l = let z : node ≡ h = l.host in let n = index-some c.n
 
 none-accepted : (c : Parts) (h : ℕ) (done : List (Message × Fate)) (rest : List Message) → nodes c ≤ h → AllDone c h done → AllCanGo c h rest → map message_of done ++ rest ≡ []
 none-accepted c h [] [] l d g = refl
-none-accepted c h [] (m ∷ ms) l d g = absurd (let b = host-below c h m.link.node m.link.dir g.0.link in omega arith)
-none-accepted c h (p ∷ ps) rest l d g = absurd (let b = host-below c h p.0.link.node p.0.link.dir d.0.go.link in omega arith)
+none-accepted c h [] (m ∷ ms) l d g = absurd (let b = host-below c h (home c m.link).node (home c m.link).dir g.0.home_is in omega arith)
+none-accepted c h (p ∷ ps) rest l d g = absurd (let b = host-below c h (home c p.0.link).node (home c p.0.link).dir d.0.go.home_is in omega arith)
 
 reports-nothing : (c : Parts) (e : LogEntry) (past : List LogEntry) (h : ℕ) → accepted_from past h ≡ [] → reports c e past h ≡ []
 reports-nothing c e past h n = rw n

@@ -57,12 +57,13 @@ pub record IsLink (c : Parts) (h : ℕ) (l : Link) : Type 0 where
 
 -- a message of a host: it has a home link, and the receiver of each link that it goes over is meant by its frames
 pub record CanGo (c : Parts) (h : ℕ) (m : Message) : Type 0 where
-  pub link : IsLink c h m.link
-  pub one : is_to_all m.link ≡ false
+  pub host : host_of m.link ≡ h
   pub home_is : IsLink c h (home c m.link)
   pub over : goes_over m.link (home c m.link) ≡ true
   pub can : CanSend m.bytes
   pub meant : (l : Link) → IsLink c h l → goes_over m.link l ≡ true → IsFor (ear_on c l) (addressed c m)
+  pub several : 1 < frame_count (length m.bytes) → is_to_all m.link ≡ false
+  pub one : is_to_all m.link ≡ false → IsLink c h m.link
 
 abbrev pub AllCanGo : Parts → ℕ → List Message → Type 0
 AllCanGo c h [] = ⊤
@@ -79,11 +80,11 @@ AllDone c h (p ∷ ps) = IsDone c h p × AllDone c h ps
 abbrev pub message_of : Message × Fate → Message
 message_of p = p.0
 
--- where nothing waits, nothing is begun
+-- where nothing waits, nothing is begun, and what is begun goes to one
 abbrev pub IsCount : List Message → ℕ → Type 0
 IsCount rest zero = ⊤
 IsCount [] (suc j) = ⊥
-IsCount (m ∷ ms) (suc j) = ⊤
+IsCount (m ∷ ms) (suc j) = is_to_all m.link ≡ false
 
 pub record HostIs (c : Parts) (h : ℕ) (accepted : List Message) (heard : Link → List Heard) (signs : Link → List Sign) (s : HostState) : Type 0 where
   pub accepted_is : accepted ≡ map message_of s.done ++ s.rest

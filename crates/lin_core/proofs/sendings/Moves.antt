@@ -181,10 +181,11 @@ advanced-go c h true last done m ms k g = g.1
 advanced-go c h false true done m ms k g = g.1
 advanced-go c h false false done m ms k g = g
 
-pub advanced-counts : (hurt last : Bool) (done : List (Message × Fate)) (m : Message) (ms : List Message) (k : ℕ) → IsCount (advanced hurt last done m ms k).rest (advanced hurt last done m ms k).count
-advanced-counts true last done m ms k = tt
-advanced-counts false true done m ms k = tt
-advanced-counts false false done m ms k = tt
+pub advanced-counts : (c : Parts) (h : ℕ) (hurt last : Bool) (done : List (Message × Fate)) (m : Message) (ms : List Message) (k : ℕ) → CanGo c h m → k < frame_count (length m.bytes) → is_last m.bytes k ≡ last
+    → IsCount (advanced hurt last done m ms k).rest (advanced hurt last done m ms k).count
+advanced-counts c h true last done m ms k g less x = tt
+advanced-counts c h false true done m ms k g less x = tt
+advanced-counts c h false false done m ms k g less x = let more : suc k < frame_count (length m.bytes) = grind (arith, nat_tests, x) in g.several (omega arith)
 
 -- a host whose next frame was put and seen
 pub host-put : (c : Parts) (h : ℕ) (accepted : List Message) (heard heard' : Link → List Heard) (signs signs' : Link → List Sign) (done : List (Message × Fate)) (m : Message) (ms : List Message) (k : ℕ) (hurt : Bool)
@@ -195,7 +196,7 @@ host-put c h accepted heard heard' signs signs' done m ms k hurt t p = record {
   accepted_is = t.accepted_is ∙ advanced-accepted hurt (is_last m.bytes k) done m ms k;
   are_done = advanced-done c h hurt (is_last m.bytes k) done m ms k t.are_done t.can_go.0;
   can_go = advanced-go c h hurt (is_last m.bytes k) done m ms k t.can_go;
-  counts = advanced-counts hurt (is_last m.bytes k) done m ms k;
+  counts = advanced-counts c h hurt (is_last m.bytes k) done m ms k t.can_go.0 (count-less c h accepted heard signs done m ms k t) refl;
   links = λ l i. link-put c (ear_on c l) (heard l) (heard' l) (signs l) (signs' l) done m ms k l (on l m) hurt (is_last m.bytes k) (t.can_go.0.meant l i) (count-less c h accepted heard signs done m ms k t) refl refl
       (p l i)
       (subst (λ (o : Option (Addressed × ℕ)). LinkIs (ear_on c l) (heard l) (signs l) (on_link c l done) o) (part-busy c m ms k l (on l m) refl) (t.links l i));
@@ -256,14 +257,14 @@ host-cut c h accepted heard heard' signs signs' done m ms j t cause true e i p =
   are_done = done-more c h done (m, Lost cause) i.are_done (record { go = i.can_go.0; settled = refl });
   can_go = i.can_go.1;
   counts = tt;
-  links = λ l a. link-cut c t cause done m j l (on l m) (heard l) (heard' l) (signs l) (signs' l) i.can_go.0.one e refl (p l a) (i.links l a);
+  links = λ l a. link-cut c t cause done m j l (on l m) (heard l) (heard' l) (signs l) (signs' l) i.counts e refl (p l a) (i.links l a);
 }
 host-cut c h accepted heard heard' signs signs' done m ms j t cause false e i p = record {
   accepted_is = i.accepted_is;
   are_done = i.are_done;
   can_go = i.can_go;
   counts = i.counts;
-  links = λ l a. link-uncut c t cause done m j l (on l m) (heard l) (heard' l) (signs l) (signs' l) i.can_go.0.one e refl (p l a) (i.links l a);
+  links = λ l a. link-uncut c t cause done m j l (on l m) (heard l) (heard' l) (signs l) (signs' l) i.counts e refl (p l a) (i.links l a);
 }
 
 pub host-mark : (c : Parts) (h : ℕ) (accepted : List Message) (heard heard' : Link → List Heard) (signs signs' : Link → List Sign) (done : List (Message × Fate)) (rest : List Message) (k : ℕ) (t : Link → Bool) (cause : Cause)

@@ -24,7 +24,7 @@ use Rattle.lin_core.specs.declared.port.PortId.{PortId}
 use Rattle.lin_core.specs.declared.step.Step.TheVariants.{Answer}
 use Rattle.lin_core.proofs.steps.FinishEvents.{empty-awake, frame-awake, other-awake}
 use Rattle.lin_core.proofs.links.Finishes.{IsFrameOf, frame-is, frame_slot, slot_of, some-address}
-use Rattle.lin_core.proofs.sendings.Hosts.{CanGo, HostIs, HostState, IsLink, Stands, begun-fresh, begun-none, first-begun, fresh-begun, message_of, next-begun, none-begun, ones-done, ones-fresh, sending_of, sendings-split, settled_ones, waiting-fresh, waiting-none}
+use Rattle.lin_core.proofs.sendings.Hosts.{CanGo, HostIs, HostState, Stands, begun-fresh, begun-none, first-begun, fresh-begun, message_of, next-begun, none-begun, ones-done, ones-fresh, sending_of, sendings-split, settled_ones, waiting-fresh, waiting-none}
 use Rattle.lin_core.proofs.steps.Known.{Known, SlotIs, finish-known, has_rest, place-of}
 use Rattle.lin_core.proofs.steps.Known.SlotIs.{carries, closed, master, other, slave, sleep}
 use Rattle.lin_core.proofs.sendings.Moves.{advanced, is_last, marked, record_of}
@@ -168,7 +168,7 @@ pub data FinishIs (c : Parts) (states states' : ℕ → HostState) : Option Slot
   asleep : (s : Slot) → pdu_of s ≡ Sleep → s.hurt ≡ false → is_sleep_slot s ≡ true
       → ((x : ℕ) → states' x ≡ marked (λ l. true) Slept (states x).done (states x).rest (states x).count) → FinishIs c states states' (Some s)
   carried : (s : Slot) (h : ℕ) (m : Message) (ms : List Message) (k : ℕ) → pdu_of s ≡ OfMessage h → is_sleep_slot s ≡ false → s.header ≡ Some (diagnostic_header m.link.dir)
-      → s.puts ≡ (h, with_classic (frame (address c m.link) m.bytes k)) ∷ [] → (states h).rest ≡ m ∷ ms → (states h).count ≡ k → IsLink c h m.link
+      → s.puts ≡ (h, with_classic (frame (address c m.link) m.bytes k)) ∷ [] → (states h).rest ≡ m ∷ ms → (states h).count ≡ k → CanGo c h m
       → ((x : ℕ) → states' x ≡ (if h == x then advanced s.hurt (is_last m.bytes k) (states h).done m ms k else states x)) → FinishIs c states states' (Some s)
 
 pub other-pdu : (s : Slot) → header_is 0x3C s.header ≡ false → header_is 0x7D s.header ≡ false → pdu_of s ≡ Nothing
@@ -189,4 +189,4 @@ finish-is c past port es sound k (Some _) is (carries table entry due left hurt 
     in let some : 1 ≤ address c m.link = some-address c m.link sound (place-of c h m go)
     in let frame_of_it : IsFrameOf (address c m.link) f = frame-is (address c m.link) m.bytes j
     in carried s h m ms j (pdu-frame table entry due left hurt m.link.node m.link.dir f (address c m.link) some frame_of_it ∙ ap OfMessage host)
-    (frame-awake table entry due left hurt m.link.node m.link.dir f (address c m.link) some frame_of_it) refl (ap (λ (x : ℕ). (x, with_classic f) ∷ []) host) r n go.link (λ x. refl)
+    (frame-awake table entry due left hurt m.link.node m.link.dir f (address c m.link) some frame_of_it) refl (ap (λ (x : ℕ). (x, with_classic f) ∷ []) host) r n go (λ x. refl)

@@ -1,17 +1,17 @@
 -- What a finish makes of the hosts and tells, in five cases: nothing moves; one more frame of a message was seen good; its last was; one was
 -- damaged; the cluster goes to sleep.
 use Rattle.std.proofs.Common.{◌≡◌, ◌≢◌, ◌<◌, ℕ, suc, Bool, true, false, List, [], ◌∷◌, ◌++◌, length, refl, ap, sym, ◌∙◌, subst, arith}
-use Rattle.std.specs.Prelude.{Option, Some, None, ◌==◌, drop, if◌then◌else◌}
+use Rattle.std.specs.Prelude.{Option, Some, None, ◌==◌, drop, if◌then◌else◌, is_some}
 use Rattle.std.specs.List.{flat_map}
 use Rattle.std.proofs.lemmas.Bool.{ne_eqb}
 use Rattle.std.proofs.lemmas.Bool.Decides.{nat_tests}
 use Rattle.std.proofs.lemmas.List.{append-nil}
 use Rattle.lin_frame.specs.Words.{numbers}
-use Rattle.lin_cluster_parts.specs.Cluster.{nodes}
+use Rattle.lin_cluster_parts.specs.Cluster.{nad, nodes}
 use Rattle.lin_cluster_parts.specs.declared.parts.Parts.{Parts}
 use Rattle.lin_cluster_parts.specs.Sound.{IsSound}
 use Rattle.lin_core.specs.History.{Slot, is_sleep_asked, is_sleep_slot, open_slot, seen_of}
-use Rattle.lin_core.specs.Links.{Fate, Message, reading}
+use Rattle.lin_core.specs.Links.{Fate, Link, Message, goes_over, home, reading}
 use Rattle.lin_core.specs.Links.Fate.{Lost, Sent}
 use Rattle.lin_core.specs.Replies.{finish_events, receiver_of}
 use Rattle.lin_core.specs.declared.event.Event.{Event}
@@ -20,9 +20,10 @@ use Rattle.lin_core.specs.declared.link.Cause.TheVariants.{Damaged, Slept}
 use Rattle.lin_core.specs.declared.log.LogEntry.{LogEntry}
 use Rattle.lin_core.specs.declared.port.PortId.{PortId}
 use Rattle.lin_core.specs.declared.step.Step.TheVariants.{Finish}
-use Rattle.lin_core.proofs.steps.FinishEvents.{finish-one, finish-quiet, finish-sleep, lost_by, one-gains}
+use Rattle.lin_core.proofs.steps.FinishEvents.{ToldIs, finish-one, finish-quiet, finish-sleep, link-gains, lost_by}
+use Rattle.lin_core.proofs.steps.FinishEvents.ToldIs.{lost}
 use Rattle.lin_core.proofs.kept.Going.{GoesOn}
-use Rattle.lin_core.proofs.sendings.Hosts.{HostState, IsLink, eqb-self}
+use Rattle.lin_core.proofs.sendings.Hosts.{CanGo, HostState, eqb-self}
 use Rattle.lin_core.proofs.steps.Known.{Known, SlotIs, entry_is, finish-known}
 use Rattle.lin_core.proofs.steps.Known.SlotIs.{carries, closed, master, other, slave, sleep}
 use Rattle.lin_core.proofs.sendings.Moves.{advanced, is_last, marked}
@@ -53,17 +54,17 @@ pub record CarriedIs (c : Parts) (k : ℕ → HostState) (states' : ℕ → Host
   pub message : Message
   pub later : List Message
   pub first : (k h).rest ≡ message ∷ later
-  pub link : IsLink c h message.link
+  pub go : CanGo c h message
   pub own : states' h ≡ advanced hurt (is_last message.bytes (k h).count) (k h).done message later (k h).count
   pub others : (x : ℕ) → h ≢ x → states' x ≡ k x
 
-carried-case : (c : Parts) (k states' : ℕ → HostState) (hurt : Bool) (h : ℕ) (m : Message) (ms : List Message) (j : ℕ) → (k h).rest ≡ m ∷ ms → (k h).count ≡ j → IsLink c h m.link
+carried-case : (c : Parts) (k states' : ℕ → HostState) (hurt : Bool) (h : ℕ) (m : Message) (ms : List Message) (j : ℕ) → (k h).rest ≡ m ∷ ms → (k h).count ≡ j → CanGo c h m
     → ((x : ℕ) → states' x ≡ (if h == x then advanced hurt (is_last m.bytes j) (k h).done m ms j else k x)) → CarriedIs c k states' hurt h
-carried-case c k states' hurt h m ms j first count link e = record {
+carried-case c k states' hurt h m ms j first count go e = record {
   message = m;
   later = ms;
   first = first;
-  link = link;
+  go = go;
   own = e h ∙ rw (eqb-self h, count) refl;
   others = λ x differ. e x ∙ rw (ne_eqb h x differ) refl;
 }
@@ -74,7 +75,7 @@ still-case c k states' None s (shut-is e) is pdu = cc
 still-case c k states' (Some _) s (still-is t l awake e) is pdu = let same : t ≡ s = cc in (subst (λ (y : Slot). is_sleep_slot y ≡ false) same awake, e)
 still-case c k states' (Some _) s (awake-is t l hurt awake e) is pdu = let same : t ≡ s = cc in (subst (λ (y : Slot). is_sleep_slot y ≡ false) same awake, e)
 still-case c k states' (Some _) s (asleep-is t l hurt asleep e) is pdu = absurd (let same : t ≡ s = cc in let bad : Sleep ≡ Nothing = sym l ∙ ap pdu_of same ∙ pdu in cc)
-still-case c k states' (Some _) s (carried-is t h m ms j l awake header puts first count link e) is pdu = absurd (let same : t ≡ s = cc in let bad : OfMessage h ≡ Nothing = sym l ∙ ap pdu_of same ∙ pdu in cc)
+still-case c k states' (Some _) s (carried-is t h m ms j l awake header puts first count go e) is pdu = absurd (let same : t ≡ s = cc in let bad : OfMessage h ≡ Nothing = sym l ∙ ap pdu_of same ∙ pdu in cc)
 
 pub sleep-case : (c : Parts) (k states' : ℕ → HostState) (o : Option Slot) (s : Slot) → FinishIs c k states' o → o ≡ Some s → pdu_of s ≡ Sleep → s.hurt ≡ false
     → (is_sleep_slot s ≡ true) × ((x : ℕ) → states' x ≡ marked (λ l. true) Slept (k x).done (k x).rest (k x).count)
@@ -82,27 +83,27 @@ sleep-case c k states' None s (shut-is e) is pdu calm = cc
 sleep-case c k states' (Some _) s (still-is t l awake e) is pdu calm = absurd (let same : t ≡ s = cc in let bad : Nothing ≡ Sleep = sym l ∙ ap pdu_of same ∙ pdu in cc)
 sleep-case c k states' (Some _) s (awake-is t l hurt awake e) is pdu calm = absurd (let same : t ≡ s = cc in let bad : true ≡ false = sym hurt ∙ ap (λ (y : Slot). y.hurt) same ∙ calm in cc)
 sleep-case c k states' (Some _) s (asleep-is t l hurt asleep e) is pdu calm = let same : t ≡ s = cc in (subst (λ (y : Slot). is_sleep_slot y ≡ true) same asleep, e)
-sleep-case c k states' (Some _) s (carried-is t h m ms j l awake header puts first count link e) is pdu calm = absurd (let same : t ≡ s = cc in let bad : OfMessage h ≡ Sleep = sym l ∙ ap pdu_of same ∙ pdu in cc)
+sleep-case c k states' (Some _) s (carried-is t h m ms j l awake header puts first count go e) is pdu calm = absurd (let same : t ≡ s = cc in let bad : OfMessage h ≡ Sleep = sym l ∙ ap pdu_of same ∙ pdu in cc)
 
 pub hurt-case : (c : Parts) (k states' : ℕ → HostState) (o : Option Slot) (s : Slot) → FinishIs c k states' o → o ≡ Some s → pdu_of s ≡ Sleep → s.hurt ≡ true → (is_sleep_slot s ≡ false) × ((x : ℕ) → states' x ≡ k x)
 hurt-case c k states' None s (shut-is e) is pdu bad = cc
 hurt-case c k states' (Some _) s (still-is t l awake e) is pdu hurt = let same : t ≡ s = cc in (subst (λ (y : Slot). is_sleep_slot y ≡ false) same awake, e)
 hurt-case c k states' (Some _) s (awake-is t l y awake e) is pdu hurt = let same : t ≡ s = cc in (subst (λ (y : Slot). is_sleep_slot y ≡ false) same awake, e)
 hurt-case c k states' (Some _) s (asleep-is t l calm asleep e) is pdu hurt = absurd (let same : t ≡ s = cc in let bad : false ≡ true = sym calm ∙ ap (λ (y : Slot). y.hurt) same ∙ hurt in cc)
-hurt-case c k states' (Some _) s (carried-is t h m ms j l awake header puts first count link e) is pdu hurt = absurd (let same : t ≡ s = cc in let bad : OfMessage h ≡ Sleep = sym l ∙ ap pdu_of same ∙ pdu in cc)
+hurt-case c k states' (Some _) s (carried-is t h m ms j l awake header puts first count go e) is pdu hurt = absurd (let same : t ≡ s = cc in let bad : OfMessage h ≡ Sleep = sym l ∙ ap pdu_of same ∙ pdu in cc)
 
 pub message-case : (c : Parts) (k states' : ℕ → HostState) (o : Option Slot) (s : Slot) (h : ℕ) → FinishIs c k states' o → o ≡ Some s → pdu_of s ≡ OfMessage h → (is_sleep_slot s ≡ false) × CarriedIs c k states' s.hurt h
 message-case c k states' None s h (shut-is e) is pdu = cc
 message-case c k states' (Some _) s h (still-is t l awake e) is pdu = absurd (let same : t ≡ s = cc in let bad : Nothing ≡ OfMessage h = sym l ∙ ap pdu_of same ∙ pdu in cc)
 message-case c k states' (Some _) s h (awake-is t l hurt awake e) is pdu = absurd (let same : t ≡ s = cc in let bad : Sleep ≡ OfMessage h = sym l ∙ ap pdu_of same ∙ pdu in cc)
 message-case c k states' (Some _) s h (asleep-is t l hurt asleep e) is pdu = absurd (let same : t ≡ s = cc in let bad : Sleep ≡ OfMessage h = sym l ∙ ap pdu_of same ∙ pdu in cc)
-message-case c k states' (Some _) s h (carried-is t g m ms j l awake header puts first count link e) is pdu =
+message-case c k states' (Some _) s h (carried-is t g m ms j l awake header puts first count go e) is pdu =
     let same : t ≡ s = cc
     in let both : OfMessage g ≡ OfMessage h = sym l ∙ ap pdu_of same ∙ pdu
     in let host : g ≡ h = cc
     in (
       subst (λ (y : Slot). is_sleep_slot y ≡ false) same awake,
-      subst (λ (y : Slot). CarriedIs c k states' y.hurt h) same (subst (λ (x : ℕ). CarriedIs c k states' t.hurt x) host (carried-case c k states' t.hurt g m ms j first count link e)),
+      subst (λ (y : Slot). CarriedIs c k states' y.hurt h) same (subst (λ (x : ℕ). CarriedIs c k states' t.hurt x) host (carried-case c k states' t.hurt g m ms j first count go e)),
     )
 
 -- what is told, and how the hosts' messages change, in each case
@@ -207,7 +208,7 @@ pub record Done (c : Parts) (past : List LogEntry) (by : PortId) (s : Slot) (sou
 record SettledIs (c : Parts) (k states' : ℕ → HostState) (h : ℕ) (m : Message) (f : Fate) : Type 0 where
   later : List Message
   first : (k h).rest ≡ m ∷ later
-  link : IsLink c h m.link
+  go : CanGo c h m
   own : states' h ≡ record { done = (k h).done ++ (m, f) ∷ []; rest = later; count = 0 }
   others : (x : ℕ) → h ≢ x → states' x ≡ k x
 
@@ -237,23 +238,25 @@ whole-settled c past by s sound k h m ms is pdu calm first last =
     in let both : i.message ∷ i.later ≡ m ∷ ms = sym i.first ∙ first
     in let is_m : i.message ≡ m = cc
     in subst (λ (y : Message). SettledIs c k.states (of_states c past by sound k []) h y Sent) is_m
-    (record { later = i.later; first = i.first; link = i.link; own = whole-own c k.states (of_states c past by sound k []) h i (ap (λ (y : Message). is_last y.bytes (k.states h).count) is_m ∙ last); others = i.others })
+    (record { later = i.later; first = i.first; go = i.go; own = whole-own c k.states (of_states c past by sound k []) h i (ap (λ (y : Message). is_last y.bytes (k.states h).count) is_m ∙ last); others = i.others })
 
--- what its receiver reads more
+-- what the receivers of the links that it goes over read more
 pub whole-gains : (c : Parts) (past : List LogEntry) (by : PortId) (s : Slot) (sound : IsSound c) (k : Known c past) (h : ℕ) (m : Message) (ms : List Message) → open_slot past ≡ Some s → pdu_of s ≡ OfMessage h → s.hurt ≡ false
-    → (k.states h).rest ≡ m ∷ ms → is_last m.bytes (k.states h).count ≡ true → drop (length (reading c past m.link)) (reading c (entry_is by Finish [] ∷ past) m.link) ≡ m.bytes ∷ []
-whole-gains c past by s sound k h m ms is pdu calm first last =
+    → (k.states h).rest ≡ m ∷ ms → is_last m.bytes (k.states h).count ≡ true → (es : List Event) (l : Link) → is_some (nad c l.node) ≡ true → goes_over m.link l ≡ true
+    → drop (length (reading c past l)) (reading c (entry_is by Finish es ∷ past) l) ≡ m.bytes ∷ []
+whole-gains c past by s sound k h m ms is pdu calm first last es l a over =
     let settled : SettledIs c k.states (of_states c past by sound k []) h m Sent = whole-settled c past by s sound k h m ms is pdu calm first last
-    in one-gains c past by h m settled.link k (known_after c past by [] sound k) (λ x. done-settled c k.states (of_states c past by sound k []) h x m Sent (h == x) refl settled)
+    in link-gains c past by h m Sent settled.go.host k (known_after c past by [] sound k) (λ x. done-settled c k.states (of_states c past by sound k []) h x m Sent (h == x) refl settled) l a
+    ∙ rw over refl
 
-pub finishes-whole : (c : Parts) (past : List LogEntry) (by : PortId) (s : Slot) (sound : IsSound c) (k : Known c past) (h : ℕ) (m : Message) (ms : List Message) → open_slot past ≡ Some s → pdu_of s ≡ OfMessage h → s.hurt ≡ false
-    → (k.states h).rest ≡ m ∷ ms → is_last m.bytes (k.states h).count ≡ true
-    → Done c past by s sound k h (MessageEvent h (receiver_of m.link.dir m.link.node) m.bytes ∷ SentEvent h (suc (length (k.states h).done)) ∷ [])
-finishes-whole c past by s sound k h m ms is pdu calm first last =
+pub finishes-whole : (c : Parts) (past : List LogEntry) (by : PortId) (s : Slot) (sound : IsSound c) (k : Known c past) (h : ℕ) (m : Message) (ms : List Message) (es : List Event) → open_slot past ≡ Some s → pdu_of s ≡ OfMessage h → s.hurt ≡ false
+    → (k.states h).rest ≡ m ∷ ms → is_last m.bytes (k.states h).count ≡ true → ToldIs c h m Sent es
+    → Done c past by s sound k h (es ++ SentEvent h (suc (length (k.states h).done)) ∷ [])
+finishes-whole c past by s sound k h m ms es is pdu calm first last told =
     let at = message-at c past by s sound k h is pdu
     in let settled : SettledIs c k.states (of_states c past by sound k []) h m Sent = whole-settled c past by s sound k h m ms is pdu calm first last
     in record {
-      told = finish-one c past by s h m Sent sound settled.link k (known_after c past by [] sound k) (λ x. done-settled c k.states (of_states c past by sound k []) h x m Sent (h == x) refl settled) at.0 is;
+      told = finish-one c past by s h m Sent es sound settled.go told k (known_after c past by [] sound k) (λ x. done-settled c k.states (of_states c past by sound k []) h x m Sent (h == x) refl settled) at.0 is;
       settles = settled-settles c past by sound k h m Sent settled;
     }
 
@@ -262,9 +265,9 @@ pub finishes-damaged : (c : Parts) (past : List LogEntry) (by : PortId) (s : Slo
 finishes-damaged c past by s sound k h is pdu hurt =
     let at = message-at c past by s sound k h is pdu
     in let i : CarriedIs c k.states (of_states c past by sound k []) true h = subst (λ (b : Bool). CarriedIs c k.states (of_states c past by sound k []) b h) hurt at.1
-    in let settled : SettledIs c k.states (of_states c past by sound k []) h i.message (Lost Damaged) = record { later = i.later; first = i.first; link = i.link; own = i.own; others = i.others }
+    in let settled : SettledIs c k.states (of_states c past by sound k []) h i.message (Lost Damaged) = record { later = i.later; first = i.first; go = i.go; own = i.own; others = i.others }
     in record {
-      told = finish-one c past by s h i.message (Lost Damaged) sound settled.link k (known_after c past by [] sound k) (λ x. done-settled c k.states (of_states c past by sound k []) h x i.message (Lost Damaged) (h == x) refl settled) at.0 is;
+      told = finish-one c past by s h i.message (Lost Damaged) [] sound settled.go (lost Damaged) k (known_after c past by [] sound k) (λ x. done-settled c k.states (of_states c past by sound k []) h x i.message (Lost Damaged) (h == x) refl settled) at.0 is;
       settles = settled-settles c past by sound k h i.message (Lost Damaged) settled;
     }
 
@@ -289,4 +292,4 @@ pub record HostCarried (c : Parts) (states : ℕ → HostState) (h : ℕ) : Type
 pub host-carried : (c : Parts) (past : List LogEntry) (by : PortId) (s : Slot) (sound : IsSound c) (k : Known c past) (h : ℕ) → open_slot past ≡ Some s → pdu_of s ≡ OfMessage h → HostCarried c k.states h
 host-carried c past by s sound k h is pdu =
     let i = (message-at c past by s sound k h is pdu).1
-    in record { message = i.message; later = i.later; first = i.first; below = host-below c h i.message.link.node i.message.link.dir i.link }
+    in record { message = i.message; later = i.later; first = i.first; below = host-below c h (home c i.message.link).node (home c i.message.link).dir i.go.home_is }

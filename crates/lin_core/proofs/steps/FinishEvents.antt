@@ -8,7 +8,7 @@ use Rattle.lin_frame.specs.Words.{numbers}
 use Rattle.lin_cluster_parts.specs.Cluster.{nad, nodes}
 use Rattle.lin_cluster_parts.specs.declared.parts.Parts.{Parts}
 use Rattle.lin_core.specs.History.{Slot, open_slot, seen_of, header_is, is_sleep_slot}
-use Rattle.lin_core.specs.Links.{Link, same_dir, same_link, Message, host_of, Fate, ear_on, goes_over, is_to_all, signs, heard_on, reading, accepted_from}
+use Rattle.lin_core.specs.Links.{Link, same_dir, same_link, Message, host_of, Fate, ear_on, goes_over, home, is_down, is_to_all, signs, heard_on, reading, accepted_from}
 use Rattle.lin_cluster_parts.specs.Sound.{IsSound}
 use Rattle.lin_core.specs.declared.log.LogEntry.{LogEntry}
 use Rattle.lin_core.specs.declared.port.PortId.{PortId}
@@ -16,8 +16,8 @@ use Rattle.lin_core.specs.declared.step.Step.TheVariants.{Finish, Timeout}
 use Rattle.lin_core.specs.declared.event.Event.{Event}
 use Rattle.lin_core.specs.declared.link.Direction.{Direction}
 use Rattle.lin_core.specs.declared.link.Direction.TheVariants.{Down, Up}
-use Rattle.lin_core.proofs.sendings.Hosts.{HostState, IsLink, on, on_link, part, on-append, same-self, AllCanGo}
-use Rattle.lin_core.proofs.sendings.Moves.{same-is, over-host, over-one, over-self, marked, record_of}
+use Rattle.lin_core.proofs.sendings.Hosts.{CanGo, HostState, IsLink, on, on_link, part, on-append, same-self, AllCanGo}
+use Rattle.lin_core.proofs.sendings.Moves.{same-is, over-all, over-host, over-one, marked, record_of, to-all-is}
 use Rattle.lin_core.specs.Links.Fate.{Sent, Waiting, Lost}
 use Rattle.lin_core.proofs.steps.Known.{Known}
 use Rattle.lin_core.proofs.links.Results.{track-reads}
@@ -29,9 +29,10 @@ use Rattle.std.proofs.lemmas.List.Elements.{filter_map-append}
 use Rattle.lin_core.proofs.links.Tracks.{sent_of, if_sent}
 use Rattle.lin_core.proofs.laws.Reports.{flat-append, index-some, reports-are, ahead, host-below}
 use Rattle.lin_core.specs.Reports.{reports_from}
+use Rattle.lin_core.specs.kept.Hosts.{told_to, told_to_all}
 use Rattle.lin_core.specs.declared.link.Cause.{Cause}
 use Rattle.lin_core.specs.declared.link.Cause.TheVariants.{TimedOut, Slept}
-use Rattle.lin_core.proofs.links.Finishes.{one-by, frame_slot, slot_of, same-cond, IsFrameOf}
+use Rattle.lin_core.proofs.links.Finishes.{frame_slot, slot_of, same-cond, IsFrameOf}
 use Rattle.lin_core.proofs.steps.Steps.{timeout-known}
 
 -- one item of a list of numbers alone has something
@@ -206,33 +207,92 @@ told-at : (h x : ℕ) (t : ℕ → ℕ) (n : ℕ) (f : Fate) → t h ≡ n → (
 told-at h x t n f e true p = let same : h ≡ x = grind (arith, nat_tests, p) in subst (λ (y : ℕ). report y (t y) f ≡ report h n f) same (rw e refl)
 told-at h x t n f e false p = refl
 
--- what the receiver of a message reads more, once it is whole
-pub one-gains : (c : Parts) (past : List LogEntry) (port : PortId) (h : ℕ) (m : Message) → IsLink c h m.link → (k : Known c past) (k' : Known c (quiet_entry port Finish ∷ past))
-    → ((x : ℕ) → (k'.states x).done ≡ (k.states x).done ++ (if h == x then (m, Sent) ∷ [] else [])) → drop (length (reading c past m.link)) (reading c (quiet_entry port Finish ∷ past) m.link) ≡ m.bytes ∷ []
-one-gains c past port h m link k k' more =
-    let g : (x : ℕ) → Grows (k.states x) (k'.states x) = λ x. record { more = if h == x then (m, Sent) ∷ [] else []; is = more x }
-    in gained-messages c past (quiet_entry port Finish ∷ past) m.link link.address k k' (g (host_of m.link))
-    ∙ on-one c m.link m Sent h (h == host_of m.link) (goes_over m.link m.link) link.host refl refl
-    ∙ rw (over-self m.link) refl
+-- what the receiver of a link reads more, once a message is whole or lost
+pub link-gains : (c : Parts) (past : List LogEntry) (port : PortId) (h : ℕ) (m : Message) (f : Fate) → host_of m.link ≡ h → (k : Known c past) (k' : Known c (quiet_entry port Finish ∷ past))
+    → ((x : ℕ) → (k'.states x).done ≡ (k.states x).done ++ (if h == x then (m, f) ∷ [] else [])) → (l : Link) → is_some (nad c l.node) ≡ true
+    → drop (length (reading c past l)) (reading c (quiet_entry port Finish ∷ past) l) ≡ (if goes_over m.link l then sent_bytes f m.bytes else [])
+link-gains c past port h m f host k k' more l a =
+    let g : (x : ℕ) → Grows (k.states x) (k'.states x) = λ x. record { more = if h == x then (m, f) ∷ [] else []; is = more x }
+    in gained-messages c past (quiet_entry port Finish ∷ past) l a k k' (g (host_of l))
+    ∙ on-one c l m f h (h == host_of l) (goes_over m.link l) host refl refl
+
+-- the events of the links, of one message
+heard-one : (c : Parts) (past : List LogEntry) (e : LogEntry) (h : ℕ) (m : Message) (ms : List (List ℕ)) → host_of m.link ≡ h → is_to_all m.link ≡ false → is_some (nad c m.link.node) ≡ true
+    → ((l : Link) → is_some (nad c l.node) ≡ true → drop (length (reading c past l)) (reading c (e ∷ past) l) ≡ (if goes_over m.link l then ms else []))
+    → flat_map (new_messages c e past) (all_links c) ≡ events_of h m.link ms
+heard-one c past e h m ms host one own gains =
+    only-link c (new_messages c e past) m.link (events_of h m.link ms) own
+    (λ l a. ap (events_of (host_of l) l) (gains l a ∙ ap (λ (q : Bool). if q then ms else []) (over-one m.link l one))
+    ∙ event-at l m ms h (same_link m.link l) (same_link l m.link) host refl refl)
+
+-- of one that is lost
+pub heard-lost : (c : Parts) (past : List LogEntry) (e : LogEntry) (m : Message)
+    → ((l : Link) → is_some (nad c l.node) ≡ true → drop (length (reading c past l)) (reading c (e ∷ past) l) ≡ (if goes_over m.link l then [] else []))
+    → flat_map (new_messages c e past) (all_links c) ≡ []
+heard-lost c past e m gains =
+    flat-links c (new_messages c e past) (map (λ n. link_at n Down) (numbers (nodes c)) ++ map (λ n. link_at n Up) (numbers (nodes c)))
+    (λ l a. ap (events_of (host_of l) l) (gains l a ∙ same-cond (goes_over m.link l) []))
+
+-- of one to all responders
+down-each : (c : Parts) (f : Link → List Event) (bytes : List ℕ) (ns : List ℕ) → ((n : ℕ) → is_some (nad c n) ≡ true → f (link_at n Down) ≡ MessageEvent 0 n bytes ∷ [])
+    → flat_map (if_link c f) (map (λ n. link_at n Down) ns) ≡ flat_map (told_to c bytes) ns
+down-each c f bytes [] each = refl
+down-each c f bytes (n ∷ ns) each =
+    ap (λ (es : List Event). if_link c f (link_at n Down) ++ es) (down-each c f bytes ns each)
+    ∙ ap (λ (es : List Event). es ++ flat_map (told_to c bytes) ns) (by-test (is_some (nad c n)) refl)
+  where
+    by-test : (b : Bool) → is_some (nad c n) ≡ b → (if b then f (link_at n Down) else []) ≡ (if b then MessageEvent 0 n bytes ∷ [] else [])
+    by-test true e = each n e
+    by-test false e = refl
+
+up-each : (c : Parts) (f : Link → List Event) (ns : List ℕ) → ((n : ℕ) → is_some (nad c n) ≡ true → f (link_at n Up) ≡ []) → flat_map (if_link c f) (map (λ n. link_at n Up) ns) ≡ []
+up-each c f [] each = refl
+up-each c f (n ∷ ns) each = by-test (is_some (nad c n)) refl (up-each c f ns each)
+  where
+    by-test : (b : Bool) → is_some (nad c n) ≡ b → flat_map (if_link c f) (map (λ x. link_at x Up) ns) ≡ [] → (if b then f (link_at n Up) else []) ++ flat_map (if_link c f) (map (λ x. link_at x Up) ns) ≡ []
+    by-test true e later = rw (each n e) later
+    by-test false e later = later
+
+pub heard-all : (c : Parts) (past : List LogEntry) (e : LogEntry) (m : Message) → is_to_all m.link ≡ true
+    → ((l : Link) → is_some (nad c l.node) ≡ true → drop (length (reading c past l)) (reading c (e ∷ past) l) ≡ (if goes_over m.link l then m.bytes ∷ [] else []))
+    → flat_map (new_messages c e past) (all_links c) ≡ told_to_all c m.bytes (nodes c)
+heard-all c past e m all gains =
+    let over : (n : ℕ) (d : Direction) → goes_over m.link (link_at n d) ≡ is_down d = λ n d. ap (λ (x : Link). goes_over x (link_at n d)) (to-all-is m.link.node m.link.dir all) ∙ over-all n d
+    in let down : (n : ℕ) → is_some (nad c n) ≡ true → new_messages c e past (link_at n Down) ≡ MessageEvent 0 n m.bytes ∷ []
+    = λ n a. ap (events_of 0 (link_at n Down)) (gains (link_at n Down) a ∙ ap (λ (q : Bool). if q then m.bytes ∷ [] else []) (over n Down))
+    in let up : (n : ℕ) → is_some (nad c n) ≡ true → new_messages c e past (link_at n Up) ≡ []
+    = λ n a. ap (events_of n (link_at n Up)) (gains (link_at n Up) a ∙ ap (λ (q : Bool). if q then m.bytes ∷ [] else []) (over n Up))
+    in links-filtered c (new_messages c e past) (map (λ n. link_at n Down) (numbers (nodes c)) ++ map (λ n. link_at n Up) (numbers (nodes c)))
+    ∙ flat-append (if_link c (new_messages c e past)) (map (λ n. link_at n Down) (numbers (nodes c))) (map (λ n. link_at n Up) (numbers (nodes c)))
+    ∙ rw (down-each c (new_messages c e past) m.bytes (numbers (nodes c)) down, up-each c (new_messages c e past) (numbers (nodes c)) up) (append-nil (told_to_all c m.bytes (nodes c)))
+
+-- what is told of the links where one message is whole or lost
+pub data ToldIs (c : Parts) (h : ℕ) (m : Message) : Fate → List Event → Type 0 where
+  to_one : is_to_all m.link ≡ false → ToldIs c h m Sent (events_of h m.link (m.bytes ∷ []))
+  to_all : is_to_all m.link ≡ true → ToldIs c h m Sent (told_to_all c m.bytes (nodes c))
+  lost : (cause : Cause) → ToldIs c h m (Lost cause) []
+
+told-links : (c : Parts) (past : List LogEntry) (e : LogEntry) (h : ℕ) (m : Message) (f : Fate) (es : List Event) → CanGo c h m → ToldIs c h m f es
+    → ((l : Link) → is_some (nad c l.node) ≡ true → drop (length (reading c past l)) (reading c (e ∷ past) l) ≡ (if goes_over m.link l then sent_bytes f m.bytes else []))
+    → flat_map (new_messages c e past) (all_links c) ≡ es
+told-links c past e h m Waiting es go told gains = elim told [ ]
+told-links c past e h m Sent _ go (to_one one) gains = heard-one c past e h m (m.bytes ∷ []) go.host one (go.one one).address gains
+told-links c past e h m Sent _ go (to_all all) gains = heard-all c past e m all gains
+told-links c past e h m (Lost _) _ go (lost cause) gains = heard-lost c past e m gains
 
 -- a finish by which one message is whole or lost
-pub finish-one : (c : Parts) (past : List LogEntry) (port : PortId) (s : Slot) (h : ℕ) (m : Message) (f : Fate) → IsSound c → IsLink c h m.link → (k : Known c past) (k' : Known c (quiet_entry port Finish ∷ past))
+pub finish-one : (c : Parts) (past : List LogEntry) (port : PortId) (s : Slot) (h : ℕ) (m : Message) (f : Fate) (es : List Event) → IsSound c → CanGo c h m → ToldIs c h m f es → (k : Known c past) (k' : Known c (quiet_entry port Finish ∷ past))
     → ((x : ℕ) → (k'.states x).done ≡ (k.states x).done ++ (if h == x then (m, f) ∷ [] else [])) → is_sleep_slot s ≡ false → open_slot past ≡ Some s
-    → finish_events c port past ≡ SeenEvent (seen_of s) ∷ events_of h m.link (sent_bytes f m.bytes) ++ report h (suc (length (k.states h).done)) f
-finish-one c past port s h m f sound link k k' more awake is =
+    → finish_events c port past ≡ SeenEvent (seen_of s) ∷ es ++ report h (suc (length (k.states h).done)) f
+finish-one c past port s h m f es sound go told k k' more awake is =
     let e : LogEntry = quiet_entry port Finish
     in let g : (x : ℕ) → Grows (k.states x) (k'.states x) = λ x. record { more = if h == x then (m, f) ∷ [] else []; is = more x }
-    in let one : is_to_all m.link ≡ false = one-by c m.link.node m.link.dir sound link.address
-    in let event : List Event = events_of h m.link (sent_bytes f m.bytes)
-    in let heard : flat_map (new_messages c e past) (all_links c) ≡ event
-    = only-link c (new_messages c e past) m.link event link.address
-    (λ l a. ap (events_of (host_of l) l) (gained-messages c past (e ∷ past) l a k k' (g (host_of l)) ∙ on-one c l m f h (h == host_of l) (same_link m.link l) link.host refl (over-one m.link l one))
-    ∙ event-at l m (sent_bytes f m.bytes) h (same_link m.link l) (same_link l m.link) link.host refl refl)
-    in let told : all_reports c e past ≡ report h (suc (length (k.states h).done)) f
+    in let heard : flat_map (new_messages c e past) (all_links c) ≡ es = told-links c past e h m f es go told (link-gains c past port h m f go.host k k' more)
+    in let reported : all_reports c e past ≡ report h (suc (length (k.states h).done)) f
     = only-one (reports c e past) h (nodes c) (report h (suc (length (k.states h).done)) f)
     (λ x. reports-are c e past x sound k k' (g x) refl ∙ told-one h x (ahead 1 (k.states x).done) (h == x) m f ∙ told-at h x (λ (y : ℕ). ahead 1 (k.states y).done) (suc (length (k.states h).done)) f (next-number (k.states h).done) (h == x) refl)
-    (host-below c h m.link.node m.link.dir link)
-    in rw (is, awake, heard, told) (ap (λ (es : List Event). SeenEvent (seen_of s) ∷ es ++ report h (suc (length (k.states h).done)) f) (append-nil event))
+    (host-below c h (home c m.link).node (home c m.link).dir go.home_is)
+    in rw (is, awake, heard, reported) (ap (λ (xs : List Event). SeenEvent (seen_of s) ∷ xs ++ report h (suc (length (k.states h).done)) f) (append-nil es))
 
 -- what a mark makes of a host's messages: the first one is lost, if it is begun and the mark is on its link
 abbrev pub cut_if : Bool → Message → Cause → List (Message × Fate)
@@ -307,7 +367,7 @@ lost-other c x h t cause [] (suc j) g own differ = refl
 lost-other c x h t cause (m ∷ ms) (suc j) g own differ = lost-test (t m.link) refl
   where
     lost-test : (b : Bool) → t m.link ≡ b → cut_if b m cause ≡ []
-    lost-test true e = absurd (differ (sym g.0.link.host ∙ own m.link e))
+    lost-test true e = absurd (differ (sym g.0.host ∙ own m.link e))
     lost-test false e = refl
 
 pub lost-one : (c : Parts) (past : List LogEntry) (k : Known c past) (t : Link → Bool) (cause : Cause) (h : ℕ) (m : Message) (ms : List Message) (j : ℕ)

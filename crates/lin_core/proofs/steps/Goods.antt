@@ -20,6 +20,7 @@ use Rattle.lin_core.proofs.steps.Known.{Known}
 use Rattle.lin_core.proofs.steps.Allowed.{host-of}
 use Rattle.lin_core.proofs.steps.Making.{past_in}
 use Rattle.lin_core.proofs.sendings.Moves.{is_last}
+use Rattle.lin_core.proofs.sendings.Hosts.{CanGo}
 use Rattle.lin_core.proofs.sendings.Nexts.{IsNext, next-inside}
 use Rattle.lin_core.proofs.sendings.Senders.{sender_for}
 
@@ -33,7 +34,7 @@ pub record GoodIs (a : Stage) (k : Known a.cluster (past_in a)) (h : ℕ) (host 
   pub at : message_at a.log place ≡ Some message
   pub some : 1 ≤ length message.bytes
   pub few : length message.bytes ≤ 4095
-  pub node : message.link.node < nodes a.cluster
+  pub go : CanGo a.cluster h message
   pub more : (k.states h).count < frame_count (length message.bytes)
   pub sender_is : host.sender ≡ sender_for a.cluster (message ∷ later) (k.states h).count
 
@@ -45,7 +46,7 @@ pub good-inside : (a : Stage) (h : ℕ) (hurt : Bool) (host : Host) (place : ℕ
 good-inside a h hurt host place w k carried e at =
     let i : HostCarried a.cluster k.states h = host-there a h hurt w k carried
     in let here : slice_get a.state.hosts.items h ≡ Some host = host-of a h host w i.below e
-    in let n : IsNext a.cluster (message_at a.log place) host.sender (k.states h).rest (k.states h).count = next-inside a h host place w k here at
+    in let n : IsNext a.cluster h (message_at a.log place) host.sender (k.states h).rest (k.states h).count = next-inside a h host place w k here at
     in let can = n.can i.message i.later i.first
     in record {
       message = i.message;
@@ -56,7 +57,7 @@ good-inside a h hurt host place w k carried e at =
       at = n.message_is i.message i.later i.first;
       some = can.0;
       few = can.1;
-      node = can.2;
+      go = can.2;
       more = can.3;
       sender_is = n.sender_is ∙ ap (λ (ms : List Message). sender_for a.cluster ms (k.states h).count) i.first;
     }

@@ -145,7 +145,7 @@ sleep-known c past port es table entry due left sound is k =
 
 -- the place of a message of a host
 pub place-of : (c : Parts) (h : ℕ) (m : Message) → CanGo c h m → IsPlace c m.link
-place-of c h m go = λ one. has-nad c m.link.node go.link.address
+place-of c h m go = λ one. has-nad c m.link.node (go.one one).address
 
 -- the frame on the links of its host, and of others
 pub puts-by : (c : Parts) (past : List LogEntry) (port : PortId) (es : List Event) (table entry : ℕ) (due left : List ℕ) (hurt : Bool) (to l : Link) (f : List ℕ)

@@ -1,6 +1,6 @@
 -- The steps that need their refusals: a timeout, a send, an open, an answer; and the whole history.
 use Rattle.lin_cluster_parts.specs.Cluster.{sporadic_of, nad, nodes, line_of, frame_of, event_of}
-use Rattle.std.proofs.Common.{◌≡◌, ◌≤◌, ◌≢◌, ℕ, zero, suc, Bool, true, false, List, [], ◌∷◌, ◌++◌, length, map, refl, ap, sym, ◌∙◌, subst, arith, inl, inr, append_assoc}
+use Rattle.std.proofs.Common.{◌≡◌, ◌≤◌, ◌<◌, ◌≢◌, ℕ, zero, suc, Bool, true, false, List, [], ◌∷◌, ◌++◌, length, map, refl, ap, sym, ◌∙◌, subst, arith, inl, inr, append_assoc}
 use Rattle.std.specs.Prelude.{⊤, Option, Some, None, cond, ◌&&◌, ◌||◌, not, ◌==◌, if◌then◌else◌, is_some, option_map, filter, find, nat_lt, nat_le, slice_index}
 use Rattle.std.specs.List.{list_any, cons_option}
 use Rattle.std.proofs.lemmas.Bool.Decides.{eqb_tells, nat_tests}
@@ -9,7 +9,7 @@ use Rattle.std.proofs.lemmas.List.{append-nil}
 use Rattle.std.specs.Option.{option_map_or, unwrap_or}
 use Rattle.lin_frame.specs.Words.{numbers}
 use Rattle.lin_transport.specs.Law.{IsFor}
-use Rattle.lin_transport.specs.Transport.{frame, functional, Heard, CanSend}
+use Rattle.lin_transport.specs.Transport.{frame, frame_count, functional, Heard, CanSend}
 use Rattle.lin_transport.specs.Transport.Heard.{Reset}
 use Rattle.lin_cluster_parts.specs.declared.parts.Parts.{Parts}
 use Rattle.lin_core.specs.History.{finished_slot, is_sleep_mark, Slot, open_slot, slot_after_events, header_is, is_sleep_asked, good_under, is_in, has_decided}
@@ -17,7 +17,7 @@ use Rattle.lin_core.specs.Signals.{is_pending}
 use Rattle.lin_core.specs.Links.{Link, same_link, link_of, Message, host_of, accepted_from, Sign, Fate, address, ear_on, goes_over, home, is_down, is_to_all, nad_on, put_on, signs, heard_on, blocks, blocks_of, waiting, begun_sending}
 use Rattle.lin_core.specs.Links.Sign.{Mark}
 use Rattle.lin_core.specs.Slots.{with_classic, sleep_frame, next_frame, first_frame, put, header, is_due, due_nodes, selected_node, addressee, node_with, next_due}
-use Rattle.lin_core.specs.Replies.{refusal, refusals, in_slot, has_address, put_event, opening_events, done_events, reply}
+use Rattle.lin_core.specs.Replies.{refusal, refusals, in_slot, has_address, is_addressed, longest, put_event, opening_events, done_events, reply}
 use Rattle.lin_cluster_parts.specs.Sound.{IsSound, IsSignalPid}
 use Rattle.lin_core.specs.declared.log.LogEntry.{LogEntry}
 use Rattle.lin_core.specs.declared.port.PortId.{PortId}
@@ -34,7 +34,7 @@ use Rattle.lin_core.specs.declared.link.Direction.{Direction}
 use Rattle.lin_core.specs.declared.link.Direction.TheVariants.{Down, Up}
 use Rattle.lin_transport.proofs.Frames.{and-false}
 use Rattle.lin_core.proofs.sendings.Hosts.{HostState, HostIs, IsLink, IsCount, CanGo, AllCanGo, eqb-self, part, message_of, Stands, host-stands, next-begun, begun-none, begun-fresh, waiting-none, waiting-fresh}
-use Rattle.lin_core.proofs.sendings.Moves.{record_of, over-is, over-self, Marks, marked, host-mark}
+use Rattle.lin_core.proofs.sendings.Moves.{record_of, over-all, over-is, over-self, Marks, marked, host-mark}
 use Rattle.lin_core.proofs.links.Fates.{or-true}
 use Rattle.lin_core.proofs.links.Finishes.{HasNad, nad-is, one-by, slot_of, frame_slot, same-cond}
 use Rattle.lin_core.specs.Runs.{history}
@@ -91,7 +91,7 @@ part-more c (x ∷ xs) m (suc j) l i = refl
 pub counts-more : (rest : List Message) (m : Message) (k : ℕ) → IsCount rest k → IsCount (rest ++ m ∷ []) k
 counts-more rest m zero i = tt
 counts-more [] m (suc j) i = absurd i
-counts-more (x ∷ xs) m (suc j) i = tt
+counts-more (x ∷ xs) m (suc j) i = i
 
 -- the receiver of a message's link is meant by its frames
 meant-own : (c : Parts) (to : Link) (bytes : List ℕ) → IsSound c → HasNad c to.node → is_to_all to ≡ false → CanSend bytes → IsFor (ear_on c to) (record { nad = address c to; bytes = bytes })
@@ -116,13 +116,45 @@ pub can-go : (c : Parts) (h : ℕ) (m : Message) → IsSound c → IsLink c h m.
 can-go c h m sound link can =
     let one : is_to_all m.link ≡ false = one-by c m.link.node m.link.dir sound link.address
     in record {
-      link = link;
-      one = one;
+      host = link.host;
       home_is = subst (IsLink c h) (sym (home-own c m.link one)) link;
       over = subst (λ (x : Link). goes_over m.link x ≡ true) (sym (home-own c m.link one)) (over-self m.link);
       can = can;
       meant = λ l i over. meant-by c m.link l m.bytes sound (has-nad c m.link.node link.address) one can over;
+      several = λ more. one;
+      one = λ e. link;
     }
+
+-- a message to all
+any-found : (p : ℕ → Bool) (xs : List ℕ) → list_any p xs ≡ true → p (unwrap_or (find p xs) 0) ≡ true
+any-found p [] e = cc
+any-found p (x ∷ xs) e = by-test (p x) refl (any-found p xs)
+  where
+    by-test : (b : Bool) → p x ≡ b → (list_any p xs ≡ true → p (unwrap_or (find p xs) 0) ≡ true) → p (unwrap_or (find p (x ∷ xs)) 0) ≡ true
+    by-test true is later = let found : find p (x ∷ xs) ≡ Some x = rw is refl in subst (λ (o : Option ℕ). p (unwrap_or o 0) ≡ true) (sym found) is
+    by-test false is later =
+        let found : find p (x ∷ xs) ≡ find p xs = rw is refl
+        in let some : list_any p xs ≡ true = rw is at e
+        in subst (λ (o : Option ℕ). p (unwrap_or o 0) ≡ true) (sym found) (later some)
+
+all-meant : (c : Parts) (b : ℕ) (e : Direction) (bytes : List ℕ) → CanSend bytes → length bytes ≤ 6 → goes_over (record_of functional Down) (record_of b e) ≡ true
+    → IsFor (ear_on c (record_of b e)) (record { nad = functional; bytes = bytes })
+all-meant c b Down bytes can few over = record { heard = refl; can = can; short = λ all z. few }
+all-meant c b Up bytes can few over = absurd (let bad : false ≡ true = sym (over-all b Up) ∙ over in cc)
+
+one-frame : (bytes : List ℕ) → length bytes ≤ 6 → frame_count (length bytes) ≡ 1
+one-frame bytes few = grind (arith, nat_tests)
+
+pub can-go-all : (c : Parts) (bytes : List ℕ) → is_addressed c ≡ true → CanSend bytes → length bytes ≤ 6 → CanGo c 0 (record { link = record_of functional Down; bytes = bytes })
+can-go-all c bytes some can few = record {
+  host = refl;
+  home_is = record { host = refl; address = any-found (λ n. is_some (nad c n)) (numbers (nodes c)) some };
+  over = refl;
+  can = can;
+  meant = λ l i over. all-meant c l.node l.dir bytes can few over;
+  several = λ more. absurd (let one = one-frame bytes few in omega arith);
+  one = λ e. cc;
+}
 
 pub go-more : (c : Parts) (h : ℕ) (ms : List Message) (m : Message) → AllCanGo c h ms → CanGo c h m → AllCanGo c h (ms ++ m ∷ [])
 go-more c h [] m g i = (i, tt)
@@ -180,7 +212,11 @@ pub or-false : (b : Bool) → (b || false) ≡ b
 or-false true = refl
 or-false false = refl
 
-pub address-zero : (c : Parts) (to : ℕ) → has_address c 0 to ≡ true → is_some (nad c to) ≡ true
+-- exactly one of both is host 0, and the other one has an address
+abbrev has_other : Parts → ℕ → ℕ → Bool
+has_other c from to = (from == 0 && not (to == 0) && is_some (nad c to)) || (to == 0 && not (from == 0) && is_some (nad c from))
+
+pub address-zero : (c : Parts) (to : ℕ) → has_other c 0 to ≡ true → is_some (nad c to) ≡ true
 address-zero c to h =
     let e : (not (to == 0) && is_some (nad c to)) ≡ true = rw (and-false (to == 0), or-false (not (to == 0) && is_some (nad c to))) at h
     in (and-parts (not (to == 0)) (is_some (nad c to)) e).1
@@ -189,20 +225,36 @@ pub address-other : (c : Parts) (from to : ℕ) → (to == 0 && not false && is_
 address-other c from to h = (and-parts (to == 0 && not false) (is_some (nad c from)) h).1
 
 -- where a message can be sent, its link is one of its host
-pub link-is : (c : Parts) (from to : ℕ) (b : Bool) → (from == 0) ≡ b → has_address c from to ≡ true → IsLink c from (if b then record_of to Down else record_of from Up)
+pub link-is : (c : Parts) (from to : ℕ) (b : Bool) → (from == 0) ≡ b → has_other c from to ≡ true → IsLink c from (if b then record_of to Down else record_of from Up)
 link-is c from to true e h =
     let z : from ≡ 0 = grind (arith, nat_tests, e)
     in record { host = sym z; address = address-zero c to (rw z at h) }
 link-is c from to false e h = record { host = refl; address = address-other c from to (rw e at h) }
+
+-- where it can be sent, it can go
+pub goes-by : (c : Parts) (from to : ℕ) (message : List ℕ) (b : Bool) → (to == functional) ≡ b → IsSound c → has_address c from to ≡ true → 1 ≤ length message → length message ≤ longest to
+    → CanGo c from (record { link = link_of from to; bytes = message })
+goes-by c from to message true is sound h some few =
+    let parts : (from == 0 && is_addressed c) ≡ true = rw is at h
+    in let both = and-parts (from == 0) (is_addressed c) parts
+    in let z : from ≡ 0 = grind (arith, nat_tests, both.0)
+    in let all : to ≡ functional = grind (arith, nat_tests, is)
+    in let short : length message ≤ 6 = rw is at few
+    in rw (z, all) (can-go-all c message both.1 (record { some = some; few = omega arith }) short)
+goes-by c from to message false is sound h some few =
+    let own : has_other c from to ≡ true = rw is at h
+    in let short : length message ≤ 4095 = rw is at few
+    in can-go c from (record { link = link_of from to; bytes = message }) sound (link-is c from to (from == 0) refl own) (record { some = some; few = short })
 
 abbrev pub send-known : (c : Parts) (capacity : ℕ) (past : List LogEntry) (port : PortId) (from to : ℕ) (message : List ℕ) (es : List Event)
     → IsSound c → refusal c capacity past port (Send from to message) ≡ None → Known c past → Known c (entry_is port (Send from to message) es ∷ past)
 send-known c capacity past port from to message es sound h k =
     let all : AllFalse (refusals c capacity past port (Send from to message)) = none-of (refusals c capacity past port (Send from to message)) h
     in let m : Message = record { link = link_of from to; bytes = message }
-    in let size = both-false (length message == 0) (nat_lt 4095 (length message)) all.1.1.0
-    in let can : CanSend message = record { some = let e : (length message == 0) ≡ false = size.0 in grind (arith, nat_tests); few = let e : nat_lt 4095 (length message) ≡ false = size.1 in grind (arith, nat_tests) }
-    in let go : CanGo c from m = can-go c from m sound (link-is c from to (from == 0) refl (not-false (has_address c from to) all.1.0)) can
+    in let size = both-false (length message == 0) (nat_lt (longest to) (length message)) all.1.1.0
+    in let some : 1 ≤ length message = let e : (length message == 0) ≡ false = size.0 in grind (arith, nat_tests)
+    in let few : length message ≤ longest to = let e : nat_lt (longest to) (length message) ≡ false = size.1 in grind (arith, nat_tests)
+    in let go : CanGo c from m = goes-by c from to message (to == functional) refl sound (not-false (has_address c from to) all.1.0) some few
     in record {
       states = λ x. more_if (from == x) m (k.states x);
       hosts = λ x. host-send-if c x (from == x) (accepted_from past x) (heard_on c past) (signs c past) (k.states x) m
@@ -290,16 +342,17 @@ abbrev pub answer_entry : Parts → List LogEntry → PortId → ℕ → LogEntr
 answer_entry c past port node = entry_is port (Answer node) (option_map_or (put_event c past node) (open_slot past) [])
 
 -- host 0 sends down and the others up
-pub link-down : (c : Parts) (node : ℕ) (dir : Direction) → IsSound c → IsLink c 0 (record_of node dir) → dir ≡ Down
-link-down c node Down sound l = refl
-link-down c node Up sound l =
-    let z : node ≡ 0 = l.host
+pub goes-down : (c : Parts) (node : ℕ) (dir : Direction) (bytes : List ℕ) → IsSound c → CanGo c 0 (record { link = record_of node dir; bytes = bytes }) → dir ≡ Down
+goes-down c node Down bytes sound go = refl
+goes-down c node Up bytes sound go =
+    let l : IsLink c 0 (record_of node Up) = go.one refl
+    in let z : node ≡ 0 = l.host
     in let none : is_some (nad c node) ≡ false = rw (z, sound.commander)
     in absurd (let some : is_some (nad c node) ≡ true = l.address in let bad : true ≡ false = sym some ∙ none in cc)
 
-pub link-up : (c : Parts) (h node : ℕ) (dir : Direction) → h ≢ 0 → IsLink c h (record_of node dir) → dir ≡ Up
-link-up c h node Down some l = absurd (some (sym l.host))
-link-up c h node Up some l = refl
+pub goes-up : (h node : ℕ) (dir : Direction) → h ≢ 0 → host_of (record_of node dir) ≡ h → dir ≡ Up
+goes-up h node Down some host = absurd (some (sym host))
+goes-up h node Up some host = refl
 
 pub slot-down : (c : Parts) (table entry : ℕ) (due left : List ℕ) (hurt : Bool) (node : ℕ) (dir : Direction) (f : List ℕ) → dir ≡ Down
     → frame_slot table entry due left hurt (record_of node dir) f ≡ slot_of table entry (Some 0x3C) due ((0, with_classic f) ∷ []) left hurt
@@ -328,8 +381,8 @@ pub master-slot : (c : Parts) (past : List LogEntry) (port : PortId) (node table
 master-slot c past port node table entry due left hurt sound k is line only z (is_sleep e) = rw (is, line, z, e) (sleep table entry due left hurt only)
 master-slot c past port node table entry due left hurt sound k is line only z (is_frame m ms j r n e) =
     let go : CanGo c 0 m = first-go c 0 (accepted_from past 0) (heard_on c past) (signs c past) (k.states 0) m ms r (k.hosts 0)
-    in let down : m.link.dir ≡ Down = link-down c m.link.node m.link.dir sound go.link
-    in let shape : SlotIs c (is_sleep_asked past) k.states (Some (frame_slot table entry due left hurt m.link (frame (address c m.link) m.bytes j))) = carries table entry due left hurt 0 m ms j only go.link.host r n
+    in let down : m.link.dir ≡ Down = goes-down c m.link.node m.link.dir m.bytes sound go
+    in let shape : SlotIs c (is_sleep_asked past) k.states (Some (frame_slot table entry due left hurt m.link (frame (address c m.link) m.bytes j))) = carries table entry due left hurt 0 m ms j only go.host r n
     in rw (is, line, z, e) (subst (λ (s : Slot). SlotIs c (is_sleep_asked past) k.states (Some s)) (slot-down c table entry due left hurt m.link.node m.link.dir (frame (address c m.link) m.bytes j) down) shape)
 
 pub slave-slot : (c : Parts) (past : List LogEntry) (port : PortId) (node table entry : ℕ) (due left : List ℕ) (hurt : Bool) (h : ℕ) → (k : Known c past) → open_slot past ≡ Some (slot_of table entry (Some 0x7D) due [] left hurt)
@@ -340,9 +393,9 @@ slave-slot c past port node table entry due left hurt h k is line only z some q 
     in let j : ℕ = (k.states h).count
     in let f : List ℕ = frame (address c m.link) m.bytes j
     in let go : CanGo c h m = first-go c h (accepted_from past h) (heard_on c past) (signs c past) (k.states h) m next.1 next.2 (k.hosts h)
-    in let up : m.link.dir ≡ Up = link-up c h m.link.node m.link.dir some go.link
-    in let own : m.link.node ≡ h = host-up m.link.node m.link.dir h up go.link.host
-    in let shape : SlotIs c (is_sleep_asked past) k.states (Some (frame_slot table entry due left hurt m.link f)) = carries table entry due left hurt h m next.1 j only go.link.host next.2 refl
+    in let up : m.link.dir ≡ Up = goes-up h m.link.node m.link.dir some go.host
+    in let own : m.link.node ≡ h = host-up m.link.node m.link.dir h up go.host
+    in let shape : SlotIs c (is_sleep_asked past) k.states (Some (frame_slot table entry due left hurt m.link f)) = carries table entry due left hurt h m next.1 j only go.host next.2 refl
     in let at : SlotIs c (is_sleep_asked past) k.states (Some (slot_of table entry (Some 0x7D) due ((m.link.node, with_classic f) ∷ []) left hurt)) = subst (λ (s : Slot). SlotIs c (is_sleep_asked past) k.states (Some s)) (slot-up c table entry due left hurt m.link.node m.link.dir f up) shape
     in let there : SlotIs c (is_sleep_asked past) k.states (Some (slot_of table entry (Some 0x7D) due ((h, with_classic f) ∷ []) left hurt)) = subst (λ (x : ℕ). SlotIs c (is_sleep_asked past) k.states (Some (slot_of table entry (Some 0x7D) due ((x, with_classic f) ∷ []) left hurt))) own at
     in rw (is, line, z, next.3) there

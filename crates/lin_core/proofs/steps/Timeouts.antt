@@ -9,7 +9,7 @@ use Rattle.lin_cluster_parts.specs.declared.parts.Parts.{Parts}
 use Rattle.lin_core.specs.History.{open_slot}
 use Rattle.lin_core.specs.kept.State.{Keeps, KeepsLate, IsKept, Stage}
 use Rattle.lin_core.specs.kept.Hosts.{KeepsHost, message_at, message_of, host_after_settling}
-use Rattle.lin_core.specs.Links.{Link, Message, accepted_from, heard_on, host_of, same_link, signs, waiting}
+use Rattle.lin_core.specs.Links.{Link, Message, accepted_from, heard_on, host_of, is_to_all, same_link, signs, waiting}
 use Rattle.lin_core.specs.Replies.{all_reports, begun_on, link_at, quiet_entry, refusals}
 use Rattle.lin_core.specs.declared.event.Event.{Event}
 use Rattle.lin_core.specs.declared.event.Event.TheVariants.{Lost as LostEvent}
@@ -20,7 +20,7 @@ use Rattle.lin_core.specs.declared.log.LogEntry.{LogEntry}
 use Rattle.lin_core.specs.declared.port.PortId.{PortId}
 use Rattle.lin_core.specs.declared.step.Step.TheVariants.{Timeout}
 use Rattle.lin_core.proofs.steps.FinishEvents.{lost-one, timeout-told}
-use Rattle.lin_core.proofs.sendings.Hosts.{CanGo}
+use Rattle.lin_core.proofs.sendings.Hosts.{CanGo, IsCount}
 use Rattle.lin_core.proofs.kept.Keeping.{host-few, queue-length}
 use Rattle.lin_core.proofs.steps.Known.{Known, entry_is}
 use Rattle.lin_core.proofs.steps.Allowed.{host-of}
@@ -133,6 +133,7 @@ times-out a by node dir host w n e =
     in let begun : begun_at (k.states h).rest (k.states h).count l ≡ true = sym (begun-is c past node dir none k) ∙ not-none (begun_on c past node dir) all.1.1.1.0
     in let f : FirstIs (k.states h).rest (k.states h).count l = first-is (k.states h).rest (k.states h).count l begun
     in let go : CanGo c h f.message = first-go c h (accepted_from past h) (heard_on c past) (signs c past) (k.states h) f.message f.later f.first (k.hosts h)
+    in let one : is_to_all f.message.link ≡ false = subst (λ (n : ℕ). IsCount (f.message ∷ f.later) n) f.begun (subst (λ (r : List Message). IsCount r (k.states h).count) f.first (k.hosts h).counts)
     in let own : (x : Link) → t x ≡ true → host_of x ≡ h = λ x s. ap host_of (same-is x l s)
     in let kept : KeepsHost c a.capacity a.log past h host = w.kept.each_host h host here
     in let few : host.settled + length host.queue.items ≤ length a.log = host-few c a.capacity a.log h host kept
@@ -147,11 +148,11 @@ times-out a by node dir host w n e =
       known = k;
       none = none;
       there = there;
-      address = subst (λ (x : Link). is_some (nad c x.node) ≡ true) (same-is f.message.link l f.over) go.link.address;
+      address = subst (λ (x : Link). is_some (nad c x.node) ≡ true) (same-is f.message.link l f.over) (go.one one).address;
       here = here;
       small = omega arith;
       told = ap (λ (x : ℕ). LostEvent h x TimedOut ∷ []) number
-          ∙ sym (timeout-told c past by node dir w.sound none k ∙ lost-one c past k t TimedOut h f.message f.later f.good f.first f.begun f.over own go.link);
+          ∙ sym (timeout-told c past by node dir w.sound none k ∙ lost-one c past k t TimedOut h f.message f.later f.good f.first f.begun f.over own (go.one one));
       settles = λ es.
           let m = marked-own t TimedOut (k.states h) f.message f.later f.good f.first f.begun f.over
           in record {

@@ -76,9 +76,9 @@ answers-next a by node host place header sleeping r none e at own is head sleeps
     in record {
       step = s;
       slot = o;
-      has = next-has c (message_at a.log place) host.sender (s.known.states node).rest (s.known.states node).count sleeping (s.known.hosts node).counts next some;
+      has = next-has c node (message_at a.log place) host.sender (s.known.states node).rest (s.known.states node).count sleeping (s.known.hosts node).counts next some;
       told = sym (rw (o.is, t.header_is)
           (ap (λ (bytes : List ℕ). PutEvent node bytes ∷ [])
           (t.bytes ∙ ap (λ (b : Bool). with_classic (next_of c (s.known.states node).rest (s.known.states node).count b)) (sym asleep_is)
-          ∙ ap with_classic (sym (next-same c (message_at a.log place) host.sender (s.known.states node).rest (s.known.states node).count sleeping (s.known.hosts node).counts next some)))));
+          ∙ ap with_classic (sym (next-same c node (message_at a.log place) host.sender (s.known.states node).rest (s.known.states node).count sleeping (s.known.hosts node).counts next some)))));
     }

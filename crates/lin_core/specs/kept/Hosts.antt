@@ -1,19 +1,20 @@
 -- No promise rests on this: the hosts' messages.
-use Rattle.std.specs.Prelude.{◌≡◌, ⊤, ℕ, ◌+◌, ◌≤◌, ◌<◌, Bool, true, false, List, [], ◌∷◌, ◌++◌}
-use Rattle.std.specs.Prelude.{drop, flat_map, map, length, filter, slice_get, Option, Some, None}
+use Rattle.std.specs.Prelude.{◌≡◌, ⊤, ℕ, ◌+◌, ◌≤◌, ◌<◌, ◌⊎◌, Bool, true, false, List, [], ◌∷◌, ◌++◌}
+use Rattle.std.specs.Prelude.{drop, flat_map, is_some, if◌then◌else◌, map, take, length, filter, slice_get, Option, Some, None}
 use Rattle.std.specs.Prelude.{option_map}
+use Rattle.std.specs.List.{list_any}
 use Rattle.std.specs.Option.{option_map_or}
 use Rattle.lin_frame.specs.Words.{numbers}
 use Rattle.circular_buffer.specs.Buffer.{buffer}
 use Rattle.lin_transport.specs.Transport.{frame, frame_count}
 use Rattle.lin_transport.specs.Sender.{Sending as Sender}
-use Rattle.lin_cluster_parts.specs.Cluster.{nodes}
+use Rattle.lin_cluster_parts.specs.Cluster.{nad, nodes}
 use Rattle.lin_core.specs.History.{is_host_closed, LogEntry, Step, Parts}
 use Rattle.lin_core.specs.Links.{Message, Sending, accepted_from, begun_sending, is_good, link_of}
-use Rattle.lin_core.specs.Links.{address, waiting}
+use Rattle.lin_core.specs.Links.{address, is_to_all, waiting}
 use Rattle.lin_core.specs.Slots.{sleep_frame}
 use Rattle.lin_core.specs.declared.event.Event.{Event}
-use Rattle.lin_core.specs.declared.event.Event.TheVariants.{Lost}
+use Rattle.lin_core.specs.declared.event.Event.TheVariants.{Lost, Message as MessageEvent}
 use Rattle.lin_core.specs.declared.host.Host.{Host}
 use Rattle.lin_core.specs.declared.link.Cause.TheVariants.{Slept}
 use Rattle.lin_core.specs.declared.step.Step.TheVariants.{Send}
@@ -114,4 +115,16 @@ HasNext c o (Some s) sleeping =
 HasNext c o None true = ⊤
 HasNext c o None false =
     (m : Message) × (o ≡ Some m) × (1 ≤ length m.bytes) × (length m.bytes ≤ 4095)
-    × (m.link.node < nodes c)
+    × ((is_to_all m.link ≡ true) ⊎ (m.link.node < nodes c))
+
+-- the message that comes next of a host goes to all responders
+abbrev pub is_next_to_all : Parts → List LogEntry → ℕ → Bool
+is_next_to_all c past h =
+    list_any (λ (s : Sending). is_to_all s.message.link) (take 1 (waiting c past h))
+
+-- what the responders with an address are told of a message to all, by rising node
+abbrev pub told_to : Parts → List ℕ → ℕ → List Event
+told_to c m h = if is_some (nad c h) then MessageEvent 0 h m ∷ [] else []
+
+abbrev pub told_to_all : Parts → List ℕ → ℕ → List Event
+told_to_all c m n = flat_map (told_to c m) (numbers n)

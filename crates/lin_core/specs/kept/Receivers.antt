@@ -1,7 +1,7 @@
 -- No promise rests on this: the receivers of the links.
-use Rattle.std.specs.Prelude.{◌≡◌, ℕ, true, List, ◌∷◌, length, slice_get, slice_set, Option, Some}
+use Rattle.std.specs.Prelude.{◌≡◌, ◌≤◌, ℕ, true, List, [], ◌∷◌, ◌++◌, length, slice_get, slice_set, Option, Some}
 use Rattle.std.specs.Prelude.{is_some}
-use Rattle.lin_transport.specs.Transport.{Heard}
+use Rattle.lin_transport.specs.Transport.{Heard, heard_to, messages_to}
 use Rattle.lin_transport.specs.Transport.Heard.{Reset}
 use Rattle.lin_transport.specs.Receiver.{ear_of, HasHeard, Reads, Reception}
 use Rattle.lin_cluster_parts.specs.Cluster.{nad, nodes}
@@ -52,3 +52,34 @@ pub record IsReset (old new : Reception) : Type 0 where
 pub record AreReset (old new : Receivers) : Type 0 where
   pub down : IsReset old.down new.down
   pub up : IsReset old.up new.up
+
+-- what was heard is as before: the room that was made alone may differ
+pub record AreAlike (old new : List Receivers) : Type 0 where
+  pub count : length new ≡ length old
+  pub each : (h : ℕ) (d : Direction) (was is : Receivers) → slice_get old h ≡ Some was
+      → slice_get new h ≡ Some is
+      → (ear_of (receiver_in d is) ≡ ear_of (receiver_in d was))
+      × ((receiver_in d is).part ≡ (receiver_in d was).part)
+
+-- each receiver down has room for a single frame
+abbrev pub HaveRoom : List Receivers → Type 0
+HaveRoom rs = (h : ℕ) (r : Receivers) → slice_get rs h ≡ Some r → 1 ≤ r.down.spare
+
+-- a receiver down hears a frame
+pub record HearsToo (frame : List ℕ) (was is : Receivers) : Type 0 where
+  pub ear : (heard : List Heard) → HasHeard was.down heard → ear_of is.down ≡ ear_of was.down
+  pub down : (heard : List Heard) → HasHeard was.down heard
+      → HasHeard is.down (heard_to (ear_of was.down) frame heard)
+  pub up : is.up ≡ was.up
+
+-- the receiver down of each node with an address hears it
+pub record HearAll (c : Parts) (frame : List ℕ) (old new : List Receivers) : Type 0 where
+  pub count : length new ≡ length old
+  pub each : (h : ℕ) (was is : Receivers) → slice_get old h ≡ Some was → slice_get new h ≡ Some is
+      → is_some (nad c h) ≡ true → HearsToo frame was is
+
+-- a frame completes a message for a receiver that has heard this
+pub record Completes (frame m : List ℕ) (r : Reception) (heard : List Heard) : Type 0 where
+  pub stands : HasHeard r heard
+  pub reads : messages_to (ear_of r) (heard_to (ear_of r) frame heard)
+      ≡ messages_to (ear_of r) heard ++ m ∷ []

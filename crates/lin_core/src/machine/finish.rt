@@ -10,16 +10,18 @@ use crate::messages::message_at;
 use crate::payload::{Events, Payload};
 use crate::pdu::Pdu;
 use crate::port::PortId;
-use crate::receivers::{hear, reset_all};
+use crate::receivers::{hear, make_room_in_all, reset_all};
 use crate::setup::Setup;
 use crate::sleep_losses::sleep_events;
 use crate::state::State;
 use crate::step::Step;
+use crate::told::events_to_all;
 use std::alloc::AllocError;
 
 impl State {
     ghost use Rattle.lin_core.specs.kept.State.{stage, IsMade, IsReady, Makes};
     ghost use Rattle.lin_core.specs.History.{open_slot, Slot as OpenedSlot};
+    ghost use Rattle.lin_core.specs.kept.Hosts.{is_next_to_all};
     ghost use Rattle.lin_core.specs.kept.Slots.{is_still, pdu_of, IsCarried};
     ghost use Rattle.lin_core.specs.declared.pdu.Pdu.TheVariants.{OfMessage, Sleep};
 
@@ -60,6 +62,25 @@ impl State {
         Ok(two_events(room, Event::Seen(seen), lost))
     }
 
+    /// A finish of a slot with a good frame to all responders: each of them that has an address is
+    /// told of the message.
+    fn finish_to_all(&mut self, setup: &Setup, log: &Log, by: PortId) -> Result<Events, AllocError>
+        requires ready { IsReady (stage setup.now log.now self.old) by Step.Finish }
+        requires carried { IsCarried (reverse log.now.entries) 0 false }
+        requires all { is_next_to_all setup.now.cluster (reverse log.now.entries) 0 ≡ true }
+        ensures { Makes (stage setup.now log.now self.old) by Step.Finish result self.new }
+    {
+        let room = Vec::with_capacity(setup.alloc, 2 + self.receivers.len())?;
+        make_room_in_all(&mut self.receivers)?;
+        let frame = self.slot.open().data();
+        let seen = self.pass_slot(&setup.cluster);
+        let host = &mut self.hosts[0];
+        let number = host.settled + 1;
+        host.settle();
+        let told = &mut self.receivers;
+        Ok(events_to_all(room, seen, &setup.cluster, told, &frame, number))
+    }
+
     /// A finish of a slot with a good frame of a host's message: the message goes on, or it is
     /// whole, and its receiver is told of it.
     fn finish_good(
@@ -75,6 +96,9 @@ impl State {
     {
         let host = &self.hosts[sender as usize];
         let message = message_at(&setup.cluster, log, host.next() as usize);
+        if message.link.is_to_all() {
+            return self.finish_to_all(setup, log, by);
+        }
         let last = host.is_last(message.bytes.len());
         let told = if last { 3 } else { 0 };
         let room = Vec::with_capacity(setup.alloc, told)?;

@@ -1,11 +1,12 @@
 //! When a send, a timeout or a close is refused.
 
-ghost use Rattle.std.specs.Prelude.{◌≡◌, ℕ, ◌<◌, List, None, length, option_map, is_some};
+ghost use Rattle.std.specs.Prelude.{◌≡◌, ◌≢◌, ◌||◌, ℕ, ◌<◌, List, None, length, option_map, is_some};
 ghost use Rattle.lin_cluster_parts.specs.Cluster.{nodes};
 ghost use Rattle.lin_core.specs.History.{is_host_closed, open_slot};
 ghost use Rattle.lin_core.specs.kept.Slots.{slot_in};
 ghost use Rattle.lin_core.specs.Links.{waiting};
-ghost use Rattle.lin_core.specs.Replies.{begun_on, has_address, refusal};
+ghost use Rattle.lin_core.specs.Replies.{begun_on, has_address, is_addressed, longest, refusal};
+ghost use Rattle.lin_transport.specs.Transport.{functional};
 ghost use Rattle.lin_core.specs.declared.log.LogEntry.{LogEntry};
 
 use crate::link::Link;
@@ -16,16 +17,51 @@ use crate::reply::Refusal;
 use crate::slot::Slot;
 use crate::step::Step;
 use lin_cluster_parts::Cluster;
+use lin_transport::FUNCTIONAL;
 
-/// The most bytes that a message has (ISO 17987-2, transport layer).
+/// The most bytes that a message has, and one to all responders, which is a single frame (ISO
+/// 17987-2, transport layer).
 const MESSAGE_BYTES: usize = 4095;
+const TO_ALL_BYTES: usize = 6;
 
-/// Whether exactly one of sender and receiver is host 0, and the other one has an address.
+/// The most bytes of a message to a receiver.
+fn longest(to: u8) -> usize
+    ensures { result ≡ longest to }
+{
+    if to == FUNCTIONAL {
+        return TO_ALL_BYTES;
+    }
+    MESSAGE_BYTES
+}
+
+/// Whether one or the other holds.
+fn either(one: bool, other: bool) -> bool
+    ensures { result ≡ (one || other) }
+{
+    one || other
+}
+
+/// Whether a responder has an address.
+fn is_addressed(cluster: &Cluster) -> bool
+    ensures { result ≡ is_addressed cluster.now }
+{
+    let mut found = false;
+    for node in 0..cluster.nodes() as u8 {
+        found = either(found, cluster.nad(node).is_some());
+    }
+    found
+}
+
+/// Whether exactly one of sender and receiver is host 0, and the other one has an address; or host
+/// 0 sends to all responders, and one of them has an address.
 fn has_address(cluster: &Cluster, from: u8, to: u8) -> bool
     requires from { from < nodes cluster.now }
-    requires to { to < nodes cluster.now }
+    requires to { to ≢ functional → to < nodes cluster.now }
     ensures { result ≡ has_address cluster.now from to }
 {
+    if to == FUNCTIONAL {
+        return from == 0 && is_addressed(cluster);
+    }
     (from == 0 && to != 0 && cluster.nad(to).is_some())
         || (to == 0 && from != 0 && cluster.nad(from).is_some())
 }
@@ -47,14 +83,14 @@ pub(crate) fn refuse_send(
         → result ≡ refusal cluster.now capacity past by (Step.Send from to message.now) }
 {
     let nodes = cluster.nodes();
-    if from as usize >= nodes || to as usize >= nodes {
+    if from as usize >= nodes || (to as usize >= nodes && to != FUNCTIONAL) {
         return Some(Refusal::NoSuchNode);
     }
     if !has_address(cluster, from, to) {
         return Some(Refusal::NoAddress);
     }
     let length = message.as_slice().len();
-    if length == 0 || length > MESSAGE_BYTES {
+    if length == 0 || length > longest(to) {
         return Some(Refusal::BadLength);
     }
     if shut {

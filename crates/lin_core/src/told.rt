@@ -1,0 +1,96 @@
+//! Messages to all responders, as they are told of them.
+
+ghost use Rattle.std.specs.Prelude.{◌≡◌, ◌<◌, ◌≤◌, ◌+◌, ◌++◌, ◌∷◌, [], ℕ, List, Some, length};
+ghost use Rattle.std.specs.Prelude.{is_some, slice_get, slice_index, true, vec_capacity};
+ghost use Rattle.lin_cluster_parts.specs.Cluster.{nad, nodes};
+ghost use Rattle.lin_transport.specs.Transport.{Heard};
+ghost use Rattle.lin_core.specs.kept.Hosts.{told_to_all};
+ghost use Rattle.lin_core.specs.kept.Receivers.{Completes, HaveRoom, HearAll, HearsToo};
+ghost use Rattle.lin_core.specs.declared.receivers.Receivers.{Receivers};
+
+use crate::event::{Event, Seen};
+use crate::payload::{Events, Payload};
+use crate::receivers::Receivers;
+use lin_cluster_parts::Cluster;
+
+/// A responder hears a frame to all, and is told of the message that it completes.
+fn tell_one(receivers: &mut Receivers, node: u8, frame: &[u8; 8], events: &mut Vec<Event>)
+    requires single { slice_index frame.now 1 < 16 }
+    requires ready { 1 ≤ receivers.old.down.spare }
+    requires room { length events.old.items + 1 ≤ vec_capacity events.old }
+    ensures hears { HearsToo frame.now receivers.old receivers.new }
+    ensures told { (heard : List Heard) (m : List ℕ)
+        → Completes frame.now m receivers.old.down heard
+        → events.new.items ≡ events.old.items ++ Event.Message 0 node m ∷ [] }
+    ensures few { length events.new.items ≤ length events.old.items + 1 }
+    ensures room { vec_capacity events.old ≤ vec_capacity events.new }
+{
+    if let Some(message) = receivers.down.hear(frame).unwrap() {
+        let whole = Event::Message {
+            from: 0,
+            to: node,
+            bytes: Payload::new(message),
+        };
+        events.push(whole).unwrap();
+    }
+}
+
+/// Each responder with an address hears a frame to all, and is told of the message that it
+/// completes, by rising node.
+fn tell_each(
+    cluster: &Cluster,
+    receivers: &mut Vec<Receivers>,
+    frame: &[u8; 8],
+    events: &mut Vec<Event>,
+)
+    requires count { length receivers.old.items ≡ nodes cluster.now }
+    requires few { length receivers.old.items ≤ 16 }
+    requires single { slice_index frame.now 1 < 16 }
+    requires ready { HaveRoom receivers.old.items }
+    requires room { length events.old.items + length receivers.old.items ≤ vec_capacity events.old }
+    ensures hears { HearAll cluster.now frame.now receivers.old.items receivers.new.items }
+    ensures told { (heard : ℕ → List Heard) (m : List ℕ)
+        → ((h : ℕ) (r : Receivers) → slice_get receivers.old.items h ≡ Some r
+        → is_some (nad cluster.now h) ≡ true → Completes frame.now m r.down (heard h))
+        → events.new.items
+        ≡ events.old.items ++ told_to_all cluster.now m (length receivers.old.items) }
+    ensures few { length events.new.items ≤ length events.old.items + length receivers.old.items }
+    ensures room { vec_capacity events.old ≤ vec_capacity events.new }
+{
+    for node in 0..receivers.len() as u8 {
+        if cluster.nad(node).is_some() {
+            tell_one(&mut receivers[node as usize], node, frame, events);
+        }
+    }
+}
+
+/// A message to all is whole at the end of a slot that is seen so: each responder with an address is
+/// told of it, and then its host. The events, in the room that was made for them.
+pub(crate) fn events_to_all(
+    room: Vec<Event>,
+    seen: Seen,
+    cluster: &Cluster,
+    receivers: &mut Vec<Receivers>,
+    frame: &[u8; 8],
+    number: u32,
+) -> Events
+    requires empty { room.items ≡ [] }
+    requires count { length receivers.old.items ≡ nodes cluster.now }
+    requires few { length receivers.old.items ≤ 16 }
+    requires single { slice_index frame.now 1 < 16 }
+    requires ready { HaveRoom receivers.old.items }
+    requires room { 2 + length receivers.old.items ≤ vec_capacity room }
+    ensures hears { HearAll cluster.now frame.now receivers.old.items receivers.new.items }
+    ensures told { (heard : ℕ → List Heard) (m : List ℕ)
+        → ((h : ℕ) (r : Receivers) → slice_get receivers.old.items h ≡ Some r
+        → is_some (nad cluster.now h) ≡ true → Completes frame.now m r.down (heard h))
+        → result ≡ Event.Seen seen
+        ∷ told_to_all cluster.now m (length receivers.old.items) ++ Event.Sent 0 number ∷ [] }
+{
+    let mut events = room;
+    events.push(Event::Seen(seen)).unwrap();
+    tell_each(cluster, receivers, frame, &mut events);
+    let sent = Event::Sent { host: 0, number };
+    events.push(sent).unwrap();
+    Events::new(events)
+}
