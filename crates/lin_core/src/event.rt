@@ -45,7 +45,8 @@ pub enum Event {
     },
     /// How the slot was seen.
     Seen(Seen),
-    /// The host of `to` received a message from host `from`.
+    /// The host of `to` received a message from host `from`. Of a message to all responders each
+    /// that has an address is told, by rising node (ISO 17987-2, functional node address).
     Message {
         from: u8,
         to: u8,

@@ -16,8 +16,8 @@ use lin_transport::Receiver;
 use std::alloc::{AllocError, Global};
 
 /// The receivers of the two links of a node (ISO 17987-2, transport layer): its own, of the
-/// messages down to it and to all responders, and the one of host 0, of the messages up from it. A node without an
-/// address has no links, and its two hear nothing.
+/// messages down to it and to all responders, and the one of host 0, of the messages up from it. A
+/// node without an address has no links, and its two hear nothing.
 #[derive(Drop)]
 pub(crate) struct Receivers {
     pub(crate) down: Receiver,

@@ -6,7 +6,7 @@ use crate::payload::Events;
 /// in this order. A refused step is logged and changes nothing else.
 #[derive(Clone, Copy, Debug, PartialEq, Eq)]
 pub enum Refusal {
-    /// 1: a number in the step is no node's.
+    /// 1: a number in the step is no node's; 126 as the receiver of a message is all responders.
     NoSuchNode,
     /// 2: the signal's number is no signal's.
     NoSuchSignal,
@@ -17,9 +17,10 @@ pub enum Refusal {
     /// 5: the value isn't of the signal's kind or size: an array for a scalar signal or the other
     /// way round, a scalar with more bits, an array of another length.
     BadValue,
-    /// 6: not exactly one of sender and receiver is host 0, or the other one has no address.
+    /// 6: not exactly one of sender and receiver is host 0, or the other one has no address; of a
+    /// message to all responders, the sender isn't host 0, or no responder has an address.
     NoAddress,
-    /// 7: the message has no bytes, or more than 4,095.
+    /// 7: the message has no bytes, or more than 4,095; to all responders, more than 6.
     BadLength,
     /// 8: the host is closed.
     Closed,

@@ -7,7 +7,10 @@ use lin_frame::Value;
 /// A step of the cluster.
 #[derive(Debug, PartialEq, Drop)]
 pub enum Step {
-    /// Host `from` sends `message` to host `to`.
+    /// Host `from` sends `message`, of 1 to 4,095 bytes, to host `to`: one of both is host 0, and
+    /// the other one has an address. With `to` 126 host 0 sends it to each responder that has an
+    /// address at once; such a message has 1 to 6 bytes, those of a single frame (ISO 17987-2,
+    /// functional node address).
     Send { from: u8, to: u8, message: Payload },
     /// Node `by`, which publishes a signal, gives it a value (ISO 17987-3, signals).
     Write { by: u8, signal: u16, value: Value },

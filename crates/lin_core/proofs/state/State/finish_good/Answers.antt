@@ -1,12 +1,14 @@
-use Rattle.std.proofs.Common.{refl, ◌≡◌, ℕ, suc, length, List, [], ◌∷◌, ap, sym, ◌∙◌, arith, inr}
-use Rattle.std.specs.Prelude.{Some, false, is_some, option_map, slice_set, true}
+use Rattle.std.proofs.Common.{refl, ◌≡◌, ℕ, suc, length, List, [], ◌∷◌, ap, sym, ◌∙◌, ◌<◌, subst, arith, inr}
+use Rattle.std.specs.List.{list_any}
+use Rattle.std.specs.Prelude.{Some, false, is_some, map, option_map, slice_set, take, true}
 use Rattle.std.proofs.Math.ListN.{length-set}
+use Rattle.lin_cluster_parts.specs.Cluster.{nodes}
 use Rattle.lin_core.specs.History.{seen_of}
-use Rattle.lin_core.specs.kept.Hosts.{host_after_frame, host_after_settling, message_at}
-use Rattle.lin_core.specs.kept.Slots.{slot_in}
+use Rattle.lin_core.specs.kept.Hosts.{host_after_frame, host_after_settling, is_next_to_all, message_at, message_of}
+use Rattle.lin_core.specs.kept.Slots.{slot_in, IsCarried}
 use Rattle.lin_core.specs.kept.Receivers.{KeepsHeard}
 use Rattle.lin_core.specs.kept.Bus.{KeepsBus}
-use Rattle.lin_core.specs.Links.{Message, address}
+use Rattle.lin_core.specs.Links.{Link, Message, Sending, address, host_of, is_to_all, waiting}
 use Rattle.lin_core.specs.kept.State.{Passes, Stage, stage}
 use Rattle.lin_core.specs.Replies.{finish_events, receiver_of}
 use Rattle.lin_core.specs.declared.event.Event.TheVariants.{Message as MessageEvent, Seen, Sent}
@@ -17,7 +19,10 @@ use Rattle.lin_core.proofs.steps.FinishCases.{Done, Part, finishes-part, finishe
 use Rattle.lin_core.proofs.kept.Going.{GoesOn, going-hosts, going-late}
 use Rattle.lin_core.proofs.steps.Goods.{GoodIs, carried-slot, good-inside, host-there, last-inside, more-frames, same-host}
 use Rattle.lin_core.proofs.steps.Making.{OpenIs, known-inside, open-ready, past_in}
-use Rattle.lin_core.proofs.sendings.Moves.{is_last}
+use Rattle.lin_core.proofs.sendings.Moves.{is_last, to-all-is}
+use Rattle.lin_core.proofs.sendings.Queues.{waiting-are}
+use Rattle.lin_core.proofs.laws.Reports.{index-some}
+use Rattle.lin_core.proofs.steps.FinishEvents.ToldIs.{to_one}
 use Rattle.lin_core.proofs.kept.Passing.{finish_of, passed-keeps, passed-bus, passes-as}
 use Rattle.lin_core.proofs.kept.Places.{lent-is}
 use Rattle.lin_core.proofs.steps.Reassembling.{given-inside, heard-inside, items-given, some-given}
@@ -52,9 +57,44 @@ hear-requires c =
     let g = good-inside a c.args.sender false c.index-host.result.now c.next.result w (known-inside a w) c.requires.carried c.index-host.ensures c.next.ensures in
     let m = lent-is (message_at a.log c.next.result) c.message_at-message.result.link c.message_at-message.result.bytes.now g.message c.message_at-message.ensures.message g.at in
     let node = ap (λ (x : Message). x.link.node) m in
-    let there = g.node in
+    let alone : is_to_all g.message.link ≡ false = ap (λ (x : Message). is_to_all x.link) (sym m) ∙ sym c.is_to_all.ensures ∙ c.if-is_to_all.false in
+    let there = index-some a.cluster.nodes g.message.link.node (g.go.one alone).address in
     let count = w.heard.count in
     omega arith
+
+-- == a message to all
+-- the first that waits goes to all
+next-all : (ss : List Sending) (m : Message) (ms : List Message) → map message_of ss ≡ m ∷ ms → is_to_all m.link ≡ true → list_any (λ (s : Sending). is_to_all s.message.link) (take 1 ss) ≡ true
+next-all [] m ms e all = cc
+next-all (s ∷ ss) m ms e all =
+    let one : s.message ≡ m = cc in
+    let is : is_to_all s.message.link ≡ true = ap (λ (x : Message). is_to_all x.link) one ∙ all in
+    rw is refl
+
+-- host 0 alone sends to all
+sends-all : (l : Link) → is_to_all l ≡ true → host_of l ≡ 0
+sends-all l all = ap host_of (to-all-is l.node l.dir all)
+
+pub finish_to_all-requires-clause-carried : goal.finish_to_all-requires-clause-carried
+finish_to_all-requires-clause-carried c =
+    let a = stage c.args.setup.now c.args.log.now c.args.self.now in
+    let w = c.requires.ready.whole in
+    let g = good-inside a c.args.sender false c.index-host.result.now c.next.result w (known-inside a w) c.requires.carried c.index-host.ensures c.next.ensures in
+    let m = lent-is (message_at a.log c.next.result) c.message_at-message.result.link c.message_at-message.result.bytes.now g.message c.message_at-message.ensures.message g.at in
+    let all : is_to_all g.message.link ≡ true = ap (λ (x : Message). is_to_all x.link) (sym m) ∙ sym c.is_to_all.ensures ∙ c.if-is_to_all.true in
+    let none : c.args.sender ≡ 0 = sym g.go.host ∙ sends-all g.message.link all in
+    subst (λ (h : ℕ). IsCarried (past_in a) h false) none c.requires.carried
+
+pub finish_to_all-requires-clause-all : goal.finish_to_all-requires-clause-all
+finish_to_all-requires-clause-all c =
+    let a = stage c.args.setup.now c.args.log.now c.args.self.now in
+    let w = c.requires.ready.whole in
+    let g = good-inside a c.args.sender false c.index-host.result.now c.next.result w (known-inside a w) c.requires.carried c.index-host.ensures c.next.ensures in
+    let m = lent-is (message_at a.log c.next.result) c.message_at-message.result.link c.message_at-message.result.bytes.now g.message c.message_at-message.ensures.message g.at in
+    let all : is_to_all g.message.link ≡ true = ap (λ (x : Message). is_to_all x.link) (sym m) ∙ sym c.is_to_all.ensures ∙ c.if-is_to_all.true in
+    let none : c.args.sender ≡ 0 = sym g.go.host ∙ sends-all g.message.link all in
+    subst (λ (h : ℕ). is_next_to_all a.cluster (past_in a) h ≡ true) none
+    (next-all (waiting a.cluster (past_in a) c.args.sender) g.message g.later (waiting-are a.cluster (past_in a) c.args.sender w.sound (known-inside a w) ∙ g.first) all)
 
 pub pass_slot-seen-requires-clause-open : goal.pass_slot-seen-requires-clause-open
 pass_slot-seen-requires-clause-open c = ap is_some (open-ready (stage c.args.setup.now c.args.log.now c.args.self.now) c.args.by c.requires.ready).at
@@ -87,6 +127,12 @@ size c = ap (λ (m : Message). length m.bytes) (lent c)
 last : (c : After-index_mut-host) → is_last (good c).message.bytes ((opened c).step.known.states c.args.sender).count ≡ c.is_last-last.result
 last c = last-inside (here c) c.args.sender c.index-host.result.now c.next.result (length c.message_at-message.result.bytes.now) c.is_last-last.result (opened c).step.known (good c) (size c) c.is_last-last.ensures
 
+alone : (c : After-index_mut-host) → is_to_all (good c).message.link ≡ false
+alone c = ap (λ (m : Message). is_to_all m.link) (sym (lent c)) ∙ sym c.is_to_all.ensures ∙ c.if-is_to_all.false
+
+there : (c : After-index_mut-host) → (good c).message.link.node < nodes (here c).cluster
+there c = index-some (here c).cluster.nodes (good c).message.link.node ((good c).go.one (alone c)).address
+
 same : (c : After-index_mut-host) → c.index_mut-host.result.now ≡ c.index-host.result.now
 same c = same-host (here c) c.args.sender c.index_mut-host.result.now c.index-host.result.now c.requires.ready.whole (good c).below (rw c.pass_slot-seen.ensures.hosts at c.index_mut-host.ensures.value) c.index-host.ensures
 
@@ -104,7 +150,7 @@ bus_is c = passed-bus (here c) c.args.by (opened c) c.pass_slot-seen.new.self c.
 
 heard_frame : (c : After-index_mut-host) → HeardFrame (here c).cluster (past_in (here c)) (entry c ∷ past_in (here c)) (good c).message.link (option_map (λ v. v.items) c.in_ok-whole.whole) c.hear.new.receivers.items
 heard_frame c =
-    heard-inside (here c) c.args.by (opened c) c.args.sender c.index-host.result.now c.next.result c.requires.ready.whole (good c) c.requires.carried c.message_at-message.result.link c.data-frame.result
+    heard-inside (here c) c.args.by (opened c) c.args.sender c.index-host.result.now c.next.result c.requires.ready.whole (good c) c.requires.carried (alone c) c.message_at-message.result.link c.data-frame.result
     (option_map (λ v. v.items) c.in_ok-whole.whole) c.hear.new.receivers.items (ap (λ (m : Message). m.link) (lent c)) c.open.result.now c.open.ensures c.data-frame.ensures c.in_ok-whole.ensures.hears
 
 heard : (c : After-index_mut-host) → KeepsHeard (here c).cluster (entry c ∷ past_in (here c)) c.pass_slot-seen.new.self.receivers.items
@@ -134,7 +180,7 @@ after c more =
     let one : g.message ≡ (goes c more).message = cc in
     let link = ap (λ (m : Message). m.link) (lent c) in
     gone-same c.index_mut-host.result.now c.index-host.result.now c.message_at-message.result.address (address (here c).cluster (goes c more).message.link) (length c.message_at-message.result.bytes.now) (length (goes c more).message.bytes) (same c)
-    (c.message_at-message.ensures.address (inr (rw link g.node)) ∙ ap (address (here c).cluster) link ∙ ap (λ (m : Message). address (here c).cluster m.link) one)
+    (c.message_at-message.ensures.address (inr (rw link (there c))) ∙ ap (address (here c).cluster) link ∙ ap (λ (m : Message). address (here c).cluster m.link) one)
     (size c ∙ ap (λ (m : Message). length m.bytes) one)
 
 pub go_on-requires-clause-some : goal.go_on-requires-clause-some
@@ -174,7 +220,7 @@ returns c =
 -- == the message is whole
 given : (c : After-index_mut-host) → c.is_last-last.result ≡ true → option_map (λ v. v.items) c.in_ok-whole.whole ≡ Some (good c).message.bytes
 given c is =
-    given-inside (here c) c.args.by (opened c) c.args.sender c.index-host.result.now c.next.result c.requires.ready.whole (good c) c.requires.carried (last c ∙ is) (option_map (λ v. v.items) c.in_ok-whole.whole) c.hear.new.receivers.items (heard_frame c)
+    given-inside (here c) c.args.by (opened c) c.args.sender c.index-host.result.now c.next.result c.requires.ready.whole (good c) c.requires.carried (last c ∙ is) (alone c) (option_map (λ v. v.items) c.in_ok-whole.whole) c.hear.new.receivers.items (heard_frame c)
 
 done : (c : After-index_mut-host) → c.is_last-last.result ≡ true → Done (here c).cluster (past_in (here c)) c.args.by (slot_in (opened c).slot) c.requires.ready.whole.sound (opened c).step.known c.args.sender
     (MessageEvent c.args.sender (receiver_of (good c).message.link.dir (good c).message.link.node) (good c).message.bytes ∷ Sent c.args.sender (suc (length ((opened c).step.known.states c.args.sender).done)) ∷ [])
@@ -182,7 +228,7 @@ done c is =
     let o = opened c in
     let g = good c in
     let s = carried-slot (past_in (here c)) c.args.sender false (slot_in o.slot) o.is c.requires.carried in
-    finishes-whole (here c).cluster (past_in (here c)) c.args.by (slot_in o.slot) c.requires.ready.whole.sound o.step.known c.args.sender g.message g.later o.is s.0 s.1 g.first (last c ∙ is)
+    finishes-whole (here c).cluster (past_in (here c)) c.args.by (slot_in o.slot) c.requires.ready.whole.sound o.step.known c.args.sender g.message g.later (MessageEvent c.args.sender (receiver_of g.message.link.dir g.message.link.node) g.message.bytes ∷ []) o.is s.0 s.1 g.first (last c ∙ is) (to_one (alone c))
 
 pub overflow_add-number : goal.overflow_add-number
 overflow_add-number c = let small = (own c.before).small in omega arith
