@@ -22,6 +22,7 @@ use lin_transport::FUNCTIONAL;
 /// The most bytes that a message has, and one to all responders, which is a single frame (ISO
 /// 17987-2, transport layer).
 const MESSAGE_BYTES: usize = 4095;
+
 const TO_ALL_BYTES: usize = 6;
 
 /// The most bytes of a message to a receiver.
