@@ -5,6 +5,5 @@ pub mod Partial
 pub mod Ears
 pub mod Continues
 pub mod Hears
-pub mod Plain
 pub mod Readings
 pub mod FirstFrames

@@ -1,10 +1,9 @@
 -- What a receiver holds, and for which frames and resets it stands.
 use Rattle.std.specs.Prelude.{◌≡◌, ℕ, suc, ◌+◌, ◌*◌, ◌/◌, ◌%◌, ◌≤◌, ◌<◌, ⊤, ◌≢◌, Bool, true}
-use Rattle.std.specs.Prelude.{false, if◌then◌else◌, List, [], ◌∷◌, ◌++◌, length, slice_index}
+use Rattle.std.specs.Prelude.{if◌then◌else◌, List, [], ◌∷◌, ◌++◌, length, slice_index}
 use Rattle.std.specs.Prelude.{Option, Some, None, option_to_list}
 use Rattle.lin_transport.specs.Transport.{Heard, Ear, functional, begins, first, message_in}
-use Rattle.lin_transport.specs.Transport.{message_to, messages_to, heard_to, messages_in}
-use Rattle.lin_transport.specs.Transport.{heard_with}
+use Rattle.lin_transport.specs.Transport.{message_to, messages_to, heard_to}
 use Rattle.lin_transport.specs.Transport.Heard.{Frame, Reset}
 
 -- a message of which only a part has come: that part's bytes, and the length of the message
@@ -66,18 +65,6 @@ pub record Reads (old : Reception) (frame : List ℕ) (heard : List Heard) (give
   pub stands : HasHeard new (heard_to (ear_of old) frame heard)
   pub reads : messages_to (ear_of old) (heard_to (ear_of old) frame heard)
       ≡ messages_to (ear_of old) heard ++ option_to_list given
-
--- a receiver that listens to its own address alone has heard this
-abbrev pub Stands : Reception → List Heard → Type 0
-Stands r heard = (r.all ≡ false) × HasHeard r heard
-
--- what it gives for a frame
-pub record Hears (old : Reception) (frame : List ℕ) (heard : List Heard) (given : Option (List ℕ))
-    (new : Reception) : Type 0 where
-  pub address : new.nad ≡ old.nad
-  pub stands : Stands new (heard_with old.nad frame heard)
-  pub reads : messages_in old.nad (heard_with old.nad frame heard)
-      ≡ messages_in old.nad heard ++ option_to_list given
 
 -- a frame that begins a piece is read as this message or as none, whatever comes after it
 pub record IsReadAs (frame : List ℕ) (given : Option (List ℕ)) : Type 0 where

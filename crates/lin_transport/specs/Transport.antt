@@ -1,6 +1,6 @@
 -- Segmented messages as diagnostic frames, and what a receiver reads of frames
 -- (ISO 17987-2, transport layer; LIN 2.2A, 3.2).
-use Rattle.std.specs.Prelude.{ℕ, zero, suc, ◌+◌, ◌*◌, ◌/◌, ◌%◌, ◌≤◌, Bool, false, ◌&&◌, ◌||◌}
+use Rattle.std.specs.Prelude.{ℕ, zero, suc, ◌+◌, ◌*◌, ◌/◌, ◌%◌, ◌≤◌, Bool, ◌&&◌, ◌||◌}
 use Rattle.std.specs.Prelude.{nat_lt, nat_le, eqb, if◌then◌else◌, List, [], ◌∷◌, ◌++◌, map}
 use Rattle.std.specs.Prelude.{length, take, drop, slice_index, filter_map, Option, Some, None}
 use Rattle.std.specs.List.{concat}
@@ -90,10 +90,6 @@ pub record Ear : Type 0 where
   pub nad : ℕ
   pub all : Bool
 
--- to its own address alone
-abbrev pub plain : ℕ → Ear
-plain nad = record { nad = nad; all = false }
-
 -- whether it looks at frames to an address
 abbrev pub looks_at : Ear → ℕ → Bool
 looks_at e n = (e.all && eqb n functional) || eqb n e.nad
@@ -123,13 +119,3 @@ all_heard e (Reset ∷ earlier) = Reset ∷ all_heard e earlier
 -- the messages that it reads in all that it was given, in order
 abbrev pub messages_for : Ear → List Heard → List (List ℕ)
 messages_for e given = messages_to e (all_heard e given)
-
--- ---- a receiver that listens to its own address alone
-
--- the messages in what was heard, in order
-abbrev pub messages_in : ℕ → List Heard → List (List ℕ)
-messages_in nad heard = filter_map (message_in nad) (pieces heard)
-
--- what it has heard once this frame is given to it
-abbrev pub heard_with : ℕ → List ℕ → List Heard → List Heard
-heard_with nad f heard = if eqb (slice_index f 0) nad then Frame f ∷ heard else heard

@@ -7,7 +7,7 @@ ghost use Rattle.lin_transport.specs.Transport.{Ear, Heard, all_heard, begins, f
 ghost use Rattle.lin_transport.specs.Transport.{messages_for};
 ghost use Rattle.lin_transport.specs.Transport.Heard.{Frame, Reset};
 ghost use Rattle.lin_transport.specs.Receiver.{Holds, IsOwn, IsReadAs, IsBegun, IsContinued};
-ghost use Rattle.lin_transport.specs.Receiver.{HasHeard, Reads, Stands, Hears, ear_of};
+ghost use Rattle.lin_transport.specs.Receiver.{HasHeard, Reads, ear_of};
 
 use crate::pci::{CONSECUTIVE_BYTES, CONSECUTIVE_FRAME, FIRST_FRAME, FUNCTIONAL, SINGLE_BYTES};
 use std::alloc::{AllocError, Global};
@@ -139,8 +139,8 @@ impl Receiver {
     /// A receiver of the messages to the node address `nad`, which has heard nothing. `hear` takes
     /// its memory from `alloc`.
     pub fn new(alloc: Global, nad: u8) -> Receiver
-        ensures address { result.nad ≡ nad }
-        ensures stands { Stands result [] }
+        ensures ear { ear_of result ≡ record { nad = nad; all = false } }
+        ensures stands { HasHeard result [] }
     {
         Receiver {
             alloc,
@@ -232,9 +232,6 @@ impl Receiver {
     /// # Errors
     /// `AllocError` where there is no memory for the message. The receiver is then as before.
     pub fn hear(&mut self, frame: &[u8; 8]) -> Result<Option<Vec<u8>>, AllocError>
-        ensures hears { (heard : List Heard) → Stands self.old heard
-            → IfOk result
-            (λ m. Hears self.old frame.now heard (option_map (λ v. v.items) m) self.new) }
         ensures reassembles { (heard : List Heard) → HasHeard self.old heard
             → IfOk result
             (λ m. Reads self.old frame.now heard (option_map (λ v. v.items) m) self.new) }
@@ -252,9 +249,6 @@ impl Receiver {
 
     /// Ends what was partial, as at a timeout or at go-to-sleep.
     pub fn reset(&mut self)
-        ensures address { self.new.nad ≡ self.old.nad }
-        ensures stands { (heard : List Heard) → Stands self.old heard
-            → Stands self.new (Reset ∷ heard) }
         ensures ear { ear_of self.new ≡ ear_of self.old }
         ensures ends { (heard : List Heard) → HasHeard self.new (Reset ∷ heard) }
     {

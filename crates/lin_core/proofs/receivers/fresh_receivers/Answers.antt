@@ -1,10 +1,9 @@
-use Rattle.std.proofs.Common.{◌≡◌, ◌<◌, ℕ, Bool, true, zero, suc, List, [], ◌∷◌, ◌++◌, length, refl, ap, sym, ◌∙◌, subst, arith, inl, inr, length-append}
+use Rattle.std.proofs.Common.{◌≡◌, ◌<◌, ℕ, false, true, zero, suc, List, [], ◌∷◌, ◌++◌, length, refl, ap, sym, ◌∙◌, subst, arith, inl, inr, length-append}
 use Rattle.std.specs.Prelude.{◌⊎◌, Some, slice_get}
 use Rattle.std.specs.Option.{unwrap_or}
 use Rattle.lin_cluster_parts.specs.Cluster.{nad, nodes}
 use Rattle.lin_cluster_parts.specs.declared.parts.Parts.{Parts}
-use Rattle.lin_transport.specs.Receiver.{ear_of, HasHeard, Reception, Stands}
-use Rattle.lin_transport.specs.Transport.{plain}
+use Rattle.lin_transport.specs.Receiver.{ear_of, HasHeard, Reception}
 use Rattle.lin_core.specs.kept.Receivers.{receiver_in, KeepsReceiver}
 use Rattle.lin_core.specs.Links.{is_down}
 use Rattle.lin_core.specs.Replies.{link_at}
@@ -27,13 +26,6 @@ record IsFresh (c : Parts) (n : ℕ) (d : Direction) (r : Reception) : Type 0 wh
   ear : ear_of r ≡ record { nad = unwrap_or (nad c n) 0; all = is_down d }
   stands : HasHeard r []
 
--- one that listens to this address alone
-up-fresh : (c : Parts) (n address : ℕ) (r : Reception) → r.nad ≡ address → address ≡ unwrap_or (nad c n) 0 → Stands r [] → IsFresh c n Up r
-up-fresh c n address r own is s = record {
-  ear = ap (λ (b : Bool). record { nad = r.nad; all = b }) s.0 ∙ ap plain (own ∙ is);
-  stands = s.1;
-}
-
 keeps-fresh : (c : Parts) (n : ℕ) (rs : Receivers) (d : Direction) → IsFresh c n Down rs.down → IsFresh c n Up rs.up → KeepsReceiver c [] (link_at n d) (receiver_in d rs)
 keeps-fresh c n rs Down down up = record { ear_is = down.ear; stands = down.stands }
 keeps-fresh c n rs Up down up = record { ear_is = up.ear; stands = up.stands }
@@ -49,7 +41,7 @@ loop-node-preserved c =
     let made : Receivers = record { down = c.functional.result; up = c.new.result } in
     let address = c.address_of-address.ensures below in
     let down : IsFresh p c.loop-node.node Down c.functional.result = record { ear = c.functional.ensures.ear ∙ ap (λ (n : ℕ). record { nad = n; all = true }) address; stands = c.functional.ensures.stands } in
-    let up : IsFresh p c.loop-node.node Up c.new.result = up-fresh p c.loop-node.node _ c.new.result c.new.ensures.address address c.new.ensures.stands in
+    let up : IsFresh p c.loop-node.node Up c.new.result = record { ear = c.new.ensures.ear ∙ ap (λ (n : ℕ). record { nad = n; all = false }) address; stands = c.new.ensures.stands } in
     let items : c.push.new.self.items ≡ c.loop-node.made.items ++ made ∷ [] = c.in_ok-push.ensures.items in
     let count = v.count in
     record {
