@@ -11,3 +11,4 @@ pub mod FinishCases
 pub mod Goods
 pub mod Settled
 pub mod Reassembling
+pub mod ToAll
