@@ -1,6 +1,6 @@
 -- What a core keeps stays that of its log, one more entry on.
 use Rattle.std.proofs.Common.{◌≡◌, ℕ, suc, ◌+◌, ◌*◌, ◌^◌, ◌<◌, ◌≤◌, Bool, true, false, List, [], ◌∷◌, ◌++◌, reverse, map, length, refl, ap, sym, ◌∙◌, subst, arith, inl, inr}
-use Rattle.std.specs.Prelude.{Option, Some, None, slice_get, slice_set, slice_index_or, is_some, ◌==◌, ◌||◌, if◌then◌else◌, nat_le, All, option_map}
+use Rattle.std.specs.Prelude.{Option, Some, None, slice_get, slice_set, slice_index_or, is_some, ◌==◌, if◌then◌else◌, nat_le, All, option_map}
 use Rattle.std.proofs.lemmas.List.{length-map, map-append, append-nil, length-append, length-reverse}
 use Rattle.std.proofs.lemmas.Option.{slice_get_read, slice_get_within, get_or_from_slice_get}
 use Rattle.lin_cluster_parts.specs.Cluster.{nodes, line_of}

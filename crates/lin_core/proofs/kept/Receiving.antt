@@ -257,39 +257,8 @@ heard-alike c past rs new alike k = record {
 }
 
 -- == a good frame to all is heard
-all-dir : (c : Parts) (past past' : List LogEntry) (h : ℕ) (d : Direction) (m : Message) (f : List ℕ) (x y : Receivers) → HearsToo f x y → goes_over m.link (link_at h d) ≡ is_down d
-    → (heard_on c past' (link_at h d) ≡ (if goes_over m.link (link_at h d) then Frame f ∷ [] else []) ++ heard_on c past (link_at h d))
-    → (d ≡ Down → looks_at (ear_on c (link_at h d)) (slice_index f 0) ≡ true) → KeepsReceiver c past (link_at h d) (receiver_in d x) → KeepsReceiver c past' (link_at h d) (receiver_in d y)
-all-dir c past past' h Up m f x y hears over heard looks was =
-    subst (KeepsReceiver c past' (link_at h Up)) (sym hears.up) (receiver-same c past past' (link_at h Up) x.up (heard ∙ rw over refl) was)
-all-dir c past past' h Down m f x y hears over heard looks was =
-    let l : Link = link_at h Down
-    in let before : List Heard = heard_on c past l
-    in let all : heard_to (ear_on c l) f before ≡ heard_on c past' l = heard-to (ear_on c l) f before (looks refl) ∙ sym (heard ∙ rw over refl)
-    in record {
-      ear_is = hears.ear before was.stands ∙ was.ear_is;
-      stands = subst (λ (z : List Heard). HasHeard y.down z) all (subst (λ (e : Ear). HasHeard y.down (heard_to e f before)) was.ear_is (hears.down before was.stands));
-    }
-
-pub to-all-heard : (c : Parts) (past : List LogEntry) (by : PortId) (es : List Event) (k : Known c past) (s : Slot) (h : ℕ) (i : CarriesFrame c past by k s h) (rs new : List Receivers) → s.hurt ≡ false → is_to_all i.message.link ≡ true
-    → HearAll c (frame (address c i.message.link) i.message.bytes (k.states h).count) rs new → KeepsHeard c past rs → KeepsHeard c (entry_is by Finish es ∷ past) new
-to-all-heard c past by es k s h i rs new calm all hears kept =
-    let to : Link = i.message.link
-    in let f : List ℕ = frame (address c to) i.message.bytes (k.states h).count
-    in let past' : List LogEntry = entry_is by Finish es ∷ past
-    in let over : (n : ℕ) (d : Direction) → goes_over to (link_at n d) ≡ is_down d = λ n d. ap (λ (x : Link). goes_over x (link_at n d)) (to-all-is to.node to.dir all) ∙ over-all n d
-    in let heard : (l : Link) → is_some (nad c l.node) ≡ true → heard_on c past' l ≡ (if goes_over to l then Frame f ∷ [] else []) ++ heard_on c past l = λ l a. i.heard es l a ∙ rw calm refl
-    in let looks : (n : ℕ) → is_some (nad c n) ≡ true → looks_at (ear_on c (link_at n Down)) (slice_index f 0) ≡ true
-    = λ n a. rw (frame-address (address c to) i.message.bytes (k.states h).count) ((i.go.meant (link_at n Down) (record { host = sym (over-host to (link_at n Down) (over n Down)) ∙ i.go.host; address = a }) (over n Down)).heard)
-    in record {
-      count = hears.count ∙ kept.count;
-      each = λ n y d at a.
-          let below : n < length new = slice_get_within new n y at in
-          let count = hears.count in
-          let x = get-there rs n (omega arith) in
-          all-dir c past past' n d i.message f x.0 y (hears.each n x.0 y x.1 at a) (over n d) (heard (link_at n d) a)
-          (λ e. subst (λ (z : Direction). looks_at (ear_on c (link_at n z)) (slice_index f 0) ≡ true) (sym e) (looks n a)) (kept.each n x.0 d x.1 a);
-    }
+all-over : (to : Link) (n : ℕ) (d : Direction) → is_to_all to ≡ true → goes_over to (link_at n d) ≡ is_down d
+all-over to n d all = ap (λ (x : Link). goes_over x (link_at n d)) (to-all-is to.node to.dir all) ∙ over-all n d
 
 -- what a receiver down has heard then
 pub all-adds : (c : Parts) (past : List LogEntry) (by : PortId) (es : List Event) (k : Known c past) (s : Slot) (h : ℕ) (i : CarriesFrame c past by k s h) → s.hurt ≡ false → is_to_all i.message.link ≡ true → (n : ℕ) → is_some (nad c n) ≡ true
@@ -299,10 +268,33 @@ all-adds c past by es k s h i calm all n a =
     let to : Link = i.message.link
     in let l : Link = link_at n Down
     in let f : List ℕ = frame (address c to) i.message.bytes (k.states h).count
-    in let over : goes_over to l ≡ true = ap (λ (x : Link). goes_over x l) (to-all-is to.node to.dir all) ∙ over-all n Down
+    in let over : goes_over to l ≡ true = all-over to n Down all
     in let looks : looks_at (ear_on c l) (slice_index f 0) ≡ true
     = rw (frame-address (address c to) i.message.bytes (k.states h).count) ((i.go.meant l (record { host = sym (over-host to l over) ∙ i.go.host; address = a }) over).heard)
     in (over, heard-to (ear_on c l) f (heard_on c past l) looks ∙ sym (i.heard es l a ∙ rw (over, calm) refl))
+
+all-dir : (c : Parts) (past past' : List LogEntry) (h : ℕ) (d : Direction) (f : List ℕ) (x y : Receivers) → HearsToo f x y → heard_on c past' (link_at h Up) ≡ heard_on c past (link_at h Up)
+    → heard_to (ear_on c (link_at h Down)) f (heard_on c past (link_at h Down)) ≡ heard_on c past' (link_at h Down) → KeepsReceiver c past (link_at h d) (receiver_in d x) → KeepsReceiver c past' (link_at h d) (receiver_in d y)
+all-dir c past past' h Up f x y hears same adds was = subst (KeepsReceiver c past' (link_at h Up)) (sym hears.up) (receiver-same c past past' (link_at h Up) x.up same was)
+all-dir c past past' h Down f x y hears same adds was =
+    let before : List Heard = heard_on c past (link_at h Down)
+    in record {
+      ear_is = hears.ear before was.stands ∙ was.ear_is;
+      stands = subst (λ (z : List Heard). HasHeard y.down z) adds (subst (λ (e : Ear). HasHeard y.down (heard_to e f before)) was.ear_is (hears.down before was.stands));
+    }
+
+pub to-all-heard : (c : Parts) (past : List LogEntry) (by : PortId) (es : List Event) (k : Known c past) (s : Slot) (h : ℕ) (i : CarriesFrame c past by k s h) (rs new : List Receivers) → s.hurt ≡ false → is_to_all i.message.link ≡ true
+    → HearAll c (frame (address c i.message.link) i.message.bytes (k.states h).count) rs new → KeepsHeard c past rs → KeepsHeard c (entry_is by Finish es ∷ past) new
+to-all-heard c past by es k s h i rs new calm all hears kept = record {
+  count = hears.count ∙ kept.count;
+  each = λ n y d at a.
+      let below : n < length new = slice_get_within new n y at in
+      let count = hears.count in
+      let x = get-there rs n (omega arith) in
+      let up : goes_over i.message.link (link_at n Up) ≡ false = all-over i.message.link n Up all in
+      all-dir c past (entry_is by Finish es ∷ past) n d (frame (address c i.message.link) i.message.bytes (k.states h).count) x.0 y (hears.each n x.0 y x.1 at a) (i.heard es (link_at n Up) a ∙ rw up refl)
+      (all-adds c past by es k s h i calm all n a).1 (kept.each n x.0 d x.1 a);
+}
 
 -- the message that was given, where it is the one that is gained
 pub only-given : (o : Option (List ℕ)) (m : List ℕ) → option_to_list o ≡ m ∷ [] → o ≡ Some m

@@ -13,9 +13,9 @@ use Rattle.lin_cluster_parts.specs.Sound.{IsSound}
 use Rattle.lin_core.specs.History.{Slot, is_sleep_asked, is_sleep_slot, open_slot, seen_of}
 use Rattle.lin_core.specs.Links.{Fate, Link, Message, goes_over, home, reading}
 use Rattle.lin_core.specs.Links.Fate.{Lost, Sent}
-use Rattle.lin_core.specs.Replies.{finish_events, receiver_of}
+use Rattle.lin_core.specs.Replies.{finish_events}
 use Rattle.lin_core.specs.declared.event.Event.{Event}
-use Rattle.lin_core.specs.declared.event.Event.TheVariants.{Asleep as SleepEvent, Lost as LostEvent, Message as MessageEvent, Seen as SeenEvent, Sent as SentEvent}
+use Rattle.lin_core.specs.declared.event.Event.TheVariants.{Asleep as SleepEvent, Lost as LostEvent, Seen as SeenEvent, Sent as SentEvent}
 use Rattle.lin_core.specs.declared.link.Cause.TheVariants.{Damaged, Slept}
 use Rattle.lin_core.specs.declared.log.LogEntry.{LogEntry}
 use Rattle.lin_core.specs.declared.port.PortId.{PortId}

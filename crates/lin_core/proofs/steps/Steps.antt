@@ -1,6 +1,6 @@
 -- The steps that need their refusals: a timeout, a send, an open, an answer; and the whole history.
 use Rattle.lin_cluster_parts.specs.Cluster.{sporadic_of, nad, nodes, line_of, frame_of, event_of}
-use Rattle.std.proofs.Common.{◌≡◌, ◌≤◌, ◌<◌, ◌≢◌, ℕ, zero, suc, Bool, true, false, List, [], ◌∷◌, ◌++◌, length, map, refl, ap, sym, ◌∙◌, subst, arith, inl, inr, append_assoc}
+use Rattle.std.proofs.Common.{◌≡◌, ◌≤◌, ◌≢◌, ℕ, zero, suc, Bool, true, false, List, [], ◌∷◌, ◌++◌, length, map, refl, ap, sym, ◌∙◌, subst, arith, inl, inr, append_assoc}
 use Rattle.std.specs.Prelude.{⊤, Option, Some, None, cond, ◌&&◌, ◌||◌, not, ◌==◌, if◌then◌else◌, is_some, option_map, filter, find, nat_lt, nat_le, slice_index}
 use Rattle.std.specs.List.{list_any, cons_option}
 use Rattle.std.proofs.lemmas.Bool.Decides.{eqb_tells, nat_tests}

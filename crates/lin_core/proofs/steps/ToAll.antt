@@ -1,5 +1,5 @@
 -- A finish of a slot with a good frame of a message to all responders, inside a core.
-use Rattle.std.proofs.Common.{◌≡◌, ◌≤◌, ◌<◌, ◌+◌, ◌/◌, ℕ, zero, suc, Bool, true, false, List, [], ◌∷◌, ◌++◌, map, length, take, refl, ap, sym, ◌∙◌, subst, arith}
+use Rattle.std.proofs.Common.{◌≡◌, ◌≤◌, ◌<◌, ℕ, zero, suc, Bool, true, false, List, [], ◌∷◌, ◌++◌, map, length, take, refl, ap, sym, ◌∙◌, subst, arith}
 use Rattle.std.specs.Global.{Vec}
 use Rattle.std.specs.List.{list_any}
 use Rattle.std.specs.Prelude.{Some, ◌||◌, is_some, nat_le, slice_get, slice_index}
@@ -11,9 +11,9 @@ use Rattle.lin_cluster_parts.specs.declared.parts.Parts.{Parts}
 use Rattle.lin_core.specs.History.{open_slot}
 use Rattle.lin_core.specs.kept.Hosts.{is_next_to_all, message_of}
 use Rattle.lin_core.specs.kept.Receivers.{AreAlike, Completes, HearAll, KeepsHeard, KeepsReceiver}
-use Rattle.lin_core.specs.kept.Slots.{pdu_of, put_in, slot_in, IsCarried}
+use Rattle.lin_core.specs.kept.Slots.{pdu_of, slot_in, IsCarried}
 use Rattle.lin_core.specs.kept.State.{IsKept, Stage}
-use Rattle.lin_core.specs.Links.{Link, Message, Sending, address, ear_on, goes_over, heard_on, host_of, is_to_all, reading, waiting}
+use Rattle.lin_core.specs.Links.{Link, Message, Sending, address, ear_on, heard_on, host_of, is_to_all, reading, waiting}
 use Rattle.lin_core.specs.Replies.{finish_events, link_at}
 use Rattle.lin_core.specs.declared.event.Event.{Event}
 use Rattle.lin_core.specs.declared.link.Direction.TheVariants.{Down}
@@ -69,7 +69,7 @@ is-short c h m go all =
           let several : 1 < frame_count (length m.bytes) = rw (count-long m.bytes e) (omega arith)
           in let bad : false ≡ true = sym (go.several several) ∙ all
           in cc
-      )
+          )
     ]
 
 last-one : (bytes : List ℕ) (k : ℕ) → nat_le (length bytes) 6 ≡ true → k ≡ 0 → is_last bytes k ≡ true

@@ -1,4 +1,4 @@
-use Rattle.std.proofs.Common.{refl, ◌≡◌, ℕ, suc, length, List, [], ◌∷◌, ◌++◌, ap, sym, ◌∙◌, subst, arith, rules, false}
+use Rattle.std.proofs.Common.{refl, ◌≡◌, ℕ, suc, length, List, [], ◌∷◌, ◌++◌, sym, ◌∙◌, arith, rules, false}
 use Rattle.std.specs.Prelude.{slice_set}
 use Rattle.std.proofs.Math.ListN.{length-set}
 use Rattle.lin_cluster_parts.specs.Cluster.{nodes}
@@ -13,7 +13,6 @@ use Rattle.lin_core.specs.Replies.{finish_events, link_at}
 use Rattle.lin_core.specs.declared.event.Event.{Event}
 use Rattle.lin_core.specs.declared.event.Event.TheVariants.{Seen, Sent}
 use Rattle.lin_core.specs.declared.event.Seen.{Seen as HowSeen}
-use Rattle.lin_core.specs.declared.host.Host.{Host}
 use Rattle.lin_core.specs.declared.link.Direction.TheVariants.{Down}
 use Rattle.lin_core.specs.declared.log.LogEntry.{LogEntry}
 use Rattle.lin_core.proofs.kept.Passing.{finish_of, passed-bus, passed-keeps, passes-as}
@@ -104,7 +103,7 @@ returns c =
     let t = to-all b in
     record {
       told = c.events_to_all.ensures.told (λ n. heard_on a.cluster (past_in a) (link_at n Down)) t.carries.message.bytes
-              (completes-inside a c.args.by o t w c.data-frame.result c.pass_slot-seen.new.self.receivers.items (frame-is b) (heard-before b))
+          (completes-inside a c.args.by o t w c.data-frame.result c.pass_slot-seen.new.self.receivers.items (frame-is b) (heard-before b))
           ∙ events _ _ (told_to_all a.cluster t.carries.message.bytes) _ _ _ _ (seen_is b) (heard-before b).count (own b).number
           ∙ sym (done b).told;
       kept = rw (c.pass_slot-seen.ensures.hosts, c.settle.ensures)
