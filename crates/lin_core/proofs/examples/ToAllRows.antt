@@ -1,21 +1,20 @@
 -- Worked examples of messages to all responders.
 use Rattle.std.specs.Prelude.{◌≡◌, ℕ, List, [], ◌∷◌, ◌++◌, map, filter, reverse, Some, None}
 use Rattle.std.proofs.Common.{refl}
-use Rattle.lin_frame.specs.declared.sums.SumKind.TheVariants.{Enhanced}
 use Rattle.lin_cluster_parts.specs.declared.parts.Parts.{Parts}
-use Rattle.lin_cluster_parts.specs.declared.parts.Entry.TheVariants.{MasterReq, SlaveResp}
+use Rattle.lin_cluster_parts.specs.declared.parts.Entry.TheVariants.{MasterReq}
 use Rattle.lin_core.specs.Law.{AgreesOn, is_sent_over}
 use Rattle.lin_core.specs.Links.{Link, Sending, sendings, frames_of, blocks, reading}
 use Rattle.lin_core.specs.Runs.{history}
 use Rattle.lin_core.specs.Replies.{reply}
 use Rattle.lin_core.specs.declared.log.LogEntry.{LogEntry}
 use Rattle.lin_core.specs.declared.port.PortId.{PortId}
-use Rattle.lin_core.specs.declared.port.PortId.TheVariants.{Bus, Host, Node}
+use Rattle.lin_core.specs.declared.port.PortId.TheVariants.{Bus, Host}
 use Rattle.lin_core.specs.declared.link.Direction.TheVariants.{Down, Up}
 use Rattle.lin_core.specs.declared.step.Step.{Step}
 use Rattle.lin_core.specs.declared.step.Step.TheVariants.{Send, Open, Answer, Hurt, Finish}
 use Rattle.lin_core.specs.declared.event.Event.TheVariants.{Accepted, Slot, Due, Put, Seen, Message, Sent, Lost}
-use Rattle.lin_core.specs.declared.event.Seen.TheVariants.{Silent, NoAnswer, Good, Damaged}
+use Rattle.lin_core.specs.declared.event.Seen.TheVariants.{Good, Damaged}
 use Rattle.lin_core.specs.declared.link.Cause.TheVariants.{Damaged as ByDamage}
 use Rattle.lin_core.specs.declared.reply.Reply.{Reply}
 use Rattle.lin_core.specs.declared.reply.Reply.TheVariants.{Done, Refused}

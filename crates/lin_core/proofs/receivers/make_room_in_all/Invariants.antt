@@ -1,4 +1,4 @@
-use Rattle.std.proofs.Common.{◌≡◌, ◌<◌, ◌≤◌, ℕ, length}
+use Rattle.std.proofs.Common.{◌≡◌, ◌<◌, ◌≤◌, ℕ}
 use Rattle.std.specs.Prelude.{slice_get, Some}
 use Rattle.lin_core.specs.kept.Receivers.{AreAlike}
 use Rattle.lin_core.specs.declared.receivers.Receivers.{Receivers}
