@@ -407,3 +407,53 @@ bus finish
 fn two_responders_interleaved(rt: HostRuntime) -> Result<(), Fail> {
     expect(&rt, rt.alloc(), &TWO_RESPONDERS)
 }
+
+/// A message to all responders: the ports of both hosts take it, and its sender's that it was sent,
+/// once. A responder sends none.
+const MESSAGE_TO_ALL: Row = Row {
+    cluster: KEYS_CLUSTER,
+    table: 2,
+    sends: 0,
+    ring: 4,
+    acts: &[
+        Act::Send(0, 126, &[0x3E, 0x80]),
+        Act::Send(1, 126, &[1]),
+        Act::Round(2),
+        Act::Waiting(0, 1),
+        Act::AnsweredSlot(0),
+        Act::Open,
+        Act::Finish,
+        Act::Round(0),
+        Act::HostTakes(0, &["accepted 0 1", "sent 0 1"]),
+        Act::HostTakes(1, &["refused NoAddress", "message 0 1 [62, 128]"]),
+        Act::HostTakes(2, &["message 0 2 [62, 128]"]),
+        Act::NodeTakes(1, &[]),
+        Act::NodeTakes(2, &[]),
+        Act::Waiting(0, 0),
+    ],
+    log: "h0 send 0 126 3E80
+> accepted 0 1
+h1 send 1 126 01
+> refused 6
+bus open
+> slot 2 0 3C
+> due 0
+n0 answer 0
+> put 0 7E023E80FFFFFFFFC0
+bus finish
+> seen good 7E023E80FFFFFFFFC0
+> message 0 1 3E80
+> message 0 2 3E80
+> sent 0 1
+bus open
+> slot 2 1 7D
+bus finish
+> seen none
+",
+    events: 10,
+};
+
+#[test]
+fn message_to_all(rt: HostRuntime) -> Result<(), Fail> {
+    expect(&rt, rt.alloc(), &MESSAGE_TO_ALL)
+}
