@@ -87,6 +87,26 @@ bus finish
 > sent 1 1
 ";
 
+/// A message to all responders, in a slot in which each of the two is told, and nobody answers
+/// after it.
+const MESSAGE_TO_ALL: &str = "h0 send 0 126 3E80
+> accepted 0 1
+bus open
+> slot 2 0 3C
+> due 0
+bus answer 0
+> put 0 7E023E80FFFFFFFFC0
+bus finish
+> seen good 7E023E80FFFFFFFFC0
+> message 0 1 3E80
+> message 0 2 3E80
+> sent 0 1
+bus open
+> slot 2 1 7D
+bus finish
+> seen none
+";
+
 /// Makes a step, or hands it back where it is held.
 fn make_once(core: &mut Core, by: PortId, step: Step) -> Result<(), Step> {
     match core.step(by, step) {
@@ -135,5 +155,12 @@ fn three_byte_message(rt: HostRuntime) -> Result<(), Fail> {
 fn two_responders_interleaved(rt: HostRuntime) -> Result<(), Fail> {
     let text = again(rt.alloc(), KEYS_CLUSTER, 2, TWO_RESPONDERS)?;
     expect_text(&rt, &text, TWO_RESPONDERS.as_bytes(), "log");
+    Ok(())
+}
+
+#[test]
+fn message_to_all(rt: HostRuntime) -> Result<(), Fail> {
+    let text = again(rt.alloc(), KEYS_CLUSTER, 2, MESSAGE_TO_ALL)?;
+    expect_text(&rt, &text, MESSAGE_TO_ALL.as_bytes(), "log");
     Ok(())
 }
