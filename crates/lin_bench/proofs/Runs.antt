@@ -17,7 +17,8 @@ use Rattle.lin_bench.specs.declared.fault.PlayFault.{PlayFault}
 use Rattle.lin_bench.specs.declared.fault.PlayFault.TheVariants.{SlotLimit, LogFull, OutOfMemory}
 use Rattle.lin_bench.specs.declared.playing.Played.{Played}
 use Rattle.lin_bench.specs.declared.got.Unmet.{Unmet}
-use Rattle.lin_bench.specs.declared.taken.EventKind.{EventKind}
+use Rattle.lin_bench.specs.Taken.{kinds}
+use Rattle.lin_bench.specs.declared.taken.Taken.{Taken}
 use Rattle.lin_bench.specs.declared.playing.Player.{Player}
 use Rattle.lin_bench.proofs.Makes.{after-history, append-nothing}
 
@@ -35,7 +36,7 @@ turns-more c o cap (Ok run) (x ∷ xs) ys = turns-more c o cap (next c o cap run
 pub record IsAt (c : Parts) (o : ℕ) (cap : ℕ) (p : Player) (run : Run) : Type 0 where
   pub past : past_of p.core ≡ history c o cap (reverse run.steps)
   pub left : p.left ≡ run.left
-  pub taken : p.taken.items ≡ run.taken
+  pub taken : kinds p.taken.items ≡ run.taken
   pub unmet : p.unmet.items ≡ run.unmet
   pub cluster : p.core.cluster ≡ c
   pub opening : p.core.opening ≡ o
@@ -127,7 +128,7 @@ come-more c o cap ls p q n l h is =
 
 -- no line was played yet
 pub come-first : (c : Parts) (o cap : ℕ) (p : Player) → p.core.log ≡ [] → p.core.cluster ≡ c → p.core.opening ≡ o → p.core.capacity ≡ cap
-    → p.left ≡ slot_limit → p.taken.items ≡ [] → p.unmet.items ≡ [] → HasCome c o cap [] p
+    → p.left ≡ slot_limit → kinds p.taken.items ≡ [] → p.unmet.items ≡ [] → HasCome c o cap [] p
 come-first c o cap p log cluster opening capacity left taken unmet =
     record {
       run = first;
@@ -168,7 +169,7 @@ step-said p q n by step made left taken unmet =
       made = made;
       few = omega arith;
       left = left ∙ sub-none p.left;
-      taken = ap (λ (v : Vec EventKind). v.items) taken;
+      taken = ap (λ (v : Vec Taken). kinds v.items) taken;
       unmet = ap (λ (v : Vec Unmet). v.items) unmet ∙ sym (append-nothing p.unmet.items);
     }
 

@@ -6,6 +6,7 @@ ghost use Rattle.lin_bench.specs.Making.{PlaysLine, PlaysSlots};
 ghost use Rattle.lin_bench.specs.Played.{left_waiting, still, unmet_of};
 ghost use Rattle.lin_bench.specs.Slots.{hosts_waiting};
 ghost use Rattle.lin_bench.specs.Plays.{Plays};
+ghost use Rattle.lin_bench.specs.Taken.{IsKnown, kinds};
 ghost use Rattle.lin_bench.specs.Verdicts.{kind_taken, taking, verdict};
 ghost use Rattle.lin_bench.specs.declared.line.Line.{Line};
 
@@ -14,7 +15,7 @@ use crate::fault::PlayFault;
 use crate::got::Unmet;
 use crate::line::{Disturbance, Extent, Line};
 use crate::slots::{SLOT_LIMIT, hosts_waiting, make, slots};
-use crate::taken::EventKind;
+use crate::taken::Taken;
 use crate::verdicts::verdict;
 use lin_cluster_parts::Cluster;
 use lin_core::Core;
@@ -74,14 +75,16 @@ fn expect(
     core: &Core,
     number: u64,
     expected: Expected,
-    taken: &mut Vec<EventKind>,
+    taken: &mut Vec<Taken>,
     unmet: &mut Vec<Unmet>,
 ) -> Result<(), AllocError>
-    ensures taken { OnOk result
-        (taken.new.items ≡ taking (past_of core.now) taken.old.items (kind_taken expected)) }
+    requires { IsKnown (past_of core.now) taken.old.items }
+    ensures taken { OnOk result (kinds taken.new.items
+        ≡ taking (past_of core.now) (kinds taken.old.items) (kind_taken expected)) }
+    ensures known { OnOk result (IsKnown (past_of core.now) taken.new.items) }
     ensures unmet { OnOk result (unmet.new.items ≡ unmet.old.items
         ++ unmet_of number expected
-        (verdict core.now.cluster (past_of core.now) taken.old.items expected)) }
+        (verdict core.now.cluster (past_of core.now) (kinds taken.old.items) expected)) }
 {
     let got = verdict(alloc, core, taken, &expected)?;
     if let Some(got) = got {
@@ -100,8 +103,8 @@ struct Player {
     core: Core,
     /// How many slots lines of slots may still make.
     left: u32,
-    /// Of which kinds expectations took events.
-    taken: Vec<EventKind>,
+    /// The events that expectations took.
+    taken: Vec<Taken>,
     unmet: Vec<Unmet>,
 }
 
@@ -140,7 +143,9 @@ impl Player {
     /// Plays a line.
     #[tactic(auto, unfolding(crate::specs::Played::said))]
     fn line(&mut self, alloc: Global, number: u64, line: Line) -> Result<(), PlayFault>
-        ensures { PlaysLine self.old number line result self.new }
+        requires { IsKnown (past_of self.old.core) self.old.taken.items }
+        ensures played { PlaysLine self.old number line result self.new }
+        ensures known { OnOk result (IsKnown (past_of self.new.core) self.new.taken.items) }
     {
         match line {
             Line::Step(by, step) => {

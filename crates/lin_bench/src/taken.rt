@@ -1,9 +1,9 @@
 //! Events that expectations speak of.
 
-ghost use Rattle.std.specs.Prelude.{◌≡◌, ◌++◌, List, filter, find, option_map, reverse, slice_get};
+ghost use Rattle.std.specs.Prelude.{◌≡◌, ◌≤◌, length, filter, find, option_map, reverse};
 ghost use Rattle.lin_core.specs.History.{events};
 ghost use Rattle.lin_core.specs.declared.event.Event.{Event};
-ghost use Rattle.lin_bench.specs.Making.{skip_result};
+ghost use Rattle.lin_bench.specs.Taken.{Finds, Skips, up_to};
 ghost use Rattle.lin_bench.specs.Verdicts.{all_events, is_of, same_kind};
 
 use lin_core::{Event, Log, LogEntry, Reply};
@@ -54,6 +54,16 @@ impl EventKind {
     }
 }
 
+/// An event that an expectation took, by its place in the log.
+#[derive(Clone, Copy)]
+pub(crate) struct Taken {
+    pub(crate) kind: EventKind,
+    /// The number of its entry.
+    pub(crate) entry: usize,
+    /// How many events of its kind the entry has up to it.
+    pub(crate) events: usize,
+}
+
 /// The events of an entry.
 fn events_of(entry: &LogEntry) -> &[Event]
     ensures { result.now ≡ events entry.now }
@@ -66,9 +76,7 @@ fn events_of(entry: &LogEntry) -> &[Event]
 
 /// The event of a kind after so many others of it, or how many of these are left to skip.
 fn skipped(events: &[Event], kind: EventKind, skip: usize) -> Result<&Event, usize>
-    ensures { (more : List Event)
-        → slice_get (filter (is_of kind) events.now ++ more) skip
-        ≡ skip_result (λ e. e.now) result more }
+    ensures { Skips (λ e. e.now) events.now kind skip result }
 {
     let mut skip = skip;
     for event in events {
@@ -82,15 +90,29 @@ fn skipped(events: &[Event], kind: EventKind, skip: usize) -> Result<&Event, usi
     Err(skip)
 }
 
-/// The event of a kind in a log after so many others of it.
-pub(crate) fn event_after(log: &Log, kind: EventKind, skip: usize) -> Option<&Event>
-    ensures { option_map (λ e. e.now) result
-        ≡ slice_get (filter (is_of kind) (all_events (reverse log.now.entries))) skip }
+/// The event of a kind in a log after so many others of it from an entry on, and its place.
+pub(crate) fn event_after(
+    log: &Log,
+    kind: EventKind,
+    entry: usize,
+    skip: usize,
+) -> Option<(&Event, Taken)>
+    requires { entry ≤ length log.now.entries }
+    ensures { Finds log.now.entries kind (up_to log.now.entries kind entry skip)
+        (option_map (λ f. (f.0.now, f.1)) result) }
 {
     let mut skip = skip;
-    for index in 0..log.len() {
-        match skipped(events_of(log.entry(index)), kind, skip) {
-            Ok(event) => return Some(event),
+    for index in entry..log.len() {
+        let events = events_of(log.entry(index));
+        match skipped(events, kind, skip) {
+            Ok(event) => {
+                let place = Taken {
+                    kind,
+                    entry: index,
+                    events: skip + 1,
+                };
+                return Some((event, place));
+            }
             Err(left) => skip = left,
         }
     }

@@ -1,9 +1,9 @@
 //! Verdicts on what is expected.
 
 ghost use Rattle.std.specs.Prelude.{◌≡◌, ◌==◌, ◌<◌, ◌≤◌, ◌&&◌, IfOk, OnOk, None, option_map};
-ghost use Rattle.std.specs.Prelude.{count_by};
 ghost use Rattle.lin_core.specs.Core.{past_of};
 ghost use Rattle.lin_log.specs.Words.{cause_word};
+ghost use Rattle.lin_bench.specs.Taken.{IsKnown, kinds, last_taken};
 ghost use Rattle.lin_bench.specs.Verdicts.{same_kind, done_verdict, kind_taken, last_event};
 ghost use Rattle.lin_bench.specs.Verdicts.{look_of, look_word, lost_verdict, message_verdict};
 ghost use Rattle.lin_bench.specs.Verdicts.{newest_reply, next_event, refusal_word, refused_verdict};
@@ -13,7 +13,7 @@ ghost use Rattle.lin_bench.specs.Verdicts.{with_taken};
 
 use crate::expected::{Expected, Look};
 use crate::got::Got;
-use crate::taken::{EventKind, event_after, last_event};
+use crate::taken::{EventKind, Taken, event_after, last_event};
 use lin_core::{Cause, Core, Event, Payload, Refusal, Reply, Seen};
 use lin_frame::Value;
 use std::alloc::{AllocError, Global};
@@ -248,30 +248,37 @@ fn refused(reply: Option<&Reply>, why: Refusal) -> Option<Got>
     }
 }
 
-/// How many events of a kind were taken.
-fn taken_of(taken: &[EventKind], kind: EventKind) -> usize
-    ensures { result ≡ count_by (same_kind kind) taken.now }
+/// The last event of a kind that was taken.
+fn last_taken(taken: &[Taken], kind: EventKind) -> Option<&Taken>
+    ensures { option_map (λ t. t.now) result ≡ last_taken kind taken.now }
 {
-    taken.iter().filter(|other| kind.is(**other)).count()
+    taken.iter().rev().find(|taken| kind.is(taken.kind))
 }
 
 /// The oldest event of a kind that no expectation has taken, which is taken now.
 fn take_next<'a>(
     core: &'a Core,
-    taken: &mut Vec<EventKind>,
+    taken: &mut Vec<Taken>,
     kind: EventKind,
 ) -> Result<Option<&'a Event>, AllocError>
-    ensures event { IfOk result
-        (λ e. option_map (λ e. e.now) e ≡ next_event (past_of core.now) taken.old.items kind) }
-    ensures taken { OnOk result
-        (taken.new.items
-        ≡ with_taken (next_event (past_of core.now) taken.old.items kind) kind taken.old.items) }
+    requires { IsKnown (past_of core.now) taken.old.items }
+    ensures event { IfOk result (λ e. option_map (λ e. e.now) e
+        ≡ next_event (past_of core.now) (kinds taken.old.items) kind) }
+    ensures taken { OnOk result (kinds taken.new.items ≡ with_taken
+        (next_event (past_of core.now) (kinds taken.old.items) kind) kind (kinds taken.old.items)) }
+    ensures known { OnOk result (IsKnown (past_of core.now) taken.new.items) }
 {
-    let event = event_after(core.log(), kind, taken_of(taken.as_slice(), kind));
-    if event.is_some() {
-        taken.push(kind)?;
+    let (entry, skip) = match last_taken(taken.as_slice(), kind) {
+        Some(last) => (last.entry, last.events),
+        None => (0, 0),
+    };
+    match event_after(core.log(), kind, entry, skip) {
+        Some((event, place)) => {
+            taken.push(place)?;
+            Ok(Some(event))
+        }
+        None => Ok(None),
     }
-    Ok(event)
 }
 
 /// Whether what is expected is so, and what is so where it isn't; the event that it speaks of is
@@ -280,13 +287,15 @@ fn take_next<'a>(
 pub(crate) fn verdict(
     alloc: Global,
     core: &Core,
-    taken: &mut Vec<EventKind>,
+    taken: &mut Vec<Taken>,
     expected: &Expected,
 ) -> Result<Option<Got>, AllocError>
+    requires { IsKnown (past_of core.now) taken.old.items }
     ensures verdict { IfOk result
-        (λ v. v ≡ verdict core.now.cluster (past_of core.now) taken.old.items expected.now) }
-    ensures taken { OnOk result
-        (taken.new.items ≡ taking (past_of core.now) taken.old.items (kind_taken expected.now)) }
+        (λ v. v ≡ verdict core.now.cluster (past_of core.now) (kinds taken.old.items) expected.now) }
+    ensures taken { OnOk result (kinds taken.new.items
+        ≡ taking (past_of core.now) (kinds taken.old.items) (kind_taken expected.now)) }
+    ensures known { OnOk result (IsKnown (past_of core.now) taken.new.items) }
 {
     match expected {
         Expected::Signal {
