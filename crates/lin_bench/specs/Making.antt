@@ -14,7 +14,7 @@ use Rattle.lin_bench.specs.declared.playing.Player.{Player}
 use Rattle.lin_bench.specs.declared.stop.Stop.{Stop}
 use Rattle.lin_bench.specs.declared.stop.Stop.TheVariants as stop
 use Rattle.lin_bench.specs.Played.{said, slots_made, taken_after, unmet_at}
-use Rattle.lin_bench.specs.Taken.{kinds}
+use Rattle.lin_bench.specs.Searches.{taken_by}
 
 -- the steps were made, in order, and nothing else
 pub record IsMade (old : CoreData) (steps : List (PortId × Step)) (new : CoreData) : Type 0 where
@@ -43,17 +43,20 @@ pub record IsPlayed (old : Player) (n : ℕ) (line : Line) (new : Player) : Type
   pub made : IsMade old.core (said_on old.core line) new.core
   pub few : slots_made line (said_on old.core line) ≤ old.left
   pub left : new.left ≡ old.left - slots_made line (said_on old.core line)
-  pub taken : kinds new.taken.items ≡ taken_after (past_of old.core) (kinds old.taken.items) line
+  pub taken :
+      taken_by new.searches.items
+      ≡ taken_after (past_of old.core) (taken_by old.searches.items) line
   pub unmet :
       new.unmet.items ≡ old.unmet.items
-      ++ unmet_at old.core.cluster n (past_of old.core) (past_of new.core) (kinds old.taken.items) line
+      ++ unmet_at old.core.cluster n (past_of old.core) (past_of new.core)
+      (taken_by old.searches.items) line
 
 -- what making the slots of a line answers
 pub record AreSlots (old : Player) (steps : List (PortId × Step)) (new : Player) : Type 0 where
   pub made : IsMade old.core steps new.core
   pub few : slots_in steps ≤ old.left
   pub left : new.left ≡ old.left - slots_in steps
-  pub taken : new.taken ≡ old.taken
+  pub searches : new.searches ≡ old.searches
   pub unmet : new.unmet ≡ old.unmet
 
 abbrev pub SlotsFail : PlayFault → ℕ → ℕ → ℕ → Type 0

@@ -3,7 +3,7 @@
 ghost use Rattle.std.specs.Prelude.{◌≡◌, ◌≤◌, length, filter, find, option_map, reverse};
 ghost use Rattle.lin_core.specs.History.{events};
 ghost use Rattle.lin_core.specs.declared.event.Event.{Event};
-ghost use Rattle.lin_bench.specs.Taken.{Finds, Skips, up_to};
+ghost use Rattle.lin_bench.specs.Searches.{Finds, Skips};
 ghost use Rattle.lin_bench.specs.Verdicts.{all_events, is_of, same_kind};
 
 use lin_core::{Event, Log, LogEntry, Reply};
@@ -54,14 +54,23 @@ impl EventKind {
     }
 }
 
-/// An event that an expectation took, by its place in the log.
+/// A place in a log.
 #[derive(Clone, Copy)]
-pub(crate) struct Taken {
-    pub(crate) kind: EventKind,
-    /// The number of its entry.
+pub(crate) struct Place {
+    /// The number of an entry.
     pub(crate) entry: usize,
-    /// How many events of its kind the entry has up to it.
+    /// How many events of a kind stand before the place, of those of the entry on.
     pub(crate) events: usize,
+}
+
+/// A search for the oldest event of a kind that no expectation has taken.
+#[derive(Clone, Copy)]
+pub(crate) struct Search {
+    pub(crate) kind: EventKind,
+    /// Whether there was one, which is taken.
+    pub(crate) found: bool,
+    /// Where the next search for the kind goes on.
+    pub(crate) end: Place,
 }
 
 /// The events of an entry.
@@ -74,49 +83,47 @@ fn events_of(entry: &LogEntry) -> &[Event]
     }
 }
 
-/// The event of a kind after so many others of it, or how many of these are left to skip.
-fn skipped(events: &[Event], kind: EventKind, skip: usize) -> Result<&Event, usize>
+/// The event of a kind after so many others of it, and how many there are up to it; or how many of
+/// the others are left to skip.
+fn skipped(events: &[Event], kind: EventKind, skip: usize) -> Result<(&Event, usize), usize>
     ensures { Skips (λ e. e.now) events.now kind skip result }
 {
-    let mut skip = skip;
+    let mut left = skip;
     for event in events {
         if kind.has(event) {
-            if skip == 0 {
-                return Ok(event);
+            if left == 0 {
+                return Ok((event, skip + 1));
             }
-            skip -= 1;
+            left -= 1;
         }
     }
-    Err(skip)
+    Err(left)
 }
 
-/// The event of a kind in a log after so many others of it from an entry on, and its place.
-pub(crate) fn event_after(
-    log: &Log,
-    kind: EventKind,
-    entry: usize,
-    skip: usize,
-) -> Option<(&Event, Taken)>
-    requires { entry ≤ length log.now.entries }
-    ensures { Finds log.now.entries kind (up_to log.now.entries kind entry skip)
-        (option_map (λ f. (f.0.now, f.1)) result) }
+/// The first event of a kind from a place on, and the place behind it: the end of the log where
+/// there is none.
+pub(crate) fn event_from(log: &Log, kind: EventKind, from: Place) -> (Option<&Event>, Place)
+    requires { from.entry ≤ length log.now.entries }
+    ensures { Finds log.now.entries kind from (option_map (λ e. e.now) result.0) result.1 }
 {
-    let mut skip = skip;
-    for index in entry..log.len() {
-        let events = events_of(log.entry(index));
-        match skipped(events, kind, skip) {
-            Ok(event) => {
-                let place = Taken {
-                    kind,
+    let mut skip = from.events;
+    for index in from.entry..log.len() {
+        match skipped(events_of(log.entry(index)), kind, skip) {
+            Ok((event, events)) => {
+                let end = Place {
                     entry: index,
-                    events: skip + 1,
+                    events,
                 };
-                return Some((event, place));
+                return (Some(event), end);
             }
             Err(left) => skip = left,
         }
     }
-    None
+    let end = Place {
+        entry: log.len(),
+        events: skip,
+    };
+    (None, end)
 }
 
 /// The last event of a kind among events.
