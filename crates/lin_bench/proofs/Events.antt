@@ -1,7 +1,8 @@
 -- Events of a log.
-use Rattle.std.proofs.Common.{◌≡◌, ◌∙◌, ℕ, suc, zero, ◌+◌, ◌-◌, ◌<◌, ◌≤◌, Bool, true, false, cond, List, [], ◌∷◌, ◌++◌, reverse, length, take, drop, get_or, refl, sym, ap, arith, append_assoc, add-one, drop-cons, Option, Some, None}
-use Rattle.std.specs.Prelude.{filter, find, flat_map, slice_get}
-use Rattle.std.proofs.lemmas.List.{reverse-append, take_more}
+use Rattle.std.proofs.Common.{◌≡◌, ◌∙◌, ℕ, suc, zero, ◌+◌, ◌<◌, ◌≤◌, Bool, true, false, cond, List, [], ◌∷◌, ◌++◌, reverse, length, take, drop, get_or, refl, sym, ap, arith, append_assoc, add-one, zero-add, drop-cons, Some, None}
+use Rattle.std.specs.Prelude.{count_by, filter, find, flat_map, slice_get}
+use Rattle.std.proofs.lemmas.List.{reverse-append, take-append-drop, take_more}
+use Rattle.std.proofs.lemmas.List.Sums.{length-filter, sum_by-append}
 use Rattle.std.proofs.lemmas.List.Elements.{filter-append}
 use Rattle.std.proofs.lemmas.List.Folds.{find-append}
 use Rattle.std.proofs.lemmas.Grind.{flat_map-append}
@@ -42,9 +43,69 @@ dropped [] (suc i) h = refl
 dropped (x ∷ xs) zero h = absurd (omega arith)
 dropped (x ∷ xs) (suc i) h = dropped xs i (omega arith)
 
-pub no-entry : (kind : EventKind) (es : List LogEntry) (i k : ℕ) → length es ≤ i
+no-entry : (kind : EventKind) (es : List LogEntry) (i k : ℕ) → length es ≤ i
     → slice_get (filter (is_of kind) (flat_map events (drop i es))) k ≡ None
 no-entry kind es i k h = ap (λ l. slice_get (filter (is_of kind) (flat_map events l)) k) (dropped es i h)
+
+after-others : {A : Type 0} (xs ys : List A) (k : ℕ) → slice_get (xs ++ ys) (length xs + k) ≡ slice_get ys k
+after-others [] ys k = ap (slice_get ys) (zero-add k)
+after-others (x ∷ xs) ys k =
+    let e : suc (length xs) + k ≡ suc (length xs + k) = omega arith in
+    ap (slice_get (x ∷ (xs ++ ys))) e ∙ after-others xs ys k
+
+among-first : {A : Type 0} (xs ys : List A) (k : ℕ) (x : A) → slice_get xs k ≡ Some x → slice_get (xs ++ ys) k ≡ Some x
+among-first [] ys k x h = cc
+among-first (y ∷ xs) ys zero x h = h
+among-first (y ∷ xs) ys (suc k) x h = among-first xs ys k x h
+
+-- the events of a kind behind those of the first entries
+behind : (kind : EventKind) (es : List LogEntry) (i k : ℕ)
+    → slice_get (filter (is_of kind) (flat_map events es)) (count_by (is_of kind) (flat_map events (take i es)) + k)
+    ≡ slice_get (filter (is_of kind) (flat_map events (drop i es))) k
+behind kind es i k =
+    let xs = flat_map events (take i es) in
+    let ys = flat_map events (drop i es) in
+    let n = count_by (is_of kind) xs + k in
+    ap (λ l. slice_get (filter (is_of kind) (flat_map events l)) n) (sym (take-append-drop i es))
+    ∙ ap (λ l. slice_get (filter (is_of kind) l) n) (flat_map-append events (take i es) (drop i es))
+    ∙ ap (λ l. slice_get l n) (filter-append (is_of kind) xs ys)
+    ∙ ap (λ m. slice_get (filter (is_of kind) xs ++ filter (is_of kind) ys) (m + k)) (sym (length-filter (is_of kind) xs))
+    ∙ after-others (filter (is_of kind) xs) (filter (is_of kind) ys) k
+
+pub found-behind : (kind : EventKind) (es : List LogEntry) (i : ℕ) (e : LogEntry) (told : List Event) (k : ℕ) (x : Event) → i < length es
+    → e ≡ get_or es i e → told ≡ events e → slice_get (filter (is_of kind) told) k ≡ Some x
+    → slice_get (filter (is_of kind) (flat_map events es)) (count_by (is_of kind) (flat_map events (take i es)) + k) ≡ Some x
+found-behind kind es i e told k x h is same found =
+    behind kind es i k ∙ from-entry kind es i e told k h is same
+    ∙ among-first (filter (is_of kind) told) (filter (is_of kind) (flat_map events (drop (i + 1) es))) k x found
+
+pub none-behind : (kind : EventKind) (es : List LogEntry) (i k : ℕ) → length es ≤ i
+    → slice_get (filter (is_of kind) (flat_map events es)) (count_by (is_of kind) (flat_map events (take i es)) + k) ≡ None
+none-behind kind es i k h = behind kind es i k ∙ no-entry kind es i k h
+
+-- how many events of a kind the first entries have, with one entry more
+pub with-entry : (kind : EventKind) (es : List LogEntry) (i : ℕ) (e : LogEntry) (told : List Event) → i < length es → e ≡ get_or es i e
+    → told ≡ events e
+    → count_by (is_of kind) (flat_map events (take (i + 1) es))
+    ≡ count_by (is_of kind) (flat_map events (take i es)) + count_by (is_of kind) told
+with-entry kind es i e told h is same =
+    let before = flat_map events (take i es) in
+    let here : take (i + 1) es ≡ take i es ++ e ∷ [] = take_more es i e h ∙ ap (λ x. take i es ++ x ∷ []) (sym is) in
+    ap (λ l. count_by (is_of kind) (flat_map events l)) here
+    ∙ ap (count_by (is_of kind)) (flat_map-append events (take i es) (e ∷ []) ∙ ap (λ l. before ++ l) (append-nothing (events e) ∙ sym same))
+    ∙ sum_by-append (λ x. cond (is_of kind x) 1 0) before told
+
+kept-more : {A : Type 0} (p : A → Bool) (y : A) (ys zs : List A) (x : A) (b : Bool) → p y ≡ b → slice_get (filter p ys) (length (filter p zs)) ≡ Some x
+    → slice_get (filter p (y ∷ ys)) (length (filter p (y ∷ zs))) ≡ Some x
+kept-more p y ys zs x true is h = rw is h
+kept-more p y ys zs x false is h = rw is h
+
+-- the item that passes a test after those before it that pass
+pub kept-at : {A : Type 0} (p : A → Bool) (xs : List A) (i : ℕ) (x : A) → i < length xs → x ≡ get_or xs i x → p x ≡ true
+    → slice_get (filter p xs) (length (filter p (take i xs))) ≡ Some x
+kept-at p [] i x h is passes = absurd (omega arith)
+kept-at p (y ∷ ys) zero x h is passes = let same : x ≡ y = is in rw (← same, passes) refl
+kept-at p (y ∷ ys) (suc i) x h is passes = kept-more p y ys (take i ys) x (p y) refl (kept-at p ys i x (omega arith) is passes)
 
 -- ---- the last event
 pub up-to-entry : (kind : EventKind) (es : List LogEntry) (n i : ℕ) (e : LogEntry) (told : List Event) → n ≡ i + 1 → i < length es → e ≡ get_or es i e

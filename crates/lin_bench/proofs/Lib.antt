@@ -3,6 +3,7 @@ pub mod Found
 pub mod Makes
 pub mod SlotSteps
 pub mod Events
+pub mod Searches
 pub mod Hosts
 pub mod Runs
 pub mod PlainFields

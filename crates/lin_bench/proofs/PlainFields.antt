@@ -1,5 +1,5 @@
 -- The fields of plain scripts, which hold no tab, begin no comment and are no mark of UTF-8.
-use Rattle.std.proofs.Common.{◌≡◌, ◌∙◌, ◌+◌, ◌*◌, ◌-◌, ◌==◌, ◌&&◌, ◌||◌, ◌++◌, ℕ, List, [], ◌∷◌, Bool, true, false, not, nat_le, nat_lt, refl, sym, ap, subst, arith, Option, Some, None, Result, Ok, Err, drop, filter, length, slice_index, option_map, codes, if◌then◌else◌}
+use Rattle.std.proofs.Common.{◌≡◌, ◌∙◌, ◌+◌, ◌*◌, ◌-◌, ◌==◌, ◌&&◌, ℕ, List, [], ◌∷◌, Bool, true, false, not, nat_le, refl, ap, arith, Option, Some, None, filter, length, option_map, if◌then◌else◌}
 use Rattle.std.specs.List.{slice_split, onto_first, take_while}
 use Rattle.std.specs.Str.{bytes_eq}
 use Rattle.std.proofs.lemmas.Bool.{and_parts}

@@ -1,5 +1,5 @@
 -- Plain lines and scripts, which are lines and scripts of benches.
-use Rattle.std.proofs.Common.{◌≡◌, ◌∙◌, ◌+◌, ◌-◌, ◌==◌, ◌&&◌, ◌||◌, ◌++◌, ℕ, List, [], ◌∷◌, Bool, true, false, not, nat_lt, refl, sym, ap, arith, append-nil, append_assoc, Option, Some, None, Result, Ok, Err, filter, length, slice_index, take, option_map, if◌then◌else◌}
+use Rattle.std.proofs.Common.{◌≡◌, ◌∙◌, ◌+◌, ◌-◌, ◌==◌, ◌++◌, ℕ, List, [], ◌∷◌, Bool, true, false, not, nat_lt, refl, sym, ap, arith, append-nil, append_assoc, Option, Some, None, Result, Ok, Err, filter, length, slice_index, take, option_map}
 use Rattle.std.specs.List.{slice_split, onto_first, take_while}
 use Rattle.std.specs.Str.Lines.{strip_carriage_return}
 use Rattle.std.proofs.lemmas.Bool.{and_parts}
@@ -11,7 +11,7 @@ use Rattle.lin_core.specs.declared.step.Step.{Step}
 use Rattle.lin_log.specs.Script as plain
 use Rattle.lin_bench.specs.Fields.{fields, is_comment, is_gap, is_text}
 use Rattle.lin_bench.specs.Lines.{of_fields, read, read_line, read_lines, without_mark}
-use Rattle.lin_bench.specs.Plain.{PlainScripts, SaysSteps}
+use Rattle.lin_bench.specs.Plain.{PlainScripts}
 use Rattle.lin_bench.specs.Played.{Run, first, in_turn, next, said}
 use Rattle.lin_bench.specs.declared.line.Line.{Line}
 use Rattle.lin_bench.specs.declared.line.Line.TheVariants as line

@@ -1,5 +1,5 @@
 -- The forms of plain steps, which are forms of bench scripts.
-use Rattle.std.proofs.Common.{◌≡◌, ◌∙◌, ◌+◌, ◌-◌, ◌==◌, ◌&&◌, ◌||◌, ◌++◌, ℕ, List, [], ◌∷◌, Bool, true, false, not, nat_le, refl, sym, ap, subst, arith, append-nil, Option, Some, None, Result, Ok, Err, drop, length, slice_index, option_map, codes, if◌then◌else◌}
+use Rattle.std.proofs.Common.{◌≡◌, ◌∙◌, ◌==◌, ◌&&◌, ℕ, List, [], ◌∷◌, Bool, true, false, not, nat_le, refl, sym, ap, subst, arith, append-nil, Option, Some, None, Result, Ok, drop, length, slice_index, option_map, codes, if◌then◌else◌}
 use Rattle.std.specs.Str.{bytes_eq}
 use Rattle.std.specs.Result.{result_ok}
 use Rattle.std.proofs.lemmas.Bool.{and_parts}

@@ -1,5 +1,5 @@
 -- Lines that are played, and what lines come to.
-use Rattle.std.proofs.Common.{subst, length, ◌≡◌, ◌∙◌, ℕ, ◌+◌, ◌-◌, ◌<◌, ◌≤◌, Bool, true, false, nat_lt, List, [], ◌∷◌, ◌++◌, reverse, refl, sym, ap, arith, append_assoc, Result, Ok, Err, lt-ltb, le-ltb}
+use Rattle.std.proofs.Common.{subst, length, ◌≡◌, ◌∙◌, ℕ, ◌-◌, ◌<◌, ◌≤◌, true, false, nat_lt, List, [], ◌∷◌, ◌++◌, reverse, refl, sym, ap, arith, Result, Ok, Err, lt-ltb, le-ltb}
 use Rattle.std.specs.Global.{Vec}
 use Rattle.std.proofs.lemmas.List.{reverse-reverse}
 use Rattle.lin_cluster_parts.specs.declared.parts.Parts.{Parts}
@@ -17,7 +17,8 @@ use Rattle.lin_bench.specs.declared.fault.PlayFault.{PlayFault}
 use Rattle.lin_bench.specs.declared.fault.PlayFault.TheVariants.{SlotLimit, LogFull, OutOfMemory}
 use Rattle.lin_bench.specs.declared.playing.Played.{Played}
 use Rattle.lin_bench.specs.declared.got.Unmet.{Unmet}
-use Rattle.lin_bench.specs.declared.taken.EventKind.{EventKind}
+use Rattle.lin_bench.specs.Searches.{taken_by}
+use Rattle.lin_bench.specs.declared.taken.Search.{Search}
 use Rattle.lin_bench.specs.declared.playing.Player.{Player}
 use Rattle.lin_bench.proofs.Makes.{after-history, append-nothing}
 
@@ -35,7 +36,7 @@ turns-more c o cap (Ok run) (x ∷ xs) ys = turns-more c o cap (next c o cap run
 pub record IsAt (c : Parts) (o : ℕ) (cap : ℕ) (p : Player) (run : Run) : Type 0 where
   pub past : past_of p.core ≡ history c o cap (reverse run.steps)
   pub left : p.left ≡ run.left
-  pub taken : p.taken.items ≡ run.taken
+  pub taken : taken_by p.searches.items ≡ run.taken
   pub unmet : p.unmet.items ≡ run.unmet
   pub cluster : p.core.cluster ≡ c
   pub opening : p.core.opening ≡ o
@@ -127,7 +128,7 @@ come-more c o cap ls p q n l h is =
 
 -- no line was played yet
 pub come-first : (c : Parts) (o cap : ℕ) (p : Player) → p.core.log ≡ [] → p.core.cluster ≡ c → p.core.opening ≡ o → p.core.capacity ≡ cap
-    → p.left ≡ slot_limit → p.taken.items ≡ [] → p.unmet.items ≡ [] → HasCome c o cap [] p
+    → p.left ≡ slot_limit → taken_by p.searches.items ≡ [] → p.unmet.items ≡ [] → HasCome c o cap [] p
 come-first c o cap p log cluster opening capacity left taken unmet =
     record {
       run = first;
@@ -160,23 +161,23 @@ all-come c o cap ls all p it e h core unmet =
 sub-none : (n : ℕ) → n ≡ n - 0
 sub-none n = omega arith
 
-step-said : (p q : Player) (n : ℕ) (by : PortId) (step : Step) → IsMade p.core ((by, step) ∷ []) q.core → q.left ≡ p.left → q.taken ≡ p.taken
+step-said : (p q : Player) (n : ℕ) (by : PortId) (step : Step) → IsMade p.core ((by, step) ∷ []) q.core → q.left ≡ p.left → q.searches ≡ p.searches
     → q.unmet ≡ p.unmet → IsPlayed p n (line.Step by step) q
 unfolding said
-step-said p q n by step made left taken unmet =
+step-said p q n by step made left searches unmet =
     record {
       made = made;
       few = omega arith;
       left = left ∙ sub-none p.left;
-      taken = ap (λ (v : Vec EventKind). v.items) taken;
+      taken = ap (λ (v : Vec Search). taken_by v.items) searches;
       unmet = ap (λ (v : Vec Unmet). v.items) unmet ∙ sym (append-nothing p.unmet.items);
     }
 
 -- a line that is a step was played
 pub step-played : (p q : Player) (n : ℕ) (by : PortId) (step : Step) (l : Line) → l ≡ line.Step by step → IsMade p.core ((by, step) ∷ []) q.core
-    → q.left ≡ p.left → q.taken ≡ p.taken → q.unmet ≡ p.unmet → IsPlayed p n l q
-step-played p q n by step l e made left taken unmet =
-    subst (λ k. IsPlayed p n k q) (sym e) (step-said p q n by step made left taken unmet)
+    → q.left ≡ p.left → q.searches ≡ p.searches → q.unmet ≡ p.unmet → IsPlayed p n l q
+step-played p q n by step l e made left searches unmet =
+    subst (λ k. IsPlayed p n k q) (sym e) (step-said p q n by step made left searches unmet)
 
 pub nothing-left : {A : Type 0} (xs : List A) → length xs ≡ 0 → xs ≡ []
 nothing-left [] h = refl

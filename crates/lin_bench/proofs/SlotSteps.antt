@@ -1,5 +1,5 @@
 -- The steps of slots.
-use Rattle.std.proofs.Common.{◌≡◌, ◌∙◌, ℕ, suc, zero, ◌+◌, ◌-◌, ◌<◌, ◌≤◌, Bool, true, false, List, [], ◌∷◌, ◌++◌, map, refl, sym, ap, arith, append_assoc, add-one, subst, cond, length, length-append, Option, Some, None}
+use Rattle.std.proofs.Common.{◌≡◌, ◌∙◌, ℕ, suc, zero, ◌+◌, ◌<◌, Bool, true, false, List, [], ◌∷◌, ◌++◌, map, refl, sym, ap, arith, append_assoc, add-one, subst, cond, length, length-append, Option, Some, None}
 use Rattle.std.specs.Prelude.{filter, if◌then◌else◌}
 use Rattle.std.proofs.lemmas.List.Elements.{filter-append}
 use Rattle.lin_cluster_parts.specs.declared.parts.Parts.{Parts}
@@ -9,7 +9,7 @@ use Rattle.lin_core.specs.declared.log.LogEntry.{LogEntry}
 use Rattle.lin_core.specs.declared.port.PortId.{PortId}
 use Rattle.lin_core.specs.declared.port.PortId.TheVariants.{Bus}
 use Rattle.lin_core.specs.declared.step.Step.{Step}
-use Rattle.lin_core.specs.declared.step.Step.TheVariants.{Open, Answer, Leave, Hurt, Finish}
+use Rattle.lin_core.specs.declared.step.Step.TheVariants.{Open, Answer, Leave, Finish}
 use Rattle.lin_bench.specs.Making.{IsMade, extent_on}
 use Rattle.lin_bench.specs.Slots.{after, decision, due_now, extent_steps, goes_on, hurt_steps, is_opened, leave_nodes, most, slot_rest, slot_steps, slots_in, slots_steps}
 use Rattle.lin_bench.specs.declared.line.Disturbance.{Disturbance}

@@ -1,6 +1,6 @@
 -- The fields of a bench script's line, and what is said of one that is bad.
-use Rattle.std.specs.Prelude.{ℕ, ◌==◌, ◌||◌, ◌&&◌, Bool, true, false, not, nat_le, nat_lt, List, []}
-use Rattle.std.specs.Prelude.{◌∷◌, length, filter, map, slice_index, Option, Some, None, Result, Ok}
+use Rattle.std.specs.Prelude.{ℕ, ◌==◌, ◌||◌, ◌&&◌, Bool, not, nat_le, nat_lt, List}
+use Rattle.std.specs.Prelude.{length, filter, map, slice_index, Option, Some, None, Result, Ok}
 use Rattle.std.specs.Prelude.{Err}
 use Rattle.std.specs.Borrow.{Bor}
 use Rattle.std.specs.List.{slice_split, take_while}

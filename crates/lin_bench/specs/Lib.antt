@@ -7,6 +7,7 @@ pub mod Lines
 pub mod Read
 pub mod Slots
 pub mod Verdicts
+pub mod Searches
 pub mod Played
 pub mod Making
 pub mod Plays

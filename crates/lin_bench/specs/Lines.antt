@@ -1,12 +1,12 @@
 -- What the lines of a bench script say: steps, slots to be made, and expectations.
-use Rattle.std.specs.Prelude.{ℕ, ◌+◌, ◌==◌, ◌||◌, ◌&&◌, Bool, if◌then◌else◌, List, [], ◌∷◌, drop}
+use Rattle.std.specs.Prelude.{ℕ, ◌+◌, ◌==◌, ◌&&◌, if◌then◌else◌, List, [], ◌∷◌, drop}
 use Rattle.std.specs.Prelude.{slice_index, Option, Some, None, Result, Ok, Err, codes}
 use Rattle.std.specs.List.{slice_split}
 use Rattle.std.specs.Str.{bytes_eq}
 use Rattle.std.specs.Str.Lines.{strip_carriage_return}
 use Rattle.lin_cluster_parts.specs.declared.parts.Parts.{Parts}
 use Rattle.lin_core.specs.declared.port.PortId.TheVariants.{Bus}
-use Rattle.lin_bench.specs.Fields.{◌>>=◌, or_bad, fields, number_field}
+use Rattle.lin_bench.specs.Fields.{◌>>=◌, fields, number_field}
 use Rattle.lin_bench.specs.Names.{node_field}
 use Rattle.lin_bench.specs.Values.{bytes_fields}
 use Rattle.lin_bench.specs.Steps.{is_port, port, step_form, step_after}

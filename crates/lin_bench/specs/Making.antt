@@ -1,5 +1,5 @@
 -- What making steps on a core answers.
-use Rattle.std.specs.Prelude.{◌≡◌, ℕ, ◌<◌, ◌+◌, ◌-◌, ◌≤◌, List, ◌++◌, length, slice_get, Option}
+use Rattle.std.specs.Prelude.{◌≡◌, ℕ, ◌<◌, ◌+◌, ◌-◌, ◌≤◌, List, ◌++◌, Option}
 use Rattle.std.specs.Prelude.{Some, None, Result, Ok, Err}
 use Rattle.lin_core.specs.Core.{CoreData, IsAlike, past_of}
 use Rattle.lin_core.specs.declared.port.PortId.{PortId}
@@ -14,6 +14,7 @@ use Rattle.lin_bench.specs.declared.playing.Player.{Player}
 use Rattle.lin_bench.specs.declared.stop.Stop.{Stop}
 use Rattle.lin_bench.specs.declared.stop.Stop.TheVariants as stop
 use Rattle.lin_bench.specs.Played.{said, slots_made, taken_after, unmet_at}
+use Rattle.lin_bench.specs.Searches.{taken_by}
 
 -- the steps were made, in order, and nothing else
 pub record IsMade (old : CoreData) (steps : List (PortId × Step)) (new : CoreData) : Type 0 where
@@ -33,11 +34,6 @@ MakesSlots old how extent left (Ok (Some rest)) new =
 MakesSlots old how extent left (Ok None) new = left < slots_in (extent_on old how extent)
 MakesSlots old how extent left (Err stop) new = Unit {0}
 
--- the item after so many others, of these and more, or how many of those are left to the more
-abbrev pub skip_result : {X A : Type 0} → (X → A) → Result X ℕ → List A → Option A
-skip_result view (Ok x) more = Some (view x)
-skip_result view (Err left) more = slice_get more left
-
 -- what a line is given: a player's core before it, and the steps that it says
 abbrev pub said_on : CoreData → Line → List (PortId × Step)
 said_on core line = said core.cluster core.opening core.capacity (past_of core) line
@@ -47,17 +43,20 @@ pub record IsPlayed (old : Player) (n : ℕ) (line : Line) (new : Player) : Type
   pub made : IsMade old.core (said_on old.core line) new.core
   pub few : slots_made line (said_on old.core line) ≤ old.left
   pub left : new.left ≡ old.left - slots_made line (said_on old.core line)
-  pub taken : new.taken.items ≡ taken_after (past_of old.core) old.taken.items line
+  pub taken :
+      taken_by new.searches.items
+      ≡ taken_after (past_of old.core) (taken_by old.searches.items) line
   pub unmet :
       new.unmet.items ≡ old.unmet.items
-      ++ unmet_at old.core.cluster n (past_of old.core) (past_of new.core) old.taken.items line
+      ++ unmet_at old.core.cluster n (past_of old.core) (past_of new.core)
+      (taken_by old.searches.items) line
 
 -- what making the slots of a line answers
 pub record AreSlots (old : Player) (steps : List (PortId × Step)) (new : Player) : Type 0 where
   pub made : IsMade old.core steps new.core
   pub few : slots_in steps ≤ old.left
   pub left : new.left ≡ old.left - slots_in steps
-  pub taken : new.taken ≡ old.taken
+  pub searches : new.searches ≡ old.searches
   pub unmet : new.unmet ≡ old.unmet
 
 abbrev pub SlotsFail : PlayFault → ℕ → ℕ → ℕ → Type 0

@@ -1,11 +1,11 @@
 -- Nodes, signals, tables and refusals, by their names or numbers.
-use Rattle.std.specs.Prelude.{ℕ, ◌==◌, ◌+◌, if◌then◌else◌, List, [], ◌∷◌, find, length, Option}
-use Rattle.std.specs.Prelude.{Some, None, Result, Ok, Err, codes}
+use Rattle.std.specs.Prelude.{ℕ, if◌then◌else◌, List, find, length, Option}
+use Rattle.std.specs.Prelude.{Result}
 use Rattle.std.specs.Str.{bytes_eq}
 use Rattle.lin_frame.specs.Words.{numbers}
 use Rattle.lin_cluster_parts.specs.Cluster.{nodes, node_of, signal_of, named_table}
 use Rattle.lin_cluster_parts.specs.declared.parts.Parts.{Parts}
-use Rattle.lin_bench.specs.Fields.{◌>>=◌, or_bad, is_number, number_field}
+use Rattle.lin_bench.specs.Fields.{or_bad, is_number, number_field}
 use Rattle.lin_bench.specs.declared.reason.Reason.{Reason}
 use Rattle.lin_bench.specs.declared.reason.Reason.TheVariants.{NoNode, NoSignal, NoTable}
 

@@ -1,5 +1,5 @@
 -- What the lines of a bench script come to: steps, and the expectations that aren't met.
-use Rattle.std.specs.Prelude.{◌≡◌, ℕ, ◌-◌, ◌==◌, length, nat_lt, if◌then◌else◌, List, [], ◌∷◌, ◌++◌}
+use Rattle.std.specs.Prelude.{ℕ, ◌-◌, ◌==◌, length, nat_lt, if◌then◌else◌, List, [], ◌∷◌, ◌++◌}
 use Rattle.std.specs.Prelude.{reverse, Option, Some, None, Result, Ok, Err}
 use Rattle.lin_cluster_parts.specs.declared.parts.Parts.{Parts}
 use Rattle.lin_core.specs.Runs.{history}
@@ -14,7 +14,7 @@ use Rattle.lin_bench.specs.declared.got.Unmet.{Unmet}
 use Rattle.lin_bench.specs.declared.got.Unmet.TheVariants as unmet
 use Rattle.lin_bench.specs.declared.line.Disturbance.TheVariants.{Undisturbed}
 use Rattle.lin_bench.specs.declared.line.Extent.{Extent}
-use Rattle.lin_bench.specs.declared.line.Extent.TheVariants.{Count, Milliseconds, Idle}
+use Rattle.lin_bench.specs.declared.line.Extent.TheVariants.{Count, Idle}
 use Rattle.lin_bench.specs.declared.line.Line.{Line}
 use Rattle.lin_bench.specs.declared.line.Line.TheVariants as line
 use Rattle.lin_bench.specs.declared.taken.EventKind.{EventKind}

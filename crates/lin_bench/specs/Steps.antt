@@ -1,6 +1,6 @@
 -- Ports and steps.
 use Rattle.std.specs.Prelude.{ℕ, ◌==◌, ◌||◌, ◌&&◌, Bool, nat_lt, if◌then◌else◌, List, [], ◌∷◌}
-use Rattle.std.specs.Prelude.{length, drop, slice_index, Option, Some, None, Result, Ok, Err, codes}
+use Rattle.std.specs.Prelude.{length, drop, slice_index, Result, Ok, Err, codes}
 use Rattle.std.specs.Str.{bytes_eq}
 use Rattle.lin_cluster_parts.specs.Cluster.{signal_of}
 use Rattle.lin_cluster_parts.specs.declared.parts.Parts.{Parts}

@@ -6,6 +6,7 @@ ghost use Rattle.lin_bench.specs.Making.{PlaysLine, PlaysSlots};
 ghost use Rattle.lin_bench.specs.Played.{left_waiting, still, unmet_of};
 ghost use Rattle.lin_bench.specs.Slots.{hosts_waiting};
 ghost use Rattle.lin_bench.specs.Plays.{Plays};
+ghost use Rattle.lin_bench.specs.Searches.{IsKnown, taken_by};
 ghost use Rattle.lin_bench.specs.Verdicts.{kind_taken, taking, verdict};
 ghost use Rattle.lin_bench.specs.declared.line.Line.{Line};
 
@@ -14,7 +15,7 @@ use crate::fault::PlayFault;
 use crate::got::Unmet;
 use crate::line::{Disturbance, Extent, Line};
 use crate::slots::{SLOT_LIMIT, hosts_waiting, make, slots};
-use crate::taken::EventKind;
+use crate::taken::Search;
 use crate::verdicts::verdict;
 use lin_cluster_parts::Cluster;
 use lin_core::Core;
@@ -74,16 +75,18 @@ fn expect(
     core: &Core,
     number: u64,
     expected: Expected,
-    taken: &mut Vec<EventKind>,
+    searches: &mut Vec<Search>,
     unmet: &mut Vec<Unmet>,
 ) -> Result<(), AllocError>
-    ensures taken { OnOk result
-        (taken.new.items ≡ taking (past_of core.now) taken.old.items (kind_taken expected)) }
+    requires { IsKnown core.now.log searches.old.items }
+    ensures taken { OnOk result (taken_by searches.new.items
+        ≡ taking (past_of core.now) (taken_by searches.old.items) (kind_taken expected)) }
+    ensures known { OnOk result (IsKnown core.now.log searches.new.items) }
     ensures unmet { OnOk result (unmet.new.items ≡ unmet.old.items
         ++ unmet_of number expected
-        (verdict core.now.cluster (past_of core.now) taken.old.items expected)) }
+        (verdict core.now.cluster (past_of core.now) (taken_by searches.old.items) expected)) }
 {
-    let got = verdict(alloc, core, taken, &expected)?;
+    let got = verdict(alloc, core, searches, &expected)?;
     if let Some(got) = got {
         unmet.push(Unmet::Expected {
             line: number,
@@ -100,8 +103,8 @@ struct Player {
     core: Core,
     /// How many slots lines of slots may still make.
     left: u32,
-    /// Of which kinds expectations took events.
-    taken: Vec<EventKind>,
+    /// The searches for events that expectations take.
+    searches: Vec<Search>,
     unmet: Vec<Unmet>,
 }
 
@@ -116,7 +119,9 @@ impl Player {
         how: &Disturbance,
         extent: Extent,
     ) -> Result<(), PlayFault>
-        ensures { PlaysSlots self.old number how.now extent result self.new }
+        requires { IsKnown self.old.core.log self.old.searches.items }
+        ensures played { PlaysSlots self.old number how.now extent result self.new }
+        ensures known { OnOk result (IsKnown self.new.core.log self.new.searches.items) }
     {
         match slots(alloc, &mut self.core, how, extent, self.left)? {
             Some(left) => {
@@ -130,7 +135,9 @@ impl Player {
     /// Plays a line of slots.
     #[tactic(auto, unfolding(crate::specs::Played::said))]
     fn extent(&mut self, alloc: Global, number: u64, extent: Extent) -> Result<(), PlayFault>
-        ensures { PlaysLine self.old number (Line.Slots extent) result self.new }
+        requires { IsKnown self.old.core.log self.old.searches.items }
+        ensures played { PlaysLine self.old number (Line.Slots extent) result self.new }
+        ensures known { OnOk result (IsKnown self.new.core.log self.new.searches.items) }
     {
         self.slots(alloc, number, &Disturbance::Undisturbed, extent)?;
         look_for_idle(alloc, &self.core, number, extent, &mut self.unmet)?;
@@ -140,7 +147,9 @@ impl Player {
     /// Plays a line.
     #[tactic(auto, unfolding(crate::specs::Played::said))]
     fn line(&mut self, alloc: Global, number: u64, line: Line) -> Result<(), PlayFault>
-        ensures { PlaysLine self.old number line result self.new }
+        requires { IsKnown self.old.core.log self.old.searches.items }
+        ensures played { PlaysLine self.old number line result self.new }
+        ensures known { OnOk result (IsKnown self.new.core.log self.new.searches.items) }
     {
         match line {
             Line::Step(by, step) => {
@@ -155,7 +164,7 @@ impl Player {
                     &self.core,
                     number,
                     expected,
-                    &mut self.taken,
+                    &mut self.searches,
                     &mut self.unmet,
                 )?;
                 Ok(())
@@ -188,7 +197,7 @@ pub fn play(
     let mut player = Player {
         core: Core::new(alloc, cluster, table, capacity)?,
         left: SLOT_LIMIT,
-        taken: Vec::new(alloc),
+        searches: Vec::new(alloc),
         unmet: Vec::new(alloc),
     };
     for (number, line) in lines {

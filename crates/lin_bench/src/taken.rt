@@ -1,9 +1,9 @@
 //! Events that expectations speak of.
 
-ghost use Rattle.std.specs.Prelude.{◌≡◌, ◌++◌, List, filter, find, option_map, reverse, slice_get};
+ghost use Rattle.std.specs.Prelude.{◌≡◌, ◌≤◌, length, filter, find, option_map, reverse};
 ghost use Rattle.lin_core.specs.History.{events};
 ghost use Rattle.lin_core.specs.declared.event.Event.{Event};
-ghost use Rattle.lin_bench.specs.Making.{skip_result};
+ghost use Rattle.lin_bench.specs.Searches.{Finds, Skips};
 ghost use Rattle.lin_bench.specs.Verdicts.{all_events, is_of, same_kind};
 
 use lin_core::{Event, Log, LogEntry, Reply};
@@ -54,6 +54,25 @@ impl EventKind {
     }
 }
 
+/// A place in a log.
+#[derive(Clone, Copy)]
+pub(crate) struct Place {
+    /// The number of an entry.
+    pub(crate) entry: usize,
+    /// How many events of a kind stand before the place, of those of the entry on.
+    pub(crate) events: usize,
+}
+
+/// A search for the oldest event of a kind that no expectation has taken.
+#[derive(Clone, Copy)]
+pub(crate) struct Search {
+    pub(crate) kind: EventKind,
+    /// Whether there was one, which is taken.
+    pub(crate) found: bool,
+    /// Where the next search for the kind goes on.
+    pub(crate) end: Place,
+}
+
 /// The events of an entry.
 fn events_of(entry: &LogEntry) -> &[Event]
     ensures { result.now ≡ events entry.now }
@@ -64,37 +83,47 @@ fn events_of(entry: &LogEntry) -> &[Event]
     }
 }
 
-/// The event of a kind after so many others of it, or how many of these are left to skip.
-fn skipped(events: &[Event], kind: EventKind, skip: usize) -> Result<&Event, usize>
-    ensures { (more : List Event)
-        → slice_get (filter (is_of kind) events.now ++ more) skip
-        ≡ skip_result (λ e. e.now) result more }
+/// The event of a kind after so many others of it, and how many there are up to it; or how many of
+/// the others are left to skip.
+fn skipped(events: &[Event], kind: EventKind, skip: usize) -> Result<(&Event, usize), usize>
+    ensures { Skips (λ e. e.now) events.now kind skip result }
 {
-    let mut skip = skip;
+    let mut left = skip;
     for event in events {
         if kind.has(event) {
-            if skip == 0 {
-                return Ok(event);
+            if left == 0 {
+                return Ok((event, skip + 1));
             }
-            skip -= 1;
+            left -= 1;
         }
     }
-    Err(skip)
+    Err(left)
 }
 
-/// The event of a kind in a log after so many others of it.
-pub(crate) fn event_after(log: &Log, kind: EventKind, skip: usize) -> Option<&Event>
-    ensures { option_map (λ e. e.now) result
-        ≡ slice_get (filter (is_of kind) (all_events (reverse log.now.entries))) skip }
+/// The first event of a kind from a place on, and the place behind it: the end of the log where
+/// there is none.
+pub(crate) fn event_from(log: &Log, kind: EventKind, from: Place) -> (Option<&Event>, Place)
+    requires { from.entry ≤ length log.now.entries }
+    ensures { Finds log.now.entries kind from (option_map (λ e. e.now) result.0) result.1 }
 {
-    let mut skip = skip;
-    for index in 0..log.len() {
+    let mut skip = from.events;
+    for index in from.entry..log.len() {
         match skipped(events_of(log.entry(index)), kind, skip) {
-            Ok(event) => return Some(event),
+            Ok((event, events)) => {
+                let end = Place {
+                    entry: index,
+                    events,
+                };
+                return (Some(event), end);
+            }
             Err(left) => skip = left,
         }
     }
-    None
+    let end = Place {
+        entry: log.len(),
+        events: skip,
+    };
+    (None, end)
 }
 
 /// The last event of a kind among events.

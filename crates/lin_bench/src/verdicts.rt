@@ -1,9 +1,9 @@
 //! Verdicts on what is expected.
 
 ghost use Rattle.std.specs.Prelude.{◌≡◌, ◌==◌, ◌<◌, ◌≤◌, ◌&&◌, IfOk, OnOk, None, option_map};
-ghost use Rattle.std.specs.Prelude.{count_by};
 ghost use Rattle.lin_core.specs.Core.{past_of};
 ghost use Rattle.lin_log.specs.Words.{cause_word};
+ghost use Rattle.lin_bench.specs.Searches.{IsKnown, last_end, last_search, taken_by};
 ghost use Rattle.lin_bench.specs.Verdicts.{same_kind, done_verdict, kind_taken, last_event};
 ghost use Rattle.lin_bench.specs.Verdicts.{look_of, look_word, lost_verdict, message_verdict};
 ghost use Rattle.lin_bench.specs.Verdicts.{newest_reply, next_event, refusal_word, refused_verdict};
@@ -13,7 +13,7 @@ ghost use Rattle.lin_bench.specs.Verdicts.{with_taken};
 
 use crate::expected::{Expected, Look};
 use crate::got::Got;
-use crate::taken::{EventKind, event_after, last_event};
+use crate::taken::{EventKind, Place, Search, event_from, last_event};
 use lin_core::{Cause, Core, Event, Payload, Refusal, Reply, Seen};
 use lin_frame::Value;
 use std::alloc::{AllocError, Global};
@@ -248,29 +248,47 @@ fn refused(reply: Option<&Reply>, why: Refusal) -> Option<Got>
     }
 }
 
-/// How many events of a kind were taken.
-fn taken_of(taken: &[EventKind], kind: EventKind) -> usize
-    ensures { result ≡ count_by (same_kind kind) taken.now }
+/// The last search for a kind.
+fn last_search(searches: &[Search], kind: EventKind) -> Option<&Search>
+    ensures { option_map (λ s. s.now) result ≡ last_search kind searches.now }
 {
-    taken.iter().filter(|other| kind.is(**other)).count()
+    searches.iter().rev().find(|search| kind.is(search.kind))
+}
+
+/// Where it ended, or the beginning of the log.
+fn last_end(searches: &[Search], kind: EventKind) -> Place
+    ensures { result ≡ last_end kind searches.now }
+{
+    match last_search(searches, kind) {
+        Some(search) => search.end,
+        None => Place {
+            entry: 0,
+            events: 0,
+        },
+    }
 }
 
 /// The oldest event of a kind that no expectation has taken, which is taken now.
 fn take_next<'a>(
     core: &'a Core,
-    taken: &mut Vec<EventKind>,
+    searches: &mut Vec<Search>,
     kind: EventKind,
 ) -> Result<Option<&'a Event>, AllocError>
-    ensures event { IfOk result
-        (λ e. option_map (λ e. e.now) e ≡ next_event (past_of core.now) taken.old.items kind) }
-    ensures taken { OnOk result
-        (taken.new.items
-        ≡ with_taken (next_event (past_of core.now) taken.old.items kind) kind taken.old.items) }
+    requires { IsKnown core.now.log searches.old.items }
+    ensures event { IfOk result (λ e. option_map (λ e. e.now) e
+        ≡ next_event (past_of core.now) (taken_by searches.old.items) kind) }
+    ensures taken { OnOk result (taken_by searches.new.items ≡ with_taken
+        (next_event (past_of core.now) (taken_by searches.old.items) kind) kind
+        (taken_by searches.old.items)) }
+    ensures known { OnOk result (IsKnown core.now.log searches.new.items) }
 {
-    let event = event_after(core.log(), kind, taken_of(taken.as_slice(), kind));
-    if event.is_some() {
-        taken.push(kind)?;
-    }
+    let from = last_end(searches.as_slice(), kind);
+    let (event, end) = event_from(core.log(), kind, from);
+    searches.push(Search {
+        kind,
+        found: event.is_some(),
+        end,
+    })?;
     Ok(event)
 }
 
@@ -280,13 +298,15 @@ fn take_next<'a>(
 pub(crate) fn verdict(
     alloc: Global,
     core: &Core,
-    taken: &mut Vec<EventKind>,
+    searches: &mut Vec<Search>,
     expected: &Expected,
 ) -> Result<Option<Got>, AllocError>
+    requires { IsKnown core.now.log searches.old.items }
     ensures verdict { IfOk result
-        (λ v. v ≡ verdict core.now.cluster (past_of core.now) taken.old.items expected.now) }
-    ensures taken { OnOk result
-        (taken.new.items ≡ taking (past_of core.now) taken.old.items (kind_taken expected.now)) }
+        (λ v. v ≡ verdict core.now.cluster (past_of core.now) (taken_by searches.old.items) expected.now) }
+    ensures taken { OnOk result (taken_by searches.new.items
+        ≡ taking (past_of core.now) (taken_by searches.old.items) (kind_taken expected.now)) }
+    ensures known { OnOk result (IsKnown core.now.log searches.new.items) }
 {
     match expected {
         Expected::Signal {
@@ -300,15 +320,15 @@ pub(crate) fn verdict(
                 from: *from,
                 to: *to,
             };
-            let event = take_next(core, taken, kind)?;
+            let event = take_next(core, searches, kind)?;
             message(alloc, event, bytes.as_slice())
         }
         Expected::Sent { host } => {
-            let event = take_next(core, taken, EventKind::Fates { host: *host })?;
+            let event = take_next(core, searches, EventKind::Fates { host: *host })?;
             Ok(sent(event))
         }
         Expected::Lost { host, cause } => {
-            let event = take_next(core, taken, EventKind::Fates { host: *host })?;
+            let event = take_next(core, searches, EventKind::Fates { host: *host })?;
             Ok(lost(event, *cause))
         }
         Expected::Seen(how) => Ok(seen(last_event(core.log(), EventKind::Ends), *how)),

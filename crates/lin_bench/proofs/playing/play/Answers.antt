@@ -1,14 +1,18 @@
-use Rattle.std.proofs.Common.{◌≡◌, ◌∙◌, [], ◌∷◌, ◌++◌, ap, sym, append_assoc, refl, rules}
+use Rattle.std.proofs.Common.{◌≡◌, ◌∙◌, [], ◌∷◌, ◌++◌, ap, sym, append_assoc, refl, rules, subst}
 use Rattle.lin_bench.proofs.Makes.{append-nothing}
 use Rattle.lin_bench.proofs.Runs.{all-come, come-first, come-more, line-fails, nothing-left}
+use Rattle.lin_bench.specs.Searches.{IsKnown}
+use Rattle.lin_bench.proofs.Searches.{known-first}
 use Rattle.lin_bench.proofs.playing.play.Goals as goal
 
 pub loop-number-init : goal.loop-number-init
 loop-number-init c =
     let e = c.in_ok-new.ensures in
+    let none : c.new-2.result.items ≡ [] = search rules in
     record {
       come = come-first c.args.cluster c.args.table c.args.capacity _ e.0 e.1 e.2 e.3 refl (search rules) (search rules);
       whole = search rules;
+      known = subst (λ log. IsKnown log c.new-2.result.items) (sym e.0) (subst (IsKnown []) (sym none) (known-first []));
     }
 
 pub loop-number-preserved : goal.loop-number-preserved
@@ -16,7 +20,8 @@ loop-number-preserved c =
     let at = c.loop-number in
     let next : at.number-iterator.rest.items ≡ (c.in-Some.number, c.in-Some.line) ∷ c.next.new.self.rest.items = search rules in
     record {
-      come = come-more c.args.cluster c.args.table c.args.capacity at.yielded at.player c.line.new.self c.in-Some.number c.in-Some.line at.invariant.come c.in-Ok.ensures;
+      come = come-more c.args.cluster c.args.table c.args.capacity at.yielded at.player c.line.new.self c.in-Some.number c.in-Some.line at.invariant.come c.in-Ok.ensures.played;
+      known = c.in-Ok.ensures.known;
       whole = append_assoc at.yielded ((c.in-Some.number, c.in-Some.line) ∷ []) c.next.new.self.rest.items ∙ ap (λ r. at.yielded ++ r) (sym next) ∙ at.invariant.whole;
     }
 
@@ -25,7 +30,7 @@ returns-in-Err c =
     let at = c.loop-number in
     let next : at.number-iterator.rest.items ≡ (c.in-Some.number, c.in-Some.line) ∷ c.next.new.self.rest.items = search rules in
     line-fails c.args.cluster c.args.table c.args.capacity at.yielded c.next.new.self.rest.items c.args.lines.items at.player c.in-Some.number c.in-Some.line c.in-Err.fault
-    (ap (λ r. at.yielded ++ r) (sym next) ∙ at.invariant.whole) at.invariant.come c.in-Err.ensures
+    (ap (λ r. at.yielded ++ r) (sym next) ∙ at.invariant.whole) at.invariant.come c.in-Err.ensures.played
 
 pub returns : goal.returns
 returns c =

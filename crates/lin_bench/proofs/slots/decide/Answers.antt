@@ -1,4 +1,4 @@
-use Rattle.std.proofs.Common.{◌+◌, map, take, arith}
+use Rattle.std.proofs.Common.{arith}
 use Rattle.std.proofs.lemmas.List.{map_more}
 use Rattle.lin_bench.specs.Slots.{decision}
 use Rattle.lin_bench.proofs.Makes.{made-nothing, made-more}

@@ -1,4 +1,4 @@
-use Rattle.std.proofs.Common.{◌≡◌, ◌∙◌, sym, arith, ◌+◌, ◌-◌}
+use Rattle.std.proofs.Common.{◌∙◌, sym, arith, ◌+◌, ◌-◌}
 use Rattle.lin_bench.specs.Slots.{most}
 use Rattle.lin_bench.proofs.SlotSteps.{all-made, begin, next-opened, next-over, next-refused, next-stops}
 use Rattle.lin_bench.proofs.slots.slots.Goals as goal

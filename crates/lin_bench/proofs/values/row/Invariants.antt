@@ -1,4 +1,4 @@
-use Rattle.std.proofs.Common.{◌≡◌, ◌++◌, drop, Option, option_map}
+use Rattle.std.proofs.Common.{◌≡◌, ◌++◌, drop, option_map}
 use Rattle.lin_bench.specs.Fields.{words}
 use Rattle.lin_bench.specs.Values.{row}
 use Rattle.lin_bench.proofs.values.row.Given as goal

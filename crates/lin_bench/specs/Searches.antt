@@ -1,0 +1,59 @@
+-- Events that expectations took, and the searches that found them, given the entries of a log, the
+-- oldest first.
+use Rattle.std.specs.Prelude.{◌≡◌, ◌≤◌, ◌+◌, ℕ, List, [], ◌∷◌, count_by, find, flat_map, length}
+use Rattle.std.specs.Prelude.{if◌then◌else◌, filter, reverse, slice_get, take, Option, Some, None}
+use Rattle.std.specs.Prelude.{Result, Ok, Err}
+use Rattle.lin_core.specs.History.{events}
+use Rattle.lin_core.specs.declared.event.Event.{Event}
+use Rattle.lin_core.specs.declared.log.LogEntry.{LogEntry}
+use Rattle.lin_bench.specs.Verdicts.{is_of, same_kind}
+use Rattle.lin_bench.specs.declared.taken.EventKind.{EventKind}
+use Rattle.lin_bench.specs.declared.taken.Place.{Place}
+use Rattle.lin_bench.specs.declared.taken.Search.{Search}
+
+abbrev pub kind_found : Search → List EventKind
+kind_found s = if s.found then s.kind ∷ [] else []
+
+-- of which kinds searches took events
+abbrev pub taken_by : List Search → List EventKind
+taken_by ss = flat_map kind_found ss
+
+abbrev pub last_search : EventKind → List Search → Option Search
+last_search kind ss = find (λ s. same_kind kind s.kind) (reverse ss)
+
+abbrev pub end_of : Option Search → Place
+end_of None = record { entry = 0; events = 0 }
+end_of (Some s) = s.end
+
+-- where the last search for a kind ended
+abbrev pub last_end : EventKind → List Search → Place
+last_end kind ss = end_of (last_search kind ss)
+
+-- how many events of a kind stand before a place
+abbrev pub before : List LogEntry → EventKind → Place → ℕ
+before es kind p = count_by (is_of kind) (flat_map events (take p.entry es)) + p.events
+
+-- the last search for each kind ended behind all events that were taken of it
+pub record IsKnown (es : List LogEntry) (ss : List Search) : Type 0 where
+  pub within : (kind : EventKind) → (last_end kind ss).entry ≤ length es
+  pub taken : (kind : EventKind)
+      → before es kind (last_end kind ss) ≡ count_by (same_kind kind) (taken_by ss)
+
+abbrev pub how_many : Option Event → ℕ
+how_many None = 0
+how_many (Some e) = 1
+
+-- a search from a place on finds this event, or none, and ends at this place
+pub record Finds (es : List LogEntry) (kind : EventKind) (from : Place) (event : Option Event)
+    (end : Place) : Type 0 where
+  pub event_is : event ≡ slice_get (filter (is_of kind) (flat_map events es)) (before es kind from)
+  pub within : end.entry ≤ length es
+  pub place : before es kind end ≡ before es kind from + how_many event
+
+-- the event of a kind after so many others, and how many there are up to it; or how many of the
+-- others are left
+abbrev pub Skips : {X : Type 0} → (X → Event) → List Event → EventKind → ℕ → Result (X × ℕ) ℕ
+    → Type 0
+Skips view es kind n (Ok f) =
+    (slice_get (filter (is_of kind) es) n ≡ Some (view f.0)) × (f.1 ≡ n + 1)
+Skips view es kind n (Err left) = count_by (is_of kind) es + left ≡ n
