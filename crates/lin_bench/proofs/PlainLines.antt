@@ -21,7 +21,7 @@ use Rattle.lin_bench.proofs.PlainSteps.{fields-say}
 abbrev not_comment : List ℕ → Bool
 not_comment f = not (is_comment f)
 
-abbrev list_of : Option (PortId × Step) → List (PortId × Step)
+abbrev pub list_of : Option (PortId × Step) → List (PortId × Step)
 list_of None = []
 list_of (Some s) = s ∷ []
 
@@ -49,11 +49,11 @@ unfolding read_line
 nothing-said c l true h e = rw h refl
 nothing-said c l false h e = rw (h, e) refl
 
-reply-said : (c : Parts) (l : List ℕ) → (slice_index l 0 == 62) ≡ true → read_line c l ≡ Ok None
+pub reply-said : (c : Parts) (l : List ℕ) → (slice_index l 0 == 62) ≡ true → read_line c l ≡ Ok None
 unfolding read_line
 reply-said c l h = rw h refl
 
-step-said : (c : Parts) (l : List ℕ) (s : PortId × Step) → (slice_index l 0 == 62) ≡ false → all_fields (plain.fields l) ≡ true
+pub step-said : (c : Parts) (l : List ℕ) (s : PortId × Step) → (slice_index l 0 == 62) ≡ false → all_fields (plain.fields l) ≡ true
     → of_fields c (plain.fields l) ≡ Ok (Some (line.Step s.0 s.1)) → read_line c l ≡ Ok (Some (line.Step s.0 s.1))
 unfolding read_line
 step-said c l s h all e = rw (h, same-fields l all) e
@@ -93,20 +93,20 @@ line-says : (c : Parts) (l : List ℕ) (xs : List (PortId × Step)) → plain.li
 line-says c l xs e = line-by c l xs (slice_index l 0 == 35) (slice_index l 0 == 62) (plain.no_fields (plain.fields l)) refl refl refl e
 
 -- ---- lines in order, each with its number
-abbrev lines_of : List (ℕ × (PortId × Step)) → List (ℕ × Line)
+abbrev pub lines_of : List (ℕ × (PortId × Step)) → List (ℕ × Line)
 lines_of [] = []
 lines_of (t ∷ ts) = (t.0, line.Step t.1.0 t.1.1) ∷ lines_of ts
 
-abbrev steps_of : List (ℕ × (PortId × Step)) → List (PortId × Step)
+abbrev pub steps_of : List (ℕ × (PortId × Step)) → List (PortId × Step)
 steps_of [] = []
 steps_of (t ∷ ts) = t.1 ∷ steps_of ts
 
-record SayLines (c : Parts) (n : ℕ) (ls : List (List ℕ)) (steps : List (PortId × Step)) : Type 0 where
-  numbered : List (ℕ × (PortId × Step))
-  reading : read_lines c n ls ≡ Ok (lines_of numbered)
-  steps_are : steps ≡ steps_of numbered
+pub record SayLines (c : Parts) (n : ℕ) (ls : List (List ℕ)) (steps : List (PortId × Step)) : Type 0 where
+  pub numbered : List (ℕ × (PortId × Step))
+  pub reading : read_lines c n ls ≡ Ok (lines_of numbered)
+  pub steps_are : steps ≡ steps_of numbered
 
-more-lines : (c : Parts) (n : ℕ) (l : List ℕ) (ls : List (List ℕ)) (ys : List (PortId × Step)) (o : Option (PortId × Step))
+pub more-lines : (c : Parts) (n : ℕ) (l : List ℕ) (ls : List (List ℕ)) (ys : List (PortId × Step)) (o : Option (PortId × Step))
     → read_line c (strip_carriage_return l) ≡ Ok (option_map (λ s. line.Step s.0 s.1) o) → SayLines c (n + 1) ls ys
     → SayLines c n (l ∷ ls) (list_of o ++ ys)
 more-lines c n l ls ys None e q = record { numbered = q.numbered; reading = rw (e, q.reading) refl; steps_are = q.steps_are }
@@ -176,12 +176,17 @@ no-mark : (c : Parts) (text : List ℕ) (steps : List (PortId × Step)) → plai
 no-mark c [] steps e = refl
 no-mark c (x ∷ xs) steps e = rw (mark-by c x xs steps (x == 10) refl e) refl
 
+-- lines that say steps and nothing else
+pub steps-alone : (c : Parts) (opening capacity : ℕ) (text : List ℕ) (steps : List (PortId × Step)) → without_mark text ≡ text
+    → SayLines c 1 (slice_split (λ b. b == 10) text) steps → SaysSteps c opening capacity text steps
+unfolding read
+steps-alone c opening capacity text steps e q = record {
+  lines = lines_of q.numbered;
+  reading = rw e q.reading;
+  steps_alone = turns c opening capacity first q.numbered ∙ ap (λ ss. Ok (record first { steps = ss })) (sym q.steps_are);
+}
+
 pub plain-scripts : PlainScripts
-unfolding plain.script read
+unfolding plain.script
 plain-scripts c opening capacity text steps e =
-    let q = lines-say c 1 (slice_split (λ b. b == 10) text) steps e in
-    record {
-      lines = lines_of q.numbered;
-      reading = rw (no-mark c text steps e) q.reading;
-      steps_alone = turns c opening capacity first q.numbered ∙ ap (λ ss. Ok (record first { steps = ss })) (sym q.steps_are);
-    }
+    steps-alone c opening capacity text steps (no-mark c text steps e) (lines-say c 1 (slice_split (λ b. b == 10) text) steps e)

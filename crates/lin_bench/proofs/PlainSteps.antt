@@ -58,7 +58,7 @@ bytes-by f bs false h e =
     let p = some-unless (length f == 0) (result_ok (decode_of f)) bs k in
     (digits-of_bytes f bs p.1, rw (h, p.1, append-nil bs) refl)
 
-bytes-say : (f bs : List ℕ) → hex_bytes f ≡ Some bs → Says f (bytes_fields (f ∷ [])) bs
+pub bytes-say : (f bs : List ℕ) → hex_bytes f ≡ Some bs → Says f (bytes_fields (f ∷ [])) bs
 bytes-say f bs e = bytes-by f bs (bytes_eq f (codes "-")) refl e
 
 no-letter : (d : ℕ) → is_digit d ≡ true → (d == 120) ≡ false
@@ -110,7 +110,7 @@ value-by f v false h e =
     let p = some-map Scalar (number 65535 f) v k in
     rw (sym p.2) (scalar-says f p.0 h p.1)
 
-value-says : (f : List ℕ) (v : Value) → plain.value f ≡ Some v → Says f (value_field f) v
+pub value-says : (f : List ℕ) (v : Value) → plain.value f ≡ Some v → Says f (value_field f) v
 value-says f v e = value-by f v (slice_index f 0 == 120) refl e
 
 -- ---- directions
@@ -120,7 +120,7 @@ direction-by f d true u h k e = word-field f (codes "down") h refl
 direction-by f d false true h k e = word-field f (codes "up") k refl
 direction-by f d false false h k e = let n : None ≡ Some d = rw (h, k) at e in absurd (cc)
 
-direction-says : (f : List ℕ) (d : Direction) → direction f ≡ Some d → Says f (direction_field f) d
+pub direction-says : (f : List ℕ) (d : Direction) → direction f ≡ Some d → Says f (direction_field f) d
 unfolding direction_field
 direction-says f d e = (direction-by f d (bytes_eq f (codes "down")) (bytes_eq f (codes "up")) refl refl e, rw e refl)
 
@@ -173,7 +173,7 @@ port-by c (x ∷ xs) by false false true h k l e =
     subst (λ b. (is_port (x ∷ xs) ≡ true) × Says (x ∷ xs) (port c (x ∷ xs)) b) p.2 (node-port c x xs p.0 h k l p.1)
 port-by c f by false false false h k l e = let n : None ≡ Some by = rw (h, k, l) at e in absurd (cc)
 
-port-says : (c : Parts) (f : List ℕ) (by : PortId) → plain.port f ≡ Some by → (is_port f ≡ true) × Says f (port c f) by
+pub port-says : (c : Parts) (f : List ℕ) (by : PortId) → plain.port f ≡ Some by → (is_port f ≡ true) × Says f (port c f) by
 port-says c f by e = port-by c f by (bytes_eq f (codes "bus")) (slice_index f 0 == 104) (slice_index f 0 == 110) refl refl refl e
 
 -- ---- fields in turn, each of which is read

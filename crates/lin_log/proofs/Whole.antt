@@ -102,7 +102,7 @@ inline-plains (w ∷ ws) h =
     inline-append w (flat_map spaced_word ws) (inline-word w p.0) (inline-plains ws p.1)
 
 -- the words of a line and its end, before a text
-line-end : (ws : List (List ℕ)) (rest : List ℕ) → line_tail ws ++ rest ≡ flat_map spaced_word ws ++ 10 ∷ rest
+pub line-end : (ws : List (List ℕ)) (rest : List ℕ) → line_tail ws ++ rest ≡ flat_map spaced_word ws ++ 10 ∷ rest
 line-end [] rest = refl
 line-end (w ∷ ws) rest =
     append_assoc (spaced_word w) (line_tail ws) rest ∙ ap (λ l. spaced_word w ++ l) (line-end ws rest) ∙ sym (append_assoc (spaced_word w) (flat_map spaced_word ws) (10 ∷ rest))
@@ -135,15 +135,15 @@ word-port (Node n) h = record { some = omega arith; whole = plain-decimal n }
 word-any : (n : ℕ) → n < 2 ^ 64 → IsWord (decimal n)
 word-any n h = word-decimal n h
 
-word-value : (v : Value) → FitsValue v → IsWord (value_word v)
+pub word-value : (v : Value) → FitsValue v → IsWord (value_word v)
 word-value (Scalar n) h = word-decimal n (omega arith)
 word-value (Bytes bs) h = record { some = omega arith; whole = (word-hex bs).whole }
 
-word-direction : (d : Direction) → IsWord (direction_word d)
+pub word-direction : (d : Direction) → IsWord (direction_word d)
 word-direction Down = record { some = omega arith; whole = refl }
 word-direction Up = record { some = omega arith; whole = refl }
 
-abbrev literal : (w : List ℕ) → 0 < length w → all_plain w ≡ true → IsWord w
+abbrev pub literal : (w : List ℕ) → 0 < length w → all_plain w ≡ true → IsWord w
 literal w a b = record { some = a; whole = b }
 
 pub words-step : (s : Step) → FitsStep s → AreWords (step_words s)

@@ -1,0 +1,56 @@
+-- The cluster of an LDF text has names that a bench script reads.
+use Rattle.std.proofs.Common.{◌≡◌, ◌∙◌, ◌+◌, ℕ, zero, suc, List, [], ◌∷◌, refl, sym, ap, arith, None, length, get_or, map}
+use Rattle.std.specs.List.{enumerate_from}
+use Rattle.std.proofs.lemmas.List.{length-map}
+use Rattle.std.proofs.lemmas.List.FromFn.{length-enumerate_from}
+use Rattle.lin_frame.specs.declared.value.Value.TheVariants.{Scalar}
+use Rattle.lin_description.specs.declared.description.Description.{Description}
+use Rattle.lin_description.specs.declared.description.Name.{Name}
+use Rattle.lin_cluster_parts.specs.Cluster.{node_of, nodes}
+use Rattle.lin_cluster_parts.specs.declared.parts.Node.{Node}
+use Rattle.lin_cluster_parts.specs.declared.parts.Signal.{Signal}
+use Rattle.lin_cluster_parts.specs.declared.parts.Table.{Table}
+use Rattle.lin_cluster.specs.Described.{described_signal, described_table, parts_of, responder}
+use Rattle.lin_names.specs.Names.{names_of}
+use Rattle.lin_laws.specs.NamedScripts.{HasWordNames, NamedLogsOfTexts}
+use Rattle.lin_laws.proofs.LdfNames.{DeclaresNames, name_text, names-of_new, signal_text, table_text, text-declares}
+use Rattle.lin_laws.proofs.NamedLogs.{named-logs}
+
+-- what is made of things has their names, and nothing else has one
+made-name : {A B : Type 0} (make : A → B) (name_of : B → List ℕ) (text_of : A → List ℕ) (other : B) → ((a : A) → name_of (make a) ≡ text_of a)
+    → name_of other ≡ [] → (xs : List A) (k : ℕ) → name_of (get_or (map make xs) k other) ≡ get_or (map text_of xs) k []
+made-name make name_of text_of other same none [] k = none
+made-name make name_of text_of other same none (x ∷ xs) zero = same x
+made-name make name_of text_of other same none (x ∷ xs) (suc k) = made-name make name_of text_of other same none xs k
+
+numbered-names : (n : ℕ) (xs : List Name) → map (λ (p : ℕ × Name). p.1.text) (enumerate_from n xs) ≡ map name_text xs
+numbered-names n [] = refl
+numbered-names n (x ∷ xs) = ap (λ l. x.text ∷ l) (numbered-names (n + 1) xs)
+
+node-name : (d : Description) (k : ℕ) → (node_of (parts_of d) k).name ≡ get_or (d.master.text ∷ map name_text d.slaves) k []
+node-name d zero = refl
+node-name d (suc k) =
+    made-name (responder d) (λ (n : Node). n.name) (λ (p : ℕ × Name). p.1.text) (record { name = []; nad = None }) (λ p. refl) refl (enumerate_from 1 d.slaves) k
+    ∙ ap (λ l. get_or l k []) (numbered-names 1 d.slaves)
+
+node-count : (d : Description) → nodes (parts_of d) ≡ length (d.master.text ∷ map name_text d.slaves)
+node-count d =
+    omega (arith, length-map (enumerate_from 1 d.slaves) (responder d), length-enumerate_from 1 d.slaves, length-map d.slaves name_text)
+
+words-of_text : (d : Description) → DeclaresNames d → HasWordNames (parts_of d)
+words-of_text d p = record {
+  of_nodes = names-of_new (d.master.text ∷ map name_text d.slaves) p.of_nodes _ _ (node-count d) (node-name d);
+  of_signals = names-of_new (map signal_text d.signals) p.of_signals _ _
+      (length-map d.signals (described_signal d) ∙ sym (length-map d.signals signal_text))
+      (made-name (described_signal d) (λ (s : Signal). s.name) signal_text (record { name = []; publisher = 0; size = 1; initial = Scalar 0 })
+      (λ s. refl) refl d.signals);
+  of_tables = names-of_new (map table_text d.tables) p.of_tables _ _
+      (length-map d.tables (described_table d) ∙ sym (length-map d.tables table_text))
+      (made-name (described_table d) (λ (t : Table). t.name) table_text (record { name = []; lines = [] }) (λ t. refl) refl d.tables);
+}
+
+pub named-logs-of_texts : NamedLogsOfTexts
+named-logs-of_texts text d log opening capacity described fits =
+    let p = text-declares text d described in
+    named-logs (parts_of d) (names_of d) log opening capacity (words-of_text d p)
+    (record { of_frames = p.of_frames; of_sporadic = p.of_sporadic; of_events = p.of_events }) fits
