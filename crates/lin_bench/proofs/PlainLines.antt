@@ -11,7 +11,7 @@ use Rattle.lin_core.specs.declared.step.Step.{Step}
 use Rattle.lin_log.specs.Script as plain
 use Rattle.lin_bench.specs.Fields.{fields, is_comment, is_gap, is_text}
 use Rattle.lin_bench.specs.Lines.{of_fields, read, read_line, read_lines, without_mark}
-use Rattle.lin_bench.specs.Plain.{PlainScripts}
+use Rattle.lin_bench.specs.Plain.{PlainScripts, SaysSteps}
 use Rattle.lin_bench.specs.Played.{Run, first, in_turn, next, said}
 use Rattle.lin_bench.specs.declared.line.Line.{Line}
 use Rattle.lin_bench.specs.declared.line.Line.TheVariants as line
