@@ -6,11 +6,22 @@ use crate::place::Place;
 use lin_lists::{Many, OneOrMore, Text};
 
 /// A name and the place of its first byte.
-#[derive(Debug, Drop)]
+#[derive(Debug)]
 pub struct Name {
     pub text: Text,
     pub line: u64,
     pub column: u64,
+}
+
+// (written out, so that a function that owns names has one call at each of its ends)
+impl Drop for Name {
+    fn drop(self) {
+        let Name {
+            text: _text,
+            line: _,
+            column: _,
+        } = self;
+    }
 }
 
 /// A number and the place of its first byte.

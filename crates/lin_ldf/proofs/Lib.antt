@@ -1,7 +1,6 @@
 pub mod Scan
 pub mod Lines
 pub mod Closes
-pub mod Failing
 pub mod Stream
 pub mod Runs
 pub mod TokenForms

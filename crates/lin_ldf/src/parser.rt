@@ -1,6 +1,6 @@
 //! The description that an LDF text spells, read token by token.
 
-ghost use Rattle.std.specs.Prelude.{◌≡◌, ◌≢◌, ◌⊎◌, ◌++◌, ◌∷◌, ◌≤◌, [], true, length, IfOk};
+ghost use Rattle.std.specs.Prelude.{◌≡◌, ◌≢◌, ◌⊎◌, ◌++◌, ◌∷◌, ◌≤◌, [], true, Some, length, IfOk};
 ghost use Rattle.std.specs.Prelude.{IsErrAnd, MatchResult};
 ghost use Rattle.std.specs.Str.{bytes_eq};
 ghost use Rattle.std.specs.List.{list_any};
@@ -8,7 +8,7 @@ ghost use Rattle.lin_ldf.specs.Symbols.{symbols_in};
 ghost use Rattle.lin_ldf.specs.Stream.{start_of};
 ghost use Rattle.lin_ldf.specs.Tokens.{IsLexFault};
 ghost use Rattle.lin_ldf.specs.Describes.{Describes};
-ghost use Rattle.lin_ldf.specs.Forms.{Gives, has_front, front, tail, mark, keyword, end};
+ghost use Rattle.lin_ldf.specs.Forms.{Gives, has_front, front, tail, mark, keyword, end, ◌<&◌};
 ghost use Rattle.lin_ldf.specs.Loops.{is_next};
 ghost use Rattle.lin_ldf.specs.UpTo.{front_kind};
 ghost use Rattle.lin_ldf.specs.Words.{word, name_of, place_of, opening, new_word, number_at, int};
@@ -28,7 +28,7 @@ use crate::section::{SectionWord, section_word};
 use crate::token::{TokenKind, same_kind};
 use lin_description::{Description, Name, Number, Place};
 use lin_lists::Text;
-use std::alloc::{AllocError, Global};
+use std::alloc::Global;
 use std::marker::Model;
 
 /// The tokens that are left: the next one's kind, text and place, and the lexer, which stands after
@@ -224,17 +224,15 @@ impl<'a> Parser<'a> {
         Ok(())
     }
 
-    /// The next token as a name.
-    fn name(&self) -> Result<Name, AllocError>
-        requires { has_front self.now ≡ true }
-        ensures { IfOk result (λ n. n ≡ name_of (front self.now)) }
+    /// The next token as a name. It is passed over.
+    fn name(&mut self) -> Result<Name, LdfFault>
+        requires { has_front self.old ≡ true }
+        ensures { Gives result self.new (Some (name_of (front self.old), tail self.old)) }
     {
         let Place { line, column } = self.place();
-        Ok(Name {
-            text: Text::copied(self.alloc, self.text())?,
-            line,
-            column,
-        })
+        let text = Text::copied(self.alloc, self.text())?;
+        self.skip();
+        Ok(Name { text, line, column })
     }
 
     pub fn word(&mut self) -> Result<Name, LdfFault>
@@ -243,9 +241,7 @@ impl<'a> Parser<'a> {
         if !self.is_at(TokenKind::Word) {
             return Err(LdfFault::Unexpected(self.place()));
         }
-        let name = self.name()?;
-        self.skip();
-        Ok(name)
+        self.name()
     }
 
     /// A name that is declared here. It must be new.
@@ -260,8 +256,39 @@ impl<'a> Parser<'a> {
             return Err(LdfFault::NameTwice(self.place()));
         }
         let name = self.name()?;
-        self.skip();
         Ok(name)
+    }
+
+    // new WORD, mark
+    pub fn declared_before(
+        &mut self,
+        seen: &mut Names<'a>,
+        end: TokenKind,
+    ) -> Result<Name, LdfFault>
+        ensures read { Gives result self.new ((new_word seen.old <& mark end).read self.old) }
+        ensures seen { IfOk result (λ n. seen.new ≡ seen.old ++ n.text ∷ []) }
+    {
+        let name = self.declared(seen)?;
+        self.mark(end)?;
+        Ok(name)
+    }
+
+    // WORD, mark
+    pub fn word_before(&mut self, end: TokenKind) -> Result<Name, LdfFault>
+        ensures { Gives result self.new ((word <& mark end).read self.old) }
+    {
+        let name = self.word()?;
+        self.mark(end)?;
+        Ok(name)
+    }
+
+    // INT, mark
+    pub fn int_before(&mut self, end: TokenKind) -> Result<Number, LdfFault>
+        ensures { Gives result self.new ((int <& mark end).read self.old) }
+    {
+        let number = self.int()?;
+        self.mark(end)?;
+        Ok(number)
     }
 
     /// The name of a block of attributes. No block of that node may stand before.
@@ -277,7 +304,6 @@ impl<'a> Parser<'a> {
         }
         blocks.add(self.text())?;
         let name = self.name()?;
-        self.skip();
         Ok(name)
     }
 
