@@ -124,7 +124,8 @@ pub(crate) static FINDINGS: [(&str, &str); 18] = [
 pub(crate) static REFUSALS: [(&str, &str); 18] = [
     (
         "NoSuchNode",
-        "send, write, answer, leave, timeout, close: a number that is no node of the cluster",
+        "send, write, answer, leave, timeout, close: a number that is no node of the cluster; the \
+         receiver of a send may also be 126",
     ),
     (
         "NoSuchSignal",
@@ -142,9 +143,13 @@ pub(crate) static REFUSALS: [(&str, &str); 18] = [
     ),
     (
         "NoAddress",
-        "send: not exactly one of the two is node 0, or the other one has no diagnostic address",
+        "send: not exactly one of the two is node 0, or the other one has no diagnostic address; \
+         to 126: the sender isn't node 0, or no responder has an address",
     ),
-    ("BadLength", "send: no bytes, or more than 4,095"),
+    (
+        "BadLength",
+        "send: no bytes, or more than 4,095; to 126 more than 6",
+    ),
     ("Closed", "send, close: the host is closed"),
     (
         "QueueFull",
