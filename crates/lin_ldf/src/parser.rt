@@ -335,13 +335,24 @@ impl<'a> Parser<'a> {
         self.number(number_values::int_value(self.text()))
     }
 
-    pub fn dec(&mut self) -> Result<Number, LdfFault>
+    fn dec(&mut self) -> Result<Number, LdfFault>
         ensures { Gives result self.new (dec.read self.old) }
     {
         if !self.is_at(TokenKind::Number) || !number_values::has_three_decimals(self.text()) {
             return Err(LdfFault::Unexpected(self.place()));
         }
         self.number(number_values::thousandths(self.text()))
+    }
+
+    /// A number in thousandths of a unit.
+    // DEC, unit, mark
+    pub fn dec_in(&mut self, unit: &[u8], end: TokenKind) -> Result<Number, LdfFault>
+        ensures { Gives result self.new ((dec <& keyword unit.now <& mark end).read self.old) }
+    {
+        let number = self.dec()?;
+        self.keyword(unit)?;
+        self.mark(end)?;
+        Ok(number)
     }
 
     /// The text of `LIN_protocol`: without its quotes, or a number as it is spelled.
