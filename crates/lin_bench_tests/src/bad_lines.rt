@@ -1,8 +1,8 @@
 //! Lines that are bad, and what is said of them.
 
-use crate::clusters::cluster_of;
+use crate::clusters::{cluster_of, read_text};
 use crate::samples::DOOR_ZONE;
-use lin_bench::{ReadFault, read, write_bad_line};
+use lin_bench::{ReadFault, write_bad_line};
 use std::alloc::Global;
 use std::process::Abort;
 use std::test::Fail;
@@ -10,7 +10,7 @@ use std::test::Fail;
 /// The line that is written of a text's first bad line.
 fn bad_line(alloc: Global, text: &[u8]) -> Result<Vec<u8>, Fail> {
     let cluster = cluster_of(alloc, DOOR_ZONE)?;
-    match read(alloc, &cluster, text) {
+    match read_text(alloc, &cluster, text)? {
         Ok(_) => Err(Fail::from("no bad line")),
         Err(ReadFault::OutOfMemory) => Err(Fail::from("OutOfMemory")),
         Err(ReadFault::BadLine { line, reason }) => {

@@ -13,9 +13,21 @@ pub fn cluster_of(alloc: Global, ldf: &[u8]) -> Result<Cluster, Fail> {
     Ok(check(alloc, description)?)
 }
 
+/// The lines of a text, or its fault.
+pub fn read_text(
+    alloc: Global,
+    cluster: &Cluster,
+    text: &[u8],
+) -> Result<Result<Vec<(u64, Line)>, ReadFault>, Fail> {
+    if text.len() > 16_777_216 {
+        return Err(Fail::from("too long"));
+    }
+    Ok(read(alloc, cluster, text))
+}
+
 /// The lines of a text.
 pub fn lines_of(alloc: Global, cluster: &Cluster, text: &[u8]) -> Result<Vec<(u64, Line)>, Fail> {
-    match read(alloc, cluster, text) {
+    match read_text(alloc, cluster, text)? {
         Ok(lines) => Ok(lines),
         Err(ReadFault::OutOfMemory) => Err(Fail::from("OutOfMemory")),
         Err(ReadFault::BadLine { .. }) => Err(Fail::from("not read")),
