@@ -1,7 +1,7 @@
 -- Lists of findings as loops make them.
-use Rattle.std.proofs.Common.{◌≡◌, ℕ, ◌+◌, ◌<◌, ◌≤◌, List, [], ◌∷◌, ◌++◌, length, take, get_or, slice_get, sym, ap, ◌∙◌, zero-add, append-nil, append_assoc}
+use Rattle.std.proofs.Common.{◌≡◌, ℕ, ◌+◌, ◌<◌, ◌≤◌, List, [], ◌∷◌, ◌++◌, length, take, map, get_or, slice_get, sym, ap, ◌∙◌, zero-add, append-nil, append_assoc}
 use Rattle.std.specs.List.{flat_map, enumerate_from}
-use Rattle.std.proofs.lemmas.List.{take_more, take_all}
+use Rattle.std.proofs.lemmas.List.{take_more, take_all, map-append}
 use Rattle.std.proofs.lemmas.Grind.{flat_map-append}
 use Rattle.std.proofs.lemmas.List.FromFn.{length-enumerate_from, get_or-enumerate_from}
 use Rattle.std.proofs.lemmas.Option.{slice_get_past}
@@ -37,3 +37,17 @@ each_step_at f xs i x before found more h is so here = each_step f xs i x before
 pub four_more : {A : Type 0} (before one two three a b c x : List A) → one ≡ before ++ a → two ≡ one ++ b → three ≡ two ++ c → three ++ x ≡ before ++ (a ++ b ++ c ++ x)
 four_more before one two three a b c x first second third =
     ap (λ l. l ++ x) (third ∙ ap (λ l. l ++ c) (second ∙ ap (λ l. l ++ b) first ∙ append_assoc before a b) ∙ append_assoc before (a ++ b) c) ∙ append_assoc before (a ++ b ++ c) x
+
+-- a step of a loop that makes something of each item
+pub made_step : {A B : Type 0} (f : A → B) (xs : List A) (i : ℕ) (x : A) (made more : List B) → i < length xs → x ≡ get_or xs i x → made ≡ map f (take i xs) → more ≡ made ++ f x ∷ [] → more ≡ map f (take (i + 1) xs)
+made_step f xs i x made more h is so here =
+    here ∙ ap (λ ys. ys ++ f x ∷ []) so ∙ sym (map-append f (take i xs) (x ∷ [])) ∙ ap (λ y. map f (take i xs ++ y ∷ [])) is ∙ ap (map f) (sym (take_more xs i x h))
+
+-- a step of a loop that adds what it finds of each item
+pub found_step : {A B : Type 0} (f : A → List B) (xs : List A) (i : ℕ) (x : A) (before found more : List B) → i < length xs → x ≡ get_or xs i x → found ≡ before ++ flat_map f (take i xs) → more ≡ found ++ f x → more ≡ before ++ flat_map f (take (i + 1) xs)
+found_step f xs i x before found more h is so here =
+    here ∙ ap (λ ys. ys ++ f x) so ∙ append_assoc before (flat_map f (take i xs)) (f x)
+    ∙ ap (λ ys. before ++ (flat_map f (take i xs) ++ ys)) (sym (append-nil (f x)))
+    ∙ ap (λ ys. before ++ ys) (sym (flat_map-append f (take i xs) (x ∷ [])))
+    ∙ ap (λ y. before ++ flat_map f (take i xs ++ y ∷ [])) is
+    ∙ ap (λ ys. before ++ flat_map f ys) (sym (take_more xs i x h))

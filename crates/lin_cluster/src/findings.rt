@@ -18,7 +18,7 @@ mod tables;
 mod unknown_names;
 mod walk;
 
-ghost use Rattle.std.specs.Prelude.{◌≡◌, IfOk, List, map};
+ghost use Rattle.std.specs.Prelude.{◌≡◌, ◌++◌, IfOk, List, OnOk, map};
 ghost use Rattle.lin_cluster.specs.Findings.{candidates, AreFindings};
 ghost use Rattle.lin_cluster.specs.declared.finding.Finding.{Finding};
 ghost use Rattle.lin_cluster.specs.Models.{frame_model};
@@ -28,7 +28,6 @@ use addresses::bad_addresses;
 use declarations::in_declarations;
 use identifiers::bad_identifiers;
 use judged::Judged;
-use known::Known;
 use limits::limits_passed;
 use lin_description::Description;
 use lin_frame::SumKind;
@@ -43,17 +42,15 @@ pub(crate) struct Examined {
     pub(crate) models: Vec<SumKind>,
 }
 
-fn gathered(alloc: Global, judged: &Judged) -> Result<Vec<Finding>, AllocError>
-    ensures { IfOk result (λ found. found.items ≡ candidates judged.now) }
+fn gather(alloc: Global, found: &mut Vec<Finding>, judged: &Judged) -> Result<(), AllocError>
+    ensures { OnOk result (found.new.items ≡ found.old.items ++ candidates judged.now) }
 {
     let known = judged.known();
-    let mut found = Vec::new(alloc);
-    in_declarations(&mut found, judged)?;
-    bad_identifiers(alloc, &mut found, known)?;
-    bad_addresses(alloc, &mut found, known)?;
-    no_table(&mut found, known.description().tables())?;
-    limits_passed(&mut found, known)?;
-    Ok(found)
+    in_declarations(found, judged)?;
+    bad_identifiers(alloc, found, known)?;
+    bad_addresses(alloc, found, known)?;
+    no_table(found, known.description().tables())?;
+    limits_passed(found, known.description())
 }
 
 fn unordered(alloc: Global, description: &Description) -> Result<Examined, AllocError>
@@ -61,9 +58,9 @@ fn unordered(alloc: Global, description: &Description) -> Result<Examined, Alloc
     ensures models { IfOk result
         (λ x. x.models.items ≡ map (frame_model description.now) description.now.frames) }
 {
-    let known = Known::new(alloc, description)?;
-    let judged = Judged::new(alloc, &known)?;
-    let found = gathered(alloc, &judged)?;
+    let judged = Judged::new(alloc, description)?;
+    let mut found = Vec::new(alloc);
+    gather(alloc, &mut found, &judged)?;
     let models = judged.models()?;
     Ok(Examined { found, models })
 }

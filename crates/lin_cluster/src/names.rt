@@ -64,7 +64,7 @@ fn numbers_of<'a, T: Named>(
 ) -> Result<IndexMap<&'a [u8], usize>, AllocError>
     ensures { IfOk result (NumbersFirst T.name_of all.now) }
 {
-    let mut numbers = IndexMap::new(alloc);
+    let mut numbers = IndexMap::with_capacity(alloc, all.len())?;
     for (number, one) in all.iter().enumerate() {
         add(&mut numbers, one.name().text.as_slice(), number)?;
     }

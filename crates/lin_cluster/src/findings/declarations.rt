@@ -4,57 +4,56 @@ ghost use Rattle.std.specs.Prelude.{◌≡◌, ◌++◌, OnOk};
 ghost use Rattle.lin_cluster.specs.Findings.{in_declarations};
 
 use super::judged::Judged;
+use super::known::Known;
 use super::limits::{long_table, too_long};
-use super::members::{SporadicMembers, members_in_order};
+use super::members::members_in_order;
 use super::places::signals_in_order;
 use super::sizes::{bad_frame_size, bad_init, bad_signal_size};
 use super::slots::{short_slot, zero_delay};
 use super::tables::{empty_table, resolving_table};
-use super::unknown_names::{Nodes, unknown_node};
+use super::unknown_names::unknown_node;
 use super::walk::{Finds, at_name, each, push_when};
 use crate::finding::{Finding, FindingKind};
 use lin_description::{Attributes, EventFrame, Frame, Signal, Sporadic, Table, TableEntry};
 use std::alloc::AllocError;
 
-impl<'k, 'a> Finds<Signal> for Judged<'k, 'a> {
+impl<'a> Finds<Signal> for Known<'a> {
     ghost use Rattle.lin_cluster.specs.Findings.{in_signal};
 
     ghost finds = { in_signal };
 
     fn find(&self, found: &mut Vec<Finding>, signal: &Signal) -> Result<(), AllocError> {
-        let nodes = Nodes { judged: self };
         unknown_node(found, self, &signal.publisher)?;
-        each(found, &nodes, signal.subscribers.as_slice())?;
+        each(found, self, signal.subscribers.as_slice())?;
         bad_signal_size(found, signal)?;
         bad_init(found, signal)
     }
 }
 
-impl<'k, 'a> Finds<Frame> for Judged<'k, 'a> {
+impl<'a> Finds<Frame> for Judged<'a> {
     ghost use Rattle.lin_cluster.specs.Findings.{in_frame};
 
     ghost finds = { in_frame };
 
     fn find(&self, found: &mut Vec<Finding>, frame: &Frame) -> Result<(), AllocError> {
-        unknown_node(found, self, &frame.publisher)?;
+        unknown_node(found, self.known(), &frame.publisher)?;
         bad_frame_size(found, frame)?;
         let placed = frame.placed.as_slice();
         signals_in_order(self.alloc(), found, self.signals(), frame, placed)
     }
 }
 
-impl<'k, 'a> Finds<Sporadic> for Judged<'k, 'a> {
+impl<'a> Finds<Sporadic> for Judged<'a> {
     ghost use Rattle.lin_cluster.specs.Findings.{in_sporadic};
 
     ghost finds = { in_sporadic };
 
     fn find(&self, found: &mut Vec<Finding>, frame: &Sporadic) -> Result<(), AllocError> {
-        let members = SporadicMembers { judged: self };
-        each(found, &members, frame.members.as_slice())
+        each(found, self, frame.members.as_slice())
     }
 }
 
-impl<'k, 'a> Finds<EventFrame> for Judged<'k, 'a> {
+impl<'a> Finds<EventFrame> for Judged<'a> {
     ghost use Rattle.lin_cluster.specs.Findings.{in_event};
 
     ghost finds = { in_event };
@@ -65,7 +64,7 @@ impl<'k, 'a> Finds<EventFrame> for Judged<'k, 'a> {
     }
 }
 
-impl<'k, 'a> Finds<Attributes> for Judged<'k, 'a> {
+impl<'a> Finds<Attributes> for Known<'a> {
     ghost use Rattle.lin_cluster.specs.Findings.{in_attributes};
 
     ghost finds = { in_attributes };
@@ -75,7 +74,7 @@ impl<'k, 'a> Finds<Attributes> for Judged<'k, 'a> {
     }
 }
 
-impl<'k, 'a> Finds<TableEntry> for Judged<'k, 'a> {
+impl<'a> Finds<TableEntry> for Judged<'a> {
     ghost use Rattle.lin_cluster.specs.Findings.{in_entry};
 
     ghost finds = { in_entry };
@@ -93,7 +92,7 @@ impl<'k, 'a> Finds<TableEntry> for Judged<'k, 'a> {
     }
 }
 
-impl<'k, 'a> Finds<Table> for Judged<'k, 'a> {
+impl<'a> Finds<Table> for Judged<'a> {
     ghost use Rattle.lin_cluster.specs.Findings.{in_table};
 
     ghost finds = { in_table };
@@ -109,11 +108,12 @@ impl<'k, 'a> Finds<Table> for Judged<'k, 'a> {
 pub(super) fn in_declarations(found: &mut Vec<Finding>, judged: &Judged) -> Result<(), AllocError>
     ensures { OnOk result (found.new.items ≡ found.old.items ++ in_declarations judged.now) }
 {
-    let description = judged.known().description();
-    each(found, judged, description.signals())?;
+    let known = judged.known();
+    let description = known.description();
+    each(found, known, description.signals())?;
     each(found, judged, description.frames())?;
     each(found, judged, description.sporadic())?;
     each(found, judged, description.events())?;
-    each(found, judged, description.attributes())?;
+    each(found, known, description.attributes())?;
     each(found, judged, description.tables())
 }

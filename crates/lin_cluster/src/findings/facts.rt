@@ -44,10 +44,7 @@ pub(super) struct FrameFacts {
 pub(super) fn at<V: Copy>(values: &[V], number: usize) -> Option<V>
     ensures { result ≡ slice_get values.now number }
 {
-    match values.get(number) {
-        Some(value) => Some(*value),
-        None => None,
-    }
+    values.get(number).copied()
 }
 
 // Where no version of LIN 1.x is told, the subscribers aren't looked up.
@@ -83,45 +80,45 @@ impl<'a> Makes<Signal, SignalFacts> for Known<'a> {
 }
 
 /// The facts of each signal. Contracts see the description.
-pub(super) struct Signals<'k, 'a> {
-    known: &'k Known<'a>,
+pub(super) struct Signals<'a> {
+    known: Known<'a>,
     facts: Vec<SignalFacts>,
 }
 
-impl<'k, 'a> Model for Signals<'k, 'a> {
+impl<'a> Model for Signals<'a> {
     ghost use Rattle.lin_cluster.specs.Known.{AreSignalFacts};
     ghost use Rattle.lin_description.specs.declared.description.Description.{Description};
 
     ghost Value = { Description };
 
-    ghost view = { λ s. s.known.now };
+    ghost view = { λ s. s.known };
 
-    ghost invariant = { λ s. AreSignalFacts s.known.now s.facts.items };
+    ghost invariant = { λ s. AreSignalFacts s.known s.facts.items };
 }
 
 // Written out, so that what owns one lets it go in one step.
-impl<'k, 'a> Drop for Signals<'k, 'a> {
+impl<'a> Drop for Signals<'a> {
     fn drop(self) {
         let Signals {
-            known: _,
+            known: _known,
             facts: _facts,
         } = self;
     }
 }
 
-impl<'k, 'a> Signals<'k, 'a> {
+impl<'a> Signals<'a> {
     /// An error means out of memory.
-    pub(super) fn new(alloc: Global, known: &'k Known<'a>) -> Result<Signals<'k, 'a>, AllocError>
-        ensures { IfOk result (λ s. s ≡ known.now) }
+    pub(super) fn new(alloc: Global, known: Known<'a>) -> Result<Signals<'a>, AllocError>
+        ensures { IfOk result (λ s. s ≡ known.entry) }
     {
-        let facts = made_of_each(alloc, known, known.description().signals())?;
+        let facts = made_of_each(alloc, &known, known.description().signals())?;
         Ok(Signals { known, facts })
     }
 
-    pub(super) fn known(&self) -> &'k Known<'a>
+    pub(super) fn known(&self) -> &Known<'a>
         ensures { result.now ≡ self.now }
     {
-        self.known
+        &self.known
     }
 
     /// The number of the signal with this name, or the one after the last, and the facts of the
@@ -205,7 +202,7 @@ impl Named for Frame {
     }
 }
 
-impl<'k, 'a> Makes<Frame, FrameFacts> for Signals<'k, 'a> {
+impl<'a> Makes<Frame, FrameFacts> for Signals<'a> {
     ghost use Rattle.lin_cluster.specs.Known.{frame_facts};
 
     ghost makes = { frame_facts };

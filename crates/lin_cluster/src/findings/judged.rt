@@ -15,7 +15,7 @@ use super::known::{Known, carries_frame};
 use super::slots::{first_size, good_size, greatest_size};
 use super::walk::{Makes, made_of_each};
 use crate::names::Named;
-use lin_description::{EventFrame, Name, Sporadic, Table, TableEntry};
+use lin_description::{Description, EventFrame, Name, Sporadic, Table, TableEntry};
 use lin_frame::SumKind;
 use std::alloc::{AllocError, Global};
 use std::marker::Model;
@@ -84,7 +84,7 @@ impl<'a> Makes<Table, bool> for Known<'a> {
     }
 }
 
-impl<'k, 'a> Makes<FrameFacts, SumKind> for Judged<'k, 'a> {
+impl<'a> Makes<FrameFacts, SumKind> for Judged<'a> {
     ghost makes = { λ j f. f.model };
 
     fn make(&self, frame: &FrameFacts) -> SumKind {
@@ -101,15 +101,15 @@ pub(super) struct Slot {
 }
 
 /// What is worked out once of each declaration that names may name. Contracts see the description.
-pub(super) struct Judged<'k, 'a> {
+pub(super) struct Judged<'a> {
     alloc: Global,
-    signals: Signals<'k, 'a>,
+    signals: Signals<'a>,
     frames: Vec<FrameFacts>,
     sizes: Sizes,
     nested: Vec<bool>,
 }
 
-impl<'k, 'a> Model for Judged<'k, 'a> {
+impl<'a> Model for Judged<'a> {
     ghost use Rattle.lin_cluster.specs.Known.{AreFrameFacts, AreSizes, AreNested};
     ghost use Rattle.lin_description.specs.declared.description.Description.{Description};
 
@@ -123,7 +123,7 @@ impl<'k, 'a> Model for Judged<'k, 'a> {
 }
 
 // Written out, so that what owns one lets it go in one step.
-impl<'k, 'a> Drop for Judged<'k, 'a> {
+impl<'a> Drop for Judged<'a> {
     fn drop(self) {
         let Judged {
             alloc: _,
@@ -135,13 +135,13 @@ impl<'k, 'a> Drop for Judged<'k, 'a> {
     }
 }
 
-impl<'k, 'a> Judged<'k, 'a> {
+impl<'a> Judged<'a> {
     /// An error means out of memory.
-    pub(super) fn new(alloc: Global, known: &'k Known<'a>) -> Result<Judged<'k, 'a>, AllocError>
-        ensures { IfOk result (λ j. j ≡ known.now) }
+    pub(super) fn new(alloc: Global, description: &'a Description) -> Result<Judged<'a>, AllocError>
+        ensures { IfOk result (λ j. j ≡ description.now) }
     {
-        let description = known.description();
-        let signals = Signals::new(alloc, known)?;
+        let signals = Signals::new(alloc, Known::new(alloc, description)?)?;
+        let known = signals.known();
         let frames = made_of_each(alloc, &signals, description.frames())?;
         let sporadic = made_of_each(alloc, known, description.sporadic())?;
         let events = made_of_each(alloc, known, description.events())?;
@@ -166,13 +166,13 @@ impl<'k, 'a> Judged<'k, 'a> {
         self.alloc
     }
 
-    pub(super) fn signals(&self) -> &Signals<'k, 'a>
+    pub(super) fn signals(&self) -> &Signals<'a>
         ensures { result.now ≡ self.now }
     {
         &self.signals
     }
 
-    pub(super) fn known(&self) -> &'k Known<'a>
+    pub(super) fn known(&self) -> &Known<'a>
         ensures { result.now ≡ self.now }
     {
         self.signals.known()

@@ -1,14 +1,14 @@
 //! Limit passed (17): of what is counted the first one too many is found.
 
 ghost use Rattle.std.specs.Prelude.{◌≡◌, ◌++◌, OnOk, slice_get};
-ghost use Rattle.lin_cluster.specs.Limits.{past, too_long, long_table, limits_passed};
+ghost use Rattle.lin_cluster.specs.Limits.{past, too_long, long_table, frame_limits, time_limits};
+ghost use Rattle.lin_cluster.specs.Limits.{limits_passed};
 
-use super::known::Known;
 use super::slots::is_speed;
 use super::walk::{at_name, at_number, push_when};
 use crate::finding::{Finding, FindingKind};
 use crate::names::Named;
-use lin_description::{Name, Number, Table, TableEntry};
+use lin_description::{Description, Name, Number, Table, TableEntry};
 use std::alloc::AllocError;
 
 impl Named for TableEntry {
@@ -48,17 +48,18 @@ pub(super) fn long_table(found: &mut Vec<Finding>, table: &Table) -> Result<(), 
     past(found, table.entries.as_slice(), 1024)
 }
 
-/// What is counted or measured beyond its limit.
-pub(super) fn limits_passed(found: &mut Vec<Finding>, known: &Known) -> Result<(), AllocError>
-    ensures { OnOk result (found.new.items ≡ found.old.items ++ limits_passed known.now) }
+fn frame_limits(found: &mut Vec<Finding>, description: &Description) -> Result<(), AllocError>
+    ensures { OnOk result (found.new.items ≡ found.old.items ++ frame_limits description.now) }
 {
-    let description = known.description();
-    past(found, description.slaves(), 15)?;
     past(found, description.signals(), 1024)?;
     past(found, description.frames(), 60)?;
     past(found, description.sporadic(), 256)?;
-    past(found, description.events(), 60)?;
-    past(found, description.tables(), 256)?;
+    past(found, description.events(), 60)
+}
+
+fn time_limits(found: &mut Vec<Finding>, description: &Description) -> Result<(), AllocError>
+    ensures { OnOk result (found.new.items ≡ found.old.items ++ time_limits description.now) }
+{
     let is_good = is_speed(description.speed.value);
     push_when(
         found,
@@ -67,4 +68,17 @@ pub(super) fn limits_passed(found: &mut Vec<Finding>, known: &Known) -> Result<(
     )?;
     too_long(found, &description.time_base)?;
     too_long(found, &description.jitter)
+}
+
+/// What is counted or measured beyond its limit.
+pub(super) fn limits_passed(
+    found: &mut Vec<Finding>,
+    description: &Description,
+) -> Result<(), AllocError>
+    ensures { OnOk result (found.new.items ≡ found.old.items ++ limits_passed description.now) }
+{
+    past(found, description.slaves(), 15)?;
+    frame_limits(found, description)?;
+    past(found, description.tables(), 256)?;
+    time_limits(found, description)
 }

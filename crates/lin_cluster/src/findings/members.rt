@@ -146,20 +146,15 @@ pub(super) fn members_in_order(
     Ok(())
 }
 
-/// The members of sporadic frames.
-#[derive(Clone, Copy)]
-pub(super) struct SporadicMembers<'j, 'k, 'a> {
-    pub(super) judged: &'j Judged<'k, 'a>,
-}
-
-impl<'j, 'k, 'a> Finds<Name> for SporadicMembers<'j, 'k, 'a> {
+// A member of a sporadic frame.
+impl<'a> Finds<Name> for Judged<'a> {
     ghost use Rattle.lin_cluster.specs.Findings.{in_sporadic_member};
 
-    ghost finds = { λ members name. in_sporadic_member members.judged.now name };
+    ghost finds = { in_sporadic_member };
 
     fn find(&self, found: &mut Vec<Finding>, member: &Name) -> Result<(), AllocError> {
-        let frame = self.judged.frame(member);
-        let is_known = self.judged.is_any_frame(frame, member);
+        let frame = self.frame(member);
+        let is_known = self.is_any_frame(frame, member);
         let is_no_commanders = match frame {
             Some(frame) => is_responder_number(frame.publisher),
             None => true,

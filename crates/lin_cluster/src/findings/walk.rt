@@ -54,7 +54,7 @@ where
     V: Drop,
     ensures { IfOk result (λ made. made.items ≡ map (M.makes maker.now) items.now) }
 {
-    let mut made = Vec::new(alloc);
+    let mut made = Vec::with_capacity(alloc, items.len())?;
     for item in items {
         made.push(maker.make(item))?;
     }

@@ -5,4 +5,4 @@ use Rattle.lin_cluster.proofs.Named.{made_of}
 use Rattle.lin_cluster.proofs.findings.facts.Signals.numbered.Goals as goal
 
 pub returns-clause-facts : goal.returns-clause-facts
-returns-clause-facts c = rw (← c.self.view_is) (c.at.ensures ∙ made_of (signal_facts c.self.inside.known.now) (λ x. same_name x.name c.args.name.now) c.self.inside.known.now.signals c.signal_number-number.result c.as_slice.result.now _ c.as_slice.ensures.value c.self.invariant c.signal_number-number.ensures)
+returns-clause-facts c = rw (← c.self.view_is) (c.at.ensures ∙ made_of (signal_facts c.self.inside.known) (λ x. same_name x.name c.args.name.now) c.self.inside.known.signals c.signal_number-number.result c.as_slice.result.now _ c.as_slice.ensures.value c.self.invariant c.signal_number-number.ensures)

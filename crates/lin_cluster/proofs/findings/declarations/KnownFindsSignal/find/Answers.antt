@@ -4,7 +4,7 @@ use Rattle.std.specs.List.{flat_map}
 use Rattle.lin_cluster.specs.Sizes.{bad_signal_size, bad_init}
 use Rattle.lin_cluster.specs.UnknownNames.{unknown_node}
 use Rattle.lin_cluster.proofs.FindingsLists.{four_more}
-use Rattle.lin_cluster.proofs.findings.declarations.JudgedFindsSignal.find.Goals as goal
+use Rattle.lin_cluster.proofs.findings.declarations.KnownFindsSignal.find.Goals as goal
 
 pub returns : goal.returns
 returns c =
