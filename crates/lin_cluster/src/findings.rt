@@ -18,9 +18,8 @@ mod tables;
 mod unknown_names;
 mod walk;
 
-ghost use Rattle.std.specs.Prelude.{◌≡◌, ◌++◌, IfOk, List, OnOk, map};
+ghost use Rattle.std.specs.Prelude.{◌≡◌, ◌++◌, IfOk, OnOk, map};
 ghost use Rattle.lin_cluster.specs.Findings.{candidates, AreFindings};
-ghost use Rattle.lin_cluster.specs.declared.finding.Finding.{Finding};
 ghost use Rattle.lin_cluster.specs.Models.{frame_model};
 
 use crate::finding::Finding;
@@ -65,7 +64,9 @@ fn unordered(alloc: Global, description: &Description) -> Result<Examined, Alloc
     Ok(Examined { found, models })
 }
 
-fn ordered(alloc: Global, description: &Description) -> Result<Examined, AllocError>
+/// All that is wrong with a description, by place and number, and the checksum model of each frame.
+/// An error means out of memory.
+pub(crate) fn examine(alloc: Global, description: &Description) -> Result<Examined, AllocError>
     ensures found { IfOk result (λ x. AreFindings description.now x.found.items) }
     ensures models { IfOk result
         (λ x. x.models.items ≡ map (frame_model description.now) description.now.frames) }
@@ -73,17 +74,4 @@ fn ordered(alloc: Global, description: &Description) -> Result<Examined, AllocEr
     let Examined { mut found, models } = unordered(alloc, description)?;
     found.sort()?;
     Ok(Examined { found, models })
-}
-
-/// All that is wrong with a description, by place and number, and no other list is that; and the
-/// checksum model of each frame. An error means out of memory.
-pub(crate) fn examine(alloc: Global, description: &Description) -> Result<Examined, AllocError>
-    ensures all { IfOk result (λ x. AreFindings description.now x.found.items) }
-    ensures only { IfOk result
-        (λ x. (found : List Finding) → AreFindings description.now found → x.found.items ≡ found) }
-    ensures models { IfOk result
-        (λ x. x.models.items ≡ map (frame_model description.now) description.now.frames) }
-{
-    let examined = ordered(alloc, description)?;
-    Ok(examined)
 }

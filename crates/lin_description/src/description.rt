@@ -112,7 +112,7 @@ pub struct Table {
 /// What an LDF text describes: each declaration in file order, with the places of its names and
 /// numbers. The speed is in bits per second, the times are in microseconds; a section that is
 /// absent is empty.
-#[derive(Debug, Drop)]
+#[derive(Debug)]
 pub struct Description {
     pub speed: Number,
     pub master: Name,
@@ -125,6 +125,25 @@ pub struct Description {
     pub events: Many<EventFrame>,
     pub attributes: Many<Attributes>,
     pub tables: Many<Table>,
+}
+
+// (written out, like a name's)
+impl Drop for Description {
+    fn drop(self) {
+        let Description {
+            speed: _,
+            master: _master,
+            time_base: _,
+            jitter: _,
+            slaves: _slaves,
+            signals: _signals,
+            frames: _frames,
+            sporadic: _sporadic,
+            events: _events,
+            attributes: _attributes,
+            tables: _tables,
+        } = self;
+    }
 }
 
 impl Description {

@@ -34,8 +34,8 @@ pub(super) struct SignalFacts {
 /// and its checksum model.
 #[derive(Clone, Copy)]
 pub(super) struct FrameFacts {
-    pub(super) size: u32,
     pub(super) publisher: Option<usize>,
+    pub(super) size: u32,
     pub(super) has_front: bool,
     pub(super) model: SumKind,
 }

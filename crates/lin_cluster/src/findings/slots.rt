@@ -1,8 +1,6 @@
 //! Slot too short (9) and zero delay (10).
 
-ghost use Rattle.std.specs.Prelude.{◌≡◌, ◌++◌, ◌<◌, OnOk, fold, max, is_some};
-ghost use Rattle.std.specs.List.{list_all};
-ghost use Rattle.std.specs.Option.{option_map_or};
+ghost use Rattle.std.specs.Prelude.{◌≡◌, ◌++◌, ◌<◌, OnOk};
 ghost use Rattle.lin_cluster.specs.Slots.{needed_us, is_speed, good_size, frame_size};
 ghost use Rattle.lin_cluster.specs.Slots.{greatest_size, first_size, short_slot, zero_delay};
 
@@ -51,43 +49,18 @@ fn frame_size(known: &Known, name: &Name) -> Option<u32>
     }
 }
 
-fn have_sizes(known: &Known, members: &[Name]) -> bool
-    ensures { result ≡ list_all (λ m. is_some (frame_size known.now m)) members.now }
-{
-    members
-        .iter()
-        .all(|member| frame_size(known, member).is_some())
-}
-
-fn size_or_none(known: &Known, member: &Name) -> u32
-    ensures { result ≡ option_map_or (λ k. k) (frame_size known.now member.now) 0 }
-{
-    match frame_size(known, member) {
-        Some(size) => size,
-        None => 0,
-    }
-}
-
-fn greatest(known: &Known, members: &[Name]) -> u32
-    ensures { result
-        ≡ fold (λ n m. max n (option_map_or (λ k. k) (frame_size known.now m) 0)) 0 members.now }
-{
-    let mut greatest: u32 = 0;
-    for member in members {
-        greatest = greatest.max(size_or_none(known, member));
-    }
-    greatest
-}
-
 /// The greatest size of some members, where all are frames of good sizes.
 pub(super) fn greatest_size(known: &Known, members: &[Name]) -> Option<u32>
     ensures { result ≡ greatest_size known.now members.now }
 {
-    if have_sizes(known, members) {
-        Some(greatest(known, members))
-    } else {
-        None
+    let mut greatest: u32 = 0;
+    for member in members {
+        match frame_size(known, member) {
+            Some(size) => greatest = greatest.max(size),
+            None => return None,
+        }
     }
+    Some(greatest)
 }
 
 /// The size of the first member.
