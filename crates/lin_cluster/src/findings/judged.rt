@@ -8,6 +8,7 @@ ghost use Rattle.lin_cluster.specs.FindingsNames.{table_named, is_any_frame, is_
 ghost use Rattle.lin_cluster.specs.FindingsNames.{carries_frame};
 ghost use Rattle.lin_cluster.specs.Slots.{greatest_size, first_size, slot_size};
 ghost use Rattle.lin_cluster.specs.Known.{frame_facts, size_named};
+ghost use Rattle.lin_cluster.specs.Known.{AreFrameFacts, AreSizes, AreNested};
 ghost use Rattle.lin_cluster.specs.Models.{frame_model};
 
 use super::facts::{FrameFacts, Signals, at};
@@ -20,11 +21,14 @@ use lin_frame::SumKind;
 use std::alloc::{AllocError, Global};
 use std::marker::Model;
 
-/// The sizes of each sporadic and each event-triggered frame.
+/// The facts of each frame, the sizes of each sporadic and each event-triggered frame, and whether
+/// each table has an event-triggered entry.
 #[derive(Drop)]
-struct Sizes {
+struct Facts {
+    frames: Vec<FrameFacts>,
     sporadic: Vec<Option<u32>>,
     events: Vec<Option<u32>>,
+    nested: Vec<bool>,
 }
 
 impl Named for Sporadic {
@@ -104,9 +108,7 @@ pub(super) struct Slot {
 pub(super) struct Judged<'a> {
     alloc: Global,
     signals: Signals<'a>,
-    frames: Vec<FrameFacts>,
-    sizes: Sizes,
-    nested: Vec<bool>,
+    facts: Facts,
 }
 
 impl<'a> Model for Judged<'a> {
@@ -117,9 +119,9 @@ impl<'a> Model for Judged<'a> {
 
     ghost view = { λ j. j.signals };
 
-    ghost invariant = { λ j. AreFrameFacts j.signals j.frames.items
-        × AreSizes j.signals j.sizes.sporadic.items j.sizes.events.items
-        × AreNested j.signals j.nested.items };
+    ghost invariant = { λ j. AreFrameFacts j.signals j.facts.frames.items
+        × AreSizes j.signals j.facts.sporadic.items j.facts.events.items
+        × AreNested j.signals j.facts.nested.items };
 }
 
 // Written out, so that what owns one lets it go in one step.
@@ -128,11 +130,28 @@ impl<'a> Drop for Judged<'a> {
         let Judged {
             alloc: _,
             signals: _signals,
-            frames: _frames,
-            sizes: _sizes,
-            nested: _nested,
+            facts: _facts,
         } = self;
     }
+}
+
+fn facts_of(alloc: Global, signals: &Signals) -> Result<Facts, AllocError>
+    ensures frames { IfOk result (λ f. AreFrameFacts signals.now f.frames.items) }
+    ensures sizes { IfOk result (λ f. AreSizes signals.now f.sporadic.items f.events.items) }
+    ensures nested { IfOk result (λ f. AreNested signals.now f.nested.items) }
+{
+    let known = signals.known();
+    let description = known.description();
+    let frames = made_of_each(alloc, signals, description.frames())?;
+    let sporadic = made_of_each(alloc, known, description.sporadic())?;
+    let events = made_of_each(alloc, known, description.events())?;
+    let nested = made_of_each(alloc, known, description.tables())?;
+    Ok(Facts {
+        frames,
+        sporadic,
+        events,
+        nested,
+    })
 }
 
 impl<'a> Judged<'a> {
@@ -141,17 +160,11 @@ impl<'a> Judged<'a> {
         ensures { IfOk result (λ j. j ≡ description.now) }
     {
         let signals = Signals::new(alloc, Known::new(alloc, description)?)?;
-        let known = signals.known();
-        let frames = made_of_each(alloc, &signals, description.frames())?;
-        let sporadic = made_of_each(alloc, known, description.sporadic())?;
-        let events = made_of_each(alloc, known, description.events())?;
-        let nested = made_of_each(alloc, known, description.tables())?;
+        let facts = facts_of(alloc, &signals)?;
         Ok(Judged {
             alloc,
             signals,
-            frames,
-            sizes: Sizes { sporadic, events },
-            nested,
+            facts,
         })
     }
 
@@ -159,7 +172,7 @@ impl<'a> Judged<'a> {
     pub(super) fn models(&self) -> Result<Vec<SumKind>, AllocError>
         ensures { IfOk result (λ v. v.items ≡ map (frame_model self.now) self.now.frames) }
     {
-        made_of_each(self.alloc, self, self.frames.as_slice())
+        made_of_each(self.alloc, self, self.facts.frames.as_slice())
     }
 
     pub(super) fn alloc(&self) -> Global {
@@ -183,7 +196,7 @@ impl<'a> Judged<'a> {
         ensures { result ≡ option_map (frame_facts self.now) (frame_named self.now name.now) }
     {
         at(
-            self.frames.as_slice(),
+            self.facts.frames.as_slice(),
             self.signals.known().frame_number(name),
         )
     }
@@ -204,7 +217,7 @@ impl<'a> Judged<'a> {
             (λ f. greatest_size self.now f.members) (sporadic_named self.now name.now) }
     {
         at(
-            self.sizes.sporadic.as_slice(),
+            self.facts.sporadic.as_slice(),
             self.signals.known().sporadic_number(name),
         )
     }
@@ -215,7 +228,7 @@ impl<'a> Judged<'a> {
             ≡ option_map (λ e. first_size self.now e.members) (event_named self.now name.now) }
     {
         at(
-            self.sizes.events.as_slice(),
+            self.facts.events.as_slice(),
             self.signals.known().event_number(name),
         )
     }
@@ -264,7 +277,7 @@ impl<'a> Judged<'a> {
             (λ t. list_any (is_event_entry self.now) t.entries) (table_named self.now name.now) }
     {
         at(
-            self.nested.as_slice(),
+            self.facts.nested.as_slice(),
             self.signals.known().table_number(name),
         )
     }
