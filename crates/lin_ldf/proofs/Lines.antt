@@ -11,11 +11,11 @@ not_true : (b : Bool) → (b ≡ true → ⊥) → not b ≡ true
 not_true true h = absurd (h refl)
 not_true false h = refl
 
-pub no_line_feed : (xs : List ℕ) → IsFirstByte (is_byte 10) xs None → length xs ≡ prefix_len is_not_newline xs
-no_line_feed xs h = sym (prefix_len_is is_not_newline xs (length xs) 0 (omega arith) (λ k l. not_true _ (h k (omega arith) l)) (λ l. absurd (omega arith)))
+pub no_such_byte : (b : ℕ) (xs : List ℕ) → IsFirstByte (is_byte b) xs None → length xs ≡ prefix_len (λ c. not (eqb c b)) xs
+no_such_byte b xs h = sym (prefix_len_is _ xs (length xs) 0 (omega arith) (λ k l. not_true _ (h k (omega arith) l)) (λ l. absurd (omega arith)))
 
-pub line_feed : (xs : List ℕ) (n : ℕ) → IsFirstByte (is_byte 10) xs (Some n) → n ≡ prefix_len is_not_newline xs
-line_feed xs n h = sym (prefix_len_is is_not_newline xs n 0 (omega (arith, h.0.high)) (λ k l. not_true _ (h.0.before k (omega arith) l)) (λ l. ap not h.1))
+pub first_such_byte : (b : ℕ) (xs : List ℕ) (n : ℕ) → IsFirstByte (is_byte b) xs (Some n) → n ≡ prefix_len (λ c. not (eqb c b)) xs
+first_such_byte b xs n h = sym (prefix_len_is _ xs n 0 (omega (arith, h.0.high)) (λ k l. not_true _ (h.0.before k (omega arith) l)) (λ l. ap not h.1))
 
 abbrev place : ℕ → ℕ → Place
 place l k = record { line = l; column = k }
