@@ -408,7 +408,7 @@ impl<'a> Lexer<'a> {
 
     /// The next token, or nothing at the end; or the fault that stands in its place, and stands
     /// there still at the next call.
-    #[tactic(auto, using(crate::proofs::Stream::pulling))]
+    #[tactic(auto, using(crate::proofs::Stream::at_end))]
     #[inline(always)]
     pub fn next(&mut self) -> Result<Option<Token>, LdfFault>
         requires ready { IsReady self.old }
