@@ -1,7 +1,8 @@
 -- Line feeds of a piece, and the place after each.
-use Rattle.std.proofs.Common.{◌≡◌, ℕ, suc, ◌+◌, ◌<◌, ◌≤◌, Bool, true, false, not, cond, eqb, List, [], ◌∷◌, length, drop, Some, None, refl, sym, ap, subst, ◌∙◌, arith}
-use Rattle.std.specs.List.{prefix_len}
+use Rattle.std.proofs.Common.{◌≡◌, ℕ, suc, ◌+◌, ◌<◌, ◌≤◌, Bool, true, false, not, cond, eqb, List, [], ◌∷◌, length, drop, ◌||◌, nat_lt, Some, None, refl, sym, ap, subst, ◌∙◌, arith}
+use Rattle.std.specs.List.{prefix_len, list_any}
 use Rattle.std.proofs.lemmas.List.Sums.{prefix_len_is}
+use Rattle.std.proofs.lemmas.Bool.Decides.{nat_tests}
 use Rattle.memchr.specs.Find.{IsFirstByte, is_byte}
 use Rattle.lin_ldf.specs.Bytes.{is_not_newline}
 use Rattle.lin_ldf.specs.Advance.{place_behind}
@@ -11,11 +12,20 @@ not_true : (b : Bool) → (b ≡ true → ⊥) → not b ≡ true
 not_true true h = absurd (h refl)
 not_true false h = refl
 
-pub no_line_feed : (xs : List ℕ) → IsFirstByte (is_byte 10) xs None → length xs ≡ prefix_len is_not_newline xs
-no_line_feed xs h = sym (prefix_len_is is_not_newline xs (length xs) 0 (omega arith) (λ k l. not_true _ (h k (omega arith) l)) (λ l. absurd (omega arith)))
+pub no_such_byte : (b : ℕ) (xs : List ℕ) → IsFirstByte (is_byte b) xs None → length xs ≡ prefix_len (λ c. not (eqb c b)) xs
+no_such_byte b xs h = sym (prefix_len_is _ xs (length xs) 0 (omega arith) (λ k l. not_true _ (h k (omega arith) l)) (λ l. absurd (omega arith)))
 
-pub line_feed : (xs : List ℕ) (n : ℕ) → IsFirstByte (is_byte 10) xs (Some n) → n ≡ prefix_len is_not_newline xs
-line_feed xs n h = sym (prefix_len_is is_not_newline xs n 0 (omega (arith, h.0.high)) (λ k l. not_true _ (h.0.before k (omega arith) l)) (λ l. ap not h.1))
+pub first_such_byte : (b : ℕ) (xs : List ℕ) (n : ℕ) → IsFirstByte (is_byte b) xs (Some n) → n ≡ prefix_len (λ c. not (eqb c b)) xs
+first_such_byte b xs n h = sym (prefix_len_is _ xs n 0 (omega (arith, h.0.high)) (λ k l. not_true _ (h.0.before k (omega arith) l)) (λ l. ap not h.1))
+
+-- a byte stands in a text where fewer bytes stand before it than in all
+pub byte_stands : (b : ℕ) (xs : List ℕ) → list_any (λ c. eqb c b) xs ≡ nat_lt (prefix_len (λ c. not (eqb c b)) xs) (length xs)
+byte_stands b [] = refl
+byte_stands b (x ∷ xs) =
+    elim (eqb x b) as (λ a. (a || list_any (λ c. eqb c b) xs) ≡ nat_lt (cond (not a) (1 + prefix_len (λ c. not (eqb c b)) xs) 0) (suc (length xs))) [
+      | true ↦ grind (arith, nat_tests)
+      | false ↦ let h = byte_stands b xs in grind (arith, nat_tests)
+    ]
 
 abbrev place : ℕ → ℕ → Place
 place l k = record { line = l; column = k }

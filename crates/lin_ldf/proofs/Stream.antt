@@ -95,8 +95,6 @@ pub at_open_text : (source rest : List ℕ) (at : ℕ) (p : Place) → rest ≡ 
 at_open_text source [] at p e h = absurd cc
 at_open_text source (c ∷ cs) at p e h = subst (λ (r : List ℕ). ahead_at 0 at p r ≡ stop_with (faults.OpenText p) p) e (open_text_at at p c cs h)
 
-pub ruleset pulling = (at_end, behind_gap, behind_token, at_bad_byte, at_open_comment, at_open_text)
-
 -- these tokens before what is ahead
 abbrev pub added : List Token → Ahead → Ahead
 added ts r = record { tokens = ts ++ r.tokens; fault = r.fault }

@@ -1,10 +1,10 @@
 //! The tokens of an LDF text (LIN 2.2A, section 9, lexical rules): the longest piece at each place.
 
 ghost use Rattle.std.specs.Prelude.{◌≡◌, ◌≢◌, ◌⊎◌, ◌+◌, ◌<◌, ◌≤◌, ◌^◌, ◌==◌, length, take, drop};
-ghost use Rattle.std.specs.Prelude.{List, All, IfOk, IfErr, IsErrAnd, MatchResult, IfSome};
+ghost use Rattle.std.specs.Prelude.{List, All, IfOk, IfErr, IsErrAnd, MatchResult, IfSome, not};
 ghost use Rattle.std.specs.List.{prefix_len};
 ghost use Rattle.lin_ldf.specs.Bytes.{is_separator, is_letter, is_digit, is_hex_digit};
-ghost use Rattle.lin_ldf.specs.Bytes.{is_word_byte, is_bad, is_not_newline, is_not_quote};
+ghost use Rattle.lin_ldf.specs.Bytes.{is_word_byte, is_bad, is_not_newline};
 ghost use Rattle.lin_ldf.specs.Scanning.{begins, close_at, single, slash_piece, text_piece};
 ghost use Rattle.lin_ldf.specs.Scanning.{has_fraction, has_hex, fraction_len, number_len, piece_at};
 ghost use Rattle.lin_ldf.specs.Scanning.{front_piece, IsWithin};
@@ -108,12 +108,13 @@ fn hex_len(text: &[u8]) -> usize
     text.iter().take_while(|c| is_hex_digit(**c)).count()
 }
 
-#[tactic(auto, using(crate::proofs::Scan::lengths, crate::proofs::Lines::no_line_feed, crate::proofs::Lines::line_feed))]
-fn line_len(text: &[u8]) -> usize
-    ensures value { result ≡ prefix_len is_not_newline text.now }
+/// How many bytes stand before the first one that is `byte`.
+#[tactic(auto, using(crate::proofs::Scan::lengths, crate::proofs::Lines::no_such_byte, crate::proofs::Lines::first_such_byte))]
+pub fn len_before(byte: u8, text: &[u8]) -> usize
+    ensures value { result ≡ prefix_len (λ c. not (c == byte)) text.now }
     ensures within { result ≤ length text.now }
 {
-    match memchr(b'\n', text) {
+    match memchr(byte, text) {
         Some(n) => n,
         None => text.len(),
     }
@@ -124,16 +125,8 @@ fn behind_line(text: &[u8]) -> &[u8]
     ensures value { result.now ≡ drop (prefix_len is_not_newline text.now) text.now }
     ensures within { length result.now ≤ length text.now }
 {
-    let (_, behind) = text.split_at(line_len(text));
+    let (_, behind) = text.split_at(len_before(b'\n', text));
     behind
-}
-
-#[tactic(auto, using(crate::proofs::Scan::lengths))]
-fn unquoted_len(text: &[u8]) -> usize
-    ensures value { result ≡ prefix_len is_not_quote text.now }
-    ensures within { result ≤ length text.now }
-{
-    text.iter().take_while(|c| **c != b'"').count()
 }
 
 fn begins_digit(text: &[u8]) -> bool
@@ -231,7 +224,7 @@ fn slash_piece(rest: &[u8]) -> Scanned
     ensures within { IsWithin result (length rest.now + 1) }
 {
     match rest {
-        [b'/', body @ ..] => Scanned::Gap(line_len(body) + 2),
+        [b'/', body @ ..] => Scanned::Gap(len_before(b'\n', body) + 2),
         [b'*', body @ ..] => match close_at(body) {
             Some(i) => Scanned::Gap(i + 4),
             None => Scanned::OpenComment,
@@ -244,7 +237,7 @@ fn text_piece(rest: &[u8]) -> Scanned
     ensures value { result ≡ text_piece rest.now }
     ensures within { IsWithin result (length rest.now + 1) }
 {
-    let inside = unquoted_len(rest);
+    let inside = len_before(b'"', rest);
     if inside == rest.len() {
         Scanned::OpenText
     } else {
@@ -415,7 +408,7 @@ impl<'a> Lexer<'a> {
 
     /// The next token, or nothing at the end; or the fault that stands in its place, and stands
     /// there still at the next call.
-    #[tactic(auto, using(crate::proofs::Stream::pulling))]
+    #[tactic(auto, using(crate::proofs::Stream::at_end))]
     #[inline(always)]
     pub fn next(&mut self) -> Result<Option<Token>, LdfFault>
         requires ready { IsReady self.old }

@@ -255,8 +255,7 @@ impl<'a> Parser<'a> {
         if !seen.insert(self.text())? {
             return Err(LdfFault::NameTwice(self.place()));
         }
-        let name = self.name()?;
-        Ok(name)
+        self.name()
     }
 
     // new WORD, mark
@@ -303,8 +302,7 @@ impl<'a> Parser<'a> {
             return Err(LdfFault::NameTwice(self.place()));
         }
         blocks.add(self.text())?;
-        let name = self.name()?;
-        Ok(name)
+        self.name()
     }
 
     /// The next token, a number with this value where that is within the limit.

@@ -1,5 +1,5 @@
 use Rattle.std.proofs.Common.{List, ℕ, length, sym, ap, ◌∙◌, arith}
-use Rattle.lin_ldf.proofs.Stream.{behind_gap, behind_token}
+use Rattle.lin_ldf.proofs.Stream.{behind_gap, behind_token, at_bad_byte, at_open_comment, at_open_text}
 use Rattle.lin_ldf.proofs.lexer.Lexer.next.Goals as goal
 
 pub loop-self-preserved : goal.loop-self-preserved
@@ -23,3 +23,15 @@ returns-in-Token-clause-pulls c =
       omega arith,
       omega (arith, within.1, c.split_at.ensures.back_len, ap (λ (s : List ℕ). length s) c.loop-self.invariant.source),
     )
+
+pub returns-in-BadByte-clause-pulls : goal.returns-in-BadByte-clause-pulls
+returns-in-BadByte-clause-pulls c =
+    sym c.loop-self.invariant.ahead ∙ at_bad_byte _ _ _ _ c.split_at.ensures.back (sym c.in-BadByte.ensures.value)
+
+pub returns-in-OpenComment-clause-pulls : goal.returns-in-OpenComment-clause-pulls
+returns-in-OpenComment-clause-pulls c =
+    sym c.loop-self.invariant.ahead ∙ at_open_comment _ _ _ _ c.split_at.ensures.back (sym c.in-OpenComment.ensures.value)
+
+pub returns-in-OpenText-clause-pulls : goal.returns-in-OpenText-clause-pulls
+returns-in-OpenText-clause-pulls c =
+    sym c.loop-self.invariant.ahead ∙ at_open_text _ _ _ _ c.split_at.ensures.back (sym c.in-OpenText.ensures.value)
