@@ -1,6 +1,8 @@
 -- Lists of findings as loops make them.
 use Rattle.std.proofs.Common.{◌≡◌, ℕ, ◌+◌, ◌<◌, ◌≤◌, List, [], ◌∷◌, ◌++◌, length, take, map, get_or, slice_get, sym, ap, ◌∙◌, zero-add, append-nil, append_assoc}
-use Rattle.std.specs.List.{flat_map, enumerate_from}
+use Rattle.std.specs.Prelude.{Option}
+use Rattle.std.specs.List.{flat_map, filter_map, cons_option, enumerate_from}
+use Rattle.std.proofs.lemmas.List.Elements.{filter_map-append}
 use Rattle.std.proofs.lemmas.List.{take_more, take_all, map-append}
 use Rattle.std.proofs.lemmas.Grind.{flat_map-append}
 use Rattle.std.proofs.lemmas.List.FromFn.{length-enumerate_from, get_or-enumerate_from}
@@ -42,6 +44,11 @@ four_more before one two three a b c x first second third =
 pub made_step : {A B : Type 0} (f : A → B) (xs : List A) (i : ℕ) (x : A) (made more : List B) → i < length xs → x ≡ get_or xs i x → made ≡ map f (take i xs) → more ≡ made ++ f x ∷ [] → more ≡ map f (take (i + 1) xs)
 made_step f xs i x made more h is so here =
     here ∙ ap (λ ys. ys ++ f x ∷ []) so ∙ sym (map-append f (take i xs) (x ∷ [])) ∙ ap (λ y. map f (take i xs ++ y ∷ [])) is ∙ ap (map f) (sym (take_more xs i x h))
+
+-- a step of a loop that keeps what there is of each item
+pub kept_step : {A B : Type 0} (f : A → Option B) (xs : List A) (i : ℕ) (x : A) (kept more : List B) → i < length xs → x ≡ get_or xs i x → kept ≡ filter_map f (take i xs) → more ≡ kept ++ cons_option (f x) [] → more ≡ filter_map f (take (i + 1) xs)
+kept_step f xs i x kept more h is so here =
+    here ∙ ap (λ ys. ys ++ cons_option (f x) []) so ∙ sym (filter_map-append f (take i xs) (x ∷ [])) ∙ ap (λ y. filter_map f (take i xs ++ y ∷ [])) is ∙ ap (filter_map f) (sym (take_more xs i x h))
 
 -- a step of a loop that adds what it finds of each item
 pub found_step : {A B : Type 0} (f : A → List B) (xs : List A) (i : ℕ) (x : A) (before found more : List B) → i < length xs → x ≡ get_or xs i x → found ≡ before ++ flat_map f (take i xs) → more ≡ found ++ f x → more ≡ before ++ flat_map f (take (i + 1) xs)

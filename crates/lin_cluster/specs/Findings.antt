@@ -73,17 +73,23 @@ in_table d t = empty_table t ++ long_table t ++ flat_map (in_entry d) t.entries
 
 -- ---- the findings of a description
 
+-- the frames of the three kinds
+abbrev pub in_frames : Description → List Finding
+in_frames d =
+    flat_map (in_frame d) d.frames ++ flat_map (in_sporadic d) d.sporadic
+    ++ flat_map (in_event d) d.events
+
 abbrev pub in_declarations : Description → List Finding
 in_declarations d =
-    flat_map (in_signal d) d.signals ++ flat_map (in_frame d) d.frames
-    ++ flat_map (in_sporadic d) d.sporadic
-    ++ flat_map (in_event d) d.events ++ flat_map (in_attributes d) d.attributes
+    flat_map (in_signal d) d.signals ++ in_frames d ++ flat_map (in_attributes d) d.attributes
     ++ flat_map (in_table d) d.tables
 
+-- all but the findings of identifiers, which are of numbers alone
+abbrev pub beside_ids : Description → List Finding
+beside_ids d = in_declarations d ++ bad_nads d ++ nads_twice d ++ no_table d ++ limits_passed d
+
 abbrev pub candidates : Description → List Finding
-candidates d =
-    in_declarations d ++ bad_ids d ++ ids_twice d ++ bad_nads d ++ nads_twice d ++ no_table d
-    ++ limits_passed d
+candidates d = bad_ids d ++ ids_twice d ++ beside_ids d
 
 -- a description in which nothing is found
 abbrev pub IsFree : Description → Type 0

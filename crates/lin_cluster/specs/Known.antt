@@ -10,25 +10,41 @@ use Rattle.lin_cluster.specs.Sizes.{is_array}
 use Rattle.lin_cluster.specs.Members.{is_in_front}
 use Rattle.lin_cluster.specs.Slots.{good_size, greatest_size, first_size}
 use Rattle.lin_cluster.specs.Models.{has_version_1, has_lin_1, frame_model}
+use Rattle.lin_cluster.specs.Names.{NumbersFirst}
+use Rattle.indexmap.specs.IndexMap.{IndexMap}
+use denote.Ref.{Bor}
 use Rattle.lin_cluster.specs.declared.findings.facts.FrameFacts.{FrameFacts}
 use Rattle.lin_cluster.specs.declared.findings.facts.SignalFacts.{SignalFacts}
-use Rattle.lin_description.specs.declared.description.Attributes.{Attributes}
 use Rattle.lin_description.specs.declared.description.Description.{Description}
-use Rattle.lin_description.specs.declared.description.EventFrame.{EventFrame}
 use Rattle.lin_description.specs.declared.description.Frame.{Frame}
 use Rattle.lin_description.specs.declared.description.Name.{Name}
 use Rattle.lin_description.specs.declared.description.Signal.{Signal}
-use Rattle.lin_description.specs.declared.description.Sporadic.{Sporadic}
-use Rattle.lin_description.specs.declared.description.Table.{Table}
 
--- the lists by whose names things are found are those of the description, and whether a node of LIN
--- 1.x may be there is known
-abbrev pub IsKnown : Description → List Name → List Signal → List Frame → List Sporadic
-    → List EventFrame → List Table → List Attributes → Bool → Type 0
-IsKnown d slaves signals frames sporadic events tables blocks told =
-    (slaves ≡ d.slaves) × (signals ≡ d.signals) × (frames ≡ d.frames) × (sporadic ≡ d.sporadic)
-    × (events ≡ d.events) × (tables ≡ d.tables)
-    × (blocks ≡ d.attributes) × (told ≡ has_version_1 d)
+-- the numbers of the responders, and of the blocks of attributes, by the names of nodes
+abbrev pub AreNodeNumbers : {S T : Type 0} → Description → IndexMap (Bor (List ℕ)) ℕ S
+    → IndexMap (Bor (List ℕ)) ℕ T → Type 0
+AreNodeNumbers d slaves blocks =
+    NumbersFirst (λ n. n) d.slaves slaves × NumbersFirst (λ b. b.node) d.attributes blocks
+
+-- the numbers of the frames of the three kinds
+abbrev pub AreFrameNumbers : {S T U : Type 0} → Description → IndexMap (Bor (List ℕ)) ℕ S
+    → IndexMap (Bor (List ℕ)) ℕ T → IndexMap (Bor (List ℕ)) ℕ U → Type 0
+AreFrameNumbers d frames sporadic events =
+    NumbersFirst (λ f. f.name) d.frames frames
+    × NumbersFirst (λ f. f.name) d.sporadic sporadic
+    × NumbersFirst (λ e. e.name) d.events events
+
+-- and those of all that names name, with whether a node of LIN 1.x may be there
+abbrev pub IsKnown : {S T U V W X Y : Type 0} → Description → IndexMap (Bor (List ℕ)) ℕ S
+    → IndexMap (Bor (List ℕ)) ℕ T → IndexMap (Bor (List ℕ)) ℕ U → IndexMap (Bor (List ℕ)) ℕ V
+    → IndexMap (Bor (List ℕ)) ℕ W → IndexMap (Bor (List ℕ)) ℕ X → IndexMap (Bor (List ℕ)) ℕ Y
+    → Bool → Type 0
+IsKnown d slaves blocks signals frames sporadic events tables told =
+    AreNodeNumbers d slaves blocks
+    × NumbersFirst (λ s. s.name) d.signals signals
+    × AreFrameNumbers d frames sporadic events
+    × NumbersFirst (λ t. t.name) d.tables tables
+    × (told ≡ has_version_1 d)
 
 -- what is asked of a signal wherever a frame places it
 abbrev pub signal_facts : Description → Signal → SignalFacts

@@ -19,7 +19,7 @@ mod unknown_names;
 mod walk;
 
 ghost use Rattle.std.specs.Prelude.{◌≡◌, ◌++◌, IfOk, OnOk, map};
-ghost use Rattle.lin_cluster.specs.Findings.{candidates, AreFindings};
+ghost use Rattle.lin_cluster.specs.Findings.{candidates, beside_ids, AreFindings};
 ghost use Rattle.lin_cluster.specs.Models.{frame_model};
 
 use crate::finding::Finding;
@@ -42,14 +42,13 @@ pub(crate) struct Examined {
 }
 
 fn gather(alloc: Global, found: &mut Vec<Finding>, judged: &Judged) -> Result<(), AllocError>
-    ensures { OnOk result (found.new.items ≡ found.old.items ++ candidates judged.now) }
+    ensures { OnOk result (found.new.items ≡ found.old.items ++ beside_ids judged.now) }
 {
-    let known = judged.known();
+    let known = &judged.signals.known;
     in_declarations(found, judged)?;
-    bad_identifiers(alloc, found, known)?;
     bad_addresses(alloc, found, known)?;
-    no_table(found, known.description().tables())?;
-    limits_passed(found, known.description())
+    no_table(found, known.description.tables())?;
+    limits_passed(found, known.description)
 }
 
 fn unordered(alloc: Global, description: &Description) -> Result<Examined, AllocError>
@@ -57,10 +56,12 @@ fn unordered(alloc: Global, description: &Description) -> Result<Examined, Alloc
     ensures models { IfOk result
         (λ x. x.models.items ≡ map (frame_model description.now) description.now.frames) }
 {
-    let judged = Judged::new(alloc, description)?;
     let mut found = Vec::new(alloc);
+    // first, so that the list of identifiers is gone where names are kept
+    bad_identifiers(alloc, &mut found, description)?;
+    let judged = Judged::new(alloc, description)?;
     gather(alloc, &mut found, &judged)?;
-    let models = judged.models()?;
+    let models = judged.models(alloc)?;
     Ok(Examined { found, models })
 }
 

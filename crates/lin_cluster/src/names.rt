@@ -12,7 +12,6 @@ ghost use Rattle.lin_cluster.specs.Names.{NumbersFirst};
 use indexmap::IndexMap;
 use lin_description::{Attributes, Name};
 use std::alloc::{AllocError, Global};
-use std::marker::Model;
 
 /// What is declared with a name.
 pub(crate) trait Named {
@@ -58,69 +57,47 @@ pub(crate) fn add<'a, V: Copy>(
     Ok(())
 }
 
-fn numbers_of<'a, T: Named>(
-    alloc: Global,
-    all: &'a [T],
-) -> Result<IndexMap<&'a [u8], usize>, AllocError>
-    ensures { IfOk result (NumbersFirst T.name_of all.now) }
-{
-    let mut numbers = IndexMap::with_capacity(alloc, all.len())?;
-    for (number, one) in all.iter().enumerate() {
-        add(&mut numbers, one.name().text.as_slice(), number)?;
-    }
-    Ok(numbers)
-}
-
-/// Declarations of one kind, found by their names. Contracts see the declarations.
-pub(crate) struct ByName<'a, T: Named> {
-    all: &'a [T],
-    numbers: IndexMap<&'a [u8], usize>,
-}
-
-impl<'a, T: Named> Model for ByName<'a, T> {
-    ghost use Rattle.std.specs.Prelude.{List};
-    ghost use Rattle.lin_cluster.specs.Names.{NumbersFirst};
-
-    ghost Value = { List T };
-
-    ghost view = { λ b. b.all.now };
-
-    ghost invariant = { λ b. NumbersFirst T.name_of b.all.now b.numbers };
+/// The number of the first declaration with each name, by the name's text.
+pub(crate) struct Numbers<'a> {
+    map: IndexMap<&'a [u8], usize>,
 }
 
 // Written out, so that what owns one lets it go in one step.
-impl<'a, T: Named> Drop for ByName<'a, T> {
+impl<'a> Drop for Numbers<'a> {
     fn drop(self) {
-        let ByName {
-            all: _,
-            numbers: _numbers,
-        } = self;
+        let Numbers { map: _map } = self;
     }
 }
 
-impl<'a, T: Named> ByName<'a, T> {
-    /// Each name is looked at once; an error means out of memory.
-    pub(crate) fn new(alloc: Global, all: &'a [T]) -> Result<ByName<'a, T>, AllocError>
-        ensures { IfOk result (λ b. b ≡ all.now) }
-    {
-        let numbers = numbers_of(alloc, all)?;
-        Ok(ByName { all, numbers })
+/// Each name is looked at once; an error means out of memory.
+pub(crate) fn numbers_of<'a, T: Named>(
+    alloc: Global,
+    all: &'a [T],
+) -> Result<Numbers<'a>, AllocError>
+    ensures { IfOk result (λ n. NumbersFirst T.name_of all.now n.map) }
+{
+    let mut map = IndexMap::with_capacity(alloc, all.len())?;
+    for (number, one) in all.iter().enumerate() {
+        add(&mut map, one.name().text.as_slice(), number)?;
     }
+    Ok(Numbers { map })
+}
 
-    /// The number of the first that has the name, or the one after the last.
-    pub(crate) fn number(&self, name: &Name) -> usize
-        ensures { result ≡ position_or_len (λ x. same_name (T.name_of x) name.now) self.now }
-    {
-        match self.numbers.get(&name.text.as_slice()) {
-            Some(number) => *number,
-            None => self.all.len(),
-        }
+/// The number of the first of these that has the name, or the one after the last.
+pub(crate) fn number_by<T: Named>(numbers: &Numbers, all: &[T], name: &Name) -> usize
+    requires { NumbersFirst T.name_of all.now numbers.now.map }
+    ensures { result ≡ position_or_len (λ x. same_name (T.name_of x) name.now) all.now }
+{
+    match numbers.map.get(&name.text.as_slice()) {
+        Some(number) => *number,
+        None => all.len(),
     }
+}
 
-    /// The first that has the name.
-    pub(crate) fn find(&self, name: &Name) -> Option<&'a T>
-        ensures { option_copied result ≡ find (λ x. same_name (T.name_of x) name.now) self.now }
-    {
-        self.all.get(self.number(name))
-    }
+/// The first of these that has the name.
+pub(crate) fn find_by<'a, T: Named>(numbers: &Numbers, all: &'a [T], name: &Name) -> Option<&'a T>
+    requires { NumbersFirst T.name_of all.now numbers.now.map }
+    ensures { option_copied result ≡ find (λ x. same_name (T.name_of x) name.now) all.now }
+{
+    all.get(number_by(numbers, all, name))
 }

@@ -27,10 +27,13 @@ fn address(known: &Known, block: &Attributes) -> Option<Number>
 fn addresses(alloc: Global, known: &Known, blocks: &[Attributes]) -> Result<Vec<Number>, AllocError>
     ensures { IfOk result (λ v. v.items ≡ filter_map (address known.now) blocks.now) }
 {
-    blocks
-        .iter()
-        .filter_map(|block| address(known, block))
-        .collect(alloc)
+    let mut addresses = Vec::new(alloc);
+    for block in blocks {
+        if let Some(nad) = address(known, block) {
+            addresses.push(nad)?;
+        }
+    }
+    Ok(addresses)
 }
 
 /// What is asked of an address by itself.
@@ -84,7 +87,7 @@ pub(super) fn bad_addresses(
     ensures { OnOk result
         (found.new.items ≡ found.old.items ++ bad_nads known.now ++ nads_twice known.now) }
 {
-    let nads = addresses(alloc, known, known.description().attributes())?;
+    let nads = addresses(alloc, known, known.description.attributes())?;
     each(found, &EachAddress, nads.as_slice())?;
     nads_twice(alloc, found, nads.as_slice())
 }

@@ -1,8 +1,9 @@
 //! The walk over a description: each condition is asked where the walk comes to what it speaks of.
 
 ghost use Rattle.std.specs.Prelude.{◌≡◌, ◌++◌, OnOk};
-ghost use Rattle.lin_cluster.specs.Findings.{in_declarations};
+ghost use Rattle.lin_cluster.specs.Findings.{in_frames, in_declarations};
 
+use super::facts::Signals;
 use super::judged::Judged;
 use super::known::Known;
 use super::limits::{long_table, too_long};
@@ -30,16 +31,15 @@ impl<'a> Finds<Signal> for Known<'a> {
     }
 }
 
-impl<'a> Finds<Frame> for Judged<'a> {
+impl<'a> Finds<Frame> for Signals<'a> {
     ghost use Rattle.lin_cluster.specs.Findings.{in_frame};
 
     ghost finds = { in_frame };
 
     fn find(&self, found: &mut Vec<Finding>, frame: &Frame) -> Result<(), AllocError> {
-        unknown_node(found, self.known(), &frame.publisher)?;
+        unknown_node(found, &self.known, &frame.publisher)?;
         bad_frame_size(found, frame)?;
-        let placed = frame.placed.as_slice();
-        signals_in_order(self.alloc(), found, self.signals(), frame, placed)
+        signals_in_order(found, self, frame, frame.placed.as_slice())
     }
 }
 
@@ -60,7 +60,7 @@ impl<'a> Finds<EventFrame> for Judged<'a> {
 
     fn find(&self, found: &mut Vec<Finding>, event: &EventFrame) -> Result<(), AllocError> {
         resolving_table(found, self, event)?;
-        members_in_order(self.alloc(), found, self, event.members.as_slice())
+        members_in_order(found, self, event.members.as_slice())
     }
 }
 
@@ -86,7 +86,7 @@ impl<'a> Finds<TableEntry> for Judged<'a> {
             slot.is_unknown,
             at_name(FindingKind::UnknownName, &entry.name),
         )?;
-        short_slot(found, self.known(), entry, slot.size)?;
+        short_slot(found, &self.signals.known, entry, slot.size)?;
         zero_delay(found, entry)?;
         too_long(found, &entry.delay)
     }
@@ -104,16 +104,24 @@ impl<'a> Finds<Table> for Judged<'a> {
     }
 }
 
+fn in_frames(found: &mut Vec<Finding>, judged: &Judged) -> Result<(), AllocError>
+    ensures { OnOk result (found.new.items ≡ found.old.items ++ in_frames judged.now) }
+{
+    let signals = &judged.signals;
+    let description = signals.known.description;
+    each(found, signals, description.frames())?;
+    each(found, judged, description.sporadic())?;
+    each(found, judged, description.events())
+}
+
 /// What is wrong with each declaration; an error means out of memory.
 pub(super) fn in_declarations(found: &mut Vec<Finding>, judged: &Judged) -> Result<(), AllocError>
     ensures { OnOk result (found.new.items ≡ found.old.items ++ in_declarations judged.now) }
 {
-    let known = judged.known();
-    let description = known.description();
+    let known = &judged.signals.known;
+    let description = known.description;
     each(found, known, description.signals())?;
-    each(found, judged, description.frames())?;
-    each(found, judged, description.sporadic())?;
-    each(found, judged, description.events())?;
+    in_frames(found, judged)?;
     each(found, known, description.attributes())?;
     each(found, judged, description.tables())
 }

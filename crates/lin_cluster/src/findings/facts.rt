@@ -52,8 +52,15 @@ pub(super) fn at<V: Copy>(values: &[V], number: usize) -> Option<V>
 fn has_lin_1(known: &Known, signal: &Signal) -> bool
     ensures { result ≡ has_lin_1 known.now signal.now }
 {
-    let subscribers = signal.subscribers.as_slice();
-    known.has_version_1() && subscribers.iter().any(|node| known.is_lin_1(node))
+    if !known.has_version_1() {
+        return false;
+    }
+    for node in signal.subscribers.as_slice() {
+        if known.is_lin_1(node) {
+            return true;
+        }
+    }
+    false
 }
 
 impl Named for Signal {
@@ -81,7 +88,8 @@ impl<'a> Makes<Signal, SignalFacts> for Known<'a> {
 
 /// The facts of each signal. Contracts see the description.
 pub(super) struct Signals<'a> {
-    known: Known<'a>,
+    pub(super) alloc: Global,
+    pub(super) known: Known<'a>,
     facts: Vec<SignalFacts>,
 }
 
@@ -100,6 +108,7 @@ impl<'a> Model for Signals<'a> {
 impl<'a> Drop for Signals<'a> {
     fn drop(self) {
         let Signals {
+            alloc: _,
             known: _known,
             facts: _facts,
         } = self;
@@ -111,14 +120,12 @@ impl<'a> Signals<'a> {
     pub(super) fn new(alloc: Global, known: Known<'a>) -> Result<Signals<'a>, AllocError>
         ensures { IfOk result (λ s. s ≡ known.entry) }
     {
-        let facts = made_of_each(alloc, &known, known.description().signals())?;
-        Ok(Signals { known, facts })
-    }
-
-    pub(super) fn known(&self) -> &Known<'a>
-        ensures { result.now ≡ self.now }
-    {
-        &self.known
+        let facts = made_of_each(alloc, &known, known.description.signals())?;
+        Ok(Signals {
+            alloc,
+            known,
+            facts,
+        })
     }
 
     /// The number of the signal with this name, or the one after the last, and the facts of the
@@ -161,9 +168,12 @@ impl<'a> Signals<'a> {
     fn carry_to_lin_1(&self, all_placed: &[PlacedSignal]) -> bool
         ensures { result ≡ list_any (carries_to_lin_1 self.now) all_placed.now }
     {
-        all_placed
-            .iter()
-            .any(|placed| self.carries_to_lin_1(placed))
+        for placed in all_placed {
+            if self.carries_to_lin_1(placed) {
+                return true;
+            }
+        }
+        false
     }
 
     // A frame with a node of LIN 1.x at one of its ends. Where no version of LIN 1.x is told, the signals aren't looked up.
@@ -171,8 +181,8 @@ impl<'a> Signals<'a> {
     fn is_classic(&self, frame: &Frame) -> bool
         ensures { result ≡ is_classic self.now frame.now }
     {
-        self.known().has_version_1()
-            && (self.known().is_lin_1(&frame.publisher)
+        self.known.has_version_1()
+            && (self.known.is_lin_1(&frame.publisher)
                 || self.carry_to_lin_1(frame.placed.as_slice()))
     }
 
@@ -189,8 +199,12 @@ impl<'a> Signals<'a> {
     fn has_front(&self, frame: &Frame) -> bool
         ensures { result ≡ list_any (is_in_front self.now) frame.now.placed }
     {
-        let placed = frame.placed.as_slice();
-        placed.iter().any(|placed| self.is_in_front(placed))
+        for placed in frame.placed.as_slice() {
+            if self.is_in_front(placed) {
+                return true;
+            }
+        }
+        false
     }
 }
 
@@ -210,7 +224,7 @@ impl<'a> Makes<Frame, FrameFacts> for Signals<'a> {
     fn make(&self, frame: &Frame) -> FrameFacts {
         FrameFacts {
             size: frame.size.value,
-            publisher: self.known().node(&frame.publisher),
+            publisher: self.known.node(&frame.publisher),
             has_front: self.has_front(frame),
             model: self.model(frame),
         }

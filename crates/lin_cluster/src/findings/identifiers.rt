@@ -3,11 +3,10 @@
 ghost use Rattle.std.specs.Prelude.{◌≡◌, ◌++◌, OnOk, IfOk};
 ghost use Rattle.lin_cluster.specs.Identifiers.{ids, bad_ids, ids_twice};
 
-use super::known::Known;
 use super::repeats::Repeats;
 use super::walk::{Finds, at_number, each, push_when};
 use crate::finding::{Finding, FindingKind};
-use lin_description::Number;
+use lin_description::{Description, Number};
 use std::alloc::{AllocError, Global};
 
 /// What is asked of an identifier by itself.
@@ -38,10 +37,9 @@ impl Finds<Number> for Repeats {
     }
 }
 
-fn ids(alloc: Global, known: &Known) -> Result<Vec<Number>, AllocError>
-    ensures { IfOk result (λ v. v.items ≡ ids known.now) }
+fn ids(alloc: Global, description: &Description) -> Result<Vec<Number>, AllocError>
+    ensures { IfOk result (λ v. v.items ≡ ids description.now) }
 {
-    let description = known.description();
     let events = description.events();
     description
         .frames()
@@ -55,12 +53,12 @@ fn ids(alloc: Global, known: &Known) -> Result<Vec<Number>, AllocError>
 pub(super) fn bad_identifiers(
     alloc: Global,
     found: &mut Vec<Finding>,
-    known: &Known,
+    description: &Description,
 ) -> Result<(), AllocError>
     ensures { OnOk result
-        (found.new.items ≡ found.old.items ++ bad_ids known.now ++ ids_twice known.now) }
+        (found.new.items ≡ found.old.items ++ bad_ids description.now ++ ids_twice description.now) }
 {
-    let ids = Repeats::new(alloc, ids(alloc, known)?)?;
+    let ids = Repeats::new(alloc, ids(alloc, description)?)?;
     each(found, &EachIdentifier, ids.numbers())?;
     each(found, &ids, ids.numbers())
 }

@@ -83,8 +83,12 @@ impl<'a> Makes<Table, bool> for Known<'a> {
     ghost makes = { λ d t. list_any (is_event_entry d) t.entries };
 
     fn make(&self, table: &Table) -> bool {
-        let entries = table.entries.as_slice();
-        entries.iter().any(|entry| self.is_event_entry(entry))
+        for entry in table.entries.as_slice() {
+            if self.is_event_entry(entry) {
+                return true;
+            }
+        }
+        false
     }
 }
 
@@ -106,8 +110,7 @@ pub(super) struct Slot {
 
 /// What is worked out once of each declaration that names may name. Contracts see the description.
 pub(super) struct Judged<'a> {
-    alloc: Global,
-    signals: Signals<'a>,
+    pub(super) signals: Signals<'a>,
     facts: Facts,
 }
 
@@ -128,7 +131,6 @@ impl<'a> Model for Judged<'a> {
 impl<'a> Drop for Judged<'a> {
     fn drop(self) {
         let Judged {
-            alloc: _,
             signals: _signals,
             facts: _facts,
         } = self;
@@ -140,8 +142,8 @@ fn facts_of(alloc: Global, signals: &Signals) -> Result<Facts, AllocError>
     ensures sizes { IfOk result (λ f. AreSizes signals.now f.sporadic.items f.events.items) }
     ensures nested { IfOk result (λ f. AreNested signals.now f.nested.items) }
 {
-    let known = signals.known();
-    let description = known.description();
+    let known = &signals.known;
+    let description = known.description;
     let frames = made_of_each(alloc, signals, description.frames())?;
     let sporadic = made_of_each(alloc, known, description.sporadic())?;
     let events = made_of_each(alloc, known, description.events())?;
@@ -161,34 +163,14 @@ impl<'a> Judged<'a> {
     {
         let signals = Signals::new(alloc, Known::new(alloc, description)?)?;
         let facts = facts_of(alloc, &signals)?;
-        Ok(Judged {
-            alloc,
-            signals,
-            facts,
-        })
+        Ok(Judged { signals, facts })
     }
 
     /// The checksum model of each frame; an error means out of memory.
-    pub(super) fn models(&self) -> Result<Vec<SumKind>, AllocError>
+    pub(super) fn models(&self, alloc: Global) -> Result<Vec<SumKind>, AllocError>
         ensures { IfOk result (λ v. v.items ≡ map (frame_model self.now) self.now.frames) }
     {
-        made_of_each(self.alloc, self, self.facts.frames.as_slice())
-    }
-
-    pub(super) fn alloc(&self) -> Global {
-        self.alloc
-    }
-
-    pub(super) fn signals(&self) -> &Signals<'a>
-        ensures { result.now ≡ self.now }
-    {
-        &self.signals
-    }
-
-    pub(super) fn known(&self) -> &Known<'a>
-        ensures { result.now ≡ self.now }
-    {
-        self.signals.known()
+        made_of_each(alloc, self, self.facts.frames.as_slice())
     }
 
     /// The facts of the frame with this name, where there is one.
@@ -197,7 +179,7 @@ impl<'a> Judged<'a> {
     {
         at(
             self.facts.frames.as_slice(),
-            self.signals.known().frame_number(name),
+            self.signals.known.frame_number(name),
         )
     }
 
@@ -207,7 +189,7 @@ impl<'a> Judged<'a> {
         requires { frame ≡ option_map (frame_facts self.now) (frame_named self.now name.now) }
         ensures { result ≡ is_any_frame self.now name.now }
     {
-        frame.is_some() || self.known().is_other_frame(name)
+        frame.is_some() || self.signals.known.is_other_frame(name)
     }
 
     /// The size of a sporadic frame, where the name is one's.
@@ -218,7 +200,7 @@ impl<'a> Judged<'a> {
     {
         at(
             self.facts.sporadic.as_slice(),
-            self.signals.known().sporadic_number(name),
+            self.signals.known.sporadic_number(name),
         )
     }
 
@@ -229,7 +211,7 @@ impl<'a> Judged<'a> {
     {
         at(
             self.facts.events.as_slice(),
-            self.signals.known().event_number(name),
+            self.signals.known.event_number(name),
         )
     }
 
@@ -278,7 +260,7 @@ impl<'a> Judged<'a> {
     {
         at(
             self.facts.nested.as_slice(),
-            self.signals.known().table_number(name),
+            self.signals.known.table_number(name),
         )
     }
 }

@@ -8,12 +8,11 @@ ghost use Rattle.lin_cluster.specs.FindingsNames.{is_node, is_responder, frame_n
 ghost use Rattle.lin_cluster.specs.FindingsNames.{sporadic_named, event_named, is_diagnostic};
 ghost use Rattle.lin_cluster.specs.FindingsNames.{carries_frame, is_event_entry};
 ghost use Rattle.lin_cluster.specs.FindingsNodes.{node_of, is_responder_number};
+ghost use Rattle.lin_cluster.specs.Known.{AreNodeNumbers, AreFrameNumbers};
 ghost use Rattle.lin_cluster.specs.Models.{tells_version_1, has_version_1, is_lin_1};
 
-use crate::names::ByName;
-use lin_description::{
-    Attributes, Description, EventFrame, Frame, Name, Signal, Sporadic, Table, TableEntry,
-};
+use crate::names::{Numbers, find_by, number_by, numbers_of};
+use lin_description::{Attributes, Description, EventFrame, Frame, Name, Sporadic, TableEntry};
 use std::alloc::{AllocError, Global};
 use std::marker::Model;
 
@@ -60,46 +59,55 @@ fn has_version_1(description: &Description) -> bool
         .any(|block| tells_version_1(block))
 }
 
-/// The frames of the three kinds by their names.
+/// The numbers of the frames of the three kinds.
 #[derive(Drop)]
-struct FrameNames<'a> {
-    frames: ByName<'a, Frame>,
-    sporadic: ByName<'a, Sporadic>,
-    events: ByName<'a, EventFrame>,
+struct FrameNumbers<'a> {
+    frames: Numbers<'a>,
+    sporadic: Numbers<'a>,
+    events: Numbers<'a>,
 }
 
-fn frame_names<'a>(
+fn frame_numbers<'a>(
     alloc: Global,
     description: &'a Description,
-) -> Result<FrameNames<'a>, AllocError>
-    ensures frames { IfOk result (λ n. n.frames ≡ description.now.frames) }
-    ensures sporadic { IfOk result (λ n. n.sporadic ≡ description.now.sporadic) }
-    ensures events { IfOk result (λ n. n.events ≡ description.now.events) }
+) -> Result<FrameNumbers<'a>, AllocError>
+    ensures { IfOk result (λ n. AreFrameNumbers description.now n.frames.map n.sporadic.map n.events.map) }
 {
-    let frames = ByName::new(alloc, description.frames())?;
-    let sporadic = ByName::new(alloc, description.sporadic())?;
-    let events = ByName::new(alloc, description.events())?;
-    Ok(FrameNames {
+    let frames = numbers_of(alloc, description.frames())?;
+    let sporadic = numbers_of(alloc, description.sporadic())?;
+    let events = numbers_of(alloc, description.events())?;
+    Ok(FrameNumbers {
         frames,
         sporadic,
         events,
     })
 }
 
-/// The responders, and the blocks of attributes, by the names of nodes.
+/// The numbers of the responders, and of the blocks of attributes, by the names of nodes.
 #[derive(Drop)]
-struct NodeNames<'a> {
-    slaves: ByName<'a, Name>,
-    blocks: ByName<'a, Attributes>,
+struct NodeNumbers<'a> {
+    slaves: Numbers<'a>,
+    blocks: Numbers<'a>,
+}
+
+fn node_numbers<'a>(
+    alloc: Global,
+    description: &'a Description,
+) -> Result<NodeNumbers<'a>, AllocError>
+    ensures { IfOk result (λ n. AreNodeNumbers description.now n.slaves.map n.blocks.map) }
+{
+    let slaves = numbers_of(alloc, description.slaves())?;
+    let blocks = numbers_of(alloc, description.attributes())?;
+    Ok(NodeNumbers { slaves, blocks })
 }
 
 /// A description and what its names name. Contracts see the description.
 pub(super) struct Known<'a> {
-    description: &'a Description,
-    nodes: NodeNames<'a>,
-    signals: ByName<'a, Signal>,
-    kinds: FrameNames<'a>,
-    tables: ByName<'a, Table>,
+    pub(super) description: &'a Description,
+    nodes: NodeNumbers<'a>,
+    signals: Numbers<'a>,
+    kinds: FrameNumbers<'a>,
+    tables: Numbers<'a>,
     has_version_1: bool,
 }
 
@@ -111,8 +119,8 @@ impl<'a> Model for Known<'a> {
 
     ghost view = { λ k. k.description.now };
 
-    ghost invariant = { λ k. IsKnown k.description.now k.nodes.slaves k.signals k.kinds.frames k.kinds.sporadic
-        k.kinds.events k.tables k.nodes.blocks k.has_version_1 };
+    ghost invariant = { λ k. IsKnown k.description.now k.nodes.slaves.map k.nodes.blocks.map k.signals.map
+        k.kinds.frames.map k.kinds.sporadic.map k.kinds.events.map k.tables.map k.has_version_1 };
 }
 
 // Written out, so that what owns one lets it go in one step.
@@ -134,26 +142,19 @@ impl<'a> Known<'a> {
     pub(super) fn new(alloc: Global, description: &'a Description) -> Result<Known<'a>, AllocError>
         ensures { IfOk result (λ k. k ≡ description.now) }
     {
-        let kinds = frame_names(alloc, description)?;
-        let slaves = ByName::new(alloc, description.slaves())?;
-        let blocks = ByName::new(alloc, description.attributes())?;
-        let signals = ByName::new(alloc, description.signals())?;
-        let tables = ByName::new(alloc, description.tables())?;
+        let nodes = node_numbers(alloc, description)?;
+        let kinds = frame_numbers(alloc, description)?;
+        let signals = numbers_of(alloc, description.signals())?;
+        let tables = numbers_of(alloc, description.tables())?;
         let has_version_1 = has_version_1(description);
         Ok(Known {
             description,
-            nodes: NodeNames { slaves, blocks },
+            nodes,
             signals,
             kinds,
             tables,
             has_version_1,
         })
-    }
-
-    pub(super) fn description(&self) -> &'a Description
-        ensures { result.now ≡ self.now }
-    {
-        self.description
     }
 
     /// The number of the node with this name: the commander's is 0.
@@ -163,8 +164,9 @@ impl<'a> Known<'a> {
         if self.description.master.text.as_slice() == name.text.as_slice() {
             return Some(0);
         }
-        let number = self.nodes.slaves.number(name);
-        if number < self.description.slaves().len() {
+        let slaves = self.description.slaves();
+        let number = number_by(&self.nodes.slaves, slaves, name);
+        if number < slaves.len() {
             Some(1 + number)
         } else {
             None
@@ -194,7 +196,7 @@ impl<'a> Known<'a> {
     pub(super) fn is_lin_1(&self, name: &Name) -> bool
         ensures { result ≡ is_lin_1 self.now name.now }
     {
-        match self.nodes.blocks.find(name) {
+        match find_by(&self.nodes.blocks, self.description.attributes(), name) {
             Some(block) => tells_version_1(block) && self.is_node(name),
             None => false,
         }
@@ -203,37 +205,49 @@ impl<'a> Known<'a> {
     pub(super) fn frame(&self, name: &Name) -> Option<&'a Frame>
         ensures { option_copied result ≡ frame_named self.now name.now }
     {
-        self.kinds.frames.find(name)
+        find_by(&self.kinds.frames, self.description.frames(), name)
+    }
+
+    fn sporadic(&self, name: &Name) -> Option<&'a Sporadic>
+        ensures { option_copied result ≡ sporadic_named self.now name.now }
+    {
+        find_by(&self.kinds.sporadic, self.description.sporadic(), name)
+    }
+
+    fn event(&self, name: &Name) -> Option<&'a EventFrame>
+        ensures { option_copied result ≡ event_named self.now name.now }
+    {
+        find_by(&self.kinds.events, self.description.events(), name)
     }
 
     pub(super) fn signal_number(&self, name: &Name) -> usize
         ensures { result ≡ signal_number self.now name.now }
     {
-        self.signals.number(name)
+        number_by(&self.signals, self.description.signals(), name)
     }
 
     pub(super) fn frame_number(&self, name: &Name) -> usize
         ensures { result ≡ frame_number self.now name.now }
     {
-        self.kinds.frames.number(name)
+        number_by(&self.kinds.frames, self.description.frames(), name)
     }
 
     pub(super) fn sporadic_number(&self, name: &Name) -> usize
         ensures { result ≡ sporadic_number self.now name.now }
     {
-        self.kinds.sporadic.number(name)
+        number_by(&self.kinds.sporadic, self.description.sporadic(), name)
     }
 
     pub(super) fn event_number(&self, name: &Name) -> usize
         ensures { result ≡ event_number self.now name.now }
     {
-        self.kinds.events.number(name)
+        number_by(&self.kinds.events, self.description.events(), name)
     }
 
     pub(super) fn table_number(&self, name: &Name) -> usize
         ensures { result ≡ table_number self.now name.now }
     {
-        self.tables.number(name)
+        number_by(&self.tables, self.description.tables(), name)
     }
 
     /// Whether the name is that of a sporadic or of an event-triggered frame.
@@ -242,7 +256,7 @@ impl<'a> Known<'a> {
             ≡ (is_some (sporadic_named self.now name.now)
             || is_some (event_named self.now name.now)) }
     {
-        self.kinds.sporadic.find(name).is_some() || self.kinds.events.find(name).is_some()
+        self.sporadic(name).is_some() || self.event(name).is_some()
     }
 
     /// Whether the entry is for an event-triggered frame.
@@ -251,7 +265,7 @@ impl<'a> Known<'a> {
     {
         carries_frame(entry)
             && self.frame(&entry.name).is_none()
-            && self.kinds.sporadic.find(&entry.name).is_none()
-            && self.kinds.events.find(&entry.name).is_some()
+            && self.sporadic(&entry.name).is_none()
+            && self.event(&entry.name).is_some()
     }
 }

@@ -9,7 +9,7 @@ ghost use Rattle.indexmap.specs.IndexSet.{contains};
 ghost use Rattle.lin_cluster.specs.Findings.{in_event_member};
 ghost use Rattle.lin_cluster.specs.FindingsMembers.{is_bad_after, is_wrong_after, is_mixed_after};
 ghost use Rattle.lin_cluster.specs.FindingsMembers.{in_member_after};
-ghost use Rattle.lin_cluster.specs.FindingsNames.{frame_named};
+ghost use Rattle.lin_cluster.specs.FindingsNames.{frame_named, is_any_frame};
 ghost use Rattle.lin_cluster.specs.FindingsNodes.{is_number, is_responder_number};
 ghost use Rattle.lin_cluster.specs.Known.{frame_facts};
 
@@ -21,7 +21,7 @@ use crate::finding::{Finding, FindingKind};
 use indexmap::IndexSet;
 use lin_description::Name;
 use lin_frame::SumKind;
-use std::alloc::{AllocError, Global};
+use std::alloc::AllocError;
 
 fn add_publisher(
     publishers: &mut IndexSet<usize>,
@@ -122,10 +122,35 @@ fn find_member(
     )
 }
 
+// What is wrong with a member behind the first one and those of these publishers, to which its own
+// is added.
+fn add_member(
+    found: &mut Vec<Finding>,
+    publishers: &mut IndexSet<usize>,
+    judged: &Judged,
+    first: Option<FrameFacts>,
+    member: &Name,
+) -> Result<(), AllocError>
+    ensures found { OnOk result
+        (found.new.items
+        ≡ found.old.items
+        ++ in_member_after first (contains nat_eq publishers.old) (is_any_frame judged.now member.now)
+        (option_map (frame_facts judged.now) (frame_named judged.now member.now)) member.now) }
+    ensures publishers { OnOk result
+        ((q : ℕ) → contains nat_eq publishers.new q
+        ≡ (contains nat_eq publishers.old q
+        || option_map_or (λ f. is_number q f.publisher)
+        (option_map (frame_facts judged.now) (frame_named judged.now member.now)) false)) }
+{
+    let frame = judged.frame(member);
+    let is_known = judged.is_any_frame(frame, member);
+    find_member(found, first, publishers, is_known, frame, member)?;
+    add_publisher(publishers, frame)
+}
+
 /// What is wrong with the members of an event-triggered frame; each name is looked up once.
 #[tactic(auto, using(crate::proofs::FindingsLists::each_all))]
 pub(super) fn members_in_order(
-    alloc: Global,
     found: &mut Vec<Finding>,
     judged: &Judged,
     members: &[Name],
@@ -136,12 +161,9 @@ pub(super) fn members_in_order(
         ++ flat_map (in_event_member judged.now members.now) (enumerate_from 0 members.now)) }
 {
     let first = first_frame(judged, members);
-    let mut publishers = IndexSet::new(alloc);
+    let mut publishers = IndexSet::new(judged.signals.alloc);
     for member in members {
-        let frame = judged.frame(member);
-        let is_known = judged.is_any_frame(frame, member);
-        find_member(found, first, &publishers, is_known, frame, member)?;
-        add_publisher(&mut publishers, frame)?;
+        add_member(found, &mut publishers, judged, first, member)?;
     }
     Ok(())
 }

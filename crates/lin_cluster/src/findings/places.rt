@@ -1,19 +1,26 @@
 //! Signals in their frames: unknown name (1), wrong publisher (2), signal outside (6) and, by
 //! `overlaps`, signals overlap (7).
 
-ghost use Rattle.std.specs.Prelude.{◌≡◌, ◌++◌, ◌<◌, ◌↔◌, ℕ, List, true, OnOk};
+ghost use Rattle.std.specs.Prelude.{◌≡◌, ◌++◌, ◌<◌, ◌||◌, ◌↔◌, ◌⊎◌, ℕ, Bool, true, false, nat_eq};
+ghost use Rattle.std.specs.Prelude.{IsSome, OnOk};
 ghost use Rattle.std.specs.List.{flat_map, enumerate_from};
+ghost use Rattle.std.specs.Option.{option_map_or};
+ghost use Rattle.indexmap.specs.IndexSet.{contains};
 ghost use Rattle.lin_cluster.specs.Findings.{in_placed};
 ghost use Rattle.lin_cluster.specs.FindingsNodes.{are_two};
-ghost use Rattle.lin_cluster.specs.FindingsPlaces.{is_outside_by, in_placed_by};
+ghost use Rattle.lin_cluster.specs.FindingsNames.{at_number, when};
+ghost use Rattle.lin_cluster.specs.FindingsPlaces.{is_outside_by, in_placed_by, IsTaken, lies_in};
+ghost use Rattle.lin_cluster.specs.FindingsRanges.{Meets, AreApart};
+ghost use Rattle.lin_cluster.specs.declared.finding.FindingKind.TheVariants.{SignalsOverlap};
 
 use super::facts::{SignalFacts, Signals};
 use super::overlaps::{add_bits, overlap, stands_twice};
+use super::ranges::Ranges;
 use super::walk::{at_name, at_number, push_when};
 use crate::finding::{Finding, FindingKind};
 use indexmap::IndexSet;
 use lin_description::{Frame, PlacedSignal};
-use std::alloc::{AllocError, Global};
+use std::alloc::AllocError;
 use std::collections::BTreeMap;
 
 // A name that is no node's is no other node's.
@@ -62,10 +69,63 @@ fn find_placed(
     }
 }
 
+/// The signals that a frame places before one: their numbers, and the ranges of their bits.
+struct Earlier {
+    numbers: IndexSet<usize>,
+    ranges: Ranges,
+}
+
+// Written out, so that what owns one lets it go in one step.
+impl Drop for Earlier {
+    fn drop(self) {
+        let Earlier {
+            numbers: _numbers,
+            ranges: _ranges,
+        } = self;
+    }
+}
+
+// What is wrong with a signal behind these, to which it is added, by its number and what is known
+// of it.
+fn add_placed(
+    found: &mut Vec<Finding>,
+    earlier: &mut Earlier,
+    frame: &Frame,
+    publisher: Option<usize>,
+    placed: &PlacedSignal,
+    number: usize,
+    signal: Option<SignalFacts>,
+) -> Result<(), AllocError>
+    requires { AreApart earlier.old.ranges }
+    ensures found { OnOk result
+        ((taken : ℕ → Bool)
+        → (IsSome signal → (size : ℕ)
+        → (taken size ≡ true) ↔
+        IsTaken (contains nat_eq earlier.old.numbers number) earlier.old.ranges placed.now size)
+        → found.new.items
+        ≡ found.old.items
+        ++ in_placed_by frame.now publisher placed.now signal
+        ++ when (option_map_or (λ s. taken s.size) signal false)
+        (at_number SignalsOverlap placed.now.offset)) }
+    ensures apart { OnOk result (AreApart earlier.new.ranges) }
+    ensures numbers { OnOk result
+        ((q : ℕ) → contains nat_eq earlier.new.numbers q
+        ≡ (contains nat_eq earlier.old.numbers q || nat_eq number q)) }
+    ensures ranges { OnOk result
+        ((a b : ℕ) → a < b
+        → Meets earlier.new.ranges a b ↔
+        (Meets earlier.old.ranges a b
+        ⊎ (option_map_or (λ s. lies_in a b placed.now s.size) signal false ≡ true))) }
+{
+    let twice = stands_twice(&mut earlier.numbers, number)?;
+    find_placed(found, frame, publisher, placed, signal)?;
+    overlap(found, twice, &earlier.ranges, placed, signal)?;
+    add_bits(&mut earlier.ranges, placed, signal)
+}
+
 /// What is wrong with the signals that a frame places; each name is looked up once.
 #[tactic(auto, using(crate::proofs::FindingsLists::each_all))]
 pub(super) fn signals_in_order(
-    alloc: Global,
     found: &mut Vec<Finding>,
     signals: &Signals,
     frame: &Frame,
@@ -77,15 +137,22 @@ pub(super) fn signals_in_order(
         ++ flat_map (in_placed signals.now frame.now all_placed.now)
         (enumerate_from 0 all_placed.now)) }
 {
-    let publisher = signals.known().node(&frame.publisher);
-    let mut numbers = IndexSet::new(alloc);
-    let mut ranges = BTreeMap::new(alloc);
+    let publisher = signals.known.node(&frame.publisher);
+    let mut earlier = Earlier {
+        numbers: IndexSet::new(signals.alloc),
+        ranges: BTreeMap::new(signals.alloc),
+    };
     for placed in all_placed {
         let (number, signal) = signals.numbered(&placed.signal);
-        let twice = stands_twice(&mut numbers, number)?;
-        find_placed(found, frame, publisher, placed, signal)?;
-        overlap(found, twice, &ranges, placed, signal)?;
-        add_bits(&mut ranges, placed, signal)?;
+        add_placed(
+            found,
+            &mut earlier,
+            frame,
+            publisher,
+            placed,
+            number,
+            signal,
+        )?;
     }
     Ok(())
 }

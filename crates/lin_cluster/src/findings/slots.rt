@@ -85,7 +85,7 @@ pub(super) fn short_slot(
         (found.new.items
         ≡ found.old.items ++ short_slot known.now.jitter.value known.now.speed.value entry.now size) }
 {
-    let description = known.description();
+    let description = known.description;
     let speed = description.speed.value;
     if let Some(size) = size {
         if !(entry.delay.value == 0) && is_speed(speed) {

@@ -14,7 +14,7 @@ use Rattle.lin_cluster.proofs.findings.places.signals_in_order.Given as goal
 abbrev pub invariant-loop-placed : goal.invariant-loop-placed
 invariant-loop-placed l = record {
   found : l.found.items ≡ l.fn.found.items ++ flat_map (in_placed l.signals l.frame l.all_placed) (take l.placed-index (enumerate_from 0 l.all_placed));
-  apart : AreApart l.ranges;
-  numbers : (q : ℕ) → contains nat_eq l.numbers q ≡ list_any (λ p. signal_number l.signals p.signal == q) (take l.placed-index l.all_placed);
-  ranges : (a b : ℕ) → a < b → Meets l.ranges a b ↔ (list_any (λ p. option_map_or (λ t. lies_in a b p t.size.value) (signal_named l.signals p.signal) false) (take l.placed-index l.all_placed) ≡ true);
+  apart : AreApart l.earlier.ranges;
+  numbers : (q : ℕ) → contains nat_eq l.earlier.numbers q ≡ list_any (λ p. signal_number l.signals p.signal == q) (take l.placed-index l.all_placed);
+  ranges : (a b : ℕ) → a < b → Meets l.earlier.ranges a b ↔ (list_any (λ p. option_map_or (λ t. lies_in a b p t.size.value) (signal_named l.signals p.signal) false) (take l.placed-index l.all_placed) ≡ true);
 }

@@ -1,9 +1,10 @@
 use Rattle.std.proofs.Common.{ap, ◌∙◌}
-use Rattle.std.specs.List.{position_or_len}
 use Rattle.lin_cluster.specs.Slots.{first_size}
+use Rattle.std.specs.List.{position_or_len}
 use Rattle.lin_cluster.proofs.Named.{made_of}
 use Rattle.lin_cluster.specs.FindingsNames.{same_name}
 use Rattle.lin_cluster.proofs.findings.judged.Judged.event_size.Goals as goal
+use Rattle.lin_cluster.specs.declared.findings.judged.Judged.TheInside.{Inside}
 
 pub returns : goal.returns
-returns c = rw (← c.self.view_is) (c.at.ensures ∙ made_of (λ e. first_size c.self.inside.signals e.members) (λ x. same_name x.name c.args.name.now) c.self.inside.signals.events c.event_number.result c.as_slice.result.now _ c.as_slice.ensures.value c.self.invariant.1.1 (c.event_number.ensures ∙ ap (λ d. position_or_len (λ x. same_name x.name c.args.name.now) d.events) c.known.ensures))
+returns c = rw (← c.self.view_is) (c.at.ensures ∙ made_of (λ e. first_size c.self.inside.signals e.members) (λ x. same_name x.name c.args.name.now) c.self.inside.signals.events c.event_number.result c.as_slice.result.now _ (c.as_slice.ensures.value ∙ ap (λ (j : Inside). j.facts.events.items) c.self-inside.view_is) c.self.invariant.1.1 (c.event_number.ensures ∙ ap (λ (j : Inside). position_or_len (λ x. same_name x.name c.args.name.now) j.signals.events) c.self-inside.view_is))

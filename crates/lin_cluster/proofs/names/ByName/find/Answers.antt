@@ -1,9 +1,0 @@
-use Rattle.std.proofs.Common.{ap, sym, ◌∙◌}
-use Rattle.std.specs.Prelude.{slice_get}
-use Rattle.std.proofs.lemmas.List.Folds.{find_at}
-use Rattle.lin_cluster.specs.FindingsNames.{same_name}
-use Rattle.lin_cluster.proofs.Named.{lent-at}
-use Rattle.lin_cluster.proofs.names.ByName.find.Goals as goal
-
-pub returns : goal.returns
-returns g c = lent-at c.self.inside.all.now c.number.result c.get.result c.get.ensures.lookup ∙ ap (λ xs. slice_get xs c.number.result) c.self.view_is ∙ ap (slice_get c.args.self.now) c.number.ensures ∙ sym (find_at (λ x. same_name (g.T.Named.name_of x) c.args.name.now) c.args.self.now)
