@@ -76,11 +76,13 @@ pub(crate) fn numbers_of<'a, T: Named>(
 ) -> Result<Numbers<'a>, AllocError>
     ensures { IfOk result (λ n. NumbersFirst T.name_of all.now n.map) }
 {
-    let mut map = IndexMap::with_capacity(alloc, all.len())?;
+    let mut numbers = Numbers {
+        map: IndexMap::with_capacity(alloc, all.len())?,
+    };
     for (number, one) in all.iter().enumerate() {
-        add(&mut map, one.name().text.as_slice(), number)?;
+        add(&mut numbers.map, one.name().text.as_slice(), number)?;
     }
-    Ok(Numbers { map })
+    Ok(numbers)
 }
 
 /// The number of the first of these that has the name, or the one after the last.

@@ -64,7 +64,6 @@ fn twice(found: &mut Vec<Finding>, earlier: &IndexSet<u32>, nad: &Number) -> Res
     )
 }
 
-#[tactic(auto, using(crate::proofs::FindingsLists::each_all))]
 fn nads_twice(alloc: Global, found: &mut Vec<Finding>, nads: &[Number]) -> Result<(), AllocError>
     ensures { OnOk result
         (found.new.items

@@ -19,7 +19,6 @@ impl Named for TableEntry {
     }
 }
 
-#[tactic(auto, using(crate::proofs::FindingsLists::past_none))]
 fn past<T: Named>(found: &mut Vec<Finding>, all: &[T], limit: usize) -> Result<(), AllocError>
     ensures { OnOk result
         (found.new.items ≡ found.old.items ++ past T.name_of (slice_get all.now limit)) }

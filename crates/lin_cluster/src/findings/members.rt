@@ -23,6 +23,18 @@ use lin_description::Name;
 use lin_frame::SumKind;
 use std::alloc::AllocError;
 
+/// The numbers of the nodes that publish the members before one.
+struct Publishers {
+    numbers: IndexSet<usize>,
+}
+
+// Written out, so that what owns one lets it go in one step.
+impl Drop for Publishers {
+    fn drop(self) {
+        let Publishers { numbers: _numbers } = self;
+    }
+}
+
 fn add_publisher(
     publishers: &mut IndexSet<usize>,
     frame: Option<FrameFacts>,
@@ -149,7 +161,6 @@ fn add_member(
 }
 
 /// What is wrong with the members of an event-triggered frame; each name is looked up once.
-#[tactic(auto, using(crate::proofs::FindingsLists::each_all))]
 pub(super) fn members_in_order(
     found: &mut Vec<Finding>,
     judged: &Judged,
@@ -161,9 +172,11 @@ pub(super) fn members_in_order(
         ++ flat_map (in_event_member judged.now members.now) (enumerate_from 0 members.now)) }
 {
     let first = first_frame(judged, members);
-    let mut publishers = IndexSet::new(judged.signals.alloc);
+    let mut publishers = Publishers {
+        numbers: IndexSet::new(judged.signals.alloc),
+    };
     for member in members {
-        add_member(found, &mut publishers, judged, first, member)?;
+        add_member(found, &mut publishers.numbers, judged, first, member)?;
     }
     Ok(())
 }

@@ -124,7 +124,6 @@ fn add_placed(
 }
 
 /// What is wrong with the signals that a frame places; each name is looked up once.
-#[tactic(auto, using(crate::proofs::FindingsLists::each_all))]
 pub(super) fn signals_in_order(
     found: &mut Vec<Finding>,
     signals: &Signals,

@@ -20,10 +20,19 @@ pub(super) struct Uses {
 }
 
 /// Numbers, and the first two of each value. Contracts see the numbers.
-#[derive(Drop)]
 pub(super) struct Repeats {
     all: Vec<Number>,
     uses: IndexMap<u32, Uses>,
+}
+
+// Written out, so that what owns one lets it go in one step.
+impl Drop for Repeats {
+    fn drop(self) {
+        let Repeats {
+            all: _all,
+            uses: _uses,
+        } = self;
+    }
 }
 
 impl Model for Repeats {

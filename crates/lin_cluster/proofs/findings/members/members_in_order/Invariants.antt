@@ -10,5 +10,5 @@ use Rattle.lin_cluster.proofs.findings.members.members_in_order.Given as goal
 abbrev pub invariant-loop-member : goal.invariant-loop-member
 invariant-loop-member l = record {
   found : l.found.items ≡ l.fn.found.items ++ flat_map (in_event_member l.judged l.members) (take l.member-index (enumerate_from 0 l.members));
-  publishers : (q : ℕ) → contains nat_eq l.publishers q ≡ publishes l.judged (take l.member-index l.members) q;
+  publishers : (q : ℕ) → contains nat_eq l.publishers.numbers q ≡ publishes l.judged (take l.member-index l.members) q;
 }

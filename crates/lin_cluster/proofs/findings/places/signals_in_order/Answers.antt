@@ -1,5 +1,5 @@
 use Rattle.std.proofs.Common.{sym, ap, ◌∙◌, ◌++◌, take, append_assoc, false}
-use Rattle.std.specs.List.{list_any}
+use Rattle.std.specs.List.{flat_map, list_any}
 use Rattle.std.specs.Prelude.{◌==◌}
 use Rattle.std.specs.Option.{option_map_or}
 use Rattle.lin_cluster.specs.Described.{signal_number}
@@ -10,7 +10,7 @@ use Rattle.lin_cluster.specs.FindingsNodes.{node_of}
 use Rattle.lin_cluster.specs.FindingsPlaces.{lies_in, in_placed_by}
 use Rattle.lin_cluster.specs.FindingsRanges.{Meets}
 use Rattle.lin_cluster.specs.declared.finding.FindingKind.TheVariants.{SignalsOverlap}
-use Rattle.lin_cluster.proofs.FindingsLists.{each_step_at}
+use Rattle.lin_cluster.proofs.FindingsLists.{each_step_at, each_all}
 use Rattle.lin_cluster.proofs.FindingsMaps.{seen_more}
 use Rattle.lin_cluster.proofs.FindingsPlaces.{taken, placed_found, more_bits}
 use Rattle.lin_cluster.proofs.Made.{placed_same, size_same, bits_same}
@@ -41,3 +41,6 @@ loop-placed-preserved c =
           more_bits (Meets c.loop-placed.earlier.ranges a b) (Meets c.add_placed.new.earlier.ranges a b) (λ x. option_map_or (λ t. lies_in a b x t.size.value) (signal_named d x.signal) false) all c.loop-placed.placed-index p c.loop-placed-test.true (sym c.placed-item.is)
           (c.loop-placed.invariant.ranges a b ab) (bits_same d (lies_in a b p) (Meets c.loop-placed.earlier.ranges a b) (Meets c.add_placed.new.earlier.ranges a b) named facts c.numbered-number.ensures.facts (c.in_ok-add_placed.ensures.ranges a b ab));
     }
+
+pub returns : goal.returns
+returns c = c.loop-placed.invariant.found ∙ ap (λ xs. c.args.found.now.items ++ flat_map (in_placed c.args.signals.now c.args.frame.now c.args.all_placed.now) xs) (each_all c.args.all_placed.now c.loop-placed.placed-index c.loop-placed-test.false)
