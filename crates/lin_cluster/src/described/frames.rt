@@ -31,9 +31,12 @@ fn lists(d: &Description, members: &[Name], frame: u16) -> bool
     requires { length d.now.frames ≤ 60 }
     ensures { result ≡ list_any (λ m. frame_number d.now m == frame) members.now }
 {
-    members
-        .iter()
-        .any(|member| frame_number(d, member) == frame)
+    for member in members {
+        if frame_number(d, member) == frame {
+            return true;
+        }
+    }
+    false
 }
 
 fn is_member(d: &Description, events: &[lin_description::EventFrame], frame: u16) -> bool
@@ -41,9 +44,12 @@ fn is_member(d: &Description, events: &[lin_description::EventFrame], frame: u16
     ensures { result
         ≡ list_any (λ e. list_any (λ m. frame_number d.now m == frame) e.members) events.now }
 {
-    events
-        .iter()
-        .any(|event| lists(d, event.members.as_slice(), frame))
+    for event in events {
+        if lists(d, event.members.as_slice(), frame) {
+            return true;
+        }
+    }
+    false
 }
 
 fn place_of(d: &Description, signals: &[Signal], placed: &PlacedSignal) -> Place

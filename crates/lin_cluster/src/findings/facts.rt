@@ -47,6 +47,14 @@ pub(super) fn at<V: Copy>(values: &[V], number: usize) -> Option<V>
     values.get(number).copied()
 }
 
+impl Named for Signal {
+    ghost name_of = { λ s. s.name };
+
+    fn name(&self) -> &Name {
+        &self.name
+    }
+}
+
 // Where no version of LIN 1.x is told, the subscribers aren't looked up.
 #[tactic(auto, using(crate::proofs::FindingsModels::untold_signal))]
 fn has_lin_1(known: &Known, signal: &Signal) -> bool
@@ -61,14 +69,6 @@ fn has_lin_1(known: &Known, signal: &Signal) -> bool
         }
     }
     false
-}
-
-impl Named for Signal {
-    ghost name_of = { λ s. s.name };
-
-    fn name(&self) -> &Name {
-        &self.name
-    }
 }
 
 impl<'a> Makes<Signal, SignalFacts> for Known<'a> {
