@@ -163,6 +163,15 @@ no-slot-is-short d free sound =
     (λ k t lt. All-map IsLong (described_line d) (get_or d.tables k t).entries
     (λ i x in'. long-entry d none sound (get_or (get_or d.tables k t).entries i x) ((good-tables d none k t lt).lines i x in')))
 
+some-bits : (speed : ℕ) → is_speed speed ≡ true → 0 < speed
+some-bits speed good = grind (arith, nat_tests)
+
+-- a description in which nothing is found has a speed
+pub has-speed : (c : Parts) (names : NamesData) → AreOfOneDescription c names → 0 < names.speed
+has-speed c names of =
+    let d = of.description
+    in subst (λ (n : NamesData). 0 < n.speed) (sym of.named) (some-bits d.speed.value (within-limits d (nothing-found d of.free)).speed)
+
 -- the law
 pub long-slots : (c : Parts) (names : NamesData) → AreOfOneDescription c names → IsCluster c → NoSlotIsShort c names
 long-slots c names of sound =

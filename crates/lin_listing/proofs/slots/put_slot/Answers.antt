@@ -1,8 +1,11 @@
-use Rattle.std.proofs.Common.{◌≤◌}
+use Rattle.std.proofs.Common.{◌≤◌, ◌<◌, subst, sym}
 use Rattle.lin_cluster_parts.specs.Cluster.{line_of}
 use Rattle.lin_listing.specs.Slots.{slot_need}
-use Rattle.lin_listing.proofs.LongSlots.{long-slots}
+use Rattle.lin_listing.proofs.LongSlots.{has-speed, long-slots}
 use Rattle.lin_listing.proofs.slots.put_slot.Goals as goal
+
+pub needed_us-needed-requires : goal.needed_us-needed-requires
+needed_us-needed-requires g c = record { speed = subst (λ n. 0 < n) (sym c.speed.ensures) (has-speed c.args.cluster.now c.args.names.now c.requires.together) }
 
 pub overflow_sub-delay : goal.overflow_sub-delay
 overflow_sub-delay g c =
