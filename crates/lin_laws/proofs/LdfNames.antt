@@ -208,30 +208,29 @@ record AreNodes (n : Nodes) (rest : List Symbol) : Type 0 where
   names : AreNew [] (n.master.text ∷ map name_text n.slaves)
   good : AllGood rest
 
-master-new : (ts : List Symbol) (m : Name × (Number × Number)) (rest : List Symbol) → master.spells ts m rest → AllGood ts → IsNew [] m.0.text
-master-new ts m rest (u, mid, (u1, a1, t1, (u2, a2, t2, (u3, a3, t3, t4))), parts) good =
+master-new : (seen : List (List ℕ)) (ts : List Symbol) (m : Name × (Number × Number)) (rest : List Symbol) → (master seen).spells ts m rest → AllGood ts → IsNew seen m.0.text
+master-new seen ts m rest (u, mid, (a1, v, t1, t2), parts) good =
     let g1 = after-token ts a1 t1.0 t1.1 good in
-    let g2 = after-token a1 a2 t2.0 t2.1 g1 in
-    let g3 = after-token a2 a3 t3.0 t3.1 g2 in
-    let g4 = after-token a3 mid t4.0 t4.1 g3 in
-    new-name [] mid m.0 parts.1.0 parts.1.2 g4
+    let g2 = after-token a1 mid t2.0 t2.1 g1 in
+    new-name seen mid m.0 parts.1.0 parts.1.2 g2
 
-slaves-new : (m : Name) (ts : List Symbol) (names : List Name) (rest : List Symbol) → (slaves m).spells ts names rest → AllGood ts
-    → AreNew (m.text ∷ []) (map name_text names) × AllGood rest
-slaves-new m ts names rest (u, a1, t1, (v, a2, t2, (a3, x, (a4, y, (q, (a5, first, others), same), semi), close))) good =
+slaves-new : (seen : List (List ℕ)) (ts : List Symbol) (names : List Name) (rest : List Symbol) → (slaves seen).spells ts names rest → AllGood ts
+    → AreNew seen (map name_text names) × AllGood rest
+slaves-new seen ts names rest (u, a2, (a1, v, t1, t2), (a3, x, (a4, y, (q, (a5, first, others), same), semi), close)) good =
     let g1 = after-token ts a1 t1.0 t1.1 good in
     let g2 = after-token a1 a2 t2.0 t2.1 g1 in
-    let n = new-name (m.text ∷ []) a2 q.0 a5 first g2 in
-    let more = several-new name_text next_word slaves-declare (m.text ∷ q.0.text ∷ []) a5 q.1 a4 others (after-token a2 a5 first.0 first.1 g2) in
-    let all = one-new (m.text ∷ []) q.0.text (map name_text q.1) n more.0 in (
-      subst (λ (ns : List Name). AreNew (m.text ∷ []) (map name_text ns)) same all,
+    let n = new-name seen a2 q.0 a5 first g2 in
+    let more = several-new name_text next_word slaves-declare (seen ++ q.0.text ∷ []) a5 q.1 a4 others (after-token a2 a5 first.0 first.1 g2) in
+    let all = one-new seen q.0.text (map name_text q.1) n more.0 in (
+      subst (λ (ns : List Name). AreNew seen (map name_text ns)) same all,
       after-token a3 rest close.0 close.1 (after-token a4 a3 semi.0 semi.1 more.1),
     )
 
 nodes-new : (ts : List Symbol) (n : Nodes) (rest : List Symbol) → nodes.spells ts n rest → AllGood ts → AreNodes n rest
-nodes-new ts n rest (p, (mid, first, others), same) good =
-    let m = master-new ts p.0 mid first good in
-    let q = slaves-new p.0.0 mid p.1 rest others (after-behind ts mid (master_takes.lawful.behind ts p.0 mid first) good) in
+nodes-new ts n rest (p, (u, a2, (a1, v, t1, t2), (mid, first, others)), same) good =
+    let g = after-token a1 a2 t2.0 t2.1 (after-token ts a1 t1.0 t1.1 good) in
+    let m = master-new [] a2 p.0 mid first g in
+    let q = slaves-new (p.0.0.text ∷ []) mid p.1 rest others (after-behind a2 mid ((master_takes []).lawful.behind a2 p.0 mid first) g) in
     subst (λ (x : Nodes). AreNodes x rest) same
     (record { names = one-new [] p.0.0.text (map name_text p.1) m q.0; good = q.1 })
 

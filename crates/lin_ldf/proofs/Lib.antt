@@ -18,6 +18,7 @@ pub mod SeveralSteps
 pub mod GatherSteps
 pub mod Capped
 pub mod Commas
+pub mod Found
 pub mod Extras
 pub mod Ending
 pub mod Described

@@ -5,12 +5,12 @@ use Rattle.lin_ldf.specs.Symbols.{Symbol, is_kind, symbol_in, symbols_in}
 use Rattle.lin_ldf.specs.Stream.{stop}
 use Rattle.lin_ldf.specs.Forms.{Form, never, as_value, ◌&>◌, ◌<&◌, ◌&=◌}
 use Rattle.lin_ldf.specs.Loops.{Steps}
-use Rattle.lin_ldf.specs.Words.{block, is_word_but, group, once, close_brace, consed_of}
-use Rattle.lin_ldf.specs.Laws.{Behind, Lawful, Taking, anything, token_takes, mark_takes, keyword_takes, value_lawful, then_lawful}
+use Rattle.lin_ldf.specs.Words.{block, is_word_but, group, once, close_brace, with_name}
+use Rattle.lin_ldf.specs.Laws.{Behind, Lawful, Taking, anything, token_takes, mark_takes, keyword_takes}
 use Rattle.lin_ldf.specs.LoopLaws.{several_lawful}
 use Rattle.lin_ldf.specs.UpToLaws.{up_to_lawful}
 use Rattle.lin_ldf.specs.Grammar.{signal, section_words, with_signal, frame, with_frame, sporadic_frame, with_sporadic, event_frame, with_event, attribute_block, with_block, table, with_table, with_signals, with_frames, with_sporadics, with_events, with_attributes, with_tables, section_of, section, slaves, nodes, nodes_of, node_names, no_sections}
-use Rattle.lin_ldf.specs.GrammarLaws.{is_of, words_end, declared_takes, other_declared_lawful, header_takes, master_takes, signal_takes, frame_takes, sporadic_frame_takes, event_frame_takes, attribute_block_takes, table_takes}
+use Rattle.lin_ldf.specs.GrammarLaws.{is_of, keyword_before, words_end, new_words_lawful, header_takes, master_takes, signal_takes, frame_takes, sporadic_frame_takes, event_frame_takes, attribute_block_takes, table_takes}
 use Rattle.lin_ldf.specs.Describes.{Spells}
 use Rattle.lin_ldf.specs.declared.token.TokenKind.TheVariants as kinds
 use Rattle.lin_ldf.specs.declared.section.SectionWord.{SectionWord}
@@ -18,7 +18,6 @@ use Rattle.lin_ldf.specs.declared.section.SectionWord.TheVariants as words_of
 use Rattle.lin_ldf.specs.declared.section.Sections.{Sections}
 use Rattle.lin_ldf.specs.declared.token.Token.{Token}
 use Rattle.lin_description.specs.declared.place.Place.{Place}
-use Rattle.lin_description.specs.declared.description.Name.{Name}
 use Rattle.lin_description.specs.declared.description.Description.{Description}
 
 -- some symbols, the last of them a closing brace, and then the rest
@@ -59,12 +58,11 @@ block_closes next f p s = closes_right (mark_takes kinds.OpenBrace).lawful (clos
 group_closes : Closes group
 group_closes = closes_right (mark_takes kinds.OpenBrace).lawful (closes_left (up_to_lawful kinds.CloseBrace))
 
-slaves_close : (m : Name) → Closes (slaves m)
-slaves_close m = closes_right (keyword_takes _).lawful (closes_right (mark_takes kinds.Colon).lawful
-    (closes_left (words_end (value_lawful consed_of (then_lawful (declared_takes (m.text ∷ [])).lawful (λ n. other_declared_lawful (m.text ∷ n.text ∷ [])))))))
+slaves_close : (seen : List (List ℕ)) → Closes (slaves seen)
+slaves_close seen = closes_right (keyword_before _ kinds.Colon).lawful (closes_left (words_end (new_words_lawful seen)))
 
 nodes_close : Closes nodes
-nodes_close = closes_value nodes_of (closes_then master_takes.lawful (λ m. slaves_close m.0))
+nodes_close = closes_value nodes_of (closes_right (keyword_before _ kinds.OpenBrace).lawful (closes_then (master_takes []).lawful (λ m. slaves_close (with_name [] m.0))))
 
 section_closes : (s : Sections) (w : SectionWord) → Closes (section_of w s)
 section_closes s words_of.Signals = closes_value (with_signals s) (closes_once s.signals (closes_right (keyword_takes _).lawful (block_closes with_signal signal signal_takes [])))

@@ -12,7 +12,7 @@ ghost use Rattle.lin_ldf.specs.Forms.{Gives, has_front, front, tail, mark, keywo
 ghost use Rattle.lin_ldf.specs.Loops.{is_next};
 ghost use Rattle.lin_ldf.specs.UpTo.{front_kind};
 ghost use Rattle.lin_ldf.specs.Words.{word, name_of, place_of, opening, new_word, number_at, int};
-ghost use Rattle.lin_ldf.specs.Words.{dec, is_word_next};
+ghost use Rattle.lin_ldf.specs.Words.{dec, dec_in, is_word_next};
 ghost use Rattle.lin_ldf.specs.Grammar.{header_words, is_extra_next, without_quotes, protocol_text};
 ghost use Rattle.lin_ldf.specs.Grammar.{with_node, front_section};
 ghost use Rattle.lin_ldf.specs.declared.fault.LdfFault.{LdfFault};
@@ -224,6 +224,14 @@ impl<'a> Parser<'a> {
         Ok(())
     }
 
+    // word, mark
+    pub fn keyword_before(&mut self, word: &[u8], end: TokenKind) -> Result<(), LdfFault>
+        ensures { Gives result self.new ((keyword word.now <& mark end).read self.old) }
+    {
+        self.keyword(word)?;
+        self.mark(end)
+    }
+
     /// The next token as a name. It is passed over.
     fn name(&mut self) -> Result<Name, LdfFault>
         requires { has_front self.old ≡ true }
@@ -345,11 +353,10 @@ impl<'a> Parser<'a> {
     /// A number in thousandths of a unit.
     // DEC, unit, mark
     pub fn dec_in(&mut self, unit: &[u8], end: TokenKind) -> Result<Number, LdfFault>
-        ensures { Gives result self.new ((dec <& keyword unit.now <& mark end).read self.old) }
+        ensures { Gives result self.new ((dec_in unit.now end).read self.old) }
     {
         let number = self.dec()?;
-        self.keyword(unit)?;
-        self.mark(end)?;
+        self.keyword_before(unit, end)?;
         Ok(number)
     }
 
