@@ -59,7 +59,7 @@ pub fn protected(id: FrameId) -> u8
 
 /// The identifier that this byte protects, or `None` where a parity bit is wrong.
 pub fn unprotect(byte: u8) -> Option<FrameId>
-    ensures some { IfSome result (λ i. pid i ≡ byte) }
+    ensures some { IfSome result (λ i. (i < 64) × (pid i ≡ byte)) }
     ensures none { IfNone result ((i : ℕ) → i < 64 → pid i ≢ byte) }
 {
     let id = FrameId {

@@ -26,6 +26,3 @@ pub use packing::{pack, unpack};
 pub use response::Answer;
 pub use sums::{SumKind, checksum, passes};
 pub use value::{Value, ValueBytes};
-
-#[cfg(test)]
-mod tests;

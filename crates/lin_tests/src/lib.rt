@@ -5,6 +5,8 @@
 #[cfg(test)]
 mod cluster;
 #[cfg(test)]
+mod frames;
+#[cfg(test)]
 mod held_steps;
 #[cfg(test)]
 mod ldf;
@@ -20,3 +22,5 @@ mod samples;
 mod schedule;
 #[cfg(test)]
 mod text;
+#[cfg(test)]
+mod transport;

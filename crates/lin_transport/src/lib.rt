@@ -20,6 +20,3 @@ pub use law::{reads_first_frames, reads_what_is_sent};
 pub use pci::FUNCTIONAL;
 pub use receiver::Receiver;
 pub use sender::Sender;
-
-#[cfg(test)]
-mod tests;

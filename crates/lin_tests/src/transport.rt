@@ -2,7 +2,7 @@
 
 ghost use Rattle.std.specs.Prelude.{◌≤◌, ◌<◌, length};
 
-use crate::{FUNCTIONAL, Receiver, Sender};
+use lin_transport::{FUNCTIONAL, Receiver, Sender};
 use std::alloc::{AllocError, Global};
 use std::process::Abort;
 use std::test::Fail;

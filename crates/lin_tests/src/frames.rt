@@ -1,10 +1,10 @@
 //! Outside vectors, and each public call once.
 
-use crate::{
+use arrayvec::ArrayVec;
+use lin_frame::{
     Answer, FrameId, Layout, Place, SumKind, Value, ValueBytes, answer, checksum, pack,
     packing_is_inverse, passes, protected, unpack, unprotect,
 };
-use arrayvec::ArrayVec;
 use lin_lists::Many;
 use std::alloc::Global;
 use std::process::Abort;
