@@ -5,6 +5,7 @@ pub mod SlotSteps
 pub mod Events
 pub mod Searches
 pub mod Hosts
+pub mod Few
 pub mod Runs
 pub mod PlainFields
 pub mod PlainBytes

@@ -50,7 +50,7 @@ last-item : {A : Type 0} (xs : List A) (e d : A) → get_or (xs ++ e ∷ []) (le
 last-item [] e d = refl
 last-item (x ∷ xs) e d = last-item xs e d
 
-length-last : {A : Type 0} (xs : List A) (e : A) → length (xs ++ e ∷ []) ≡ suc (length xs)
+pub length-last : {A : Type 0} (xs : List A) (e : A) → length (xs ++ e ∷ []) ≡ suc (length xs)
 length-last [] e = refl
 length-last (x ∷ xs) e = ap suc (length-last xs e)
 

@@ -14,7 +14,7 @@ use Rattle.lin_bench.specs.Plays.{Comes, PlayFails}
 use Rattle.lin_bench.specs.Slots.{after, slot_limit}
 use Rattle.lin_bench.specs.declared.line.Line.{Line}
 use Rattle.lin_bench.specs.declared.fault.PlayFault.{PlayFault}
-use Rattle.lin_bench.specs.declared.fault.PlayFault.TheVariants.{SlotLimit, LogFull, OutOfMemory}
+use Rattle.lin_bench.specs.declared.fault.PlayFault.TheVariants.{SlotLimit, OutOfMemory}
 use Rattle.lin_bench.specs.declared.playing.Played.{Played}
 use Rattle.lin_bench.specs.declared.got.Unmet.{Unmet}
 use Rattle.lin_bench.specs.Searches.{taken_by}
@@ -141,7 +141,6 @@ pub line-fails : (c : Parts) (o cap : ℕ) (ls rest all : List (ℕ × Line)) (p
     → ls ++ (n, l) ∷ rest ≡ all → HasCome c o cap ls p → SlotsFail fault p.left n (slots_made l (said_on p.core l)) → PlayFails fault (played c o cap all)
 line-fails c o cap ls rest all p n l (SlotLimit m) e h f =
     ap (played c o cap) (sym e) ∙ run-fails c o cap p h.run ls rest n l h.lines h.at f.1 ∙ ap Err (sym f.0)
-line-fails c o cap ls rest all p n l LogFull e h f = tt
 line-fails c o cap ls rest all p n l OutOfMemory e h f = tt
 
 -- all lines were played

@@ -9,10 +9,8 @@ use Rattle.lin_bench.specs.declared.line.Disturbance.{Disturbance}
 use Rattle.lin_bench.specs.declared.line.Extent.{Extent}
 use Rattle.lin_bench.specs.declared.line.Line.{Line}
 use Rattle.lin_bench.specs.declared.fault.PlayFault.{PlayFault}
-use Rattle.lin_bench.specs.declared.fault.PlayFault.TheVariants.{SlotLimit, LogFull, OutOfMemory}
+use Rattle.lin_bench.specs.declared.fault.PlayFault.TheVariants.{SlotLimit, OutOfMemory}
 use Rattle.lin_bench.specs.declared.playing.Player.{Player}
-use Rattle.lin_bench.specs.declared.stop.Stop.{Stop}
-use Rattle.lin_bench.specs.declared.stop.Stop.TheVariants as stop
 use Rattle.lin_bench.specs.Played.{said, slots_made, taken_after, unmet_at}
 use Rattle.lin_bench.specs.Searches.{taken_by}
 
@@ -21,18 +19,20 @@ pub record IsMade (old : CoreData) (steps : List (PortId × Step)) (new : CoreDa
   pub past : past_of new ≡ after old.cluster old.opening old.capacity (past_of old) steps
   pub alike : IsAlike old new
 
+-- the most steps of a slot: its open, what each of 16 nodes decides, a damage and its finish
+abbrev pub most_steps : ℕ
+most_steps = 19
+
 -- the steps of a line of slots on a core
 abbrev pub extent_on : CoreData → Disturbance → Extent → List (PortId × Step)
 extent_on core how extent =
     extent_steps core.cluster core.opening core.capacity how extent (past_of core)
 
 -- the slots of a line were made, and so many are left; or they are more than were left
-abbrev pub MakesSlots : CoreData → Disturbance → Extent → ℕ → Result (Option ℕ) Stop → CoreData
-    → Type 0
-MakesSlots old how extent left (Ok (Some rest)) new =
+abbrev pub MakesSlots : CoreData → Disturbance → Extent → ℕ → Option ℕ → CoreData → Type 0
+MakesSlots old how extent left (Some rest) new =
     IsMade old (extent_on old how extent) new × (slots_in (extent_on old how extent) + rest ≡ left)
-MakesSlots old how extent left (Ok None) new = left < slots_in (extent_on old how extent)
-MakesSlots old how extent left (Err stop) new = Unit {0}
+MakesSlots old how extent left None new = left < slots_in (extent_on old how extent)
 
 -- what a line is given: a player's core before it, and the steps that it says
 abbrev pub said_on : CoreData → Line → List (PortId × Step)
@@ -61,7 +61,6 @@ pub record AreSlots (old : Player) (steps : List (PortId × Step)) (new : Player
 
 abbrev pub SlotsFail : PlayFault → ℕ → ℕ → ℕ → Type 0
 SlotsFail (SlotLimit m) left n made = (m ≡ n) × (left < made)
-SlotsFail LogFull left n made = Unit {0}
 SlotsFail OutOfMemory left n made = Unit {0}
 
 abbrev pub PlaysSlots : Player → ℕ → Disturbance → Extent → Result Unit PlayFault → Player → Type 0
@@ -74,7 +73,3 @@ abbrev pub PlaysLine : Player → ℕ → Line → Result Unit PlayFault → Pla
 PlaysLine old n line (Ok done) new = IsPlayed old n line new
 PlaysLine old n line (Err fault) new =
     SlotsFail fault old.left n (slots_made line (said_on old.core line))
-
-abbrev pub play_fault : Stop → PlayFault
-play_fault stop.LogFull = LogFull
-play_fault stop.OutOfMemory = OutOfMemory

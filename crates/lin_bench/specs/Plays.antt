@@ -4,7 +4,7 @@ use Rattle.lin_cluster_parts.specs.declared.parts.Parts.{Parts}
 use Rattle.lin_log.specs.Replay.{log_of}
 use Rattle.lin_bench.specs.Played.{Run, played}
 use Rattle.lin_bench.specs.declared.fault.PlayFault.{PlayFault}
-use Rattle.lin_bench.specs.declared.fault.PlayFault.TheVariants.{SlotLimit, LogFull, OutOfMemory}
+use Rattle.lin_bench.specs.declared.fault.PlayFault.TheVariants.{SlotLimit, OutOfMemory}
 use Rattle.lin_bench.specs.declared.line.Line.{Line}
 use Rattle.lin_bench.specs.declared.playing.Played.{Played}
 
@@ -22,7 +22,6 @@ pub record Comes (c : Parts) (opening : ℕ) (capacity : ℕ) (ls : List (ℕ ×
 
 abbrev pub PlayFails : PlayFault → Result Run ℕ → Type 0
 PlayFails (SlotLimit n) said = said ≡ Err n
-PlayFails LogFull said = Unit {0}
 PlayFails OutOfMemory said = Unit {0}
 
 abbrev pub Plays : Parts → ℕ → ℕ → List (ℕ × Line) → Result Played PlayFault → Type 0

@@ -1,12 +1,10 @@
 //! Why a line or a script isn't read.
 
 ghost use Rattle.std.specs.Prelude.{◌≡◌};
-ghost use Rattle.lin_bench.specs.Making.{play_fault};
 ghost use Rattle.lin_bench.specs.declared.fault.PlayFault.TheVariants.{OutOfMemory as NoMemory};
 ghost use Rattle.lin_bench.specs.declared.fault.LineFault.TheVariants.{OutOfMemory};
 
 use crate::reason::Reason;
-use crate::stop::Stop;
 use std::alloc::AllocError;
 
 /// A line is bad, or there was no memory for what it says.
@@ -37,20 +35,7 @@ pub enum ReadFault {
 pub enum PlayFault {
     /// By this line, counted from 1, the lines of slots make more than 1,000,000 of them.
     SlotLimit { line: u64 },
-    /// The log has 4,294,967,295 entries, and takes no more.
-    LogFull,
     OutOfMemory,
-}
-
-impl From<Stop> for PlayFault {
-    ghost from_gives = { λ stop fault. fault ≡ play_fault stop };
-
-    fn from(stop: Stop) -> PlayFault {
-        match stop {
-            Stop::LogFull => PlayFault::LogFull,
-            Stop::OutOfMemory => PlayFault::OutOfMemory,
-        }
-    }
 }
 
 impl From<AllocError> for PlayFault {

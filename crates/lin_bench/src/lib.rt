@@ -23,7 +23,6 @@ mod reason;
 mod script;
 mod slots;
 mod steps;
-mod stop;
 mod taken;
 mod texts;
 mod values;

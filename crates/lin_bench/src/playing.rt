@@ -1,8 +1,8 @@
 //! Bench scripts, played.
 
-ghost use Rattle.std.specs.Prelude.{◌≡◌, ◌<◌, ◌≤◌, ◌++◌, length, OnOk};
+ghost use Rattle.std.specs.Prelude.{◌≡◌, ◌<◌, ◌≤◌, ◌+◌, ◌*◌, ◌^◌, ◌++◌, length, OnOk};
 ghost use Rattle.lin_core.specs.Core.{past_of};
-ghost use Rattle.lin_bench.specs.Making.{PlaysLine, PlaysSlots};
+ghost use Rattle.lin_bench.specs.Making.{PlaysLine, PlaysSlots, most_steps};
 ghost use Rattle.lin_bench.specs.Played.{left_waiting, still, unmet_of};
 ghost use Rattle.lin_bench.specs.Slots.{hosts_waiting};
 ghost use Rattle.lin_bench.specs.Plays.{Plays};
@@ -109,7 +109,7 @@ struct Player {
 }
 
 impl Player {
-    ghost use Rattle.lin_bench.specs.Making.{PlaysLine, PlaysSlots};
+    ghost use Rattle.lin_bench.specs.Making.{PlaysLine, PlaysSlots, most_steps};
 
     /// Makes the slots of a line.
     fn slots(
@@ -119,7 +119,8 @@ impl Player {
         how: &Disturbance,
         extent: Extent,
     ) -> Result<(), PlayFault>
-        requires { IsKnown self.old.core.log self.old.searches.items }
+        requires known { IsKnown self.old.core.log self.old.searches.items }
+        requires room { length self.old.core.log + most_steps * (self.old.left + 1) < 2 ^ 32 }
         ensures played { PlaysSlots self.old number how.now extent result self.new }
         ensures known { OnOk result (IsKnown self.new.core.log self.new.searches.items) }
     {
@@ -135,7 +136,8 @@ impl Player {
     /// Plays a line of slots.
     #[tactic(auto, unfolding(crate::specs::Played::said))]
     fn extent(&mut self, alloc: Global, number: u64, extent: Extent) -> Result<(), PlayFault>
-        requires { IsKnown self.old.core.log self.old.searches.items }
+        requires known { IsKnown self.old.core.log self.old.searches.items }
+        requires room { length self.old.core.log + most_steps * (self.old.left + 1) < 2 ^ 32 }
         ensures played { PlaysLine self.old number (Line.Slots extent) result self.new }
         ensures known { OnOk result (IsKnown self.new.core.log self.new.searches.items) }
     {
@@ -147,7 +149,8 @@ impl Player {
     /// Plays a line.
     #[tactic(auto, unfolding(crate::specs::Played::said))]
     fn line(&mut self, alloc: Global, number: u64, line: Line) -> Result<(), PlayFault>
-        requires { IsKnown self.old.core.log self.old.searches.items }
+        requires known { IsKnown self.old.core.log self.old.searches.items }
+        requires room { length self.old.core.log + most_steps * (self.old.left + 1) < 2 ^ 32 }
         ensures played { PlaysLine self.old number line result self.new }
         ensures known { OnOk result (IsKnown self.new.core.log self.new.searches.items) }
     {
@@ -177,12 +180,13 @@ impl Player {
 /// the steps that each line says after those before it, and judges what is expected at its line.
 ///
 /// The core begins with schedule table `table` of the cluster; each host may have `capacity`
-/// messages waiting, 1 to 1,024. Its log is the history of these steps.
+/// messages waiting, 1 to 1,024. Its log is the history of these steps, and never full: there are at
+/// most 16,777,217 lines, and a slot has 19 steps at most.
 ///
 /// # Errors
 /// The cluster is dropped after each of them.
 /// - `SlotLimit` with the first line by which lines of slots make more than 1,000,000;
-/// - `LogFull`, `OutOfMemory`.
+/// - `OutOfMemory`.
 pub fn play(
     alloc: Global,
     cluster: Cluster,
@@ -192,8 +196,10 @@ pub fn play(
 ) -> Result<Played, PlayFault>
     requires table { table < length cluster.tables }
     requires capacity { (1 ≤ capacity) × (capacity ≤ 1024) }
+    requires few { length lines.items ≤ 16777217 }
     ensures { Plays cluster table capacity lines.items result }
 {
+    cluster.sound();
     let mut player = Player {
         core: Core::new(alloc, cluster, table, capacity)?,
         left: SLOT_LIMIT,

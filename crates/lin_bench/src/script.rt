@@ -87,7 +87,8 @@ impl<'a> LinesLeft<'a> {
 /// `BadLine` with the number of the first line that is bad, and why; `OutOfMemory`.
 pub fn read(alloc: Global, cluster: &Cluster, text: &[u8]) -> Result<Vec<(u64, Line)>, ReadFault>
     requires { length text.now ≤ 16777216 }
-    ensures { Reads (λ v. v.items) result (read cluster.now text.now) }
+    ensures said { Reads (λ v. v.items) result (read cluster.now text.now) }
+    ensures few { IfOk result (λ v. length v.items ≤ length text.now + 1) }
 {
     let mut left = LinesLeft::new(text);
     let mut lines = Vec::new(alloc);

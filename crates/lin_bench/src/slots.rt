@@ -1,29 +1,31 @@
 //! Slots that lines make.
 
-ghost use Rattle.std.specs.Prelude.{◌≡◌, ◌∷◌, [], map, option_map, IfOk, OnOk};
+ghost use Rattle.std.specs.Prelude.{◌≡◌, ◌<◌, ◌≤◌, ◌+◌, ◌-◌, ◌*◌, ◌^◌, ◌∷◌, [], length, map};
+ghost use Rattle.std.specs.Prelude.{option_map, IfOk, IfSome, OnOk};
 ghost use Rattle.std.specs.List.{filter_map};
 ghost use Rattle.lin_core.specs.History.{is_in};
 ghost use Rattle.lin_core.specs.declared.step.Step.TheVariants.{Open};
 ghost use Rattle.lin_core.specs.Core.{past_of};
 ghost use Rattle.lin_core.specs.declared.port.PortId.TheVariants.{Bus};
-ghost use Rattle.lin_bench.specs.Making.{IsMade, MakesSlots};
+ghost use Rattle.lin_bench.specs.Making.{IsMade, MakesSlots, most_steps};
 ghost use Rattle.lin_bench.specs.Slots.{decision, due_in, due_now, goes_on, hosts_waiting};
 ghost use Rattle.lin_bench.specs.Slots.{due_node, hurt_steps, is_opened, leave_nodes, most};
 ghost use Rattle.lin_bench.specs.Slots.{slot_rest, slot_steps, some_wait};
 
 use crate::line::{Disturbance, Extent};
-use crate::stop::Stop;
 use lin_core::{Core, Event, Payload, PortId, Reply, Step};
+use lin_log::make_step;
 use std::alloc::{AllocError, Global};
 
 /// How many slots lines of slots may make in a run.
 pub(crate) const SLOT_LIMIT: u32 = 1_000_000;
 
 /// Makes a step by a port.
-pub(crate) fn make(core: &mut Core, by: PortId, step: Step) -> Result<(), Stop>
+pub(crate) fn make(core: &mut Core, by: PortId, step: Step) -> Result<(), AllocError>
+    requires { length core.old.log < 2 ^ 32 - 1 }
     ensures { OnOk result (IsMade core.old ((by, step) ∷ []) core.new) }
 {
-    core.step(by, step)?;
+    make_step(core, by, step)?;
     Ok(())
 }
 
@@ -77,7 +79,8 @@ fn decision(how: &Disturbance, node: u8) -> Step
 }
 
 /// The nodes that are due answer, or leave their responses out.
-fn decide(core: &mut Core, how: &Disturbance, due: &[u8]) -> Result<(), Stop>
+fn decide(core: &mut Core, how: &Disturbance, due: &[u8]) -> Result<(), AllocError>
+    requires { length core.old.log + length due.now < 2 ^ 32 }
     ensures { OnOk result (IsMade core.old (map (decision how.now) due.now) core.new) }
 {
     for node in due {
@@ -87,7 +90,8 @@ fn decide(core: &mut Core, how: &Disturbance, due: &[u8]) -> Result<(), Stop>
 }
 
 /// Disturbs the response of the open slot, where it is to be.
-fn hurt(alloc: Global, core: &mut Core, how: &Disturbance) -> Result<(), Stop>
+fn hurt(alloc: Global, core: &mut Core, how: &Disturbance) -> Result<(), AllocError>
+    requires { length core.old.log < 2 ^ 32 - 1 }
     ensures { OnOk result (IsMade core.old (hurt_steps how.now) core.new) }
 {
     match how {
@@ -100,7 +104,8 @@ fn hurt(alloc: Global, core: &mut Core, how: &Disturbance) -> Result<(), Stop>
 }
 
 /// Opens a slot, and answers which nodes are due in it; none where it couldn't be opened.
-fn open(alloc: Global, core: &mut Core) -> Result<Option<Vec<u8>>, Stop>
+fn open(alloc: Global, core: &mut Core) -> Result<Option<Vec<u8>>, AllocError>
+    requires { length core.old.log < 2 ^ 32 - 1 }
     ensures made { OnOk result (IsMade core.old ((Bus, Open) ∷ []) core.new) }
     ensures due { IfOk result (λ due. option_map (λ v. v.items) due
         ≡ due_now core.old.cluster core.old.opening core.old.capacity (past_of core.old)) }
@@ -110,7 +115,13 @@ fn open(alloc: Global, core: &mut Core) -> Result<Option<Vec<u8>>, Stop>
 }
 
 /// Makes the steps of a slot in which these nodes are due, after its open.
-fn rest_of_slot(alloc: Global, core: &mut Core, how: &Disturbance, due: &[u8]) -> Result<(), Stop>
+fn rest_of_slot(
+    alloc: Global,
+    core: &mut Core,
+    how: &Disturbance,
+    due: &[u8],
+) -> Result<(), AllocError>
+    requires { length core.old.log + length due.now + 2 < 2 ^ 32 }
     ensures { OnOk result (IsMade core.old (slot_rest how.now (Some due.now)) core.new) }
 {
     decide(core, how, due)?;
@@ -121,13 +132,16 @@ fn rest_of_slot(alloc: Global, core: &mut Core, how: &Disturbance, due: &[u8]) -
 
 /// Makes a slot, and answers whether it could be opened.
 #[tactic(auto, unfolding(crate::specs::Slots::slot_steps))]
-fn slot(alloc: Global, core: &mut Core, how: &Disturbance) -> Result<bool, Stop>
+fn slot(alloc: Global, core: &mut Core, how: &Disturbance) -> Result<bool, AllocError>
+    requires { length core.old.log + most_steps < 2 ^ 32 }
     ensures steps { OnOk result (IsMade core.old
         (slot_steps core.old.cluster core.old.opening core.old.capacity how.now (past_of core.old))
         core.new) }
     ensures opened { IfOk result (λ is. is ≡ is_opened
         (due_now core.old.cluster core.old.opening core.old.capacity (past_of core.old))) }
+    ensures few { OnOk result (length core.new.log ≤ length core.old.log + most_steps) }
 {
+    core.cluster().sound();
     let Some(due) = open(alloc, core)? else {
         return Ok(false);
     };
@@ -191,8 +205,9 @@ pub(crate) fn slots(
     how: &Disturbance,
     extent: Extent,
     left: u32,
-) -> Result<Option<u32>, Stop>
-    ensures { MakesSlots core.old how.now extent left result core.new }
+) -> Result<Option<u32>, AllocError>
+    requires { length core.old.log + most_steps * (left + 1) < 2 ^ 32 }
+    ensures { IfOk result (λ rest. MakesSlots core.old how.now extent left rest core.new) }
 {
     let began = core.time();
     let mut left = left;

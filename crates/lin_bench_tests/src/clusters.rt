@@ -44,7 +44,7 @@ pub fn played(alloc: Global, ldf: &[u8], text: &[u8]) -> Result<Played, Fail> {
     match play(alloc, cluster, 0, 16, lines) {
         Ok(played) => Ok(played),
         Err(PlayFault::SlotLimit { .. }) => Err(Fail::from("slot limit")),
-        Err(PlayFault::LogFull | PlayFault::OutOfMemory) => Err(Fail::from("OutOfMemory")),
+        Err(PlayFault::OutOfMemory) => Err(Fail::from("OutOfMemory")),
     }
 }
 

@@ -19,6 +19,6 @@ pub use entries::write_log;
 pub use fault::{ReplayFault, ScriptFault};
 pub use fields::number;
 pub use lin_text::WriteFailed;
-pub use replaying::{replay, run_script};
+pub use replaying::{make_step, replay, run_script};
 pub use script::{first_line, read_bytes, read_script, without_return};
 pub use steps::steps_of;

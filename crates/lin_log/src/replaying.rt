@@ -14,14 +14,17 @@ use lin_core::{Core, Hold, PortId, Step};
 use std::alloc::{AllocError, Global};
 use std::io::{Read, Write};
 
-/// Makes one step.
-fn make_step(core: &mut Core, by: PortId, step: Step) -> Result<(), AllocError>
+/// Makes one step on a core whose log has room.
+///
+/// # Errors
+/// Out of memory; nothing was changed then.
+pub fn make_step(core: &mut Core, by: PortId, step: Step) -> Result<(), AllocError>
     requires { length core.old.log < 2 ^ 32 - 1 }
     ensures made { OnOk result (core.new.log ≡ core.old.log ++ answered core.old by step ∷ []) }
     ensures alike { IsAlike core.old core.new }
 {
     match core.step(by, step) {
-        Ok(_) => Ok(()),
+        Ok(()) => Ok(()),
         Err(Hold::OutOfMemory(_)) => Err(AllocError),
         Err(Hold::LogFull(_)) => unreachable!(),
     }

@@ -1,5 +1,6 @@
-use Rattle.std.proofs.Common.{◌≡◌, ◌∙◌, [], ◌∷◌, ◌++◌, ap, sym, append_assoc, refl, rules, subst}
-use Rattle.lin_bench.proofs.Makes.{append-nothing}
+use Rattle.std.proofs.Common.{◌≡◌, ◌∙◌, [], ◌∷◌, ◌++◌, length, ap, arith, sym, append_assoc, refl, rules, subst}
+use Rattle.lin_bench.proofs.Few.{line-few}
+use Rattle.lin_bench.proofs.Makes.{append-nothing, length-last}
 use Rattle.lin_bench.proofs.Runs.{all-come, come-first, come-more, line-fails, nothing-left}
 use Rattle.lin_bench.specs.Searches.{IsKnown}
 use Rattle.lin_bench.proofs.Searches.{known-first}
@@ -12,6 +13,9 @@ loop-number-init c =
     record {
       come = come-first c.args.cluster c.args.table c.args.capacity _ e.0 e.1 e.2 e.3 refl (search rules) (search rules);
       whole = search rules;
+      few = omega (arith, ap length e.0);
+      lines = c.requires.few;
+      nodes = rw e.1 (omega arith);
       known = subst (λ log. IsKnown log c.new-2.result.items) (sym e.0) (subst (IsKnown []) (sym none) (known-first []));
     }
 
@@ -22,6 +26,12 @@ loop-number-preserved c =
     record {
       come = come-more c.args.cluster c.args.table c.args.capacity at.yielded at.player c.line.new.self c.in-Some.number c.in-Some.line at.invariant.come c.in-Ok.ensures.played;
       known = c.in-Ok.ensures.known;
+      few =
+          let line = line-few at.player c.line.new.self c.in-Some.number c.in-Some.line
+          at.invariant.nodes c.in-Ok.ensures.played in
+          omega (arith, line, at.invariant.few, length-last at.yielded (c.in-Some.number, c.in-Some.line));
+      lines = at.invariant.lines;
+      nodes = rw c.in-Ok.ensures.played.made.alike.0 at.invariant.nodes;
       whole = append_assoc at.yielded ((c.in-Some.number, c.in-Some.line) ∷ []) c.next.new.self.rest.items ∙ ap (λ r. at.yielded ++ r) (sym next) ∙ at.invariant.whole;
     }
 

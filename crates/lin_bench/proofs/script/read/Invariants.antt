@@ -9,6 +9,7 @@ abbrev pub invariant-loop-lines : goal.invariant-loop-lines
 invariant-loop-lines l = record {
   same : appended l.lines.items (said l.cluster l.left) ≡ read l.cluster l.text;
   few : l.left.number + left_of l.left.left ≤ length l.text + 2;
+  each : length l.lines.items + 1 ≤ l.left.number;
   most : length l.text ≤ 16777216;
 }
 

@@ -2,4 +2,6 @@ use Rattle.lin_bench.proofs.Makes.{made-one}
 use Rattle.lin_bench.proofs.slots.make.Goals as goal
 
 pub returns : goal.returns
-returns c = made-one c.args.core.now c.step.new.self c.args.by c.args.step c.in_ok-step.ensures.stepped.0 c.in_ok-step.ensures.stepped.1
+returns c =
+    let done = c.in_ok-make_step.ensures in
+    made-one c.args.core.now c.make_step.new.core c.args.by c.args.step done.made done.alike

@@ -6,6 +6,7 @@ use Rattle.lin_bench.proofs.slots.slots.Goals as goal
 pub loop-init : goal.loop-init
 loop-init c = record {
   begun = begin c.args.core.now c.args.how.now c.args.extent c.args.left (most c.args.extent - 0) (omega arith);
+  room = c.requires;
   began = c.time-began.ensures;
 }
 
@@ -36,6 +37,7 @@ loop-preserved c =
           next-opened c.args.core.now c.loop.core c.slot.new.core c.args.how.now c.args.extent c.args.left _ n c.loop.left (c.loop.left - 1) c.time-began.result
           c.loop.invariant.begun (omega (arith, c.most-end.ensures)) (omega arith) c.loop.invariant.began (sym c.goes_on.ensures ∙ c.if-not-goes_on.false)
           c.in_ok-slot.ensures.steps (sym c.in_ok-slot.ensures.opened ∙ c.if-not-branch.false);
+      room = omega (arith, c.in_ok-slot.ensures.few, c.loop.invariant.room);
       began = c.loop.invariant.began;
     }
 

@@ -1,0 +1,151 @@
+-- How many steps slots and lines come to at most.
+use Rattle.std.proofs.Common.{◌≡◌, ◌∙◌, ℕ, suc, zero, ◌+◌, ◌*◌, ◌≤◌, Bool, true, false, not, cond, List, [], ◌∷◌, ◌++◌, map, reverse, refl, sym, ap, arith, length, length-append, Option, Some, None}
+use Rattle.std.specs.Prelude.{filter}
+use Rattle.std.specs.Option.{option_map_or}
+use Rattle.std.specs.List.{filter_map}
+use Rattle.std.proofs.lemmas.List.{length-map, length-reverse}
+use Rattle.std.proofs.lemmas.List.Filters.{length-filter_both}
+use Rattle.lin_frame.specs.Words.{numbers}
+use Rattle.lin_cluster_parts.specs.Cluster.{nodes, line_of}
+use Rattle.lin_cluster_parts.specs.declared.parts.Parts.{Parts}
+use Rattle.lin_core.specs.Core.{CoreData, past_of}
+use Rattle.lin_core.specs.Replies.{opening_events, refusal, reply}
+use Rattle.lin_core.specs.Runs.{entry_of}
+use Rattle.lin_core.specs.Slots.{due_nodes, is_due, next_due}
+use Rattle.lin_core.specs.declared.event.Event.TheVariants.{Due}
+use Rattle.lin_core.specs.declared.log.LogEntry.{LogEntry}
+use Rattle.lin_core.specs.declared.port.PortId.{PortId}
+use Rattle.lin_core.specs.declared.port.PortId.TheVariants.{Bus}
+use Rattle.lin_core.specs.declared.reply.Refusal.{Refusal}
+use Rattle.lin_core.specs.declared.reply.Reply.TheVariants.{Done, Refused}
+use Rattle.lin_core.specs.declared.step.Step.{Step}
+use Rattle.lin_core.specs.declared.step.Step.TheVariants.{Open, Finish}
+use Rattle.lin_bench.specs.Making.{IsMade, IsPlayed, most_steps, said_on}
+use Rattle.lin_bench.specs.Played.{said, slots_made}
+use Rattle.lin_bench.specs.Slots.{after, decision, due_in, due_node, due_now, extent_steps, goes_on, hurt_steps, is_opened, most, slot_rest, slot_steps, slots_in, slots_steps}
+use Rattle.lin_bench.specs.declared.line.Disturbance.{Disturbance}
+use Rattle.lin_bench.specs.declared.line.Disturbance.TheVariants as slot
+use Rattle.lin_bench.specs.declared.line.Line.{Line}
+use Rattle.lin_bench.specs.declared.line.Line.TheVariants as line
+use Rattle.lin_bench.specs.declared.playing.Player.{Player}
+use Rattle.lin_bench.proofs.Makes.{length-last}
+use Rattle.lin_bench.proofs.SlotSteps.{one-slot, slots_in-append}
+
+-- ---- a log has an entry more for each step
+after-length : (c : Parts) (o cap : ℕ) (past : List LogEntry) (ss : List (PortId × Step))
+    → length (after c o cap past ss) ≡ length past + length ss
+after-length c o cap past [] = omega arith
+after-length c o cap past (s ∷ ss) =
+    let e = after-length c o cap (entry_of c o cap past s ∷ past) ss in omega (arith, e)
+
+pub made-length : (a b : CoreData) (ss : List (PortId × Step)) → IsMade a ss b
+    → length b.log ≡ length a.log + length ss
+made-length a b ss p =
+    let made = ap length p.past ∙ after-length a.cluster a.opening a.capacity (past_of a) ss in
+    omega (arith, made, length-reverse a.log, length-reverse b.log)
+
+-- ---- at most each node is due
+length-numbers : (n : ℕ) → length (numbers n) ≡ n
+length-numbers zero = refl
+length-numbers (suc n) = length-last (numbers n) n ∙ ap suc (length-numbers n)
+
+filter-few : {X : Type 0} (p : X → Bool) (xs : List X) → length (filter p xs) ≤ length xs
+filter-few p xs = let e = length-filter_both p (λ x. not (p x)) (λ x. refl) xs in omega (arith, e)
+
+all-due : (xs : List ℕ) → filter_map due_node (map Due xs) ≡ xs
+all-due [] = refl
+all-due (x ∷ xs) = ap (λ l. x ∷ l) (all-due xs)
+
+due-in-few : (c : Parts) (o : ℕ) (past : List LogEntry) (why : Option Refusal) (due : List ℕ)
+    → due_in (option_map_or Refused why (Done (opening_events c o past))) ≡ Some due
+    → length due ≤ nodes c
+due-in-few c o past None due h =
+    let at = next_due c o past in
+    let entry = (line_of c at.0 at.1).entry in
+    let same = ap (λ (d : Option (List ℕ)). option_map_or length d 0) h in
+    let few = filter-few (is_due c past entry) (numbers (nodes c)) in
+    omega (arith, same, ap length (all-due (due_nodes c past entry)), few, length-numbers (nodes c))
+due-in-few c o past (Some why) due h = cc
+
+pub due-few : (c : Parts) (o cap : ℕ) (past : List LogEntry) (due : List ℕ)
+    → due_now c o cap past ≡ Some due → length due ≤ nodes c
+unfolding reply
+due-few c o cap past due h = due-in-few c o past (refusal c cap past Bus Open) due h
+
+-- ---- the steps of a slot
+pub hurt-few : (how : Disturbance) → length (hurt_steps how) ≤ 1
+hurt-few slot.Undisturbed = omega arith
+hurt-few (slot.Hurt bytes) = omega arith
+hurt-few (slot.Leave nodes) = omega arith
+
+pub rest-few : (how : Disturbance) (due : List ℕ) → length (slot_rest how (Some due)) ≤ length due + 2
+rest-few how due =
+    let decided = map (decision how) due in
+    let last : List (PortId × Step) = (Bus, Finish) ∷ [] in
+    let e = length-append decided (hurt_steps how ++ last) in
+    let f = length-append (hurt_steps how) last in
+    omega (arith, e, f, length-map due (decision how), hurt-few how)
+
+opened-few : (c : Parts) (how : Disturbance) (due : Option (List ℕ)) → nodes c ≤ 16
+    → ((some : List ℕ) → due ≡ Some some → length some ≤ nodes c)
+    → length ((Bus, Open) ∷ slot_rest how due) ≤ most_steps
+opened-few c how None few each = omega arith
+opened-few c how (Some due) few each = omega (arith, rest-few how due, each due refl, few)
+
+pub slot-few : (c : Parts) (o cap : ℕ) (how : Disturbance) (past : List LogEntry) → nodes c ≤ 16
+    → length (slot_steps c o cap how past) ≤ most_steps
+unfolding slot_steps
+slot-few c o cap how past few =
+    opened-few c how (due_now c o cap past) few (λ due h. due-few c o cap past due h)
+
+refused-one : (how : Disturbance) (due : Option (List ℕ)) → is_opened due ≡ false
+    → length ((Bus, Open) ∷ slot_rest how due) ≤ 1
+refused-one how None h = omega arith
+refused-one how (Some due) h = cc
+
+slot-refused : (c : Parts) (o cap : ℕ) (how : Disturbance) (past : List LogEntry)
+    → is_opened (due_now c o cap past) ≡ false → length (slot_steps c o cap how past) ≤ 1
+unfolding slot_steps
+slot-refused c o cap how past h = refused-one how (due_now c o cap past) h
+
+-- ---- the steps of a line
+turn-few : (goes is_open : Bool) (one rest : List (PortId × Step)) → length one ≤ most_steps
+    → (is_open ≡ true → slots_in one ≡ 1) → (is_open ≡ false → length one ≤ 1)
+    → length rest ≤ most_steps * slots_in rest + 1
+    → length (cond goes (one ++ cond is_open rest []) [])
+    ≤ most_steps * slots_in (cond goes (one ++ cond is_open rest []) []) + 1
+turn-few false is_open one rest few ends shut more = omega arith
+turn-few true true one rest few ends shut more =
+    omega (arith, length-append one rest, slots_in-append one rest, few, ends refl, more)
+turn-few true false one rest few ends shut more =
+    let none : List (PortId × Step) = [] in
+    omega (arith, length-append one none, slots_in-append one none, shut refl)
+
+slots-few : (c : Parts) (o cap : ℕ) (how : Disturbance) (goes : List LogEntry → Bool) (n : ℕ)
+    (past : List LogEntry) → nodes c ≤ 16
+    → length (slots_steps c o cap how goes n past)
+    ≤ most_steps * slots_in (slots_steps c o cap how goes n past) + 1
+unfolding slots_steps
+slots-few c o cap how goes zero past few = omega arith
+slots-few c o cap how goes (suc n) past few =
+    let one = slot_steps c o cap how past in
+    turn-few (goes past) (is_opened (due_now c o cap past)) one
+    (slots_steps c o cap how goes n (after c o cap past one)) (slot-few c o cap how past few)
+    (λ h. one-slot c o cap how past h) (λ h. slot-refused c o cap how past h)
+    (slots-few c o cap how goes n (after c o cap past one) few)
+
+said-few : (c : Parts) (o cap : ℕ) (past : List LogEntry) (l : Line) → nodes c ≤ 16
+    → length (said c o cap past l) ≤ most_steps * slots_made l (said c o cap past l) + 1
+unfolding said extent_steps
+said-few c o cap past (line.Step by step) few = omega arith
+said-few c o cap past (line.Slot how) few = slots-few c o cap how _ _ past few
+said-few c o cap past (line.Slots extent) few = slots-few c o cap slot.Undisturbed _ _ past few
+said-few c o cap past (line.Expect what) few = omega arith
+
+-- what a log and the slots that are left may still come to grows by one at a line
+pub line-few : (p q : Player) (n : ℕ) (l : Line) → nodes p.core.cluster ≤ 16 → IsPlayed p n l q
+    → length q.core.log + most_steps * q.left ≤ length p.core.log + most_steps * p.left + 1
+line-few p q n l few is =
+    let made = made-length p.core q.core (said_on p.core l) is.made in
+    let said = said-few p.core.cluster p.core.opening p.core.capacity (past_of p.core) l few in
+    omega (arith, made, said, is.few, is.left)
