@@ -1,18 +1,21 @@
 -- What was written of a log in a format.
-use Rattle.std.proofs.Common.{◌≡◌, inr, ℕ, List, Option, Some, None, IfSome, Result, Ok, Err, subst}
+use Rattle.std.proofs.Common.{◌≡◌, refl, inl, inr, ℕ, List, Option, Some, None, IfSome, Result, Ok, Err, subst}
 use Rattle.std.specs.Io.KnownBytes.{Appends}
 use Rattle.lin_text.specs.Written.{WritesText}
 use Rattle.lin_cluster_parts.specs.declared.parts.Parts.{Parts}
 use Rattle.lin_core.specs.declared.log.LogEntry.{LogEntry}
 use Rattle.lin_core.specs.declared.port.PortId.{PortId}
 use Rattle.lin_core.specs.declared.step.Step.{Step}
-use Rattle.lin_log.specs.Replay.{IsScriptOf, log_of}
+use Rattle.lin_log.specs.Replay.{IsReplay, IsScriptOf, log_of}
+use Rattle.lin_log.specs.declared.fault.ReplayFault.{ReplayFault}
+use Rattle.lin_log.specs.declared.fault.ReplayFault.TheVariants as replay
+use Rattle.lin_log.specs.declared.fault.ScriptFault.TheVariants as script
 use Rattle.lin_names.specs.Names.{NamesData}
 use Rattle.lin_export.specs.Vcd.{vcd}
 use Rattle.lin_export.specs.declared.fault.ExportFault.{ExportFault}
 use Rattle.lin_export.specs.declared.fault.ExportFault.TheVariants as export
 use Rattle.lin_tool.specs.Formats.{Begins, Shows, export_fault, log_as}
-use Rattle.lin_tool.specs.Replaying.{IsLogOf, Replays, Stops}
+use Rattle.lin_tool.specs.Replaying.{IsLogOf, Replays, Stops, replay_fault}
 use Rattle.lin_tool.specs.declared.describing.Described.{Described}
 use Rattle.lin_tool.specs.declared.formats.Format.{Format}
 use Rattle.lin_tool.specs.declared.formats.Format.TheVariants.{Log, Vcd}
@@ -54,3 +57,17 @@ pub stopped : (format : Format) (d : Described) (opening capacity : ℕ)
 stopped format d opening capacity told old new export.OutOfMemory memory stops =
     inr ((λ is. let bad : export.OutOfMemory ≡ export.WriteFailed = memory is in cc), stops)
 stopped format d opening capacity told old new export.WriteFailed memory stops = stops
+
+-- a replay that stopped early, in the log's own text
+pub replay-stopped : {X : Type 0} (d : Described) (opening capacity : ℕ) (view : X → List LogEntry)
+    (fault : ReplayFault) (told old new : Option (List ℕ))
+    → IsReplay d.cluster opening capacity view (Err fault) told old new
+    → Replays Log d opening capacity (Err (replay_fault fault)) told old new
+replay-stopped d opening capacity view (replay.Script (script.BadLine n)) told old new h = h
+replay-stopped d opening capacity view (replay.Script script.TooLong) told old new h = h
+replay-stopped d opening capacity view (replay.Script script.ReadFailed) told old new h = h.1
+replay-stopped d opening capacity view (replay.Script script.OutOfMemory) told old new h = inl h.1
+replay-stopped d opening capacity view replay.OutOfMemory told old new h = inl h
+replay-stopped d opening capacity view replay.WriteFailed told old new h =
+    let (said, read, part, rest, whole, written) = h in
+    (log_of d.cluster opening capacity said, (said, read, refl), (part, rest, whole, written))

@@ -19,7 +19,7 @@ use Rattle.lin_tool.specs.Replaying.{IsRefused}
 use Rattle.lin_tool.specs.declared.describing.Described.{Described}
 use Rattle.lin_tool.specs.declared.fault.Fault.{Fault}
 use Rattle.lin_tool.specs.declared.fault.Fault.TheVariants.{BadBenchLine, SlotLimit, Unmet}
-use Rattle.lin_tool.specs.declared.fault.Fault.TheVariants.{ScriptTooLong, OutOfMemory, LogFull}
+use Rattle.lin_tool.specs.declared.fault.Fault.TheVariants.{ScriptTooLong, OutOfMemory}
 use Rattle.lin_tool.specs.declared.fault.Fault.TheVariants.{ReadFailed, WriteFailed}
 use Rattle.lin_tool.specs.declared.formats.Format.{Format}
 use Rattle.lin_tool.specs.declared.formats.Format.TheVariants.{Log}
@@ -27,7 +27,6 @@ use Rattle.lin_tool.specs.declared.formats.Format.TheVariants.{Log}
 -- the program's fault for one of playing
 abbrev pub play_fault : PlayFault → Fault
 play_fault (play.SlotLimit n) = SlotLimit n
-play_fault play.LogFull = LogFull
 play_fault play.OutOfMemory = OutOfMemory
 
 -- A bench script of some bytes says this; where the reader tells bytes, they are those.
@@ -71,7 +70,8 @@ WritesRunOf format d opening capacity result told old new silent heard =
     (flat_map (unmet_text d.cluster) run.unmet) result old new silent heard
 
 -- What a play in this format answers, what the writer took (from old to new), and what the writer
--- of errors took (from silent to heard). All expectations are met exactly where the answer is Ok.
+-- of errors took (from silent to heard). Of a log that was written, all expectations are met exactly
+-- where the answer is Ok.
 abbrev pub PlaysScript : Format → Described → ℕ → ℕ → Result Unit Fault → Option (List ℕ)
     → Option (List ℕ) → Option (List ℕ) → Option (List ℕ) → Option (List ℕ) → Type 0
 PlaysScript format d opening capacity (Ok done) told old new silent heard =
@@ -86,8 +86,6 @@ PlaysScript format d opening capacity (Err (SlotLimit n)) told old new silent he
 PlaysScript format d opening capacity (Err ScriptTooLong) told old new silent heard =
     IsRefused script.TooLong told old new × Keeps silent heard
 PlaysScript format d opening capacity (Err ReadFailed) told old new silent heard =
-    Keeps old new × Keeps silent heard
-PlaysScript format d opening capacity (Err LogFull) told old new silent heard =
     Keeps old new × Keeps silent heard
 PlaysScript format d opening capacity (Err OutOfMemory) told old new silent heard =
     (Keeps old new × Keeps silent heard)

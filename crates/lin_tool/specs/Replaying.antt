@@ -8,6 +8,8 @@ use Rattle.lin_core.specs.declared.step.Step.{Step}
 use Rattle.lin_log.specs.Replay.{IsScriptOf, ScriptFaults, log_of}
 use Rattle.lin_log.specs.declared.fault.ScriptFault.{ScriptFault}
 use Rattle.lin_log.specs.declared.fault.ScriptFault.TheVariants as script
+use Rattle.lin_log.specs.declared.fault.ReplayFault.{ReplayFault}
+use Rattle.lin_log.specs.declared.fault.ReplayFault.TheVariants as replay
 use Rattle.lin_tool.specs.Formats.{Begins, Shows, log_as}
 use Rattle.lin_tool.specs.declared.describing.Described.{Described}
 use Rattle.lin_tool.specs.declared.fault.Fault.{Fault}
@@ -22,6 +24,12 @@ script_fault (script.BadLine n) = BadLine n
 script_fault script.TooLong = ScriptTooLong
 script_fault script.ReadFailed = ReadFailed
 script_fault script.OutOfMemory = OutOfMemory
+
+-- the program's fault for one of a replay
+abbrev pub replay_fault : ReplayFault → Fault
+replay_fault (replay.Script fault) = script_fault fault
+replay_fault replay.OutOfMemory = OutOfMemory
+replay_fault replay.WriteFailed = WriteFailed
 
 -- the log of the steps of a script: of its bytes where the reader tells them, and of some steps in
 -- any case

@@ -10,13 +10,15 @@ use Rattle.lin_ports.specs.declared.steps.HostStep.{HostStep}
 use Rattle.lin_threads.specs.Splitting.{IsSplit, IsFirstOther}
 use Rattle.lin_threads.specs.declared.splitting.SplitFault.{SplitFault}
 use Rattle.lin_threads.specs.declared.splitting.SplitFault.TheVariants as split
+use Rattle.lin_threads.specs.declared.runs.RunFault.{RunFault}
+use Rattle.lin_threads.specs.declared.runs.RunFault.TheVariants as run
 use Rattle.lin_threads.specs.declared.runs.Ended.TheVariants as ended
 use Rattle.lin_threads.specs.declared.runs.Ended.{Ended}
 use Rattle.lin_tool.specs.Formats.{Begins, Shows}
 use Rattle.lin_tool.specs.declared.fault.Fault.{Fault}
 use Rattle.lin_tool.specs.declared.fault.Fault.TheVariants.{BadLine, ScriptTooLong, NotHostStep}
 use Rattle.lin_tool.specs.declared.fault.Fault.TheVariants.{OutOfMemory, ReadFailed, WriteFailed}
-use Rattle.lin_tool.specs.declared.fault.Fault.TheVariants.{TaskLimit}
+use Rattle.lin_tool.specs.declared.fault.Fault.TheVariants.{TaskLimit, NoThread, LogFull}
 use Rattle.lin_tool.specs.declared.formats.Format.{Format}
 use Rattle.lin_tool.specs.declared.formats.Format.TheVariants.{Log}
 
@@ -24,6 +26,12 @@ use Rattle.lin_tool.specs.declared.formats.Format.TheVariants.{Log}
 abbrev pub split_fault : SplitFault → Fault
 split_fault (split.NotHost index) = NotHostStep index
 split_fault split.OutOfMemory = OutOfMemory
+
+-- the program's fault for one of a run
+abbrev pub run_fault : RunFault → Fault
+run_fault run.LogFull = LogFull
+run_fault run.OutOfMemory = OutOfMemory
+run_fault run.NoThread = NoThread
 
 -- a script's steps were read, each host's into a list of its own; or it has this fault, and then
 -- the reader's bytes, or the step that it tells is the first that is no host's

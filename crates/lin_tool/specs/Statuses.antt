@@ -1,5 +1,5 @@
 -- The exit status that the program ends with.
-use Rattle.std.specs.Prelude.{ℕ}
+use Rattle.std.specs.Prelude.{ℕ, Result, Ok, Err}
 use Rattle.lin_tool.specs.declared.fault.Fault.{Fault}
 use Rattle.lin_tool.specs.declared.fault.Fault.TheVariants.{BadLine, Ldf, Findings, LdfTooLong}
 use Rattle.lin_tool.specs.declared.fault.Fault.TheVariants.{ScriptTooLong, NotHostStep, NoSuchTable}
@@ -29,3 +29,8 @@ status_of NoThread = 5
 status_of LogFull = 5
 status_of (LogDiffers line) = 6
 status_of (Unmet told) = 6
+
+-- the exit status of a run that ended so: 0 where it did all that was asked for
+abbrev pub end_status : Result Unit Fault → ℕ
+end_status (Ok done) = 0
+end_status (Err fault) = status_of fault

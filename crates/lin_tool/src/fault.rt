@@ -3,16 +3,16 @@
 ghost use Rattle.std.specs.Prelude.{◌≡◌};
 ghost use Rattle.lin_tool.specs.Formats.{export_fault};
 ghost use Rattle.lin_tool.specs.Playing.{play_fault};
-ghost use Rattle.lin_tool.specs.Replaying.{script_fault};
-ghost use Rattle.lin_tool.specs.Running.{split_fault};
-ghost use Rattle.lin_tool.specs.Statuses.{status_of};
-ghost use Rattle.lin_tool.specs.declared.fault.Fault.TheVariants.{OutOfMemory};
+ghost use Rattle.lin_tool.specs.Replaying.{replay_fault, script_fault};
+ghost use Rattle.lin_tool.specs.Running.{run_fault, split_fault};
+ghost use Rattle.lin_tool.specs.Statuses.{end_status, status_of};
+ghost use Rattle.lin_tool.specs.declared.fault.Fault.TheVariants.{OutOfMemory, WriteFailed as NotWritten};
 
 use crate::findings::Findings;
 use lin_bench::PlayFault;
 use lin_export::ExportFault;
 use lin_ldf::LdfFault;
-use lin_log::ScriptFault;
+use lin_log::{ReplayFault, ScriptFault};
 use lin_text::WriteFailed;
 use lin_threads::{RunFault, SplitFault};
 use std::alloc::{AllocError, AllocFailed};
@@ -98,6 +98,16 @@ impl Fault {
     }
 }
 
+/// The exit status of the program: 0 where it did all that was asked for, or that of its fault.
+pub fn exit_status(done: &Result<(), Fault>) -> u8
+    ensures { result ≡ end_status done.now }
+{
+    match done {
+        Ok(()) => 0,
+        Err(fault) => fault.status(),
+    }
+}
+
 impl From<ScriptFault> for Fault {
     ghost from_gives = { λ x y. y ≡ script_fault x };
 
@@ -107,6 +117,18 @@ impl From<ScriptFault> for Fault {
             ScriptFault::TooLong => Fault::ScriptTooLong,
             ScriptFault::ReadFailed => Fault::ReadFailed,
             ScriptFault::OutOfMemory => Fault::OutOfMemory,
+        }
+    }
+}
+
+impl From<ReplayFault> for Fault {
+    ghost from_gives = { λ x y. y ≡ replay_fault x };
+
+    fn from(fault: ReplayFault) -> Fault {
+        match fault {
+            ReplayFault::Script(fault) => Fault::from(fault),
+            ReplayFault::OutOfMemory => Fault::OutOfMemory,
+            ReplayFault::WriteFailed => Fault::WriteFailed,
         }
     }
 }
@@ -123,6 +145,8 @@ impl From<SplitFault> for Fault {
 }
 
 impl From<RunFault> for Fault {
+    ghost from_gives = { λ x y. y ≡ run_fault x };
+
     fn from(fault: RunFault) -> Fault {
         match fault {
             RunFault::LogFull => Fault::LogFull,
@@ -138,7 +162,6 @@ impl From<PlayFault> for Fault {
     fn from(fault: PlayFault) -> Fault {
         match fault {
             PlayFault::SlotLimit { line } => Fault::SlotLimit { line },
-            PlayFault::LogFull => Fault::LogFull,
             PlayFault::OutOfMemory => Fault::OutOfMemory,
         }
     }
@@ -156,6 +179,8 @@ impl From<ExportFault> for Fault {
 }
 
 impl From<WriteFailed> for Fault {
+    ghost from_gives = { λ x y. y ≡ NotWritten };
+
     fn from(_error: WriteFailed) -> Fault {
         Fault::WriteFailed
     }
@@ -170,6 +195,8 @@ impl From<AllocError> for Fault {
 }
 
 impl<T: Drop> From<AllocFailed<T>> for Fault {
+    ghost from_gives = { λ x y. y ≡ OutOfMemory };
+
     fn from(_error: AllocFailed<T>) -> Fault {
         Fault::OutOfMemory
     }

@@ -34,12 +34,12 @@ pub use describing::{
     BUILT_IN, Described, cluster_of_file, cluster_of_input, cluster_of_reader, cluster_of_text,
     read_text,
 };
-pub use fault::Fault;
+pub use fault::{Fault, exit_status};
 pub use findings::Findings;
 pub use formats::{Format, write_shown};
 pub use listing::{Lists, write_list, write_lists};
 pub use notes::{Notes, Wanted};
-pub use opening::opening_table;
+pub use opening::{opening_table, within_limits};
 pub use playing::{play, play_script};
 pub use replaying::{replay, replay_script};
 pub use running::run;

@@ -43,6 +43,11 @@ impl<'a> Notes<'a> {
         }
     }
 
+    /// Whether lines that explain are wanted.
+    pub(crate) fn is_explained(&self) -> bool {
+        self.wanted.explained
+    }
+
     /// Writes the lines of a fault, if there is one, and those that explain.
     ///
     /// # Errors
@@ -86,14 +91,14 @@ impl<'a> Notes<'a> {
                 Some(path) => writeln!(self.text, "  the file is {path}"),
                 None => writeln!(self.text, "  it is standard input"),
             };
-            self.is_cut = put.is_err();
+            self.is_cut |= put.is_err();
         }
     }
 
     /// Adds the names of the schedule tables.
     pub(crate) fn add_tables(&mut self, cluster: &Cluster) {
         if self.wanted.explained {
-            self.is_cut = put_tables(&mut self.text, cluster).is_err();
+            self.is_cut |= put_tables(&mut self.text, cluster).is_err();
         }
     }
 
@@ -116,7 +121,7 @@ impl<'a> Notes<'a> {
             put_places(alloc, &mut self.places, file, text, fault)?;
         }
         if self.wanted.explained {
-            self.is_cut = put_text(&mut self.text, text, fault).is_err();
+            self.is_cut |= put_text(&mut self.text, text, fault).is_err();
         }
         Ok(())
     }
@@ -124,7 +129,7 @@ impl<'a> Notes<'a> {
     /// Adds the line of a script that is in no form.
     pub(crate) fn add_line(&mut self, script: &[u8], line: u64) {
         if self.wanted.explained {
-            self.is_cut = put_bad_line(&mut self.text, script, line).is_err();
+            self.is_cut |= put_bad_line(&mut self.text, script, line).is_err();
         }
     }
 
@@ -139,14 +144,14 @@ impl<'a> Notes<'a> {
     ) {
         if self.wanted.explained {
             let put = put_bad_bench_line(alloc, &mut self.text, script, line, cluster, reason);
-            self.is_cut = put.is_err();
+            self.is_cut |= put.is_err();
         }
     }
 
     /// Adds how many steps of a log were refused, and why.
     pub(crate) fn add_refusals(&mut self, log: &Log) {
         if self.wanted.explained {
-            self.is_cut = put_refusals(&mut self.text, log).is_err();
+            self.is_cut |= put_refusals(&mut self.text, log).is_err();
         }
     }
 }

@@ -1,6 +1,6 @@
-//! The schedule table that a replay begins with.
+//! What a run begins with: the schedule table, and how many messages of a host may wait.
 
-ghost use Rattle.std.specs.Prelude.{◌<◌, length, IfOk};
+ghost use Rattle.std.specs.Prelude.{◌≡◌, ◌≤◌, ◌<◌, length, min, max, IfOk};
 ghost use Rattle.lin_tool.specs.Opening.{Opens, opening_of};
 
 use crate::fault::Fault;
@@ -39,4 +39,13 @@ pub(crate) fn noted_table(
         notes.add_tables(cluster);
     }
     table
+}
+
+/// How many messages of a host may wait, where so many are asked for: the nearest number of 1 to
+/// 1,024.
+pub fn within_limits(capacity: u16) -> usize
+    ensures value { result ≡ max 1 (min 1024 capacity) }
+    ensures range { (1 ≤ result) × (result ≤ 1024) }
+{
+    usize::from(capacity.clamp(1, 1024))
 }

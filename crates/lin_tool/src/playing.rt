@@ -1,7 +1,7 @@
 //! `linsim play`: makes the slots and steps that a bench script says, writes their log, and judges
 //! what the script expects.
 
-ghost use Rattle.std.specs.Prelude.{◌≡◌, ◌≢◌, ◌≤◌, ◌<◌, [], length, flat_map};
+ghost use Rattle.std.specs.Prelude.{◌≡◌, ◌≢◌, ◌≤◌, ◌<◌, [], length, flat_map, IfOk};
 ghost use Rattle.std.specs.Io.KnownBytes.{Keeps};
 ghost use Rattle.lin_bench.specs.Lines.{read};
 ghost use Rattle.lin_bench.specs.Texts.{unmet_text};
@@ -38,8 +38,9 @@ fn bench_lines<E: Write>(
     notes: &mut Notes<'_>,
 ) -> Result<Vec<(u64, Line)>, Fault>
     requires { length bytes.now ≤ 16777216 }
-    ensures { ReadsLines (λ v. v.items) result (read cluster.now bytes.now)
+    ensures lines { ReadsLines (λ v. v.items) result (read cluster.now bytes.now)
         (E.contents errors.old) (E.contents errors.new) }
+    ensures few { IfOk result (λ v. length v.items ≤ 16777217) }
 {
     match read(alloc, cluster, bytes) {
         Ok(lines) => Ok(lines),
@@ -103,10 +104,10 @@ fn put_played<W: Write, E: Write>(
 ///
 /// # Errors
 /// `BadBenchLine`, `SlotLimit` and `ScriptTooLong` for a fault of the script; `ReadFailed` where
-/// the reader answers an error; `LogFull`. No log was written then. `OutOfMemory`, where none was
-/// written, or in a format other than the log's own text a beginning. `WriteFailed`, where what was
-/// written is the beginning of the whole. `Unmet`, after all of it was written, where an
-/// expectation isn't met.
+/// the reader answers an error. No log was written then. `OutOfMemory`, where none was written, or
+/// in a format other than the log's own text a beginning. `WriteFailed`, where what was written is
+/// the beginning of the whole. `Unmet`, after all of it was written, where an expectation isn't
+/// met.
 pub fn play_script<R: Read, W: Write, E: Write>(
     alloc: Global,
     described: Described,

@@ -3,6 +3,7 @@
 
 ghost use Rattle.std.specs.Prelude.{◌≤◌, ◌<◌, length};
 ghost use Rattle.lin_tool.specs.Replaying.{Replays};
+ghost use Rattle.lin_tool.specs.declared.formats.Format.TheVariants.{Log};
 
 use crate::describing::{Described, cluster_of_file};
 use crate::fault::Fault;
@@ -14,6 +15,27 @@ use std::alloc::Global;
 use std::fs::Files;
 use std::io::{self, Read, Write};
 use std::mem;
+
+/// Reads a script, makes its steps over a cluster, and writes the text of their log, as of
+/// `lin_log::replay`. (The core's memory is left to the end of the program.)
+fn replay_log<R: Read, W: Write>(
+    alloc: Global,
+    described: Described,
+    table: u16,
+    capacity: usize,
+    reader: &mut R,
+    writer: &mut W,
+) -> Result<(), Fault>
+    requires table { table < length described.cluster.tables }
+    requires capacity { (1 ≤ capacity) × (capacity ≤ 1024) }
+    ensures { Replays Log described table capacity result
+        (R.remaining reader.old) (W.contents writer.old) (W.contents writer.new) }
+{
+    let Described { cluster, names: _ } = described;
+    let core = lin_log::replay(alloc, cluster, table, capacity, reader, writer)?;
+    mem::forget(core);
+    Ok(())
+}
 
 /// Reads a script, makes its steps over a cluster, and writes their log in a format. The notes tell
 /// which steps were refused.
@@ -42,6 +64,9 @@ pub fn replay_script<R: Read, W: Write>(
     ensures { Replays format described table capacity result
         (R.remaining reader.old) (W.contents writer.old) (W.contents writer.new) }
 {
+    if format == Format::Log && !notes.is_explained() {
+        return replay_log(alloc, described, table, capacity, reader, writer);
+    }
     let Described { cluster, names } = described;
     let bytes = noted_bytes(alloc, reader, notes)?;
     let core = noted_run(alloc, cluster, table, capacity, bytes.as_slice(), notes)?;

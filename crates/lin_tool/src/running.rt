@@ -3,6 +3,9 @@
 
 ghost use Rattle.std.specs.Prelude.{◌≡◌, ◌≤◌, ◌<◌, [], length, vec_len, IfOk, IfSome};
 ghost use Rattle.lin_cluster_parts.specs.Cluster.{nodes};
+ghost use Rattle.lin_core.specs.declared.port.PortId.TheVariants.{Bus};
+ghost use Rattle.lin_ports.specs.Steps.{logged};
+ghost use Rattle.lin_threads.specs.Runs.{bus_steps};
 ghost use Rattle.lin_tool.specs.Formats.{log_as};
 ghost use Rattle.lin_tool.specs.Running.{ReadsHosts, WritesRun};
 
@@ -85,6 +88,11 @@ fn run_tasks<R: AllocGlobal + Threads + Wait>(
     requires capacity { (1 ≤ capacity) × (capacity ≤ 1024) }
     requires tasks { vec_len tasks ≡ nodes cluster }
     requires leave { vec_len plan.leave ≡ nodes cluster }
+    ensures core { IfOk result (λ r. (r.core.cluster ≡ cluster) × (r.core.opening ≡ table)
+        × (r.core.capacity ≡ capacity)) }
+    ensures slots { IfOk result
+        (λ r. logged r.core.log Bus ≡ bus_steps plan.hurt.items plan.slots) }
+    ensures ended { IfOk result (λ r. vec_len r.ended ≡ nodes cluster) }
 {
     let alloc = rt.alloc();
     let core = Core::new(alloc, cluster, table, capacity)?;
@@ -104,6 +112,10 @@ fn run_steps<R: AllocGlobal + Threads + Wait>(
     requires table { table < length cluster.tables }
     requires capacity { (1 ≤ capacity) × (capacity ≤ 1024) }
     requires lists { vec_len lists ≡ nodes cluster }
+    ensures core { IfOk result (λ r. (r.core.cluster ≡ cluster) × (r.core.opening ≡ table)
+        × (r.core.capacity ≡ capacity)) }
+    ensures slots { IfOk result (λ r. logged r.core.log Bus ≡ bus_steps [] slots) }
+    ensures ended { IfOk result (λ r. vec_len r.ended ≡ nodes cluster) }
 {
     let alloc = rt.alloc();
     let plan = undisturbed(alloc, slots, lists.len())?;

@@ -2,13 +2,11 @@
 //! command line; what it does is in `lin_tool`.
 #![tactic(auto)]
 
-ghost use Rattle.std.specs.Prelude.{◌≤◌};
-
 mod arguments;
 
 use crate::arguments::{Asked, Request, read_words};
 use clap::error::ErrorKind;
-use lin_tool::{Fault, Notes, write_fault};
+use lin_tool::{Fault, Notes, exit_status, within_limits, write_fault};
 use std::env::Env;
 use std::fs::Files;
 use std::io::{self, IsTerminal, Write};
@@ -18,13 +16,6 @@ use std::thread::Threads;
 
 /// The exit status of a wrong command line.
 const COMMAND_LINE: u8 = 2;
-
-/// How many messages of a host may wait.
-fn within_limits(capacity: u16) -> usize
-    ensures { (1 ≤ result) × (result ≤ 1024) }
-{
-    usize::from(capacity.clamp(1, 1024))
-}
 
 /// Which of the standard streams are terminals.
 #[derive(Clone, Copy)]
@@ -114,10 +105,7 @@ fn answer<R: AllocGlobal + Files + Input + Print + Eprint + Threads + Wait, W: W
     let mut notes = Notes::new(rt.alloc(), wanted);
     let done = perform(rt, request, terminals.error, &mut notes, errors);
     let _ = notes.write(done.as_ref().err(), errors);
-    match done {
-        Ok(()) => ExitCode::SUCCESS,
-        Err(fault) => ExitCode::from(fault.status()),
-    }
+    ExitCode::from(exit_status(&done))
 }
 
 /// Prints what clap answers in place of matches, and gives the exit status.
