@@ -1,5 +1,5 @@
 -- Lanes, as the log grows and as one of them changes.
-use Rattle.std.proofs.Common.{◌≡◌, ◌≢◌, ◌<◌, ◌≤◌, ◌⊎◌, ℕ, zero, suc, List, [], ◌∷◌, ◌++◌, length, drop, map, Some, slice_set, slice_index_or, vec_len, refl, sym, ap, length-append, append-nil, ◌∙◌, inl, inr, arith, Bool, true, false, Result, Ok, Err}
+use Rattle.std.proofs.Common.{◌≡◌, ◌≢◌, ◌<◌, ◌≤◌, ◌+◌, ◌⊎◌, ℕ, zero, suc, List, [], ◌∷◌, ◌++◌, length, drop, map, Some, slice_set, slice_index_or, vec_len, refl, sym, ap, length-append, append-nil, ◌∙◌, inl, inr, arith, Bool, true, false, Result, Ok, Err, OnOk}
 use Rattle.std.specs.List.{slice_get}
 use Rattle.std.proofs.lemmas.Option.{slice_get_read}
 use Rattle.std.proofs.lemmas.List.{drop-append-le}
@@ -14,7 +14,7 @@ use Rattle.lin_ports.specs.declared.lane.Lane.{Lane}
 use Rattle.lin_ports.specs.declared.pump.Pump.{Pump}
 use mathlib.Core.List.{IsPrefix}
 use Rattle.rtrb.specs.Ring.{sent}
-use Rattle.lin_ports.specs.Lanes.{steps_from_ring, port_of, lane_wiring, SameLane, Serves, AllServe, InOrder, OnlyOwn, Served}
+use Rattle.lin_ports.specs.Lanes.{steps_from_ring, port_of, lane_wiring, SameLane, Serves, AllServe, FirstTold, InOrder, IsTold, OnlyOwn, Served}
 use Rattle.lin_ports.proofs.PortLemmas.{logged-own, logged-other, told_more, port_at-no_bus}
 
 -- what a list has after a write at one place
@@ -148,6 +148,15 @@ bus_alike old new step (Err e) s = s.2
 pub bus_prefix : (old new : CoreData) (step : Step) (r : Result Unit Hold) → IsStepped old Bus step r new → IsPrefix old.log new.log
 bus_prefix old new step (Ok u) s = (answered old Bus step ∷ [], sym s.0)
 bus_prefix old new step (Err e) s = ([], append-nil old.log ∙ sym s.0)
+
+-- one more lane was told its notes
+pub told_more_lanes : {E : Type 0} (r : Result Unit E) (es : List LogEntry) (lanes : List Lane) (i : ℕ) (lane : Lane) → FirstTold i es lanes → OnOk r (IsTold es lane)
+    → OnOk r (FirstTold (i + 1) es (slice_set lanes i lane))
+told_more_lanes (Err e) es lanes i lane first told = told
+told_more_lanes (Ok u) es lanes i lane first told = λ j l below at. elim (slice_get-set lanes i lane j l at) [
+  | inl h ↦ rw h.1 told
+  | inr h ↦ first j l (let n = h.0 in omega arith) h.1
+]
 
 -- the lane at a place
 pub at_lane : (p : Pump) (i : ℕ) (lane : Lane) → i < vec_len p.lanes → lane ≡ slice_index_or p.lanes.items i lane → slice_get p.lanes.items i ≡ Some lane

@@ -1,12 +1,13 @@
 -- What a port was told, as it is told more.
-use Rattle.std.proofs.Common.{◌≡◌, ◌≤◌, ◌+◌, ℕ, zero, suc, List, [], ◌∷◌, ◌++◌, length, take, drop, map, filter, Some, refl, sym, ap, ◌∙◌, append_assoc, append-nil, length-append, add-one, arith, Bool}
+use Rattle.std.proofs.Common.{◌≡◌, ◌≤◌, ◌+◌, ◌⊎◌, inl, inr, ℕ, zero, suc, List, [], ◌∷◌, ◌++◌, length, take, drop, map, filter, Some, refl, sym, ap, ◌∙◌, append_assoc, append-nil, length-append, add-one, arith, Bool, true, Result, Ok, Err, OnOk}
 use Rattle.std.specs.List.{slice_get}
-use Rattle.std.proofs.lemmas.List.{drop-append-le, map-append, length-take-le, take-append-drop}
+use Rattle.std.proofs.Math.Seq.{drop-length, take-length}
+use Rattle.std.proofs.lemmas.List.{drop-append-le, map-append, length-take-le, take_all, take-append-drop}
 use Rattle.std.proofs.lemmas.List.Elements.{filter-append}
 use Rattle.std.proofs.lemmas.Option.{slice_get_within}
 use Rattle.rtrb.specs.Ring.{sent, SameProducer}
 use mathlib.Core.List.{IsPrefix}
-use Rattle.lin_ports.specs.Ports.{ring_into}
+use Rattle.lin_ports.specs.Ports.{ring_into, size_of}
 use Rattle.lin_core.specs.declared.log.LogEntry.{LogEntry}
 use Rattle.lin_core.specs.declared.event.Event.{Event}
 use Rattle.lin_core.specs.declared.port.PortId.{PortId}
@@ -17,14 +18,8 @@ use Rattle.lin_ports.specs.declared.lane.Lane.{Lane}
 use Rattle.lin_ports.specs.declared.steps.Note.{Note}
 use Rattle.lin_ports.specs.declared.steps.Note.TheVariants as note
 use Rattle.lin_ports.specs.Steps.{same_port, is_note_for, event_notes, reply_notes, notes_in, notes, part_notes, first_notes, notes_told}
-use Rattle.lin_ports.specs.Lanes.{Serves, Tells, SameLane, lane_wiring, port_of}
+use Rattle.lin_ports.specs.Lanes.{HasNoRoom, IsTold, Serves, Tells, SameLane, lane_wiring, port_of}
 use Rattle.lin_ports.proofs.PortLemmas.{into_same, notes-append}
-
-take_all : {X : Type 0} (k : ℕ) (xs : List X) → length xs ≤ k → take k xs ≡ xs
-take_all zero [] h = refl
-take_all (suc k) [] h = refl
-take_all zero (x ∷ xs) h = absurd (omega (arith, h))
-take_all (suc k) (x ∷ xs) h = ap (λ ys. x ∷ ys) (take_all k xs (omega (arith, h)))
 
 take-next : {X : Type 0} (xs : List X) (i : ℕ) (x : X) → slice_get xs i ≡ Some x → take (suc i) xs ≡ take i xs ++ x ∷ []
 take-next [] i x h = absurd (cc)
@@ -172,3 +167,22 @@ told_first port base seen part log after within =
 -- what was pushed to a lane is the beginning of its notes
 pub given_first : (base : ℕ) (log : List LogEntry) (lane : Lane) → Serves base log lane → IsPrefix (sent lane.notes) (notes (drop base log) (port_of lane))
 given_first base log lane s = rw s.notes (told_first (port_of lane) base lane.seen lane.part log s.after s.within)
+
+-- a lane that has seen the whole log was told all its notes
+told_all : (base : ℕ) (log : List LogEntry) (lane : Lane) → Serves base log lane → length log ≤ lane.seen → sent lane.notes ≡ notes (drop base log) (port_of lane)
+told_all base log lane s end =
+    let seen : lane.seen ≡ length log = (let w = s.within in omega arith) in
+    rw (s.notes, seen, drop-length log, take-length log, append-nil) refl
+
+-- a ring without room has taken as many notes, at least, as it takes
+told_full : (lane : Lane) → lane.given ≡ length (sent lane.notes) → HasNoRoom lane → size_of (ring_into lane.notes) ≤ length (sent lane.notes)
+told_full lane given (inl none) = (let c = lane.notes.counts in let w = lane.notes.writes in omega arith)
+told_full lane given (inr many) = (let w = lane.notes.writes in omega arith)
+
+-- a lane that was told as much as there is, or as it takes
+pub told_until : {E : Type 0} (base : ℕ) (log : List LogEntry) (lane : Lane) (r : Result Unit E) → Serves base log lane
+    → OnOk r ((lane.settled ≡ true) ⊎ ((length log ≤ lane.seen) ⊎ HasNoRoom lane)) → OnOk r (IsTold (drop base log) lane)
+told_until base log lane (Err e) s h = h
+told_until base log lane (Ok u) s (inl settled) = inl settled
+told_until base log lane (Ok u) s (inr (inl seen)) = inr (inl (told_all base log lane s seen))
+told_until base log lane (Ok u) s (inr (inr full)) = inr (inr (full, told_full lane s.given full))

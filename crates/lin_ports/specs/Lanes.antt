@@ -1,16 +1,18 @@
 -- What the pump keeps for each port.
-use Rattle.std.specs.Prelude.{◌≡◌, ℕ, ◌≤◌, ◌+◌, ⊤, List, ◌++◌, ◌∷◌, [], map, length, drop, Bool}
-use Rattle.std.specs.Prelude.{true, false, if◌then◌else◌, Some, MatchBool, Result, Ok, Err}
+use Rattle.std.specs.Prelude.{◌≡◌, ℕ, ◌≤◌, ◌<◌, ◌+◌, ◌-◌, ◌^◌, ◌⊎◌, ⊤, List, ◌++◌, ◌∷◌, [], map}
+use Rattle.std.specs.Prelude.{length, drop, Bool, true, false, if◌then◌else◌, Some, MatchBool}
+use Rattle.std.specs.Prelude.{Result, Ok, Err}
 use Rattle.std.specs.List.{slice_get}
-use Rattle.rtrb.specs.Ring.{sent, received}
+use Rattle.rtrb.specs.Ring.{sent, received, known_free}
 use Rattle.lin_core.specs.Core.{CoreData, answered}
 use Rattle.lin_core.specs.Replies.{may}
 use Rattle.lin_core.specs.declared.log.LogEntry.{LogEntry}
 use Rattle.lin_core.specs.declared.port.PortId.{PortId}
 use Rattle.lin_core.specs.declared.port.PortId.TheVariants.{Host, Node}
 use Rattle.lin_core.specs.declared.step.Step.{Step}
-use Rattle.lin_ports.specs.Steps.{host_step, node_step, logged, notes_told, port_at, same_port}
-use Rattle.lin_ports.specs.Ports.{RingId, Wiring, ring_into, ring_from}
+use Rattle.lin_ports.specs.Steps.{host_step, node_step, logged, notes, notes_told, port_at}
+use Rattle.lin_ports.specs.Steps.{same_port}
+use Rattle.lin_ports.specs.Ports.{RingId, Wiring, ring_into, ring_from, size_of}
 use Rattle.lin_ports.specs.declared.incoming.Incoming.{Incoming}
 use Rattle.lin_ports.specs.declared.incoming.Incoming.TheVariants as into
 use Rattle.lin_ports.specs.declared.lane.Lane.{Lane}
@@ -95,6 +97,23 @@ abbrev pub given_in : PortId → List Lane → List Note
 given_in port [] = []
 given_in port (lane ∷ lanes) =
     if same_port (port_of lane) port then sent lane.notes else given_in port lanes
+
+-- the ring of notes has no room that the pump knows of, or the notes can't be counted any more
+abbrev pub HasNoRoom : Lane → Type 0
+HasNoRoom lane = (known_free lane.notes ≡ 0) ⊎ (lane.given ≡ 2 ^ 64 - 1)
+
+-- the port is settled; or all notes that these entries have for it were pushed; or its ring has no
+-- room, and at least as many notes were pushed as it takes
+abbrev pub IsTold : List LogEntry → Lane → Type 0
+IsTold es lane =
+    (lane.settled ≡ true)
+    ⊎ ((sent lane.notes ≡ notes es (port_of lane))
+    ⊎ (HasNoRoom lane × (size_of (ring_into lane.notes) ≤ length (sent lane.notes))))
+
+-- the same of each of the first lanes
+abbrev pub FirstTold : ℕ → List LogEntry → List Lane → Type 0
+FirstTold count es lanes =
+    (i : ℕ) (lane : Lane) → i < count → slice_get lanes i ≡ Some lane → IsTold es lane
 
 -- what it does to a lane to push these notes
 pub record Tells (a b : Lane) (xs : List Note) : Type 0 where

@@ -6,7 +6,8 @@ use Rattle.lin_core.specs.Core.{CoreData, IsAlike}
 use Rattle.lin_core.specs.declared.log.LogEntry.{LogEntry}
 use Rattle.lin_core.specs.declared.port.PortId.{PortId}
 use Rattle.lin_ports.specs.Ports.{Wiring}
-use Rattle.lin_ports.specs.Lanes.{given_in, lane_wiring}
+use Rattle.lin_ports.specs.Lanes.{IsTold, given_in, lane_wiring}
+use Rattle.lin_ports.specs.declared.lane.Lane.{Lane}
 use Rattle.lin_ports.specs.declared.pump.Pump.{Pump}
 use Rattle.lin_ports.specs.declared.steps.Note.{Note}
 
@@ -30,6 +31,11 @@ IsWired pump port = (i : ℕ) × (slice_get (wirings pump) i ≡ Some port)
 -- the notes that were pushed to a port so far
 abbrev pub given_to : Pump → PortId → List Note
 given_to pump port = given_in port pump.lanes.items
+
+-- each port is settled, or was told all its notes, or its ring of notes has no room
+abbrev pub AllTold : Pump → Type 0
+AllTold pump =
+    (i : ℕ) (lane : Lane) → slice_get pump.lanes.items i ≡ Some lane → IsTold (since pump) lane
 
 -- the same pump: its ports, its cluster, and where its log began; the log may have grown
 pub record KeepsPump (a b : Pump) : Type 0 where

@@ -7,7 +7,7 @@ use Rattle.lin_core.specs.declared.port.PortId.TheVariants.{Host, Node}
 use Rattle.lin_ports.specs.Lanes.{steps_from_ring, port_of}
 use Rattle.lin_ports.specs.Steps.{port_at}
 use Rattle.lin_ports.specs.Ports.{host_wiring, host_ring, host_put, host_took, node_wiring}
-use Rattle.lin_ports.specs.Ports.{node_ring, node_put, node_took}
+use Rattle.lin_ports.specs.Ports.{node_ring, node_put, node_took, size_of}
 use Rattle.lin_ports.specs.declared.lane.Lane.{Lane}
 use Rattle.lin_ports.specs.declared.host_port.HostPort.{HostPort}
 use Rattle.lin_ports.specs.declared.node_port.NodePort.{NodePort}
@@ -30,17 +30,19 @@ pub record IsNewLane (start : ℕ) (by : PortId) (lane : Lane) : Type 0 where
 abbrev pub AreNewLanes : ℕ → ℕ → List Lane → Type 0
 AreNewLanes nodes start lanes = Each (λ i lane. IsNewLane start (port_at nodes i) lane) lanes
 
--- the port of the host with this number: nothing was put and nothing taken, and its ring of steps
+-- the port of the host with this number: nothing was put and nothing taken, and each of its rings
 -- takes so many
 pub record IsNewHost (ring n : ℕ) (port : HostPort) : Type 0 where
   pub id : (host_wiring port).port ≡ Host n
   pub size : host_ring port ≡ ring
+  pub notes : size_of (host_wiring port).notes ≡ ring
   pub put : host_put port ≡ []
   pub took : host_took port ≡ []
 
 pub record IsNewNode (ring n : ℕ) (port : NodePort) : Type 0 where
   pub id : (node_wiring port).port ≡ Node n
   pub size : node_ring port ≡ ring
+  pub notes : size_of (node_wiring port).notes ≡ ring
   pub put : node_put port ≡ []
   pub took : node_took port ≡ []
 

@@ -44,14 +44,14 @@ pub struct Pump {
 
 impl Pump {
     ghost use Rattle.std.specs.Prelude.{◌≡◌, ◌≢◌, ◌<◌, ◌+◌, ◌-◌, ◌^◌, ◌↔◌, ℕ, vec_len, length};
-    ghost use Rattle.std.specs.Prelude.{IfOk, IfErr, IfSome, IfNone};
+    ghost use Rattle.std.specs.Prelude.{IfOk, IfErr, OnOk, IfSome, IfNone};
     ghost use mathlib.Core.List.{IsPrefix};
     ghost use Rattle.lin_cluster_parts.specs.Cluster.{nodes};
     ghost use Rattle.lin_core.specs.Core.{IsStepped, IsLogFull};
     ghost use Rattle.lin_core.specs.declared.port.PortId.TheVariants.{Bus};
-    ghost use Rattle.lin_ports.specs.Lanes.{Served, IsFullLog, OnlyOwn};
+    ghost use Rattle.lin_ports.specs.Lanes.{Served, FirstTold, IsFullLog, OnlyOwn};
     ghost use Rattle.lin_ports.specs.Ports.{receipt_wiring};
-    ghost use Rattle.lin_ports.specs.Pumps.{core_of, since, given_to, IsWired, KeepsPump};
+    ghost use Rattle.lin_ports.specs.Pumps.{core_of, since, given_to, AllTold, IsWired, KeepsPump};
     ghost use Rattle.lin_ports.specs.Rounds.{AddsUpTo, RoundAdds};
     ghost use Rattle.lin_ports.specs.Settled.{Settles, StaysSettled};
     ghost use Rattle.lin_ports.specs.Steps.{port_at, notes};
@@ -99,6 +99,8 @@ impl Pump {
         ensures pump { KeepsPump self.old self.new }
         ensures core { self.new.core ≡ self.old.core }
         ensures stays { StaysSettled self.old self.new }
+        ensures told { FirstTold i (since self.old) self.old.lanes.items
+            → OnOk result (FirstTold (i + 1) (since self.new) self.new.lanes.items) }
     {
         let lane = &mut self.lanes[i as usize];
         lane.tell(self.alloc, &self.core)
@@ -114,6 +116,7 @@ impl Pump {
         ensures full { IfErr result
             (λ fault. IsFullLog fault → length (core_of self.new).log ≡ 2 ^ 32 - 1) }
         ensures stays { StaysSettled self.old self.new }
+        ensures told { OnOk result (AllTold self.new) }
     {
         let count = self.lanes.len() as u8;
         let steps = match self.serve_all(count) {

@@ -1,7 +1,7 @@
 //! How a port is told of the log.
 
 ghost use Rattle.std.specs.Prelude.{◌≡◌, ◌<◌, ◌≤◌, ◌+◌, ◌-◌, ◌^◌, ◌∷◌, [], length, MatchResult};
-ghost use Rattle.std.specs.Prelude.{MatchBool};
+ghost use Rattle.std.specs.Prelude.{MatchBool, IfOk, OnOk, false, ◌⊎◌};
 
 use crate::lane::Lane;
 use crate::steps::{Note, is_same, is_told};
@@ -9,9 +9,10 @@ use lin_core::{Core, Event, LogEntry, PortId, Refusal, Reply};
 use std::alloc::{AllocError, Global};
 
 impl Lane {
-    ghost use Rattle.std.specs.Prelude.{◌≡◌, ◌<◌, ◌+◌, ◌-◌, ◌^◌, ◌∷◌, [], ℕ, ⊤, List, Some, true};
-    ghost use Rattle.std.specs.Prelude.{length, MatchResult, MatchBool};
+    ghost use Rattle.std.specs.Prelude.{◌≡◌, ◌<◌, ◌≤◌, ◌+◌, ◌-◌, ◌^◌, ◌⊎◌, ◌∷◌, [], ℕ, List, Some};
+    ghost use Rattle.std.specs.Prelude.{true, false, length, MatchResult, MatchBool, IfOk, OnOk};
     ghost use Rattle.lin_ports.specs.Lanes.{GoesOn, Tells, TellsEvent, Serves, SameLane, port_of};
+    ghost use Rattle.lin_ports.specs.Lanes.{HasNoRoom};
     ghost use Rattle.lin_ports.specs.Steps.{event_notes};
     ghost use Rattle.rtrb.specs.Ring.{known_free, sent};
     ghost use Rattle.std.specs.List.{slice_get};
@@ -24,7 +25,8 @@ impl Lane {
         ensures part { self.new.part ≡ self.old.part }
         ensures seen { self.new.seen ≡ self.old.seen }
         ensures room { MatchBool result
-            ((0 < known_free self.new.notes) × (self.new.given < 2 ^ 64 - 1)) ⊤ }
+            ((0 < known_free self.new.notes) × (self.new.given < 2 ^ 64 - 1))
+            (HasNoRoom self.new) }
     {
         self.given != u64::MAX && !self.notes.is_full()
     }
@@ -35,6 +37,7 @@ impl Lane {
         ensures seen { self.new.seen ≡ self.old.seen }
         ensures told { TellsEvent self.old self.new
             (event_notes (port_of self.old) (event.now ∷ [])) result }
+        ensures full { IfOk result (λ more. more ≡ false → HasNoRoom self.new) }
     {
         if !is_told(self.port(), event) {
             self.part += 1;
@@ -65,6 +68,7 @@ impl Lane {
             → Serves base log self.new }
         ensures next { GoesOn self.old self.new result }
         ensures settled { self.new.settled ≡ self.old.settled }
+        ensures full { IfOk result (λ more. more ≡ false → HasNoRoom self.new) }
     {
         for at in self.part..events.len() {
             match self.tell_event(alloc, &events[at]) {
@@ -92,6 +96,7 @@ impl Lane {
         ensures next { MatchBool result (self.new.seen ≡ self.old.seen + 1)
             (self.new.seen ≡ self.old.seen) }
         ensures settled { self.new.settled ≡ self.old.settled }
+        ensures full { result ≡ false → HasNoRoom self.new }
     {
         if !is_same(by, self.port()) {
             self.seen += 1;
@@ -115,6 +120,7 @@ impl Lane {
         ensures serves { (base : ℕ) (log : List LogEntry) → Serves base log self.old
             → slice_get log self.old.seen ≡ Some entry.now → Serves base log self.new }
         ensures next { GoesOn self.old self.new result }
+        ensures full { IfOk result (λ more. more ≡ false → HasNoRoom self.new) }
     {
         match &entry.reply {
             Reply::Done(told) => self.tell_events(alloc, told.as_slice()),
@@ -122,12 +128,14 @@ impl Lane {
         }
     }
 
-    /// Pushes the port's notes while their ring has room.
+    /// Pushes the port's notes while their ring has room, unless the port is settled.
     pub(crate) fn tell(&mut self, alloc: Global, core: &Core) -> Result<(), AllocError>
         ensures same { SameLane self.old self.new }
         ensures serves { (base : ℕ) → Serves base core.now.log self.old
             → Serves base core.now.log self.new }
         ensures settled { self.old.settled ≡ true → sent self.new.notes ≡ sent self.old.notes }
+        ensures until { OnOk result ((self.new.settled ≡ true)
+            ⊎ ((length core.now.log ≤ self.new.seen) ⊎ HasNoRoom self.new)) }
     {
         if self.settled {
             return Ok(());

@@ -1,5 +1,6 @@
 use Rattle.std.proofs.Common.{◌≡◌, vec_len}
-use Rattle.lin_ports.specs.Pumps.{KeepsPump}
+use Rattle.lin_ports.specs.Lanes.{FirstTold}
+use Rattle.lin_ports.specs.Pumps.{KeepsPump, since}
 use Rattle.lin_ports.specs.Settled.{StaysSettled}
 use Rattle.lin_ports.proofs.pump.Pump.round.Given as goal
 
@@ -9,4 +10,5 @@ invariant-loop-i l = record {
   count : l.count ≡ vec_len l.self.lanes;
   core : l.self.core ≡ l.initial.self.core;
   stays : StaysSettled l.fn.self l.self;
+  told : FirstTold l.i (since l.self) l.self.lanes.items;
 }

@@ -1,7 +1,8 @@
-use Rattle.std.proofs.Common.{refl}
+use Rattle.std.proofs.Common.{drop, refl}
 use Rattle.lin_cluster_parts.specs.Cluster.{nodes}
-use Rattle.lin_ports.proofs.LaneLemmas.{at_lane, all_serve, same_wirings, in_order}
+use Rattle.lin_ports.proofs.LaneLemmas.{at_lane, all_serve, same_wirings, in_order, told_more_lanes}
 use Rattle.lin_ports.proofs.RoundLemmas.{prefix_same}
+use Rattle.lin_ports.proofs.TellLemmas.{told_until}
 use Rattle.lin_ports.proofs.SettleLemmas.{passed_set, settled_given, settled_lanes}
 use Rattle.lin_ports.specs.Ports.{receipt_wiring}
 use Rattle.lin_ports.proofs.pump.Pump.tell.Goals as goal
@@ -35,3 +36,11 @@ returns-clause-stays c r s =
       settled_lanes _ p.lanes.items _ r (passed_set p.lanes.items c.args.i lane c.tell.new.self (receipt_wiring r) at same s.passed) s,
       settled_given (nodes p.core.cluster) c.args.i p.lanes.items lane c.tell.new.self (receipt_wiring r) p.order at same c.tell.ensures.settled s.passed,
     )
+
+pub returns-clause-told : goal.returns-clause-told
+returns-clause-told c first =
+    let p = c.args.self.now in
+    let lane = c.index_mut-lane.result.now in
+    let told = c.tell.ensures in
+    let serves = told.serves p.base (p.serves c.args.i lane (at_lane p c.args.i lane c.requires c.index_mut-lane.ensures.value)) in
+    told_more_lanes c.tell.result (drop p.base p.core.log) p.lanes.items c.args.i c.tell.new.self first (told_until p.base p.core.log c.tell.new.self c.tell.result serves told.until)
