@@ -1,11 +1,12 @@
 //! Starting the threads of a run, and joining them.
 
-ghost use Rattle.std.specs.Prelude.{◌≡◌, ◌≤◌, ◌+◌, ◌++◌, [], map, IfOk, OnOk, vec_len};
+ghost use Rattle.std.specs.Prelude.{◌≡◌, ◌≤◌, ◌+◌, ◌++◌, [], map, IfOk, IfErr, OnOk, vec_len};
 ghost use Rattle.std.specs.List.{AllZip};
 ghost use Rattle.std.specs.Vec.{vec_capacity};
 ghost use Rattle.lin_threads.specs.States.{IsFurther, IsReceiptFrom, handed_in, host_state};
 ghost use Rattle.lin_threads.specs.States.{node_state, receipt_state};
 ghost use Rattle.lin_threads.specs.Started.{lent, all_lent};
+ghost use Rattle.lin_threads.specs.declared.runs.RunFault.TheVariants.{NoThread};
 
 use crate::hosts::run_task;
 use crate::nodes::run_node;
@@ -52,7 +53,8 @@ fn start_host(
     turns: u32,
     shared: Arc<Shared, Global>,
 ) -> Result<Handle, RunFault>
-    ensures { IfOk result (λ h. lent h.promise ≡ host_state port) }
+    ensures lent { IfOk result (λ h. lent h.promise ≡ host_state port) }
+    ensures refused { IfErr result (λ e. e ≡ NoThread) }
 {
     let promise = Keeps::Host(Snapshot::of(&port));
     let started = thread::spawn_with(
@@ -75,7 +77,8 @@ fn start_node(
     leave: Vec<u32>,
     shared: Arc<Shared, Global>,
 ) -> Result<Handle, RunFault>
-    ensures { IfOk result (λ h. lent h.promise ≡ node_state port) }
+    ensures lent { IfOk result (λ h. lent h.promise ≡ node_state port) }
+    ensures refused { IfErr result (λ e. e ≡ NoThread) }
 {
     let promise = Keeps::Node(Snapshot::of(&port));
     let started = thread::spawn_with(
@@ -92,7 +95,9 @@ fn start_node(
 }
 
 /// Another owner of what the threads share.
-fn another(shared: &Arc<Shared, Global>) -> Result<Arc<Shared, Global>, RunFault> {
+fn another(shared: &Arc<Shared, Global>) -> Result<Arc<Shared, Global>, RunFault>
+    ensures { IfErr result (λ e. e ≡ NoThread) }
+{
     match Arc::try_clone(shared) {
         Ok(own) => Ok(own),
         Err(_) => Err(RunFault::NoThread),
@@ -113,6 +118,7 @@ pub(crate) fn start_hosts(
     ensures lent { OnOk result
         (all_lent started.new.items ≡ all_lent started.old.items ++ map host_state ports.items) }
     ensures room { OnOk result (vec_capacity started.new ≡ vec_capacity started.old) }
+    ensures refused { IfErr result (λ e. e ≡ NoThread) }
 {
     let mut tasks = tasks.into_iter();
     for port in ports {
@@ -137,6 +143,7 @@ pub(crate) fn start_nodes(
     requires room { vec_len started.old + vec_len ports ≤ vec_capacity started.old }
     ensures lent { OnOk result
         (all_lent started.new.items ≡ all_lent started.old.items ++ map node_state ports.items) }
+    ensures refused { IfErr result (λ e. e ≡ NoThread) }
 {
     let mut leave = leave.into_iter();
     for port in ports {
