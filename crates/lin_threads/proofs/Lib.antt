@@ -2,3 +2,4 @@ pub mod StateLemmas
 pub mod RunLemmas
 pub mod ScriptLemmas
 pub mod SplitLemmas
+pub mod NodeLemmas

@@ -1,5 +1,8 @@
 //! The threads of nodes.
 
+ghost use Rattle.std.specs.Prelude.{◌≡◌, ◌<◌, ◌+◌, ◌-◌, ◌^◌, ◌++◌, ◌∷◌, ◌⊎◌, [], ℕ, true};
+ghost use Rattle.lin_ports.specs.Ports.{by_node_port, node_put, node_took, node_wiring};
+ghost use Rattle.lin_threads.specs.Nodes.{FollowsList, dues, is_due, step_in};
 ghost use Rattle.lin_threads.specs.States.{IsFurther, node_state, receipt_state};
 
 use crate::runs::Ended;
@@ -11,9 +14,30 @@ use std::alloc::Global;
 use std::sync::Arc;
 use std::thread;
 
+/// Whether a note says that the node is due.
+fn is_due(note: &Note) -> bool
+    ensures { result ≡ is_due note.now }
+{
+    matches!(note, Note::Event(Event::Due { .. }))
+}
+
+/// What a node puts in the slot that has this number among those in which it is due, from 0.
+fn step_in(leave: &[u32], number: u64) -> NodeStep
+    ensures { result ≡ step_in leave.now number }
+{
+    if leave.iter().any(|left_out| u64::from(*left_out) == number) {
+        NodeStep::Leave
+    } else {
+        NodeStep::Answer
+    }
+}
+
 /// Puts a step, again where the ring is full, until the run's slots are over.
 fn put_until_over(port: &mut NodePort, shared: &Shared, mut step: NodeStep)
-    ensures { IsFurther (node_state port.old) (node_state port.new) }
+    ensures port { node_wiring port.new ≡ node_wiring port.old }
+    ensures put { (node_put port.new ≡ node_put port.old)
+        ⊎ (node_put port.new ≡ node_put port.old ++ by_node_port port.old step ∷ []) }
+    ensures took { node_took port.new ≡ node_took port.old }
 {
     for _ in 0..u64::MAX {
         let over = shared.is_over();
@@ -26,26 +50,37 @@ fn put_until_over(port: &mut NodePort, shared: &Shared, mut step: NodeStep)
     }
 }
 
-/// Answers each slot in which the node is due, or leaves its response out where the number of that
-/// slot among those in which it was due (from 0) stands in its list; until the run's slots are over
-/// and no note is left.
-fn answer_all(port: &mut NodePort, shared: &Shared, leave: &[u32])
-    ensures { IsFurther (node_state port.old) (node_state port.new) }
+/// Answers the slot of which a note says that the node is due in it, the one with this number, or
+/// leaves its response out where its list has the number. The number of the next such slot.
+fn answer_note(port: &mut NodePort, shared: &Shared, leave: &[u32], due: u64, note: Note) -> u64
+    requires { due < 2 ^ 64 - 1 }
+    ensures due { result ≡ due + dues (note ∷ []) }
+    ensures port { node_wiring port.new ≡ node_wiring port.old }
+    ensures put { (node_put port.new ≡ node_put port.old)
+        ⊎ ((is_due note ≡ true)
+        × (node_put port.new
+        ≡ node_put port.old ++ by_node_port port.old (step_in leave.now due) ∷ [])) }
+    ensures took { node_took port.new ≡ node_took port.old }
 {
-    let mut dues: u32 = 0;
+    if !is_due(&note) {
+        return due;
+    }
+    put_until_over(port, shared, step_in(leave, due));
+    due + 1
+}
+
+/// Answers each slot in which the node is due, or leaves its response out where its list has the
+/// number of that slot among those in which it was due; until the run's slots are over and no note
+/// is left.
+fn answer_all(port: &mut NodePort, shared: &Shared, leave: &[u32])
+    ensures further { IsFurther (node_state port.old) (node_state port.new) }
+    ensures listed { (due : ℕ) × FollowsList leave.now due port.old (node_state port.new) }
+{
+    let mut due = 0;
     for _ in 0..u64::MAX {
         let over = shared.is_over();
         match port.take() {
-            Some(Note::Event(Event::Due { .. })) => {
-                let step = if leave.contains(&dues) {
-                    NodeStep::Leave
-                } else {
-                    NodeStep::Answer
-                };
-                put_until_over(port, shared, step);
-                dues = dues.saturating_add(1);
-            }
-            Some(_) => {}
+            Some(note) => due = answer_note(port, shared, leave, due, note),
             None if over => return,
             None => thread::yield_now(),
         }
@@ -54,7 +89,8 @@ fn answer_all(port: &mut NodePort, shared: &Shared, leave: &[u32])
 
 /// The whole of a node's thread.
 pub(crate) fn run_node(mut port: NodePort, leave: Vec<u32>, shared: Arc<Shared, Global>) -> Finished
-    ensures { IsFurther (node_state port) (receipt_state result.receipt) }
+    ensures further { IsFurther (node_state port) (receipt_state result.receipt) }
+    ensures listed { (due : ℕ) × FollowsList leave.items due port (receipt_state result.receipt) }
 {
     answer_all(&mut port, &shared, leave.as_slice());
     let receipt = port.end();

@@ -1,18 +1,36 @@
+use Rattle.std.proofs.Common.{arith}
 use Rattle.lin_threads.specs.States.{IsFurther, node_state}
-use Rattle.lin_threads.proofs.StateLemmas.{further_refl, further_take, further_trans}
+use Rattle.lin_threads.proofs.NodeLemmas.{due_at_most, follows_note, follows_refl, follows_same, further_put}
+use Rattle.lin_threads.proofs.StateLemmas.{further_refl, further_take}
 use Rattle.lin_threads.proofs.nodes.answer_all.Goals as goal
-use Rattle.lin_threads.proofs.nodes.answer_all.Goals.{in-Some-Event-Due, in-Some+in-Event+in-Accepted-1, in-Some+in-Refused-1, in-None-2}
+use Rattle.lin_threads.proofs.nodes.answer_all.Goals.{in-Some, in-None-2}
 
 pub loop-init : goal.loop-init
-loop-init c = further_refl _
+loop-init c = record { further = further_refl _; listed = follows_refl c.args.leave.now c.args.port.now; few = omega arith }
+
+pub returns-in-None-clause-listed : goal.returns-in-None-clause-listed
+returns-in-None-clause-listed c =
+    (c.loop.due, follows_same c.args.leave.now c.loop.due c.args.port.now c.loop.port c.take.new.self c.take.ensures.put c.in-None.ensures.none c.loop.invariant.listed)
 
 pub loop-preserved : goal.loop-preserved
 loop-preserved c =
-    let took : IsFurther (node_state c.args.port.now) (node_state c.take.new.self) =
-    further_take (node_state c.args.port.now) c.loop.port c.take.new.self c.take.result c.loop.invariant c.take.ensures.port c.take.ensures.put c.take.ensures.some c.take.ensures.none in
+    let leave = c.args.leave.now in
+    let port = c.args.port.now in
+    let inv = c.loop.invariant in
+    let few = inv.few in
+    let taken = c.take.new.self in
+    let took : IsFurther (node_state port) (node_state taken) =
+    further_take (node_state port) c.loop.port taken c.take.result inv.further c.take.ensures.port c.take.ensures.put c.take.ensures.some c.take.ensures.none in
     elim c.match-take.branch [
-      | in-Some-Event-Due w ↦ rw w.port-is (further_trans _ _ _ took w.put_until_over.ensures)
-      | in-Some+in-Event+in-Accepted-1 w ↦ rw w.port-is took
-      | in-Some+in-Refused-1 w ↦ rw w.port-is took
-      | in-None-2 w ↦ rw w.port-is took
+      | in-Some w ↦ let said = w.answer_note-due.ensures in let n = w.in-Some.note in let due = w.due-is in record {
+        further = rw w.port-is (further_put (node_state port) leave c.loop.due n taken w.answer_note-due.new.port took said.port said.put said.took);
+        listed = rw (w.port-is, w.due-is, said.due)
+            (follows_note leave c.loop.due port c.loop.port taken w.answer_note-due.new.port n took.wiring c.take.ensures.put w.in-Some.ensures.some said.put said.took inv.listed);
+        few = omega (arith, due_at_most n, said.due);
+      }
+      | in-None-2 w ↦ let due = w.due-is in record {
+        further = rw w.port-is took;
+        listed = rw (w.port-is, w.due-is) (follows_same leave c.loop.due port c.loop.port taken c.take.ensures.put w.in-None.ensures.none inv.listed);
+        few = omega arith;
+      }
     ]

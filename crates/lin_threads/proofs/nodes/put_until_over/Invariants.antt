@@ -1,5 +1,11 @@
-use Rattle.lin_threads.specs.States.{IsFurther, node_state}
+use Rattle.std.proofs.Common.{◌≡◌}
+use Rattle.lin_ports.specs.Ports.{node_put, node_took, node_wiring}
 use Rattle.lin_threads.proofs.nodes.put_until_over.Given as goal
 
 abbrev pub invariant-loop : goal.invariant-loop
-invariant-loop l = IsFurther (node_state l.initial.port) (node_state l.port)
+invariant-loop l = record {
+  wiring : node_wiring l.port ≡ node_wiring l.initial.port;
+  put : node_put l.port ≡ node_put l.initial.port;
+  took : node_took l.port ≡ node_took l.initial.port;
+  step : l.step ≡ l.initial.step;
+}
