@@ -3,3 +3,4 @@ pub mod RunLemmas
 pub mod ScriptLemmas
 pub mod SplitLemmas
 pub mod NodeLemmas
+pub mod FaultLemmas

@@ -1,10 +1,11 @@
 //! The end of a run, once its slots are over.
 
-ghost use Rattle.std.specs.Prelude.{◌≡◌, ◌≤◌, [], All, IfOk, OnOk, vec_len};
+ghost use Rattle.std.specs.Prelude.{◌≡◌, ◌≤◌, [], All, IfOk, IfErr, OnOk, vec_len};
 ghost use Rattle.std.specs.List.{AllZip};
 ghost use Rattle.std.specs.Vec.{vec_capacity};
 ghost use Rattle.lin_ports.specs.Ports.{receipt_wiring};
 ghost use Rattle.lin_ports.specs.Pumps.{IsWired};
+ghost use Rattle.lin_threads.specs.Faults.{StopsFor};
 ghost use Rattle.lin_threads.specs.Runs.{Advances, IsSettledAs, IsWiredReceipt};
 
 use crate::runs::RunFault;
@@ -20,7 +21,8 @@ pub(crate) fn make_last_rounds(
     shared: &Shared,
     threads: u64,
 ) -> Result<(), RunFault>
-    ensures { OnOk result (Advances pump.old pump.new []) }
+    ensures advances { OnOk result (Advances pump.old pump.new []) }
+    ensures stops { IfErr result (λ e. StopsFor pump.old pump.new e) }
 {
     for _ in rt.forever() {
         let ended = shared.ended();
@@ -38,6 +40,7 @@ fn settle_whole(rt: &impl Wait, pump: &mut Pump, mut receipt: Receipt) -> Result
     requires { IsWired pump.old (receipt_wiring receipt) }
     ensures advances { OnOk result (Advances pump.old pump.new []) }
     ensures settled { IfOk result (λ r. IsSettledAs pump.new receipt r) }
+    ensures stops { IfErr result (λ e. StopsFor pump.old pump.new e) }
 {
     for _ in rt.forever() {
         match pump.settle(receipt) {
@@ -63,6 +66,7 @@ pub(crate) fn settle_all(
     requires room { vec_len receipts ≤ vec_capacity settled.old }
     ensures advances { OnOk result (Advances pump.old pump.new []) }
     ensures settled { OnOk result (AllZip (IsSettledAs pump.new) receipts.items settled.new.items) }
+    ensures stops { IfErr result (λ e. StopsFor pump.old pump.new e) }
 {
     for receipt in receipts {
         let whole = settle_whole(rt, pump, receipt)?;

@@ -1,6 +1,6 @@
 //! Whole runs.
 
-ghost use Rattle.std.specs.Prelude.{◌≡◌, ◌≤◌, ◌+◌, [], drop, length, IfOk, OnOk, vec_len};
+ghost use Rattle.std.specs.Prelude.{◌≡◌, ◌≤◌, ◌+◌, [], drop, length, IfOk, IfErr, OnOk, vec_len};
 ghost use Rattle.std.specs.List.{AllZip};
 ghost use Rattle.std.specs.Vec.{vec_capacity};
 ghost use mathlib.Core.List.{IsPrefix};
@@ -9,6 +9,7 @@ ghost use Rattle.lin_core.specs.declared.port.PortId.TheVariants.{Bus};
 ghost use Rattle.lin_ports.specs.Lanes.{OnlyOwn};
 ghost use Rattle.lin_ports.specs.Pumps.{core_of, since, first_entry};
 ghost use Rattle.lin_ports.specs.Steps.{logged};
+ghost use Rattle.lin_threads.specs.Faults.{EndsFor, IsFaultOf};
 ghost use Rattle.lin_threads.specs.Started.{all_lent};
 ghost use Rattle.lin_threads.specs.States.{ArePortsOf, IsSettledReceipt, handed_in};
 ghost use Rattle.lin_threads.specs.Runs.{Advances, bus_steps};
@@ -132,6 +133,7 @@ fn drive<R: Threads + Wait>(
         (all_lent threads.new.items ≡ handed_in players.hosts.items players.nodes.items) }
     ensures advances { OnOk result
         (Advances pump.old pump.new (bus_steps plan.hurt.items plan.slots)) }
+    ensures fault { IfErr result (λ e. EndsFor pump.old pump.new e) }
 {
     let Players {
         hosts,
@@ -163,6 +165,7 @@ fn run<R: Threads + Wait>(
         AllZip (IsSettledReceipt (since pump.new))
         (handed_in players.hosts.items players.nodes.items) r.1.items) }
     ensures ended { IfOk result (λ r. vec_len r.0 ≡ vec_len players.tasks) }
+    ensures fault { IfErr result (λ e. EndsFor pump.old pump.new e) }
 {
     let tasks = players.tasks.len();
     let ports = players.hosts.len() + players.nodes.len();
@@ -216,6 +219,7 @@ pub fn run_cluster<R: Threads + Wait>(
         (handed_in hosts.items nodes.items)
         r.receipts.items) }
     ensures ended { IfOk result (λ r. vec_len r.ended ≡ vec_len tasks) }
+    ensures fault { IfErr result (λ e. IsFaultOf pump e) }
 {
     let players = Players {
         hosts,

@@ -1,6 +1,7 @@
 //! The slots of a run.
 
-ghost use Rattle.std.specs.Prelude.{◌∷◌, [], OnOk};
+ghost use Rattle.std.specs.Prelude.{◌∷◌, [], IfErr, OnOk};
+ghost use Rattle.lin_threads.specs.Faults.{StopsFor};
 ghost use Rattle.lin_threads.specs.Runs.{Advances, bus_steps, damage, slot_steps};
 
 use crate::runs::RunFault;
@@ -11,7 +12,8 @@ use std::thread;
 
 /// Makes a step of the bus.
 fn own(pump: &mut Pump, step: Step) -> Result<(), RunFault>
-    ensures { OnOk result (Advances pump.old pump.new (step ∷ [])) }
+    ensures advances { OnOk result (Advances pump.old pump.new (step ∷ [])) }
+    ensures stops { IfErr result (λ e. StopsFor pump.old pump.new e) }
 {
     match pump.own(step) {
         Ok(()) => Ok(()),
@@ -22,7 +24,8 @@ fn own(pump: &mut Pump, step: Step) -> Result<(), RunFault>
 /// Makes rounds until one was made and each node that is due has answered or left its response out,
 /// or until so many were made.
 fn make_rounds(pump: &mut Pump, rounds: u32) -> Result<(), RunFault>
-    ensures { OnOk result (Advances pump.old pump.new []) }
+    ensures advances { OnOk result (Advances pump.old pump.new []) }
+    ensures stops { IfErr result (λ e. StopsFor pump.old pump.new e) }
 {
     for _ in 0..rounds {
         if let Err(fault) = pump.round() {
@@ -38,7 +41,8 @@ fn make_rounds(pump: &mut Pump, rounds: u32) -> Result<(), RunFault>
 
 /// Damages the response of the slot with this number, where the plan names it.
 fn hurt_slot(alloc: Global, pump: &mut Pump, number: u32, hurt: &[u32]) -> Result<(), RunFault>
-    ensures { OnOk result (Advances pump.old pump.new (damage hurt.now number)) }
+    ensures advances { OnOk result (Advances pump.old pump.new (damage hurt.now number)) }
+    ensures stops { IfErr result (λ e. StopsFor pump.old pump.new e) }
 {
     if !hurt.contains(&number) {
         return Ok(());
@@ -59,7 +63,8 @@ fn one_slot(
     rounds: u32,
     hurt: &[u32],
 ) -> Result<(), RunFault>
-    ensures { OnOk result (Advances pump.old pump.new (slot_steps hurt.now number)) }
+    ensures advances { OnOk result (Advances pump.old pump.new (slot_steps hurt.now number)) }
+    ensures stops { IfErr result (λ e. StopsFor pump.old pump.new e) }
 {
     own(pump, Step::Open)?;
     make_rounds(pump, rounds)?;
@@ -75,7 +80,8 @@ pub(crate) fn all_slots(
     rounds: u32,
     hurt: &[u32],
 ) -> Result<(), RunFault>
-    ensures { OnOk result (Advances pump.old pump.new (bus_steps hurt.now slots)) }
+    ensures advances { OnOk result (Advances pump.old pump.new (bus_steps hurt.now slots)) }
+    ensures stops { IfErr result (λ e. StopsFor pump.old pump.new e) }
 {
     for number in 0..slots {
         one_slot(alloc, pump, number, rounds, hurt)?;

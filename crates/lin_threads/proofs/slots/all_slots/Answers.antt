@@ -9,4 +9,4 @@ pub loop-number-preserved : goal.loop-number-preserved
 loop-number-preserved c =
     let hurt = c.args.hurt.now in
     let n = c.loop-number.number in
-    rw (← one_more_slot hurt n) (advances_trans c.args.pump.now c.loop-number.pump c.one_slot.new.pump (bus_steps hurt n) (slot_steps hurt n) c.loop-number.invariant (c.in_ok-one_slot.ensures {u = tt}))
+    rw (← one_more_slot hurt n) (advances_trans c.args.pump.now c.loop-number.pump c.one_slot.new.pump (bus_steps hurt n) (slot_steps hurt n) c.loop-number.invariant c.in_ok-one_slot.ensures.advances)
