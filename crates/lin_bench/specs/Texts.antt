@@ -4,8 +4,8 @@ use Rattle.std.specs.Prelude.{codes}
 use Rattle.std.specs.Fmt.{decimal}
 use Rattle.lin_cluster_parts.specs.Cluster.{nodes, node_of, signal_of, named_table}
 use Rattle.lin_cluster_parts.specs.declared.parts.Parts.{Parts}
-use Rattle.lin_log.specs.Words.{cause_word, hex_word, spaced_word, value_word}
-use Rattle.lin_bench.specs.Verdicts.{look_word, refusal_word}
+use Rattle.lin_core.specs.Tables.{cause_word, look_word, refusal_word}
+use Rattle.lin_log.specs.Words.{hex_word, spaced_word, value_word}
 use Rattle.lin_bench.specs.declared.reason.Reason.{Reason}
 use Rattle.lin_bench.specs.declared.reason.Reason.TheVariants as reason
 use Rattle.lin_bench.specs.declared.expected.Expected.{Expected}

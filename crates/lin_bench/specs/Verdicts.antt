@@ -2,7 +2,7 @@
 -- newest first.
 use Rattle.std.specs.Prelude.{ℕ, ◌==◌, ◌&&◌, Bool, true, false, nat_lt, if◌then◌else◌, List, []}
 use Rattle.std.specs.Prelude.{◌∷◌, ◌++◌, filter, length, slice_get, Option, Some, None, count_by}
-use Rattle.std.specs.Prelude.{find, reverse, codes}
+use Rattle.std.specs.Prelude.{find, reverse}
 use Rattle.std.specs.Str.{bytes_eq}
 use Rattle.lin_frame.specs.declared.value.Value.{Value}
 use Rattle.lin_frame.specs.declared.value.Value.TheVariants.{Scalar, Bytes}
@@ -11,60 +11,21 @@ use Rattle.lin_cluster_parts.specs.declared.parts.Parts.{Parts}
 use Rattle.lin_core.specs.History.{asleep, events}
 use Rattle.lin_core.specs.Links.{waiting}
 use Rattle.lin_core.specs.Signals.{value_at}
+use Rattle.lin_core.specs.Tables.{cause_number, look_number, look_of, refusal_number}
 use Rattle.lin_core.specs.declared.event.Event.{Event}
 use Rattle.lin_core.specs.declared.event.Event.TheVariants as event
-use Rattle.lin_core.specs.declared.event.Seen.{Seen}
-use Rattle.lin_core.specs.declared.event.Seen.TheVariants as seen
+use Rattle.lin_core.specs.declared.event.Look.{Look}
 use Rattle.lin_core.specs.declared.link.Cause.{Cause}
 use Rattle.lin_core.specs.declared.log.LogEntry.{LogEntry}
 use Rattle.lin_core.specs.declared.reply.Refusal.{Refusal}
-use Rattle.lin_core.specs.declared.reply.Refusal.TheVariants as refusal
 use Rattle.lin_core.specs.declared.reply.Reply.{Reply}
 use Rattle.lin_core.specs.declared.reply.Reply.TheVariants.{Done, Refused}
-use Rattle.lin_log.specs.Words.{cause_word}
-use Rattle.lin_bench.specs.declared.expected.Look.{Look}
-use Rattle.lin_bench.specs.declared.expected.Look.TheVariants as look
 use Rattle.lin_bench.specs.declared.expected.Expected.{Expected}
 use Rattle.lin_bench.specs.declared.expected.Expected.TheVariants as expected
 use Rattle.lin_bench.specs.declared.got.Got.{Got}
 use Rattle.lin_bench.specs.declared.got.Got.TheVariants as got
 use Rattle.lin_bench.specs.declared.taken.EventKind.{EventKind}
 use Rattle.lin_bench.specs.declared.taken.EventKind.TheVariants.{Messages, Fates, Ends, Begins}
-
--- the word of how a slot is seen, and the name of a refusal
-abbrev pub look_word : Look → List ℕ
-look_word look.Silent = codes "silent"
-look_word look.NoAnswer = codes "none"
-look_word look.Good = codes "good"
-look_word look.Damaged = codes "damaged"
-look_word look.Collided = codes "collided"
-
-abbrev pub refusal_word : Refusal → List ℕ
-refusal_word refusal.NoSuchNode = codes "NoSuchNode"
-refusal_word refusal.NoSuchSignal = codes "NoSuchSignal"
-refusal_word refusal.NoSuchTable = codes "NoSuchTable"
-refusal_word refusal.NotPublisher = codes "NotPublisher"
-refusal_word refusal.BadValue = codes "BadValue"
-refusal_word refusal.NoAddress = codes "NoAddress"
-refusal_word refusal.BadLength = codes "BadLength"
-refusal_word refusal.Closed = codes "Closed"
-refusal_word refusal.QueueFull = codes "QueueFull"
-refusal_word refusal.Asleep = codes "Asleep"
-refusal_word refusal.Awake = codes "Awake"
-refusal_word refusal.SlotOpen = codes "SlotOpen"
-refusal_word refusal.NoSlot = codes "NoSlot"
-refusal_word refusal.NotYours = codes "NotYours"
-refusal_word refusal.Decided = codes "Decided"
-refusal_word refusal.NothingOnWire = codes "NothingOnWire"
-refusal_word refusal.PassesCheck = codes "PassesCheck"
-refusal_word refusal.NoTransfer = codes "NoTransfer"
-
-abbrev pub look_of : Seen → Look
-look_of seen.Silent = look.Silent
-look_of seen.NoAnswer = look.NoAnswer
-look_of (seen.Good answer) = look.Good
-look_of seen.Damaged = look.Damaged
-look_of seen.Collided = look.Collided
 
 abbrev pub same_value : Value → Value → Bool
 same_value (Scalar a) (Scalar b) = a == b
@@ -149,12 +110,12 @@ sent_verdict other = Some got.NoEvent
 abbrev pub lost_verdict : Cause → Option Event → Option Got
 lost_verdict cause (Some (event.Sent host number)) = Some (got.Sent number)
 lost_verdict cause (Some (event.Lost host number why)) =
-    unless (bytes_eq (cause_word why) (cause_word cause)) (got.Lost number why)
+    unless (cause_number why == cause_number cause) (got.Lost number why)
 lost_verdict cause other = Some got.NoEvent
 
 abbrev pub seen_verdict : Look → Option Event → Option Got
 seen_verdict how (Some (event.Seen s)) =
-    unless (bytes_eq (look_word (look_of s)) (look_word how)) (got.Seen (look_of s))
+    unless (look_number (look_of s) == look_number how) (got.Seen (look_of s))
 seen_verdict how other = Some got.NoSlot
 
 abbrev pub slot_verdict : ℕ → ℕ → Option Event → Option Got
@@ -175,7 +136,7 @@ abbrev pub refused_verdict : Refusal → Option Reply → Option Got
 refused_verdict why None = Some got.NoStep
 refused_verdict why (Some (Done es)) = Some got.Done
 refused_verdict why (Some (Refused r)) =
-    unless (bytes_eq (refusal_word r) (refusal_word why)) (got.Refused r)
+    unless (refusal_number r == refusal_number why) (got.Refused r)
 
 unfoldable pub verdict : Parts → List LogEntry → List EventKind → Expected → Option Got
 verdict c past taken (expected.Signal node signal value) = signal_verdict c past node signal value

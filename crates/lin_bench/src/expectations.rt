@@ -1,129 +1,25 @@
 //! The forms of expectations.
 
 ghost use Rattle.std.specs.Prelude.{◌≡◌, IfOk};
-ghost use Rattle.lin_bench.specs.Expectations.{cause_named, expectation, look_named, lone_form};
-ghost use Rattle.lin_bench.specs.Expectations.{lost_form, message_form, refusal_field};
-ghost use Rattle.lin_bench.specs.Expectations.{refusal_named, refusal_numbered, refused_form};
-ghost use Rattle.lin_bench.specs.Expectations.{seen_form, sent_form, signal_form, slot_form};
-ghost use Rattle.lin_bench.specs.Expectations.{waiting_form, word_expectation};
+ghost use Rattle.lin_bench.specs.Expectations.{expectation, lone_form, lost_form, message_form};
+ghost use Rattle.lin_bench.specs.Expectations.{refusal_field, refused_form, seen_form, sent_form};
+ghost use Rattle.lin_bench.specs.Expectations.{signal_form, slot_form, waiting_form};
+ghost use Rattle.lin_bench.specs.Expectations.{word_expectation};
 ghost use Rattle.lin_bench.specs.Fields.{words};
 ghost use Rattle.lin_bench.specs.Read.{Gives};
 ghost use Rattle.lin_bench.specs.declared.fault.LineFault.{LineFault};
 ghost use Rattle.lin_bench.specs.declared.reason.Reason.{Reason};
 
-use crate::expected::{Expected, Look};
+use crate::expected::Expected;
 use crate::fault::LineFault;
 use crate::fields::{copied, is_number, number_field};
 use crate::names::{node_field, signal_field, table_field};
 use crate::reason::Reason;
 use crate::values::{bytes_fields, value_field};
 use lin_cluster_parts::Cluster;
-use lin_core::{Cause, Refusal};
+use lin_core::{Refusal, named, numbered};
 use lin_lists::Text;
 use std::alloc::{AllocError, Global};
-
-fn cause_named(word: &[u8]) -> Option<Cause>
-    ensures { result ≡ cause_named word.now }
-{
-    if word == b"damaged".as_slice() {
-        Some(Cause::Damaged)
-    } else if word == b"timedout".as_slice() {
-        Some(Cause::TimedOut)
-    } else if word == b"slept".as_slice() {
-        Some(Cause::Slept)
-    } else {
-        None
-    }
-}
-
-fn look_named(word: &[u8]) -> Option<Look>
-    ensures { result ≡ look_named word.now }
-{
-    if word == b"silent".as_slice() {
-        Some(Look::Silent)
-    } else if word == b"none".as_slice() {
-        Some(Look::NoAnswer)
-    } else if word == b"good".as_slice() {
-        Some(Look::Good)
-    } else if word == b"damaged".as_slice() {
-        Some(Look::Damaged)
-    } else if word == b"collided".as_slice() {
-        Some(Look::Collided)
-    } else {
-        None
-    }
-}
-
-/// The refusal with this number, 1 to 18.
-fn refusal_numbered(number: u32) -> Option<Refusal>
-    ensures { result ≡ refusal_numbered number }
-{
-    match number {
-        1 => Some(Refusal::NoSuchNode),
-        2 => Some(Refusal::NoSuchSignal),
-        3 => Some(Refusal::NoSuchTable),
-        4 => Some(Refusal::NotPublisher),
-        5 => Some(Refusal::BadValue),
-        6 => Some(Refusal::NoAddress),
-        7 => Some(Refusal::BadLength),
-        8 => Some(Refusal::Closed),
-        9 => Some(Refusal::QueueFull),
-        10 => Some(Refusal::Asleep),
-        11 => Some(Refusal::Awake),
-        12 => Some(Refusal::SlotOpen),
-        13 => Some(Refusal::NoSlot),
-        14 => Some(Refusal::NotYours),
-        15 => Some(Refusal::Decided),
-        16 => Some(Refusal::NothingOnWire),
-        17 => Some(Refusal::PassesCheck),
-        18 => Some(Refusal::NoTransfer),
-        _ => None,
-    }
-}
-
-fn refusal_named(word: &[u8]) -> Option<Refusal>
-    ensures { result ≡ refusal_named word.now }
-{
-    if word == b"NoSuchNode".as_slice() {
-        Some(Refusal::NoSuchNode)
-    } else if word == b"NoSuchSignal".as_slice() {
-        Some(Refusal::NoSuchSignal)
-    } else if word == b"NoSuchTable".as_slice() {
-        Some(Refusal::NoSuchTable)
-    } else if word == b"NotPublisher".as_slice() {
-        Some(Refusal::NotPublisher)
-    } else if word == b"BadValue".as_slice() {
-        Some(Refusal::BadValue)
-    } else if word == b"NoAddress".as_slice() {
-        Some(Refusal::NoAddress)
-    } else if word == b"BadLength".as_slice() {
-        Some(Refusal::BadLength)
-    } else if word == b"Closed".as_slice() {
-        Some(Refusal::Closed)
-    } else if word == b"QueueFull".as_slice() {
-        Some(Refusal::QueueFull)
-    } else if word == b"Asleep".as_slice() {
-        Some(Refusal::Asleep)
-    } else if word == b"Awake".as_slice() {
-        Some(Refusal::Awake)
-    } else if word == b"SlotOpen".as_slice() {
-        Some(Refusal::SlotOpen)
-    } else if word == b"NoSlot".as_slice() {
-        Some(Refusal::NoSlot)
-    } else if word == b"NotYours".as_slice() {
-        Some(Refusal::NotYours)
-    } else if word == b"Decided".as_slice() {
-        Some(Refusal::Decided)
-    } else if word == b"NothingOnWire".as_slice() {
-        Some(Refusal::NothingOnWire)
-    } else if word == b"PassesCheck".as_slice() {
-        Some(Refusal::PassesCheck)
-    } else if word == b"NoTransfer".as_slice() {
-        Some(Refusal::NoTransfer)
-    } else {
-        None
-    }
-}
 
 /// A refusal, by its number or its name.
 #[tactic(auto, unfolding(crate::specs::Expectations::refusal_field))]
@@ -131,12 +27,12 @@ fn refusal_field(alloc: Global, field: &[u8]) -> Result<Refusal, LineFault>
     ensures { Gives (λ r. r) result (refusal_field field.now) }
 {
     if is_number(field) {
-        return match refusal_numbered(number_field(alloc, field, 18)?) {
+        return match numbered(number_field(alloc, field, 18)?) {
             Some(refusal) => Ok(refusal),
             None => Err(LineFault::Bad(Reason::TooSmall)),
         };
     }
-    match refusal_named(field) {
+    match named(field) {
         Some(refusal) => Ok(refusal),
         None => Err(LineFault::Bad(Reason::NoRefusal(Text::copied(alloc, field)?))),
     }
@@ -231,7 +127,7 @@ fn lost(
         return Err(no_form(alloc, all)?);
     };
     let host = node_field(alloc, cluster, host)?;
-    match cause_named(why) {
+    match named(why) {
         Some(cause) => Ok(Expected::Lost { host, cause }),
         None => Err(no_form(alloc, all)?),
     }
@@ -243,7 +139,7 @@ fn seen(alloc: Global, all: &[&[u8]], fields: &[&[u8]]) -> Result<Expected, Line
     let [word] = fields else {
         return Err(no_form(alloc, all)?);
     };
-    match look_named(word) {
+    match named(word) {
         Some(look) => Ok(Expected::Seen(look)),
         None => Err(no_form(alloc, all)?),
     }

@@ -1,17 +1,7 @@
 //! What is expected.
 
-use lin_core::{Cause, Payload, Refusal};
+use lin_core::{Cause, Look, Payload, Refusal};
 use lin_frame::Value;
-
-/// How a slot is seen, whatever bytes it carries (ISO 17987-3, frame slots).
-#[derive(Clone, Copy, Debug, PartialEq, Eq)]
-pub enum Look {
-    Silent,
-    NoAnswer,
-    Good,
-    Damaged,
-    Collided,
-}
 
 /// What a bench script expects of the steps before.
 #[derive(Drop)]

@@ -1,7 +1,7 @@
 //! Expectations that aren't met.
 
-use crate::expected::{Expected, Look};
-use lin_core::{Cause, Payload, Refusal};
+use crate::expected::Expected;
+use lin_core::{Cause, Look, Payload, Refusal};
 use lin_frame::Value;
 use lin_lists::Many;
 

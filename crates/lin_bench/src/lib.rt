@@ -28,10 +28,11 @@ mod texts;
 mod values;
 mod verdicts;
 
-pub use expected::{Expected, Look};
+pub use expected::Expected;
 pub use fault::{PlayFault, ReadFault};
 pub use got::{Got, Unmet};
 pub use law::plain_scripts_say_the_same;
+pub use lin_core::Look;
 pub use line::{Disturbance, Extent, Line};
 pub use playing::{Played, play};
 pub use reason::Reason;

@@ -12,8 +12,8 @@ ghost use Rattle.lin_bench.specs.Texts.{waiting_text};
 use crate::expected::Expected;
 use crate::got::{Got, Unmet};
 use crate::reason::Reason;
-use crate::verdicts::{cause_word, refusal_word};
 use lin_cluster_parts::Cluster;
+use lin_core::Listed;
 use lin_frame::Value;
 use lin_lists::Text;
 use lin_text::{TextWriter, WriteFailed};
@@ -261,15 +261,15 @@ fn put_expected<W: Write>(out: &mut TextWriter<'_, W>, cluster: &Cluster, expect
         Expected::Lost { host, cause } => {
             out.put_text("lost ");
             put_node(out, cluster, *host);
-            put_spaced(out, cause_word(*cause));
+            put_spaced(out, cause.word().as_bytes());
         }
-        Expected::Seen(how) => put_after(out, "seen ", how.word()),
+        Expected::Seen(how) => put_after(out, "seen ", how.word().as_bytes()),
         Expected::Slot { table, entry } => {
             out.put_text("slot ");
             put_entry(out, cluster, *table, *entry);
         }
         Expected::Done => out.put_text("done"),
-        Expected::Refused(why) => put_after(out, "refused ", refusal_word(*why)),
+        Expected::Refused(why) => put_after(out, "refused ", why.word().as_bytes()),
         Expected::Asleep => out.put_text("asleep"),
         Expected::Awake => out.put_text("awake"),
     }
@@ -291,14 +291,14 @@ fn put_got<W: Write>(out: &mut TextWriter<'_, W>, cluster: &Cluster, got: &Got)
         Got::Lost { number, cause } => {
             out.put_text("message ");
             out.put_number(*number);
-            put_after(out, " lost ", cause_word(*cause));
+            put_after(out, " lost ", cause.word().as_bytes());
         }
         Got::NoEvent => out.put_text("none"),
-        Got::Seen(how) => out.put(how.word()),
+        Got::Seen(how) => out.put_text(how.word()),
         Got::Slot { table, entry } => put_entry(out, cluster, *table, *entry),
         Got::NoSlot => out.put_text("no slot"),
         Got::Done => out.put_text("done"),
-        Got::Refused(why) => put_after(out, "refused ", refusal_word(*why)),
+        Got::Refused(why) => put_after(out, "refused ", why.word().as_bytes()),
         Got::NoStep => out.put_text("no step"),
         Got::Asleep => out.put_text("asleep"),
         Got::Awake => out.put_text("awake"),

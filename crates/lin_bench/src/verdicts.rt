@@ -2,85 +2,20 @@
 
 ghost use Rattle.std.specs.Prelude.{◌≡◌, ◌==◌, ◌<◌, ◌≤◌, ◌&&◌, IfOk, OnOk, None, option_map};
 ghost use Rattle.lin_core.specs.Core.{past_of};
-ghost use Rattle.lin_log.specs.Words.{cause_word};
 ghost use Rattle.lin_bench.specs.Searches.{IsKnown, last_end, last_search, taken_by};
 ghost use Rattle.lin_bench.specs.Verdicts.{same_kind, done_verdict, kind_taken, last_event};
-ghost use Rattle.lin_bench.specs.Verdicts.{look_of, look_word, lost_verdict, message_verdict};
-ghost use Rattle.lin_bench.specs.Verdicts.{newest_reply, next_event, refusal_word, refused_verdict};
+ghost use Rattle.lin_bench.specs.Verdicts.{lost_verdict, message_verdict, newest_reply};
+ghost use Rattle.lin_bench.specs.Verdicts.{next_event, refused_verdict};
 ghost use Rattle.lin_bench.specs.Verdicts.{same_value, seen_verdict, sent_verdict, signal_verdict};
 ghost use Rattle.lin_bench.specs.Verdicts.{slot_verdict, taking, verdict, waiting_verdict};
 ghost use Rattle.lin_bench.specs.Verdicts.{with_taken};
 
-use crate::expected::{Expected, Look};
+use crate::expected::Expected;
 use crate::got::Got;
 use crate::taken::{EventKind, Place, Search, event_from, last_event};
-use lin_core::{Cause, Core, Event, Payload, Refusal, Reply, Seen};
+use lin_core::{Cause, Core, Event, Look, Payload, Refusal, Reply};
 use lin_frame::Value;
 use std::alloc::{AllocError, Global};
-
-impl Look {
-    /// Its word.
-    pub(crate) fn word(self) -> &'static [u8]
-        ensures { result.now ≡ look_word self }
-    {
-        match self {
-            Look::Silent => b"silent",
-            Look::NoAnswer => b"none",
-            Look::Good => b"good",
-            Look::Damaged => b"damaged",
-            Look::Collided => b"collided",
-        }
-    }
-
-    fn of(seen: &Seen) -> Look
-        ensures { result ≡ look_of seen.now }
-    {
-        match seen {
-            Seen::Silent => Look::Silent,
-            Seen::NoAnswer => Look::NoAnswer,
-            Seen::Good(_) => Look::Good,
-            Seen::Damaged => Look::Damaged,
-            Seen::Collided => Look::Collided,
-        }
-    }
-}
-
-/// The word of why a message is lost.
-pub(crate) fn cause_word(cause: Cause) -> &'static [u8]
-    ensures { result.now ≡ cause_word cause }
-{
-    match cause {
-        Cause::Damaged => b"damaged",
-        Cause::TimedOut => b"timedout",
-        Cause::Slept => b"slept",
-    }
-}
-
-/// The name of a refusal.
-pub(crate) fn refusal_word(refusal: Refusal) -> &'static [u8]
-    ensures { result.now ≡ refusal_word refusal }
-{
-    match refusal {
-        Refusal::NoSuchNode => b"NoSuchNode",
-        Refusal::NoSuchSignal => b"NoSuchSignal",
-        Refusal::NoSuchTable => b"NoSuchTable",
-        Refusal::NotPublisher => b"NotPublisher",
-        Refusal::BadValue => b"BadValue",
-        Refusal::NoAddress => b"NoAddress",
-        Refusal::BadLength => b"BadLength",
-        Refusal::Closed => b"Closed",
-        Refusal::QueueFull => b"QueueFull",
-        Refusal::Asleep => b"Asleep",
-        Refusal::Awake => b"Awake",
-        Refusal::SlotOpen => b"SlotOpen",
-        Refusal::NoSlot => b"NoSlot",
-        Refusal::NotYours => b"NotYours",
-        Refusal::Decided => b"Decided",
-        Refusal::NothingOnWire => b"NothingOnWire",
-        Refusal::PassesCheck => b"PassesCheck",
-        Refusal::NoTransfer => b"NoTransfer",
-    }
-}
 
 fn same_value(a: &Value, b: &Value) -> bool
     ensures { result ≡ same_value a.now b.now }
@@ -158,7 +93,7 @@ fn lost(event: Option<&Event>, why: Cause) -> Option<Got>
     match event {
         Some(Event::Sent { number, .. }) => Some(Got::Sent { number: *number }),
         Some(Event::Lost { number, cause, .. }) => {
-            if cause_word(*cause) == cause_word(why) {
+            if *cause == why {
                 None
             } else {
                 Some(Got::Lost {
@@ -176,8 +111,8 @@ fn seen(event: Option<&Event>, how: Look) -> Option<Got>
 {
     match event {
         Some(Event::Seen(seen)) => {
-            let look = Look::of(seen);
-            if look.word() == how.word() {
+            let look = seen.look();
+            if look == how {
                 None
             } else {
                 Some(Got::Seen(look))
@@ -239,7 +174,7 @@ fn refused(reply: Option<&Reply>, why: Refusal) -> Option<Got>
         None => Some(Got::NoStep),
         Some(Reply::Done(_)) => Some(Got::Done),
         Some(Reply::Refused(refusal)) => {
-            if refusal_word(*refusal) == refusal_word(why) {
+            if *refusal == why {
                 None
             } else {
                 Some(Got::Refused(*refusal))

@@ -19,6 +19,34 @@ pub enum Seen {
     Collided,
 }
 
+/// How a slot is seen, whatever bytes it carries (ISO 17987-3, frame slots).
+#[derive(Clone, Copy, Debug, PartialEq, Eq)]
+pub enum Look {
+    Silent,
+    NoAnswer,
+    Good,
+    Damaged,
+    Collided,
+}
+
+impl Seen {
+    ghost use Rattle.std.specs.Prelude.{◌≡◌};
+    ghost use Rattle.lin_core.specs.Tables.{look_of};
+
+    /// How the slot is seen.
+    pub fn look(&self) -> Look
+        ensures { result ≡ look_of self.now }
+    {
+        match self {
+            Seen::Silent => Look::Silent,
+            Seen::NoAnswer => Look::NoAnswer,
+            Seen::Good(_) => Look::Good,
+            Seen::Damaged => Look::Damaged,
+            Seen::Collided => Look::Collided,
+        }
+    }
+}
+
 /// What a step that is done tells.
 #[derive(Debug, PartialEq, Drop)]
 pub enum Event {

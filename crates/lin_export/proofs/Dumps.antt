@@ -20,6 +20,7 @@ use Rattle.lin_cluster_parts.specs.Rules.{IsCluster, IsSignalAt, is_array, place
 use Rattle.lin_cluster_parts.specs.declared.parts.Parts.{Parts}
 use Rattle.lin_cluster_parts.specs.declared.parts.Signal.{Signal}
 use Rattle.lin_cluster_parts.specs.declared.parts.SignalFrame.{SignalFrame}
+use Rattle.lin_core.specs.Tables.{look_number, look_of}
 use Rattle.lin_core.specs.History.{Slot, done, events, finished_slot, good, open_slot, seen_of, time}
 use Rattle.lin_core.specs.Replies.{refusal, reply}
 use Rattle.lin_core.specs.Runs.{entry_of, history}
@@ -37,7 +38,7 @@ use Rattle.lin_export.specs.Dumped.{IsDigit, IsDumped, IsLine, Line, last_value,
 use Rattle.lin_export.specs.Dumped.Line.{Change, Time, Unknown}
 use Rattle.lin_export.specs.Telling.{each_entry}
 use Rattle.lin_export.specs.Track.{slots_in}
-use Rattle.lin_export.specs.Vcd.{Group, binary, code, declarations, digits, entry_changes, event_group, first_heard, first_waiting, first_written, frame_changes, header_change, heard_change, heard_group, heard_number, last_time, latest, number_change, place_change, seen_number, shown_at, slot_changes, slot_groups, stamp, step_groups, text_line, timed_groups, unknown, waiting_change, waits, written_change, written_number}
+use Rattle.lin_export.specs.Vcd.{Group, binary, code, declarations, digits, entry_changes, event_group, first_heard, first_waiting, first_written, frame_changes, header_change, heard_change, heard_group, heard_number, last_time, latest, number_change, place_change, shown_at, slot_changes, slot_groups, stamp, step_groups, text_line, timed_groups, unknown, waiting_change, waits, written_change, written_number}
 use Rattle.lin_export.proofs.Captures.{each-newest}
 use Rattle.lin_export.proofs.Groups.{timed-append}
 use Rattle.lin_export.proofs.Wholes.{given}
@@ -354,8 +355,8 @@ slot-told c number s =
     bus-told c 32 0 number _ (omega arith)
     (bus-told c 16 1 s.table _ (omega arith)
     (bus-told c 16 2 s.entry _ (omega arith)
-    (quiet-first c none none (header_change s.header) (number_change 4 4 (seen_number (seen_of s))) (header-told c s.header)
-    (quiet-change c 4 4 (seen_number (seen_of s)) (bus-other c 4 (omega arith))))))
+    (quiet-first c none none (header_change s.header) (number_change 4 4 (look_number (look_of (seen_of s)))) (header-told c s.header)
+    (quiet-change c 4 4 (look_number (look_of (seen_of s))) (bus-other c 4 (omega arith))))))
 
 carried-told : (c : Parts) (rules : IsCluster c) (end : ℕ) (bytes : List ℕ) (o : Option ℕ)
     → GroupsTold c (λ s. option_map_or (λ f. option_map (λ (p : Place). unpacked_value p (take 8 bytes)) (place_in (frame_of c f) s)) o None) none

@@ -16,8 +16,8 @@ use Rattle.lin_cluster_parts.specs.declared.parts.Entry.TheVariants.{SlaveResp, 
 use Rattle.lin_names.specs.Names.{NamesData}
 use Rattle.lin_core.specs.History.{Slot, done, good_bytes, open_slot, seen_of, time}
 use Rattle.lin_core.specs.Signals.{heard_value}
+use Rattle.lin_core.specs.Tables.{look_of, look_word}
 use Rattle.lin_core.specs.declared.event.Seen.{Seen}
-use Rattle.lin_core.specs.declared.event.Seen.TheVariants as seens
 use Rattle.lin_core.specs.declared.log.LogEntry.{LogEntry}
 use Rattle.lin_core.specs.declared.step.Step.{Step}
 use Rattle.lin_core.specs.declared.step.Step.TheVariants.{Finish}
@@ -48,13 +48,6 @@ kind_cell (Event e) = codes "event"
 kind_cell MasterReq = codes "request"
 kind_cell SlaveResp = codes "response"
 kind_cell Quiet = codes "configuration"
-
-abbrev pub seen_cell : Seen → List ℕ
-seen_cell seens.Silent = codes "silent"
-seen_cell seens.NoAnswer = codes "none"
-seen_cell (seens.Good answer) = codes "good"
-seen_cell seens.Damaged = codes "damaged"
-seen_cell seens.Collided = codes "collided"
 
 -- the names of the nodes that put responses, with one space between two
 abbrev pub node_name : Parts → ℕ × List ℕ → List ℕ
@@ -88,7 +81,7 @@ schedule_cells c names at s =
 -- how it was seen, its data bytes and its checksum
 abbrev pub response_cells : Seen → List (List ℕ)
 response_cells how =
-    seen_cell how
+    look_word (look_of how)
     ∷ option_map_or (λ answer. hex_cell (data_of answer)) (good_bytes how) []
     ∷ option_map_or (λ answer. hex_cell (checksum_in answer ∷ [])) (good_bytes how) []
     ∷ []

@@ -24,16 +24,15 @@ use Rattle.lin_core.specs.declared.event.Seen.TheVariants.{Good}
 use Rattle.lin_core.specs.declared.log.LogEntry.{LogEntry}
 use Rattle.lin_core.specs.declared.port.PortId.{PortId}
 use Rattle.lin_core.specs.declared.port.PortId.TheVariants.{Bus, Host, Node}
-use Rattle.lin_core.specs.declared.reply.Refusal.{Refusal}
-use Rattle.lin_core.specs.declared.reply.Refusal.TheVariants as refusal
 use Rattle.lin_core.specs.declared.reply.Reply.{Reply}
 use Rattle.lin_core.specs.declared.reply.Reply.TheVariants.{Done, Refused}
 use Rattle.lin_core.specs.declared.step.Step.{Step}
 use Rattle.lin_core.specs.declared.step.Step.TheVariants.{Send, Write, Open, Answer, Leave, Hurt}
 use Rattle.lin_core.specs.declared.step.Step.TheVariants.{Finish, Timeout, Switch, AskSleep, Wake}
 use Rattle.lin_core.specs.declared.step.Step.TheVariants.{Close}
-use Rattle.lin_log.specs.Words.{cause_word, direction_word, header_word, hex_word, line, port_word}
-use Rattle.lin_log.specs.Words.{refusal_number, reply_line, seen_words, value_word}
+use Rattle.lin_core.specs.Tables.{cause_word, direction_word, refusal_number, refusal_word}
+use Rattle.lin_log.specs.Words.{header_word, hex_word, line, port_word, reply_line, seen_words}
+use Rattle.lin_log.specs.Words.{value_word}
 use Rattle.lin_export.specs.Shown.{entry_name, frame_name, slot_frame}
 use Rattle.lin_export.specs.Telling.{each_entry}
 
@@ -156,26 +155,6 @@ behind c names o e = []
 abbrev pub event_lines : Parts → NamesData → Option Slot → Event → List ℕ
 event_lines c names o e = reply_line (named_event c names e) ++ behind c names o e
 
-abbrev pub refusal_name : Refusal → List ℕ
-refusal_name refusal.NoSuchNode = codes "NoSuchNode"
-refusal_name refusal.NoSuchSignal = codes "NoSuchSignal"
-refusal_name refusal.NoSuchTable = codes "NoSuchTable"
-refusal_name refusal.NotPublisher = codes "NotPublisher"
-refusal_name refusal.BadValue = codes "BadValue"
-refusal_name refusal.NoAddress = codes "NoAddress"
-refusal_name refusal.BadLength = codes "BadLength"
-refusal_name refusal.Closed = codes "Closed"
-refusal_name refusal.QueueFull = codes "QueueFull"
-refusal_name refusal.Asleep = codes "Asleep"
-refusal_name refusal.Awake = codes "Awake"
-refusal_name refusal.SlotOpen = codes "SlotOpen"
-refusal_name refusal.NoSlot = codes "NoSlot"
-refusal_name refusal.NotYours = codes "NotYours"
-refusal_name refusal.Decided = codes "Decided"
-refusal_name refusal.NothingOnWire = codes "NothingOnWire"
-refusal_name refusal.PassesCheck = codes "PassesCheck"
-refusal_name refusal.NoTransfer = codes "NoTransfer"
-
 -- after the lines of a finish, the time in microseconds
 abbrev pub time_line : Step → ℕ → List ℕ
 time_line Finish at = reply_line (codes "time" ∷ decimal at ∷ [])
@@ -185,7 +164,7 @@ abbrev pub reply_lines : Parts → NamesData → LogEntry → List LogEntry → 
 reply_lines c names e past (Done events) =
     flat_map (event_lines c names (open_slot past)) events ++ time_line e.step (time c (e ∷ past))
 reply_lines c names e past (Refused r) =
-    reply_line (codes "refused" ∷ decimal (refusal_number r) ∷ refusal_name r ∷ [])
+    reply_line (codes "refused" ∷ decimal (refusal_number r) ∷ refusal_word r ∷ [])
 
 abbrev pub named_entry : Parts → NamesData → LogEntry → List LogEntry → List ℕ
 named_entry c names e past =

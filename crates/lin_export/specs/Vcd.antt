@@ -13,11 +13,9 @@ use Rattle.lin_cluster_parts.specs.Cluster.{frame_of, node_of, nodes, signal_of}
 use Rattle.lin_cluster_parts.specs.declared.parts.Parts.{Parts}
 use Rattle.lin_core.specs.History.{Slot, done, events, good, open_slot, seen_of, time}
 use Rattle.lin_core.specs.Signals.{carried_frame}
+use Rattle.lin_core.specs.Tables.{look_number, look_of}
 use Rattle.lin_core.specs.declared.event.Event.{Event}
 use Rattle.lin_core.specs.declared.event.Event.TheVariants.{Accepted, Sent, Lost, Asleep}
-use Rattle.lin_core.specs.declared.event.Seen.{Seen}
-use Rattle.lin_core.specs.declared.event.Seen.TheVariants.{Silent, NoAnswer, Good, Damaged}
-use Rattle.lin_core.specs.declared.event.Seen.TheVariants.{Collided}
 use Rattle.lin_core.specs.declared.log.LogEntry.{LogEntry}
 use Rattle.lin_core.specs.declared.step.Step.{Step}
 use Rattle.lin_core.specs.declared.step.Step.TheVariants.{Write, Finish, Wake}
@@ -179,13 +177,6 @@ abbrev pub latest : ℕ → List Group → ℕ
 latest last [] = last
 latest last (g ∷ gs) = latest (later last g.at) gs
 
-abbrev pub seen_number : Seen → ℕ
-seen_number Silent = 0
-seen_number NoAnswer = 1
-seen_number (Good answer) = 2
-seen_number Damaged = 3
-seen_number Collided = 4
-
 abbrev pub header_change : Option ℕ → List ℕ
 header_change header = option_map_or (number_change 8 3) header (unknown 3)
 
@@ -196,7 +187,7 @@ slot_changes number s =
     ++ (number_change 16 1 s.table
     ++ (number_change 16 2 s.entry
     ++ (header_change s.header
-    ++ number_change 4 4 (seen_number (seen_of s)))))
+    ++ number_change 4 4 (look_number (look_of (seen_of s))))))
 
 -- the signals of a frame that was seen good, in the order of its places
 abbrev pub place_change : Parts → List ℕ → ℕ × Place → List ℕ

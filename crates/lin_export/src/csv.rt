@@ -6,7 +6,7 @@ ghost use Rattle.lin_frame.specs.declared.value.Value.{Value};
 ghost use Rattle.lin_text.specs.Written.{Grows, WritesText};
 ghost use Rattle.lin_export.specs.Cells.{cell_text};
 ghost use Rattle.lin_export.specs.Csv.{comma, csv, head_line, hex_cell, kind_cell, node_name};
-ghost use Rattle.lin_export.specs.Csv.{nodes_cell, response_cells, row, schedule_cells, seen_cell};
+ghost use Rattle.lin_export.specs.Csv.{nodes_cell, response_cells, row, schedule_cells};
 ghost use Rattle.lin_export.specs.Csv.{slot_line, spaced_name, value_cell};
 ghost use Rattle.lin_export.specs.Look.{looks};
 ghost use Rattle.lin_export.specs.Open.{slot_in};
@@ -18,7 +18,7 @@ use crate::naming::{node_name, slot_name, table_name};
 use crate::slot::{Look, OpenSlot, byte_at};
 use crate::track::Track;
 use lin_cluster_parts::{Cluster, Entry};
-use lin_core::{Log, LogEntry, Reply, Step, initial_values};
+use lin_core::{Listed, Log, LogEntry, Reply, Step, initial_values};
 use lin_frame::{Answer, Value};
 use lin_names::Names;
 use lin_text::TextWriter;
@@ -119,18 +119,6 @@ fn kind_of(entry: Entry) -> &'static str
     }
 }
 
-fn seen_of(look: Look<'_>) -> &'static str
-    ensures { result.now ≡ seen_cell (looks look.entry) }
-{
-    match look {
-        Look::Silent => "silent",
-        Look::NoAnswer => "none",
-        Look::Good(_) => "good",
-        Look::Damaged => "damaged",
-        Look::Collided => "collided",
-    }
-}
-
 /// Where a slot stands in the schedule, and what it is for.
 fn put_schedule<'a, W: Write>(
     out: &mut TextWriter<'_, W>,
@@ -194,7 +182,7 @@ fn put_response<W: Write>(out: &mut TextWriter<'_, W>, look: Look<'_>)
     ensures { Grows W.contents out.old out.new
         (flat_map comma (response_cells (looks look.entry))) }
 {
-    let seen = Cell::Text(seen_of(look).as_bytes());
+    let seen = Cell::Text(look.kind().word().as_bytes());
     match look {
         Look::Good(answer) => {
             let bytes = answer.as_slice();

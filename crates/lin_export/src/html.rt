@@ -7,13 +7,13 @@ ghost use Rattle.lin_export.specs.Putting.{Adds, OfText};
 use crate::fault::ExportFault;
 use crate::format::{Format, write_as};
 use crate::hearing::hear_slot;
-use crate::named::{put_event, put_port, put_step, refusal_words};
+use crate::named::{put_event, put_port, put_step};
 use crate::naming::{node_name, slot_name, table_name};
 use crate::slot::{Look, OpenSlot};
 use crate::track::Track;
 use crate::words::{Word, put_word, value_word};
 use lin_cluster_parts::{Cluster, Entry};
-use lin_core::{Event, Log, LogEntry, Reply, Step, initial_values};
+use lin_core::{Event, Listed, Log, LogEntry, Reply, Step, initial_values};
 use lin_frame::{Answer, Value, unpack};
 use lin_names::Names;
 use lin_text::TextWriter;
@@ -85,16 +85,6 @@ fn put_time<W: Write>(out: &mut TextWriter<'_, W>, time: u64)
     );
 }
 
-fn seen_word(look: Look<'_>) -> &'static str {
-    match look {
-        Look::Silent => "silent",
-        Look::NoAnswer => "none",
-        Look::Good(_) => "good",
-        Look::Damaged => "damaged",
-        Look::Collided => "collided",
-    }
-}
-
 /// Whether a step is shown above a slot: what makes slots isn't, where it was done.
 fn is_shown(entry: &LogEntry) -> bool {
     match (&entry.reply, &entry.step) {
@@ -134,13 +124,7 @@ fn put_words<W: Write>(out: &mut TextWriter<'_, W>, cluster: &Cluster, entry: &L
 {
     put_given(out, cluster, entry);
     if let Reply::Refused(refusal) = &entry.reply {
-        put_pieces(
-            out,
-            &[
-                Word::Text(": refused "),
-                Word::Text(refusal_words(*refusal).1),
-            ],
-        );
+        put_pieces(out, &[Word::Text(": refused "), Word::Text(refusal.word())]);
     }
 }
 
@@ -150,10 +134,7 @@ fn put_brief<W: Write>(out: &mut TextWriter<'_, W>, cluster: &Cluster, entry: &L
     ensures { Adds W.contents out.old out.new }
 {
     if let Reply::Refused(refusal) = &entry.reply {
-        put_pieces(
-            out,
-            &[Word::Text(refusal_words(*refusal).1), Word::Text(":")],
-        );
+        put_pieces(out, &[Word::Text(refusal.word()), Word::Text(":")]);
     }
     put_asked(out, cluster, &entry.step);
 }
@@ -356,7 +337,7 @@ fn put_tooltip<'a, W: Write>(
             Word::Text(", header "),
             word_of_header(slot.header()),
             Word::Text(", seen "),
-            Word::Text(seen_word(slot.look())),
+            Word::Text(slot.look().kind().word()),
         ],
     );
     put_nodes(out, cluster, slot.puts());
@@ -419,7 +400,7 @@ fn put_box<'a, W: Write>(
         out,
         &[
             Word::Text("<div class=\"b "),
-            Word::Text(seen_word(slot.look())),
+            Word::Text(slot.look().kind().word()),
             Word::Text("\" title=\""),
         ],
     );

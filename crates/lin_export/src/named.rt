@@ -6,12 +6,12 @@ ghost use Rattle.std.specs.Fmt.{decimal};
 ghost use Rattle.std.specs.Option.{option_to_list};
 ghost use Rattle.lin_cluster_parts.specs.Cluster.{frame_of, nad, node_of, nodes};
 ghost use Rattle.lin_cluster_parts.specs.Rules.{IsEntry};
-ghost use Rattle.lin_log.specs.Words.{cause_word, direction_word, header_word, refusal_number};
-ghost use Rattle.lin_log.specs.Words.{reply_line, seen_words, spaced_word};
+ghost use Rattle.lin_core.specs.Tables.{refusal_number, refusal_word};
+ghost use Rattle.lin_log.specs.Words.{header_word, reply_line, seen_words, spaced_word};
 ghost use Rattle.lin_text.specs.Written.{Grows, WritesText};
 ghost use Rattle.lin_export.specs.Named.{behind, control_words, event_lines, frame_words};
 ghost use Rattle.lin_export.specs.Named.{good_line, named_log, named_entry, named_event};
-ghost use Rattle.lin_export.specs.Named.{named_port, named_step, refusal_name, signal_words};
+ghost use Rattle.lin_export.specs.Named.{named_port, named_step, signal_words};
 ghost use Rattle.lin_export.specs.Named.{slot_words, sporadic_frame, time_line, transport_line};
 ghost use Rattle.lin_export.specs.Named.{transport_words, who_word};
 ghost use Rattle.lin_export.specs.NamedWords.{word_shown};
@@ -27,8 +27,7 @@ use crate::track::Track;
 use crate::words::{Word, node_word, put_reply, put_words, signal_word, table_word, value_word};
 use lin_cluster_parts::{Cluster, Entry};
 use lin_core::{
-    Cause, Direction, Event, Log, LogEntry, PortId, Refusal, Reply, Seen, Step, frame_under,
-    node_with,
+    Event, Listed, Log, LogEntry, PortId, Refusal, Reply, Seen, Step, frame_under, node_with,
 };
 use lin_frame::{Answer, unpack};
 use lin_names::Names;
@@ -58,15 +57,6 @@ pub(crate) fn put_port<W: Write>(out: &mut TextWriter<'_, W>, cluster: &Cluster,
         PortId::Bus => out.put_text("bus"),
         PortId::Host(number) => put_lettered(out, cluster, b'h', number),
         PortId::Node(number) => put_lettered(out, cluster, b'n', number),
-    }
-}
-
-fn word_of_direction(direction: Direction) -> Word<'static>
-    ensures { word_shown result ≡ direction_word direction }
-{
-    match direction {
-        Direction::Down => Word::Text("down"),
-        Direction::Up => Word::Text("up"),
     }
 }
 
@@ -107,7 +97,7 @@ pub(crate) fn put_step<'a, W: Write>(
             &[
                 Word::Text("timeout"),
                 node_word(cluster, *node),
-                word_of_direction(*dir),
+                Word::Text(dir.word()),
             ],
         ),
         Step::Switch { table } => put_words(
@@ -185,29 +175,13 @@ fn put_slot<'a, W: Write>(
 fn put_seen<W: Write>(out: &mut TextWriter<'_, W>, seen: &Seen)
     ensures { Grows W.contents out.old out.new (reply_line (codes "seen" ∷ seen_words seen.now)) }
 {
+    let how = Word::Text(seen.look().word());
     match seen {
-        Seen::Silent => put_reply(out, &[Word::Text("seen"), Word::Text("silent")]),
-        Seen::NoAnswer => put_reply(out, &[Word::Text("seen"), Word::Text("none")]),
         Seen::Good(answer) => put_reply(
             out,
-            &[
-                Word::Text("seen"),
-                Word::Text("good"),
-                Word::Hex(answer.as_slice()),
-            ],
+            &[Word::Text("seen"), how, Word::Hex(answer.as_slice())],
         ),
-        Seen::Damaged => put_reply(out, &[Word::Text("seen"), Word::Text("damaged")]),
-        Seen::Collided => put_reply(out, &[Word::Text("seen"), Word::Text("collided")]),
-    }
-}
-
-fn word_of_cause(cause: Cause) -> Word<'static>
-    ensures { word_shown result ≡ cause_word cause }
-{
-    match cause {
-        Cause::Damaged => Word::Text("damaged"),
-        Cause::TimedOut => Word::Text("timedout"),
-        Cause::Slept => Word::Text("slept"),
+        _ => put_reply(out, &[Word::Text("seen"), how]),
     }
 }
 
@@ -271,7 +245,7 @@ pub(crate) fn put_event<'a, W: Write>(
                 Word::Text("lost"),
                 node_word(cluster, *host),
                 Word::Number(u64::from(*number)),
-                word_of_cause(*cause),
+                Word::Text(cause.word()),
             ],
         ),
         Event::Asleep => put_reply(out, &[Word::Text("asleep")]),
@@ -449,46 +423,18 @@ fn put_events<W: Write>(
     }
 }
 
-/// The number and the name of a refusal.
-pub(crate) fn refusal_words(refusal: Refusal) -> (u64, &'static str)
-    ensures number { result.0 ≡ refusal_number refusal }
-    ensures name { result.1.now ≡ refusal_name refusal }
-{
-    match refusal {
-        Refusal::NoSuchNode => (1, "NoSuchNode"),
-        Refusal::NoSuchSignal => (2, "NoSuchSignal"),
-        Refusal::NoSuchTable => (3, "NoSuchTable"),
-        Refusal::NotPublisher => (4, "NotPublisher"),
-        Refusal::BadValue => (5, "BadValue"),
-        Refusal::NoAddress => (6, "NoAddress"),
-        Refusal::BadLength => (7, "BadLength"),
-        Refusal::Closed => (8, "Closed"),
-        Refusal::QueueFull => (9, "QueueFull"),
-        Refusal::Asleep => (10, "Asleep"),
-        Refusal::Awake => (11, "Awake"),
-        Refusal::SlotOpen => (12, "SlotOpen"),
-        Refusal::NoSlot => (13, "NoSlot"),
-        Refusal::NotYours => (14, "NotYours"),
-        Refusal::Decided => (15, "Decided"),
-        Refusal::NothingOnWire => (16, "NothingOnWire"),
-        Refusal::PassesCheck => (17, "PassesCheck"),
-        Refusal::NoTransfer => (18, "NoTransfer"),
-    }
-}
-
 /// The line of a refusal.
 fn put_refusal<W: Write>(out: &mut TextWriter<'_, W>, refusal: Refusal)
     ensures { Grows W.contents out.old out.new
         (reply_line
-        (codes "refused" ∷ decimal (refusal_number refusal) ∷ refusal_name refusal ∷ [])) }
+        (codes "refused" ∷ decimal (refusal_number refusal) ∷ refusal_word refusal ∷ [])) }
 {
-    let (number, name) = refusal_words(refusal);
     put_reply(
         out,
         &[
             Word::Text("refused"),
-            Word::Number(number),
-            Word::Text(name),
+            Word::Number(u64::from(refusal.number())),
+            Word::Text(refusal.word()),
         ],
     );
 }

@@ -6,6 +6,7 @@ ghost use Rattle.lin_cluster_parts.specs.Rules.{IsEntry};
 ghost use Rattle.lin_core.specs.History.{good, slot_after_hurt, is_sleep_slot, no_slot, seen_of};
 ghost use Rattle.lin_core.specs.History.{slot_after_event, slot_after_events};
 ghost use Rattle.lin_core.specs.Signals.{carried_frame};
+ghost use Rattle.lin_core.specs.Tables.{look_of};
 ghost use Rattle.lin_export.specs.Look.{looks};
 ghost use Rattle.lin_export.specs.Open.{slot_in};
 ghost use Rattle.lin_export.specs.Shown.{slot_frame};
@@ -46,6 +47,21 @@ pub(crate) enum Look<'a> {
     Good(&'a Answer),
     Damaged,
     Collided,
+}
+
+impl Look<'_> {
+    /// How the slot is seen, whatever bytes it carries.
+    pub(crate) fn kind(self) -> lin_core::Look
+        ensures { result ≡ look_of (looks self.entry) }
+    {
+        match self {
+            Look::Silent => lin_core::Look::Silent,
+            Look::NoAnswer => lin_core::Look::NoAnswer,
+            Look::Good(_) => lin_core::Look::Good,
+            Look::Damaged => lin_core::Look::Damaged,
+            Look::Collided => lin_core::Look::Collided,
+        }
+    }
 }
 
 impl OpenSlot {

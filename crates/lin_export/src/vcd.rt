@@ -10,7 +10,7 @@ ghost use Rattle.lin_export.specs.PutsGroups.{AreCounts, KeepsChanges, PutsGroup
 ghost use Rattle.lin_export.specs.Track.{track_of};
 ghost use Rattle.lin_export.specs.Vcd.{count_after, counted_all, count_group, entry_changes};
 ghost use Rattle.lin_export.specs.Vcd.{event_group, frame_changes, head, header_change};
-ghost use Rattle.lin_export.specs.Vcd.{heard_group, last_time, later, one_more, seen_number};
+ghost use Rattle.lin_export.specs.Vcd.{heard_group, last_time, later, one_more};
 ghost use Rattle.lin_export.specs.Vcd.{slot_changes, slot_groups, stamp, step_groups, vcd};
 
 use crate::changes::{put_heard, put_number, put_unknown, put_waiting, put_written};
@@ -20,7 +20,7 @@ use crate::slot::{Look, OpenSlot};
 use crate::track::Track;
 use crate::variables::put_head;
 use lin_cluster_parts::Cluster;
-use lin_core::{Event, Log, LogEntry, Reply, Step};
+use lin_core::{Event, Listed, Log, LogEntry, Reply, Step};
 use lin_frame::{Answer, unpack};
 use lin_text::TextWriter;
 use std::alloc::Global;
@@ -51,18 +51,6 @@ fn put_stamp<W: Write>(out: &mut TextWriter<'_, W>, last: &mut u64, at: u64)
     }
 }
 
-fn seen_number(look: Look<'_>) -> u64
-    ensures { result ≡ seen_number (looks look.entry) }
-{
-    match look {
-        Look::Silent => 0,
-        Look::NoAnswer => 1,
-        Look::Good(_) => 2,
-        Look::Damaged => 3,
-        Look::Collided => 4,
-    }
-}
-
 fn put_header<W: Write>(out: &mut TextWriter<'_, W>, header: Option<u8>)
     ensures { Grows W.contents out.old out.new (header_change header) }
 {
@@ -80,7 +68,7 @@ fn put_slot<W: Write>(out: &mut TextWriter<'_, W>, number: u64, slot: &OpenSlot)
     put_number(out, 16, 1, u64::from(slot.table()));
     put_number(out, 16, 2, u64::from(slot.entry()));
     put_header(out, slot.header());
-    put_number(out, 4, 4, seen_number(slot.look()));
+    put_number(out, 4, 4, u64::from(slot.look().kind().number()));
 }
 
 /// The signals of a frame, with their values in data bytes.

@@ -37,10 +37,11 @@ use Rattle.lin_core.specs.declared.reply.Reply.{Reply}
 use Rattle.lin_core.specs.declared.reply.Reply.TheVariants.{Done, Refused}
 use Rattle.lin_core.specs.declared.step.Step.{Step}
 use Rattle.lin_core.specs.declared.step.Step.TheVariants.{Finish}
-use Rattle.lin_log.specs.Words.{cause_word, header_word, hex_word, refusal_number, reply_line, seen_words, spaced_word, value_word}
+use Rattle.lin_core.specs.Tables.{cause_word, refusal_number, refusal_word}
+use Rattle.lin_log.specs.Words.{header_word, hex_word, reply_line, seen_words, spaced_word, value_word}
 use Rattle.lin_log.proofs.Law.{plain-decimal, plain-hex, word-hex}
 use Rattle.lin_log.proofs.Whole.{all_inline, inline-append, inline-word, line-end, no-end, not-stripped}
-use Rattle.lin_export.specs.Named.{behind, control_words, event_lines, frame_words, good_line, named_event, node_word, refusal_name, reply_lines, signal_words, sporadic_frame, table_word, time_line, transport_line, transport_words, who_word}
+use Rattle.lin_export.specs.Named.{behind, control_words, event_lines, frame_words, good_line, named_event, node_word, reply_lines, signal_words, sporadic_frame, table_word, time_line, transport_line, transport_words, who_word}
 use Rattle.lin_export.specs.Shown.{entry_name, frame_name, slot_frame}
 use Rattle.lin_bench.specs.Lines.{read_line}
 use Rattle.lin_bench.specs.declared.line.Line.TheVariants as line
@@ -282,7 +283,7 @@ quiet-time : (c : Parts) (s : Step) (at : ℕ) → IsQuiet c (time_line s at)
 quiet-time c Finish at = quiet-line c (codes "time" ∷ decimal at ∷ []) (word-and-number (codes "time") at refl)
 quiet-time c s at = quiet-none c
 
-inline-refusal : (r : Refusal) → all_inline (refusal_name r) ≡ true
+inline-refusal : (r : Refusal) → all_inline (refusal_word r) ≡ true
 inline-refusal refusal.NoSuchNode = refl
 inline-refusal refusal.NoSuchSignal = refl
 inline-refusal refusal.NoSuchTable = refl
@@ -311,4 +312,4 @@ quiet-reply c names a b e past (Done events) =
     quiet-both c (flat_map (event_lines c names (open_slot past)) events) (time_line e.step (time c (e ∷ past)))
     (quiet-each c (event_lines c names (open_slot past)) events (quiet-event c names a b (open_slot past))) (quiet-time c e.step (time c (e ∷ past)))
 quiet-reply c names a b e past (Refused r) =
-    quiet-line c (codes "refused" ∷ decimal (refusal_number r) ∷ refusal_name r ∷ []) (refused-line (refusal_number r) (refusal_name r) (inline-refusal r))
+    quiet-line c (codes "refused" ∷ decimal (refusal_number r) ∷ refusal_word r ∷ []) (refused-line (refusal_number r) (refusal_word r) (inline-refusal r))

@@ -13,7 +13,8 @@ use Rattle.lin_core.specs.declared.port.PortId.TheVariants.{Bus, Host, Node}
 use Rattle.lin_core.specs.declared.step.Step.{Step}
 use Rattle.lin_core.specs.declared.step.Step.TheVariants.{Send, Write, Open, Answer, Leave, Hurt, Finish, Timeout, Switch, AskSleep, Wake, Close}
 use Rattle.lin_log.specs.Script as plain
-use Rattle.lin_log.specs.Words.{direction_word, hex_word, port_word, spaced_word, value_word}
+use Rattle.lin_core.specs.Tables.{direction_word}
+use Rattle.lin_log.specs.Words.{hex_word, port_word, spaced_word, value_word}
 use Rattle.lin_log.proofs.FieldLemmas.{AreWords, IsWord, fields-joined, none, more}
 use Rattle.lin_log.proofs.Law.{hex-again, port-again, value-again, word-hex}
 use Rattle.lin_log.proofs.Whole.{literal, word-direction, word-port, word-value}

@@ -8,7 +8,8 @@ use Rattle.std.proofs.lemmas.Fmt.{decimal_by_steps, length-decimal-le}
 use Rattle.std.proofs.lemmas.Grind.{common_steps}
 use Rattle.hex.specs.Hex.{encode_upper, encode_with, upper_digits, decode_of, IsBytes}
 use Rattle.hex.proofs.HexLemmas.{decode_of-encode_upper}
-use Rattle.lin_log.specs.Words.{hex_word, port_word, direction_word, step_words, value_word}
+use Rattle.lin_core.specs.Tables.{direction_word}
+use Rattle.lin_log.specs.Words.{hex_word, port_word, step_words, value_word}
 use Rattle.lin_core.specs.Fits.{FitsPort, FitsStep, FitsValue}
 use Rattle.lin_log.specs.Script.{number, number_after, hex_bytes, port, form, send_form, write_form, hurt_form, timeout_form, switch_form, node_form, port_step, value}
 use Rattle.lin_frame.specs.declared.value.Value.{Value}

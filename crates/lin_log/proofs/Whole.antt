@@ -7,7 +7,8 @@ use Rattle.std.proofs.lemmas.List.Elements.{All-nil, All-cons}
 use Rattle.std.proofs.lemmas.List.Splits.{slice_split_at}
 use Rattle.std.proofs.lemmas.Bool.{and_parts}
 use Rattle.std.proofs.lemmas.Grind.{common_steps}
-use Rattle.lin_log.specs.Words.{spaced_word, line_tail, port_word, direction_word, step_words, value_word, step_line, reply_line, event_words, seen_words, cause_word, header_word, refusal_number, reply_text, entry_text, text}
+use Rattle.lin_core.specs.Tables.{cause_word, direction_word, refusal_number}
+use Rattle.lin_log.specs.Words.{spaced_word, line_tail, port_word, step_words, value_word, step_line, reply_line, event_words, seen_words, header_word, reply_text, entry_text, text}
 use Rattle.std.proofs.lemmas.List.Elements.{All-head, All-tail}
 use Rattle.lin_core.specs.Runs.{steps_of}
 use Rattle.lin_core.specs.Fits.{FitsPort, FitsStep, FitsValue}

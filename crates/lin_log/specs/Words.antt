@@ -1,25 +1,21 @@
 -- The text of a log: entries as lines, lines as words.
 use Rattle.std.specs.Prelude.{ℕ, List, [], ◌∷◌, ◌++◌, Option, Some, None, codes, flat_map}
 use Rattle.std.specs.Fmt.{decimal}
+use Rattle.std.specs.Option.{option_map_or}
 use Rattle.hex.specs.Hex.{encode_upper}
 use Rattle.lin_frame.specs.declared.value.Value.{Value}
 use Rattle.lin_frame.specs.declared.value.Value.TheVariants.{Scalar, Bytes}
+use Rattle.lin_core.specs.History.{good_bytes}
+use Rattle.lin_core.specs.Tables.{cause_word, direction_word, look_of, look_word, refusal_number}
 use Rattle.lin_core.specs.declared.port.PortId.{PortId}
 use Rattle.lin_core.specs.declared.port.PortId.TheVariants.{Bus, Host, Node}
 use Rattle.lin_core.specs.declared.step.Step.{Step}
 use Rattle.lin_core.specs.declared.step.Step.TheVariants.{Send, Write, Open, Answer, Leave, Hurt}
 use Rattle.lin_core.specs.declared.step.Step.TheVariants.{Finish, Timeout, Switch, AskSleep, Wake}
 use Rattle.lin_core.specs.declared.step.Step.TheVariants.{Close}
-use Rattle.lin_core.specs.declared.link.Direction.{Direction}
-use Rattle.lin_core.specs.declared.link.Direction.TheVariants.{Down, Up}
-use Rattle.lin_core.specs.declared.link.Cause.{Cause}
-use Rattle.lin_core.specs.declared.link.Cause.TheVariants as cause
 use Rattle.lin_core.specs.declared.event.Event.{Event}
 use Rattle.lin_core.specs.declared.event.Event.TheVariants as event
 use Rattle.lin_core.specs.declared.event.Seen.{Seen}
-use Rattle.lin_core.specs.declared.event.Seen.TheVariants as seen
-use Rattle.lin_core.specs.declared.reply.Refusal.{Refusal}
-use Rattle.lin_core.specs.declared.reply.Refusal.TheVariants as refusal
 use Rattle.lin_core.specs.declared.reply.Reply.{Reply}
 use Rattle.lin_core.specs.declared.reply.Reply.TheVariants.{Done, Refused}
 use Rattle.lin_core.specs.declared.log.LogEntry.{LogEntry}
@@ -52,11 +48,6 @@ abbrev pub value_word : Value → List ℕ
 value_word (Scalar n) = decimal n
 value_word (Bytes bytes) = 120 ∷ hex_word bytes
 
--- the direction of a transfer
-abbrev pub direction_word : Direction → List ℕ
-direction_word Down = codes "down"
-direction_word Up = codes "up"
-
 -- what a step is called, and its parts
 abbrev pub step_words : Step → List (List ℕ)
 step_words (Send from to message) = codes "send" ∷ decimal from ∷ decimal to ∷ hex_word message ∷ []
@@ -78,19 +69,10 @@ abbrev pub header_word : Option ℕ → List ℕ
 header_word None = codes "-"
 header_word (Some h) = encode_upper (h ∷ [])
 
--- how a slot was seen
+-- how a slot was seen, and the response of a good one
 abbrev pub seen_words : Seen → List (List ℕ)
-seen_words seen.Silent = codes "silent" ∷ []
-seen_words seen.NoAnswer = codes "none" ∷ []
-seen_words (seen.Good answer) = codes "good" ∷ hex_word answer ∷ []
-seen_words seen.Damaged = codes "damaged" ∷ []
-seen_words seen.Collided = codes "collided" ∷ []
-
--- why a message is lost
-abbrev pub cause_word : Cause → List ℕ
-cause_word cause.Damaged = codes "damaged"
-cause_word cause.TimedOut = codes "timedout"
-cause_word cause.Slept = codes "slept"
+seen_words s =
+    look_word (look_of s) ∷ option_map_or (λ answer. hex_word answer ∷ []) (good_bytes s) []
 
 -- what an event is called, and its parts
 abbrev pub event_words : Event → List (List ℕ)
@@ -106,27 +88,6 @@ event_words (event.Sent host number) = codes "sent" ∷ decimal host ∷ decimal
 event_words (event.Lost host number why) =
     codes "lost" ∷ decimal host ∷ decimal number ∷ cause_word why ∷ []
 event_words event.Asleep = codes "asleep" ∷ []
-
--- a refusal's number
-abbrev pub refusal_number : Refusal → ℕ
-refusal_number refusal.NoSuchNode = 1
-refusal_number refusal.NoSuchSignal = 2
-refusal_number refusal.NoSuchTable = 3
-refusal_number refusal.NotPublisher = 4
-refusal_number refusal.BadValue = 5
-refusal_number refusal.NoAddress = 6
-refusal_number refusal.BadLength = 7
-refusal_number refusal.Closed = 8
-refusal_number refusal.QueueFull = 9
-refusal_number refusal.Asleep = 10
-refusal_number refusal.Awake = 11
-refusal_number refusal.SlotOpen = 12
-refusal_number refusal.NoSlot = 13
-refusal_number refusal.NotYours = 14
-refusal_number refusal.Decided = 15
-refusal_number refusal.NothingOnWire = 16
-refusal_number refusal.PassesCheck = 17
-refusal_number refusal.NoTransfer = 18
 
 -- the line of a step begins with its port, a line of a reply with `>`
 abbrev pub step_line : PortId → Step → List ℕ

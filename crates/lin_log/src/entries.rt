@@ -4,13 +4,15 @@ ghost use Rattle.std.specs.Prelude.{◌≡◌, ◌∷◌, ◌++◌, [], codes, f
 ghost use Rattle.std.specs.Fmt.{decimal};
 ghost use Rattle.lin_core.specs.declared.event.Event.TheVariants.{Lost};
 ghost use Rattle.lin_text.specs.Written.{Grows, WritesText};
-ghost use Rattle.lin_log.specs.Words.{cause_word, direction_word, line_tail, entry_text};
-ghost use Rattle.lin_log.specs.Words.{event_words, header_word, port_word, refusal_number};
-ghost use Rattle.lin_log.specs.Words.{reply_line, reply_text, seen_words, step_line, step_words};
-ghost use Rattle.lin_log.specs.Words.{text, value_word};
+ghost use Rattle.lin_log.specs.Words.{entry_text, event_words, header_word, line_tail, port_word};
+ghost use Rattle.lin_log.specs.Words.{reply_line, reply_text, seen_words, step_words, text};
+ghost use Rattle.lin_log.specs.Words.{value_word};
 
-use crate::words::{put_last_array, put_last_bytes, put_last_number, put_number, put_numbers};
-use lin_core::{Cause, Direction, Event, Log, LogEntry, PortId, Refusal, Reply, Seen, Step};
+use crate::words::{
+    put_last_array, put_last_bytes, put_last_number, put_last_word, put_number, put_numbers,
+    put_word,
+};
+use lin_core::{Cause, Event, Listed, Log, LogEntry, PortId, Reply, Seen, Step};
 use lin_frame::Value;
 use lin_text::{TextWriter, WriteFailed};
 use std::io::Write;
@@ -40,15 +42,6 @@ fn put_value<W: Write>(writer: &mut TextWriter<'_, W>, value: &Value)
     }
 }
 
-fn put_direction<W: Write>(writer: &mut TextWriter<'_, W>, direction: Direction)
-    ensures { Grows W.contents writer.old writer.new (line_tail (direction_word direction ∷ [])) }
-{
-    match direction {
-        Direction::Down => writer.put_text(" down\n"),
-        Direction::Up => writer.put_text(" up\n"),
-    }
-}
-
 /// The rest of a step's line, after its port.
 fn put_step<W: Write>(writer: &mut TextWriter<'_, W>, step: &Step)
     ensures { Grows W.contents writer.old writer.new (line_tail (step_words step.now)) }
@@ -73,7 +66,7 @@ fn put_step<W: Write>(writer: &mut TextWriter<'_, W>, step: &Step)
         Step::Timeout { node, dir } => {
             writer.put_text(" timeout");
             put_number(writer, *node);
-            put_direction(writer, *dir);
+            put_last_word(writer, dir.word());
         }
         Step::Switch { table } => put_last_number(writer, " switch", *table),
         Step::AskSleep => writer.put_text(" sleep\n"),
@@ -95,25 +88,11 @@ fn put_seen<W: Write>(writer: &mut TextWriter<'_, W>, seen: &Seen)
     ensures { Grows W.contents writer.old writer.new
         (reply_line (codes "seen" ∷ seen_words seen.now)) }
 {
+    writer.put_text("> seen");
+    put_word(writer, seen.look().word());
     match seen {
-        Seen::Silent => writer.put_text("> seen silent\n"),
-        Seen::NoAnswer => writer.put_text("> seen none\n"),
-        Seen::Good(answer) => {
-            writer.put_text("> seen good");
-            put_last_bytes(writer, answer.as_slice());
-        }
-        Seen::Damaged => writer.put_text("> seen damaged\n"),
-        Seen::Collided => writer.put_text("> seen collided\n"),
-    }
-}
-
-fn put_cause<W: Write>(writer: &mut TextWriter<'_, W>, cause: Cause)
-    ensures { Grows W.contents writer.old writer.new (line_tail (cause_word cause ∷ [])) }
-{
-    match cause {
-        Cause::Damaged => writer.put_text(" damaged\n"),
-        Cause::TimedOut => writer.put_text(" timedout\n"),
-        Cause::Slept => writer.put_text(" slept\n"),
+        Seen::Good(answer) => put_last_bytes(writer, answer.as_slice()),
+        _ => writer.put_byte(b'\n'),
     }
 }
 
@@ -132,7 +111,7 @@ fn put_loss<W: Write>(writer: &mut TextWriter<'_, W>, host: u8, number: u32, cau
         (reply_line (event_words (Lost host number cause))) }
 {
     put_numbers(writer, "> lost", host, number);
-    put_cause(writer, cause);
+    put_last_word(writer, cause.word());
 }
 
 fn put_event<W: Write>(writer: &mut TextWriter<'_, W>, event: &Event)
@@ -178,12 +157,6 @@ fn put_events<W: Write>(writer: &mut TextWriter<'_, W>, events: &[Event])
     }
 }
 
-fn refusal_number(refusal: Refusal) -> u8
-    ensures { result ≡ refusal_number refusal }
-{
-    refusal as u8 + 1
-}
-
 #[tactic(auto, unfolding(crate::specs::Words::reply_text))]
 fn put_reply<W: Write>(writer: &mut TextWriter<'_, W>, reply: &Reply)
     ensures { Grows W.contents writer.old writer.new (reply_text reply.now) }
@@ -191,7 +164,7 @@ fn put_reply<W: Write>(writer: &mut TextWriter<'_, W>, reply: &Reply)
     match reply {
         Reply::Done(events) => put_events(writer, events.as_slice()),
         Reply::Refused(refusal) => {
-            put_last_number(writer, "> refused", refusal_number(*refusal));
+            put_last_number(writer, "> refused", refusal.number());
         }
     }
 }

@@ -47,6 +47,22 @@ pub(crate) fn put_last_number<W: Write, N: Integer>(
     writer.put_byte(b'\n');
 }
 
+#[inline]
+pub(crate) fn put_word<W: Write>(writer: &mut TextWriter<'_, W>, word: &str)
+    ensures { Grows W.contents writer.old writer.new (spaced_word word.now) }
+{
+    writer.put_byte(b' ');
+    writer.put_text(word);
+}
+
+/// A word that ends its line.
+pub(crate) fn put_last_word<W: Write>(writer: &mut TextWriter<'_, W>, word: &str)
+    ensures { Grows W.contents writer.old writer.new (line_tail (word.now ∷ [])) }
+{
+    put_word(writer, word);
+    writer.put_byte(b'\n');
+}
+
 fn put_hex<W: Write>(writer: &mut TextWriter<'_, W>, bytes: &[u8])
     ensures { Grows W.contents writer.old writer.new (hex_word bytes.now) }
 {

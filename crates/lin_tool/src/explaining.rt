@@ -4,7 +4,7 @@ use crate::fault::Fault;
 use crate::meanings::{FAULTS, FINDINGS, REFUSALS};
 use lin_cluster::Finding;
 use lin_cluster_parts::Cluster;
-use lin_core::{Log, Reply};
+use lin_core::{Listed, Log, Refusal, Reply};
 use lin_ldf::{LdfFault, Place};
 use lin_log::first_line;
 use std::alloc::AllocError;
@@ -160,10 +160,13 @@ fn counts(log: &Log) -> [u64; 18] {
 /// Puts how many steps of a log were refused, and why; nothing where none was.
 pub(crate) fn put_refusals(out: &mut String, log: &Log) -> Result<(), AllocError> {
     let steps = log.len();
-    let mut number: u64 = 0;
-    for (count, (name, meaning)) in counts(log).iter().zip(REFUSALS.iter()) {
-        number = number.saturating_add(1);
+    let counts = counts(log);
+    for (at, meaning) in REFUSALS.iter().enumerate() {
+        let (Some(count), Some(refusal)) = (counts.get(at), Refusal::all().get(at)) else {
+            return Ok(());
+        };
         if *count > 0 {
+            let (number, name) = (refusal.number(), refusal.word());
             writeln!(
                 out,
                 "  refused: {count} of {steps} steps, {number} {name}: {meaning}"

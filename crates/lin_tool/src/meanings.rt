@@ -120,63 +120,30 @@ pub(crate) static FINDINGS: [(&str, &str); 18] = [
     ),
 ];
 
-/// The name of a refusal, and when a step is refused so.
-pub(crate) static REFUSALS: [(&str, &str); 18] = [
-    (
-        "NoSuchNode",
-        "send, write, answer, leave, timeout, close: a number that is no node of the cluster; the \
-         receiver of a send may also be 126",
-    ),
-    (
-        "NoSuchSignal",
-        "write: a number that is no signal of the cluster",
-    ),
-    (
-        "NoSuchTable",
-        "switch: a number that is no schedule table of the cluster",
-    ),
-    ("NotPublisher", "write: the node doesn't publish the signal"),
-    (
-        "BadValue",
-        "write: an array for a scalar signal or the other way round; a scalar with more bits \
-         than the signal; an array of another length",
-    ),
-    (
-        "NoAddress",
-        "send: not exactly one of the two is node 0, or the other one has no diagnostic address; \
-         to 126: the sender isn't node 0, or no responder has an address",
-    ),
-    (
-        "BadLength",
-        "send: no bytes, or more than 4,095; to 126 more than 6",
-    ),
-    ("Closed", "send, close: the host is closed"),
-    (
-        "QueueFull",
-        "send: as many of the host's messages wait as the capacity (--capacity); one that is \
-         begun counts until its end",
-    ),
-    ("Asleep", "open, sleep: the cluster is asleep"),
-    ("Awake", "wake: the cluster isn't asleep"),
-    ("SlotOpen", "open, timeout, switch: a slot is open"),
-    ("NoSlot", "answer, leave, hurt, finish: no slot is open"),
-    (
-        "NotYours",
-        "any step: this port may not give it; answer, leave: the node isn't due in the open slot",
-    ),
-    (
-        "Decided",
-        "answer, leave: the node has answered in this slot, or left its answer out; hurt: the \
-         slot's answer is damaged already",
-    ),
-    (
-        "NothingOnWire",
-        "hurt: the slot has no answer, or more than one",
-    ),
-    (
-        "PassesCheck",
-        "hurt: the bytes would pass for an answer in this slot: they have its length and the \
-         right checksum, classic or enhanced as the slot's frame has it",
-    ),
-    ("NoTransfer", "timeout: no message is begun on that link"),
+/// When a step is refused, for each refusal in the order of their numbers.
+pub(crate) static REFUSALS: [&str; 18] = [
+    "send, write, answer, leave, timeout, close: a number that is no node of the cluster; the \
+     receiver of a send may also be 126",
+    "write: a number that is no signal of the cluster",
+    "switch: a number that is no schedule table of the cluster",
+    "write: the node doesn't publish the signal",
+    "write: an array for a scalar signal or the other way round; a scalar with more bits \
+     than the signal; an array of another length",
+    "send: not exactly one of the two is node 0, or the other one has no diagnostic address; \
+     to 126: the sender isn't node 0, or no responder has an address",
+    "send: no bytes, or more than 4,095; to 126 more than 6",
+    "send, close: the host is closed",
+    "send: as many of the host's messages wait as the capacity (--capacity); one that is \
+     begun counts until its end",
+    "open, sleep: the cluster is asleep",
+    "wake: the cluster isn't asleep",
+    "open, timeout, switch: a slot is open",
+    "answer, leave, hurt, finish: no slot is open",
+    "any step: this port may not give it; answer, leave: the node isn't due in the open slot",
+    "answer, leave: the node has answered in this slot, or left its answer out; hurt: the \
+     slot's answer is damaged already",
+    "hurt: the slot has no answer, or more than one",
+    "hurt: the bytes would pass for an answer in this slot: they have its length and the \
+     right checksum, classic or enhanced as the slot's frame has it",
+    "timeout: no message is begun on that link",
 ];

@@ -1,9 +1,9 @@
 //! `--explain` of a bad line of a bench script: the line, and the names that there are.
 
 use crate::explaining::{put_line, put_shown};
-use crate::meanings::REFUSALS;
 use lin_bench::Reason;
 use lin_cluster_parts::Cluster;
+use lin_core::{Listed, Refusal};
 use std::alloc::{AllocError, Global};
 use strsim::generic_levenshtein;
 
@@ -90,8 +90,8 @@ fn put_tables(
 
 fn put_refusals(alloc: Global, out: &mut String, read: &[u8]) -> Result<(), AllocError> {
     let mut names = Vec::new(alloc);
-    for (name, _) in REFUSALS.iter() {
-        names.push(name.as_bytes())?;
+    for refusal in Refusal::all() {
+        names.push(refusal.word().as_bytes())?;
     }
     put_nearest(alloc, out, "refusals", names.as_slice(), read)
 }

@@ -21,7 +21,7 @@ returns-in-Sent g c = rw c.in-Sent.is (grows-more c.put_text-in-Sent.ensures c.p
 
 pub returns-in-Lost : goal.returns-in-Lost
 returns-in-Lost g c = rw c.in-Lost.is
-    (grows-more c.put_text-in-Lost.ensures (grows-more c.put_node-in-Lost.ensures (rw c.cause_word.ensures at c.put_spaced.ensures)))
+    (grows-more c.put_text-in-Lost.ensures (grows-more c.put_node-in-Lost.ensures (rw (c.as_bytes.ensures.value, c.word.ensures) at c.put_spaced.ensures)))
 
 pub returns-in-Slot : goal.returns-in-Slot
 returns-in-Slot g c = rw c.in-Slot.is (grows-more c.put_text-in-Slot.ensures c.put_entry.ensures)

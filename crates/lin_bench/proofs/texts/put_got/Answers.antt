@@ -6,7 +6,7 @@ returns-in-Sent g c = rw c.in-Sent.is (grows-more c.put_text.ensures (grows-more
 
 pub returns-in-Lost : goal.returns-in-Lost
 returns-in-Lost g c = rw c.in-Lost.is
-    (grows-more c.put_text-in-Lost.ensures (grows-more c.put_number-in-Lost.ensures (rw c.cause_word.ensures at c.put_after.ensures)))
+    (grows-more c.put_text-in-Lost.ensures (grows-more c.put_number-in-Lost.ensures (rw (c.as_bytes.ensures.value, c.word.ensures) at c.put_after.ensures)))
 
 pub returns-in-NoNode : goal.returns-in-NoNode
 returns-in-NoNode g c = rw c.in-NoNode.is c.put_text-in-NoNode.ensures

@@ -3,4 +3,4 @@ use Rattle.lin_text.proofs.Growing.{grows-more}
 use Rattle.lin_log.proofs.entries.put_loss.Goals as goal
 
 pub returns : goal.returns
-returns g c = rw (append_assoc, append_assoc) at (grows-more c.put_numbers.ensures c.put_cause.ensures)
+returns g c = rw (append_assoc, append_assoc) at (grows-more c.put_numbers.ensures (rw c.word.ensures at c.put_last_word.ensures))

@@ -12,4 +12,4 @@ pub returns-in-Hurt : goal.returns-in-Hurt
 returns-in-Hurt g c = rw c.in-Hurt.is (rw c.as_slice-in-Hurt.ensures at (grows-more c.put_text-in-Hurt.ensures c.put_last_bytes-in-Hurt.ensures))
 
 pub returns-in-Timeout : goal.returns-in-Timeout
-returns-in-Timeout g c = rw c.in-Timeout.is (grows-more c.put_text-in-Timeout.ensures (grows-more c.put_number.ensures c.put_direction.ensures))
+returns-in-Timeout g c = rw c.in-Timeout.is (grows-more c.put_text-in-Timeout.ensures (grows-more c.put_number.ensures (rw c.word.ensures at c.put_last_word.ensures)))
