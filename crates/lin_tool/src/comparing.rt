@@ -4,10 +4,9 @@ ghost use Rattle.std.specs.Prelude.{◌≡◌, ◌≢◌, ◌≤◌, ◌<◌, le
 ghost use Rattle.std.specs.Prelude.{MatchOption};
 ghost use Rattle.lin_tool.specs.Comparing.{Compares, PartInLine};
 
-use crate::describing::cluster_of_file;
 use crate::fault::Fault;
 use crate::notes::Notes;
-use crate::opening::noted_table;
+use crate::opening::{Opened, Settings, begin, within_limits};
 use crate::scripts::{noted_bytes, noted_run};
 use lin_cluster_parts::Cluster;
 use lin_log::write_log;
@@ -76,29 +75,22 @@ pub fn compare_script<R: Read>(
     }
 }
 
-/// Reads the log on standard input, makes its steps over the cluster that the LDF text in the file
-/// at `path` describes, or without a path over the built-in one, and compares their log with what
-/// was read. It begins with the schedule table of the name `table`, or without a name with the
-/// first one; each host may have `capacity` messages waiting, 1 to 1,024.
+/// Reads the log on standard input, makes its steps over the cluster of the settings, and compares
+/// their log with what was read. (It is compared with the log's own text, whatever their format.)
 ///
 /// # Errors
 /// Those of `cluster_of_file`; `NoSuchTable`; those of `compare_script`.
 pub fn compare<R: AllocGlobal + Files + Input>(
     rt: &R,
-    path: Option<&str>,
-    table: Option<&str>,
-    capacity: usize,
+    settings: &Settings<'_>,
     notes: &mut Notes<'_>,
-) -> Result<(), Fault>
-    requires { (1 ≤ capacity) × (capacity ≤ 1024) }
-{
-    let described = cluster_of_file(rt, path, notes)?;
-    let table = noted_table(&described.cluster, table, notes)?;
+) -> Result<(), Fault> {
+    let Opened { described, table } = begin(rt, settings, notes)?;
     compare_script(
         rt.alloc(),
         described.cluster,
         table,
-        capacity,
+        within_limits(settings.capacity),
         &mut rt.reader(),
         notes,
     )

@@ -39,7 +39,7 @@ pub use findings::Findings;
 pub use formats::{Format, write_shown};
 pub use listing::{Lists, write_list, write_lists};
 pub use notes::{Notes, Wanted};
-pub use opening::{opening_table, within_limits};
+pub use opening::{Settings, opening_table};
 pub use playing::{play, play_script};
 pub use replaying::{replay, replay_script};
 pub use running::run;

@@ -1,11 +1,28 @@
-//! What a run begins with: the schedule table, and how many messages of a host may wait.
+//! What a run begins with: the cluster, the schedule table, and how many messages of a host may
+//! wait.
 
 ghost use Rattle.std.specs.Prelude.{◌≡◌, ◌≤◌, ◌<◌, length, min, max, IfOk};
 ghost use Rattle.lin_tool.specs.Opening.{Opens, opening_of};
 
+use crate::describing::{Described, cluster_of_file};
 use crate::fault::Fault;
+use crate::formats::Format;
 use crate::notes::Notes;
 use lin_cluster_parts::Cluster;
+use std::fs::Files;
+
+/// What a run begins with, and how its log is written.
+#[derive(Clone, Copy, Debug, Drop)]
+pub struct Settings<'a> {
+    /// The LDF file; without one the cluster is the built-in one.
+    pub file: Option<&'a str>,
+    /// The schedule table, by its name; without one it is the first.
+    pub table: Option<&'a str>,
+    /// How many messages of a host may wait: the nearest number of 1 to 1,024.
+    pub capacity: u16,
+    /// The format of the log.
+    pub format: Format,
+}
 
 /// The number of the cluster's schedule table of this name; of the first one, where no name is
 /// given.
@@ -23,27 +40,38 @@ pub fn opening_table(cluster: &Cluster, name: Option<&str>) -> Result<u16, Fault
     }
 }
 
-/// The same. Where there is no such table, the notes tell the names of those that there are.
+/// The cluster that a run begins with, and the number of its schedule table.
+#[derive(Drop)]
+pub(crate) struct Opened {
+    pub(crate) described: Described,
+    pub(crate) table: u16,
+}
+
+/// What a run of these settings begins with. Where there is no such
+/// table, the notes tell the names of those that there are.
 ///
 /// # Errors
-/// `NoSuchTable`, as of `opening_table`.
-pub(crate) fn noted_table(
-    cluster: &Cluster,
-    name: Option<&str>,
+/// Those of `cluster_of_file` and `opening_table`.
+pub(crate) fn begin<R: AllocGlobal + Files>(
+    rt: &R,
+    settings: &Settings<'_>,
     notes: &mut Notes<'_>,
-) -> Result<u16, Fault>
-    ensures { IfOk result (λ table. table < length cluster.now.tables) }
+) -> Result<Opened, Fault>
+    ensures { IfOk result (λ it. it.table < length it.described.cluster.tables) }
 {
-    let table = opening_table(cluster, name);
-    if table.is_err() {
-        notes.add_tables(cluster);
+    let described = cluster_of_file(rt, settings.file, notes)?;
+    match opening_table(&described.cluster, settings.table) {
+        Ok(table) => Ok(Opened { described, table }),
+        Err(fault) => {
+            notes.add_tables(&described.cluster);
+            Err(fault)
+        }
     }
-    table
 }
 
 /// How many messages of a host may wait, where so many are asked for: the nearest number of 1 to
 /// 1,024.
-pub fn within_limits(capacity: u16) -> usize
+pub(crate) fn within_limits(capacity: u16) -> usize
     ensures value { result ≡ max 1 (min 1024 capacity) }
     ensures range { (1 ≤ result) × (result ≤ 1024) }
 {

@@ -8,11 +8,11 @@ ghost use Rattle.lin_bench.specs.Texts.{unmet_text};
 ghost use Rattle.lin_tool.specs.Formats.{log_as};
 ghost use Rattle.lin_tool.specs.Playing.{Judges, PlaysScript, ReadsLines, WritesPlayed};
 
-use crate::describing::{Described, cluster_of_file};
+use crate::describing::Described;
 use crate::fault::Fault;
 use crate::formats::{Format, write_shown};
 use crate::notes::Notes;
-use crate::opening::noted_table;
+use crate::opening::{Opened, Settings, begin, within_limits};
 use crate::scripts::noted_bytes;
 use lin_bench::{
     Line, Played, ReadFault, Unmet, play as play_lines, read, write_bad_line, write_unmet,
@@ -143,39 +143,28 @@ pub fn play_script<R: Read, W: Write, E: Write>(
     judged
 }
 
-/// Reads the bench script on standard input, plays it over the cluster that the LDF text in the
-/// file at `path` describes, and writes the log on standard output in a format. What is said of a
-/// bad line and of expectations that aren't met goes to `errors`.
-///
-/// It begins with the schedule table of the name `table`, or without a name with the first one;
-/// each host may have `capacity` messages waiting, 1 to 1,024.
+/// Reads the bench script on standard input, plays it over the cluster of the settings, and writes
+/// the log on standard output in their format. What is said of a bad line and of expectations that
+/// aren't met goes to `errors`.
 ///
 /// # Errors
 /// Those of `cluster_of_file`, and `NoSuchTable`, after which nothing was written; those of
 /// `play_script`.
 pub fn play<R: AllocGlobal + Files + Input + Print, E: Write>(
     rt: &R,
-    path: &str,
-    table: Option<&str>,
-    capacity: usize,
-    format: Format,
+    settings: &Settings<'_>,
     errors: &mut E,
     notes: &mut Notes<'_>,
-) -> Result<(), Fault>
-    requires { (1 ≤ capacity) × (capacity ≤ 1024) }
-{
-    let described = cluster_of_file(rt, Some(path), notes)?;
-    let table = noted_table(&described.cluster, table, notes)?;
-    let mut reader = rt.reader();
-    let mut writer = io::writer(rt);
+) -> Result<(), Fault> {
+    let Opened { described, table } = begin(rt, settings, notes)?;
     play_script(
         rt.alloc(),
         described,
         table,
-        capacity,
-        format,
-        &mut reader,
-        &mut writer,
+        within_limits(settings.capacity),
+        settings.format,
+        &mut rt.reader(),
+        &mut io::writer(rt),
         errors,
         notes,
     )

@@ -5,11 +5,11 @@ ghost use Rattle.std.specs.Prelude.{◌≤◌, ◌<◌, length};
 ghost use Rattle.lin_tool.specs.Replaying.{Replays};
 ghost use Rattle.lin_tool.specs.declared.formats.Format.TheVariants.{Log};
 
-use crate::describing::{Described, cluster_of_file};
+use crate::describing::Described;
 use crate::fault::Fault;
 use crate::formats::{Format, write_shown};
 use crate::notes::Notes;
-use crate::opening::noted_table;
+use crate::opening::{Opened, Settings, begin, within_limits};
 use crate::scripts::{noted_bytes, noted_run};
 use std::alloc::Global;
 use std::fs::Files;
@@ -79,38 +79,26 @@ pub fn replay_script<R: Read, W: Write>(
     }
 }
 
-/// Reads the script on standard input, makes its steps over the cluster that the LDF text in the
-/// file at `path` describes, or without a path over the built-in one, and writes the log on
-/// standard output in a format.
-///
-/// It begins with the schedule table of the name `table`, or without a name with the first one;
-/// each host may have `capacity` messages waiting, 1 to 1,024.
+/// Reads the script on standard input, makes its steps over the cluster of the settings, and writes
+/// the log on standard output in their format.
 ///
 /// # Errors
 /// Those of `cluster_of_file`, and `NoSuchTable`, after which nothing was written; those of
 /// `replay_script`.
 pub fn replay<R: AllocGlobal + Files + Input + Print>(
     rt: &R,
-    path: Option<&str>,
-    table: Option<&str>,
-    capacity: usize,
-    format: Format,
+    settings: &Settings<'_>,
     notes: &mut Notes<'_>,
-) -> Result<(), Fault>
-    requires { (1 ≤ capacity) × (capacity ≤ 1024) }
-{
-    let described = cluster_of_file(rt, path, notes)?;
-    let table = noted_table(&described.cluster, table, notes)?;
-    let mut reader = rt.reader();
-    let mut writer = io::writer(rt);
+) -> Result<(), Fault> {
+    let Opened { described, table } = begin(rt, settings, notes)?;
     replay_script(
         rt.alloc(),
         described,
         table,
-        capacity,
-        format,
-        &mut reader,
-        &mut writer,
+        within_limits(settings.capacity),
+        settings.format,
+        &mut rt.reader(),
+        &mut io::writer(rt),
         notes,
     )
 }

@@ -9,11 +9,11 @@ ghost use Rattle.lin_threads.specs.Runs.{bus_steps};
 ghost use Rattle.lin_tool.specs.Formats.{log_as};
 ghost use Rattle.lin_tool.specs.Running.{ReadsHosts, WritesRun};
 
-use crate::describing::{Described, cluster_of_file};
+use crate::describing::Described;
 use crate::fault::Fault;
 use crate::formats::{Format, write_shown};
 use crate::notes::Notes;
-use crate::opening::noted_table;
+use crate::opening::{Opened, Settings, begin, within_limits};
 use crate::scripts::noted_script;
 use lin_cluster_parts::Cluster;
 use lin_core::Core;
@@ -153,38 +153,34 @@ fn put_report<W: Write>(
 /// above.)
 fn run_over<R: AllocGlobal + Input + Print + Eprint + Threads + Wait>(
     rt: &R,
-    described: Described,
-    table: u16,
-    capacity: usize,
+    opened: Opened,
+    settings: &Settings<'_>,
     slots: u32,
-    format: Format,
     is_watched: bool,
     notes: &mut Notes<'_>,
 ) -> Result<(), Fault>
-    requires table { table < length described.cluster.tables }
-    requires capacity { (1 ≤ capacity) × (capacity ≤ 1024) }
+    requires { opened.table < length opened.described.cluster.tables }
 {
+    let Opened { described, table } = opened;
     let Described { cluster, names } = described;
-    let hosts = cluster.nodes();
     let mut reader = rt.reader();
-    let lists = host_steps(rt.alloc(), &mut reader, hosts, notes)?;
+    let lists = host_steps(rt.alloc(), &mut reader, cluster.nodes(), notes)?;
     if is_watched {
-        let _ = eprintln!(rt; "linsim: {slots} slots, {hosts} hosts");
+        let _ = eprintln!(rt; "linsim: {slots} slots, {} hosts", lists.len());
     }
+    let capacity = within_limits(settings.capacity);
     let report = run_steps(rt, cluster, table, capacity, slots, lists)?;
-    let written = put_report(rt.alloc(), format, &names, &report, &mut io::writer(rt));
+    let mut writer = io::writer(rt);
+    let written = put_report(rt.alloc(), settings.format, &names, &report, &mut writer);
     notes.add_refusals(report.core.log());
     mem::forget(report);
     written
 }
 
-/// Reads a script of hosts' steps on standard input, runs so many slots of the cluster that the LDF
-/// text in the file at `path` describes, while each host puts its steps and each node answers in a
-/// thread of its own, and writes the log on standard output in a format.
-///
-/// It begins with the schedule table of the name `table`, or without a name with the first one;
-/// each host may have `capacity` messages waiting, 1 to 1,024. Where standard error is watched, a
-/// line there says at the start how many slots and hosts run.
+/// Reads a script of hosts' steps on standard input, runs so many slots of the cluster of the
+/// settings, while each host puts its steps and each node answers in a thread of its own, and writes
+/// the log on standard output in their format. Where standard error is watched, a line there says at
+/// the start how many slots and hosts run.
 ///
 /// # Errors
 /// Those of `cluster_of_file`; `NoSuchTable`; `BadLine`, `ScriptTooLong` and `NotHostStep` for a
@@ -194,19 +190,11 @@ fn run_over<R: AllocGlobal + Input + Print + Eprint + Threads + Wait>(
 /// after all was written.
 pub fn run<R: AllocGlobal + Files + Input + Print + Eprint + Threads + Wait>(
     rt: &R,
-    path: &str,
+    settings: &Settings<'_>,
     slots: u32,
-    table: Option<&str>,
-    capacity: usize,
-    format: Format,
     is_watched: bool,
     notes: &mut Notes<'_>,
-) -> Result<(), Fault>
-    requires { (1 ≤ capacity) × (capacity ≤ 1024) }
-{
-    let described = cluster_of_file(rt, Some(path), notes)?;
-    let table = noted_table(&described.cluster, table, notes)?;
-    run_over(
-        rt, described, table, capacity, slots, format, is_watched, notes,
-    )
+) -> Result<(), Fault> {
+    let opened = begin(rt, settings, notes)?;
+    run_over(rt, opened, settings, slots, is_watched, notes)
 }

@@ -1,7 +1,7 @@
 //! The command line.
 
 use clap::{Arg, ArgAction, ArgMatches, Command, value_parser};
-use lin_tool::{Format, Lists, Wanted};
+use lin_tool::{Format, Lists, Settings, Wanted};
 use std::alloc::{AllocError, Global};
 
 const STATUS_NOTE: &str =
@@ -173,38 +173,15 @@ pub(crate) struct Asked<'a> {
 #[derive(Clone, Copy)]
 pub(crate) enum Request<'a> {
     /// `linsim check FILE [--frames] [--slots]`
-    Check {
-        file: &'a str,
-        lists: Lists,
-    },
+    Check { file: &'a str, lists: Lists },
     /// `linsim play FILE [--table T] [--capacity N] [--to FORMAT]`
-    Play {
-        file: &'a str,
-        table: Option<&'a str>,
-        capacity: u16,
-        format: Format,
-    },
+    Play(Settings<'a>),
     /// `linsim replay [FILE] [--table T] [--capacity N] [--to FORMAT]`
-    Replay {
-        file: Option<&'a str>,
-        table: Option<&'a str>,
-        capacity: u16,
-        format: Format,
-    },
+    Replay(Settings<'a>),
     /// `linsim replay [FILE] [--table T] [--capacity N] --same`
-    Compare {
-        file: Option<&'a str>,
-        table: Option<&'a str>,
-        capacity: u16,
-    },
+    Compare(Settings<'a>),
     /// `linsim run FILE --slots N [--table T] [--capacity N] [--to FORMAT]`
-    Run {
-        file: &'a str,
-        slots: u32,
-        table: Option<&'a str>,
-        capacity: u16,
-        format: Format,
-    },
+    Run { settings: Settings<'a>, slots: u32 },
 }
 
 /// The format of this word; the log's own text for any other.
@@ -234,6 +211,16 @@ fn wanted_of<'a>(matches: &ArgMatches<'a>) -> Wanted<'a> {
     }
 }
 
+/// What a run begins with.
+fn settings_of<'a>(found: &ArgMatches<'a>) -> Settings<'a> {
+    Settings {
+        file: found.get_str("file"),
+        table: found.get_str("table"),
+        capacity: found.get_one::<u16>("capacity").unwrap_or(16),
+        format: format_of(found.get_str("to")),
+    }
+}
+
 fn request_of<'a>(matches: &ArgMatches<'a>) -> Option<Request<'a>> {
     match matches.subcommand() {
         Some(("check", found)) => Some(Request::Check {
@@ -243,29 +230,14 @@ fn request_of<'a>(matches: &ArgMatches<'a>) -> Option<Request<'a>> {
                 slots: found.get_flag("slots"),
             },
         }),
-        Some(("play", found)) => Some(Request::Play {
-            file: found.get_str("file").unwrap_or(""),
-            table: found.get_str("table"),
-            capacity: found.get_one::<u16>("capacity").unwrap_or(16),
-            format: format_of(found.get_str("to")),
-        }),
-        Some(("replay", found)) if found.get_flag("same") => Some(Request::Compare {
-            file: found.get_str("file"),
-            table: found.get_str("table"),
-            capacity: found.get_one::<u16>("capacity").unwrap_or(16),
-        }),
-        Some(("replay", found)) => Some(Request::Replay {
-            file: found.get_str("file"),
-            table: found.get_str("table"),
-            capacity: found.get_one::<u16>("capacity").unwrap_or(16),
-            format: format_of(found.get_str("to")),
-        }),
+        Some(("play", found)) => Some(Request::Play(settings_of(found))),
+        Some(("replay", found)) if found.get_flag("same") => {
+            Some(Request::Compare(settings_of(found)))
+        }
+        Some(("replay", found)) => Some(Request::Replay(settings_of(found))),
         Some(("run", found)) => Some(Request::Run {
-            file: found.get_str("file").unwrap_or(""),
+            settings: settings_of(found),
             slots: found.get_one::<u32>("slots").unwrap_or(1),
-            table: found.get_str("table"),
-            capacity: found.get_one::<u16>("capacity").unwrap_or(16),
-            format: format_of(found.get_str("to")),
         }),
         _ => None,
     }

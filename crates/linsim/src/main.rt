@@ -6,7 +6,7 @@ mod arguments;
 
 use crate::arguments::{Asked, Request, read_words};
 use clap::error::ErrorKind;
-use lin_tool::{Fault, Notes, exit_status, within_limits, write_fault};
+use lin_tool::{Fault, Notes, exit_status, write_fault};
 use std::env::Env;
 use std::fs::Files;
 use std::io::{self, IsTerminal, Write};
@@ -35,47 +35,12 @@ fn perform<R: AllocGlobal + Files + Input + Print + Eprint + Threads + Wait, W: 
 ) -> Result<(), Fault> {
     match request {
         Request::Check { file, lists } => lin_tool::check(rt, file, lists, notes),
-        Request::Play {
-            file,
-            table,
-            capacity,
-            format,
-        } => lin_tool::play(
-            rt,
-            file,
-            table,
-            within_limits(capacity),
-            format,
-            errors,
-            notes,
-        ),
-        Request::Replay {
-            file,
-            table,
-            capacity,
-            format,
-        } => lin_tool::replay(rt, file, table, within_limits(capacity), format, notes),
-        Request::Compare {
-            file,
-            table,
-            capacity,
-        } => lin_tool::compare(rt, file, table, within_limits(capacity), notes),
-        Request::Run {
-            file,
-            slots,
-            table,
-            capacity,
-            format,
-        } => lin_tool::run(
-            rt,
-            file,
-            slots,
-            table,
-            within_limits(capacity),
-            format,
-            is_watched,
-            notes,
-        ),
+        Request::Play(settings) => lin_tool::play(rt, &settings, errors, notes),
+        Request::Replay(settings) => lin_tool::replay(rt, &settings, notes),
+        Request::Compare(settings) => lin_tool::compare(rt, &settings, notes),
+        Request::Run { settings, slots } => {
+            lin_tool::run(rt, &settings, slots, is_watched, notes)
+        }
     }
 }
 
@@ -83,10 +48,7 @@ fn perform<R: AllocGlobal + Files + Input + Print + Eprint + Threads + Wait, W: 
 fn is_read(request: Request<'_>) -> bool {
     match request {
         Request::Check { file, .. } => file == "-",
-        Request::Play { .. }
-        | Request::Replay { .. }
-        | Request::Compare { .. }
-        | Request::Run { .. } => true,
+        Request::Play(_) | Request::Replay(_) | Request::Compare(_) | Request::Run { .. } => true,
     }
 }
 
