@@ -4,7 +4,7 @@ use mathlib.Core.List.{IsPrefix}
 use denote.RawPtr.{Ptr}
 use Rattle.std.specs.declared.alloc.Global.{Global}
 use Rattle.rtrb.specs.Shared.{Names}
-use Rattle.rtrb.specs.Ring.{sent, received}
+use Rattle.rtrb.specs.Ring.{sent, received, known_items}
 use Rattle.rtrb.specs.declared.producer.Producer.{Producer}
 use Rattle.rtrb.specs.declared.consumer.Consumer.{Consumer}
 use Rattle.lin_core.specs.declared.port.PortId.{PortId}
@@ -46,7 +46,8 @@ pub record Wiring : Type 0 where
   pub notes : RingId
 
 -- of a host's port: which it is, how many items its ring of steps takes, the step that it puts with
--- its number, the steps that it has put, and the notes that it has taken
+-- its number, the steps that it has put, the notes that it has taken, and those that it has seen in
+-- its ring and not taken
 abbrev pub host_wiring : HostPort → Wiring
 host_wiring p =
     record { port = Host p.number; steps = ring_into p.steps; notes = ring_from p.notes }
@@ -62,6 +63,9 @@ host_put p = map (host_step p.number) (sent p.steps)
 
 abbrev pub host_took : HostPort → List Note
 host_took p = received p.notes
+
+abbrev pub host_seen : HostPort → List Note
+host_seen p = known_items p.notes
 
 -- the same of a node's port
 abbrev pub node_wiring : NodePort → Wiring
@@ -79,6 +83,9 @@ node_put p = map (node_step p.number) (sent p.steps)
 
 abbrev pub node_took : NodePort → List Note
 node_took p = received p.notes
+
+abbrev pub node_seen : NodePort → List Note
+node_seen p = known_items p.notes
 
 -- of the end of either kind of ring of steps: the port with this number, its ring, and what was put
 -- into it

@@ -20,8 +20,8 @@ pub struct HostPort {
 impl HostPort {
     ghost use Rattle.std.specs.Prelude.{◌≡◌, ◌≤◌, ◌++◌, ◌∷◌, [], length, OnOk, OnErr, IfErr};
     ghost use Rattle.std.specs.Prelude.{IfSome, IfNone};
-    ghost use Rattle.lin_ports.specs.Ports.{host_wiring, host_put, host_took, host_ring, by_port};
-    ghost use Rattle.lin_ports.specs.Ports.{IsReceiptOf};
+    ghost use Rattle.lin_ports.specs.Ports.{host_wiring, host_put, host_took, host_seen, host_ring};
+    ghost use Rattle.lin_ports.specs.Ports.{by_port, IsReceiptOf};
 
     /// Puts a step, or hands it back where the ring is full: then at least as many steps were put
     /// as it takes.
@@ -39,11 +39,12 @@ impl HostPort {
         }
     }
 
-    /// Takes the next note, if one has come.
+    /// Takes the next note, if one has come: none only where none was seen that isn't taken.
     pub fn take(&mut self) -> Option<Note>
         ensures port { host_wiring self.new ≡ host_wiring self.old }
         ensures some { IfSome result (λ n. host_took self.new ≡ host_took self.old ++ n ∷ []) }
         ensures none { IfNone result (host_took self.new ≡ host_took self.old) }
+        ensures empty { IfNone result (host_seen self.new ≡ []) }
         ensures put { host_put self.new ≡ host_put self.old }
     {
         self.notes.pop().ok()

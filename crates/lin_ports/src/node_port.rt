@@ -19,7 +19,7 @@ pub struct NodePort {
 impl NodePort {
     ghost use Rattle.std.specs.Prelude.{◌≡◌, ◌≤◌, ◌++◌, ◌∷◌, [], length, OnOk, OnErr, IfErr};
     ghost use Rattle.std.specs.Prelude.{IfSome, IfNone};
-    ghost use Rattle.lin_ports.specs.Ports.{node_wiring, node_put, node_took, node_ring};
+    ghost use Rattle.lin_ports.specs.Ports.{node_wiring, node_put, node_took, node_seen, node_ring};
     ghost use Rattle.lin_ports.specs.Ports.{by_node_port, IsReceiptOf};
 
     /// Puts a step, or hands it back where the ring is full: then at least as many steps were put
@@ -38,11 +38,12 @@ impl NodePort {
         }
     }
 
-    /// Takes the next note, if one has come.
+    /// Takes the next note, if one has come: none only where none was seen that isn't taken.
     pub fn take(&mut self) -> Option<Note>
         ensures port { node_wiring self.new ≡ node_wiring self.old }
         ensures some { IfSome result (λ n. node_took self.new ≡ node_took self.old ++ n ∷ []) }
         ensures none { IfNone result (node_took self.new ≡ node_took self.old) }
+        ensures empty { IfNone result (node_seen self.new ≡ []) }
         ensures put { node_put self.new ≡ node_put self.old }
     {
         self.notes.pop().ok()
