@@ -1,8 +1,8 @@
 //! The threads of nodes.
 
-ghost use Rattle.std.specs.Prelude.{◌≡◌, ◌<◌, ◌+◌, ◌-◌, ◌^◌, ◌++◌, ◌∷◌, ◌⊎◌, [], ℕ, true};
-ghost use Rattle.lin_ports.specs.Ports.{by_node_port, node_put, node_took, node_wiring};
-ghost use Rattle.lin_threads.specs.Nodes.{FollowsList, dues, is_due, step_in};
+ghost use Rattle.std.specs.Prelude.{◌≡◌, ◌<◌, ◌+◌, ◌-◌, ◌^◌, ◌∷◌, [], ℕ, MatchBool};
+ghost use Rattle.lin_ports.specs.Ports.{node_put, node_took, node_wiring};
+ghost use Rattle.lin_threads.specs.Nodes.{FollowsList, PutsUnlessFull, dues, is_due, step_in};
 ghost use Rattle.lin_threads.specs.States.{IsFurther, node_state, receipt_state};
 
 use crate::runs::Ended;
@@ -35,8 +35,7 @@ fn step_in(leave: &[u32], number: u64) -> NodeStep
 /// Puts a step, again where the ring is full, until the run's slots are over.
 fn put_until_over(port: &mut NodePort, shared: &Shared, mut step: NodeStep)
     ensures port { node_wiring port.new ≡ node_wiring port.old }
-    ensures put { (node_put port.new ≡ node_put port.old)
-        ⊎ (node_put port.new ≡ node_put port.old ++ by_node_port port.old step ∷ []) }
+    ensures put { PutsUnlessFull step port.old port.new }
     ensures took { node_took port.new ≡ node_took port.old }
 {
     for _ in 0..u64::MAX {
@@ -56,10 +55,9 @@ fn answer_note(port: &mut NodePort, shared: &Shared, leave: &[u32], due: u64, no
     requires { due < 2 ^ 64 - 1 }
     ensures due { result ≡ due + dues (note ∷ []) }
     ensures port { node_wiring port.new ≡ node_wiring port.old }
-    ensures put { (node_put port.new ≡ node_put port.old)
-        ⊎ ((is_due note ≡ true)
-        × (node_put port.new
-        ≡ node_put port.old ++ by_node_port port.old (step_in leave.now due) ∷ [])) }
+    ensures put { MatchBool (is_due note)
+        (PutsUnlessFull (step_in leave.now due) port.old port.new)
+        (node_put port.new ≡ node_put port.old) }
     ensures took { node_took port.new ≡ node_took port.old }
 {
     if !is_due(&note) {

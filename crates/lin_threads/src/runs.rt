@@ -1,6 +1,6 @@
 //! Whole runs.
 
-ghost use Rattle.std.specs.Prelude.{◌≡◌, ◌≤◌, ◌+◌, [], drop, length, IfOk, IfErr, OnOk, vec_len};
+ghost use Rattle.std.specs.Prelude.{◌≡◌, ◌≤◌, ◌+◌, ◌++◌, [], drop, length, IfOk, IfErr, OnOk, vec_len};
 ghost use Rattle.std.specs.List.{AllZip};
 ghost use Rattle.std.specs.Vec.{vec_capacity};
 ghost use mathlib.Core.List.{IsPrefix};
@@ -10,7 +10,8 @@ ghost use Rattle.lin_ports.specs.Lanes.{OnlyOwn};
 ghost use Rattle.lin_ports.specs.Pumps.{core_of, since, first_entry};
 ghost use Rattle.lin_ports.specs.Steps.{logged};
 ghost use Rattle.lin_threads.specs.Faults.{EndsFor, IsFaultOf};
-ghost use Rattle.lin_threads.specs.Started.{all_lent};
+ghost use Rattle.lin_threads.specs.Nodes.{IsByList, no_lists, node_lists};
+ghost use Rattle.lin_threads.specs.Started.{all_lent, all_lists};
 ghost use Rattle.lin_threads.specs.States.{ArePortsOf, IsSettledReceipt, handed_in};
 ghost use Rattle.lin_threads.specs.Runs.{Advances, bus_steps};
 
@@ -131,6 +132,8 @@ fn drive<R: Threads + Wait>(
     requires room { vec_len players.hosts + vec_len players.nodes ≤ vec_capacity threads.old }
     ensures lent { OnOk result
         (all_lent threads.new.items ≡ handed_in players.hosts.items players.nodes.items) }
+    ensures lists { OnOk result (all_lists threads.new.items
+        ≡ no_lists players.hosts.items ++ node_lists players.nodes.items plan.leave.items) }
     ensures advances { OnOk result
         (Advances pump.old pump.new (bus_steps plan.hurt.items plan.slots)) }
     ensures fault { IfErr result (λ e. EndsFor pump.old pump.new e) }
@@ -164,6 +167,9 @@ fn run<R: Threads + Wait>(
     ensures receipts { IfOk result (λ r.
         AllZip (IsSettledReceipt (since pump.new))
         (handed_in players.hosts.items players.nodes.items) r.1.items) }
+    ensures lists { IfOk result (λ r. AllZip IsByList
+        (no_lists players.hosts.items ++ node_lists players.nodes.items plan.leave.items)
+        r.1.items) }
     ensures ended { IfOk result (λ r. vec_len r.0 ≡ vec_len players.tasks) }
     ensures fault { IfErr result (λ e. EndsFor pump.old pump.new e) }
 {
@@ -218,6 +224,8 @@ pub fn run_cluster<R: Threads + Wait>(
         AllZip (IsSettledReceipt (drop (first_entry pump) r.core.log))
         (handed_in hosts.items nodes.items)
         r.receipts.items) }
+    ensures lists { IfOk result (λ r. AllZip IsByList
+        (no_lists hosts.items ++ node_lists nodes.items plan.leave.items) r.receipts.items) }
     ensures ended { IfOk result (λ r. vec_len r.ended ≡ vec_len tasks) }
     ensures fault { IfErr result (λ e. IsFaultOf pump e) }
 {

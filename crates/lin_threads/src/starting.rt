@@ -1,11 +1,13 @@
 //! Starting the threads of a run, and joining them.
 
-ghost use Rattle.std.specs.Prelude.{◌≡◌, ◌≤◌, ◌+◌, ◌++◌, [], map, IfOk, IfErr, OnOk, vec_len};
+ghost use Rattle.std.specs.Prelude.{◌≡◌, ◌≤◌, ◌+◌, ◌++◌, [], ℕ, map, None, Some, IfOk, IfErr};
+ghost use Rattle.std.specs.Prelude.{OnOk, vec_len};
 ghost use Rattle.std.specs.List.{AllZip};
 ghost use Rattle.std.specs.Vec.{vec_capacity};
 ghost use Rattle.lin_threads.specs.States.{IsFurther, IsReceiptFrom, handed_in, host_state};
 ghost use Rattle.lin_threads.specs.States.{node_state, receipt_state};
-ghost use Rattle.lin_threads.specs.Started.{lent, all_lent};
+ghost use Rattle.lin_threads.specs.Nodes.{FollowsList, IsByList, no_lists, node_lists};
+ghost use Rattle.lin_threads.specs.Started.{lent, list_lent, all_lent, all_lists};
 ghost use Rattle.lin_threads.specs.declared.runs.RunFault.TheVariants.{NoThread};
 
 use crate::hosts::run_task;
@@ -28,18 +30,20 @@ pub(crate) struct Finished {
 }
 
 /// The promise of a port's thread: the receipt that it hands back is that of the port that it was
-/// lent, further on.
+/// lent, further on, and that of a node's port is by its list of left-out slots.
 #[derive(Drop)]
 pub(crate) enum Keeps {
     Host(Snapshot<HostPort>),
-    Node(Snapshot<NodePort>),
+    Node(Snapshot<NodePort>, Snapshot<Vec<u32>>),
 }
 
 impl Promise<Finished> for Keeps {
     ghost use Rattle.lin_threads.specs.States.{IsFurther, receipt_state};
-    ghost use Rattle.lin_threads.specs.Started.{lent};
+    ghost use Rattle.lin_threads.specs.Nodes.{IsByList};
+    ghost use Rattle.lin_threads.specs.Started.{lent, list_lent};
 
-    ghost kept_by = { λ p f. IsFurther (lent p) (receipt_state f.receipt) };
+    ghost kept_by = { λ p f.
+        IsFurther (lent p) (receipt_state f.receipt) × IsByList (list_lent p) f.receipt };
 }
 
 /// The threads that were started, and what they share.
@@ -54,6 +58,7 @@ fn start_host(
     shared: Arc<Shared, Global>,
 ) -> Result<Handle, RunFault>
     ensures lent { IfOk result (λ h. lent h.promise ≡ host_state port) }
+    ensures list { IfOk result (λ h. list_lent h.promise ≡ None) }
     ensures refused { IfErr result (λ e. e ≡ NoThread) }
 {
     let promise = Keeps::Host(Snapshot::of(&port));
@@ -78,14 +83,17 @@ fn start_node(
     shared: Arc<Shared, Global>,
 ) -> Result<Handle, RunFault>
     ensures lent { IfOk result (λ h. lent h.promise ≡ node_state port) }
+    ensures list { IfOk result (λ h. list_lent h.promise ≡ Some (port, leave.items)) }
     ensures refused { IfErr result (λ e. e ≡ NoThread) }
 {
-    let promise = Keeps::Node(Snapshot::of(&port));
+    let promise = Keeps::Node(Snapshot::of(&port), Snapshot::of(&leave));
     let started = thread::spawn_with(
         rt,
         promise,
         move || -> Finished
-            ensures { IsFurther (node_state port) (receipt_state result.receipt) }
+            ensures further { IsFurther (node_state port) (receipt_state result.receipt) }
+            ensures listed { (due : ℕ)
+                × FollowsList leave.items due port (receipt_state result.receipt) }
         { run_node(port, leave, shared) },
     );
     match started {
@@ -117,6 +125,8 @@ pub(crate) fn start_hosts(
     requires room { vec_len started.old + vec_len ports ≤ vec_capacity started.old }
     ensures lent { OnOk result
         (all_lent started.new.items ≡ all_lent started.old.items ++ map host_state ports.items) }
+    ensures lists { OnOk result
+        (all_lists started.new.items ≡ all_lists started.old.items ++ no_lists ports.items) }
     ensures room { OnOk result (vec_capacity started.new ≡ vec_capacity started.old) }
     ensures refused { IfErr result (λ e. e ≡ NoThread) }
 {
@@ -143,6 +153,8 @@ pub(crate) fn start_nodes(
     requires room { vec_len started.old + vec_len ports ≤ vec_capacity started.old }
     ensures lent { OnOk result
         (all_lent started.new.items ≡ all_lent started.old.items ++ map node_state ports.items) }
+    ensures lists { OnOk result (all_lists started.new.items
+        ≡ all_lists started.old.items ++ node_lists ports.items leave.items) }
     ensures refused { IfErr result (λ e. e ≡ NoThread) }
 {
     let mut leave = leave.into_iter();
@@ -167,6 +179,7 @@ pub(crate) fn join_all(
     requires room { (vec_len started ≤ vec_capacity receipts.old)
         × (vec_len started ≤ vec_capacity ended.old) }
     ensures receipts { AllZip IsReceiptFrom (all_lent started.items) receipts.new.items }
+    ensures lists { AllZip IsByList (all_lists started.items) receipts.new.items }
     ensures count { vec_len receipts.new ≡ vec_len started }
     ensures ended { vec_len ended.new ≡ vec_len started }
 {

@@ -1,4 +1,5 @@
-use Rattle.std.proofs.Common.{arith}
+use Rattle.std.proofs.Common.{arith, refl}
+use Rattle.lin_threads.specs.Nodes.{is_due, step_in}
 use Rattle.lin_threads.specs.States.{IsFurther, node_state}
 use Rattle.lin_threads.proofs.NodeLemmas.{due_at_most, follows_note, follows_refl, follows_same, further_put}
 use Rattle.lin_threads.proofs.StateLemmas.{further_refl, further_take}
@@ -10,7 +11,7 @@ loop-init c = record { further = further_refl _; listed = follows_refl c.args.le
 
 pub returns-in-None-clause-listed : goal.returns-in-None-clause-listed
 returns-in-None-clause-listed c =
-    (c.loop.due, follows_same c.args.leave.now c.loop.due c.args.port.now c.loop.port c.take.new.self c.take.ensures.put c.in-None.ensures.none c.loop.invariant.listed)
+    (c.loop.due, follows_same c.args.leave.now c.loop.due c.args.port.now (node_state c.loop.port) (node_state c.take.new.self) c.take.ensures.put c.in-None.ensures.none c.loop.invariant.listed)
 
 pub loop-preserved : goal.loop-preserved
 loop-preserved c =
@@ -23,14 +24,14 @@ loop-preserved c =
     further_take (node_state port) c.loop.port taken c.take.result inv.further c.take.ensures.port c.take.ensures.put c.take.ensures.some c.take.ensures.none in
     elim c.match-take.branch [
       | in-Some w ↦ let said = w.answer_note-due.ensures in let n = w.in-Some.note in let due = w.due-is in record {
-        further = rw w.port-is (further_put (node_state port) leave c.loop.due n taken w.answer_note-due.new.port took said.port said.put said.took);
+        further = rw w.port-is (further_put (node_state port) (is_due n) (step_in leave c.loop.due) taken w.answer_note-due.new.port took said.port said.put said.took);
         listed = rw (w.port-is, w.due-is, said.due)
-            (follows_note leave c.loop.due port c.loop.port taken w.answer_note-due.new.port n took.wiring c.take.ensures.put w.in-Some.ensures.some said.put said.took inv.listed);
+            (follows_note leave c.loop.due port c.loop.port taken w.answer_note-due.new.port n (is_due n) refl took.wiring c.take.ensures.put w.in-Some.ensures.some said.put said.took inv.listed);
         few = omega (arith, due_at_most n, said.due);
       }
       | in-None-2 w ↦ let due = w.due-is in record {
         further = rw w.port-is took;
-        listed = rw (w.port-is, w.due-is) (follows_same leave c.loop.due port c.loop.port taken c.take.ensures.put w.in-None.ensures.none inv.listed);
+        listed = rw (w.port-is, w.due-is) (follows_same leave c.loop.due port (node_state c.loop.port) (node_state taken) c.take.ensures.put w.in-None.ensures.none inv.listed);
         few = omega arith;
       }
     ]

@@ -1,9 +1,11 @@
-use Rattle.std.proofs.Common.{List, subst, ◌∙◌, arith}
+use Rattle.std.proofs.Common.{List, ◌++◌, subst, ◌∙◌, arith}
 use Rattle.std.specs.List.{AllZip}
 use Rattle.lin_ports.specs.Pumps.{since}
 use Rattle.lin_threads.specs.Runs.{IsSettledAs, bus_steps}
+use Rattle.lin_threads.specs.Nodes.{IsByList, no_lists, node_lists}
 use Rattle.lin_threads.specs.States.{IsReceiptFrom, IsSettledReceipt, PortState, handed_in}
 use Rattle.lin_threads.proofs.RunLemmas.{advances_quiet}
+use Rattle.lin_threads.proofs.NodeLemmas.{by_list_kept}
 use Rattle.lin_threads.proofs.StateLemmas.{lent_count, receipts_wired, settled_receipt, zip_join}
 use Rattle.lin_threads.proofs.runs.run.Goals as goal
 
@@ -24,6 +26,12 @@ returns-clause-receipts g c =
     let pump = c.settle_all.new.pump in
     zip_join IsReceiptFrom (IsSettledAs pump) (IsSettledReceipt (since pump)) (handed_in p.hosts.items p.nodes.items) c.join_all.new.receipts.items c.settle_all.new.settled.items (settled_receipt pump)
     (subst (λ (ports : List PortState). AllZip IsReceiptFrom ports c.join_all.new.receipts.items) c.in_default-drive.ensures.lent c.join_all.ensures.receipts) c.in_ok-settle_all.ensures.settled
+
+pub returns-clause-lists : goal.returns-clause-lists
+returns-clause-lists g c =
+    let p = c.args.players in
+    zip_join IsByList (IsSettledAs c.settle_all.new.pump) IsByList (no_lists p.hosts.items ++ node_lists p.nodes.items c.args.plan.leave.items) c.join_all.new.receipts.items c.settle_all.new.settled.items
+    (λ own r s h k. by_list_kept own r s h k.same) (rw c.in_default-drive.ensures.lists at c.join_all.ensures.lists) c.in_ok-settle_all.ensures.settled
 
 pub returns-clause-ended : goal.returns-clause-ended
 returns-clause-ended g c =
