@@ -1,27 +1,28 @@
 -- What the steps of a run add to the log.
-use Rattle.std.proofs.Common.{◌≡◌, ◌+◌, ℕ, List, [], ◌∷◌, ◌++◌, length, drop, flat_map, refl, sym, ap, subst, ◌∙◌, append_assoc, append-nil, Some, Result, Ok, Err, OnOk}
+use Rattle.std.proofs.Common.{◌≡◌, ◌+◌, ℕ, List, [], ◌∷◌, ◌++◌, length, drop, flat_map, refl, sym, ap, subst, ◌∙◌, append_assoc, append-nil, length-append, Some, Result, Ok, Err, OnOk, ◌≤◌, ◌<◌, Bool, true, false, arith}
 use Rattle.std.proofs.lemmas.List.Elements.{filter_map-append}
 use Rattle.std.proofs.lemmas.Grind.{flat_map-append}
 use Rattle.std.proofs.Math.Numerals.{add-one}
-use Rattle.std.proofs.Math.Seq.{drop-append_seam}
+use Rattle.std.proofs.Math.Seq.{drop-append_seam, drop-length}
 use Rattle.std.specs.List.{AllZip, slice_get}
 use Rattle.lin_frame.specs.Words.{numbers}
 use Rattle.lin_cluster_parts.specs.Cluster.{nodes}
 use Rattle.lin_core.specs.Core.{CoreData}
 use Rattle.lin_core.specs.declared.log.LogEntry.{LogEntry}
+use Rattle.lin_core.specs.declared.port.PortId.{PortId}
 use Rattle.lin_core.specs.declared.port.PortId.TheVariants.{Bus}
 use Rattle.lin_core.specs.declared.step.Step.{Step}
 use Rattle.lin_ports.specs.Pumps.{core_of, KeepsPump}
 use Rattle.lin_ports.specs.Ports.{receipt_wiring}
 use Rattle.lin_ports.specs.Rounds.{Rising, RoundAdds, longer_by}
 use Rattle.lin_ports.specs.Settled.{SameReceipt, StaysSettled}
-use Rattle.lin_ports.specs.Steps.{logged, port_at, step_by}
+use Rattle.lin_ports.specs.Steps.{logged, port_at, same_port, step_by}
 use Rattle.lin_ports.specs.declared.ports.Receipt.{Receipt}
 use Rattle.lin_ports.specs.declared.pump.Pump.{Pump}
-use Rattle.lin_ports.proofs.PortLemmas.{port_at-no_bus, same_port-false}
+use Rattle.lin_ports.proofs.PortLemmas.{port_at-apart, port_at-no_bus, same_port-false, same_port-true}
 use Rattle.lin_ports.proofs.RoundLemmas.{pump_refl, pump_trans}
 use Rattle.lin_ports.proofs.SettleLemmas.{stays_trans}
-use Rattle.lin_threads.specs.Runs.{Advances, IsSettledAs, IsWiredReceipt, bus_steps, slot_steps}
+use Rattle.lin_threads.specs.Runs.{Advances, IsSettledAs, IsWiredReceipt, MakesAtMost, bus_steps, slot_steps}
 use Rattle.lin_threads.proofs.StateLemmas.{zip_weaker}
 
 pub advances_none : (a b : Pump) → KeepsPump a b → StaysSettled a b → core_of b ≡ core_of a → Advances a b []
@@ -50,6 +51,42 @@ rising_quiet [] core from to h = refl
 rising_quiet (e ∷ es) core from to h =
     let by : e.port ≡ port_at (nodes core.cluster) h.0 = ap (λ (x : LogEntry). x.port) h.2 in
     rw (same_port-false e.port Bus (λ same. port_at-no_bus (nodes core.cluster) h.0 (sym by ∙ same))) (rising_quiet es (longer_by core e) (h.0 + 1) to h.4)
+
+rising_none : (es : List LogEntry) (core : CoreData) (from to k : ℕ) → k < from → Rising core from to es → logged es (port_at (nodes core.cluster) k) ≡ []
+rising_none [] core from to k below h = refl
+rising_none (e ∷ es) core from to k below h =
+    let by : e.port ≡ port_at (nodes core.cluster) h.0 = ap (λ (x : LogEntry). x.port) h.2 in
+    rw (same_port-false e.port (port_at (nodes core.cluster) k) (λ same. let q = port_at-apart (nodes core.cluster) h.0 k (sym by ∙ same) in absurd (omega (arith, h.1))))
+    (rising_none es (longer_by core e) (h.0 + 1) to k (omega (arith, h.1)) h.4)
+
+one_or_more : (e : LogEntry) (es : List LogEntry) (core : CoreData) (from to : ℕ) (port : PortId) (own : Bool) → same_port e.port port ≡ own → Rising core from to (e ∷ es)
+    → length (logged es port) ≤ 1 → length (logged (e ∷ es) port) ≤ 1
+one_or_more e es core from to port true own h later =
+    let by : e.port ≡ port_at (nodes core.cluster) h.0 = ap (λ (x : LogEntry). x.port) h.2 in
+    let none : logged es port ≡ [] = rw (sym (same_port-true e.port port own) ∙ by) (rising_none es (longer_by core e) (h.0 + 1) to h.0 (omega arith) h.4) in
+    rw (own, none) (omega arith)
+one_or_more e es core from to port false own h later = rw own later
+
+-- a round takes at most one step of each port
+rising_once : (es : List LogEntry) (core : CoreData) (from to : ℕ) (port : PortId) → Rising core from to es → length (logged es port) ≤ 1
+rising_once [] core from to port h = omega arith
+rising_once (e ∷ es) core from to port h =
+    one_or_more e es core from to port (same_port e.port port) refl h (rising_once es (longer_by core e) (h.0 + 1) to port h.4)
+
+pub at_most_none : (a : Pump) → MakesAtMost 0 a a
+at_most_none a port = rw (drop-length (core_of a).log) (omega arith)
+
+-- one more round
+pub at_most_more : (n : ℕ) (a b c : Pump) (k : ℕ) → KeepsPump a b → RoundAdds (core_of b) (core_of c) k → MakesAtMost n a b → MakesAtMost (n + 1) a c
+at_most_more n a b c k kept adds most port =
+    let rest = kept.log.0 in
+    let before : length (logged rest port) ≤ n = rw (← (kept.log.1), drop-append_seam (core_of a).log rest) at (most port) in
+    let once = rising_once adds.0 (core_of b) 0 (nodes (core_of b).cluster + nodes (core_of b).cluster) port adds.3 in
+    rw (adds.1, ← (kept.log.1), append_assoc (core_of a).log rest adds.0, drop-append_seam (core_of a).log (rest ++ adds.0), filter_map-append (step_by port) rest adds.0)
+    (let sum = length-append (logged rest port) (logged adds.0 port) in omega arith)
+
+pub at_most_less : (n m : ℕ) (a b : Pump) → n ≤ m → MakesAtMost n a b → MakesAtMost m a b
+at_most_less n m a b le most port = (let few = most port in omega arith)
 
 -- the bus makes no step in one more round
 pub advances_round : (a b c : Pump) (n : ℕ) → Advances a b [] → KeepsPump b c → StaysSettled b c → RoundAdds (core_of b) (core_of c) n → Advances a c []

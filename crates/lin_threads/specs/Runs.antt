@@ -1,8 +1,10 @@
 -- What a run adds to the log.
-use Rattle.std.specs.Prelude.{◌≡◌, ℕ, ◌==◌, if◌then◌else◌, List, [], ◌∷◌, ◌++◌, flat_map}
+use Rattle.std.specs.Prelude.{◌≡◌, ℕ, ◌≤◌, ◌==◌, if◌then◌else◌, List, [], ◌∷◌, ◌++◌, flat_map}
+use Rattle.std.specs.Prelude.{length, drop}
 use Rattle.std.specs.List.{list_any}
 use Rattle.lin_frame.specs.Words.{numbers}
 use Rattle.lin_core.specs.declared.log.LogEntry.{LogEntry}
+use Rattle.lin_core.specs.declared.port.PortId.{PortId}
 use Rattle.lin_core.specs.declared.port.PortId.TheVariants.{Bus}
 use Rattle.lin_core.specs.declared.step.Step.{Step}
 use Rattle.lin_core.specs.declared.step.Step.TheVariants.{Open, Hurt, Finish}
@@ -31,6 +33,12 @@ pub record Advances (a b : Pump) (steps : List Step) : Type 0 where
   pub added : List LogEntry
   pub log : (core_of b).log ≡ (core_of a).log ++ added
   pub bus : logged added Bus ≡ steps
+
+-- each port made at most so many steps since
+abbrev pub MakesAtMost : ℕ → Pump → Pump → Type 0
+MakesAtMost count a b =
+    (port : PortId)
+    → length (logged (drop (length (core_of a).log) (core_of b).log) port) ≤ count
 
 -- the receipt of a port of this pump
 abbrev pub IsWiredReceipt : Pump → Receipt → Type 0

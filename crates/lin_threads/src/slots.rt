@@ -2,7 +2,7 @@
 
 ghost use Rattle.std.specs.Prelude.{◌∷◌, [], IfErr, OnOk};
 ghost use Rattle.lin_threads.specs.Faults.{StopsFor};
-ghost use Rattle.lin_threads.specs.Runs.{Advances, bus_steps, damage, slot_steps};
+ghost use Rattle.lin_threads.specs.Runs.{Advances, MakesAtMost, bus_steps, damage, slot_steps};
 
 use crate::runs::RunFault;
 use lin_core::{Payload, Step};
@@ -25,6 +25,7 @@ fn own(pump: &mut Pump, step: Step) -> Result<(), RunFault>
 /// or until so many were made.
 fn make_rounds(pump: &mut Pump, rounds: u32) -> Result<(), RunFault>
     ensures advances { OnOk result (Advances pump.old pump.new []) }
+    ensures most { OnOk result (MakesAtMost rounds pump.old pump.new) }
     ensures stops { IfErr result (λ e. StopsFor pump.old pump.new e) }
 {
     for _ in 0..rounds {
