@@ -11,9 +11,10 @@ use std::alloc::{AllocError, Global};
 use std::process::Abort;
 use std::test::Fail;
 
-/// A pump and its ports, by number.
+/// A pump and its ports, by number, and the name of the row that they are for.
 #[derive(Drop)]
 pub struct Bench {
+    pub row: &'static str,
     pub pump: Pump,
     pub hosts: Vec<HostPort>,
     pub nodes: Vec<NodePort>,
@@ -79,21 +80,20 @@ pub fn send(alloc: Global, to: u8, bytes: &[u8]) -> Result<HostStep, Fail> {
     })
 }
 
-/// A note that was taken is the one that is wanted.
+/// A note that was taken is the one that is wanted; the case says whose it is.
 pub fn is_taken(
     rt: &impl Abort,
     alloc: Global,
     taken: Option<Note>,
     wanted: &str,
+    case: &str,
 ) -> Result<(), Fail> {
-    match taken {
-        Some(note) => {
-            let text = line(alloc, &note)?;
-            assert_eq!(rt; text.as_str(), wanted);
-            Ok(())
-        }
-        None => Err(Fail::from("no note")),
-    }
+    let text = match taken {
+        Some(note) => line(alloc, &note)?,
+        None => "no note".to_string(alloc)?,
+    };
+    assert_eq!(rt; text.as_str(), wanted, "{case}");
+    Ok(())
 }
 
 /// A host's port takes these notes and no more.
@@ -102,11 +102,12 @@ fn host_takes(
     alloc: Global,
     port: &mut HostPort,
     wanted: &[&str],
+    case: &str,
 ) -> Result<(), Fail> {
     for note in wanted {
-        is_taken(rt, alloc, port.take(), note)?;
+        is_taken(rt, alloc, port.take(), note, case)?;
     }
-    assert!(rt; port.take().is_none());
+    assert!(rt; port.take().is_none(), "{case}");
     Ok(())
 }
 
@@ -116,31 +117,38 @@ fn node_takes(
     alloc: Global,
     port: &mut NodePort,
     wanted: &[&str],
+    case: &str,
 ) -> Result<(), Fail> {
     for note in wanted {
-        is_taken(rt, alloc, port.take(), note)?;
+        is_taken(rt, alloc, port.take(), note, case)?;
     }
-    assert!(rt; port.take().is_none());
+    assert!(rt; port.take().is_none(), "{case}");
     Ok(())
 }
 
 /// A round makes so many steps.
-pub fn makes(rt: &impl Abort, pump: &mut Pump, wanted: u32) -> Result<(), Fail>
+pub fn makes(rt: &impl Abort, pump: &mut Pump, wanted: u32, case: &str) -> Result<(), Fail>
     ensures { wirings pump.new ≡ wirings pump.old }
 {
     match pump.round() {
-        Ok(taken) => assert_eq!(rt; taken.steps, wanted),
+        Ok(taken) => assert_eq!(rt; taken.steps, wanted, "{case}"),
         Err(_) => return Err(Fail::from("a round ended early")),
     }
     Ok(())
 }
 
 /// The log of a pump's core, in text.
-pub fn expect_log(rt: &impl Abort, alloc: Global, pump: &Pump, wanted: &str) -> Result<(), Fail> {
+pub fn expect_log(
+    rt: &impl Abort,
+    alloc: Global,
+    pump: &Pump,
+    wanted: &str,
+    case: &str,
+) -> Result<(), Fail> {
     let mut text = Vec::new(alloc);
     write_log(pump.core().log(), &mut text)?;
     let log = std::str::from_utf8(text.as_slice()).unwrap_or("no text");
-    assert_eq!(rt; log, wanted);
+    assert_eq!(rt; log, wanted, "{case}");
     Ok(())
 }
 
@@ -169,27 +177,30 @@ impl Bench {
 
     fn answered_slot(&mut self, rt: &impl Abort, number: usize) -> Result<(), Fail> {
         self.own(Step::Open)?;
-        makes(rt, &mut self.pump, 0)?;
+        makes(rt, &mut self.pump, 0, self.row)?;
         match self.node(number)?.take() {
-            Some(Note::Event(Event::Due { node })) => assert_eq!(rt; usize::from(node), number),
+            Some(Note::Event(Event::Due { node })) => {
+                assert_eq!(rt; usize::from(node), number, "{}", self.row)
+            }
             _ => return Err(Fail::from("not due")),
         }
         self.node_puts(number, NodeStep::Answer)?;
-        makes(rt, &mut self.pump, 1)?;
+        makes(rt, &mut self.pump, 1, self.row)?;
         self.own(Step::Finish)
     }
 
     fn waiting(&self, rt: &impl Abort, host: u8) -> usize {
         let core = self.pump.core();
-        assert!(rt; usize::from(host) < core.cluster().nodes());
+        assert!(rt; usize::from(host) < core.cluster().nodes(), "{}", self.row);
         core.waiting(host)
     }
 
     fn act(&mut self, rt: &impl Abort, alloc: Global, act: &Act) -> Result<(), Fail> {
+        let row = self.row;
         match act {
             Act::Send(host, to, bytes) => {
                 let step = send(alloc, *to, bytes)?;
-                assert!(rt; self.host(*host)?.put(step).is_ok());
+                assert!(rt; self.host(*host)?.put(step).is_ok(), "{row}");
             }
             Act::SendToFull(host) => {
                 let step = send(alloc, 1, &[1])?;
@@ -197,12 +208,13 @@ impl Bench {
                     matches!(
                         self.host(*host)?.put(step),
                         Err(Full(HostStep::Send { to: 1, .. }))
-                    )
+                    ),
+                    "{row}"
                 );
             }
             Act::Answer(node) => self.node_puts(*node, NodeStep::Answer)?,
             Act::Leave(node) => self.node_puts(*node, NodeStep::Leave)?,
-            Act::Round(steps) => makes(rt, &mut self.pump, *steps)?,
+            Act::Round(steps) => makes(rt, &mut self.pump, *steps, row)?,
             Act::AnsweredSlot(node) => self.answered_slot(rt, *node)?,
             Act::Open => self.own(Step::Open)?,
             Act::Hurt => self.own(Step::Hurt {
@@ -211,10 +223,10 @@ impl Bench {
             Act::Finish => self.own(Step::Finish)?,
             Act::AskSleep => self.own(Step::AskSleep)?,
             Act::DropHosts => self.hosts.clear(),
-            Act::HostTakes(host, notes) => host_takes(rt, alloc, self.host(*host)?, notes)?,
-            Act::NodeTakes(node, notes) => node_takes(rt, alloc, self.node(*node)?, notes)?,
-            Act::Given(port, count) => assert_eq!(rt; self.pump.given(*port), *count),
-            Act::Waiting(host, count) => assert_eq!(rt; self.waiting(rt, *host), *count),
+            Act::HostTakes(host, notes) => host_takes(rt, alloc, self.host(*host)?, notes, row)?,
+            Act::NodeTakes(node, notes) => node_takes(rt, alloc, self.node(*node)?, notes, row)?,
+            Act::Given(port, count) => assert_eq!(rt; self.pump.given(*port), *count, "{row}"),
+            Act::Waiting(host, count) => assert_eq!(rt; self.waiting(rt, *host), *count, "{row}"),
         }
         Ok(())
     }
@@ -229,7 +241,7 @@ impl Bench {
 }
 
 /// A core on which so many sends of the byte 1 by host 0 to host 1 were made.
-fn core_behind_sends(
+pub fn core_behind_sends(
     rt: &impl Abort,
     alloc: Global,
     text: &[u8],
@@ -249,18 +261,21 @@ fn core_behind_sends(
     Ok(core)
 }
 
-/// A pump with its ports, on rings of so many items, and a core with so many sends.
+/// A pump with its ports, on rings of so many items.
 pub fn set_up(
     rt: &impl Abort,
     alloc: Global,
-    text: &[u8],
-    table: u16,
-    sends: usize,
+    row: &'static str,
+    core: Core,
     ring: usize,
 ) -> Result<Bench, Fail> {
-    let core = core_behind_sends(rt, alloc, text, table, sends)?;
     assert!(rt; ring >= 1);
     assert!(rt; ring <= 1024);
     let (pump, hosts, nodes) = wire(alloc, core, ring)?;
-    Ok(Bench { pump, hosts, nodes })
+    Ok(Bench {
+        row,
+        pump,
+        hosts,
+        nodes,
+    })
 }

@@ -1,6 +1,6 @@
 //! Rows of acts, and the logs that they leave.
 
-use crate::bench::{Act, expect_log, set_up};
+use crate::bench::{Act, core_behind_sends, expect_log, set_up};
 use crate::copied::copies;
 use crate::samples::{DOOR_CLUSTER, KEYS_CLUSTER};
 use lin_core::PortId;
@@ -8,9 +8,10 @@ use std::alloc::Global;
 use std::process::Abort;
 use std::test::Fail;
 
-/// A cluster with the table that opens it, how many sends the core has when it is wired, how many
+/// A name, a cluster with the table that opens it, how many sends the core has when it is wired, how many
 /// items a ring takes, what is done, the log that this leaves, and how many events stand in it.
 struct Row {
+    name: &'static str,
     cluster: &'static [u8],
     table: u16,
     sends: usize,
@@ -21,13 +22,15 @@ struct Row {
 }
 
 fn expect(rt: &impl Abort, alloc: Global, row: &Row) -> Result<(), Fail> {
-    let mut bench = set_up(rt, alloc, row.cluster, row.table, row.sends, row.ring)?;
+    let core = core_behind_sends(rt, alloc, row.cluster, row.table, row.sends)?;
+    let mut bench = set_up(rt, alloc, row.name, core, row.ring)?;
     bench.acts(rt, alloc, row.acts)?;
-    expect_log(rt, alloc, &bench.pump, row.log)?;
+    expect_log(rt, alloc, &bench.pump, row.log, row.name)?;
     copies(rt, alloc, bench.pump.core(), row.events)
 }
 
 const FULL_RING: Row = Row {
+    name: "full ring of one",
     cluster: DOOR_CLUSTER,
     table: 0,
     sends: 0,
@@ -60,12 +63,8 @@ h0 send 0 1 01
     events: 3,
 };
 
-#[test]
-fn full_ring_of_one(rt: HostRuntime) -> Result<(), Fail> {
-    expect(&rt, rt.alloc(), &FULL_RING)
-}
-
 const LATE_ANSWER: Row = Row {
+    name: "late answer",
     cluster: DOOR_CLUSTER,
     table: 0,
     sends: 0,
@@ -96,12 +95,8 @@ n0 answer 0
     events: 4,
 };
 
-#[test]
-fn late_answer_is_refused(rt: HostRuntime) -> Result<(), Fail> {
-    expect(&rt, rt.alloc(), &LATE_ANSWER)
-}
-
 const DROPPED_PORT: Row = Row {
+    name: "dropped port",
     cluster: DOOR_CLUSTER,
     table: 0,
     sends: 0,
@@ -123,12 +118,8 @@ h0 send 0 1 02
     events: 2,
 };
 
-#[test]
-fn dropped_port(rt: HostRuntime) -> Result<(), Fail> {
-    expect(&rt, rt.alloc(), &DROPPED_PORT)
-}
-
 const DOOR_ANSWERS: Row = Row {
+    name: "wired log goes on with an answer",
     cluster: DOOR_CLUSTER,
     table: 0,
     sends: 1,
@@ -157,6 +148,7 @@ bus finish
 };
 
 const DOOR_LEAVES: Row = Row {
+    name: "wired log goes on without an answer",
     cluster: DOOR_CLUSTER,
     table: 0,
     sends: 1,
@@ -183,15 +175,10 @@ bus finish
     events: 4,
 };
 
-#[test]
-fn wired_log_goes_on(rt: HostRuntime) -> Result<(), Fail> {
-    expect(&rt, rt.alloc(), &DOOR_ANSWERS)?;
-    expect(&rt, rt.alloc(), &DOOR_LEAVES)
-}
-
 /// Notes of each kind. The last slot puts the cluster to sleep, so that the log has an event of
 /// each kind too.
 const NOTES: Row = Row {
+    name: "notes in the order of the log",
     cluster: KEYS_CLUSTER,
     table: 2,
     sends: 0,
@@ -286,13 +273,9 @@ bus finish
     events: 27,
 };
 
-#[test]
-fn notes_in_log_order(rt: HostRuntime) -> Result<(), Fail> {
-    expect(&rt, rt.alloc(), &NOTES)
-}
-
 /// One of two responders pauses its message while the other one sends.
 const TWO_RESPONDERS: Row = Row {
+    name: "two responders interleaved",
     cluster: KEYS_CLUSTER,
     table: 2,
     sends: 0,
@@ -403,14 +386,10 @@ bus finish
     events: 39,
 };
 
-#[test]
-fn two_responders_interleaved(rt: HostRuntime) -> Result<(), Fail> {
-    expect(&rt, rt.alloc(), &TWO_RESPONDERS)
-}
-
 /// A message to all responders: the ports of both hosts take it, and its sender's that it was sent,
 /// once. A responder sends none.
 const MESSAGE_TO_ALL: Row = Row {
+    name: "message to all",
     cluster: KEYS_CLUSTER,
     table: 2,
     sends: 0,
@@ -453,7 +432,21 @@ bus finish
     events: 10,
 };
 
+const ROWS: &[Row] = &[
+    FULL_RING,
+    LATE_ANSWER,
+    DROPPED_PORT,
+    DOOR_ANSWERS,
+    DOOR_LEAVES,
+    NOTES,
+    TWO_RESPONDERS,
+    MESSAGE_TO_ALL,
+];
+
 #[test]
-fn message_to_all(rt: HostRuntime) -> Result<(), Fail> {
-    expect(&rt, rt.alloc(), &MESSAGE_TO_ALL)
+fn rows(rt: HostRuntime) -> Result<(), Fail> {
+    for row in ROWS {
+        expect(&rt, rt.alloc(), row)?;
+    }
+    Ok(())
 }

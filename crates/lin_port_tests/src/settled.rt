@@ -66,7 +66,7 @@ fn whole(rt: &impl Abort, pump: &mut Pump, receipt: Receipt) -> Result<(), Fail>
         Settled::Whole(receipt) => assert!(rt; receipt.id() == PortId::Host(0)),
         Settled::Left(_) => return Err(Fail::from("steps are left")),
     }
-    makes(rt, pump, 0)
+    makes(rt, pump, 0, "settled")
 }
 
 /// Four of five sends find room; the rounds make them one by one.
@@ -83,12 +83,12 @@ fn four_sends(
     puts(rt, alloc, &mut port)?;
     puts(rt, alloc, &mut port)?;
     hands_back(rt, alloc, &mut port)?;
-    makes(rt, pump, 1)?;
-    is_taken(rt, alloc, port.take(), "accepted 0 1")?;
+    makes(rt, pump, 1, "four sends")?;
+    is_taken(rt, alloc, port.take(), "accepted 0 1", "four sends")?;
     let receipt = left(pump, port.end())?;
-    makes(rt, pump, 1)?;
-    makes(rt, pump, 1)?;
-    makes(rt, pump, 1)?;
+    makes(rt, pump, 1, "four sends")?;
+    makes(rt, pump, 1, "four sends")?;
+    makes(rt, pump, 1, "four sends")?;
     whole(rt, pump, receipt)
 }
 
@@ -104,9 +104,9 @@ fn two_sends(
     puts(rt, alloc, &mut port)?;
     puts(rt, alloc, &mut port)?;
     let receipt = left(pump, port.end())?;
-    makes(rt, pump, 1)?;
+    makes(rt, pump, 1, "two sends")?;
     let receipt = left(pump, receipt)?;
-    makes(rt, pump, 1)?;
+    makes(rt, pump, 1, "two sends")?;
     whole(rt, pump, receipt)
 }
 
@@ -120,6 +120,7 @@ fn ring_of_four(rt: HostRuntime) -> Result<(), Fail> {
         alloc,
         &pump,
         "h0 send 0 1 01\n> accepted 0 1\nh0 send 0 1 01\n> accepted 0 2\nh0 send 0 1 01\n> accepted 0 3\nh0 send 0 1 01\n> accepted 0 4\n",
+        "four sends",
     )?;
     copies(&rt, alloc, pump.core(), 4)
 }
@@ -134,6 +135,7 @@ fn settled_after_two_rounds(rt: HostRuntime) -> Result<(), Fail> {
         alloc,
         &pump,
         "h0 send 0 1 01\n> accepted 0 1\nh0 send 0 1 01\n> accepted 0 2\n",
+        "two sends",
     )?;
     copies(&rt, alloc, pump.core(), 2)
 }
