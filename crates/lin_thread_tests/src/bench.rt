@@ -1,11 +1,15 @@
-//! Runs on a cluster with a door, and what they leave.
+//! Runs on small clusters, and what they leave.
+
+ghost use Rattle.std.specs.Prelude.{◌≤◌, IfOk, length};
+ghost use Rattle.lin_threads.specs.States.{ArePortsOf};
 
 use lin_cluster::{Cluster, check};
 use lin_core::{Core, Payload, PortId, Step};
 use lin_ldf::parse;
 use lin_log::{replay, write_log};
 use lin_threads::{
-    Ended, HostPort, HostStep, HostTask, Plan, RunReport, ScriptTask, Turn, run_cluster, wire,
+    Ended, HostPort, HostStep, HostTask, NodePort, Plan, Pump, RunReport, ScriptTask, Turn,
+    run_cluster, wire,
 };
 use std::alloc::Global;
 use std::process::Abort;
@@ -14,7 +18,7 @@ use std::test::Fail;
 use std::thread::Threads;
 
 /// A commander and a door, with diagnostic frames alone.
-const DOOR_CLUSTER: &[u8] = b"LIN_description_file;
+pub const DOOR_CLUSTER: &[u8] = b"LIN_description_file;
 LIN_protocol_version = \"2.2\";
 LIN_language_version = \"2.2\";
 LIN_speed = 19.2 kbps;
@@ -23,44 +27,76 @@ Node_attributes { door { LIN_protocol = \"2.2\"; configured_NAD = 0x01; } }
 Schedule_tables { diag { MasterReq delay 10 ms; SlaveResp delay 10 ms; } }
 ";
 
+/// A commander that sends a frame in each slot, and a door that hears it.
+pub const LIGHT_CLUSTER: &[u8] = b"LIN_description_file;
+LIN_protocol_version = \"2.2\";
+LIN_language_version = \"2.2\";
+LIN_speed = 19.2 kbps;
+Nodes { Master: cem, 5 ms, 0.1 ms; Slaves: door; }
+Signals { level: 8, 0, cem, door; }
+Frames { Light: 1, cem, 1 { level, 0; } }
+Schedule_tables { light { Light delay 10 ms; } }
+";
+
 /// How many messages of a host wait at most.
 const CAPACITY: usize = 16;
 
-fn door_cluster(rt: &impl Abort, alloc: Global) -> Result<Cluster, Fail> {
-    let cluster = check(alloc, parse(alloc, DOOR_CLUSTER)?)?;
+fn cluster_of(rt: &impl Abort, alloc: Global, text: &[u8]) -> Result<Cluster, Fail>
+    ensures { IfOk result (λ c. 1 ≤ length c.tables) }
+{
+    let cluster = check(alloc, parse(alloc, text)?)?;
     assert!(rt; cluster.tables() > 0);
     Ok(cluster)
 }
 
-/// A core on the cluster.
-pub fn door_core(rt: &impl Abort, alloc: Global) -> Result<Core, Fail> {
-    let cluster = door_cluster(rt, alloc)?;
-    assert!(rt; cluster.tables() > 0);
+/// A core on the cluster of a text.
+pub fn core_on(rt: &impl Abort, alloc: Global, text: &[u8]) -> Result<Core, Fail> {
+    let cluster = cluster_of(rt, alloc, text)?;
     Ok(Core::new(alloc, cluster, 0, CAPACITY)?)
 }
 
-/// A core on the cluster whose log has one send of the byte 1 by host 0.
-pub fn core_with_send(rt: &impl Abort, alloc: Global) -> Result<Core, Fail> {
-    let mut core = door_core(rt, alloc)?;
-    let step = Step::Send {
-        from: 0,
-        to: 1,
-        message: Payload::new([1].to_vec(alloc)?),
-    };
-    assert!(rt; core.step(PortId::Host(0), step).is_ok());
+/// A core on the cluster with a door whose log has sends of single bytes, each given with its
+/// sender and its receiver.
+pub fn core_with_sends(
+    rt: &impl Abort,
+    alloc: Global,
+    sends: &[(u8, u8, u8)],
+) -> Result<Core, Fail> {
+    let mut core = core_on(rt, alloc, DOOR_CLUSTER)?;
+    for (from, to, byte) in sends {
+        let step = Step::Send {
+            from: *from,
+            to: *to,
+            message: Payload::new([*byte].to_vec(alloc)?),
+        };
+        assert!(rt; core.step(PortId::Host(*from), step).is_ok());
+    }
     Ok(core)
 }
 
-/// What a run does: the numbers of a plan, the slots that are damaged, and what each node leaves
-/// out.
+/// What a run does: how many items a ring takes, whether host 0's port puts a send of the byte 1
+/// before the run, the numbers of a plan, the slots that are damaged, and what each node leaves out.
 #[derive(Clone, Copy)]
 pub struct Numbers {
+    pub ring: usize,
+    pub is_put: bool,
     pub slots: u32,
     pub turns: u32,
     pub rounds: u32,
     pub hurt: &'static [u32],
     pub leave: [&'static [u32]; 2],
 }
+
+/// The numbers that the program runs with.
+pub const NUMBERS: Numbers = Numbers {
+    ring: 64,
+    is_put: false,
+    slots: 1,
+    turns: 4_000_000_000,
+    rounds: 1_000_000,
+    hurt: &[],
+    leave: [&[], &[]],
+};
 
 fn plan_of(alloc: Global, numbers: &Numbers) -> Result<Plan, Fail> {
     let mut leave = Vec::new(alloc);
@@ -76,18 +112,39 @@ fn plan_of(alloc: Global, numbers: &Numbers) -> Result<Plan, Fail> {
     })
 }
 
-/// Runs tasks over rings that take so many items.
+/// The first host's port puts a send of the byte 1.
+fn put_send(
+    rt: &impl Abort,
+    alloc: Global,
+    pump: &Pump,
+    hosts: &mut Vec<HostPort>,
+    nodes: &Vec<NodePort>,
+) -> Result<(), Fail>
+    requires { ArePortsOf pump.now hosts.old.items nodes.now.items }
+    ensures { ArePortsOf pump.now hosts.new.items nodes.now.items }
+{
+    let message = Payload::new([1].to_vec(alloc)?);
+    assert!(rt; !hosts.is_empty());
+    let is_put = hosts[0].put(HostStep::Send { to: 1, message }).is_ok();
+    assert!(rt; is_put);
+    Ok(())
+}
+
+/// Runs tasks on the ports of a core.
 pub fn run<R: Abort + Threads + Wait>(
     rt: &R,
     alloc: Global,
     core: Core,
-    ring: usize,
     tasks: Vec<Box<dyn HostTask + Send>>,
     numbers: &Numbers,
 ) -> Result<RunReport, Fail> {
+    let ring = numbers.ring;
     assert!(rt; ring >= 1);
     assert!(rt; ring <= 1024);
-    let (pump, hosts, nodes) = wire(alloc, core, ring)?;
+    let (pump, mut hosts, nodes) = wire(alloc, core, ring)?;
+    if numbers.is_put {
+        put_send(rt, alloc, &pump, &mut hosts, &nodes)?;
+    }
     let plan = plan_of(alloc, numbers)?;
     assert_eq!(rt; tasks.len(), hosts.len());
     assert_eq!(rt; plan.leave.len(), nodes.len());
@@ -102,7 +159,7 @@ pub fn run<R: Abort + Threads + Wait>(
 }
 
 /// A task that puts a send of each of these bytes alone.
-fn script(alloc: Global, to: u8, bytes: &[u8]) -> Result<ScriptTask, Fail> {
+pub fn script(alloc: Global, to: u8, bytes: &[u8]) -> Result<ScriptTask, Fail> {
     let mut steps = Vec::new(alloc);
     for byte in bytes {
         let message = Payload::new([*byte].to_vec(alloc)?);
@@ -116,71 +173,49 @@ pub fn run_scripts<R: Abort + Threads + Wait>(
     rt: &R,
     alloc: Global,
     core: Core,
-    ring: usize,
     sends: [&[u8]; 2],
     numbers: &Numbers,
 ) -> Result<RunReport, Fail> {
     let mut tasks: Vec<Box<dyn HostTask + Send>> = Vec::new(alloc);
     tasks.push(Box::new(alloc, script(alloc, 1, sends[0])?)?)?;
     tasks.push(Box::new(alloc, script(alloc, 0, sends[1])?)?)?;
-    run(rt, alloc, core, ring, tasks, numbers)
-}
-
-/// A task that is never done.
-#[derive(Drop)]
-struct Restless {}
-
-impl HostTask for Restless {
-    fn turn(&mut self, _port: &mut HostPort, _over: bool) -> Turn {
-        Turn::Again
-    }
-}
-
-/// Runs a task that puts one send of the byte 1 for host 0, and one that is never done for host 1.
-pub fn run_restless<R: Abort + Threads + Wait>(
-    rt: &R,
-    alloc: Global,
-    core: Core,
-    ring: usize,
-    numbers: &Numbers,
-) -> Result<RunReport, Fail> {
-    let mut tasks: Vec<Box<dyn HostTask + Send>> = Vec::new(alloc);
-    tasks.push(Box::new(alloc, script(alloc, 1, &[1])?)?)?;
-    tasks.push(Box::new(alloc, Restless {})?)?;
-    run(rt, alloc, core, ring, tasks, numbers)
+    run(rt, alloc, core, tasks, numbers)
 }
 
 /// How the tasks of the two hosts ended.
-pub fn expect_ended(rt: &impl Abort, report: &RunReport, wanted: [Ended; 2]) {
-    assert_eq!(rt; report.ended.len(), 2);
-    assert_eq!(rt; report.ended[0], wanted[0]);
-    assert_eq!(rt; report.ended[1], wanted[1]);
+pub fn expect_ended(rt: &impl Abort, report: &RunReport, wanted: [Ended; 2], row: &str) {
+    assert_eq!(rt; report.ended.as_slice(), wanted.as_slice(), "{row}");
 }
 
 /// The text of a core's log.
-pub fn text_of(alloc: Global, core: &Core) -> Result<Vec<u8>, Fail> {
+fn text_of(alloc: Global, core: &Core) -> Result<Vec<u8>, Fail> {
     let mut text = Vec::new(alloc);
     write_log(core.log(), &mut text)?;
     Ok(text)
 }
 
 /// The log of a core, in text.
-pub fn expect_log(rt: &impl Abort, alloc: Global, core: &Core, wanted: &str) -> Result<(), Fail> {
+pub fn expect_log(
+    rt: &impl Abort,
+    alloc: Global,
+    core: &Core,
+    wanted: &str,
+    row: &str,
+) -> Result<(), Fail> {
     let text = text_of(alloc, core)?;
     let log = std::str::from_utf8(text.as_slice()).unwrap_or("no text");
-    assert_eq!(rt; log, wanted);
+    assert_eq!(rt; log, wanted, "{row}");
     Ok(())
 }
 
 /// A replay of a log's text writes it again.
-pub fn expect_replay(rt: &impl Abort, alloc: Global, core: &Core) -> Result<(), Fail> {
+pub fn expect_replay(rt: &impl Abort, alloc: Global, core: &Core, row: &str) -> Result<(), Fail> {
     let text = text_of(alloc, core)?;
-    let cluster = door_cluster(rt, alloc)?;
+    let cluster = cluster_of(rt, alloc, DOOR_CLUSTER)?;
     let mut again = Vec::new(alloc);
     let mut reader = text.as_slice();
-    assert!(rt; cluster.tables() > 0);
     let _core = replay(alloc, cluster, 0, CAPACITY, &mut reader, &mut again)?;
-    assert!(rt; again.as_slice() == text.as_slice());
+    assert!(rt; again.as_slice() == text.as_slice(), "{row}");
     Ok(())
 }
 

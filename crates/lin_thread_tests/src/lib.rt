@@ -9,3 +9,5 @@ mod meeting;
 mod rows;
 #[cfg(test)]
 mod split;
+#[cfg(test)]
+mod tasks;

@@ -1,6 +1,6 @@
 //! Tasks that wait for one another.
 
-use crate::bench::{Numbers, door_core, expect_ended, run};
+use crate::bench::{DOOR_CLUSTER, NUMBERS, Numbers, core_on, expect_ended, run};
 use lin_threads::{Ended, HostPort, HostTask, Turn};
 use std::alloc::Global;
 use std::process::Abort;
@@ -13,11 +13,13 @@ use std::thread::Threads;
 /// How often a task looks for the other one.
 const LOOKS: u32 = 100_000_000;
 
-/// A task that says that it has come, and is done once it saw that the other one has.
+/// A task that says in its first turn that it has come, and is done once it saw that the other one
+/// has; in that turn, or it says that it missed it.
 #[derive(Drop)]
 struct Meeting {
     come: Arc<AtomicBool, Global>,
     other: Arc<AtomicBool, Global>,
+    missed: Arc<AtomicBool, Global>,
 }
 
 impl HostTask for Meeting {
@@ -29,20 +31,27 @@ impl HostTask for Meeting {
             }
             thread::yield_now();
         }
-        Turn::Again
+        self.missed.store(true, Ordering::SeqCst);
+        Turn::Done
     }
 }
 
-/// Both tasks see that the other one has come, in their one turn.
-fn both_meet<R: Abort + Threads + Wait>(rt: &R, alloc: Global, ring: usize) -> Result<(), Fail> {
+/// Both tasks see that the other one has come, each in its first turn.
+fn both_meet<R: Abort + Threads + Wait>(
+    rt: &R,
+    alloc: Global,
+    numbers: &Numbers,
+) -> Result<(), Fail> {
     let first = Arc::new(alloc, AtomicBool::new(false))?;
     let second = Arc::new(alloc, AtomicBool::new(false))?;
+    let missed = Arc::new(alloc, AtomicBool::new(false))?;
     let mut tasks: Vec<Box<dyn HostTask + Send>> = Vec::new(alloc);
     tasks.push(Box::new(
         alloc,
         Meeting {
             come: Arc::try_clone(&first)?,
             other: Arc::try_clone(&second)?,
+            missed: Arc::try_clone(&missed)?,
         },
     )?)?;
     tasks.push(Box::new(
@@ -50,27 +59,25 @@ fn both_meet<R: Abort + Threads + Wait>(rt: &R, alloc: Global, ring: usize) -> R
         Meeting {
             come: second,
             other: first,
+            missed: Arc::try_clone(&missed)?,
         },
     )?)?;
-    let numbers = Numbers {
-        slots: 4,
-        turns: 1,
-        rounds: 100_000_000,
-        hurt: &[],
-        leave: [&[], &[]],
-    };
-    let core = door_core(rt, alloc)?;
-    let report = run(rt, alloc, core, ring, tasks, &numbers)?;
-    expect_ended(rt, &report, [Ended::Done, Ended::Done]);
+    let core = core_on(rt, alloc, DOOR_CLUSTER)?;
+    let report = run(rt, alloc, core, tasks, numbers)?;
+    assert!(rt; !missed.load(Ordering::SeqCst));
+    expect_ended(rt, &report, [Ended::Done, Ended::Done], "meeting");
     Ok(())
 }
 
 #[test]
 fn tasks_run_at_once(rt: HostRuntime) -> Result<(), Fail> {
-    both_meet(&rt, rt.alloc(), 4)
-}
-
-#[test]
-fn tasks_run_at_once_on_a_ring_of_one(rt: HostRuntime) -> Result<(), Fail> {
-    both_meet(&rt, rt.alloc(), 1)
+    for ring in [64, 1] {
+        let numbers = Numbers {
+            ring,
+            slots: 4,
+            ..NUMBERS
+        };
+        both_meet(&rt, rt.alloc(), &numbers)?;
+    }
+    Ok(())
 }
