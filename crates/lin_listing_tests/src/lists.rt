@@ -34,35 +34,29 @@ fn expect_lists(
     Ok(())
 }
 
-#[test]
-fn built_in(rt: HostRuntime) -> Result<(), Fail> {
-    expect_lists(
-        &rt,
-        rt.alloc(),
+/// LDF texts, and their lists of frames and of slots.
+const LISTS: &[(&[u8], &[u8], &[u8])] = &[
+    (
         samples::BUILT_IN,
         samples::BUILT_IN_FRAMES,
         samples::BUILT_IN_SLOTS,
-    )
-}
-
-#[test]
-fn lights(rt: HostRuntime) -> Result<(), Fail> {
-    expect_lists(
-        &rt,
-        rt.alloc(),
+    ),
+    (
         samples::LIGHTS,
         samples::LIGHTS_FRAMES,
         samples::LIGHTS_SLOTS,
-    )
-}
-
-#[test]
-fn door_zone(rt: HostRuntime) -> Result<(), Fail> {
-    expect_lists(
-        &rt,
-        rt.alloc(),
+    ),
+    (
         samples::DOOR_ZONE,
         samples::DOOR_ZONE_FRAMES,
         samples::DOOR_ZONE_SLOTS,
-    )
+    ),
+];
+
+#[test]
+fn lists_of_samples(rt: HostRuntime) -> Result<(), Fail> {
+    for (ldf, frames, slots) in LISTS {
+        expect_lists(&rt, rt.alloc(), ldf, frames, slots)?;
+    }
+    Ok(())
 }
