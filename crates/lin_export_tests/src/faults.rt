@@ -61,6 +61,16 @@ enum Form {
 
 const FORMS: [Form; 5] = [Form::Named, Form::Csv, Form::Pcap, Form::Vcd, Form::Html];
 
+fn name_of(form: Form) -> &'static str {
+    match form {
+        Form::Named => "named",
+        Form::Csv => "csv",
+        Form::Pcap => "pcap",
+        Form::Vcd => "vcd",
+        Form::Html => "html",
+    }
+}
+
 fn write_form<W: Write>(
     form: Form,
     alloc: Global,
@@ -97,34 +107,46 @@ fn expect_beginning(
         kind,
     };
     let written = write_form(form, alloc, &run.0, &run.1, &mut writer);
-    assert!(rt; matches!(written, Err(ExportFault::WriteFailed)));
-    assert!(rt; writer.calls == good.saturating_add(1));
-    assert!(rt; writer.taken.len() == good.saturating_mul(MOST));
-    assert!(rt; text.as_slice().starts_with(writer.taken.as_slice()));
+    let name = name_of(form);
+    assert!(rt;
+        matches!(written, Err(ExportFault::WriteFailed)),
+        "{name} after {good}"
+    );
+    assert!(rt;
+        writer.calls == good.saturating_add(1),
+        "{name} after {good}"
+    );
+    assert!(rt;
+        writer.taken.len() == good.saturating_mul(MOST),
+        "{name} after {good}"
+    );
+    assert!(rt;
+        text.as_slice().starts_with(writer.taken.as_slice()),
+        "{name} after {good}"
+    );
     Ok(())
 }
 
 #[test]
-fn each_write_fails_in_turn(rt: HostRuntime) -> Result<(), Fail> {
-    let run = run(rt.alloc(), samples::BUILT_IN, samples::FIRST_LOG)?;
+fn writers_that_fail(rt: HostRuntime) -> Result<(), Fail> {
+    let first = run(rt.alloc(), samples::BUILT_IN, samples::FIRST_LOG)?;
     for form in FORMS {
         let mut text = Vec::new(rt.alloc());
-        write_form(form, rt.alloc(), &run.0, &run.1, &mut text)?;
+        write_form(form, rt.alloc(), &first.0, &first.1, &mut text)?;
         for good in 0..text.len().div_ceil(MOST) {
-            expect_beginning(&rt, rt.alloc(), form, &run, good, Some(ErrorKind::Other))?;
+            expect_beginning(&rt, rt.alloc(), form, &first, good, Some(ErrorKind::Other))?;
         }
     }
-    Ok(())
-}
-
-#[test]
-fn writers_that_take_nothing(rt: HostRuntime) -> Result<(), Fail> {
-    let run = run(rt.alloc(), samples::LIGHTS, samples::KEYS_LOG)?;
+    let keys = run(rt.alloc(), samples::LIGHTS, samples::KEYS_LOG)?;
     for form in FORMS {
-        expect_beginning(&rt, rt.alloc(), form, &run, 0, None)?;
-        expect_beginning(&rt, rt.alloc(), form, &run, 0, Some(ErrorKind::BrokenPipe))?;
-        expect_beginning(&rt, rt.alloc(), form, &run, 2, Some(ErrorKind::StorageFull))?;
-        expect_beginning(&rt, rt.alloc(), form, &run, 1, Some(ErrorKind::Interrupted))?;
+        for (good, kind) in [
+            (0, None),
+            (0, Some(ErrorKind::BrokenPipe)),
+            (2, Some(ErrorKind::StorageFull)),
+            (1, Some(ErrorKind::Interrupted)),
+        ] {
+            expect_beginning(&rt, rt.alloc(), form, &keys, good, kind)?;
+        }
     }
     Ok(())
 }
@@ -142,7 +164,13 @@ fn a_few_bytes_a_write(rt: HostRuntime) -> Result<(), Fail> {
             kind: None,
         };
         write_form(form, rt.alloc(), &names, &core, &mut writer)?;
-        expect_bytes(&rt, &writer.taken, &text, "a few bytes a write");
+        expect_bytes(
+            &rt,
+            &writer.taken,
+            &text,
+            "a few bytes a write",
+            name_of(form),
+        );
     }
     Ok(())
 }
@@ -152,11 +180,11 @@ fn empty_log(rt: HostRuntime) -> Result<(), Fail> {
     let (names, core) = run(rt.alloc(), samples::BUILT_IN, b"")?;
     let mut named = Vec::new(rt.alloc());
     write_form(Form::Named, rt.alloc(), &names, &core, &mut named)?;
-    expect_bytes(&rt, &named, b"", "named");
+    expect_bytes(&rt, &named, b"", "an empty log", "named");
     let mut csv = Vec::new(rt.alloc());
     write_form(Form::Csv, rt.alloc(), &names, &core, &mut csv)?;
     let columns = b"slot,time_us,delay_us,table,entry,kind,frame,header,nodes,seen,data,checksum\n";
-    expect_bytes(&rt, &csv, columns, "csv");
+    expect_bytes(&rt, &csv, columns, "an empty log", "csv");
     let mut pcap = Vec::new(rt.alloc());
     write_form(Form::Pcap, rt.alloc(), &names, &core, &mut pcap)?;
     assert!(rt; pcap.len() == 24 && samples::FIRST_PCAP.starts_with(pcap.as_slice()));
@@ -213,40 +241,52 @@ fn expect_renamed(
         want.extend_from_slice(samples::HTML_HEAD)?;
     }
     want.extend_from_slice(&replaced(alloc, text, name, &LONG)?)?;
-    expect_bytes(rt, &found, &want, "a long name");
+    expect_bytes(rt, &found, &want, "a long name", name_of(form));
+    Ok(())
+}
+
+/// A run, and what it is written as in some formats with a long name in place of a short one.
+fn expect_long_name(
+    rt: &impl Abort,
+    alloc: Global,
+    ldf: &[u8],
+    name: &[u8],
+    log: &[u8],
+    texts: &[(Form, &[u8])],
+) -> Result<(), Fail> {
+    let run = renamed(alloc, ldf, name, log)?;
+    for (form, text) in texts {
+        expect_renamed(rt, alloc, *form, &run, text, name)?;
+    }
     Ok(())
 }
 
 #[test]
-fn nodes_of_1000_bytes(rt: HostRuntime) -> Result<(), Fail> {
-    let name = b"door";
-    let run = renamed(rt.alloc(), samples::BUILT_IN, name, samples::FIRST_LOG)?;
-    expect_renamed(
+fn names_of_1000_bytes(rt: HostRuntime) -> Result<(), Fail> {
+    expect_long_name(
         &rt,
         rt.alloc(),
-        Form::Named,
-        &run,
-        samples::FIRST_NAMED,
-        name,
+        samples::BUILT_IN,
+        b"door",
+        samples::FIRST_LOG,
+        &[
+            (Form::Named, samples::FIRST_NAMED),
+            (Form::Pcap, samples::FIRST_PCAP),
+            (Form::Vcd, samples::FIRST_VCD),
+            (Form::Html, samples::FIRST_HTML),
+        ],
     )?;
-    expect_renamed(&rt, rt.alloc(), Form::Pcap, &run, samples::FIRST_PCAP, name)?;
-    expect_renamed(&rt, rt.alloc(), Form::Vcd, &run, samples::FIRST_VCD, name)?;
-    expect_renamed(&rt, rt.alloc(), Form::Html, &run, samples::FIRST_HTML, name)
-}
-
-#[test]
-fn signals_of_1000_bytes(rt: HostRuntime) -> Result<(), Fail> {
-    let name = b"lkey";
-    let run = renamed(rt.alloc(), samples::LIGHTS, name, samples::KEYS_LOG)?;
-    expect_renamed(
+    expect_long_name(
         &rt,
         rt.alloc(),
-        Form::Named,
-        &run,
-        samples::KEYS_NAMED,
-        name,
-    )?;
-    expect_renamed(&rt, rt.alloc(), Form::Csv, &run, samples::KEYS_CSV, name)?;
-    expect_renamed(&rt, rt.alloc(), Form::Vcd, &run, samples::KEYS_VCD, name)?;
-    expect_renamed(&rt, rt.alloc(), Form::Html, &run, samples::KEYS_HTML, name)
+        samples::LIGHTS,
+        b"lkey",
+        samples::KEYS_LOG,
+        &[
+            (Form::Named, samples::KEYS_NAMED),
+            (Form::Csv, samples::KEYS_CSV),
+            (Form::Vcd, samples::KEYS_VCD),
+            (Form::Html, samples::KEYS_HTML),
+        ],
+    )
 }

@@ -7,10 +7,11 @@ use std::alloc::Global;
 use std::process::Abort;
 use std::test::Fail;
 
-/// A log, the LDF text of its cluster, and what it is written as; of a picture what stands after
+/// A name, a log, the LDF text of its cluster, and what it is written as; of a picture what stands after
 /// its head.
 #[derive(Drop)]
 struct Sample<'a> {
+    name: &'a str,
     ldf: &'a [u8],
     log: &'a [u8],
     named: &'a [u8],
@@ -24,27 +25,33 @@ fn expect_formats(rt: &impl Abort, alloc: Global, sample: &Sample<'_>) -> Result
     let (names, core) = run(alloc, sample.ldf, sample.log)?;
     let mut named = Vec::new(alloc);
     write_named(alloc, core.cluster(), &names, core.log(), &mut named)?;
-    expect_bytes(rt, &named, sample.named, "named");
+    expect_bytes(rt, &named, sample.named, sample.name, "named");
     let mut csv = Vec::new(alloc);
     write_csv(alloc, core.cluster(), &names, core.log(), &mut csv)?;
-    expect_bytes(rt, &csv, sample.csv, "csv");
+    expect_bytes(rt, &csv, sample.csv, sample.name, "csv");
     let mut pcap = Vec::new(alloc);
     write_pcap(alloc, core.cluster(), core.log(), &mut pcap)?;
-    expect_bytes(rt, &pcap, sample.pcap, "pcap");
+    expect_bytes(rt, &pcap, sample.pcap, sample.name, "pcap");
     let mut vcd = Vec::new(alloc);
     write_vcd(alloc, core.cluster(), core.log(), &mut vcd)?;
-    expect_bytes(rt, &vcd, sample.vcd, "vcd");
+    expect_bytes(rt, &vcd, sample.vcd, sample.name, "vcd");
     let mut html = Vec::new(alloc);
     write_html(alloc, core.cluster(), &names, core.log(), &mut html)?;
     let head = samples::HTML_HEAD;
     assert!(rt; html.as_slice().starts_with(head));
-    expect_bytes(rt, &html.as_slice()[head.len()..], sample.html, "html");
+    expect_bytes(
+        rt,
+        &html.as_slice()[head.len()..],
+        sample.html,
+        sample.name,
+        "html",
+    );
     Ok(())
 }
 
-#[test]
-fn first(rt: HostRuntime) -> Result<(), Fail> {
-    let sample = Sample {
+fn first() -> Sample<'static> {
+    Sample {
+        name: "first",
         ldf: samples::BUILT_IN,
         log: samples::FIRST_LOG,
         named: samples::FIRST_NAMED,
@@ -52,13 +59,12 @@ fn first(rt: HostRuntime) -> Result<(), Fail> {
         pcap: samples::FIRST_PCAP,
         vcd: samples::FIRST_VCD,
         html: samples::FIRST_HTML,
-    };
-    expect_formats(&rt, rt.alloc(), &sample)
+    }
 }
 
-#[test]
-fn wake(rt: HostRuntime) -> Result<(), Fail> {
-    let sample = Sample {
+fn wake() -> Sample<'static> {
+    Sample {
+        name: "wake",
         ldf: samples::BUILT_IN,
         log: samples::WAKE_LOG,
         named: samples::WAKE_NAMED,
@@ -66,13 +72,12 @@ fn wake(rt: HostRuntime) -> Result<(), Fail> {
         pcap: samples::WAKE_PCAP,
         vcd: samples::WAKE_VCD,
         html: samples::WAKE_HTML,
-    };
-    expect_formats(&rt, rt.alloc(), &sample)
+    }
 }
 
-#[test]
-fn keys(rt: HostRuntime) -> Result<(), Fail> {
-    let sample = Sample {
+fn keys() -> Sample<'static> {
+    Sample {
+        name: "keys",
         ldf: samples::LIGHTS,
         log: samples::KEYS_LOG,
         named: samples::KEYS_NAMED,
@@ -80,13 +85,12 @@ fn keys(rt: HostRuntime) -> Result<(), Fail> {
         pcap: samples::KEYS_PCAP,
         vcd: samples::KEYS_VCD,
         html: samples::KEYS_HTML,
-    };
-    expect_formats(&rt, rt.alloc(), &sample)
+    }
 }
 
-#[test]
-fn window(rt: HostRuntime) -> Result<(), Fail> {
-    let sample = Sample {
+fn window() -> Sample<'static> {
+    Sample {
+        name: "window",
         ldf: samples::DOOR_ZONE,
         log: samples::WINDOW_LOG,
         named: samples::WINDOW_NAMED,
@@ -94,13 +98,12 @@ fn window(rt: HostRuntime) -> Result<(), Fail> {
         pcap: samples::WINDOW_PCAP,
         vcd: samples::WINDOW_VCD,
         html: samples::WINDOW_HTML,
-    };
-    expect_formats(&rt, rt.alloc(), &sample)
+    }
 }
 
-#[test]
-fn task_c(rt: HostRuntime) -> Result<(), Fail> {
-    let sample = Sample {
+fn task_c() -> Sample<'static> {
+    Sample {
+        name: "task_c",
         ldf: samples::DOOR_ZONE,
         log: samples::TASK_C_LOG,
         named: samples::TASK_C_NAMED,
@@ -108,6 +111,13 @@ fn task_c(rt: HostRuntime) -> Result<(), Fail> {
         pcap: samples::TASK_C_PCAP,
         vcd: samples::TASK_C_VCD,
         html: samples::TASK_C_HTML,
-    };
-    expect_formats(&rt, rt.alloc(), &sample)
+    }
+}
+
+#[test]
+fn samples_in_each_format(rt: HostRuntime) -> Result<(), Fail> {
+    for sample in [first(), wake(), keys(), window(), task_c()] {
+        expect_formats(&rt, rt.alloc(), &sample)?;
+    }
+    Ok(())
 }

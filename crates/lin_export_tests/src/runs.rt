@@ -23,8 +23,8 @@ pub fn run(alloc: Global, ldf: &[u8], log: &[u8]) -> Result<(Names, Core), Fail>
     Ok((names, core))
 }
 
-/// Compares what was written.
-pub fn expect_bytes(rt: &impl Abort, found: &[u8], want: &[u8], case: &str) {
+/// Compares what was written of a case in a format.
+pub fn expect_bytes(rt: &impl Abort, found: &[u8], want: &[u8], case: &str, format: &str) {
     let text = std::str::from_utf8(found).unwrap_or("no text");
-    assert!(rt; found == want, "{case}: {text}");
+    assert!(rt; found == want, "{case} as {format}: {text}");
 }
