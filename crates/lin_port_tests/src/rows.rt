@@ -432,20 +432,18 @@ bus finish
     events: 10,
 };
 
-const ROWS: &[Row] = &[
-    FULL_RING,
-    LATE_ANSWER,
-    DROPPED_PORT,
-    DOOR_ANSWERS,
-    DOOR_LEAVES,
-    NOTES,
-    TWO_RESPONDERS,
-    MESSAGE_TO_ALL,
-];
-
 #[test]
 fn rows(rt: HostRuntime) -> Result<(), Fail> {
-    for row in ROWS {
+    for row in [
+        &FULL_RING,
+        &LATE_ANSWER,
+        &DROPPED_PORT,
+        &DOOR_ANSWERS,
+        &DOOR_LEAVES,
+        &NOTES,
+        &TWO_RESPONDERS,
+        &MESSAGE_TO_ALL,
+    ] {
         expect(&rt, rt.alloc(), row)?;
     }
     Ok(())
