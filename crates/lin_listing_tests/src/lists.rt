@@ -34,28 +34,25 @@ fn expect_lists(
     Ok(())
 }
 
-/// LDF texts, and their lists of frames and of slots.
-const LISTS: &[(&[u8], &[u8], &[u8])] = &[
-    (
-        samples::BUILT_IN,
-        samples::BUILT_IN_FRAMES,
-        samples::BUILT_IN_SLOTS,
-    ),
-    (
-        samples::LIGHTS,
-        samples::LIGHTS_FRAMES,
-        samples::LIGHTS_SLOTS,
-    ),
-    (
-        samples::DOOR_ZONE,
-        samples::DOOR_ZONE_FRAMES,
-        samples::DOOR_ZONE_SLOTS,
-    ),
-];
-
 #[test]
 fn lists_of_samples(rt: HostRuntime) -> Result<(), Fail> {
-    for (ldf, frames, slots) in LISTS {
+    for (ldf, frames, slots) in [
+        (
+            samples::BUILT_IN,
+            samples::BUILT_IN_FRAMES,
+            samples::BUILT_IN_SLOTS,
+        ),
+        (
+            samples::LIGHTS,
+            samples::LIGHTS_FRAMES,
+            samples::LIGHTS_SLOTS,
+        ),
+        (
+            samples::DOOR_ZONE,
+            samples::DOOR_ZONE_FRAMES,
+            samples::DOOR_ZONE_SLOTS,
+        ),
+    ] {
         expect_lists(&rt, rt.alloc(), ldf, frames, slots)?;
     }
     Ok(())
