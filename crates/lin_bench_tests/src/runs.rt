@@ -25,34 +25,13 @@ fn expect_log(
 }
 
 #[test]
-fn wake(rt: HostRuntime) -> Result<(), Fail> {
-    expect_log(
-        &rt,
-        rt.alloc(),
-        samples::BUILT_IN,
-        samples::WAKE,
-        samples::WAKE_LOG,
-    )
-}
-
-#[test]
-fn keys(rt: HostRuntime) -> Result<(), Fail> {
-    expect_log(
-        &rt,
-        rt.alloc(),
-        samples::LIGHTS,
-        samples::KEYS,
-        samples::KEYS_LOG,
-    )
-}
-
-#[test]
-fn window(rt: HostRuntime) -> Result<(), Fail> {
-    expect_log(
-        &rt,
-        rt.alloc(),
-        samples::DOOR_ZONE,
-        samples::WINDOW,
-        samples::WINDOW_LOG,
-    )
+fn runs(rt: HostRuntime) -> Result<(), Fail> {
+    for (ldf, text, log) in [
+        (samples::BUILT_IN, samples::WAKE, samples::WAKE_LOG),
+        (samples::LIGHTS, samples::KEYS, samples::KEYS_LOG),
+        (samples::DOOR_ZONE, samples::WINDOW, samples::WINDOW_LOG),
+    ] {
+        expect_log(&rt, rt.alloc(), ldf, text, log)?;
+    }
+    Ok(())
 }

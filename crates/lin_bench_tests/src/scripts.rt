@@ -39,116 +39,92 @@ fn window(rt: HostRuntime) -> Result<(), Fail> {
     Ok(())
 }
 
-#[test]
-fn write_by_the_publisher(rt: HostRuntime) -> Result<(), Fail> {
-    let line = only_line(rt.alloc(), DOOR_ZONE, b"write WinPos 0x2a")?;
-    assert!(rt;
-        matches!(
-            line,
-            Line::Step(
-                PortId::Bus,
-                Step::Write {
-                    by: 1,
-                    signal: 5,
-                    value: Value::Scalar(42)
-                }
-            )
-        )
-    );
-    Ok(())
-}
-
-#[test]
-fn names_tabs_spaced_bytes_and_a_comment(rt: HostRuntime) -> Result<(), Fail> {
-    let text = b"h:DCU\tsend DCU WinMot 22 F1 90  # which number";
-    let line = only_line(rt.alloc(), DOOR_ZONE, text)?;
-    let Line::Step(
-        PortId::Host(0),
-        Step::Send {
-            from: 0,
-            to: 1,
-            message,
-        },
-    ) = line
-    else {
-        return Err(Fail::from("no send"));
-    };
-    assert!(rt; message.as_slice() == [0x22, 0xF1, 0x90].as_slice());
-    Ok(())
-}
-
-#[test]
-fn lines_of_slots(rt: HostRuntime) -> Result<(), Fail> {
-    let alloc = rt.alloc();
-    let idle = only_line(alloc, BUILT_IN, b"\xEF\xBB\xBFslots idle\r\n")?;
-    assert!(rt; matches!(idle, Line::Slots(Extent::Idle(10_000))));
-    let time = only_line(alloc, BUILT_IN, b"slots 5 ms")?;
-    assert!(rt; matches!(time, Line::Slots(Extent::Milliseconds(5))));
-    let Line::Slot(Disturbance::Leave(nodes)) = only_line(alloc, DOOR_ZONE, b"slot leave Panel 1")?
-    else {
-        return Err(Fail::from("no leave"));
-    };
-    assert!(rt; nodes.as_slice() == [3u8, 1].as_slice());
-    Ok(())
-}
-
-#[test]
-fn lines_that_expect(rt: HostRuntime) -> Result<(), Fail> {
-    let alloc = rt.alloc();
-    let named = only_line(alloc, BUILT_IN, b"expect refused Asleep")?;
-    assert!(rt; matches!(named, Line::Expect(Expected::Refused(Refusal::Asleep))));
-    let numbered = only_line(alloc, BUILT_IN, b"expect refused 10")?;
-    assert!(rt; matches!(numbered, Line::Expect(Expected::Refused(Refusal::Asleep))));
-    let seen = only_line(alloc, BUILT_IN, b"expect seen none")?;
-    assert!(rt; matches!(seen, Line::Expect(Expected::Seen(Look::NoAnswer))));
-    let lost = only_line(alloc, BUILT_IN, b"expect lost door timedout")?;
-    assert!(rt;
-        matches!(
-            lost,
-            Line::Expect(Expected::Lost {
-                host: 1,
-                cause: Cause::TimedOut
-            })
-        )
-    );
-    Ok(())
-}
-
-#[test]
-fn plain_lines(rt: HostRuntime) -> Result<(), Fail> {
-    let alloc = rt.alloc();
-    let timeout = only_line(alloc, BUILT_IN, b"bus timeout 1 down")?;
-    assert!(rt;
-        matches!(
-            timeout,
-            Line::Step(
-                PortId::Bus,
-                Step::Timeout {
-                    node: 1,
-                    dir: Direction::Down
-                }
-            )
-        )
-    );
-    let answer = only_line(alloc, BUILT_IN, b"> due 0\nn0 answer 0\n")?;
-    assert!(rt;
-        matches!(
-            answer,
-            Line::Step(PortId::Node(0), Step::Answer { node: 0 })
-        )
-    );
-    let array = only_line(alloc, DOOR_ZONE, b"h3 write 3 14 x-")?;
-    match &array {
+/// The name of what a line says below.
+fn name_of(line: &Line) -> &'static str {
+    match line {
+        Line::Step(
+            PortId::Bus,
+            Step::Write {
+                by: 1,
+                signal: 5,
+                value: Value::Scalar(42),
+            },
+        ) => "write of 42",
         Line::Step(
             PortId::Host(3),
             Step::Write {
+                by: 3,
+                signal: 14,
                 value: Value::Bytes(bytes),
-                ..
             },
-        ) => {
-            assert!(rt; bytes.as_slice().is_empty());
-            Ok(())
+        ) if bytes.as_slice().is_empty() => "write of no bytes",
+        Line::Step(
+            PortId::Host(0),
+            Step::Send {
+                from: 0,
+                to: 1,
+                message,
+            },
+        ) if message.as_slice() == [0x22, 0xF1, 0x90].as_slice() => "send of three bytes",
+        Line::Step(
+            PortId::Bus,
+            Step::Timeout {
+                node: 1,
+                dir: Direction::Down,
+            },
+        ) => "timeout",
+        Line::Step(PortId::Node(0), Step::Answer { node: 0 }) => "answer",
+        Line::Slots(Extent::Idle(10_000)) => "slots until idle",
+        Line::Slots(Extent::Milliseconds(5)) => "slots of 5 ms",
+        Line::Slot(Disturbance::Leave(nodes)) if nodes.as_slice() == [3u8, 1].as_slice() => {
+            "slot with two left out"
         }
-        _ => Err(Fail::from("no array")),
+        Line::Expect(Expected::Refused(Refusal::Asleep)) => "refused as asleep",
+        Line::Expect(Expected::Seen(Look::NoAnswer)) => "seen none",
+        Line::Expect(
+            Expected::Lost {
+                host: 1,
+                cause: Cause::TimedOut,
+            },
+        ) => "lost in time",
+        _ => "anything else",
     }
+}
+
+/// Lines, and what they say.
+type Lines<'a> = &'a [(&'a [u8], &'a str)];
+
+const ON_BUILT_IN: Lines<'static> = &[
+    (b"bus timeout 1 down", "timeout"),
+    (b"> due 0\nn0 answer 0\n", "answer"),
+    (b"\xEF\xBB\xBFslots idle\r\n", "slots until idle"),
+    (b"slots 5 ms", "slots of 5 ms"),
+    (b"expect refused Asleep", "refused as asleep"),
+    (b"expect refused 10", "refused as asleep"),
+    (b"expect seen none", "seen none"),
+    (b"expect lost door timedout", "lost in time"),
+];
+
+const ON_DOOR_ZONE: Lines<'static> = &[
+    (b"write WinPos 0x2a", "write of 42"),
+    (
+        b"h:DCU\tsend DCU WinMot 22 F1 90  # which number",
+        "send of three bytes",
+    ),
+    (b"h3 write 3 14 x-", "write of no bytes"),
+    (b"slot leave Panel 1", "slot with two left out"),
+];
+
+fn expect_lines(rt: &impl Abort, alloc: Global, ldf: &[u8], lines: Lines) -> Result<(), Fail> {
+    for (text, wanted) in lines {
+        let line = only_line(alloc, ldf, text)?;
+        assert_eq!(rt; name_of(&line), *wanted);
+    }
+    Ok(())
+}
+
+#[test]
+fn lines_say_what_is_meant(rt: HostRuntime) -> Result<(), Fail> {
+    expect_lines(&rt, rt.alloc(), BUILT_IN, ON_BUILT_IN)?;
+    expect_lines(&rt, rt.alloc(), DOOR_ZONE, ON_DOOR_ZONE)
 }

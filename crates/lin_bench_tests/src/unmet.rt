@@ -1,101 +1,66 @@
 //! Expectations that aren't met, and the lines that say so.
 
 use crate::clusters::unmet_of;
-use crate::samples;
+use crate::samples::{BUILT_IN, DOOR_ZONE, LIGHTS, WINDOW_SHORT};
 use std::alloc::Global;
 use std::process::Abort;
 use std::test::Fail;
 
-/// Plays a text, and compares the lines of its unmet expectations.
-fn expect_unmet(
-    rt: &impl Abort,
-    alloc: Global,
-    ldf: &[u8],
-    text: &[u8],
-    want: &[u8],
-) -> Result<(), Fail> {
-    let written = unmet_of(alloc, ldf, text)?;
-    let found = std::str::from_utf8(&written).unwrap_or("no text");
-    assert!(rt; written.as_slice() == want, "{found}");
+/// Bench scripts, and the lines of their unmet expectations.
+type Rows<'a> = &'a [(&'a [u8], &'a [u8])];
+
+const ON_BUILT_IN: Rows<'static> = &[
+    (
+        b"expect message cem door 3F\nsend cem door 3E\nsend 0 1 22 F1\nslots idle\nexpect message cem door 3F\nexpect message cem door 22F1\nexpect message 0 1 22F1\nexpect lost cem slept\nexpect sent cem\nexpect sent 0\nexpect sent 9\n",
+        b"script 1 expected message cem door 3F: none\nscript 5 expected message cem door 3F: 3E\nscript 7 expected message cem door 22F1: none\nscript 8 expected lost cem slept: message 1 sent\nscript 10 expected sent cem: none\nscript 11 expected sent 9: none\n",
+    ),
+    (
+        b"send cem door 3E\nslot hurt -\nexpect sent cem\nexpect seen good\nsend cem door 3E\nslot\nslot hurt 00\nexpect lost cem timedout\nexpect lost cem damaged\n",
+        b"script 3 expected sent cem: message 1 lost damaged\nscript 4 expected seen good: damaged\nscript 8 expected lost cem timedout: message 2 lost damaged\nscript 9 expected lost cem damaged: none\n",
+    ),
+    // The responder answers only once a request to it was good.
+    (
+        b"send door cem 3E\nslots idle 1\nsend cem door 3E\nsend cem door 3F\nslot\nslots idle 1\nsend door cem 3E\nslots idle 1\nsend cem door 3E\nslots idle 1\nslots idle",
+        b"script 2 expected idle: 1 of door waiting\nscript 6 expected idle: 1 of cem waiting, 1 of door waiting\nscript 8 expected idle: 1 of cem waiting, 1 of door waiting\nscript 10 expected idle: 1 of cem waiting, 1 of door waiting\n",
+    ),
+];
+
+const ON_LIGHTS: Rows<'static> = &[
+    // What no step, no slot and no event was before.
+    (
+        b"expect done\nexpect refused 10\nexpect seen silent\nexpect slot Main 0\nexpect awake\nexpect waiting lsm 0\n",
+        b"script 1 expected done: no step\nscript 2 expected refused Asleep: no step\nscript 3 expected seen silent: no slot\nscript 4 expected slot Main 0: no slot\n",
+    ),
+    (
+        b"slot\nexpect seen none\nexpect slot Main 1\nexpect slot 0 0\nexpect asleep\nfinish\nexpect done\nexpect refused Asleep\nexpect refused NoSlot\nslot leave lsm rsm\nexpect seen none\nexpect slot Main 2\nsleep\nwake\nexpect refused Awake\n",
+        b"script 2 expected seen none: silent\nscript 3 expected slot Main 1: Main 0\nscript 5 expected asleep: awake\nscript 7 expected done: refused NoSlot\nscript 8 expected refused Asleep: refused NoSlot\nscript 12 expected slot Main 2: Main 1\n",
+    ),
+];
+
+const ON_DOOR_ZONE: Rows<'static> = &[
+    (
+        WINDOW_SHORT,
+        b"script 30 expected asleep: awake\nscript 32 expected refused Asleep: done\n",
+    ),
+    // Values and counts, and nodes and signals that aren't there.
+    (
+        b"expect waiting Panel 1\nexpect waiting 9 0\nexpect signal DCU WinPos 0x11\nexpect signal DCU WinPos x11\nexpect signal 9 WinPos 1\nexpect signal DCU 99 1\nexpect signal DCU PanelId x31323334\nexpect signal DCU PanelId 49\n",
+        b"script 1 expected waiting Panel 1: 0\nscript 2 expected waiting 9 0: no such node\nscript 3 expected signal DCU WinPos 17: 0\nscript 4 expected signal DCU WinPos x11: 0\nscript 5 expected signal 9 WinPos 1: no such node or signal\nscript 6 expected signal DCU 99 1: no such node or signal\nscript 8 expected signal DCU PanelId 49: x31323334\n",
+    ),
+];
+
+fn expect_unmet(rt: &impl Abort, alloc: Global, ldf: &[u8], rows: Rows) -> Result<(), Fail> {
+    for (text, want) in rows {
+        let written = unmet_of(alloc, ldf, text)?;
+        let found = std::str::from_utf8(&written).unwrap_or("no text");
+        assert!(rt; written.as_slice() == *want, "{found}");
+    }
     Ok(())
 }
 
 #[test]
-fn window_with_a_slot_less(rt: HostRuntime) -> Result<(), Fail> {
-    expect_unmet(
-        &rt,
-        rt.alloc(),
-        samples::DOOR_ZONE,
-        samples::WINDOW_SHORT,
-        b"script 30 expected asleep: awake\nscript 32 expected refused Asleep: done\n",
-    )
-}
-
-#[test]
-fn messages_are_taken_once(rt: HostRuntime) -> Result<(), Fail> {
-    expect_unmet(
-        &rt,
-        rt.alloc(),
-        samples::BUILT_IN,
-        b"expect message cem door 3F\nsend cem door 3E\nsend 0 1 22 F1\nslots idle\nexpect message cem door 3F\nexpect message cem door 22F1\nexpect message 0 1 22F1\nexpect lost cem slept\nexpect sent cem\nexpect sent 0\nexpect sent 9\n",
-        b"script 1 expected message cem door 3F: none\nscript 5 expected message cem door 3F: 3E\nscript 7 expected message cem door 22F1: none\nscript 8 expected lost cem slept: message 1 sent\nscript 10 expected sent cem: none\nscript 11 expected sent 9: none\n",
-    )
-}
-
-#[test]
-fn lost_messages(rt: HostRuntime) -> Result<(), Fail> {
-    expect_unmet(
-        &rt,
-        rt.alloc(),
-        samples::BUILT_IN,
-        b"send cem door 3E\nslot hurt -\nexpect sent cem\nexpect seen good\nsend cem door 3E\nslot\nslot hurt 00\nexpect lost cem timedout\nexpect lost cem damaged\n",
-        b"script 3 expected sent cem: message 1 lost damaged\nscript 4 expected seen good: damaged\nscript 8 expected lost cem timedout: message 2 lost damaged\nscript 9 expected lost cem damaged: none\n",
-    )
-}
-
-/// The responder answers only once a request to it was good.
-#[test]
-fn idle_names_hosts(rt: HostRuntime) -> Result<(), Fail> {
-    expect_unmet(
-        &rt,
-        rt.alloc(),
-        samples::BUILT_IN,
-        b"send door cem 3E\nslots idle 1\nsend cem door 3E\nsend cem door 3F\nslot\nslots idle 1\nsend door cem 3E\nslots idle 1\nsend cem door 3E\nslots idle 1\nslots idle",
-        b"script 2 expected idle: 1 of door waiting\nscript 6 expected idle: 1 of cem waiting, 1 of door waiting\nscript 8 expected idle: 1 of cem waiting, 1 of door waiting\nscript 10 expected idle: 1 of cem waiting, 1 of door waiting\n",
-    )
-}
-
-/// What no step, no slot and no event was before.
-#[test]
-fn nothing_so_far(rt: HostRuntime) -> Result<(), Fail> {
-    expect_unmet(
-        &rt,
-        rt.alloc(),
-        samples::LIGHTS,
-        b"expect done\nexpect refused 10\nexpect seen silent\nexpect slot Main 0\nexpect awake\nexpect waiting lsm 0\n",
-        b"script 1 expected done: no step\nscript 2 expected refused Asleep: no step\nscript 3 expected seen silent: no slot\nscript 4 expected slot Main 0: no slot\n",
-    )
-}
-
-#[test]
-fn states(rt: HostRuntime) -> Result<(), Fail> {
-    expect_unmet(
-        &rt,
-        rt.alloc(),
-        samples::LIGHTS,
-        b"slot\nexpect seen none\nexpect slot Main 1\nexpect slot 0 0\nexpect asleep\nfinish\nexpect done\nexpect refused Asleep\nexpect refused NoSlot\nslot leave lsm rsm\nexpect seen none\nexpect slot Main 2\nsleep\nwake\nexpect refused Awake\n",
-        b"script 2 expected seen none: silent\nscript 3 expected slot Main 1: Main 0\nscript 5 expected asleep: awake\nscript 7 expected done: refused NoSlot\nscript 8 expected refused Asleep: refused NoSlot\nscript 12 expected slot Main 2: Main 1\n",
-    )
-}
-
-/// Values and counts, and nodes and signals that aren't there.
-#[test]
-fn values(rt: HostRuntime) -> Result<(), Fail> {
-    expect_unmet(
-        &rt,
-        rt.alloc(),
-        samples::DOOR_ZONE,
-        b"expect waiting Panel 1\nexpect waiting 9 0\nexpect signal DCU WinPos 0x11\nexpect signal DCU WinPos x11\nexpect signal 9 WinPos 1\nexpect signal DCU 99 1\nexpect signal DCU PanelId x31323334\nexpect signal DCU PanelId 49\n",
-        b"script 1 expected waiting Panel 1: 0\nscript 2 expected waiting 9 0: no such node\nscript 3 expected signal DCU WinPos 17: 0\nscript 4 expected signal DCU WinPos x11: 0\nscript 5 expected signal 9 WinPos 1: no such node or signal\nscript 6 expected signal DCU 99 1: no such node or signal\nscript 8 expected signal DCU PanelId 49: x31323334\n",
-    )
+fn unmet_expectations(rt: HostRuntime) -> Result<(), Fail> {
+    expect_unmet(&rt, rt.alloc(), BUILT_IN, ON_BUILT_IN)?;
+    expect_unmet(&rt, rt.alloc(), LIGHTS, ON_LIGHTS)?;
+    expect_unmet(&rt, rt.alloc(), DOOR_ZONE, ON_DOOR_ZONE)
 }
