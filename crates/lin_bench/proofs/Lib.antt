@@ -1,5 +1,4 @@
 pub mod Appending
-pub mod Found
 pub mod Makes
 pub mod SlotSteps
 pub mod Events
@@ -7,7 +6,4 @@ pub mod Searches
 pub mod Hosts
 pub mod Few
 pub mod Runs
-pub mod PlainFields
-pub mod PlainBytes
-pub mod PlainSteps
-pub mod PlainLines
+pub mod Steps

@@ -6,9 +6,9 @@ use Rattle.lin_cluster_parts.specs.declared.parts.Parts.{Parts}
 use Rattle.lin_core.specs.Tables.{cause_word, causes, look_word, looks, named, numbered}
 use Rattle.lin_core.specs.Tables.{refusal_number, refusal_word, refusals}
 use Rattle.lin_core.specs.declared.reply.Refusal.{Refusal}
-use Rattle.lin_bench.specs.Fields.{◌>>=◌, or_bad, is_number, number_field}
-use Rattle.lin_bench.specs.Names.{node_field, signal_field, table_field}
-use Rattle.lin_bench.specs.Values.{bytes_fields, value_field}
+use Rattle.lin_log.specs.Said.{is_number}
+use Rattle.lin_bench.specs.Fields.{◌>>=◌, bytes_fields, node_field, number_field, or_bad}
+use Rattle.lin_bench.specs.Fields.{signal_field, table_field, value_field}
 use Rattle.lin_bench.specs.declared.reason.Reason.{Reason}
 use Rattle.lin_bench.specs.declared.reason.Reason.TheVariants.{NoRefusal, TooSmall, ExpectForm}
 use Rattle.lin_bench.specs.declared.reason.Reason.TheVariants.{UnknownExpectation}
@@ -27,7 +27,7 @@ abbrev pub signal_form : Parts → List (List ℕ) → List (List ℕ) → Resul
 signal_form c all (n ∷ s ∷ v ∷ []) = do
   node ← node_field c n
   signal ← signal_field c s
-  value ← value_field v
+  value ← value_field c v
   Ok (expected.Signal node signal value)
 signal_form c all fs = Err (UnknownExpectation all)
 
@@ -42,7 +42,7 @@ abbrev pub message_form : Parts → List (List ℕ) → List (List ℕ) → Resu
 message_form c all (from ∷ to ∷ f ∷ fs) = do
   sender ← node_field c from
   receiver ← node_field c to
-  bytes ← bytes_fields (f ∷ fs)
+  bytes ← bytes_fields c (f ∷ fs)
   Ok (expected.Message sender receiver bytes)
 message_form c all fs = Err (UnknownExpectation all)
 
@@ -50,11 +50,14 @@ abbrev pub sent_form : Parts → List (List ℕ) → List (List ℕ) → Result 
 sent_form c all (n ∷ []) = node_field c n >>= (λ host. Ok (expected.Sent host))
 sent_form c all fs = Err (UnknownExpectation all)
 
-abbrev pub lost_form : Parts → List (List ℕ) → List (List ℕ) → Result Expected Reason
-lost_form c all (n ∷ why ∷ []) = do
+abbrev pub loss_of : Parts → List (List ℕ) → List ℕ → List ℕ → Result Expected Reason
+loss_of c all n why = do
   host ← node_field c n
   how ← or_bad (named cause_word causes why) (UnknownExpectation all)
   Ok (expected.Lost host how)
+
+abbrev pub lost_form : Parts → List (List ℕ) → List (List ℕ) → Result Expected Reason
+lost_form c all (n ∷ why ∷ []) = loss_of c all n why
 lost_form c all fs = Err (UnknownExpectation all)
 
 abbrev pub seen_form : List (List ℕ) → List (List ℕ) → Result Expected Reason

@@ -1,12 +1,14 @@
--- The fields of a bench script's line, and what is said of one that is bad.
-use Rattle.std.specs.Prelude.{ℕ, ◌==◌, ◌||◌, ◌&&◌, Bool, not, nat_le, nat_lt, List}
-use Rattle.std.specs.Prelude.{length, filter, map, slice_index, Option, Some, None, Result, Ok}
-use Rattle.std.specs.Prelude.{Err}
+-- The fields of a bench script's line, as the language of a cluster's names has them, and what is
+-- said of one that is bad.
+use Rattle.std.specs.Prelude.{ℕ, Bool, true, List, map, Option, Some, None, Result, Ok, Err}
 use Rattle.std.specs.Borrow.{Bor}
-use Rattle.std.specs.List.{slice_split, take_while}
-use Rattle.lin_log.specs.Script.{number}
+use Rattle.lin_frame.specs.declared.value.Value.{Value}
+use Rattle.lin_cluster_parts.specs.declared.parts.Parts.{Parts}
+use Rattle.lin_log.specs.Language.{named}
+use Rattle.lin_log.specs.Said as log
+use Rattle.lin_log.specs.declared.reason.Reason.{Reason as StepReason}
 use Rattle.lin_bench.specs.declared.reason.Reason.{Reason}
-use Rattle.lin_bench.specs.declared.reason.Reason.TheVariants.{NoNumber}
+use Rattle.lin_bench.specs.declared.reason.Reason.TheVariants.{Step}
 
 -- what is said in turn: the first bad part says why
 infixl 10 ◌>>=◌
@@ -19,32 +21,32 @@ abbrev pub or_bad : {A : Type 0} → Option A → Reason → Result A Reason
 or_bad None why = Err why
 or_bad (Some x) why = Ok x
 
--- a space or a tab
-abbrev pub is_gap : ℕ → Bool
-is_gap b = b == 32 || b == 9
+-- what a line of steps says
+abbrev pub of_step : {A : Type 0} → Result A StepReason → Result A Reason
+of_step (Ok x) = Ok x
+of_step (Err why) = Err (Step why)
 
-abbrev pub is_text : List ℕ → Bool
-is_text f = nat_lt 0 (length f)
-
-abbrev pub is_comment : List ℕ → Bool
-is_comment f = slice_index f 0 == 35
-
--- the fields of a line: what stands between its spaces and tabs, up to the first field that begins
--- with `#`
 abbrev pub fields : List ℕ → List (List ℕ)
-fields line = take_while (λ f. not (is_comment f)) (filter is_text (slice_split is_gap line))
+fields line = log.fields true line
 
 -- the bytes of fields that are lent
 abbrev pub words : List (Bor (List ℕ)) → List (List ℕ)
 words fs = map (λ f. f.now) fs
 
-abbrev pub is_digit : ℕ → Bool
-is_digit b = nat_le 48 b && nat_le b 57
-
--- a field that begins with a digit is a number, and any other one a name or a word
-abbrev pub is_number : List ℕ → Bool
-is_number f = is_digit (slice_index f 0)
-
--- 1 to 10 digits, at most a limit
 abbrev pub number_field : ℕ → List ℕ → Result ℕ Reason
-number_field most f = or_bad (number most f) (NoNumber f most)
+number_field most f = of_step (log.number_field most f)
+
+abbrev pub node_field : Parts → List ℕ → Result ℕ Reason
+node_field c f = of_step (log.node_field (named c) f)
+
+abbrev pub signal_field : Parts → List ℕ → Result ℕ Reason
+signal_field c f = of_step (log.signal_field (named c) f)
+
+abbrev pub table_field : Parts → List ℕ → Result ℕ Reason
+table_field c f = of_step (log.table_field (named c) f)
+
+abbrev pub bytes_fields : Parts → List (List ℕ) → Result (List ℕ) Reason
+bytes_fields c fs = of_step (log.bytes_fields (named c) fs)
+
+abbrev pub value_field : Parts → List ℕ → Result Value Reason
+value_field c f = of_step (log.value_field (named c) f)

@@ -6,10 +6,9 @@ use Rattle.std.specs.Str.{bytes_eq}
 use Rattle.std.specs.Str.Lines.{strip_carriage_return}
 use Rattle.lin_cluster_parts.specs.declared.parts.Parts.{Parts}
 use Rattle.lin_core.specs.declared.port.PortId.TheVariants.{Bus}
-use Rattle.lin_bench.specs.Fields.{◌>>=◌, fields, number_field}
-use Rattle.lin_bench.specs.Names.{node_field}
-use Rattle.lin_bench.specs.Values.{bytes_fields}
-use Rattle.lin_bench.specs.Steps.{is_port, port, step_form, step_after}
+use Rattle.lin_log.specs.Language.{named}
+use Rattle.lin_log.specs.Said.{is_port, port_step, step_form}
+use Rattle.lin_bench.specs.Fields.{◌>>=◌, bytes_fields, fields, node_field, number_field, of_step}
 use Rattle.lin_bench.specs.Expectations.{expectation}
 use Rattle.lin_bench.specs.declared.reason.Reason.{Reason}
 use Rattle.lin_bench.specs.declared.reason.Reason.TheVariants.{TooSmall, SlotsForm, SlotForm}
@@ -52,7 +51,7 @@ leave_form c (f ∷ fs) = node_fields c (f ∷ fs) >>= (λ nodes. Ok (slot.Leave
 unfoldable pub slot_form : Parts → List (List ℕ) → Result Disturbance Reason
 slot_form c [] = Ok slot.Undisturbed
 slot_form c (word ∷ fs) =
-    if bytes_eq word (codes "hurt") then bytes_fields fs >>= (λ bytes. Ok (slot.Hurt bytes))
+    if bytes_eq word (codes "hurt") then bytes_fields c fs >>= (λ bytes. Ok (slot.Hurt bytes))
     else if bytes_eq word (codes "leave") then leave_form c fs
     else Err (SlotForm word)
 
@@ -60,15 +59,11 @@ slot_form c (word ∷ fs) =
 -- bus gives it
 unfoldable pub line_form : Parts → List ℕ → List (List ℕ) → Result Line Reason
 line_form c word fs =
-    if is_port word
-    then (do
-      by ← port c word
-      step ← step_after c fs
-      Ok (line.Step by step))
+    if is_port word then of_step (port_step (named c) word fs) >>= (λ s. Ok (line.Step s.0 s.1))
     else if bytes_eq word (codes "slots") then slots_form fs >>= (λ extent. Ok (line.Slots extent))
     else if bytes_eq word (codes "slot") then slot_form c fs >>= (λ how. Ok (line.Slot how))
     else if bytes_eq word (codes "expect") then expectation c fs >>= (λ what. Ok (line.Expect what))
-    else step_form c word fs >>= (λ step. Ok (line.Step Bus step))
+    else of_step (step_form (named c) word fs) >>= (λ step. Ok (line.Step Bus step))
 
 abbrev pub of_fields : Parts → List (List ℕ) → Result (Option Line) Reason
 of_fields c [] = Ok None

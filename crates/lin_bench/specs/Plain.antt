@@ -1,8 +1,11 @@
--- Plain scripts: those that `replay` reads.
+-- Texts that say steps alone: those in the language of the cluster's names, as logs with names are,
+-- and the scripts that `replay` reads.
 use Rattle.std.specs.Prelude.{◌≡◌, ℕ, List, Ok}
 use Rattle.lin_cluster_parts.specs.declared.parts.Parts.{Parts}
 use Rattle.lin_core.specs.declared.port.PortId.{PortId}
 use Rattle.lin_core.specs.declared.step.Step.{Step}
+use Rattle.lin_log.specs.Language.{named}
+use Rattle.lin_log.specs.Said.{text_says}
 use Rattle.lin_log.specs.Script.{script}
 use Rattle.lin_bench.specs.Lines.{read}
 use Rattle.lin_bench.specs.Played.{first, played}
@@ -20,3 +23,8 @@ pub record SaysSteps (c : Parts) (opening : ℕ) (capacity : ℕ) (text : List �
 abbrev pub PlainScripts : Type 0
 PlainScripts = (c : Parts) (opening capacity : ℕ) (text : List ℕ) (steps : List (PortId × Step))
     → script text ≡ Ok steps → SaysSteps c opening capacity text steps
+
+-- and so does a text in the language of the cluster's names
+abbrev pub NamedTexts : Type 0
+NamedTexts = (c : Parts) (opening capacity : ℕ) (text : List ℕ) (steps : List (PortId × Step))
+    → text_says (named c) text ≡ Ok steps → SaysSteps c opening capacity text steps

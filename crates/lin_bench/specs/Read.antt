@@ -1,15 +1,23 @@
 -- What reading a part of a line answers, beside what the definition reads.
 use Rattle.std.specs.Prelude.{◌≡◌, ℕ, List, [], Option, Some, None, Result, Ok, Err}
+use Rattle.lin_log.specs.declared.reason.LineFault.{LineFault as StepFault}
+use Rattle.lin_log.specs.declared.reason.LineFault.TheVariants as faults
 use Rattle.lin_bench.specs.declared.fault.LineFault.{LineFault}
 use Rattle.lin_bench.specs.declared.fault.LineFault.TheVariants.{Bad, OutOfMemory}
 use Rattle.lin_bench.specs.declared.fault.ReadFault.{ReadFault}
 use Rattle.lin_bench.specs.declared.fault.ReadFault.TheVariants.{BadLine, OutOfMemory as NoMemory}
 use Rattle.lin_bench.specs.declared.line.Line.{Line}
 use Rattle.lin_bench.specs.declared.reason.Reason.{Reason}
+use Rattle.lin_bench.specs.declared.reason.Reason.TheVariants.{Step}
 use Rattle.lin_bench.specs.declared.script.LinesLeft.{LinesLeft}
 use Rattle.lin_bench.specs.Lines.{Script, read_lines, with_line}
 use Rattle.lin_log.specs.Judged.{lines_left}
 use Rattle.lin_cluster_parts.specs.declared.parts.Parts.{Parts}
+
+-- a fault of a line of steps
+abbrev pub step_fault : StepFault → LineFault
+step_fault (faults.Bad why) = Bad (Step why)
+step_fault faults.OutOfMemory = OutOfMemory
 
 abbrev pub Fails : {Y : Type 0} → LineFault → Result Y Reason → Type 0
 Fails (Bad why) read = read ≡ Err why

@@ -1,11 +1,13 @@
 -- What is said of bad lines and of expectations that aren't met.
-use Rattle.std.specs.Prelude.{ℕ, ◌==◌, nat_lt, if◌then◌else◌, List, [], ◌∷◌, ◌++◌, flat_map, length}
+use Rattle.std.specs.Prelude.{ℕ, ◌==◌, if◌then◌else◌, List, [], ◌∷◌, ◌++◌, flat_map}
 use Rattle.std.specs.Prelude.{codes}
 use Rattle.std.specs.Fmt.{decimal}
-use Rattle.lin_cluster_parts.specs.Cluster.{nodes, node_of, signal_of, named_table}
 use Rattle.lin_cluster_parts.specs.declared.parts.Parts.{Parts}
 use Rattle.lin_core.specs.Tables.{cause_word, look_word, refusal_word}
+use Rattle.lin_log.specs.Language.{named, word_of}
 use Rattle.lin_log.specs.Words.{hex_word, spaced_word, value_word}
+use Rattle.lin_log.specs.declared.reason.Reason.{Reason as StepReason}
+use Rattle.lin_log.specs.declared.reason.Reason.TheVariants as step
 use Rattle.lin_bench.specs.declared.reason.Reason.{Reason}
 use Rattle.lin_bench.specs.declared.reason.Reason.TheVariants as reason
 use Rattle.lin_bench.specs.declared.expected.Expected.{Expected}
@@ -23,24 +25,30 @@ fields_text (f ∷ fs) = f ++ flat_map spaced_word fs
 abbrev pub fields_word : ℕ → List ℕ
 fields_word count = if count == 1 then codes " field" else codes " fields"
 
+-- why a line of a step is bad
+abbrev pub step_reason_text : StepReason → List ℕ
+step_reason_text step.NoPort = codes "no port"
+step_reason_text step.NoStep = codes "no step"
+step_reason_text (step.UnknownStep word) = codes "no step " ++ word
+step_reason_text (step.NoNode name) = codes "no node " ++ name
+step_reason_text (step.NoSignal name) = codes "no signal " ++ name
+step_reason_text (step.NoTable name) = codes "no table " ++ name
+step_reason_text (step.NoNumber field most) =
+    field ++ (codes " is no number up to " ++ decimal most)
+step_reason_text step.NoBytes = codes "no bytes"
+step_reason_text (step.NotBytes fields) = fields_text fields ++ codes " is no bytes"
+step_reason_text (step.TooManyBytes field) = field ++ codes " has more than 8 bytes"
+step_reason_text (step.Takes word fields) =
+    word ++ (codes " takes " ++ (decimal fields ++ fields_word fields))
+step_reason_text step.SendForm = codes "send takes two nodes and bytes"
+step_reason_text step.WriteForm = codes "write takes a signal and a value"
+step_reason_text step.TimeoutForm = codes "timeout takes down or up"
+
 -- why a line is bad
 abbrev pub reason_text : Reason → List ℕ
-reason_text reason.NoStep = codes "no step"
-reason_text (reason.UnknownStep word) = codes "no step " ++ word
-reason_text (reason.NoNode name) = codes "no node " ++ name
-reason_text (reason.NoSignal name) = codes "no signal " ++ name
-reason_text (reason.NoTable name) = codes "no table " ++ name
+reason_text (reason.Step why) = step_reason_text why
 reason_text (reason.NoRefusal name) = codes "no refusal " ++ name
-reason_text (reason.NoNumber field most) = field ++ (codes " is no number up to " ++ decimal most)
 reason_text reason.TooSmall = codes "0 is too small"
-reason_text reason.NoBytes = codes "no bytes"
-reason_text (reason.NotBytes fields) = fields_text fields ++ codes " is no bytes"
-reason_text (reason.TooManyBytes field) = field ++ codes " has more than 8 bytes"
-reason_text (reason.Takes word fields) =
-    word ++ (codes " takes " ++ (decimal fields ++ fields_word fields))
-reason_text reason.SendForm = codes "send takes two nodes and bytes"
-reason_text reason.WriteForm = codes "write takes a signal and a value"
-reason_text reason.TimeoutForm = codes "timeout takes down or up"
 reason_text reason.SlotsForm = codes "slots takes a number, a number and ms, or idle"
 reason_text (reason.SlotForm word) = codes "slot takes hurt or leave, not " ++ word
 reason_text reason.LeaveForm = codes "slot leave takes nodes"
@@ -54,13 +62,13 @@ bad_line_text n why =
 
 -- the name of a node, a signal or a table, or the number where it is none's
 abbrev pub node_word : Parts → ℕ → List ℕ
-node_word c n = if nat_lt n (nodes c) then (node_of c n).name else decimal n
+node_word c n = word_of (named c).nodes n
 
 abbrev pub signal_word : Parts → ℕ → List ℕ
-signal_word c s = if nat_lt s (length c.signals) then (signal_of c s).name else decimal s
+signal_word c s = word_of (named c).signals s
 
 abbrev pub table_word : Parts → ℕ → List ℕ
-table_word c t = if nat_lt t (length c.tables) then (named_table c t).name else decimal t
+table_word c t = word_of (named c).tables t
 
 -- what is expected
 abbrev pub expected_text : Parts → Expected → List ℕ

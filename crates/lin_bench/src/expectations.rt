@@ -1,24 +1,26 @@
 //! The forms of expectations.
 
 ghost use Rattle.std.specs.Prelude.{◌≡◌, IfOk};
-ghost use Rattle.lin_bench.specs.Expectations.{expectation, lone_form, lost_form, message_form};
+ghost use Rattle.lin_bench.specs.Expectations.{expectation, lone_form, loss_of, lost_form};
+ghost use Rattle.lin_bench.specs.Expectations.{message_form};
 ghost use Rattle.lin_bench.specs.Expectations.{refusal_field, refused_form, seen_form, sent_form};
 ghost use Rattle.lin_bench.specs.Expectations.{signal_form, slot_form, waiting_form};
 ghost use Rattle.lin_bench.specs.Expectations.{word_expectation};
-ghost use Rattle.lin_bench.specs.Fields.{words};
+ghost use Rattle.lin_bench.specs.Fields.{fields, words};
 ghost use Rattle.lin_bench.specs.Read.{Gives};
 ghost use Rattle.lin_bench.specs.declared.fault.LineFault.{LineFault};
 ghost use Rattle.lin_bench.specs.declared.reason.Reason.{Reason};
 
 use crate::expected::Expected;
 use crate::fault::LineFault;
-use crate::fields::{copied, is_number, number_field};
-use crate::names::{node_field, signal_field, table_field};
+use crate::fields::{
+    bytes_fields, fields, node_field, number_field, signal_field, table_field, value_field,
+};
 use crate::reason::Reason;
-use crate::values::{bytes_fields, value_field};
 use lin_cluster_parts::Cluster;
 use lin_core::{Refusal, named, numbered};
 use lin_lists::Text;
+use lin_log::{copied, first_field, is_number, is_over};
 use std::alloc::{AllocError, Global};
 
 /// A refusal, by its number or its name.
@@ -39,188 +41,218 @@ fn refusal_field(alloc: Global, field: &[u8]) -> Result<Refusal, LineFault>
 }
 
 /// There is no form of these fields after `expect`.
-fn no_form(alloc: Global, all: &[&[u8]]) -> Result<LineFault, AllocError>
+fn no_form(alloc: Global, cluster: &Cluster, all: &[u8]) -> Result<LineFault, AllocError>
     ensures { IfOk result
-        (λ fault. fault ≡ LineFault.Bad (Reason.UnknownExpectation (words all.now))) }
+        (λ fault. fault ≡ LineFault.Bad (Reason.UnknownExpectation (fields all.now))) }
 {
-    Ok(LineFault::Bad(Reason::UnknownExpectation(copied(alloc, all)?)))
+    Ok(LineFault::Bad(Reason::UnknownExpectation(copied(alloc, cluster, all)?)))
 }
 
 fn signal(
     alloc: Global,
     cluster: &Cluster,
-    all: &[&[u8]],
-    fields: &[&[u8]],
+    all: &[u8],
+    parts: &[&[u8]],
 ) -> Result<Expected, LineFault>
-    ensures { Gives (λ e. e) result (signal_form cluster.now (words all.now) (words fields.now)) }
+    ensures { Gives (λ e. e) result (signal_form cluster.now (fields all.now) (words parts.now)) }
 {
-    match fields {
+    match parts {
         [node, signal, value] => Ok(Expected::Signal {
             node: node_field(alloc, cluster, node)?,
             signal: signal_field(alloc, cluster, signal)?,
-            value: value_field(alloc, value)?,
+            value: value_field(alloc, cluster, value)?,
         }),
-        _ => Err(no_form(alloc, all)?),
+        _ => Err(no_form(alloc, cluster, all)?),
     }
 }
 
 fn waiting(
     alloc: Global,
     cluster: &Cluster,
-    all: &[&[u8]],
-    fields: &[&[u8]],
+    all: &[u8],
+    parts: &[&[u8]],
 ) -> Result<Expected, LineFault>
-    ensures { Gives (λ e. e) result (waiting_form cluster.now (words all.now) (words fields.now)) }
+    ensures { Gives (λ e. e) result (waiting_form cluster.now (fields all.now) (words parts.now)) }
 {
-    match fields {
+    match parts {
         [host, count] => Ok(Expected::Waiting {
             host: node_field(alloc, cluster, host)?,
             count: number_field(alloc, count, 1024)? as u16,
         }),
-        _ => Err(no_form(alloc, all)?),
+        _ => Err(no_form(alloc, cluster, all)?),
     }
 }
 
-fn message(
-    alloc: Global,
-    cluster: &Cluster,
-    all: &[&[u8]],
-    fields: &[&[u8]],
-) -> Result<Expected, LineFault>
-    ensures { Gives (λ e. e) result (message_form cluster.now (words all.now) (words fields.now)) }
+fn message(alloc: Global, cluster: &Cluster, all: &[u8], line: &[u8]) -> Result<Expected, LineFault>
+    ensures { Gives (λ e. e) result (message_form cluster.now (fields all.now) (fields line.now)) }
 {
-    match fields {
-        [from, to, bytes @ ..] if !bytes.is_empty() => Ok(Expected::Message {
-            from: node_field(alloc, cluster, from)?,
-            to: node_field(alloc, cluster, to)?,
-            bytes: bytes_fields(alloc, bytes)?,
-        }),
-        _ => Err(no_form(alloc, all)?),
+    let Some((from, rest)) = first_field(cluster, line) else {
+        return Err(no_form(alloc, cluster, all)?);
+    };
+    let Some((to, bytes)) = first_field(cluster, rest) else {
+        return Err(no_form(alloc, cluster, all)?);
+    };
+    if is_over(cluster, bytes) {
+        return Err(no_form(alloc, cluster, all)?);
     }
+    let from = node_field(alloc, cluster, from)?;
+    let to = node_field(alloc, cluster, to)?;
+    Ok(Expected::Message {
+        from,
+        to,
+        bytes: bytes_fields(alloc, cluster, bytes)?,
+    })
 }
 
 fn sent(
     alloc: Global,
     cluster: &Cluster,
-    all: &[&[u8]],
-    fields: &[&[u8]],
+    all: &[u8],
+    parts: &[&[u8]],
 ) -> Result<Expected, LineFault>
-    ensures { Gives (λ e. e) result (sent_form cluster.now (words all.now) (words fields.now)) }
+    ensures { Gives (λ e. e) result (sent_form cluster.now (fields all.now) (words parts.now)) }
 {
-    match fields {
+    match parts {
         [host] => Ok(Expected::Sent {
             host: node_field(alloc, cluster, host)?,
         }),
-        _ => Err(no_form(alloc, all)?),
+        _ => Err(no_form(alloc, cluster, all)?),
     }
 }
 
-fn lost(
+/// The loss of a host's next message, by its fields.
+fn loss(
     alloc: Global,
     cluster: &Cluster,
-    all: &[&[u8]],
-    fields: &[&[u8]],
+    all: &[u8],
+    host: &[u8],
+    why: &[u8],
 ) -> Result<Expected, LineFault>
-    ensures { Gives (λ e. e) result (lost_form cluster.now (words all.now) (words fields.now)) }
+    ensures { Gives (λ e. e) result (loss_of cluster.now (fields all.now) host.now why.now) }
 {
-    let [host, why] = fields else {
-        return Err(no_form(alloc, all)?);
-    };
     let host = node_field(alloc, cluster, host)?;
     match named(why) {
         Some(cause) => Ok(Expected::Lost { host, cause }),
-        None => Err(no_form(alloc, all)?),
+        None => Err(no_form(alloc, cluster, all)?),
     }
 }
 
-fn seen(alloc: Global, all: &[&[u8]], fields: &[&[u8]]) -> Result<Expected, LineFault>
-    ensures { Gives (λ e. e) result (seen_form (words all.now) (words fields.now)) }
+fn lost(alloc: Global, cluster: &Cluster, all: &[u8], line: &[u8]) -> Result<Expected, LineFault>
+    ensures { Gives (λ e. e) result (lost_form cluster.now (fields all.now) (fields line.now)) }
 {
-    let [word] = fields else {
-        return Err(no_form(alloc, all)?);
+    let Some((host, rest)) = first_field(cluster, line) else {
+        return Err(no_form(alloc, cluster, all)?);
+    };
+    let Some((why, rest)) = first_field(cluster, rest) else {
+        return Err(no_form(alloc, cluster, all)?);
+    };
+    if !is_over(cluster, rest) {
+        return Err(no_form(alloc, cluster, all)?);
+    }
+    loss(alloc, cluster, all, host, why)
+}
+
+fn seen(
+    alloc: Global,
+    cluster: &Cluster,
+    all: &[u8],
+    parts: &[&[u8]],
+) -> Result<Expected, LineFault>
+    ensures { Gives (λ e. e) result (seen_form (fields all.now) (words parts.now)) }
+{
+    let [word] = parts else {
+        return Err(no_form(alloc, cluster, all)?);
     };
     match named(word) {
         Some(look) => Ok(Expected::Seen(look)),
-        None => Err(no_form(alloc, all)?),
+        None => Err(no_form(alloc, cluster, all)?),
     }
 }
 
 fn slot(
     alloc: Global,
     cluster: &Cluster,
-    all: &[&[u8]],
-    fields: &[&[u8]],
+    all: &[u8],
+    parts: &[&[u8]],
 ) -> Result<Expected, LineFault>
-    ensures { Gives (λ e. e) result (slot_form cluster.now (words all.now) (words fields.now)) }
+    ensures { Gives (λ e. e) result (slot_form cluster.now (fields all.now) (words parts.now)) }
 {
-    match fields {
+    match parts {
         [table, entry] => Ok(Expected::Slot {
             table: table_field(alloc, cluster, table)?,
             entry: number_field(alloc, entry, 1023)? as u16,
         }),
-        _ => Err(no_form(alloc, all)?),
+        _ => Err(no_form(alloc, cluster, all)?),
     }
 }
 
-fn refused(alloc: Global, all: &[&[u8]], fields: &[&[u8]]) -> Result<Expected, LineFault>
-    ensures { Gives (λ e. e) result (refused_form (words all.now) (words fields.now)) }
+fn refused(
+    alloc: Global,
+    cluster: &Cluster,
+    all: &[u8],
+    parts: &[&[u8]],
+) -> Result<Expected, LineFault>
+    ensures { Gives (λ e. e) result (refused_form (fields all.now) (words parts.now)) }
 {
-    match fields {
+    match parts {
         [why] => Ok(Expected::Refused(refusal_field(alloc, why)?)),
-        _ => Err(no_form(alloc, all)?),
+        _ => Err(no_form(alloc, cluster, all)?),
     }
 }
 
 /// What is expected, where no field stands after its word.
 fn lone(
     alloc: Global,
+    cluster: &Cluster,
     what: Expected,
-    all: &[&[u8]],
-    fields: &[&[u8]],
+    all: &[u8],
+    parts: &[&[u8]],
 ) -> Result<Expected, LineFault>
-    ensures { Gives (λ e. e) result (lone_form (words all.now) what (words fields.now)) }
+    ensures { Gives (λ e. e) result (lone_form (fields all.now) what (words parts.now)) }
 {
-    match fields {
+    match parts {
         [] => Ok(what),
-        _ => Err(no_form(alloc, all)?),
+        _ => Err(no_form(alloc, cluster, all)?),
     }
 }
 
-/// The expectation that a word names, with the fields after it; `all` are the word and these.
+/// The expectation that a word names, with the fields after it; `all` are the line of the word and these.
 fn of_word(
     alloc: Global,
     cluster: &Cluster,
-    all: &[&[u8]],
+    all: &[u8],
     word: &[u8],
-    fields: &[&[u8]],
+    line: &[u8],
 ) -> Result<Expected, LineFault>
     ensures { Gives
-        (λ e. e) result (word_expectation cluster.now (words all.now) word.now (words fields.now)) }
+        (λ e. e) result (word_expectation cluster.now (fields all.now) word.now (fields line.now)) }
 {
+    let parts = fields(alloc, cluster, line)?;
+    let parts = parts.as_slice();
     if word == b"signal".as_slice() {
-        signal(alloc, cluster, all, fields)
+        signal(alloc, cluster, all, parts)
     } else if word == b"waiting".as_slice() {
-        waiting(alloc, cluster, all, fields)
+        waiting(alloc, cluster, all, parts)
     } else if word == b"message".as_slice() {
-        message(alloc, cluster, all, fields)
+        message(alloc, cluster, all, line)
     } else if word == b"sent".as_slice() {
-        sent(alloc, cluster, all, fields)
+        sent(alloc, cluster, all, parts)
     } else if word == b"lost".as_slice() {
-        lost(alloc, cluster, all, fields)
+        lost(alloc, cluster, all, line)
     } else if word == b"seen".as_slice() {
-        seen(alloc, all, fields)
+        seen(alloc, cluster, all, parts)
     } else if word == b"slot".as_slice() {
-        slot(alloc, cluster, all, fields)
+        slot(alloc, cluster, all, parts)
     } else if word == b"done".as_slice() {
-        lone(alloc, Expected::Done, all, fields)
+        lone(alloc, cluster, Expected::Done, all, parts)
     } else if word == b"refused".as_slice() {
-        refused(alloc, all, fields)
+        refused(alloc, cluster, all, parts)
     } else if word == b"asleep".as_slice() {
-        lone(alloc, Expected::Asleep, all, fields)
+        lone(alloc, cluster, Expected::Asleep, all, parts)
     } else if word == b"awake".as_slice() {
-        lone(alloc, Expected::Awake, all, fields)
+        lone(alloc, cluster, Expected::Awake, all, parts)
     } else {
-        Err(no_form(alloc, all)?)
+        Err(no_form(alloc, cluster, all)?)
     }
 }
 
@@ -229,12 +261,12 @@ fn of_word(
 pub(crate) fn expectation(
     alloc: Global,
     cluster: &Cluster,
-    fields: &[&[u8]],
+    line: &[u8],
 ) -> Result<Expected, LineFault>
-    ensures { Gives (λ e. e) result (expectation cluster.now (words fields.now)) }
+    ensures { Gives (λ e. e) result (expectation cluster.now (fields line.now)) }
 {
-    match fields {
-        [] => Err(LineFault::Bad(Reason::ExpectForm)),
-        [word, rest @ ..] => of_word(alloc, cluster, fields, word, rest),
+    match first_field(cluster, line) {
+        None => Err(LineFault::Bad(Reason::ExpectForm)),
+        Some((word, rest)) => of_word(alloc, cluster, line, word, rest),
     }
 }

@@ -1,6 +1,7 @@
 //! Why a line or a script isn't read.
 
 ghost use Rattle.std.specs.Prelude.{◌≡◌};
+ghost use Rattle.lin_bench.specs.Read.{step_fault};
 ghost use Rattle.lin_bench.specs.declared.fault.PlayFault.TheVariants.{OutOfMemory as NoMemory};
 ghost use Rattle.lin_bench.specs.declared.fault.LineFault.TheVariants.{OutOfMemory};
 
@@ -12,6 +13,17 @@ use std::alloc::AllocError;
 pub(crate) enum LineFault {
     Bad(Reason),
     OutOfMemory,
+}
+
+impl From<lin_log::LineFault> for LineFault {
+    ghost from_gives = { λ fault e. e ≡ step_fault fault };
+
+    fn from(fault: lin_log::LineFault) -> LineFault {
+        match fault {
+            lin_log::LineFault::Bad(reason) => LineFault::Bad(Reason::Step(reason)),
+            lin_log::LineFault::OutOfMemory => LineFault::OutOfMemory,
+        }
+    }
 }
 
 impl From<AllocError> for LineFault {

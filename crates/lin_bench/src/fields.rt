@@ -1,59 +1,80 @@
-//! The fields of a line.
+//! The fields of a line, as the language of a cluster's names has them.
 
-ghost use Rattle.std.specs.Prelude.{◌≡◌, ◌==◌, IfOk, not, map};
-ghost use Rattle.lin_bench.specs.Fields.{fields, is_comment, is_number, number_field, words};
+ghost use Rattle.std.specs.Prelude.{◌≡◌, IfOk};
+ghost use Rattle.lin_bench.specs.Fields.{bytes_fields, fields, node_field, number_field};
+ghost use Rattle.lin_bench.specs.Fields.{signal_field, table_field, value_field, words};
 ghost use Rattle.lin_bench.specs.Read.{Gives};
 
 use crate::fault::LineFault;
-use crate::reason::Reason;
-use lin_lists::{Many, Text};
-use lin_log::number;
+use lin_cluster_parts::Cluster;
+use lin_core::Payload;
+use lin_frame::Value;
+use lin_log::first_field;
 use std::alloc::{AllocError, Global};
 
-fn is_comment(field: &[u8]) -> bool
-    ensures { result ≡ is_comment field.now }
-{
-    matches!(field, [b'#', ..])
-}
-
-/// The fields of a line: what stands between its spaces and tabs, up to the first field that begins
-/// with `#`.
-pub(crate) fn fields(alloc: Global, line: &[u8]) -> Result<Vec<&[u8]>, AllocError>
+/// The fields of a line.
+pub(crate) fn fields<'a>(
+    alloc: Global,
+    cluster: &Cluster,
+    line: &'a [u8],
+) -> Result<Vec<&'a [u8]>, AllocError>
     ensures { IfOk result (λ v. words v.items ≡ fields line.now) }
 {
-    line.split(|byte| *byte == b' ' || *byte == b'\t')
-        .filter(|field| !field.is_empty())
-        .take_while(|field| !is_comment(field))
-        .collect(alloc)
-}
-
-/// A copy of fields.
-pub(crate) fn copied(alloc: Global, fields: &[&[u8]]) -> Result<Many<Text>, AllocError>
-    ensures { IfOk result (λ copy. copy ≡ words fields.now) }
-{
-    let mut copy = Vec::new(alloc);
-    for field in fields {
-        copy.push(Text::copied(alloc, field)?)?;
+    let mut fields = Vec::new(alloc);
+    let mut left = line;
+    while let Some((field, rest)) = first_field(cluster, left) {
+        fields.push(field)?;
+        left = rest;
     }
-    Ok(Many::new(copy))
-}
-
-/// Whether a field is a number, and no name.
-pub(crate) fn is_number(field: &[u8]) -> bool
-    ensures { result ≡ is_number field.now }
-{
-    matches!(field, [b'0'..=b'9', ..])
+    Ok(fields)
 }
 
 /// A number of 1 to 10 digits, at most a limit.
 pub(crate) fn number_field(alloc: Global, field: &[u8], most: u32) -> Result<u32, LineFault>
     ensures { Gives (λ n. n) result (number_field most field.now) }
 {
-    match number(field, most) {
-        Some(n) => Ok(n),
-        None => Err(LineFault::Bad(Reason::NoNumber {
-            field: Text::copied(alloc, field)?,
-            most,
-        })),
-    }
+    Ok(lin_log::number_field(alloc, field, most)?)
+}
+
+/// A node or its host, by its name or its number.
+pub(crate) fn node_field(alloc: Global, cluster: &Cluster, field: &[u8]) -> Result<u8, LineFault>
+    ensures { Gives (λ n. n) result (node_field cluster.now field.now) }
+{
+    Ok(lin_log::node_field(alloc, cluster, field)?)
+}
+
+/// A signal, by its name or its number.
+pub(crate) fn signal_field(alloc: Global, cluster: &Cluster, field: &[u8]) -> Result<u16, LineFault>
+    ensures { Gives (λ n. n) result (signal_field cluster.now field.now) }
+{
+    Ok(lin_log::signal_field(alloc, cluster, field)?)
+}
+
+/// A schedule table, by its name or its number.
+pub(crate) fn table_field(alloc: Global, cluster: &Cluster, field: &[u8]) -> Result<u16, LineFault>
+    ensures { Gives (λ n. n) result (table_field cluster.now field.now) }
+{
+    Ok(lin_log::table_field(alloc, cluster, field)?)
+}
+
+/// The bytes that the fields of a line spell.
+pub(crate) fn bytes_fields(
+    alloc: Global,
+    cluster: &Cluster,
+    line: &[u8],
+) -> Result<Payload, LineFault>
+    ensures { Gives (λ p. p) result (bytes_fields cluster.now (fields line.now)) }
+{
+    Ok(lin_log::bytes_fields(alloc, cluster, line)?)
+}
+
+/// A signal's value.
+pub(crate) fn value_field(
+    alloc: Global,
+    cluster: &Cluster,
+    field: &[u8],
+) -> Result<Value, LineFault>
+    ensures { Gives (λ v. v) result (value_field cluster.now field.now) }
+{
+    Ok(lin_log::value_field(alloc, cluster, field)?)
 }

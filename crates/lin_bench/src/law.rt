@@ -1,9 +1,10 @@
-//! What holds of every script that `replay` reads.
+//! What bench scripts say that are scripts of steps alone.
 
-ghost use Rattle.lin_bench.specs.Plain.{PlainScripts};
+ghost use Rattle.lin_bench.specs.Plain.{NamedTexts, PlainScripts};
 
-/// A script that `replay` reads is a bench script of the same steps: it has no bad line, makes no
-/// slots of its own, and expects nothing.
+/// A script that `replay` reads says the same steps as a bench script, and makes and expects
+/// nothing else; and so does a text of steps with the cluster's names.
 pub fn plain_scripts_say_the_same()
-    ensures { PlainScripts }
+    ensures plain { PlainScripts }
+    ensures named { NamedTexts }
 {}

@@ -17,15 +17,12 @@ mod got;
 mod law;
 mod line;
 mod lines;
-mod names;
 mod playing;
 mod reason;
 mod script;
 mod slots;
-mod steps;
 mod taken;
 mod texts;
-mod values;
 mod verdicts;
 
 pub use expected::Expected;

@@ -1,22 +1,20 @@
 //! The forms of lines.
 
 ghost use Rattle.std.specs.Prelude.{◌≡◌};
-ghost use Rattle.lin_bench.specs.Fields.{words};
-ghost use Rattle.lin_bench.specs.Lines.{count_field, leave_form, line_form, node_fields, of_fields};
+ghost use Rattle.lin_bench.specs.Fields.{fields};
+ghost use Rattle.lin_bench.specs.Lines.{count_field, leave_form, line_form, node_fields};
 ghost use Rattle.lin_bench.specs.Lines.{read_line, slot_form, slots_form};
 ghost use Rattle.lin_bench.specs.Read.{Gives};
 
 use crate::expectations::expectation;
 use crate::fault::LineFault;
-use crate::fields::{fields, number_field};
+use crate::fields::{bytes_fields, fields, node_field, number_field};
 use crate::line::{Disturbance, Extent, Line};
-use crate::names::node_field;
 use crate::reason::Reason;
-use crate::steps::{is_port, port, step, step_after};
-use crate::values::bytes_fields;
 use lin_cluster_parts::Cluster;
 use lin_core::PortId;
 use lin_lists::{Many, Text};
+use lin_log::{first_field, is_over, is_port, port_step, step};
 use std::alloc::Global;
 
 /// How many slots are made where no message waits any more, and no number says how many at most.
@@ -34,10 +32,11 @@ fn count_field(alloc: Global, field: &[u8]) -> Result<u32, LineFault>
 
 /// How many slots are made, by the fields after `slots`.
 #[tactic(auto, unfolding(crate::specs::Lines::slots_form))]
-fn slots(alloc: Global, fields: &[&[u8]]) -> Result<Extent, LineFault>
-    ensures { Gives (λ e. e) result (slots_form (words fields.now)) }
+fn slots(alloc: Global, cluster: &Cluster, line: &[u8]) -> Result<Extent, LineFault>
+    ensures { Gives (λ e. e) result (slots_form (fields line.now)) }
 {
-    match fields {
+    let fields = fields(alloc, cluster, line)?;
+    match fields.as_slice() {
         [word] if *word == b"idle".as_slice() => Ok(Extent::Idle(IDLE)),
         [count] => Ok(Extent::Count(count_field(alloc, count)?)),
         [word, count] if *word == b"idle".as_slice() => Ok(Extent::Idle(count_field(
@@ -50,75 +49,64 @@ fn slots(alloc: Global, fields: &[&[u8]]) -> Result<Extent, LineFault>
     }
 }
 
-fn node_fields(alloc: Global, cluster: &Cluster, fields: &[&[u8]]) -> Result<Many<u8>, LineFault>
-    ensures { Gives (λ nodes. nodes) result (node_fields cluster.now (words fields.now)) }
+fn node_fields(alloc: Global, cluster: &Cluster, line: &[u8]) -> Result<Many<u8>, LineFault>
+    ensures { Gives (λ nodes. nodes) result (node_fields cluster.now (fields line.now)) }
 {
     let mut nodes = Vec::new(alloc);
-    for field in fields {
+    let mut left = line;
+    while let Some((field, rest)) = first_field(cluster, left) {
         let node = node_field(alloc, cluster, field)?;
         if nodes.push(node).is_err() {
             return Err(LineFault::OutOfMemory);
         }
+        left = rest;
     }
     Ok(Many::new(nodes))
 }
 
 /// The nodes that leave their responses out.
-fn leave(alloc: Global, cluster: &Cluster, fields: &[&[u8]]) -> Result<Disturbance, LineFault>
-    ensures { Gives (λ d. d) result (leave_form cluster.now (words fields.now)) }
+fn leave(alloc: Global, cluster: &Cluster, line: &[u8]) -> Result<Disturbance, LineFault>
+    ensures { Gives (λ d. d) result (leave_form cluster.now (fields line.now)) }
 {
-    if fields.is_empty() {
+    if is_over(cluster, line) {
         return Err(LineFault::Bad(Reason::LeaveForm));
     }
-    Ok(Disturbance::Leave(node_fields(alloc, cluster, fields)?))
+    Ok(Disturbance::Leave(node_fields(alloc, cluster, line)?))
 }
 
 /// How a slot is disturbed, by the fields after `slot`.
 #[tactic(auto, unfolding(crate::specs::Lines::slot_form))]
-fn slot(alloc: Global, cluster: &Cluster, fields: &[&[u8]]) -> Result<Disturbance, LineFault>
-    ensures { Gives (λ d. d) result (slot_form cluster.now (words fields.now)) }
+fn slot(alloc: Global, cluster: &Cluster, line: &[u8]) -> Result<Disturbance, LineFault>
+    ensures { Gives (λ d. d) result (slot_form cluster.now (fields line.now)) }
 {
-    match fields {
-        [] => Ok(Disturbance::Undisturbed),
-        [word, bytes @ ..] if *word == b"hurt".as_slice() => Ok(Disturbance::Hurt(bytes_fields(
-            alloc, bytes,
-        )?)),
-        [word, nodes @ ..] if *word == b"leave".as_slice() => leave(alloc, cluster, nodes),
-        [word, ..] => Err(LineFault::Bad(Reason::SlotForm(Text::copied(alloc, word)?))),
+    let Some((word, rest)) = first_field(cluster, line) else {
+        return Ok(Disturbance::Undisturbed);
+    };
+    if word == b"hurt".as_slice() {
+        Ok(Disturbance::Hurt(bytes_fields(alloc, cluster, rest)?))
+    } else if word == b"leave".as_slice() {
+        leave(alloc, cluster, rest)
+    } else {
+        Err(LineFault::Bad(Reason::SlotForm(Text::copied(alloc, word)?)))
     }
 }
 
-/// What a line says, by its first field and those after it.
+/// What a line says, by its first field and the rest of it.
 #[tactic(auto, unfolding(crate::specs::Lines::line_form))]
-fn of_word(
-    alloc: Global,
-    cluster: &Cluster,
-    word: &[u8],
-    fields: &[&[u8]],
-) -> Result<Line, LineFault>
-    ensures { Gives (λ l. l) result (line_form cluster.now word.now (words fields.now)) }
+fn of_word(alloc: Global, cluster: &Cluster, word: &[u8], rest: &[u8]) -> Result<Line, LineFault>
+    ensures { Gives (λ l. l) result (line_form cluster.now word.now (fields rest.now)) }
 {
     if is_port(word) {
-        let by = port(alloc, cluster, word)?;
-        return Ok(Line::Step(by, step_after(alloc, cluster, fields)?));
-    }
-    if word == b"slots".as_slice() {
-        Ok(Line::Slots(slots(alloc, fields)?))
+        let (by, step) = port_step(alloc, cluster, word, rest)?;
+        Ok(Line::Step(by, step))
+    } else if word == b"slots".as_slice() {
+        Ok(Line::Slots(slots(alloc, cluster, rest)?))
     } else if word == b"slot".as_slice() {
-        Ok(Line::Slot(slot(alloc, cluster, fields)?))
+        Ok(Line::Slot(slot(alloc, cluster, rest)?))
     } else if word == b"expect".as_slice() {
-        Ok(Line::Expect(expectation(alloc, cluster, fields)?))
+        Ok(Line::Expect(expectation(alloc, cluster, rest)?))
     } else {
-        Ok(Line::Step(PortId::Bus, step(alloc, cluster, word, fields)?))
-    }
-}
-
-fn of_fields(alloc: Global, cluster: &Cluster, fields: &[&[u8]]) -> Result<Option<Line>, LineFault>
-    ensures { Gives (λ l. l) result (of_fields cluster.now (words fields.now)) }
-{
-    match fields {
-        [] => Ok(None),
-        [word, rest @ ..] => Ok(Some(of_word(alloc, cluster, word, rest)?)),
+        Ok(Line::Step(PortId::Bus, step(alloc, cluster, word, rest)?))
     }
 }
 
@@ -134,6 +122,8 @@ pub(crate) fn read_line(
     if let [b'>', ..] = line {
         return Ok(None);
     }
-    let fields = fields(alloc, line)?;
-    of_fields(alloc, cluster, fields.as_slice())
+    match first_field(cluster, line) {
+        None => Ok(None),
+        Some((word, rest)) => Ok(Some(of_word(alloc, cluster, word, rest)?)),
+    }
 }

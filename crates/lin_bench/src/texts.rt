@@ -1,21 +1,23 @@
 //! What is said of bad lines and of expectations that aren't met.
 
-ghost use Rattle.std.specs.Prelude.{◌≡◌, ◌==◌, ◌++◌, codes, flat_map};
+ghost use Rattle.std.specs.Prelude.{◌++◌, codes, flat_map};
 ghost use Rattle.std.specs.Fmt.{decimal};
-ghost use Rattle.lin_log.specs.Words.{hex_word, spaced_word, value_word};
+ghost use Rattle.lin_log.specs.Words.{spaced_word};
 ghost use Rattle.lin_text.specs.Written.{Grows, WritesText};
-ghost use Rattle.lin_bench.specs.Texts.{bad_line_text, expected_text, fields_word, got_text};
-ghost use Rattle.lin_bench.specs.Texts.{hosts_text, fields_text, node_word, other_host_text};
-ghost use Rattle.lin_bench.specs.Texts.{reason_text, signal_word, table_word, unmet_text};
-ghost use Rattle.lin_bench.specs.Texts.{waiting_text};
+ghost use Rattle.lin_bench.specs.Texts.{bad_line_text, expected_text, fields_text, fields_word};
+ghost use Rattle.lin_bench.specs.Texts.{got_text, hosts_text, other_host_text, reason_text};
+ghost use Rattle.lin_bench.specs.Texts.{step_reason_text, unmet_text, waiting_text};
 
 use crate::expected::Expected;
 use crate::got::{Got, Unmet};
 use crate::reason::Reason;
 use lin_cluster_parts::Cluster;
 use lin_core::Listed;
-use lin_frame::Value;
 use lin_lists::Text;
+use lin_log::{
+    Reason as StepReason, put_bytes, put_node, put_number, put_signal, put_table, put_value,
+    put_word,
+};
 use lin_text::{TextWriter, WriteFailed};
 use std::io::Write;
 
@@ -27,25 +29,12 @@ fn put_after<W: Write>(out: &mut TextWriter<'_, W>, text: &str, bytes: &[u8])
     out.put(bytes);
 }
 
-fn put_spaced<W: Write>(out: &mut TextWriter<'_, W>, word: &[u8])
-    ensures { Grows W.contents out.old out.new (spaced_word word.now) }
-{
-    out.put_byte(b' ');
-    out.put(word);
-}
-
-fn put_spaced_number<W: Write>(out: &mut TextWriter<'_, W>, number: u64)
-    ensures { Grows W.contents out.old out.new (spaced_word (decimal number)) }
-{
-    out.put_byte(b' ');
-    out.put_number(number);
-}
-
 fn put_all_spaced<W: Write>(out: &mut TextWriter<'_, W>, words: &[Text])
     ensures { Grows W.contents out.old out.new (flat_map spaced_word words.now) }
 {
     for word in words {
-        put_spaced(out, word.as_slice());
+        out.put_byte(b' ');
+        out.put(word.as_slice());
     }
 }
 
@@ -58,28 +47,6 @@ fn put_fields<W: Write>(out: &mut TextWriter<'_, W>, fields: &[Text])
         [first, rest @ ..] => {
             out.put(first.as_slice());
             put_all_spaced(out, rest);
-        }
-    }
-}
-
-fn put_bytes<W: Write>(out: &mut TextWriter<'_, W>, bytes: &[u8])
-    ensures { Grows W.contents out.old out.new (hex_word bytes.now) }
-{
-    if bytes.is_empty() {
-        out.put_byte(b'-');
-    } else {
-        out.put_hex(bytes);
-    }
-}
-
-fn put_value<W: Write>(out: &mut TextWriter<'_, W>, value: &Value)
-    ensures { Grows W.contents out.old out.new (value_word value.now) }
-{
-    match value {
-        Value::Scalar(number) => out.put_number(*number),
-        Value::Bytes(bytes) => {
-            out.put_byte(b'x');
-            put_bytes(out, bytes.as_slice());
         }
     }
 }
@@ -115,32 +82,42 @@ fn put_takes<W: Write>(out: &mut TextWriter<'_, W>, word: &[u8], fields: u8)
     put_plural(out, fields);
 }
 
+/// Why a line of a step is bad.
+fn put_step_reason<W: Write>(out: &mut TextWriter<'_, W>, reason: &StepReason)
+    ensures { Grows W.contents out.old out.new (step_reason_text reason.now) }
+{
+    match reason {
+        StepReason::NoPort => out.put_text("no port"),
+        StepReason::NoStep => out.put_text("no step"),
+        StepReason::UnknownStep(word) => put_after(out, "no step ", word.as_slice()),
+        StepReason::NoNode(name) => put_after(out, "no node ", name.as_slice()),
+        StepReason::NoSignal(name) => put_after(out, "no signal ", name.as_slice()),
+        StepReason::NoTable(name) => put_after(out, "no table ", name.as_slice()),
+        StepReason::NoNumber { field, most } => put_no_number(out, field.as_slice(), *most),
+        StepReason::NoBytes => out.put_text("no bytes"),
+        StepReason::NotBytes(fields) => {
+            put_fields(out, fields.as_slice());
+            out.put_text(" is no bytes");
+        }
+        StepReason::TooManyBytes(field) => {
+            out.put(field.as_slice());
+            out.put_text(" has more than 8 bytes");
+        }
+        StepReason::Takes { word, fields } => put_takes(out, word.as_slice(), *fields),
+        StepReason::SendForm => out.put_text("send takes two nodes and bytes"),
+        StepReason::WriteForm => out.put_text("write takes a signal and a value"),
+        StepReason::TimeoutForm => out.put_text("timeout takes down or up"),
+    }
+}
+
 /// Why a line is bad.
 fn put_reason<W: Write>(out: &mut TextWriter<'_, W>, reason: &Reason)
     ensures { Grows W.contents out.old out.new (reason_text reason.now) }
 {
     match reason {
-        Reason::NoStep => out.put_text("no step"),
-        Reason::UnknownStep(word) => put_after(out, "no step ", word.as_slice()),
-        Reason::NoNode(name) => put_after(out, "no node ", name.as_slice()),
-        Reason::NoSignal(name) => put_after(out, "no signal ", name.as_slice()),
-        Reason::NoTable(name) => put_after(out, "no table ", name.as_slice()),
+        Reason::Step(why) => put_step_reason(out, why),
         Reason::NoRefusal(name) => put_after(out, "no refusal ", name.as_slice()),
-        Reason::NoNumber { field, most } => put_no_number(out, field.as_slice(), *most),
         Reason::TooSmall => out.put_text("0 is too small"),
-        Reason::NoBytes => out.put_text("no bytes"),
-        Reason::NotBytes(fields) => {
-            put_fields(out, fields.as_slice());
-            out.put_text(" is no bytes");
-        }
-        Reason::TooManyBytes(field) => {
-            out.put(field.as_slice());
-            out.put_text(" has more than 8 bytes");
-        }
-        Reason::Takes { word, fields } => put_takes(out, word.as_slice(), *fields),
-        Reason::SendForm => out.put_text("send takes two nodes and bytes"),
-        Reason::WriteForm => out.put_text("write takes a signal and a value"),
-        Reason::TimeoutForm => out.put_text("timeout takes down or up"),
         Reason::SlotsForm => out.put_text("slots takes a number, a number and ms, or idle"),
         Reason::SlotForm(word) => {
             put_after(out, "slot takes hurt or leave, not ", word.as_slice());
@@ -182,51 +159,10 @@ pub fn write_bad_line<W: Write>(
     out.finish()
 }
 
-/// The name of a node, or the number where it is none's.
-fn put_node<W: Write>(out: &mut TextWriter<'_, W>, cluster: &Cluster, node: u8)
-    ensures { Grows W.contents out.old out.new (node_word cluster.now node) }
-{
-    if (node as usize) < cluster.nodes() {
-        out.put(cluster.node_name(node));
-    } else {
-        out.put_number(node);
-    }
-}
-
-/// The name of a signal, or the number where it is none's.
-fn put_signal<W: Write>(out: &mut TextWriter<'_, W>, cluster: &Cluster, signal: u16)
-    ensures { Grows W.contents out.old out.new (signal_word cluster.now signal) }
-{
-    if (signal as usize) < cluster.signals() {
-        out.put(cluster.signal_name(signal));
-    } else {
-        out.put_number(signal);
-    }
-}
-
-/// The name of a schedule table, or the number where it is none's.
-fn put_table<W: Write>(out: &mut TextWriter<'_, W>, cluster: &Cluster, table: u16)
-    ensures { Grows W.contents out.old out.new (table_word cluster.now table) }
-{
-    if (table as usize) < cluster.tables() {
-        out.put(cluster.table_name(table));
-    } else {
-        out.put_number(table);
-    }
-}
-
-/// A schedule table, and an entry's number.
-fn put_entry<W: Write>(out: &mut TextWriter<'_, W>, cluster: &Cluster, table: u16, entry: u16)
-    ensures { Grows W.contents out.old out.new
-        (table_word cluster.now table ++ spaced_word (decimal entry)) }
-{
-    put_table(out, cluster, table);
-    put_spaced_number(out, u64::from(entry));
-}
-
-/// What is expected.
+/// What is expected, with a space before it.
 fn put_expected<W: Write>(out: &mut TextWriter<'_, W>, cluster: &Cluster, expected: &Expected)
-    ensures { Grows W.contents out.old out.new (expected_text cluster.now expected.now) }
+    ensures { Grows W.contents out.old out.new
+        (spaced_word (expected_text cluster.now expected.now)) }
 {
     match expected {
         Expected::Signal {
@@ -234,76 +170,86 @@ fn put_expected<W: Write>(out: &mut TextWriter<'_, W>, cluster: &Cluster, expect
             signal,
             value,
         } => {
-            out.put_text("signal ");
+            out.put_text(" signal");
             put_node(out, cluster, *node);
-            out.put_byte(b' ');
             put_signal(out, cluster, *signal);
-            out.put_byte(b' ');
             put_value(out, value);
         }
         Expected::Waiting { host, count } => {
-            out.put_text("waiting ");
+            out.put_text(" waiting");
             put_node(out, cluster, *host);
-            put_spaced_number(out, u64::from(*count));
+            put_number(out, *count);
         }
         Expected::Message { from, to, bytes } => {
-            out.put_text("message ");
+            out.put_text(" message");
             put_node(out, cluster, *from);
-            out.put_byte(b' ');
             put_node(out, cluster, *to);
-            out.put_byte(b' ');
             put_bytes(out, bytes.as_slice());
         }
         Expected::Sent { host } => {
-            out.put_text("sent ");
+            out.put_text(" sent");
             put_node(out, cluster, *host);
         }
         Expected::Lost { host, cause } => {
-            out.put_text("lost ");
+            out.put_text(" lost");
             put_node(out, cluster, *host);
-            put_spaced(out, cause.word().as_bytes());
+            put_word(out, cause.word());
         }
-        Expected::Seen(how) => put_after(out, "seen ", how.word().as_bytes()),
+        Expected::Seen(how) => {
+            out.put_text(" seen");
+            put_word(out, how.word());
+        }
         Expected::Slot { table, entry } => {
-            out.put_text("slot ");
-            put_entry(out, cluster, *table, *entry);
+            out.put_text(" slot");
+            put_table(out, cluster, *table);
+            put_number(out, *entry);
         }
-        Expected::Done => out.put_text("done"),
-        Expected::Refused(why) => put_after(out, "refused ", why.word().as_bytes()),
-        Expected::Asleep => out.put_text("asleep"),
-        Expected::Awake => out.put_text("awake"),
+        Expected::Done => out.put_text(" done"),
+        Expected::Refused(why) => {
+            out.put_text(" refused");
+            put_word(out, why.word());
+        }
+        Expected::Asleep => out.put_text(" asleep"),
+        Expected::Awake => out.put_text(" awake"),
     }
 }
 
-/// What is so in its place.
+/// What is so in its place, with a space before it.
 fn put_got<W: Write>(out: &mut TextWriter<'_, W>, cluster: &Cluster, got: &Got)
-    ensures { Grows W.contents out.old out.new (got_text cluster.now got.now) }
+    ensures { Grows W.contents out.old out.new (spaced_word (got_text cluster.now got.now)) }
 {
     match got {
         Got::Value(value) => put_value(out, value),
-        Got::Waiting(count) => out.put_number(*count),
+        Got::Waiting(count) => put_number(out, *count),
         Got::Message(bytes) => put_bytes(out, bytes.as_slice()),
         Got::Sent { number } => {
-            out.put_text("message ");
-            out.put_number(*number);
+            out.put_text(" message");
+            put_number(out, *number);
             out.put_text(" sent");
         }
         Got::Lost { number, cause } => {
-            out.put_text("message ");
-            out.put_number(*number);
-            put_after(out, " lost ", cause.word().as_bytes());
+            out.put_text(" message");
+            put_number(out, *number);
+            out.put_text(" lost");
+            put_word(out, cause.word());
         }
-        Got::NoEvent => out.put_text("none"),
-        Got::Seen(how) => out.put_text(how.word()),
-        Got::Slot { table, entry } => put_entry(out, cluster, *table, *entry),
-        Got::NoSlot => out.put_text("no slot"),
-        Got::Done => out.put_text("done"),
-        Got::Refused(why) => put_after(out, "refused ", why.word().as_bytes()),
-        Got::NoStep => out.put_text("no step"),
-        Got::Asleep => out.put_text("asleep"),
-        Got::Awake => out.put_text("awake"),
-        Got::NoNode => out.put_text("no such node"),
-        Got::NoNodeOrSignal => out.put_text("no such node or signal"),
+        Got::NoEvent => out.put_text(" none"),
+        Got::Seen(how) => put_word(out, how.word()),
+        Got::Slot { table, entry } => {
+            put_table(out, cluster, *table);
+            put_number(out, *entry);
+        }
+        Got::NoSlot => out.put_text(" no slot"),
+        Got::Done => out.put_text(" done"),
+        Got::Refused(why) => {
+            out.put_text(" refused");
+            put_word(out, why.word());
+        }
+        Got::NoStep => out.put_text(" no step"),
+        Got::Asleep => out.put_text(" asleep"),
+        Got::Awake => out.put_text(" awake"),
+        Got::NoNode => out.put_text(" no such node"),
+        Got::NoNodeOrSignal => out.put_text(" no such node or signal"),
     }
 }
 
@@ -312,7 +258,7 @@ fn put_waiting<W: Write>(out: &mut TextWriter<'_, W>, cluster: &Cluster, host: &
     ensures { Grows W.contents out.old out.new (waiting_text cluster.now host.now) }
 {
     out.put_number(host.1);
-    out.put_text(" of ");
+    out.put_text(" of");
     put_node(out, cluster, host.0);
     out.put_text(" waiting");
 }
@@ -349,9 +295,9 @@ fn put_unmet<W: Write>(out: &mut TextWriter<'_, W>, cluster: &Cluster, unmet: &U
         } => {
             out.put_text("script ");
             out.put_number(*line);
-            out.put_text(" expected ");
+            out.put_text(" expected");
             put_expected(out, cluster, expected);
-            out.put_text(": ");
+            out.put_byte(b':');
             put_got(out, cluster, got);
             out.put_byte(b'\n');
         }

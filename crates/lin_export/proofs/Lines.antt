@@ -1,7 +1,7 @@
 -- What the lines of an entry say, by what is kept of the entries before it.
-use Rattle.std.proofs.Common.{◌≡◌, ℕ, zero, suc, List, [], ◌∷◌, ◌++◌, refl, sym, ap, ◌∙◌, append_assoc, flat_map, length, get_or, ◌<◌, arith}
+use Rattle.std.proofs.Common.{◌≡◌, ℕ, zero, suc, List, [], ◌∷◌, ◌++◌, refl, sym, ap, ◌∙◌, append_assoc, append-nil, flat_map, length, get_or, ◌<◌, arith}
 use Rattle.std.specs.Prelude.{Option, Some, None, option_map, zip}
-use Rattle.std.specs.Option.{option_map_or}
+use Rattle.std.specs.Option.{option_map_or, option_to_list}
 use Rattle.lin_cluster_parts.specs.Cluster.{line_of}
 use Rattle.lin_cluster_parts.specs.declared.parts.Parts.{Parts}
 use Rattle.lin_names.specs.Names.{NamesData}
@@ -9,21 +9,25 @@ use Rattle.lin_core.specs.History.{Slot}
 use Rattle.lin_core.specs.declared.event.Event.{Event}
 use Rattle.lin_core.specs.declared.event.Event.TheVariants as event
 use Rattle.lin_core.specs.declared.event.Seen.TheVariants as seen
-use Rattle.lin_export.specs.Named.{behind, event_lines, frame_words, good_line, named_event, transport_line}
+use Rattle.lin_export.specs.Named.{behind, event_lines, frame_words, good_words, named_event, reply_lines, transport}
+use Rattle.lin_export.specs.NamedWords.{event_text, line_or_none, named_entry}
+use Rattle.lin_export.specs.Telling.{each_entry}
 use Rattle.lin_export.specs.Track.{shown_slot}
-use Rattle.lin_log.specs.Words.{line_tail, reply_line, spaced_word}
+use Rattle.lin_core.specs.declared.log.LogEntry.{LogEntry}
+use Rattle.lin_log.specs.Language.{named}
+use Rattle.lin_log.specs.Words.{line_tail, log_text, reply_line, spaced_word, step_line}
 use Rattle.lin_export.proofs.Rows.{flat-append, frame-shown}
 
 flat-same : {X : Type 0} (f h : X → List ℕ) (xs : List X) → ((x : X) → f x ≡ h x) → flat_map f xs ≡ flat_map h xs
 flat-same f h [] e = refl
 flat-same f h (x ∷ xs) e = ap (λ l. l ++ flat_map f xs) (e x) ∙ ap (λ l. h x ++ l) (flat-same f h xs e)
 
-good-shown : (c : Parts) (names : NamesData) (answer : List ℕ) (s : Slot) → good_line c names answer (shown_slot s) ≡ good_line c names answer s
+good-shown : (c : Parts) (names : NamesData) (answer : List ℕ) (s : Slot) → good_words c names answer (shown_slot s) ≡ good_words c names answer s
 good-shown c names answer s =
-    ap (λ (o : Option ℕ). option_map_or (λ f. reply_line (frame_words c names f answer)) o (transport_line c s.header answer)) (frame-shown c (line_of c s.table s.entry).entry s)
+    ap (λ (o : Option ℕ). option_map_or (λ f. Some (frame_words c names f answer)) o (transport c s.header answer)) (frame-shown c (line_of c s.table s.entry).entry s)
 
 behind-good : (c : Parts) (names : NamesData) (o : Option Slot) (answer : List ℕ)
-    → option_map_or (good_line c names answer) (option_map shown_slot o) [] ≡ option_map_or (good_line c names answer) o []
+    → option_map_or (good_words c names answer) (option_map shown_slot o) None ≡ option_map_or (good_words c names answer) o None
 behind-good c names None answer = refl
 behind-good c names (Some s) answer = good-shown c names answer s
 
@@ -43,9 +47,36 @@ behind-shown c names o (event.Lost host number why) = refl
 behind-shown c names o event.Asleep = refl
 
 pub lines-shown : (c : Parts) (names : NamesData) (o : Option Slot) (es : List Event)
-    → flat_map (event_lines c names (option_map shown_slot o)) es ≡ flat_map (event_lines c names o) es
+    → flat_map (event_text c names (option_map shown_slot o)) es ≡ flat_map (event_text c names o) es
 lines-shown c names o es =
-    flat-same (event_lines c names (option_map shown_slot o)) (event_lines c names o) es (λ e. ap (λ l. reply_line (named_event c names e) ++ l) (behind-shown c names o e))
+    flat-same (event_text c names (option_map shown_slot o)) (event_text c names o) es
+    (λ e. ap (λ (b : Option (List (List ℕ))). reply_line (named_event c names e) ++ line_or_none b) (behind-shown c names o e))
+
+-- lines, one after another
+pub one-line : (o : Option (List (List ℕ))) → line_or_none o ≡ flat_map reply_line (option_to_list o)
+one-line None = refl
+one-line (Some ws) = sym (append-nil (reply_line ws))
+
+pub lines-joined : (c : Parts) (names : NamesData) (o : Option Slot) (es : List Event) (t : Option (List (List ℕ)))
+    → flat_map (event_text c names o) es ++ line_or_none t ≡ flat_map reply_line (flat_map (event_lines c names o) es ++ option_to_list t)
+lines-joined c names o [] t = one-line t
+lines-joined c names o (e ∷ es) t =
+    let first = reply_line (named_event c names e) in
+    let b = behind c names o e in
+    append_assoc (first ++ line_or_none b) (flat_map (event_text c names o) es) (line_or_none t)
+    ∙ append_assoc first (line_or_none b) (flat_map (event_text c names o) es ++ line_or_none t)
+    ∙ ap (λ l. first ++ (line_or_none b ++ l)) (lines-joined c names o es t)
+    ∙ ap (λ l. first ++ (l ++ flat_map reply_line (flat_map (event_lines c names o) es ++ option_to_list t))) (one-line b)
+    ∙ ap (λ l. first ++ l) (sym (flat-append reply_line (option_to_list b) (flat_map (event_lines c names o) es ++ option_to_list t)))
+    ∙ ap (λ (l : List (List (List ℕ))). first ++ flat_map reply_line l) (sym (append_assoc (option_to_list b) (flat_map (event_lines c names o) es) (option_to_list t)))
+
+-- a log, entry by entry
+pub log-entries : (c : Parts) (names : NamesData) (past log : List LogEntry)
+    → each_entry (named_entry c names) past log ≡ log_text (named c) (reply_lines c names) past log
+log-entries c names past [] = refl
+log-entries c names past (e ∷ es) =
+    append_assoc (step_line (named c) e.port e.step) (flat_map reply_line (reply_lines c names e past)) (each_entry (named_entry c names) (e ∷ past) es)
+    ∙ ap (λ t. step_line (named c) e.port e.step ++ (flat_map reply_line (reply_lines c names e past) ++ t)) (log-entries c names (e ∷ past) es)
 
 pub zip-at : {X Y : Type 0} (xs : List X) (ys : List Y) (i : ℕ) (x : X) (y : Y) → i < length xs → i < length ys → get_or (zip xs ys) i (x, y) ≡ (get_or xs i x, get_or ys i y)
 zip-at [] ys i x y h k = absurd (omega arith)

@@ -1,20 +1,19 @@
 //! Logs with names.
 
-ghost use Rattle.std.specs.Prelude.{◌≡◌, ◌∷◌, ◌<◌, ◌==◌, ⊤, false, [], codes, flat_map, map};
-ghost use Rattle.std.specs.Prelude.{nat_lt, if◌then◌else◌, option_map, length, zip};
+ghost use Rattle.std.specs.Prelude.{◌≡◌, ◌∷◌, ◌<◌, ⊤, [], codes, flat_map, length, map, option_map};
+ghost use Rattle.std.specs.Prelude.{zip};
 ghost use Rattle.std.specs.Fmt.{decimal};
 ghost use Rattle.std.specs.Option.{option_to_list};
-ghost use Rattle.lin_cluster_parts.specs.Cluster.{frame_of, nad, node_of, nodes};
+ghost use Rattle.lin_cluster_parts.specs.Cluster.{frame_of};
 ghost use Rattle.lin_cluster_parts.specs.Rules.{IsEntry};
 ghost use Rattle.lin_core.specs.Tables.{refusal_number, refusal_word};
-ghost use Rattle.lin_log.specs.Words.{header_word, reply_line, seen_words, spaced_word};
+ghost use Rattle.lin_log.specs.Words.{reply_line, spaced_word};
 ghost use Rattle.lin_text.specs.Written.{Grows, WritesText};
-ghost use Rattle.lin_export.specs.Named.{behind, control_words, event_lines, frame_words};
-ghost use Rattle.lin_export.specs.Named.{good_line, named_log, named_entry, named_event};
-ghost use Rattle.lin_export.specs.Named.{named_port, named_step, signal_words};
-ghost use Rattle.lin_export.specs.Named.{slot_words, sporadic_frame, time_line, transport_line};
-ghost use Rattle.lin_export.specs.Named.{transport_words, who_word};
-ghost use Rattle.lin_export.specs.NamedWords.{word_shown};
+ghost use Rattle.lin_export.specs.Named.{behind, control_words, frame_words, good_words};
+ghost use Rattle.lin_export.specs.Named.{named_event, named_log, signal_words, slot_names};
+ghost use Rattle.lin_export.specs.Named.{sporadic_frame, time_words, transport, transport_words};
+ghost use Rattle.lin_export.specs.Named.{who_word};
+ghost use Rattle.lin_export.specs.NamedWords.{event_text, line_or_none, named_entry, word_shown};
 ghost use Rattle.lin_export.specs.Open.{slot_in};
 ghost use Rattle.lin_export.specs.Shown.{frame_name};
 
@@ -24,100 +23,15 @@ use crate::format::{Format, write_as};
 use crate::naming::{entry_name, node_name};
 use crate::slot::{OpenSlot, byte_at};
 use crate::track::Track;
-use crate::words::{Word, node_word, put_reply, put_words, signal_word, table_word, value_word};
+use crate::words::{Word, put_reply, put_words, value_word};
 use lin_cluster_parts::{Cluster, Entry};
-use lin_core::{
-    Event, Listed, Log, LogEntry, PortId, Refusal, Reply, Seen, Step, frame_under, node_with,
-};
+use lin_core::{Event, Listed, Log, LogEntry, Refusal, Reply, Seen, Step, frame_under, node_with};
 use lin_frame::{Answer, unpack};
+use lin_log::put_step_line;
 use lin_names::Names;
 use lin_text::TextWriter;
 use std::alloc::Global;
 use std::io::Write;
-
-/// A letter and a node: after a colon its name, or its number where it is none's.
-fn put_lettered<W: Write>(out: &mut TextWriter<'_, W>, cluster: &Cluster, letter: u8, node: u8)
-    ensures { Grows W.contents out.old out.new
-        (if nat_lt node (nodes cluster.now) then letter ∷ 58 ∷ (node_of cluster.now node).name
-        else letter ∷ decimal node) }
-{
-    out.put_byte(letter);
-    if (node as usize) < cluster.nodes() {
-        out.put_byte(b':');
-        out.put(cluster.node_name(node));
-    } else {
-        out.put_number(u64::from(node));
-    }
-}
-
-pub(crate) fn put_port<W: Write>(out: &mut TextWriter<'_, W>, cluster: &Cluster, port: PortId)
-    ensures { Grows W.contents out.old out.new (named_port cluster.now port) }
-{
-    match port {
-        PortId::Bus => out.put_text("bus"),
-        PortId::Host(number) => put_lettered(out, cluster, b'h', number),
-        PortId::Node(number) => put_lettered(out, cluster, b'n', number),
-    }
-}
-
-pub(crate) fn put_step<'a, W: Write>(
-    out: &mut TextWriter<'_, W>,
-    cluster: &'a Cluster,
-    step: &'a Step,
-)
-    ensures { Grows W.contents out.old out.new
-        (flat_map spaced_word (named_step cluster.now step.now)) }
-{
-    match step {
-        Step::Send { from, to, message } => put_words(
-            out,
-            &[
-                Word::Text("send"),
-                node_word(cluster, *from),
-                node_word(cluster, *to),
-                Word::Hex(message.as_slice()),
-            ],
-        ),
-        Step::Write { by, signal, value } => put_words(
-            out,
-            &[
-                Word::Text("write"),
-                node_word(cluster, *by),
-                signal_word(cluster, *signal),
-                value_word(value),
-            ],
-        ),
-        Step::Open => put_words(out, &[Word::Text("open")]),
-        Step::Answer { node } => put_words(out, &[Word::Text("answer"), node_word(cluster, *node)]),
-        Step::Leave { node } => put_words(out, &[Word::Text("leave"), node_word(cluster, *node)]),
-        Step::Hurt { bytes } => put_words(out, &[Word::Text("hurt"), Word::Hex(bytes.as_slice())]),
-        Step::Finish => put_words(out, &[Word::Text("finish")]),
-        Step::Timeout { node, dir } => put_words(
-            out,
-            &[
-                Word::Text("timeout"),
-                node_word(cluster, *node),
-                Word::Text(dir.word()),
-            ],
-        ),
-        Step::Switch { table } => put_words(
-            out,
-            &[Word::Text("switch"), table_word(cluster, *table)],
-        ),
-        Step::AskSleep => put_words(out, &[Word::Text("sleep")]),
-        Step::Wake => put_words(out, &[Word::Text("wake")]),
-        Step::Close { host } => put_words(out, &[Word::Text("close"), node_word(cluster, *host)]),
-    }
-}
-
-fn word_of_header(header: Option<u8>) -> Word<'static>
-    ensures { word_shown result ≡ header_word header }
-{
-    match header {
-        Some(pid) => Word::Byte(pid),
-        None => Word::Text("-"),
-    }
-}
 
 /// The frame of a sporadic entry with a header.
 fn sporadic_frame(cluster: &Cluster, entry: Entry, header: Option<u8>) -> Option<u16>
@@ -144,112 +58,41 @@ fn put_member<W: Write>(out: &mut TextWriter<'_, W>, names: &Names, member: Opti
     }
 }
 
-/// A slot that opens.
-fn put_slot<'a, W: Write>(
+/// What the entry of an opened slot is for.
+fn put_slot_names<W: Write>(
     out: &mut TextWriter<'_, W>,
-    cluster: &'a Cluster,
-    names: &'a Names,
-    table: u16,
-    number: u16,
-    header: Option<u8>,
+    cluster: &Cluster,
+    names: &Names,
+    event: &Event,
 )
     ensures { Grows W.contents out.old out.new
-        (reply_line (slot_words cluster.now names.now table number header)) }
+        (flat_map spaced_word (slot_names cluster.now names.now event.now)) }
 {
-    let entry = line_at(cluster, table, number).entry;
-    out.put_byte(b'>');
-    put_words(
-        out,
-        &[
-            Word::Text("slot"),
-            table_word(cluster, table),
-            Word::Number(u64::from(number)),
-            word_of_header(header),
-            Word::Name(entry_name(names, entry)),
-        ],
-    );
-    put_member(out, names, sporadic_frame(cluster, entry, header));
-    out.put_byte(b'\n');
-}
-
-fn put_seen<W: Write>(out: &mut TextWriter<'_, W>, seen: &Seen)
-    ensures { Grows W.contents out.old out.new (reply_line (codes "seen" ∷ seen_words seen.now)) }
-{
-    let how = Word::Text(seen.look().word());
-    match seen {
-        Seen::Good(answer) => put_reply(
-            out,
-            &[Word::Text("seen"), how, Word::Hex(answer.as_slice())],
-        ),
-        _ => put_reply(out, &[Word::Text("seen"), how]),
+    if let Event::Slot {
+        table,
+        entry: number,
+        header,
+    } = event
+    {
+        let entry = line_at(cluster, *table, *number).entry;
+        put_words(out, &[Word::Name(entry_name(names, entry))]);
+        put_member(out, names, sporadic_frame(cluster, entry, *header));
     }
 }
 
-pub(crate) fn put_event<'a, W: Write>(
+pub(crate) fn put_event<W: Write>(
     out: &mut TextWriter<'_, W>,
-    cluster: &'a Cluster,
-    names: &'a Names,
-    event: &'a Event,
+    cluster: &Cluster,
+    names: &Names,
+    event: &Event,
 )
     ensures { Grows W.contents out.old out.new
         (reply_line (named_event cluster.now names.now event.now)) }
 {
-    match event {
-        Event::Accepted { host, number } => put_reply(
-            out,
-            &[
-                Word::Text("accepted"),
-                node_word(cluster, *host),
-                Word::Number(u64::from(*number)),
-            ],
-        ),
-        Event::Slot {
-            table,
-            entry,
-            header,
-        } => put_slot(out, cluster, names, *table, *entry, *header),
-        Event::Due { node } => put_reply(out, &[Word::Text("due"), node_word(cluster, *node)]),
-        Event::Put { node, answer } => put_reply(
-            out,
-            &[
-                Word::Text("put"),
-                node_word(cluster, *node),
-                Word::Hex(answer.as_slice()),
-            ],
-        ),
-        Event::Seen(seen) => put_seen(out, seen),
-        Event::Message { from, to, bytes } => put_reply(
-            out,
-            &[
-                Word::Text("message"),
-                node_word(cluster, *from),
-                node_word(cluster, *to),
-                Word::Hex(bytes.as_slice()),
-            ],
-        ),
-        Event::Sent { host, number } => put_reply(
-            out,
-            &[
-                Word::Text("sent"),
-                node_word(cluster, *host),
-                Word::Number(u64::from(*number)),
-            ],
-        ),
-        Event::Lost {
-            host,
-            number,
-            cause,
-        } => put_reply(
-            out,
-            &[
-                Word::Text("lost"),
-                node_word(cluster, *host),
-                Word::Number(u64::from(*number)),
-                Word::Text(cause.word()),
-            ],
-        ),
-        Event::Asleep => put_reply(out, &[Word::Text("asleep")]),
-    }
+    out.put_byte(b'>');
+    lin_log::put_event(out, cluster, event);
+    put_slot_names(out, cluster, names, event);
+    out.put_byte(b'\n');
 }
 
 /// The signals of a frame, with their values in data bytes.
@@ -347,7 +190,8 @@ fn put_transport_line<W: Write>(
     header: Option<u8>,
     answer: &[u8],
 )
-    ensures { Grows W.contents out.old out.new (transport_line cluster.now header answer.now) }
+    ensures { Grows W.contents out.old out.new
+        (line_or_none (transport cluster.now header answer.now)) }
 {
     match header {
         Some(0x3C) if byte_at(answer, 0) == 0 => {
@@ -368,7 +212,7 @@ fn put_good<W: Write>(
     answer: &Answer,
 )
     ensures { Grows W.contents out.old out.new
-        (good_line cluster.now names.now answer.now (slot_in slot.now)) }
+        (line_or_none (good_words cluster.now names.now answer.now (slot_in slot.now))) }
 {
     match slot.frame(cluster) {
         Some(frame) => put_frame(out, cluster, names, frame, answer),
@@ -385,7 +229,7 @@ fn put_behind<W: Write>(
     event: &Event,
 )
     ensures { Grows W.contents out.old out.new
-        (behind cluster.now names.now (option_map slot_in slot.now) event.now) }
+        (line_or_none (behind cluster.now names.now (option_map slot_in slot.now) event.now)) }
 {
     if let Event::Seen(Seen::Good(answer)) = event
         && let Some(slot) = slot
@@ -402,7 +246,7 @@ fn put_lines<W: Write>(
     event: &Event,
 )
     ensures { Grows W.contents out.old out.new
-        (event_lines cluster.now names.now (option_map slot_in slot.now) event.now) }
+        (event_text cluster.now names.now (option_map slot_in slot.now) event.now) }
 {
     put_event(out, cluster, names, event);
     put_behind(out, cluster, names, slot, event);
@@ -416,7 +260,7 @@ fn put_events<W: Write>(
     events: &[Event],
 )
     ensures { Grows W.contents out.old out.new
-        (flat_map (event_lines cluster.now names.now (option_map slot_in slot.now)) events.now) }
+        (flat_map (event_text cluster.now names.now (option_map slot_in slot.now)) events.now) }
 {
     for event in events {
         put_lines(out, cluster, names, slot, event);
@@ -441,7 +285,7 @@ fn put_refusal<W: Write>(out: &mut TextWriter<'_, W>, refusal: Refusal)
 
 /// After the lines of a finish, the time.
 fn put_time<W: Write>(out: &mut TextWriter<'_, W>, step: &Step, time: u64)
-    ensures { Grows W.contents out.old out.new (time_line step.now time) }
+    ensures { Grows W.contents out.old out.new (line_or_none (time_words step.now time)) }
 {
     if let Step::Finish = step {
         put_reply(out, &[Word::Text("time"), Word::Number(time)]);
@@ -474,9 +318,7 @@ impl Format for NamedLog<'_> {
         track: &Track,
         entry: &LogEntry,
     ) {
-        put_port(out, cluster, entry.port);
-        put_step(out, cluster, &entry.step);
-        out.put_byte(b'\n');
+        put_step_line(out, cluster, entry.port, &entry.step);
         match &entry.reply {
             Reply::Done(events) => {
                 put_events(out, cluster, self.names, track.slot(), events.as_slice());

@@ -1,13 +1,12 @@
 //! Lines as words with one space between two.
 
 ghost use Rattle.std.specs.Prelude.{◌≡◌, ◌∷◌, flat_map, map};
-ghost use Rattle.lin_log.specs.Words.{hex_word, reply_line, spaced_word, value_word};
+ghost use Rattle.lin_log.specs.Words.{reply_line, spaced_word, value_word};
 ghost use Rattle.lin_text.specs.Written.{Grows};
-ghost use Rattle.lin_export.specs.Named.{node_word, signal_word, table_word};
 ghost use Rattle.lin_export.specs.NamedWords.{word_shown};
 
-use lin_cluster_parts::Cluster;
 use lin_frame::Value;
+use lin_log::put_hex;
 use lin_text::TextWriter;
 use std::io::Write;
 
@@ -20,16 +19,6 @@ pub(crate) enum Word<'a> {
     Byte(u8),
     Hex(&'a [u8]),
     Array(&'a [u8]),
-}
-
-fn put_hex<W: Write>(out: &mut TextWriter<'_, W>, bytes: &[u8])
-    ensures { Grows W.contents out.old out.new (hex_word bytes.now) }
-{
-    if bytes.is_empty() {
-        out.put_byte(b'-');
-    } else {
-        out.put_hex(bytes);
-    }
 }
 
 pub(crate) fn put_word<W: Write>(out: &mut TextWriter<'_, W>, word: Word<'_>)
@@ -71,39 +60,6 @@ pub(crate) fn put_reply<W: Write>(out: &mut TextWriter<'_, W>, words: &[Word<'_>
     out.put_byte(b'>');
     put_words(out, words);
     out.put_byte(b'\n');
-}
-
-/// The name of a node, or the number where it is none's.
-pub(crate) fn node_word(cluster: &Cluster, node: u8) -> Word<'_>
-    ensures { word_shown result ≡ node_word cluster.now node }
-{
-    if (node as usize) < cluster.nodes() {
-        Word::Name(cluster.node_name(node))
-    } else {
-        Word::Number(u64::from(node))
-    }
-}
-
-/// The name of a signal, or the number where it is none's.
-pub(crate) fn signal_word(cluster: &Cluster, signal: u16) -> Word<'_>
-    ensures { word_shown result ≡ signal_word cluster.now signal }
-{
-    if (signal as usize) < cluster.signals() {
-        Word::Name(cluster.signal_name(signal))
-    } else {
-        Word::Number(u64::from(signal))
-    }
-}
-
-/// The name of a table, or the number where it is none's.
-pub(crate) fn table_word(cluster: &Cluster, table: u16) -> Word<'_>
-    ensures { word_shown result ≡ table_word cluster.now table }
-{
-    if (table as usize) < cluster.tables() {
-        Word::Name(cluster.table_name(table))
-    } else {
-        Word::Number(u64::from(table))
-    }
 }
 
 pub(crate) fn value_word(value: &Value) -> Word<'_>

@@ -27,7 +27,8 @@ use Rattle.lin_ldf.specs.declared.section.SectionWord.{SectionWord}
 use Rattle.lin_ldf.specs.declared.section.SectionWord.TheVariants as words_of
 use Rattle.lin_ldf.specs.declared.section.Sections.{Sections}
 use Rattle.lin_ldf.specs.declared.token.TokenKind.TheVariants.{Word}
-use Rattle.lin_laws.specs.NamedScripts.{AllNames, AreNames, is_name}
+use Rattle.lin_log.specs.Laws.{AreNames, is_name}
+use Rattle.lin_laws.specs.NamedScripts.{AllNames}
 use Rattle.lin_laws.proofs.LdfWords.{IsGood, tokens-good}
 
 -- the name of what is declared
@@ -309,7 +310,7 @@ word-at (n ∷ ns) h (suc i) less = word-at ns (All-tail is_name_so n ns h) i (o
 
 -- things that have these names, in order
 pub names-of_new : (names : List (List ℕ)) → AreNew [] names → (n : ℕ) (name_of : ℕ → List ℕ) → n ≡ length names
-    → ((k : ℕ) → name_of k ≡ get_or names k []) → AreNames n name_of
+    → ((k : ℕ) → name_of k ≡ get_or names k []) → AreNames (record { count = n; name = name_of })
 names-of_new names a n name_of long same = record {
   words = λ k less. rw (same k) (word-at names a.words k (omega arith));
   unlike = λ i k less few e. unlike-at [] names a.new i k (omega arith) (omega arith) (sym (same i) ∙ e ∙ same k);

@@ -13,9 +13,9 @@ use Rattle.lin_ldf.specs.Tokens as ldf
 use Rattle.lin_ldf.specs.declared.token.Token.{Token}
 use Rattle.lin_ldf.specs.declared.token.TokenKind.{TokenKind}
 use Rattle.lin_ldf.specs.declared.token.TokenKind.TheVariants.{Word}
-use Rattle.lin_bench.specs.Fields.{is_digit}
-use Rattle.lin_bench.proofs.PlainFields.{both}
-use Rattle.lin_laws.specs.NamedScripts.{all_visible, is_name}
+use Rattle.lin_log.specs.Said.{is_digit}
+use Rattle.lin_log.specs.Laws.{all_visible, is_name}
+use Rattle.lin_log.proofs.Items.{both}
 
 letter-begins : (b : ℕ) → is_letter b ≡ true → not (is_digit b || b == 35) ≡ true
 letter-begins b h = grind (arith, common_steps)

@@ -1,6 +1,4 @@
-pub mod NamedWords
-pub mod NamedSteps
-pub mod NamedReplies
+pub mod Replies
 pub mod NamedLogs
 pub mod LdfWords
 pub mod LdfNames

@@ -12,7 +12,9 @@ use Rattle.lin_cluster_parts.specs.declared.parts.Signal.{Signal}
 use Rattle.lin_cluster_parts.specs.declared.parts.Table.{Table}
 use Rattle.lin_cluster.specs.Described.{described_signal, described_table, parts_of, responder}
 use Rattle.lin_names.specs.Names.{names_of}
-use Rattle.lin_laws.specs.NamedScripts.{HasWordNames, NamedLogsOfTexts}
+use Rattle.lin_log.specs.Language.{named}
+use Rattle.lin_log.specs.Laws.{HasNames}
+use Rattle.lin_laws.specs.NamedScripts.{NamedLogsOfTexts}
 use Rattle.lin_laws.proofs.LdfNames.{DeclaresNames, name_text, names-of_new, signal_text, table_text, text-declares}
 use Rattle.lin_laws.proofs.NamedLogs.{named-logs}
 
@@ -37,7 +39,7 @@ node-count : (d : Description) → nodes (parts_of d) ≡ length (d.master.text 
 node-count d =
     omega (arith, length-map (enumerate_from 1 d.slaves) (responder d), length-enumerate_from 1 d.slaves, length-map d.slaves name_text)
 
-words-of_text : (d : Description) → DeclaresNames d → HasWordNames (parts_of d)
+words-of_text : (d : Description) → DeclaresNames d → HasNames (named (parts_of d))
 words-of_text d p = record {
   of_nodes = names-of_new (d.master.text ∷ map name_text d.slaves) p.of_nodes _ _ (node-count d) (node-name d);
   of_signals = names-of_new (map signal_text d.signals) p.of_signals _ _

@@ -1,26 +1,15 @@
 -- Lines as they are put, word by word and thing by thing.
 use Rattle.std.proofs.Common.{◌≡◌, ℕ, ◌+◌, ◌<◌, List, [], ◌∷◌, ◌++◌, Option, true, false, ◌==◌, length, get_or, take, map, flat_map, refl, sym, ap, ◌∙◌, append_assoc, append-nil, add-one, arith}
-use Rattle.std.proofs.lemmas.Bool.{eqb-true, eqb-false}
 use Rattle.std.proofs.lemmas.Grind.{flat_map-append}
 use Rattle.std.proofs.lemmas.List.{map-append, take_more}
 use Rattle.std.proofs.lemmas.Slice.Zip.{get_or-zip, length-zip}
 use Rattle.std.specs.Prelude.{zip}
-use Rattle.hex.specs.Hex.{encode_upper}
 use Rattle.lin_frame.specs.Words.{numbers}
 use Rattle.lin_frame.specs.declared.layout.Place.{Place}
-use Rattle.lin_log.specs.Words.{line_tail, hex_word, line, spaced_word}
+use Rattle.lin_log.specs.Words.{line_tail, line, spaced_word}
 use Rattle.lin_text.proofs.Growing.{grows-more, same-growth}
 use Rattle.lin_text.specs.Written.{Grows}
 use Rattle.lin_text.specs.declared.buffered.TextWriter.{TextWriter}
-
--- an array of no bytes, and one of some
-pub empty-word : (bytes : List ℕ) → (length bytes == 0) ≡ true → 120 ∷ 45 ∷ [] ≡ 120 ∷ hex_word bytes
-empty-word [] e = refl
-empty-word (b ∷ bs) e = let none : length (b ∷ bs) ≡ 0 = eqb-true (length (b ∷ bs)) 0 e in absurd (omega (arith, none))
-
-pub full-word : (bytes : List ℕ) → (length bytes == 0) ≡ false → 120 ∷ encode_upper bytes ≡ 120 ∷ hex_word bytes
-full-word [] e = absurd (eqb-false 0 0 e refl)
-full-word (b ∷ bs) e = refl
 
 -- words that end a line
 pub ended-flat : (ws : List (List ℕ)) → flat_map spaced_word ws ++ 10 ∷ [] ≡ line_tail ws

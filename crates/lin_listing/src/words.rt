@@ -6,6 +6,7 @@ ghost use Rattle.lin_text.specs.Written.{Grows};
 ghost use Rattle.lin_listing.specs.Shown.{word_text};
 ghost use Rattle.lin_listing.specs.declared.words.Word.TheVariants.{Identifier};
 
+use lin_log::put_hex;
 use lin_text::TextWriter;
 use std::io::Write;
 
@@ -23,12 +24,8 @@ pub(crate) enum Word<'a> {
 fn put_array<W: Write>(out: &mut TextWriter<'_, W>, bytes: &[u8])
     ensures { Grows W.contents out.old out.new (120 ∷ hex_word bytes.now) }
 {
-    if bytes.is_empty() {
-        out.put(b"x-");
-    } else {
-        out.put_byte(b'x');
-        out.put_hex(bytes);
-    }
+    out.put_byte(b'x');
+    put_hex(out, bytes);
 }
 
 fn put_identifier<W: Write>(out: &mut TextWriter<'_, W>, identifier: u8)

@@ -7,7 +7,9 @@ use Rattle.lin_core.specs.declared.log.LogEntry.{LogEntry}
 use Rattle.lin_core.specs.Runs.{entry_of, history}
 use Rattle.std.proofs.lemmas.List.{reverse-append, reverse-reverse}
 use Rattle.lin_log.specs.Replay.{log_of}
-use Rattle.lin_log.specs.Script.{with_prefix}
+use Rattle.lin_log.specs.Judged.{with_prefix}
+use Rattle.lin_log.specs.Said.{Steps, with_step}
+use Rattle.lin_log.specs.Script.{without_reason}
 
 pub prefixed-nothing : (r : Result (List (PortId × Step)) ℕ) → with_prefix [] r ≡ r
 prefixed-nothing (Ok xs) = refl
@@ -16,6 +18,11 @@ prefixed-nothing (Err e) = refl
 pub prefixed-more : (xs ys : List (PortId × Step)) (r : Result (List (PortId × Step)) ℕ) → with_prefix (xs ++ ys) r ≡ with_prefix xs (with_prefix ys r)
 prefixed-more xs ys (Ok zs) = ap Ok (append_assoc xs ys zs)
 prefixed-more xs ys (Err e) = refl
+
+-- the step of a line, before those of the lines after it
+pub step-first : (s : PortId × Step) (r : Steps) → without_reason (with_step s r) ≡ with_prefix (s ∷ []) (without_reason r)
+step-first s (Ok steps) = refl
+step-first s (Err bad) = refl
 
 -- the log of one step more
 pub log-more : (c : Parts) (opening capacity : ℕ) (steps : List (PortId × Step)) (s : PortId × Step) (log : List LogEntry) → log ≡ log_of c opening capacity steps

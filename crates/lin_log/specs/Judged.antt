@@ -1,5 +1,5 @@
 -- What the parts of reading a script answer.
-use Rattle.std.specs.Prelude.{◌≡◌, ℕ, ◌+◌, ◌==◌, List, [], ◌∷◌, length, Option, Some, None, Result}
+use Rattle.std.specs.Prelude.{◌≡◌, ℕ, ◌+◌, ◌==◌, List, [], ◌∷◌, ◌++◌, length, Option, Some, None, Result}
 use Rattle.std.specs.Prelude.{Ok, Err}
 use Rattle.std.specs.Borrow.{Bor}
 use Rattle.std.specs.List.{slice_split}
@@ -8,7 +8,9 @@ use Rattle.lin_core.specs.declared.step.Step.{Step}
 use Rattle.lin_cluster_parts.specs.declared.parts.Parts.{Parts}
 use Rattle.lin_core.specs.declared.log.LogEntry.{LogEntry}
 use Rattle.lin_log.specs.Replay.{log_of}
-use Rattle.lin_log.specs.Script.{steps_from, with_prefix}
+use Rattle.lin_log.specs.Language.{plain}
+use Rattle.lin_log.specs.Said.{steps_from}
+use Rattle.lin_log.specs.Script.{without_reason}
 use Rattle.lin_log.specs.declared.script.ScriptLines.{ScriptLines}
 use Rattle.lin_log.specs.declared.fault.ScriptFault.{ScriptFault}
 use Rattle.lin_log.specs.declared.fault.ScriptFault.TheVariants.{BadLine, TooLong, ReadFailed}
@@ -36,7 +38,12 @@ Judges view (Err e) r = JudgeFaults e r
 
 -- what the lines that are left say
 abbrev pub said : ScriptLines → Result (List (PortId × Step)) ℕ
-said lines = steps_from lines.number (lines_left lines.left)
+said lines = without_reason (steps_from plain lines.number (lines_left lines.left))
+
+abbrev pub with_prefix : {E : Type 0} → List (PortId × Step) → Result (List (PortId × Step)) E
+    → Result (List (PortId × Step)) E
+with_prefix xs (Ok ys) = Ok (xs ++ ys)
+with_prefix xs (Err e) = Err e
 
 -- what asking for the next step answers, where the lines said `old`; those after its line say `new`
 abbrev pub NextStep : Result (Option (PortId × Step)) ScriptFault → Result (List (PortId × Step)) ℕ

@@ -1,26 +1,13 @@
--- What a reader of one line answers, beside what the definition reads.
-use Rattle.std.specs.Prelude.{◌≡◌, ℕ, List, [], ◌∷◌, Option, Some, None, Result, Ok, Err}
-use Rattle.std.specs.Borrow.{Bor}
-use Rattle.lin_log.specs.Script.{fields}
-use Rattle.lin_log.specs.declared.fields.LineFault.{LineFault}
-use Rattle.lin_log.specs.declared.fields.LineFault.TheVariants.{Bad, OutOfMemory}
+-- What reading a part of a line answers, beside what the definition says.
+use Rattle.std.specs.Prelude.{◌≡◌, Result, Ok, Err}
+use Rattle.lin_log.specs.declared.reason.LineFault.{LineFault}
+use Rattle.lin_log.specs.declared.reason.LineFault.TheVariants.{Bad, OutOfMemory}
+use Rattle.lin_log.specs.declared.reason.Reason.{Reason}
 
-abbrev pub Fails : {Y : Type 0} → LineFault → Option Y → Type 0
+abbrev pub Fails : {Y : Type 0} → LineFault → Result Y Reason → Type 0
+Fails (Bad why) read = read ≡ Err why
 Fails OutOfMemory read = Unit {0}
-Fails Bad read = read ≡ None
 
-abbrev pub Gives : {X Y : Type 0} → (X → Y) → Result X LineFault → Option Y → Type 0
-Gives view (Ok x) read = read ≡ Some (view x)
+abbrev pub Gives : {X Y : Type 0} → (X → Y) → Result X LineFault → Result Y Reason → Type 0
+Gives view (Ok x) read = read ≡ Ok (view x)
 Gives view (Err e) read = Fails e read
-
--- the first field, and the rest of the line
-abbrev pub Takes : Result (Bor (List ℕ) × Bor (List ℕ)) LineFault → List (List ℕ) → Type 0
-Takes (Ok x) fs = fs ≡ x.0.now ∷ fields x.1.now
-Takes (Err Bad) fs = fs ≡ []
-Takes (Err OutOfMemory) fs = ⊥
-
--- no field is left, or some are
-abbrev pub EndsLine : Result Unit LineFault → List (List ℕ) → Type 0
-EndsLine (Ok x) fs = fs ≡ []
-EndsLine (Err Bad) fs = (f : List ℕ) × (rest : List (List ℕ)) × (fs ≡ f ∷ rest)
-EndsLine (Err OutOfMemory) fs = ⊥

@@ -1,5 +1,6 @@
--- The text of a log: entries as lines, lines as words.
-use Rattle.std.specs.Prelude.{ℕ, List, [], ◌∷◌, ◌++◌, Option, Some, None, codes, flat_map}
+-- The words of steps and replies, and the text of a log: entries as lines, lines as words.
+use Rattle.std.specs.Prelude.{ℕ, List, [], ◌∷◌, ◌++◌, Option, Some, None, codes, flat_map, map, nat_lt}
+use Rattle.std.specs.Prelude.{if◌then◌else◌}
 use Rattle.std.specs.Fmt.{decimal}
 use Rattle.std.specs.Option.{option_map_or}
 use Rattle.hex.specs.Hex.{encode_upper}
@@ -19,6 +20,7 @@ use Rattle.lin_core.specs.declared.event.Seen.{Seen}
 use Rattle.lin_core.specs.declared.reply.Reply.{Reply}
 use Rattle.lin_core.specs.declared.reply.Reply.TheVariants.{Done, Refused}
 use Rattle.lin_core.specs.declared.log.LogEntry.{LogEntry}
+use Rattle.lin_log.specs.Language.{Language, plain, word_of}
 
 -- a line: its words with one space between two, and LF
 abbrev pub spaced_word : List ℕ → List ℕ
@@ -37,32 +39,10 @@ abbrev pub hex_word : List ℕ → List ℕ
 hex_word [] = codes "-"
 hex_word (b ∷ bs) = encode_upper (b ∷ bs)
 
--- `bus`, `h` and a host's number, or `n` and a node's
-abbrev pub port_word : PortId → List ℕ
-port_word Bus = codes "bus"
-port_word (Host n) = 104 ∷ decimal n
-port_word (Node n) = 110 ∷ decimal n
-
 -- a scalar's number, or `x` and an array's bytes
 abbrev pub value_word : Value → List ℕ
 value_word (Scalar n) = decimal n
 value_word (Bytes bytes) = 120 ∷ hex_word bytes
-
--- what a step is called, and its parts
-abbrev pub step_words : Step → List (List ℕ)
-step_words (Send from to message) = codes "send" ∷ decimal from ∷ decimal to ∷ hex_word message ∷ []
-step_words (Write by signal value) =
-    codes "write" ∷ decimal by ∷ decimal signal ∷ value_word value ∷ []
-step_words Open = codes "open" ∷ []
-step_words (Answer node) = codes "answer" ∷ decimal node ∷ []
-step_words (Leave node) = codes "leave" ∷ decimal node ∷ []
-step_words (Hurt bytes) = codes "hurt" ∷ hex_word bytes ∷ []
-step_words Finish = codes "finish" ∷ []
-step_words (Timeout node dir) = codes "timeout" ∷ decimal node ∷ direction_word dir ∷ []
-step_words (Switch table) = codes "switch" ∷ decimal table ∷ []
-step_words AskSleep = codes "sleep" ∷ []
-step_words Wake = codes "wake" ∷ []
-step_words (Close host) = codes "close" ∷ decimal host ∷ []
 
 -- a header's protected identifier, and `-` for none
 abbrev pub header_word : Option ℕ → List ℕ
@@ -74,37 +54,70 @@ abbrev pub seen_words : Seen → List (List ℕ)
 seen_words s =
     look_word (look_of s) ∷ option_map_or (λ answer. hex_word answer ∷ []) (good_bytes s) []
 
+-- ---- words in a language
+-- `:` and a node's name, or the number of what has none
+abbrev pub port_number_word : Language → ℕ → List ℕ
+port_number_word l n = if nat_lt n l.nodes.count then 58 ∷ l.nodes.name n else decimal n
+
+abbrev pub port_word : Language → PortId → List ℕ
+port_word l Bus = codes "bus"
+port_word l (Host n) = 104 ∷ port_number_word l n
+port_word l (Node n) = 110 ∷ port_number_word l n
+
+-- what a step is called, and its parts
+abbrev pub step_words : Language → Step → List (List ℕ)
+step_words l (Send from to message) =
+    codes "send" ∷ word_of l.nodes from ∷ word_of l.nodes to ∷ hex_word message ∷ []
+step_words l (Write by signal value) =
+    codes "write" ∷ word_of l.nodes by ∷ word_of l.signals signal ∷ value_word value ∷ []
+step_words l Open = codes "open" ∷ []
+step_words l (Answer node) = codes "answer" ∷ word_of l.nodes node ∷ []
+step_words l (Leave node) = codes "leave" ∷ word_of l.nodes node ∷ []
+step_words l (Hurt bytes) = codes "hurt" ∷ hex_word bytes ∷ []
+step_words l Finish = codes "finish" ∷ []
+step_words l (Timeout node dir) = codes "timeout" ∷ word_of l.nodes node ∷ direction_word dir ∷ []
+step_words l (Switch table) = codes "switch" ∷ word_of l.tables table ∷ []
+step_words l AskSleep = codes "sleep" ∷ []
+step_words l Wake = codes "wake" ∷ []
+step_words l (Close host) = codes "close" ∷ word_of l.nodes host ∷ []
+
 -- what an event is called, and its parts
-abbrev pub event_words : Event → List (List ℕ)
-event_words (event.Accepted host number) = codes "accepted" ∷ decimal host ∷ decimal number ∷ []
-event_words (event.Slot table entry header) =
-    codes "slot" ∷ decimal table ∷ decimal entry ∷ header_word header ∷ []
-event_words (event.Due node) = codes "due" ∷ decimal node ∷ []
-event_words (event.Put node answer) = codes "put" ∷ decimal node ∷ hex_word answer ∷ []
-event_words (event.Seen s) = codes "seen" ∷ seen_words s
-event_words (event.Message from to bytes) =
-    codes "message" ∷ decimal from ∷ decimal to ∷ hex_word bytes ∷ []
-event_words (event.Sent host number) = codes "sent" ∷ decimal host ∷ decimal number ∷ []
-event_words (event.Lost host number why) =
-    codes "lost" ∷ decimal host ∷ decimal number ∷ cause_word why ∷ []
-event_words event.Asleep = codes "asleep" ∷ []
+abbrev pub event_words : Language → Event → List (List ℕ)
+event_words l (event.Accepted host number) =
+    codes "accepted" ∷ word_of l.nodes host ∷ decimal number ∷ []
+event_words l (event.Slot table entry header) =
+    codes "slot" ∷ word_of l.tables table ∷ decimal entry ∷ header_word header ∷ []
+event_words l (event.Due node) = codes "due" ∷ word_of l.nodes node ∷ []
+event_words l (event.Put node answer) = codes "put" ∷ word_of l.nodes node ∷ hex_word answer ∷ []
+event_words l (event.Seen s) = codes "seen" ∷ seen_words s
+event_words l (event.Message from to bytes) =
+    codes "message" ∷ word_of l.nodes from ∷ word_of l.nodes to ∷ hex_word bytes ∷ []
+event_words l (event.Sent host number) = codes "sent" ∷ word_of l.nodes host ∷ decimal number ∷ []
+event_words l (event.Lost host number why) =
+    codes "lost" ∷ word_of l.nodes host ∷ decimal number ∷ cause_word why ∷ []
+event_words l event.Asleep = codes "asleep" ∷ []
+
+-- what a reply is called, and its parts: each event, or the refusal
+abbrev pub reply_words : Language → Reply → List (List (List ℕ))
+reply_words l (Done events) = map (event_words l) events
+reply_words l (Refused r) = (codes "refused" ∷ decimal (refusal_number r) ∷ []) ∷ []
 
 -- the line of a step begins with its port, a line of a reply with `>`
-abbrev pub step_line : PortId → Step → List ℕ
-step_line port step = line (port_word port ∷ step_words step)
+abbrev pub step_line : Language → PortId → Step → List ℕ
+step_line l port step = line (port_word l port ∷ step_words l step)
 
 abbrev pub reply_line : List (List ℕ) → List ℕ
 reply_line words = line (codes ">" ∷ words)
 
--- a line per event, or the refusal
-unfoldable pub reply_text : Reply → List ℕ
-reply_text (Done events) = flat_map (λ e. reply_line (event_words e)) events
-reply_text (Refused r) = reply_line (codes "refused" ∷ decimal (refusal_number r) ∷ [])
+-- the text of a log in a language, the oldest entry first: each entry's step, and lines of replies,
+-- which may tell of the entries before
+abbrev pub log_text : Language → (LogEntry → List LogEntry → List (List (List ℕ)))
+    → List LogEntry → List LogEntry → List ℕ
+log_text l replies past [] = []
+log_text l replies past (e ∷ es) =
+    step_line l e.port e.step
+    ++ (flat_map reply_line (replies e past) ++ log_text l replies (e ∷ past) es)
 
--- an entry's step, then its reply
-unfoldable pub entry_text : LogEntry → List ℕ
-entry_text e = step_line e.port e.step ++ reply_text e.reply
-
--- the text of a log, the oldest entry first
+-- the text of a log by numbers: each entry's step, then a line for each event, or the refusal
 abbrev pub text : List LogEntry → List ℕ
-text entries = flat_map entry_text entries
+text entries = log_text plain (λ e past. reply_words plain e.reply) [] entries

@@ -1,151 +1,343 @@
-//! The forms of a script's lines.
+//! Lines of steps.
 
-ghost use Rattle.std.specs.Prelude.{ℕ, ◌∷◌};
-ghost use Rattle.std.specs.Option.{option_to_list};
+ghost use Rattle.std.specs.Prelude.{ℕ, ◌≡◌, ◌==◌, IfOk};
 ghost use Rattle.lin_core.specs.declared.step.Step.{Step};
+ghost use Rattle.lin_log.specs.declared.reason.LineFault.{LineFault};
+ghost use Rattle.lin_log.specs.declared.reason.Reason.{Reason};
 ghost use Rattle.lin_log.specs.Read.{Gives};
-ghost use Rattle.lin_log.specs.Script.{fields, form, hurt_form, line_steps, no_more, node_form};
-ghost use Rattle.lin_log.specs.Script.{port_step, send_form, switch_form, timeout_form, write_form};
+ghost use Rattle.lin_log.specs.Said.{alone, fields, hurt_form, is_port, line_says, node_form};
+ghost use Rattle.lin_log.specs.Said.{node_write, only, port, port_number, port_step, published_write};
+ghost use Rattle.lin_log.specs.Said.{send_form, step_after, step_form, switch_form};
+ghost use Rattle.lin_log.specs.Said.{timeout_form, write_form, write_of};
 
-use crate::fields::{
-    LineFault, direction_field, end_of_line, first_field, hex_field, index_field, next_field,
-    node_field, port, value_field,
+use crate::fields::{first_field, is_over, number_field};
+use crate::naming::Naming;
+use crate::reason::{LineFault, Reason};
+use crate::values::{
+    bytes_fields, direction_field, node_field, signal_field, table_field, value_field,
 };
 use lin_core::{PortId, Step};
-use std::alloc::Global;
+use lin_lists::Text;
+use std::alloc::{AllocError, Global};
 
-#[tactic(auto, unfolding(crate::specs::Script::send_form))]
-fn send(alloc: Global, line: &[u8]) -> Result<Step, LineFault>
-    ensures { Gives (λ x. x) result (send_form (fields line.now)) }
+/// Whether a line's first field is a port: `bus`, or `h` or `n` with a digit or `:` after it.
+pub fn is_port(field: &[u8]) -> bool
+    ensures { result ≡ is_port field.now }
 {
-    let (from, rest) = node_field(line)?;
-    let (to, rest) = node_field(rest)?;
-    let (message, rest) = hex_field(alloc, rest)?;
-    end_of_line(rest)?;
-    Ok(Step::Send { from, to, message })
+    matches!(field, b"bus" | [b'h' | b'n', b'0'..=b'9' | b':', ..])
 }
 
-#[tactic(auto, unfolding(crate::specs::Script::write_form))]
-fn write(alloc: Global, line: &[u8]) -> Result<Step, LineFault>
-    ensures { Gives (λ x. x) result (write_form (fields line.now)) }
+/// The node of a port, by its number, or after `:` by its name.
+fn port_number<N: Naming>(alloc: Global, names: &N, field: &[u8]) -> Result<u8, LineFault>
+    ensures { Gives (λ n. n) result (port_number (N.language names.now) field.now) }
 {
-    let (by, rest) = node_field(line)?;
-    let (signal, rest) = index_field(rest)?;
-    match value_field(alloc, rest) {
-        Err(fault) => Err(fault),
-        Ok((value, rest)) => {
-            end_of_line(rest)?;
-            Ok(Step::Write { by, signal, value })
-        }
+    match field {
+        [b':', name @ ..] => match names.node_called(name) {
+            Some(node) => Ok(node),
+            None => Err(LineFault::Bad(Reason::NoNode(Text::copied(alloc, name)?))),
+        },
+        _ => Ok(number_field(alloc, field, 255)? as u8),
     }
 }
 
-#[tactic(auto, unfolding(crate::specs::Script::hurt_form))]
-fn hurt(alloc: Global, line: &[u8]) -> Result<Step, LineFault>
-    ensures { Gives (λ x. x) result (hurt_form (fields line.now)) }
+/// A port.
+#[tactic(auto, unfolding(crate::specs::Said::port))]
+fn port<N: Naming>(alloc: Global, names: &N, field: &[u8]) -> Result<PortId, LineFault>
+    ensures { Gives (λ p. p) result (port (N.language names.now) field.now) }
 {
-    let (bytes, rest) = hex_field(alloc, line)?;
-    end_of_line(rest)?;
-    Ok(Step::Hurt { bytes })
+    if field == b"bus".as_slice() {
+        return Ok(PortId::Bus);
+    }
+    match field {
+        [b'h', number @ ..] => Ok(PortId::Host(port_number(alloc, names, number)?)),
+        [_, number @ ..] => Ok(PortId::Node(port_number(alloc, names, number)?)),
+        [] => Ok(PortId::Node(port_number(alloc, names, field)?)),
+    }
 }
 
-#[tactic(auto, unfolding(crate::specs::Script::timeout_form))]
-fn timeout(line: &[u8]) -> Result<Step, LineFault>
-    ensures { Gives (λ x. x) result (timeout_form (fields line.now)) }
+#[tactic(auto, unfolding(crate::specs::Said::send_form))]
+fn send<N: Naming>(alloc: Global, names: &N, line: &[u8]) -> Result<Step, LineFault>
+    ensures { Gives (λ s. s) result
+        (send_form (N.language names.now) (fields (N.language names.now).free line.now)) }
 {
-    let (node, rest) = node_field(line)?;
-    let (dir, rest) = direction_field(rest)?;
-    end_of_line(rest)?;
-    Ok(Step::Timeout { node, dir })
+    let Some((from, rest)) = first_field(names, line) else {
+        return Err(LineFault::Bad(Reason::SendForm));
+    };
+    let Some((to, rest)) = first_field(names, rest) else {
+        return Err(LineFault::Bad(Reason::SendForm));
+    };
+    if is_over(names, rest) {
+        return Err(LineFault::Bad(Reason::SendForm));
+    }
+    let from = node_field(alloc, names, from)?;
+    let to = node_field(alloc, names, to)?;
+    Ok(Step::Send {
+        from,
+        to,
+        message: bytes_fields(alloc, names, rest)?,
+    })
 }
 
-#[tactic(auto, unfolding(crate::specs::Script::switch_form))]
-fn switch(line: &[u8]) -> Result<Step, LineFault>
-    ensures { Gives (λ x. x) result (switch_form (fields line.now)) }
+/// The write of a value, by its field.
+fn written<N: Naming>(
+    alloc: Global,
+    names: &N,
+    by: u8,
+    signal: u16,
+    value: &[u8],
+) -> Result<Step, LineFault>
+    ensures { Gives (λ s. s) result (write_of (N.language names.now) by signal value.now) }
 {
-    let (table, rest) = index_field(line)?;
-    end_of_line(rest)?;
-    Ok(Step::Switch { table })
+    Ok(Step::Write {
+        by,
+        signal,
+        value: value_field(alloc, names, value)?,
+    })
 }
 
-/// The number of a node or a host, as the only field.
-#[tactic(auto, unfolding(crate::specs::Script::node_form))]
-fn only_node(line: &[u8]) -> Result<u8, LineFault>
-    ensures { (step : ℕ → Step) → Gives step result (node_form step (fields line.now)) }
+/// The write of a value by a node, by their fields.
+fn node_write<N: Naming>(
+    alloc: Global,
+    names: &N,
+    by: &[u8],
+    signal: &[u8],
+    value: &[u8],
+) -> Result<Step, LineFault>
+    ensures { Gives (λ s. s) result
+        (node_write (N.language names.now) by.now signal.now value.now) }
 {
-    let (node, rest) = node_field(line)?;
-    end_of_line(rest)?;
-    Ok(node)
+    let by = node_field(alloc, names, by)?;
+    let signal = signal_field(alloc, names, signal)?;
+    written(alloc, names, by, signal, value)
 }
 
-/// The step, where no field is left.
-fn alone(line: &[u8], step: Step) -> Result<Step, LineFault>
-    ensures { Gives (λ x. x) result (no_more step (fields line.now)) }
+/// The write of a value by the signal's publisher, by their fields, in a free line.
+fn published<N: Naming>(
+    alloc: Global,
+    names: &N,
+    signal: &[u8],
+    value: &[u8],
+) -> Result<Step, LineFault>
+    ensures { Gives (λ s. s) result
+        (published_write (N.language names.now) signal.now value.now) }
 {
-    end_of_line(line)?;
-    Ok(step)
+    if !names.is_free() {
+        return Err(LineFault::Bad(Reason::WriteForm));
+    }
+    let signal = signal_field(alloc, names, signal)?;
+    written(alloc, names, names.publisher_of(signal), signal, value)
+}
+
+#[tactic(auto, unfolding(crate::specs::Said::write_form))]
+fn write<N: Naming>(alloc: Global, names: &N, line: &[u8]) -> Result<Step, LineFault>
+    ensures { Gives (λ s. s) result
+        (write_form (N.language names.now) (fields (N.language names.now).free line.now)) }
+{
+    let Some((first, rest)) = first_field(names, line) else {
+        return Err(LineFault::Bad(Reason::WriteForm));
+    };
+    let Some((second, rest)) = first_field(names, rest) else {
+        return Err(LineFault::Bad(Reason::WriteForm));
+    };
+    let Some((third, rest)) = first_field(names, rest) else {
+        return published(alloc, names, first, second);
+    };
+    if is_over(names, rest) {
+        node_write(alloc, names, first, second, third)
+    } else {
+        Err(LineFault::Bad(Reason::WriteForm))
+    }
+}
+
+#[tactic(auto, unfolding(crate::specs::Said::hurt_form))]
+fn hurt<N: Naming>(alloc: Global, names: &N, line: &[u8]) -> Result<Step, LineFault>
+    ensures { Gives (λ s. s) result
+        (hurt_form (N.language names.now) (fields (N.language names.now).free line.now)) }
+{
+    Ok(Step::Hurt {
+        bytes: bytes_fields(alloc, names, line)?,
+    })
+}
+
+/// After this word stand so many fields, and here there are more or less.
+fn takes(alloc: Global, word: &[u8], fields: u8) -> Result<LineFault, AllocError>
+    ensures { IfOk result (λ fault. fault ≡ LineFault.Bad (Reason.Takes word.now fields)) }
+{
+    Ok(LineFault::Bad(Reason::Takes {
+        word: Text::copied(alloc, word)?,
+        fields,
+    }))
+}
+
+#[tactic(auto, unfolding(crate::specs::Said::timeout_form))]
+fn timeout<N: Naming>(alloc: Global, names: &N, word: &[u8], line: &[u8]) -> Result<Step, LineFault>
+    ensures { Gives (λ s. s) result (timeout_form (N.language names.now) word.now
+        (fields (N.language names.now).free line.now)) }
+{
+    let Some((node, rest)) = first_field(names, line) else {
+        return Err(takes(alloc, word, 2)?);
+    };
+    let Some((dir, rest)) = first_field(names, rest) else {
+        return Err(takes(alloc, word, 2)?);
+    };
+    if !is_over(names, rest) {
+        return Err(takes(alloc, word, 2)?);
+    }
+    let node = node_field(alloc, names, node)?;
+    Ok(Step::Timeout {
+        node,
+        dir: direction_field(dir)?,
+    })
+}
+
+/// The only field of a line.
+fn only_field<'a, N: Naming>(
+    alloc: Global,
+    names: &N,
+    word: &[u8],
+    line: &'a [u8],
+) -> Result<&'a [u8], LineFault>
+    ensures { Gives (λ f. f.now) result
+        (only word.now (fields (N.language names.now).free line.now)) }
+{
+    match first_field(names, line) {
+        Some((field, rest)) if is_over(names, rest) => Ok(field),
+        _ => Err(takes(alloc, word, 1)?),
+    }
+}
+
+#[tactic(auto, unfolding(crate::specs::Said::switch_form))]
+fn switch<N: Naming>(alloc: Global, names: &N, word: &[u8], line: &[u8]) -> Result<Step, LineFault>
+    ensures { Gives (λ s. s) result (switch_form (N.language names.now) word.now
+        (fields (N.language names.now).free line.now)) }
+{
+    let field = only_field(alloc, names, word, line)?;
+    Ok(Step::Switch {
+        table: table_field(alloc, names, field)?,
+    })
+}
+
+/// The node of a step that takes one.
+#[tactic(auto, unfolding(crate::specs::Said::node_form))]
+fn only_node<N: Naming>(alloc: Global, names: &N, word: &[u8], line: &[u8]) -> Result<u8, LineFault>
+    ensures { (step : ℕ → Step) → Gives step result (node_form (N.language names.now) step word.now
+        (fields (N.language names.now).free line.now)) }
+{
+    let field = only_field(alloc, names, word, line)?;
+    node_field(alloc, names, field)
+}
+
+/// The step, where no field stands after its word.
+#[tactic(auto, unfolding(crate::specs::Said::alone))]
+fn alone<N: Naming>(
+    alloc: Global,
+    names: &N,
+    step: Step,
+    word: &[u8],
+    line: &[u8],
+) -> Result<Step, LineFault>
+    ensures { Gives (λ s. s) result
+        (alone step word.now (fields (N.language names.now).free line.now)) }
+{
+    if is_over(names, line) {
+        Ok(step)
+    } else {
+        Err(takes(alloc, word, 0)?)
+    }
 }
 
 /// The step that a word names, with the rest of its line.
-#[tactic(auto, unfolding(crate::specs::Script::form))]
-fn form(alloc: Global, word: &[u8], rest: &[u8]) -> Result<Step, LineFault>
-    ensures { Gives (λ x. x) result (form word.now (fields rest.now)) }
+#[tactic(auto, unfolding(crate::specs::Said::step_form))]
+pub fn step<N: Naming>(
+    alloc: Global,
+    names: &N,
+    word: &[u8],
+    rest: &[u8],
+) -> Result<Step, LineFault>
+    ensures { Gives (λ s. s) result (step_form (N.language names.now) word.now
+        (fields (N.language names.now).free rest.now)) }
 {
     if word == b"send".as_slice() {
-        send(alloc, rest)
+        send(alloc, names, rest)
     } else if word == b"write".as_slice() {
-        write(alloc, rest)
+        write(alloc, names, rest)
     } else if word == b"open".as_slice() {
-        alone(rest, Step::Open)
+        alone(alloc, names, Step::Open, word, rest)
     } else if word == b"answer".as_slice() {
         Ok(Step::Answer {
-            node: only_node(rest)?,
+            node: only_node(alloc, names, word, rest)?,
         })
     } else if word == b"leave".as_slice() {
         Ok(Step::Leave {
-            node: only_node(rest)?,
+            node: only_node(alloc, names, word, rest)?,
         })
     } else if word == b"hurt".as_slice() {
-        hurt(alloc, rest)
+        hurt(alloc, names, rest)
     } else if word == b"finish".as_slice() {
-        alone(rest, Step::Finish)
+        alone(alloc, names, Step::Finish, word, rest)
     } else if word == b"timeout".as_slice() {
-        timeout(rest)
+        timeout(alloc, names, word, rest)
     } else if word == b"switch".as_slice() {
-        switch(rest)
+        switch(alloc, names, word, rest)
     } else if word == b"sleep".as_slice() {
-        alone(rest, Step::AskSleep)
+        alone(alloc, names, Step::AskSleep, word, rest)
     } else if word == b"wake".as_slice() {
-        alone(rest, Step::Wake)
+        alone(alloc, names, Step::Wake, word, rest)
     } else if word == b"close".as_slice() {
         Ok(Step::Close {
-            host: only_node(rest)?,
+            host: only_node(alloc, names, word, rest)?,
         })
     } else {
-        Err(LineFault::Bad)
+        Err(LineFault::Bad(Reason::UnknownStep(Text::copied(alloc, word)?)))
     }
 }
 
-/// A step of the port that a word names.
-#[tactic(auto, unfolding(crate::specs::Script::port_step))]
-fn port_step(alloc: Global, word: &[u8], rest: &[u8]) -> Result<(PortId, Step), LineFault>
-    ensures { Gives (λ x. x) result (port_step (word.now ∷ fields rest.now)) }
+/// The step of a port.
+fn step_after<N: Naming>(alloc: Global, names: &N, line: &[u8]) -> Result<Step, LineFault>
+    ensures { Gives (λ s. s) result
+        (step_after (N.language names.now) (fields (N.language names.now).free line.now)) }
 {
-    let by = port(word)?;
-    let (word, rest) = next_field(rest)?;
-    Ok((by, form(alloc, word, rest)?))
+    match first_field(names, line) {
+        None => Err(LineFault::Bad(Reason::NoStep)),
+        Some((word, rest)) => step(alloc, names, word, rest),
+    }
+}
+
+/// A step of the port that a word names, with the rest of its line.
+#[tactic(auto, unfolding(crate::specs::Said::port_step))]
+pub fn port_step<N: Naming>(
+    alloc: Global,
+    names: &N,
+    word: &[u8],
+    rest: &[u8],
+) -> Result<(PortId, Step), LineFault>
+    ensures { Gives (λ s. s) result (port_step (N.language names.now) word.now
+        (fields (N.language names.now).free rest.now)) }
+{
+    let by = port(alloc, names, word)?;
+    Ok((by, step_after(alloc, names, rest)?))
 }
 
 /// The step of a line without its end; none where the line says nothing.
-#[tactic(auto, unfolding(crate::specs::Script::line_steps))]
-pub(crate) fn line_step(alloc: Global, line: &[u8]) -> Result<Option<(PortId, Step)>, LineFault>
-    ensures { Gives (λ o. option_to_list o) result (line_steps line.now) }
+#[tactic(auto, unfolding(crate::specs::Said::line_says))]
+pub fn line_step<N: Naming>(
+    alloc: Global,
+    names: &N,
+    line: &[u8],
+) -> Result<Option<(PortId, Step)>, LineFault>
+    ensures { Gives (λ o. o) result (line_says (N.language names.now) line.now) }
 {
     if let [b'#' | b'>', ..] = line {
         return Ok(None);
     }
-    match first_field(line) {
+    match first_field(names, line) {
         None => Ok(None),
-        Some((word, rest)) => Ok(Some(port_step(alloc, word, rest)?)),
+        Some((word, rest)) => {
+            if is_port(word) {
+                Ok(Some(port_step(alloc, names, word, rest)?))
+            } else {
+                Err(LineFault::Bad(Reason::NoPort))
+            }
+        }
     }
 }

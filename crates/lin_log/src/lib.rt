@@ -1,4 +1,5 @@
-//! Scripts of steps, the text of logs, and replays of the one that write the other.
+//! Lines of steps, read and written in a language: by numbers alone, or with the names of a cluster;
+//! scripts of steps by numbers, the text of logs, and replays of the one that write the other.
 //!
 //! ```
 //! // reads a script, makes its steps from table 0 on, and writes the log
@@ -10,15 +11,28 @@ mod entries;
 mod fault;
 mod fields;
 mod forms;
+mod law;
+mod naming;
+mod reason;
 mod replaying;
 mod script;
 mod steps;
-mod words;
+mod values;
+mod writing;
 
-pub use entries::write_log;
+pub use entries::{put_event_line, put_step_line, write_log};
 pub use fault::{ReplayFault, ScriptFault};
-pub use fields::number;
+pub use fields::{copied, first_field, is_number, is_over, number, number_field};
+pub use forms::{is_port, line_step, port_step, step};
+pub use law::{logs_say_their_steps, numbers_say_the_same};
 pub use lin_text::WriteFailed;
+pub use naming::{Naming, Numbers};
+pub use reason::{LineFault, Reason};
 pub use replaying::{make_step, replay, run_script};
 pub use script::{first_line, read_bytes, read_script, without_return};
 pub use steps::steps_of;
+pub use values::{bytes_fields, node_field, signal_field, table_field, value_field};
+pub use writing::{
+    put_bytes, put_event, put_hex, put_node, put_number, put_port, put_signal, put_step, put_table,
+    put_value, put_word,
+};

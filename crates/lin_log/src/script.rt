@@ -9,8 +9,9 @@ ghost use Rattle.lin_log.specs.Replay.{ReadsBytes, ReadsScript};
 ghost use Rattle.lin_log.specs.Script.{script};
 
 use crate::fault::ScriptFault;
-use crate::fields::LineFault;
 use crate::forms::line_step;
+use crate::naming::Numbers;
+use crate::reason::LineFault;
 use lin_core::{PortId, Step};
 use lin_text::{ReadFault, read_whole};
 use std::alloc::Global;
@@ -63,7 +64,7 @@ pub(crate) struct ScriptLines<'a> {
 }
 
 impl<'a> ScriptLines<'a> {
-    #[tactic(auto, unfolding(crate::specs::Script::script))]
+    #[tactic(auto, unfolding(crate::specs::Script::script, crate::specs::Said::text_says))]
     pub(crate) fn new(bytes: &'a [u8]) -> ScriptLines<'a>
         ensures said { said result ≡ script bytes.now }
         ensures first { result.number ≡ 1 }
@@ -89,8 +90,8 @@ impl<'a> ScriptLines<'a> {
             let number = self.number;
             self.left = rest;
             self.number = number + 1;
-            match line_step(alloc, without_return(line)) {
-                Err(LineFault::Bad) => return Err(ScriptFault::BadLine { line: number }),
+            match line_step(alloc, &Numbers, without_return(line)) {
+                Err(LineFault::Bad(_)) => return Err(ScriptFault::BadLine { line: number }),
                 Err(LineFault::OutOfMemory) => return Err(ScriptFault::OutOfMemory),
                 Ok(None) => {}
                 Ok(step) => return Ok(step),

@@ -4,6 +4,7 @@ use crate::explaining::{put_line, put_shown};
 use lin_bench::Reason;
 use lin_cluster_parts::Cluster;
 use lin_core::{Listed, Refusal};
+use lin_log::Reason as StepReason;
 use std::alloc::{AllocError, Global};
 use strsim::generic_levenshtein;
 
@@ -116,11 +117,13 @@ pub(crate) fn put_bad_bench_line(
 ) -> Result<(), AllocError> {
     put_line(out, script, line)?;
     match reason {
-        Reason::NoNode(name) => put_nodes(alloc, out, cluster, name.as_slice()),
-        Reason::NoSignal(name) => put_signals(alloc, out, cluster, name.as_slice()),
-        Reason::NoTable(name) => put_tables(alloc, out, cluster, name.as_slice()),
+        Reason::Step(StepReason::NoNode(name)) => put_nodes(alloc, out, cluster, name.as_slice()),
+        Reason::Step(StepReason::NoSignal(name)) => {
+            put_signals(alloc, out, cluster, name.as_slice())
+        }
+        Reason::Step(StepReason::NoTable(name)) => put_tables(alloc, out, cluster, name.as_slice()),
         Reason::NoRefusal(name) => put_refusals(alloc, out, name.as_slice()),
-        Reason::UnknownStep(word) => put_words(alloc, out, word.as_slice()),
+        Reason::Step(StepReason::UnknownStep(word)) => put_words(alloc, out, word.as_slice()),
         Reason::ExpectForm | Reason::UnknownExpectation(_) => {
             writeln!(out, "  expect takes {EXPECTATIONS}")
         }

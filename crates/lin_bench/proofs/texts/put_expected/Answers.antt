@@ -2,26 +2,27 @@ use Rattle.lin_text.proofs.Growing.{grows-more}
 use Rattle.lin_bench.proofs.texts.put_expected.Goals as goal
 
 pub returns-in-Signal : goal.returns-in-Signal
-returns-in-Signal g c = rw c.in-Signal.is
-    (grows-more c.put_text.ensures (grows-more c.put_node.ensures
-    (grows-more (grows-more c.put_byte.ensures c.put_signal.ensures) (grows-more c.put_byte-in-Signal.ensures c.put_value.ensures))))
+returns-in-Signal g c = rw c.in-Signal.is (grows-more c.put_text.ensures (grows-more c.put_node.ensures (grows-more c.put_signal.ensures c.put_value.ensures)))
 
 pub returns-in-Waiting : goal.returns-in-Waiting
-returns-in-Waiting g c = rw c.in-Waiting.is
-    (grows-more c.put_text-in-Waiting.ensures (grows-more c.put_node-in-Waiting.ensures (rw c.from.ensures at c.put_spaced_number.ensures)))
+returns-in-Waiting g c = rw c.in-Waiting.is (grows-more c.put_text-in-Waiting.ensures (grows-more c.put_node-in-Waiting.ensures c.put_number.ensures))
 
 pub returns-in-Message : goal.returns-in-Message
 returns-in-Message g c = rw c.in-Message.is
-    (grows-more c.put_text-in-Message.ensures (grows-more c.put_node-in-Message.ensures
-    (grows-more (grows-more c.put_byte-in-Message.ensures c.put_node-in-Message-2.ensures)
-    (grows-more c.put_byte-in-Message-2.ensures (rw c.as_slice.ensures at c.put_bytes.ensures)))))
+    (grows-more c.put_text-in-Message.ensures (grows-more c.put_node-in-Message.ensures (grows-more c.put_node-in-Message-2.ensures (rw c.as_slice.ensures at c.put_bytes.ensures))))
 
 pub returns-in-Sent : goal.returns-in-Sent
 returns-in-Sent g c = rw c.in-Sent.is (grows-more c.put_text-in-Sent.ensures c.put_node-in-Sent.ensures)
 
 pub returns-in-Lost : goal.returns-in-Lost
 returns-in-Lost g c = rw c.in-Lost.is
-    (grows-more c.put_text-in-Lost.ensures (grows-more c.put_node-in-Lost.ensures (rw (c.as_bytes.ensures.value, c.word.ensures) at c.put_spaced.ensures)))
+    (grows-more c.put_text-in-Lost.ensures (grows-more c.put_node-in-Lost.ensures (rw c.word.ensures at c.put_word.ensures)))
+
+pub returns-in-Seen : goal.returns-in-Seen
+returns-in-Seen g c = rw c.in-Seen.is (grows-more c.put_text-in-Seen.ensures (rw c.word-in-Seen.ensures at c.put_word-in-Seen.ensures))
 
 pub returns-in-Slot : goal.returns-in-Slot
-returns-in-Slot g c = rw c.in-Slot.is (grows-more c.put_text-in-Slot.ensures c.put_entry.ensures)
+returns-in-Slot g c = rw c.in-Slot.is (grows-more c.put_text-in-Slot.ensures (grows-more c.put_table.ensures c.put_number-in-Slot.ensures))
+
+pub returns-in-Refused : goal.returns-in-Refused
+returns-in-Refused g c = rw c.in-Refused.is (grows-more c.put_text-in-Refused.ensures (rw c.word-in-Refused.ensures at c.put_word-in-Refused.ensures))

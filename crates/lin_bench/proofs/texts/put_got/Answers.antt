@@ -6,7 +6,13 @@ returns-in-Sent g c = rw c.in-Sent.is (grows-more c.put_text.ensures (grows-more
 
 pub returns-in-Lost : goal.returns-in-Lost
 returns-in-Lost g c = rw c.in-Lost.is
-    (grows-more c.put_text-in-Lost.ensures (grows-more c.put_number-in-Lost.ensures (rw (c.as_bytes.ensures.value, c.word.ensures) at c.put_after.ensures)))
+    (grows-more c.put_text-in-Lost.ensures (grows-more c.put_number-in-Lost.ensures (grows-more c.put_text-in-Lost-2.ensures (rw c.word.ensures at c.put_word.ensures))))
+
+pub returns-in-Slot : goal.returns-in-Slot
+returns-in-Slot g c = rw c.in-Slot.is (grows-more c.put_table.ensures c.put_number-in-Slot.ensures)
+
+pub returns-in-Refused : goal.returns-in-Refused
+returns-in-Refused g c = rw c.in-Refused.is (grows-more c.put_text-in-Refused.ensures (rw c.word-in-Refused.ensures at c.put_word-in-Refused.ensures))
 
 pub returns-in-NoNode : goal.returns-in-NoNode
 returns-in-NoNode g c = rw c.in-NoNode.is c.put_text-in-NoNode.ensures

@@ -1,4 +1,14 @@
+use Rattle.std.proofs.Common.{ap, ◌∷◌, List, ℕ}
+use Rattle.lin_log.specs.Language.{named}
+use Rattle.lin_log.specs.Words.{event_words}
+use Rattle.lin_text.proofs.Growing.{grows-more, same-growth}
+use Rattle.lin_export.specs.Named.{slot_names}
+use Rattle.lin_export.proofs.Lines.{ended-both}
 use Rattle.lin_export.proofs.named.put_event.Goals as goal
 
-pub returns-in-Accepted : goal.returns-in-Accepted
-returns-in-Accepted g c = rw c.in-Accepted.is (rw (c.node_word.ensures, c.from.ensures) at c.put_reply.ensures)
+pub returns : goal.returns
+returns g c =
+    let x = c.args.cluster.now in
+    let e = c.args.event.now in
+    same-growth (ap (λ l. 62 ∷ l) (ended-both (event_words (named x) e) (slot_names x c.args.names.now e)))
+    (grows-more c.put_byte.ensures (grows-more c.put_event.ensures (grows-more c.put_slot_names.ensures c.put_byte-2.ensures)))

@@ -1,8 +1,13 @@
-use Rattle.std.proofs.Common.{[], append-nil}
-use Rattle.lin_export.specs.Named.{named_entry}
+use Rattle.std.proofs.Common.{[], append-nil, ◌∙◌}
+use Rattle.lin_export.specs.NamedWords.{named_entry}
 use Rattle.lin_export.specs.Telling.{each_entry}
+use Rattle.lin_export.proofs.Lines.{log-entries}
 use Rattle.lin_export.proofs.Puttings.{written-same}
 use Rattle.lin_export.proofs.named.write_named.Goals as goal
 
 pub returns : goal.returns
-returns g c = written-same (append-nil (each_entry (named_entry c.args.cluster.now c.args.names.now) [] c.args.log.now.entries)) c.write_as.ensures
+returns g c =
+    let x = c.args.cluster.now in
+    let names = c.args.names.now in
+    let log = c.args.log.now.entries in
+    written-same (append-nil (each_entry (named_entry x names) [] log) ∙ log-entries x names [] log) c.write_as.ensures

@@ -1,7 +1,7 @@
 use Rattle.std.proofs.Common.{◌≡◌, sym, ◌∙◌, None, arith}
 use Rattle.std.proofs.lemmas.Grind.{common_steps}
-use Rattle.lin_log.specs.Script.{number_after}
-use Rattle.lin_log.proofs.FieldLemmas.{after-bad}
+use Rattle.lin_log.specs.Said.{number_after}
+use Rattle.lin_log.proofs.Lines.{after-bad}
 use Rattle.lin_log.proofs.fields.number.Goals as goal
 
 pub returns-then-not-is_ascii_digit : goal.returns-then-not-is_ascii_digit

@@ -1,5 +1,5 @@
 use Rattle.std.proofs.Common.{◌≡◌, ◌^◌, ◌<◌, drop, length, ◌≤◌}
-use Rattle.lin_log.specs.Script.{number_after}
+use Rattle.lin_log.specs.Said.{number_after}
 use Rattle.lin_log.proofs.fields.number.Given as goal
 
 abbrev pub invariant-loop-c : goal.invariant-loop-c

@@ -3,7 +3,7 @@ use Rattle.std.proofs.lemmas.Grind.{common_steps}
 use Rattle.lin_core.specs.declared.port.PortId.{PortId}
 use Rattle.lin_core.specs.declared.step.Step.{Step}
 use Rattle.lin_core.specs.Core.{answered}
-use Rattle.lin_log.specs.Script.{with_prefix}
+use Rattle.lin_log.specs.Judged.{with_prefix}
 use Rattle.lin_log.proofs.Judging.{log-more, prefixed-more, prefixed-nothing}
 use Rattle.lin_log.proofs.replaying.make_steps.Goals as goal
 

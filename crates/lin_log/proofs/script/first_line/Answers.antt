@@ -1,7 +1,7 @@
 use Rattle.std.proofs.Common.{◌≡◌, ◌==◌, ◌+◌, ◌<◌, subst, ◌∙◌, sym, ap, arith, ℕ, take, length, false, ◌∷◌, List}
 use Rattle.std.specs.List.{All, slice_split}
 use Rattle.std.proofs.lemmas.Grind.{common_steps}
-use Rattle.lin_log.proofs.FieldLemmas.{lines-one, lines-cut, slice-rest}
+use Rattle.lin_log.proofs.Lines.{lines-one, lines-cut, slice-rest}
 use Rattle.lin_log.proofs.script.first_line.Goals as goal
 
 pub returns-then-end-text-clause-lines : goal.returns-then-end-text-clause-lines

@@ -1,5 +1,6 @@
 use Rattle.std.proofs.Common.{◌≡◌, ◌+◌, ◌≤◌, length}
-use Rattle.lin_log.specs.Script.{with_prefix, script}
+use Rattle.lin_log.specs.Judged.{with_prefix}
+use Rattle.lin_log.specs.Script.{script}
 use Rattle.lin_log.specs.Judged.{left_of, said}
 use Rattle.lin_log.proofs.script.judge.Given as goal
 

@@ -6,7 +6,8 @@ use Rattle.lin_log.specs.Replay.{log_of}
 use Rattle.std.proofs.lemmas.List.Elements.{All-more}
 use Rattle.lin_core.specs.Runs.{steps_of}
 use Rattle.lin_log.proofs.Runs.{steps-next_is, runs-again}
-use Rattle.lin_log.proofs.Whole.{FitsEntry, steps-text}
+use Rattle.lin_log.specs.Laws.{FitsEntry}
+use Rattle.lin_log.proofs.Logs.{steps-text}
 use Rattle.lin_log.proofs.steps.steps_of.Goals as goal
 
 pub loop-index-preserved : goal.loop-index-preserved

@@ -1,7 +1,7 @@
 use Rattle.std.proofs.Common.{◌≡◌, take}
 use Rattle.std.specs.List.{All}
 use Rattle.lin_core.specs.Runs.{steps_of}
-use Rattle.lin_log.proofs.Whole.{FitsEntry}
+use Rattle.lin_log.specs.Laws.{FitsEntry}
 use Rattle.lin_log.proofs.steps.steps_of.Given as goal
 
 abbrev pub invariant-loop-index : goal.invariant-loop-index

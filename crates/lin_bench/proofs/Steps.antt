@@ -1,0 +1,228 @@
+-- Texts in the language of a cluster's names, as bench scripts: scripts of numbers, and logs with names.
+use Rattle.std.proofs.Common.{◌≡◌, ◌∙◌, ◌+◌, ◌-◌, ◌==◌, ◌||◌, ◌&&◌, ◌++◌, ℕ, List, [], ◌∷◌, Bool, true, false, not, nat_le, nat_lt, refl, sym, ap, arith, append-nil, append_assoc, Option, Some, None, Result, Ok, Err, filter, length, slice_index, take, option_map, if◌then◌else◌}
+use Rattle.std.specs.Prelude.{cond}
+use Rattle.std.specs.List.{slice_split, onto_first, take_while}
+use Rattle.std.specs.Str.{bytes_eq}
+use Rattle.std.specs.Str.Lines.{strip_carriage_return}
+use Rattle.std.proofs.lemmas.Bool.{and_parts}
+use Rattle.std.proofs.lemmas.Grind.{common_steps}
+use Rattle.std.proofs.lemmas.List.Sums.{take_while-cons}
+use Rattle.lin_cluster_parts.specs.declared.parts.Parts.{Parts}
+use Rattle.lin_core.specs.declared.port.PortId.{PortId}
+use Rattle.lin_core.specs.declared.step.Step.{Step}
+use Rattle.lin_log.specs.Language.{named, plain}
+use Rattle.lin_log.specs.Laws.{TextsStay}
+use Rattle.lin_log.specs.Said.{is_comment, is_digit, is_gap, is_port, is_text, line_says, of_fields as step_of_fields, port_step, steps_from, text_says}
+use Rattle.lin_log.specs.Said as log
+use Rattle.lin_log.specs.Script.{script, without_reason}
+use Rattle.lin_log.specs.declared.reason.Reason.{Reason}
+use Rattle.lin_log.proofs.Stays.{texts-stay}
+use Rattle.lin_bench.specs.Fields.{fields, of_step}
+use Rattle.lin_bench.specs.Lines.{line_form, of_fields, read, read_line, read_lines, without_mark}
+use Rattle.lin_bench.specs.Plain.{NamedTexts, PlainScripts, SaysSteps}
+use Rattle.lin_bench.specs.Played.{Run, first, in_turn, next, said}
+use Rattle.lin_bench.specs.declared.line.Line.{Line}
+use Rattle.lin_bench.specs.declared.reason.Reason.{Reason as BenchReason}
+use Rattle.lin_bench.specs.declared.line.Line.TheVariants as line
+
+abbrev not_comment : List ℕ → Bool
+not_comment f = not (is_comment true f)
+
+-- ---- lines
+comment-first : (ps : List (List ℕ)) → take_while not_comment (filter is_text (onto_first 35 ps)) ≡ []
+comment-first [] = refl
+comment-first (p ∷ ps) =
+    let t : is_text (35 ∷ p) ≡ true = grind (arith, common_steps) in
+    rw t (take_while-cons not_comment (35 ∷ p) (filter is_text ps))
+
+comment-fields : (l : List ℕ) → (slice_index l 0 == 35) ≡ true → fields l ≡ []
+comment-fields [] h = refl
+comment-fields (x ∷ xs) h =
+    let e : x ≡ 35 = grind (arith, common_steps) in
+    rw e (comment-first (slice_split (is_gap true) xs))
+
+ported : (r : Result (PortId × Step) Reason) (o : Option (PortId × Step)) → log.◌>>=◌ r (λ s. Ok (Some s)) ≡ Ok o
+    → (s : PortId × Step) × (r ≡ Ok s) × (o ≡ Some s)
+ported (Ok s) o e = (s, refl, cc)
+ported (Err why) o e = absurd (cc)
+
+-- a line of a bench script for a step
+abbrev said_line : Option (PortId × Step) → Result (Option Line) BenchReason
+said_line o = Ok (option_map (λ s. line.Step s.0 s.1) o)
+
+line-of : (c : Parts) (word : List ℕ) (fs : List (List ℕ)) (s : PortId × Step) → is_port word ≡ true → port_step (named c) word fs ≡ Ok s
+    → of_fields c (word ∷ fs) ≡ said_line (Some s)
+unfolding line_form
+line-of c word fs s i h = rw (i, h) refl
+
+fields-read : (c : Parts) (word : List ℕ) (fs : List (List ℕ)) (o : Option (PortId × Step)) (t : Bool) → is_port word ≡ t
+    → step_of_fields (named c) (word ∷ fs) ≡ Ok o → of_fields c (word ∷ fs) ≡ said_line o
+fields-read c word fs o true i e =
+    let k : log.◌>>=◌ (port_step (named c) word fs) (λ s. Ok (Some s)) ≡ Ok o = rw i at e in
+    let p = ported (port_step (named c) word fs) o k in
+    line-of c word fs p.0 i p.1 ∙ ap said_line (sym p.2)
+fields-read c word fs o false i e = let n : Err _ ≡ Ok o = rw i at e in absurd (cc)
+
+all-read : (c : Parts) (fs : List (List ℕ)) (o : Option (PortId × Step)) → step_of_fields (named c) fs ≡ Ok o → of_fields c fs ≡ said_line o
+all-read c [] o e = let same : None ≡ o = cc in ap said_line same
+all-read c (word ∷ fs) o e = fields-read c word fs o (is_port word) refl e
+
+nothing-read : (c : Parts) (l : List ℕ) (t : Bool) → (slice_index l 0 == 62) ≡ t → (t ≡ false → fields l ≡ []) → read_line c l ≡ said_line None
+unfolding read_line
+nothing-read c l true k e = rw k refl
+nothing-read c l false k e = let none = e refl in rw (k, none) refl
+
+line-by : (c : Parts) (l : List ℕ) (o : Option (PortId × Step)) (a b : Bool) → (slice_index l 0 == 35) ≡ a → (slice_index l 0 == 62) ≡ b
+    → line_says (named c) l ≡ Ok o → read_line c l ≡ said_line o
+unfolding line_says read_line
+line-by c l o true b h k e =
+    let s : Ok None ≡ Ok o = rw h at e in
+    let same : None ≡ o = cc in
+    nothing-read c l b k (λ f. comment-fields l h) ∙ ap said_line same
+line-by c l o false true h k e =
+    let s : Ok None ≡ Ok o = rw (h, k) at e in
+    let same : None ≡ o = cc in
+    nothing-read c l true k (λ f. absurd (cc)) ∙ ap said_line same
+line-by c l o false false h k e = rw k (all-read c (fields l) o (rw (h, k) at e))
+
+pub line-read : (c : Parts) (l : List ℕ) (o : Option (PortId × Step)) → line_says (named c) l ≡ Ok o
+    → read_line c l ≡ said_line o
+line-read c l o e = line-by c l o (slice_index l 0 == 35) (slice_index l 0 == 62) refl refl e
+
+-- ---- lines in order, each with its number
+abbrev pub lines_of : List (ℕ × (PortId × Step)) → List (ℕ × Line)
+lines_of [] = []
+lines_of (t ∷ ts) = (t.0, line.Step t.1.0 t.1.1) ∷ lines_of ts
+
+abbrev pub steps_of : List (ℕ × (PortId × Step)) → List (PortId × Step)
+steps_of [] = []
+steps_of (t ∷ ts) = t.1 ∷ steps_of ts
+
+record SayLines (c : Parts) (n : ℕ) (ls : List (List ℕ)) (steps : List (PortId × Step)) : Type 0 where
+  numbered : List (ℕ × (PortId × Step))
+  reading : read_lines c n ls ≡ Ok (lines_of numbered)
+  steps_are : steps ≡ steps_of numbered
+
+more-steps : (c : Parts) (n : ℕ) (l : List ℕ) (ls : List (List ℕ)) (o : Option (PortId × Step)) (r : log.Steps) (steps : List (PortId × Step))
+    → ((ys : List (PortId × Step)) → r ≡ Ok ys → SayLines c (n + 1) ls ys) → line_says (named c) (strip_carriage_return l) ≡ Ok o
+    → log.with_said n (Ok o) r ≡ Ok steps → SayLines c n (l ∷ ls) steps
+more-steps c n l ls None r steps more h e =
+    let q = more steps e in
+    record { numbered = q.numbered; reading = rw (line-read c (strip_carriage_return l) None h, q.reading) refl; steps_are = q.steps_are }
+more-steps c n l ls (Some s) (Err bad) steps more h e = absurd (cc)
+more-steps c n l ls (Some s) (Ok ys) steps more h e =
+    let q = more ys refl in
+    let same : steps ≡ s ∷ ys = cc in
+    record {
+      numbered = (n, s) ∷ q.numbered;
+      reading = rw (line-read c (strip_carriage_return l) (Some s) h, q.reading) refl;
+      steps_are = same ∙ ap (λ ss. s ∷ ss) q.steps_are;
+    }
+
+lines-by : (c : Parts) (n : ℕ) (l : List ℕ) (ls : List (List ℕ)) (steps : List (PortId × Step)) (r : Result (Option (PortId × Step)) Reason)
+    → ((ys : List (PortId × Step)) → steps_from (named c) (n + 1) ls ≡ Ok ys → SayLines c (n + 1) ls ys)
+    → line_says (named c) (strip_carriage_return l) ≡ r → steps_from (named c) n (l ∷ ls) ≡ Ok steps → SayLines c n (l ∷ ls) steps
+lines-by c n l ls steps (Err why) more h e = let no : Err _ ≡ Ok steps = rw h at e in absurd (cc)
+lines-by c n l ls steps (Ok o) more h e = more-steps c n l ls o (steps_from (named c) (n + 1) ls) steps more h (rw h at e)
+
+lines-say : (c : Parts) (n : ℕ) (ls : List (List ℕ)) (steps : List (PortId × Step)) → steps_from (named c) n ls ≡ Ok steps → SayLines c n ls steps
+lines-say c n [] steps e = record { numbered = []; reading = refl; steps_are = cc }
+lines-say c n (l ∷ ls) steps e =
+    lines-by c n l ls steps (line_says (named c) (strip_carriage_return l)) (λ ys k. lines-say c (n + 1) ls ys k) refl e
+
+-- ---- what they come to
+one-turn : (c : Parts) (o room : ℕ) (run : Run) (n : ℕ) (by : PortId) (step : Step)
+    → next c o room run (n, line.Step by step) ≡ Ok (record run { steps = run.steps ++ (by, step) ∷ [] })
+unfolding next said
+one-turn c o room run n by step =
+    let few : nat_lt run.left 0 ≡ false = grind (arith, common_steps) in
+    let left : run.left - 0 ≡ run.left = omega arith in
+    rw (few, left, append-nil run.unmet) refl
+
+turns : (c : Parts) (o room : ℕ) (run : Run) (ts : List (ℕ × (PortId × Step)))
+    → in_turn c o room (Ok run) (lines_of ts) ≡ Ok (record run { steps = run.steps ++ steps_of ts })
+turns c o room run [] = rw (append-nil run.steps) refl
+turns c o room run (t ∷ ts) =
+    ap (λ r. in_turn c o room r (lines_of ts)) (one-turn c o room run t.0 t.1.0 t.1.1)
+    ∙ turns c o room (record run { steps = run.steps ++ t.1 ∷ [] }) ts
+    ∙ ap (λ ss. Ok (record run { steps = ss })) (append_assoc run.steps (t.1 ∷ []) (steps_of ts))
+
+-- ---- no text that says steps begins with the mark EF BB BF
+first-word : (x : ℕ) (ps : List (List ℕ)) → (x == 35) ≡ false
+    → (w : List ℕ) × (rest : List (List ℕ)) × (take_while not_comment (filter is_text (onto_first x ps)) ≡ (x ∷ w) ∷ rest)
+first-word x [] h =
+    ([], [], take_while-cons not_comment (x ∷ []) [] ∙ rw h refl)
+first-word x (p ∷ ps) h =
+    let t : is_text (x ∷ p) ≡ true = grind (arith, common_steps) in
+    (p, take_while not_comment (filter is_text ps), rw t (take_while-cons not_comment (x ∷ p) (filter is_text ps) ∙ rw h refl))
+
+mark-fields : (xs : List ℕ) → (w : List ℕ) × (rest : List (List ℕ)) × (fields (239 ∷ xs) ≡ (239 ∷ w) ∷ rest)
+mark-fields xs = first-word 239 (slice_split (is_gap true) xs) refl
+
+mark-line : (c : Parts) (xs : List ℕ) (o : Option (PortId × Step)) → line_says (named c) (239 ∷ xs) ≡ Ok o → ⊥
+unfolding line_says
+mark-line c xs o e =
+    let f = mark-fields xs in
+    let n : Err _ ≡ Ok o = rw f.2 at e in
+    absurd (cc)
+
+stripped : (x : ℕ) (p : List ℕ) (t : Bool) → (slice_index (x ∷ p) (length (x ∷ p) - 1) == 13) ≡ t → (x == 13) ≡ false
+    → (q : List ℕ) × (strip_carriage_return (x ∷ p) ≡ x ∷ q)
+stripped x [] true h k = absurd (cc)
+stripped x (y ∷ ys) true h k =
+    let s : take (length (x ∷ y ∷ ys) - 1) (x ∷ y ∷ ys) ≡ x ∷ take (length ys) (y ∷ ys) = grind (arith, common_steps) in
+    (take (length ys) (y ∷ ys), rw h s)
+stripped x p false h k = (p, rw h refl)
+
+marked-by : (c : Parts) (p q : List ℕ) (ps : List (List ℕ)) (steps : List (PortId × Step)) (r : Result (Option (PortId × Step)) Reason)
+    → strip_carriage_return (239 ∷ p) ≡ 239 ∷ q → line_says (named c) (239 ∷ q) ≡ r → steps_from (named c) 1 ((239 ∷ p) ∷ ps) ≡ Ok steps → ⊥
+marked-by c p q ps steps (Err why) s h e = let no : Err _ ≡ Ok steps = rw (s, h) at e in absurd (cc)
+marked-by c p q ps steps (Ok o) s h e = mark-line c q o h
+
+marked : (c : Parts) (p : List ℕ) (ps : List (List ℕ)) (steps : List (PortId × Step)) → steps_from (named c) 1 ((239 ∷ p) ∷ ps) ≡ Ok steps → ⊥
+marked c p ps steps e =
+    let s = stripped 239 p (slice_index (239 ∷ p) (length (239 ∷ p) - 1) == 13) refl refl in
+    marked-by c p s.0 ps steps (line_says (named c) (239 ∷ s.0)) s.1 refl e
+
+onto-marked : (c : Parts) (ps : List (List ℕ)) (steps : List (PortId × Step)) → steps_from (named c) 1 (onto_first 239 ps) ≡ Ok steps → ⊥
+onto-marked c [] steps e = marked c [] [] steps e
+onto-marked c (p ∷ ps) steps e = marked c p ps steps e
+
+mark-onto : (c : Parts) (x : ℕ) (ps : List (List ℕ)) (steps : List (PortId × Step)) (t : Bool) → (x == 239) ≡ t
+    → steps_from (named c) 1 (onto_first x ps) ≡ Ok steps → (x == 239) ≡ false
+mark-onto c x ps steps true h e =
+    let same : x ≡ 239 = grind (arith, common_steps) in
+    absurd (onto-marked c ps steps (rw same at e))
+mark-onto c x ps steps false h e = h
+
+end-first : (x : ℕ) → (x == 10) ≡ true → (x == 239) ≡ false
+end-first x h = grind (arith, common_steps)
+
+mark-by : (c : Parts) (x : ℕ) (xs : List ℕ) (steps : List (PortId × Step)) (t : Bool) → (x == 10) ≡ t
+    → steps_from (named c) 1 (slice_split (λ b. b == 10) (x ∷ xs)) ≡ Ok steps → (x == 239) ≡ false
+mark-by c x xs steps true h e = end-first x h
+mark-by c x xs steps false h e = mark-onto c x (slice_split (λ b. b == 10) xs) steps (x == 239) refl (rw h at e)
+
+no-mark : (c : Parts) (text : List ℕ) (steps : List (PortId × Step)) → steps_from (named c) 1 (slice_split (λ b. b == 10) text) ≡ Ok steps → without_mark text ≡ text
+no-mark c [] steps e = refl
+no-mark c (x ∷ xs) steps e = rw (mark-by c x xs steps (x == 10) refl e) refl
+
+-- ---- texts that say steps and nothing else
+pub named-texts : NamedTexts
+unfolding text_says read
+named-texts c opening capacity text steps e =
+    let q = lines-say c 1 (slice_split (λ b. b == 10) text) steps e in
+    record {
+      lines = lines_of q.numbered;
+      reading = rw (no-mark c text steps e) q.reading;
+      steps_alone = turns c opening capacity first q.numbered ∙ ap (λ ss. Ok (record first { steps = ss })) (sym q.steps_are);
+    }
+
+reasonless : (r : log.Steps) (steps : List (PortId × Step)) → without_reason r ≡ Ok steps → r ≡ Ok steps
+reasonless (Ok ys) steps e = cc
+reasonless (Err bad) steps e = absurd (cc)
+
+pub plain-scripts : PlainScripts
+unfolding script
+plain-scripts c opening capacity text steps e =
+    named-texts c opening capacity text steps (texts-stay (named c) text steps (reasonless (text_says plain text) steps e))

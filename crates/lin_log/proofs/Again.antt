@@ -1,0 +1,243 @@
+-- What is written in a language is read again in it: words and lines.
+use Rattle.std.proofs.Common.{◌≡◌, ◌∙◌, ℕ, zero, suc, List, [], ◌∷◌, ◌++◌, refl, length, ◌<◌, ◌≤◌, ◌==◌, ◌&&◌, ◌||◌, arith, Bool, true, false, nat_lt, nat_le, slice_index, flat_map, codes, Some, None, Result, Ok, if◌then◌else◌}
+use Rattle.std.specs.Prelude.{find}
+use Rattle.std.specs.Fmt.{decimal}
+use Rattle.std.specs.Str.{bytes_eq}
+use Rattle.std.proofs.lemmas.Grind.{common_steps}
+use Rattle.std.proofs.lemmas.Slice.Eq.{bytes_eq-Decides}
+use Rattle.lin_frame.specs.Words.{numbers}
+use Rattle.lin_frame.specs.declared.value.Value.{Value}
+use Rattle.lin_frame.specs.declared.value.Value.TheVariants.{Scalar, Bytes}
+use Rattle.lin_core.proofs.kept.Bus.{find-more}
+use Rattle.lin_core.specs.Fits.{FitsPort, FitsStep, FitsValue}
+use Rattle.lin_core.specs.declared.link.Direction.{Direction}
+use Rattle.lin_core.specs.declared.link.Direction.TheVariants.{Down, Up}
+use Rattle.lin_core.specs.declared.port.PortId.{PortId}
+use Rattle.lin_core.specs.declared.port.PortId.TheVariants.{Bus, Host, Node}
+use Rattle.lin_core.specs.declared.step.Step.{Step}
+use Rattle.lin_core.specs.declared.step.Step.TheVariants.{Send, Write, Open, Answer, Leave, Hurt, Finish, Timeout, Switch, AskSleep, Wake, Close}
+use Rattle.lin_log.specs.Words.{hex_word, port_number_word, port_word, spaced_word, step_words, value_word}
+use Rattle.lin_log.proofs.Decimals.{hex-again, number-decimal}
+use Rattle.lin_core.specs.Tables.{direction_word}
+use Rattle.lin_log.specs.Language.{Called, Language, number_named, word_of}
+use Rattle.lin_log.specs.Laws.{AreNames, HasNames, LinesAgain, all_visible, is_visible}
+use Rattle.lin_log.specs.Said.{bytes_fields, called_field, direction_field, is_hex_number, is_port, line_says, node_field, of_fields, port, port_step, signal_field, step_after, step_form, send_form, write_form, hurt_form, timeout_form, switch_form, node_form, alone, table_field, value_field}
+use Rattle.lin_log.specs.declared.reason.Reason.{Reason}
+use Rattle.lin_log.specs.declared.reason.Reason.TheVariants.{NoNode, NoSignal, NoTable}
+use Rattle.lin_log.proofs.Found.{first-passing}
+use Rattle.lin_log.proofs.Items.{AreItems, IsItem, and-no, both, digits-decimal, fields-joined, first-digit, item, item-digits, item-hex, item-name, more, none, not-digit, second-digit}
+
+-- a word of a line, and what it says
+pub record Says {A : Type 0} (f : List ℕ) (said : Result A Reason) (x : A) : Type 0 where
+  pub word : IsItem f
+  pub reading : said ≡ Ok x
+
+-- ---- the first thing with the name of one of them is that one
+unlike-by : (called : Called) → AreNames called → (i k : ℕ) (t : Bool) → bytes_eq (called.name k) (called.name i) ≡ t
+    → i < called.count → k < i → bytes_eq (called.name k) (called.name i) ≡ false
+unlike-by called a i k true h small less =
+    let same : k ≡ i = a.unlike k i (omega arith) small ((bytes_eq-Decides (called.name k) (called.name i)).0 h) in
+    absurd (omega arith)
+unlike-by called a i k false h small less = h
+
+none-before : (called : Called) → AreNames called → (i k : ℕ) → i < called.count → k ≤ i
+    → find (λ j. bytes_eq (called.name j) (called.name i)) (numbers k) ≡ None
+none-before called a i zero small le = refl
+none-before called a i (suc k) small le =
+    find-more (λ j. bytes_eq (called.name j) (called.name i)) (numbers k) k
+    ∙ rw (none-before called a i k small (omega arith), unlike-by called a i k (bytes_eq (called.name k) (called.name i)) refl small (omega arith)) refl
+
+named-first : (called : Called) → AreNames called → (i : ℕ) → i < called.count → number_named called (called.name i) ≡ Some i
+named-first called a i small =
+    first-passing (λ j. bytes_eq (called.name j) (called.name i)) called.count i small ((bytes_eq-Decides (called.name i) (called.name i)).1 refl)
+    (none-before called a i i small (omega arith))
+
+-- ---- names or numbers
+called-says : (called : Called) → AreNames called → (most : ℕ) (unknown : List ℕ → Reason) (k : ℕ) (t : Bool) → nat_lt k called.count ≡ t → k ≤ most → most < 65536
+    → Says (if t then called.name k else decimal k) (called_field most called unknown (if t then called.name k else decimal k)) k
+called-says called a most unknown k true h le small =
+    let less : k < called.count = grind (arith, common_steps) in
+    let p = item-name (called.name k) (a.words k less) in
+    record { word = p.0; reading = rw (p.1, named-first called a k less) refl }
+called-says called a most unknown k false h le small =
+    let d = digits-decimal k (omega arith) in
+    record { word = item-digits (decimal k) d; reading = rw (first-digit (decimal k) d, number-decimal most k le (omega arith)) refl }
+
+node-says : (l : Language) → HasNames l → (k : ℕ) → k ≤ 255 → Says (word_of l.nodes k) (node_field l (word_of l.nodes k)) k
+unfolding node_field
+node-says l a k le = called-says l.nodes a.of_nodes 255 NoNode k (nat_lt k l.nodes.count) refl le (omega arith)
+
+signal-says : (l : Language) → HasNames l → (k : ℕ) → k ≤ 65535 → Says (word_of l.signals k) (signal_field l (word_of l.signals k)) k
+unfolding signal_field
+signal-says l a k le = called-says l.signals a.of_signals 65535 NoSignal k (nat_lt k l.signals.count) refl le (omega arith)
+
+table-says : (l : Language) → HasNames l → (k : ℕ) → k ≤ 65535 → Says (word_of l.tables k) (table_field l (word_of l.tables k)) k
+unfolding table_field
+table-says l a k le = called-says l.tables a.of_tables 65535 NoTable k (nat_lt k l.tables.count) refl le (omega arith)
+
+-- ---- words that name nothing
+bytes-say : (l : Language) (m : List ℕ) (h : (i : ℕ) → slice_index m i < 256) → Says (hex_word m) (bytes_fields l (hex_word m ∷ [])) m
+unfolding bytes_fields
+bytes-say l m h = record { word = item-hex m h; reading = rw (hex-again m h) refl }
+
+scalar-says : (l : Language) (n : ℕ) → n < 65536 → Says (decimal n) (value_field l (decimal n)) (Scalar n)
+unfolding value_field
+scalar-says l n h =
+    let d = digits-decimal n (omega arith) in
+    let x = (not-digit (slice_index (decimal n) 0) (first-digit (decimal n) d)).2 in
+    let z : is_hex_number l (decimal n) ≡ false =
+    and-no l.free (slice_index (decimal n) 0 == 48 && slice_index (decimal n) 1 == 120)
+    (and-no (slice_index (decimal n) 0 == 48) (slice_index (decimal n) 1 == 120) (second-digit (decimal n) d.digits)) in
+    record { word = item-digits (decimal n) d; reading = rw (x, z, number-decimal 65535 n (omega arith) (omega arith)) refl }
+
+array-says : (l : Language) (bs : List ℕ) → length bs ≤ 8 → ((i : ℕ) → slice_index bs i < 256)
+    → Says (120 ∷ hex_word bs) (value_field l (120 ∷ hex_word bs)) (Bytes bs)
+unfolding value_field
+array-says l bs few h =
+    let t : nat_le (length bs) 8 ≡ true = grind (arith, common_steps) in
+    record {
+      word = item (120 ∷ hex_word bs) (omega arith) (both (is_visible 120) (all_visible (hex_word bs)) refl (item-hex bs h).visible) refl;
+      reading = rw (hex-again bs h, t) refl;
+    }
+
+value-says : (l : Language) (v : Value) → FitsValue v → Says (value_word v) (value_field l (value_word v)) v
+value-says l (Scalar n) h = scalar-says l n (omega arith)
+value-says l (Bytes bs) h = array-says l bs h.0 h.1
+
+direction-says : (d : Direction) → Says (direction_word d) (direction_field (direction_word d)) d
+unfolding direction_field
+direction-says Down = record { word = item (codes "down") (omega arith) refl refl; reading = refl }
+direction-says Up = record { word = item (codes "up") (omega arith) refl refl; reading = refl }
+
+-- ---- the words of a step
+pub record SaysStep (l : Language) (ws : List (List ℕ)) (s : Step) : Type 0 where
+  pub words : AreItems ws
+  pub reading : step_after l ws ≡ Ok s
+
+send-says : (l : Language) (f g h : List ℕ) (from to : ℕ) (m : List ℕ) → Says f (node_field l f) from → Says g (node_field l g) to
+    → Says h (bytes_fields l (h ∷ [])) m → SaysStep l (codes "send" ∷ f ∷ g ∷ h ∷ []) (Send from to m)
+unfolding step_form send_form
+send-says l f g h from to m p q r = record {
+  words = more (item _ (omega arith) refl refl) (more p.word (more q.word (more r.word none)));
+  reading = rw (p.reading, q.reading, r.reading) refl;
+}
+
+write-says : (l : Language) (f g h : List ℕ) (by signal : ℕ) (v : Value) → Says f (node_field l f) by → Says g (signal_field l g) signal
+    → Says h (value_field l h) v → SaysStep l (codes "write" ∷ f ∷ g ∷ h ∷ []) (Write by signal v)
+unfolding step_form write_form
+write-says l f g h by signal v p q r = record {
+  words = more (item _ (omega arith) refl refl) (more p.word (more q.word (more r.word none)));
+  reading = rw (p.reading, q.reading, r.reading) refl;
+}
+
+answer-says : (l : Language) (f : List ℕ) (k : ℕ) → Says f (node_field l f) k → SaysStep l (codes "answer" ∷ f ∷ []) (Answer k)
+unfolding step_form node_form
+answer-says l f k p = record { words = more (item _ (omega arith) refl refl) (more p.word none); reading = rw p.reading refl }
+
+leave-says : (l : Language) (f : List ℕ) (k : ℕ) → Says f (node_field l f) k → SaysStep l (codes "leave" ∷ f ∷ []) (Leave k)
+unfolding step_form node_form
+leave-says l f k p = record { words = more (item _ (omega arith) refl refl) (more p.word none); reading = rw p.reading refl }
+
+close-says : (l : Language) (f : List ℕ) (k : ℕ) → Says f (node_field l f) k → SaysStep l (codes "close" ∷ f ∷ []) (Close k)
+unfolding step_form node_form
+close-says l f k p = record { words = more (item _ (omega arith) refl refl) (more p.word none); reading = rw p.reading refl }
+
+hurt-says : (l : Language) (f m : List ℕ) → Says f (bytes_fields l (f ∷ [])) m → SaysStep l (codes "hurt" ∷ f ∷ []) (Hurt m)
+unfolding step_form hurt_form
+hurt-says l f m p = record { words = more (item _ (omega arith) refl refl) (more p.word none); reading = rw p.reading refl }
+
+timeout-says : (l : Language) (f g : List ℕ) (k : ℕ) (d : Direction) → Says f (node_field l f) k → Says g (direction_field g) d
+    → SaysStep l (codes "timeout" ∷ f ∷ g ∷ []) (Timeout k d)
+unfolding step_form timeout_form
+timeout-says l f g k d p q = record {
+  words = more (item _ (omega arith) refl refl) (more p.word (more q.word none));
+  reading = rw (p.reading, q.reading) refl;
+}
+
+switch-says : (l : Language) (f : List ℕ) (t : ℕ) → Says f (table_field l f) t → SaysStep l (codes "switch" ∷ f ∷ []) (Switch t)
+unfolding step_form switch_form
+switch-says l f t p = record { words = more (item _ (omega arith) refl refl) (more p.word none); reading = rw p.reading refl }
+
+pub step-says : (l : Language) → HasNames l → (s : Step) → FitsStep s → SaysStep l (step_words l s) s
+unfolding step_form alone
+step-says l a (Send from to m) h =
+    send-says l (word_of l.nodes from) (word_of l.nodes to) (hex_word m) from to m (node-says l a from (omega arith)) (node-says l a to (omega arith)) (bytes-say l m h.2)
+step-says l a (Write by signal v) h =
+    write-says l (word_of l.nodes by) (word_of l.signals signal) (value_word v) by signal v (node-says l a by (omega arith)) (signal-says l a signal (omega arith))
+    (value-says l v h.2)
+step-says l a Open h = record { words = more (item _ (omega arith) refl refl) none; reading = refl }
+step-says l a (Answer k) h = answer-says l (word_of l.nodes k) k (node-says l a k (omega arith))
+step-says l a (Leave k) h = leave-says l (word_of l.nodes k) k (node-says l a k (omega arith))
+step-says l a (Hurt m) h = hurt-says l (hex_word m) m (bytes-say l m h)
+step-says l a Finish h = record { words = more (item _ (omega arith) refl refl) none; reading = refl }
+step-says l a (Timeout k d) h = timeout-says l (word_of l.nodes k) (direction_word d) k d (node-says l a k (omega arith)) (direction-says d)
+step-says l a (Switch t) h = switch-says l (word_of l.tables t) t (table-says l a t (omega arith))
+step-says l a AskSleep h = record { words = more (item _ (omega arith) refl refl) none; reading = refl }
+step-says l a Wake h = record { words = more (item _ (omega arith) refl refl) none; reading = refl }
+step-says l a (Close k) h = close-says l (word_of l.nodes k) k (node-says l a k (omega arith))
+
+-- ---- the word of a port
+pub record SaysPort (l : Language) (w : List ℕ) (p : PortId) : Type 0 where
+  pub word : IsItem w
+  pub is : is_port w ≡ true
+  pub reading : port l w ≡ Ok p
+
+host-says : (l : Language) → HasNames l → (n : ℕ) (t : Bool) → nat_lt n l.nodes.count ≡ t → n < 256
+    → SaysPort l (104 ∷ (if t then 58 ∷ l.nodes.name n else decimal n)) (Host n)
+unfolding port
+host-says l a n true e h =
+    let less : n < l.nodes.count = grind (arith, common_steps) in
+    let f = item-name (l.nodes.name n) (a.of_nodes.words n less) in
+    record { word = item _ (omega arith) (rw f.0.visible refl) refl; is = refl; reading = rw (named-first l.nodes a.of_nodes n less) refl }
+host-says l a n false e h =
+    let d = digits-decimal n (omega arith) in
+    let x = first-digit (decimal n) d in
+    let i = item-digits (decimal n) d in
+    record {
+      word = item _ (omega arith) (rw i.visible refl) refl;
+      is = rw x refl;
+      reading = rw ((not-digit (slice_index (decimal n) 0) x).1, number-decimal 255 n (omega arith) (omega arith)) refl;
+    }
+
+node-port-says : (l : Language) → HasNames l → (n : ℕ) (t : Bool) → nat_lt n l.nodes.count ≡ t → n < 256
+    → SaysPort l (110 ∷ (if t then 58 ∷ l.nodes.name n else decimal n)) (Node n)
+unfolding port
+node-port-says l a n true e h =
+    let less : n < l.nodes.count = grind (arith, common_steps) in
+    let f = item-name (l.nodes.name n) (a.of_nodes.words n less) in
+    record { word = item _ (omega arith) (rw f.0.visible refl) refl; is = refl; reading = rw (named-first l.nodes a.of_nodes n less) refl }
+node-port-says l a n false e h =
+    let d = digits-decimal n (omega arith) in
+    let x = first-digit (decimal n) d in
+    let i = item-digits (decimal n) d in
+    record {
+      word = item _ (omega arith) (rw i.visible refl) refl;
+      is = rw x refl;
+      reading = rw ((not-digit (slice_index (decimal n) 0) x).1, number-decimal 255 n (omega arith) (omega arith)) refl;
+    }
+
+pub port-says : (l : Language) → HasNames l → (p : PortId) → FitsPort p → SaysPort l (port_word l p) p
+unfolding port
+port-says l a Bus h = record { word = item _ (omega arith) refl refl; is = refl; reading = refl }
+port-says l a (Host n) h = host-says l a n (nat_lt n l.nodes.count) refl h
+port-says l a (Node n) h = node-port-says l a n (nat_lt n l.nodes.count) refl h
+
+-- ---- a port and a step on one line
+port-start : (l : Language) (p : PortId) (rest : List ℕ)
+    → (slice_index (port_word l p ++ rest) 0 == 35 || slice_index (port_word l p ++ rest) 0 == 62) ≡ false
+port-start l Bus rest = refl
+port-start l (Host n) rest = refl
+port-start l (Node n) rest = refl
+
+fields-say : (l : Language) (w : List ℕ) (ws : List (List ℕ)) (p : PortId) (s : Step) → SaysPort l w p → SaysStep l ws s
+    → of_fields l (w ∷ ws) ≡ Ok (Some (p, s))
+unfolding port_step
+fields-say l w ws p s a b = rw (a.is, a.reading, b.reading) refl
+
+pub lines-again : LinesAgain
+unfolding line_says
+lines-again l p s a hp hs =
+    let q = port-says l a p hp in
+    let r = step-says l a s hs in
+    rw (port-start l p (flat_map spaced_word (step_words l s)), fields-joined l.free (port_word l p) (step_words l s) q.word r.words)
+    (fields-say l (port_word l p) (step_words l s) p s q r)

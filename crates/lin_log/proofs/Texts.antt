@@ -1,0 +1,84 @@
+-- The text of a log says its steps.
+use Rattle.std.proofs.Common.{◌≡◌, ◌∙◌, ℕ, List, [], ◌∷◌, ◌++◌, refl, sym, ap, subst, append_assoc, ◌+◌, ◌==◌, ◌&&◌, arith, Bool, true, not, flat_map, Some, None, Ok}
+use Rattle.std.specs.List.{All, slice_split}
+use Rattle.std.proofs.lemmas.Bool.{and_parts}
+use Rattle.std.proofs.lemmas.Grind.{common_steps}
+use Rattle.std.proofs.lemmas.List.Elements.{All-head, All-tail}
+use Rattle.std.proofs.lemmas.List.Splits.{slice_split_at}
+use Rattle.lin_core.specs.Fits.{FitsPort, FitsStep}
+use Rattle.lin_core.specs.Runs.{steps_of}
+use Rattle.lin_core.specs.declared.log.LogEntry.{LogEntry}
+use Rattle.lin_core.specs.declared.port.PortId.{PortId}
+use Rattle.lin_core.specs.declared.step.Step.{Step}
+use Rattle.lin_log.specs.Words.{line_tail, log_text, port_word, reply_line, spaced_word, step_line, step_words}
+use Rattle.lin_log.proofs.Quiet.{line-end, no-end, not-stripped, quiet-append, quiet-spaced, quiet-visible}
+use Rattle.lin_log.specs.Language.{Language}
+use Rattle.lin_log.specs.Laws.{FitsEntry, HasNames, IsQuiet, TextsAgain, are_quiet, is_quiet, step_body}
+use Rattle.lin_log.specs.Said.{line_says, steps_from, text_says}
+use Rattle.lin_log.proofs.Again.{lines-again, port-says, step-says}
+use Rattle.lin_log.proofs.Items.{AreItems, more}
+
+items-quiet : (ws : List (List ℕ)) → AreItems ws → are_quiet ws ≡ true
+items-quiet [] h = refl
+items-quiet (w ∷ ws) (more a b) = rw (quiet-visible w a.visible, items-quiet ws b) refl
+
+abbrev is_end : ℕ → Bool
+is_end b = b == 10
+
+abbrev Says : Language → List ℕ → List (PortId × Step) → Type 0
+Says l rest xs = (m : ℕ) → steps_from l m (slice_split is_end rest) ≡ Ok xs
+
+-- a line of a step, and one that says nothing, in front of a text
+step-before : (l : Language) (body rest : List ℕ) (s : PortId × Step) (xs : List (PortId × Step)) → is_quiet body ≡ true
+    → line_says l body ≡ Ok (Some s) → Says l rest xs → Says l (body ++ 10 ∷ rest) (s ∷ xs)
+step-before l body rest s xs h e k m =
+    rw (slice_split_at is_end body 10 rest (no-end body h) refl, not-stripped body h, e, k (m + 1)) refl
+
+quiet-before : (l : Language) (body rest : List ℕ) (xs : List (PortId × Step)) → is_quiet body ≡ true
+    → line_says l body ≡ Ok None → Says l rest xs → Says l (body ++ 10 ∷ rest) xs
+quiet-before l body rest xs h e k m =
+    rw (slice_split_at is_end body 10 rest (no-end body h) refl, not-stripped body h, e) (k (m + 1))
+
+reply-says : (l : Language) (cs : List ℕ) → line_says l (62 ∷ cs) ≡ Ok None
+unfolding line_says
+reply-says l cs = refl
+
+reply-before : (l : Language) (ws : List (List ℕ)) (rest : List ℕ) (xs : List (PortId × Step)) → are_quiet ws ≡ true → Says l rest xs
+    → Says l (reply_line ws ++ rest) xs
+reply-before l ws rest xs h k =
+    let e : reply_line ws ++ rest ≡ 62 ∷ (flat_map spaced_word ws ++ 10 ∷ rest) = ap (λ t. 62 ∷ t) (line-end ws rest) in
+    subst (λ t. Says l t xs) (sym e) (quiet-before l (62 ∷ flat_map spaced_word ws) rest xs (quiet-spaced ws h) (reply-says l (flat_map spaced_word ws)) k)
+
+replies-before : (l : Language) (rs : List (List (List ℕ))) (rest : List ℕ) (xs : List (PortId × Step)) → IsQuiet rs → Says l rest xs
+    → Says l (flat_map reply_line rs ++ rest) xs
+replies-before l [] rest xs h k = k
+replies-before l (r ∷ rs) rest xs h k =
+    subst (λ t. Says l t xs) (sym (append_assoc (reply_line r) (flat_map reply_line rs) rest))
+    (reply-before l r (flat_map reply_line rs ++ rest) xs (All-head (λ ws. are_quiet ws ≡ true) r rs h)
+    (replies-before l rs rest xs (All-tail (λ ws. are_quiet ws ≡ true) r rs h) k))
+
+entry-before : (l : Language) (p : PortId) (s : Step) (rest : List ℕ) (xs : List (PortId × Step)) → HasNames l → (FitsPort p × FitsStep s) → Says l rest xs
+    → Says l (step_line l p s ++ rest) ((p, s) ∷ xs)
+entry-before l p s rest xs a h k =
+    let w = port_word l p in
+    let ws = step_words l s in
+    let e : step_line l p s ++ rest ≡ step_body l p s ++ 10 ∷ rest =
+    append_assoc w (line_tail ws) rest ∙ ap (λ t. w ++ t) (line-end ws rest) ∙ sym (append_assoc w (flat_map spaced_word ws) (10 ∷ rest)) in
+    let i = quiet-append w (flat_map spaced_word ws) (quiet-visible w (port-says l a p h.0).word.visible) (quiet-spaced ws (items-quiet ws (step-says l a s h.1).words)) in
+    subst (λ t. Says l t ((p, s) ∷ xs)) (sym e) (step-before l (step_body l p s) rest (p, s) xs i (lines-again l p s a h.0 h.1) k)
+
+nothing-left : (l : Language) → Says l [] []
+unfolding line_says
+nothing-left l m = refl
+
+log-says : (l : Language) (replies : LogEntry → List LogEntry → List (List (List ℕ))) (past log : List LogEntry) → HasNames l
+    → ((e : LogEntry) (p : List LogEntry) → IsQuiet (replies e p)) → All FitsEntry log → Says l (log_text l replies past log) (steps_of log)
+log-says l replies past [] a q fits = nothing-left l
+log-says l replies past (e ∷ es) a q fits =
+    entry-before l e.port e.step (flat_map reply_line (replies e past) ++ log_text l replies (e ∷ past) es) (steps_of es) a (All-head FitsEntry e es fits)
+    (replies-before l (replies e past) (log_text l replies (e ∷ past) es) (steps_of es) (q e past)
+    (log-says l replies (e ∷ past) es a q (All-tail FitsEntry e es fits)))
+
+pub texts-again : TextsAgain
+unfolding text_says
+texts-again l replies log a q fits = log-says l replies [] log a q fits 1

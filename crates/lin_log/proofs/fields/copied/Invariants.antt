@@ -1,0 +1,9 @@
+use Rattle.std.proofs.Common.{◌≡◌, ◌++◌, length}
+use Rattle.lin_log.specs.Said.{fields}
+use Rattle.lin_log.proofs.fields.copied.Given as goal
+
+abbrev pub invariant-loop-field : goal.invariant-loop-field
+invariant-loop-field g l = l.copy.items ++ fields (g.N.Naming.language l.names).free l.left ≡ fields (g.N.Naming.language l.names).free l.line
+
+abbrev pub decreases-loop-field : goal.decreases-loop-field
+decreases-loop-field g l = length (fields (g.N.Naming.language l.names).free l.left)

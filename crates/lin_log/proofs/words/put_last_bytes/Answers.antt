@@ -1,5 +1,0 @@
-use Rattle.lin_text.proofs.Growing.{grows-more}
-use Rattle.lin_log.proofs.words.put_last_bytes.Goals as goal
-
-pub returns : goal.returns
-returns g c = grows-more c.put_byte.ensures (grows-more c.put_hex.ensures c.put_byte-2.ensures)
