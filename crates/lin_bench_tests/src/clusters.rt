@@ -41,6 +41,9 @@ pub fn played(alloc: Global, ldf: &[u8], text: &[u8]) -> Result<Played, Fail> {
     if cluster.tables() == 0 {
         return Err(Fail::from("no table"));
     }
+    if lines.len() > 16_777_217 {
+        return Err(Fail::from("too many lines"));
+    }
     match play(alloc, cluster, 0, 16, lines) {
         Ok(played) => Ok(played),
         Err(PlayFault::SlotLimit { .. }) => Err(Fail::from("slot limit")),
