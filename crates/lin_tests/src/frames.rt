@@ -18,6 +18,11 @@ const PROTECTED: [u8; 64] = [
     0xF0, 0xB1, 0x32, 0x73, 0xB4, 0xF5, 0x76, 0x37, 0x78, 0x39, 0xBA, 0xFB, 0x3C, 0x7D, 0xFE, 0xBF,
 ];
 
+/// The protected identifier of a number.
+fn pid_of(id: u8) -> Result<u8, Fail> {
+    Ok(protected(FrameId::new(id).ok_or("no identifier")?))
+}
+
 #[test]
 fn identifiers(rt: HostRuntime) -> Result<(), Fail> {
     for (id, pid) in [
@@ -27,83 +32,87 @@ fn identifiers(rt: HostRuntime) -> Result<(), Fail> {
         (0x3C, 0x3C),
         (0x3D, 0x7D),
     ] {
-        assert_eq!(rt; protected(FrameId::new(id).ok_or("no identifier")?), pid);
+        assert_eq!(rt; pid_of(id)?, pid);
     }
     assert_eq!(rt; unprotect(0x81), None);
     assert_eq!(rt; unprotect(0xC1).ok_or("no identifier")?.value(), 0x01);
     assert_eq!(rt; FrameId::new(64), None);
-    Ok(())
-}
-
-#[test]
-fn all_identifiers(rt: HostRuntime) -> Result<(), Fail> {
     for id in 0..64 {
         let pid = PROTECTED[id as usize];
-        assert_eq!(rt; protected(FrameId::new(id).ok_or("no identifier")?), pid);
+        assert_eq!(rt; pid_of(id)?, pid);
         assert_eq!(rt; unprotect(pid).ok_or("no identifier")?.value(), id);
-        assert_eq!(rt; unprotect(pid ^ 0x40), None);
-        assert_eq!(rt; unprotect(pid ^ 0x80), None);
+        assert_eq!(rt; unprotect(pid ^ 0x40), None, "of {id}");
+        assert_eq!(rt; unprotect(pid ^ 0x80), None, "of {id}");
     }
     Ok(())
 }
 
-#[test]
-fn checksums(rt: HostRuntime) {
-    assert_eq!(rt;
-        checksum(SumKind::Classic, 0, &[0x4A, 0x55, 0x93, 0xE5]),
-        0xE6
-    );
-    assert_eq!(rt; checksum(SumKind::Enhanced, 0xC1, &[0x01]), 0x3D);
-    assert_eq!(rt;
-        checksum(
-            SumKind::Classic,
-            0,
-            &[0x00, 0xFF, 0xFF, 0xFF, 0xFF, 0xFF, 0xFF, 0xFF]
-        ),
-        0x00
-    );
-}
+/// Bytes, the kind of their checksum, the protected identifier before them, and the checksum.
+const SUMS: &[(SumKind, u8, &[u8], u8)] = &[
+    (SumKind::Classic, 0, &[0x4A, 0x55, 0x93, 0xE5], 0xE6),
+    (SumKind::Enhanced, 0xC1, &[0x01], 0x3D),
+    (
+        SumKind::Classic,
+        0,
+        &[0x00, 0xFF, 0xFF, 0xFF, 0xFF, 0xFF, 0xFF, 0xFF],
+        0x00,
+    ),
+];
 
-#[test]
-fn answers(rt: HostRuntime) {
-    let classic = answer(
+/// Data, the kind of its checksum, the protected identifier before it, and the answer.
+const ANSWERS: &[(SumKind, u8, &[u8], &[u8])] = &[
+    (
         SumKind::Classic,
         0x3C,
         &[0x01, 0x03, 0x22, 0x06, 0x2E, 0xFF, 0xFF, 0xFF],
-    );
-    assert_eq!(rt;
-        classic.as_slice(),
-        [0x01, 0x03, 0x22, 0x06, 0x2E, 0xFF, 0xFF, 0xFF, 0xA5].as_slice()
-    );
-    let enhanced = answer(SumKind::Enhanced, 0xC4, &[0x42, 0x11]);
-    assert_eq!(rt; enhanced.as_slice(), [0x42, 0x11, 0xE7].as_slice());
+        &[0x01, 0x03, 0x22, 0x06, 0x2E, 0xFF, 0xFF, 0xFF, 0xA5],
+    ),
+    (SumKind::Enhanced, 0xC4, &[0x42, 0x11], &[0x42, 0x11, 0xE7]),
+];
+
+/// Bytes of an answer, the kind of its checksum, the protected identifier before it, how many data
+/// bytes it must have, and whether it passes.
+const CHECKS: &[(SumKind, u8, usize, &[u8], bool)] = &[
+    (
+        SumKind::Classic,
+        0x3C,
+        8,
+        &[0x01, 0x03, 0x22, 0x06, 0x2F, 0xFF, 0xFF, 0xFF, 0xA4],
+        true,
+    ),
+    (
+        SumKind::Classic,
+        0x3C,
+        8,
+        &[0x01, 0x03, 0x22, 0x06, 0x2F, 0xFF, 0xFF, 0xFF, 0xA5],
+        false,
+    ),
+    (SumKind::Enhanced, 0xC4, 2, &[0x42, 0x11, 0xE7], true),
+    (SumKind::Enhanced, 0x42, 2, &[0x42, 0x11, 0xE7], false),
+    (SumKind::Enhanced, 0xC4, 3, &[0x42, 0x11, 0xE7], false),
+    (SumKind::Enhanced, 0xC4, 0, &[], false),
+];
+
+#[test]
+fn checksums(rt: HostRuntime) {
+    for (kind, pid, bytes, sum) in SUMS {
+        assert_eq!(rt; checksum(*kind, *pid, bytes), *sum, "{bytes:?} after {pid}");
+    }
+    for (kind, pid, bytes, wanted) in ANSWERS {
+        assert!(rt; !bytes.is_empty());
+        assert!(rt; bytes.len() <= 8);
+        assert_eq!(rt; answer(*kind, *pid, bytes).as_slice(), *wanted);
+    }
+    for (kind, pid, len, bytes, good) in CHECKS {
+        assert_eq!(rt;
+            passes(*kind, *pid, *len, bytes),
+            *good,
+            "{bytes:?} after {pid}"
+        );
+    }
     let mut bytes = ArrayVec::new();
     bytes.push(0x07);
     assert_eq!(rt; Answer::new(bytes).as_slice(), [0x07].as_slice());
-}
-
-#[test]
-fn checks(rt: HostRuntime) {
-    assert!(rt;
-        passes(
-            SumKind::Classic,
-            0x3C,
-            8,
-            &[0x01, 0x03, 0x22, 0x06, 0x2F, 0xFF, 0xFF, 0xFF, 0xA4]
-        )
-    );
-    assert!(rt;
-        !passes(
-            SumKind::Classic,
-            0x3C,
-            8,
-            &[0x01, 0x03, 0x22, 0x06, 0x2F, 0xFF, 0xFF, 0xFF, 0xA5]
-        )
-    );
-    assert!(rt; passes(SumKind::Enhanced, 0xC4, 2, &[0x42, 0x11, 0xE7]));
-    assert!(rt; !passes(SumKind::Enhanced, 0x42, 2, &[0x42, 0x11, 0xE7]));
-    assert!(rt; !passes(SumKind::Enhanced, 0xC4, 3, &[0x42, 0x11, 0xE7]));
-    assert!(rt; !passes(SumKind::Enhanced, 0xC4, 0, &[]));
 }
 
 fn scalar_place(offset: u8, size: u8) -> Place {
@@ -128,6 +137,29 @@ fn one_place(alloc: Global, len: u8, pid: Option<u8>, place: Place) -> Result<La
         pid,
         places: Many::new(Vec::from_array(alloc, [place])?),
     })
+}
+
+/// An array is packed into its bytes, and found there.
+fn expect_array(rt: &impl Abort, alloc: Global) -> Result<(), Fail> {
+    let place = Place {
+        offset: 16,
+        size: 24,
+        array: true,
+    };
+    let layout = one_place(alloc, 6, Some(0x42), place)?;
+    let mut bytes = ArrayVec::new();
+    bytes.push(0x12);
+    bytes.push(0x34);
+    bytes.push(0x56);
+    let frame = packed_one(rt, &layout, Value::Bytes(ValueBytes::new(bytes)));
+    assert_eq!(rt; frame, [0x42, 0xFF, 0x12, 0x34, 0x56, 0xFF, 0xFF, 0xFF]);
+    assert!(rt; layout.is_good());
+    assert_eq!(rt; layout.places.as_slice().len(), 1);
+    match unpack(&layout, &frame, 0) {
+        Value::Bytes(bytes) => assert_eq!(rt; bytes.as_slice(), [0x12, 0x34, 0x56].as_slice()),
+        Value::Scalar(_) => return Err("no array".into()),
+    }
+    Ok(())
 }
 
 #[test]
@@ -158,7 +190,8 @@ fn packed_frames(rt: HostRuntime) -> Result<(), Fail> {
             [speed as u8, 0xFF, 0xFF, 0xFF, 0xFF, 0xFF, 0xFF, 0xFF]
         );
     }
-    Ok(())
+    packing_is_inverse();
+    expect_array(&rt, rt.alloc())
 }
 
 fn unpacked_scalar(rt: &impl Abort, layout: &Layout, bytes: &[u8; 8]) -> Option<u16> {
@@ -189,40 +222,28 @@ fn scalar_at_each_offset(rt: HostRuntime) -> Result<(), Fail> {
     Ok(())
 }
 
-#[test]
-fn arrays(rt: HostRuntime) -> Result<(), Fail> {
-    let place = Place {
-        offset: 16,
-        size: 24,
-        array: true,
-    };
-    let layout = one_place(rt.alloc(), 6, Some(0x42), place)?;
-    let mut bytes = ArrayVec::new();
-    bytes.push(0x12);
-    bytes.push(0x34);
-    bytes.push(0x56);
-    let frame = packed_one(&rt, &layout, Value::Bytes(ValueBytes::new(bytes)));
-    assert_eq!(rt; frame, [0x42, 0xFF, 0x12, 0x34, 0x56, 0xFF, 0xFF, 0xFF]);
-    assert!(rt; layout.is_good());
-    assert_eq!(rt; layout.places.as_slice().len(), 1);
-    match unpack(&layout, &frame, 0) {
-        Value::Bytes(bytes) => assert_eq!(rt; bytes.as_slice(), [0x12, 0x34, 0x56].as_slice()),
-        Value::Scalar(_) => return Err("no array".into()),
-    }
-    packing_is_inverse();
-    Ok(())
-}
+/// Lengths of frames, the protected identifier in the first byte, the offset and size of the one
+/// scalar, and whether the layout is good.
+const LAYOUTS: &[(u8, Option<u8>, u8, u8, bool)] = &[
+    (2, None, 0, 17, false),
+    (2, None, 0, 0, false),
+    (2, None, 9, 8, false),
+    (2, None, 7, 8, true),
+    (2, Some(0x42), 7, 8, false),
+    (0, None, 0, 1, false),
+    (9, None, 0, 1, false),
+];
 
 #[test]
 fn layouts(rt: HostRuntime) -> Result<(), Fail> {
-    let places = [scalar_place(0, 17), scalar_place(0, 0), scalar_place(9, 8)];
-    for place in places {
-        assert!(rt; !one_place(rt.alloc(), 2, None, place)?.is_good());
+    for (len, pid, offset, size, good) in LAYOUTS {
+        let layout = one_place(rt.alloc(), *len, *pid, scalar_place(*offset, *size))?;
+        assert_eq!(rt;
+            layout.is_good(),
+            *good,
+            "{size} bits at {offset} of {len} bytes"
+        );
     }
-    assert!(rt; one_place(rt.alloc(), 2, None, scalar_place(7, 8))?.is_good());
-    assert!(rt; !one_place(rt.alloc(), 2, Some(0x42), scalar_place(7, 8))?.is_good());
-    assert!(rt; !one_place(rt.alloc(), 0, None, scalar_place(0, 1))?.is_good());
-    assert!(rt; !one_place(rt.alloc(), 9, None, scalar_place(0, 1))?.is_good());
     let overlapping = Vec::from_array(rt.alloc(), [scalar_place(0, 5), scalar_place(4, 1)])?;
     assert!(rt;
         !Layout {

@@ -145,22 +145,14 @@ fn again(alloc: Global, cluster: &[u8], table: u16, log: &str) -> Result<Vec<u8>
 }
 
 #[test]
-fn three_byte_message(rt: HostRuntime) -> Result<(), Fail> {
-    let text = again(rt.alloc(), DOOR_CLUSTER, 0, THREE_BYTES)?;
-    expect_text(&rt, &text, THREE_BYTES.as_bytes(), "log");
-    Ok(())
-}
-
-#[test]
-fn two_responders_interleaved(rt: HostRuntime) -> Result<(), Fail> {
-    let text = again(rt.alloc(), KEYS_CLUSTER, 2, TWO_RESPONDERS)?;
-    expect_text(&rt, &text, TWO_RESPONDERS.as_bytes(), "log");
-    Ok(())
-}
-
-#[test]
-fn message_to_all(rt: HostRuntime) -> Result<(), Fail> {
-    let text = again(rt.alloc(), KEYS_CLUSTER, 2, MESSAGE_TO_ALL)?;
-    expect_text(&rt, &text, MESSAGE_TO_ALL.as_bytes(), "log");
+fn logs_are_made_again(rt: HostRuntime) -> Result<(), Fail> {
+    for (cluster, table, log) in [
+        (DOOR_CLUSTER, 0, THREE_BYTES),
+        (KEYS_CLUSTER, 2, TWO_RESPONDERS),
+        (KEYS_CLUSTER, 2, MESSAGE_TO_ALL),
+    ] {
+        let text = again(rt.alloc(), cluster, table, log)?;
+        expect_text(&rt, &text, log.as_bytes(), "log");
+    }
     Ok(())
 }

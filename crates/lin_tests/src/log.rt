@@ -95,20 +95,15 @@ fn expect_first_steps(rt: &impl Abort, alloc: Global, core: &Core) -> Result<(),
 }
 
 #[test]
-fn three_byte_message(rt: HostRuntime) -> Result<(), Fail> {
-    let alloc = rt.alloc();
-    expect_log(&rt, alloc, 16, FIRST, FIRST_LOG)?;
-    let core = core_behind(&rt, alloc, DOOR_CLUSTER, 16, FIRST_LOG.as_bytes())?;
-    expect_first_steps(&rt, alloc, &core)
-}
-
-#[test]
 fn log_is_a_script(rt: HostRuntime) -> Result<(), Fail> {
     let alloc = rt.alloc();
+    expect_log(&rt, alloc, 16, FIRST, FIRST_LOG)?;
     for log in [FIRST_LOG, SIX_BYTES, LEFT_OUT, REFUSED, LOST] {
         expect_log(&rt, alloc, 16, log, log)?;
     }
-    expect_log(&rt, alloc, 1, QUEUE_OF_ONE, QUEUE_OF_ONE)
+    expect_log(&rt, alloc, 1, QUEUE_OF_ONE, QUEUE_OF_ONE)?;
+    let core = core_behind(&rt, alloc, DOOR_CLUSTER, 16, FIRST_LOG.as_bytes())?;
+    expect_first_steps(&rt, alloc, &core)
 }
 
 /// Scripts, and the logs of their steps.
@@ -177,52 +172,6 @@ fn expect_bad_line(rt: &impl Abort, alloc: Global, script: &str, bad: u64) {
     );
 }
 
-#[test]
-fn forms_of_lines(rt: HostRuntime) -> Result<(), Fail> {
-    for (script, log) in FORMS {
-        expect_log(&rt, rt.alloc(), 16, script, log)?;
-    }
-    for (script, bad) in BAD_LINES {
-        expect_bad_line(&rt, rt.alloc(), script, *bad);
-    }
-    Ok(())
-}
-
-#[test]
-fn a_bad_line_writes_nothing(rt: HostRuntime) -> Result<(), Fail> {
-    let mut text = Vec::new(rt.alloc());
-    let mut rest = "bus open\nbus open extra".as_bytes();
-    let fault = fault(rt.alloc(), 16, &mut rest, &mut text)?;
-    assert!(rt;
-        matches!(
-            fault,
-            Some(ReplayFault::Script(ScriptFault::BadLine { line: 2 }))
-        )
-    );
-    assert!(rt; text.is_empty());
-    Ok(())
-}
-
-fn if_is(holds: bool, what: &'static str) -> &'static str {
-    if holds { what } else { "anything else" }
-}
-
-/// How often a script of so many spaces is read, and what comes of it.
-fn reads_of(alloc: Global, spaces: usize) -> (usize, &'static str) {
-    let mut reader = Counted { spaces, reads: 0 };
-    let found = match read_script(alloc, &mut reader) {
-        Ok(steps) => if_is(steps.is_empty(), "no step"),
-        Err(fault) => if_is(matches!(fault, ScriptFault::TooLong), "too long"),
-    };
-    (reader.reads, found)
-}
-
-#[test]
-fn reads_and_length(rt: HostRuntime) {
-    assert!(rt; reads_of(rt.alloc(), 16_777_216) == (16_777_217, "no step"));
-    assert!(rt; reads_of(rt.alloc(), 20_000_000) == (16_777_217, "too long"));
-}
-
 /// The number of the last line of a text.
 fn last_line(text: &[u8]) -> u64 {
     let mut last = 1u64;
@@ -245,11 +194,69 @@ fn is_read_to_its_last_line(alloc: Global, text: &[u8]) -> bool {
 }
 
 #[test]
-fn prefixes_of_the_first_script(rt: HostRuntime) {
+fn forms_of_lines(rt: HostRuntime) -> Result<(), Fail> {
+    for (script, log) in FORMS {
+        expect_log(&rt, rt.alloc(), 16, script, log)?;
+    }
+    for (script, bad) in BAD_LINES {
+        expect_bad_line(&rt, rt.alloc(), script, *bad);
+    }
     let script = FIRST.as_bytes();
     for len in 0..=script.len() {
-        assert!(rt; is_read_to_its_last_line(rt.alloc(), &script[..len]));
+        assert!(rt;
+            is_read_to_its_last_line(rt.alloc(), &script[..len]),
+            "of {len} bytes"
+        );
     }
+    Ok(())
+}
+
+fn if_is(holds: bool, what: &'static str) -> &'static str {
+    if holds { what } else { "anything else" }
+}
+
+/// How often a script of so many spaces is read, and what comes of it.
+fn reads_of(alloc: Global, spaces: usize) -> (usize, &'static str) {
+    let mut reader = Counted { spaces, reads: 0 };
+    let found = match read_script(alloc, &mut reader) {
+        Ok(steps) => if_is(steps.is_empty(), "no step"),
+        Err(fault) => if_is(matches!(fault, ScriptFault::TooLong), "too long"),
+    };
+    (reader.reads, found)
+}
+
+#[test]
+fn reads_and_length(rt: HostRuntime) {
+    for (spaces, found) in [(16_777_216, "no step"), (20_000_000, "too long")] {
+        assert!(rt; reads_of(rt.alloc(), spaces) == (16_777_217, found));
+    }
+}
+
+/// Faults, and what is written of them.
+const FAULTS: &[(ReplayFault, &str)] = &[
+    (
+        ReplayFault::Script(ScriptFault::BadLine { line: 70_000 }),
+        "script 70000 bad line",
+    ),
+    (ReplayFault::Script(ScriptFault::TooLong), "script too long"),
+    (ReplayFault::Script(ScriptFault::ReadFailed), "read failed"),
+    (
+        ReplayFault::Script(ScriptFault::OutOfMemory),
+        "out of memory",
+    ),
+    (ReplayFault::OutOfMemory, "out of memory"),
+    (ReplayFault::WriteFailed, "write failed"),
+];
+
+#[test]
+fn texts_of_faults(rt: HostRuntime) -> Result<(), Fail> {
+    for (fault, wanted) in FAULTS {
+        assert_eq!(rt; fault.to_string(rt.alloc())?.as_str(), *wanted);
+        if let ReplayFault::Script(fault) = fault {
+            assert_eq!(rt; fault.to_string(rt.alloc())?.as_str(), *wanted);
+        }
+    }
+    Ok(())
 }
 
 /// A replay of the first script, where its reader and its writer fail after so many bytes: the
@@ -287,26 +294,31 @@ fn fails_at_each_read_and_write(rt: HostRuntime) -> Result<(), Fail> {
     Ok(())
 }
 
+/// A fault writes nothing, and what failed is asked no second time.
 #[test]
-fn reads_once_where_it_fails(rt: HostRuntime) -> Result<(), Fail> {
+fn stops_where_it_fails(rt: HostRuntime) -> Result<(), Fail> {
+    let mut text = Vec::new(rt.alloc());
+    let mut rest = "bus open\nbus open extra".as_bytes();
+    let bad = fault(rt.alloc(), 16, &mut rest, &mut text)?;
+    assert!(rt;
+        matches!(
+            bad,
+            Some(ReplayFault::Script(ScriptFault::BadLine { line: 2 }))
+        )
+    );
+    assert!(rt; text.is_empty());
     let mut reader = Broken {
         kind: Some(ErrorKind::Interrupted),
         calls: 0,
     };
-    let mut text = Vec::new(rt.alloc());
-    let fault = fault(rt.alloc(), 16, &mut reader, &mut text)?;
-    assert!(rt; matches!(fault, Some(ReplayFault::Script(ScriptFault::ReadFailed))));
+    let unread = fault(rt.alloc(), 16, &mut reader, &mut text)?;
+    assert!(rt; matches!(unread, Some(ReplayFault::Script(ScriptFault::ReadFailed))));
     assert!(rt; reader.calls == 1);
-    Ok(())
-}
-
-#[test]
-fn writes_once_where_it_fails(rt: HostRuntime) -> Result<(), Fail> {
     for kind in [Some(ErrorKind::Interrupted), None] {
         let mut rest = FIRST.as_bytes();
         let mut writer = Broken { kind, calls: 0 };
-        let fault = fault(rt.alloc(), 16, &mut rest, &mut writer)?;
-        assert!(rt; matches!(fault, Some(ReplayFault::WriteFailed)));
+        let unwritten = fault(rt.alloc(), 16, &mut rest, &mut writer)?;
+        assert!(rt; matches!(unwritten, Some(ReplayFault::WriteFailed)));
         assert!(rt; writer.calls == 1);
     }
     Ok(())

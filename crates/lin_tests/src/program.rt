@@ -4,8 +4,8 @@ use crate::log::fakes::{Broken, Refusing};
 use crate::samples::{BODY_CLUSTER, DOOR_CLUSTER, cluster_of, expect_text};
 use lin_log::run_script;
 use lin_tool::{
-    Described, Fault, Format, Lists, Notes, Wanted, cluster_of_reader, cluster_of_text,
-    opening_table, read_text, replay_script, write_list, write_lists, write_shown,
+    Fault, Format, Lists, Notes, Wanted, cluster_of_reader, cluster_of_text, opening_table,
+    read_text, replay_script, write_list, write_lists, write_shown,
 };
 use std::alloc::Global;
 use std::io::ErrorKind;
@@ -14,9 +14,9 @@ use std::test::Fail;
 
 fn cluster_text(alloc: Global, mut rest: &[u8]) -> Result<Vec<u8>, Fault> {
     let mut notes = Notes::new(alloc, Wanted::default());
-    let described = cluster_of_reader(alloc, &mut rest, &mut notes)?;
+    let cluster = cluster_of_reader(alloc, &mut rest, &mut notes)?;
     let mut text = Vec::new(alloc);
-    write_list(&described.cluster, &mut text)?;
+    write_list(&cluster, &mut text)?;
     Ok(text)
 }
 
@@ -35,11 +35,11 @@ fn replayed(alloc: Global, script: &[u8]) -> Result<Vec<u8>, Fault> {
     let mut reader = script;
     let mut text = Vec::new(alloc);
     let mut notes = Notes::new(alloc, Wanted::default());
-    let described = cluster_of_reader(alloc, &mut rest, &mut notes)?;
-    let table = opening_table(&described.cluster, None)?;
+    let cluster = cluster_of_reader(alloc, &mut rest, &mut notes)?;
+    let table = opening_table(&cluster, None)?;
     replay_script(
         alloc,
-        described,
+        cluster,
         table,
         16,
         Format::Log,
@@ -63,7 +63,7 @@ fn script_is_replayed(rt: HostRuntime) {
 }
 
 #[test]
-fn file_is_read_once_where_that_fails(rt: HostRuntime) {
+fn asked_once_where_that_fails(rt: HostRuntime) -> Result<(), Fail> {
     for kind in [ErrorKind::OutOfMemory, ErrorKind::Interrupted] {
         let mut reader = Broken {
             kind: Some(kind),
@@ -73,10 +73,6 @@ fn file_is_read_once_where_that_fails(rt: HostRuntime) {
         assert!(rt; matches!(text, Err(Fault::ReadFailed)));
         assert!(rt; reader.calls == 1);
     }
-}
-
-#[test]
-fn list_is_written_once_where_that_fails(rt: HostRuntime) -> Result<(), Fail> {
     let cluster = cluster_of(rt.alloc(), BODY_CLUSTER)?;
     for kind in [Some(ErrorKind::Interrupted), None] {
         let mut writer = Broken { kind, calls: 0 };
@@ -90,19 +86,19 @@ fn list_is_written_once_where_that_fails(rt: HostRuntime) -> Result<(), Fail> {
 #[test]
 fn lists_end_where_a_write_fails(rt: HostRuntime) -> Result<(), Fail> {
     let alloc = rt.alloc();
-    let described = cluster_of_text(alloc, BODY_CLUSTER)?;
+    let cluster = cluster_of_text(alloc, BODY_CLUSTER)?;
     let all = Lists {
         frames: true,
         slots: true,
     };
     let mut whole = Vec::new(alloc);
-    write_lists(&described, all, &mut whole)?;
+    write_lists(&cluster, all, &mut whole)?;
     for good in 0..whole.len() {
         let mut writer = Refusing {
             taken: Vec::new(alloc),
             good,
         };
-        assert!(rt; write_lists(&described, all, &mut writer).is_err());
+        assert!(rt; write_lists(&cluster, all, &mut writer).is_err());
         expect_text(
             &rt,
             &writer.taken,
@@ -120,7 +116,7 @@ const STEPS: &[u8] =
 #[test]
 fn formats_end_where_a_write_fails(rt: HostRuntime) -> Result<(), Fail> {
     let alloc = rt.alloc();
-    let Described { cluster, names } = cluster_of_text(alloc, DOOR_CLUSTER)?;
+    let cluster = cluster_of_text(alloc, DOOR_CLUSTER)?;
     let table = opening_table(&cluster, None)?;
     let core = run_script(alloc, cluster, table, 16, STEPS)?;
     for format in [
@@ -129,16 +125,17 @@ fn formats_end_where_a_write_fails(rt: HostRuntime) -> Result<(), Fail> {
         Format::Csv,
         Format::Pcap,
         Format::Vcd,
-        Format::Html,
+        Format::Html(b"door.ldf"),
     ] {
         let mut whole = Vec::new(alloc);
-        write_shown(alloc, format, &names, &core, &mut whole)?;
-        for good in 0..whole.len() {
+        write_shown(alloc, format, &core, &[], &mut whole)?;
+        // (a page is long: some of its beginnings)
+        for good in (0..whole.len()).step_by(1 + whole.len() / 4096) {
             let mut writer = Refusing {
                 taken: Vec::new(alloc),
                 good,
             };
-            let written = write_shown(alloc, format, &names, &core, &mut writer);
+            let written = write_shown(alloc, format, &core, &[], &mut writer);
             assert!(rt; written.is_err());
             expect_text(&rt, &writer.taken, &whole[..good], "a beginning");
         }

@@ -12,19 +12,6 @@ pub fn cluster_of(alloc: Global, text: &[u8]) -> Result<Cluster, Fail> {
     Ok(check(alloc, parse(alloc, text)?)?)
 }
 
-/// What holds of the cluster of a text.
-pub fn expect_cluster<F: FnOnce(&Cluster) -> bool>(
-    rt: &impl Abort,
-    alloc: Global,
-    text: &[u8],
-    holds: F,
-) -> Result<(), Fail>
-    requires { F.IsAlwaysCallable holds }
-{
-    assert!(rt; holds(&cluster_of(alloc, text)?));
-    Ok(())
-}
-
 /// A core on the cluster of a text.
 pub fn core_of(alloc: Global, cluster: &[u8], table: u16) -> Result<Core, Fail> {
     let cluster = cluster_of(alloc, cluster)?;
@@ -67,6 +54,8 @@ pub fn expect_text(rt: &impl Abort, found: &[u8], want: &[u8], case: &str) {
     let text = std::str::from_utf8(found).unwrap_or("no text");
     assert!(rt; found == want, "{case}: {text}");
 }
+
+pub const BYTE_ORDER_MARK: &[u8] = b"\xEF\xBB\xBF";
 
 /// The first lines of a text.
 pub const FOUR_LINES: &[u8] = b"LIN_description_file;

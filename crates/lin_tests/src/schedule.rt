@@ -2,10 +2,9 @@
 
 ghost use Rattle.lin_schedule.specs.Walker.{Walks};
 
-use crate::samples::{cluster_of, expect_cluster};
+use crate::samples::cluster_of;
 use lin_cluster::Cluster;
 use lin_schedule::{Due, Walker, entries_in_turn, excursions_run_once};
-use std::alloc::Global;
 use std::process::Abort;
 use std::test::Fail;
 
@@ -70,7 +69,7 @@ fn go_on(rt: &impl Abort, cluster: &Cluster, walker: &mut Walker, by: Move)
 /// The places of a walk: each move, and the table and entry of the slot after it.
 type Walk<'a> = &'a [(Move, (u16, u16))];
 
-fn expect_places(rt: &impl Abort, cluster: &Cluster, opening: u16, walk: Walk) {
+fn expect_places(rt: &impl Abort, cluster: &Cluster, opening: u16, walk: Walk, what: &str) {
     assert!(rt; usize::from(opening) < cluster.tables());
     cluster.sound();
     let mut walker = Walker::new(opening);
@@ -78,87 +77,91 @@ fn expect_places(rt: &impl Abort, cluster: &Cluster, opening: u16, walk: Walk) {
     for (by, place) in walk {
         go_on(rt, cluster, &mut walker, *by);
         let (table, entry) = walker.place();
-        assert!(rt; (table, entry) == *place, "at {table} {entry}");
+        assert!(rt; (table, entry) == *place, "{what}: at {table} {entry}");
     }
 }
 
-fn expect_walk(rt: &impl Abort, alloc: Global, opening: u16, walk: Walk) -> Result<(), Fail> {
-    expect_places(rt, &cluster_of(alloc, SMALL_CLUSTER)?, opening, walk);
+/// Walks, the tables that open them, and what they show. A clash in the slot of a sporadic frame
+/// starts nothing.
+const WALKS: &[(&str, u16, Walk<'static>)] = &[
+    (
+        "three entries run twice round",
+        MAIN,
+        &[
+            (Clash, (MAIN, 1)),
+            (Slot, (MAIN, 2)),
+            (Slot, (MAIN, 0)),
+            (Slot, (MAIN, 1)),
+            (Slot, (MAIN, 2)),
+            (Clash, (MAIN, 0)),
+        ],
+    ),
+    (
+        "collision and resolution",
+        MAIN,
+        &[
+            (Slot, (MAIN, 1)),
+            (Clash, (RESOLVE, 0)),
+            (Clash, (RESOLVE, 1)),
+            (Clash, (MAIN, 2)),
+            (Slot, (MAIN, 0)),
+        ],
+    ),
+    (
+        "a switch after a damaged event slot",
+        MAIN,
+        &[
+            (Slot, (MAIN, 1)),
+            (Clash, (RESOLVE, 0)),
+            (Switch(DIAGNOSTIC), (DIAGNOSTIC, 0)),
+            (Slot, (DIAGNOSTIC, 1)),
+            (Slot, (DIAGNOSTIC, 2)),
+            (Slot, (DIAGNOSTIC, 0)),
+        ],
+    ),
+    (
+        "an excursion of one slot at the last entry",
+        SHORT,
+        &[
+            (Slot, (SHORT, 1)),
+            (Clash, (RESOLVE_SHORT, 0)),
+            (Slot, (SHORT, 0)),
+            (Slot, (SHORT, 1)),
+        ],
+    ),
+    (
+        "a resolving table is a main table too",
+        MAIN,
+        &[
+            (Switch(RESOLVE), (RESOLVE, 0)),
+            (Clash, (RESOLVE, 1)),
+            (Slot, (RESOLVE, 0)),
+            (Slot, (RESOLVE, 1)),
+        ],
+    ),
+    (
+        "a restart starts the current table",
+        MAIN,
+        &[
+            (Switch(SHORT), (SHORT, 0)),
+            (Slot, (SHORT, 1)),
+            (Restart, (SHORT, 0)),
+            (Slot, (SHORT, 1)),
+            (Clash, (RESOLVE_SHORT, 0)),
+            (Restart, (SHORT, 0)),
+        ],
+    ),
+];
+
+#[test]
+fn walks(rt: HostRuntime) -> Result<(), Fail> {
+    let cluster = cluster_of(rt.alloc(), SMALL_CLUSTER)?;
+    for (what, opening, walk) in WALKS {
+        expect_places(&rt, &cluster, *opening, walk, what);
+    }
+    entries_in_turn();
+    excursions_run_once();
     Ok(())
-}
-
-#[test]
-fn three_entries_run_twice_round(rt: HostRuntime) -> Result<(), Fail> {
-    // a clash in the slot of a sporadic frame starts nothing
-    let walk = [
-        (Clash, (MAIN, 1)),
-        (Slot, (MAIN, 2)),
-        (Slot, (MAIN, 0)),
-        (Slot, (MAIN, 1)),
-        (Slot, (MAIN, 2)),
-        (Clash, (MAIN, 0)),
-    ];
-    expect_walk(&rt, rt.alloc(), MAIN, &walk)
-}
-
-#[test]
-fn collision_and_resolution(rt: HostRuntime) -> Result<(), Fail> {
-    let walk = [
-        (Slot, (MAIN, 1)),
-        (Clash, (RESOLVE, 0)),
-        (Clash, (RESOLVE, 1)),
-        (Clash, (MAIN, 2)),
-        (Slot, (MAIN, 0)),
-    ];
-    expect_walk(&rt, rt.alloc(), MAIN, &walk)
-}
-
-#[test]
-fn switch_behind_a_damaged_event_slot(rt: HostRuntime) -> Result<(), Fail> {
-    let walk = [
-        (Slot, (MAIN, 1)),
-        (Clash, (RESOLVE, 0)),
-        (Switch(DIAGNOSTIC), (DIAGNOSTIC, 0)),
-        (Slot, (DIAGNOSTIC, 1)),
-        (Slot, (DIAGNOSTIC, 2)),
-        (Slot, (DIAGNOSTIC, 0)),
-    ];
-    expect_walk(&rt, rt.alloc(), MAIN, &walk)
-}
-
-#[test]
-fn excursion_of_one_slot_at_the_last_entry(rt: HostRuntime) -> Result<(), Fail> {
-    let walk = [
-        (Slot, (SHORT, 1)),
-        (Clash, (RESOLVE_SHORT, 0)),
-        (Slot, (SHORT, 0)),
-        (Slot, (SHORT, 1)),
-    ];
-    expect_walk(&rt, rt.alloc(), SHORT, &walk)
-}
-
-#[test]
-fn resolving_table_is_a_main_table_too(rt: HostRuntime) -> Result<(), Fail> {
-    let walk = [
-        (Switch(RESOLVE), (RESOLVE, 0)),
-        (Clash, (RESOLVE, 1)),
-        (Slot, (RESOLVE, 0)),
-        (Slot, (RESOLVE, 1)),
-    ];
-    expect_walk(&rt, rt.alloc(), MAIN, &walk)
-}
-
-#[test]
-fn restart_starts_the_current_table(rt: HostRuntime) -> Result<(), Fail> {
-    let walk = [
-        (Switch(SHORT), (SHORT, 0)),
-        (Slot, (SHORT, 1)),
-        (Restart, (SHORT, 0)),
-        (Slot, (SHORT, 1)),
-        (Clash, (RESOLVE_SHORT, 0)),
-        (Restart, (SHORT, 0)),
-    ];
-    expect_walk(&rt, rt.alloc(), MAIN, &walk)
 }
 
 /// Whether this is due where a table opens the schedule and some slots are over.
@@ -174,44 +177,26 @@ fn is_due(cluster: &Cluster, table: u16, slots: u16, pending: [bool; 4], due: Du
     walker.due(cluster, &pending) == due
 }
 
-fn has_sporadic_due(cluster: &Cluster) -> bool {
-    is_due(
-        cluster,
-        MAIN,
-        0,
-        [false, false, true, true],
-        Due::Sporadic(None),
-    ) && is_due(
-        cluster,
-        MAIN,
-        0,
-        [true, false, false, false],
-        Due::Sporadic(Some(0)),
-    ) && is_due(
-        cluster,
-        MAIN,
-        0,
-        [true, true, false, false],
-        Due::Sporadic(Some(1)),
-    )
-}
-
-fn has_others_due(cluster: &Cluster) -> bool {
-    is_due(cluster, MAIN, 1, [true; 4], Due::Event(0))
-        && is_due(cluster, MAIN, 2, [false; 4], Due::Frame(0))
-        && is_due(cluster, DIAGNOSTIC, 0, [false; 4], Due::MasterReq)
-        && is_due(cluster, DIAGNOSTIC, 1, [false; 4], Due::SlaveResp)
-        && is_due(cluster, DIAGNOSTIC, 2, [false; 4], Due::Quiet)
-}
+/// Tables, how many of their slots are over, which frames are pending, and what is due.
+const DUE: &[(u16, u16, [bool; 4], Due)] = &[
+    (MAIN, 0, [false, false, true, true], Due::Sporadic(None)),
+    (MAIN, 0, [true, false, false, false], Due::Sporadic(Some(0))),
+    (MAIN, 0, [true, true, false, false], Due::Sporadic(Some(1))),
+    (MAIN, 1, [true; 4], Due::Event(0)),
+    (MAIN, 2, [false; 4], Due::Frame(0)),
+    (DIAGNOSTIC, 0, [false; 4], Due::MasterReq),
+    (DIAGNOSTIC, 1, [false; 4], Due::SlaveResp),
+    (DIAGNOSTIC, 2, [false; 4], Due::Quiet),
+];
 
 #[test]
 fn due_by_the_kind_of_entry(rt: HostRuntime) -> Result<(), Fail> {
-    expect_cluster(&rt, rt.alloc(), SMALL_CLUSTER, has_sporadic_due)?;
-    expect_cluster(&rt, rt.alloc(), SMALL_CLUSTER, has_others_due)
-}
-
-#[test]
-fn laws_have_nothing_to_run(_rt: HostRuntime) {
-    entries_in_turn();
-    excursions_run_once();
+    let cluster = cluster_of(rt.alloc(), SMALL_CLUSTER)?;
+    for (table, slots, pending, due) in DUE {
+        assert!(rt;
+            is_due(&cluster, *table, *slots, *pending, *due),
+            "table {table} after {slots} slots"
+        );
+    }
+    Ok(())
 }

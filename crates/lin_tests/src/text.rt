@@ -66,17 +66,6 @@ fn read_slowly(alloc: Global, good: usize) -> Result<Vec<u8>, Fault> {
     read_text(alloc, &mut reader)
 }
 
-#[test]
-fn ldf_text_fails_at_each_read(rt: HostRuntime) -> Result<(), Fail> {
-    for good in 0..=BODY_CLUSTER.len() {
-        let text = read_slowly(rt.alloc(), good);
-        assert!(rt; matches!(text, Err(Fault::ReadFailed)));
-    }
-    let text = read_slowly(rt.alloc(), BODY_CLUSTER.len() + 1)?;
-    expect_text(&rt, text.as_slice(), BODY_CLUSTER, "the text");
-    Ok(())
-}
-
 /// The list of a cluster, one byte a write, where writes fail after so many: whether it was
 /// written, and what was.
 fn list_slowly(alloc: Global, good: usize) -> Result<(bool, Vec<u8>), Fail> {
@@ -90,7 +79,16 @@ fn list_slowly(alloc: Global, good: usize) -> Result<(bool, Vec<u8>), Fail> {
 }
 
 #[test]
-fn list_fails_at_each_write(rt: HostRuntime) -> Result<(), Fail> {
+fn fails_at_each_read_and_write(rt: HostRuntime) -> Result<(), Fail> {
+    for good in 0..=BODY_CLUSTER.len() {
+        let text = read_slowly(rt.alloc(), good);
+        assert!(rt;
+            matches!(text, Err(Fault::ReadFailed)),
+            "after {good} reads"
+        );
+    }
+    let text = read_slowly(rt.alloc(), BODY_CLUSTER.len() + 1)?;
+    expect_text(&rt, text.as_slice(), BODY_CLUSTER, "the text");
     let (is_written, list) = list_slowly(rt.alloc(), 1000)?;
     assert!(rt; is_written);
     for good in 0..list.len() {

@@ -31,44 +31,50 @@ fn hears(
     for (i, frame) in frames.iter().enumerate() {
         match receiver.hear(frame)? {
             Some(heard) => {
-                assert_eq!(rt; i + 1, frames.len());
-                assert!(rt; heard.as_slice() == message);
+                assert_eq!(rt; i + 1, frames.len(), "of {} bytes", message.len());
+                assert!(rt; heard.as_slice() == message, "of {} bytes", message.len());
             }
-            None => assert!(rt; i + 1 < frames.len()),
+            None => assert!(rt; i + 1 < frames.len(), "of {} bytes", message.len()),
         }
     }
     Ok(())
 }
 
-#[test]
-fn six_and_seven_bytes(rt: HostRuntime) -> Result<(), Fail> {
-    let mut receiver = Receiver::new(rt.alloc(), 1);
-
-    let six = [1, 2, 3, 4, 5, 6];
-    let frames = frames_of(rt.alloc(), 1, &six)?;
-    assert!(rt; frames.as_slice() == [[1, 6, 1, 2, 3, 4, 5, 6]].as_slice());
-    hears(&rt, &mut receiver, frames.as_slice(), &six)?;
-
-    let seven = [1, 2, 3, 4, 5, 6, 7];
-    let frames = frames_of(rt.alloc(), 1, &seven)?;
-    let wanted = [
-        [1, 0x10, 7, 1, 2, 3, 4, 5],
-        [1, 0x21, 6, 7, 0xFF, 0xFF, 0xFF, 0xFF],
-    ];
-    assert!(rt; frames.as_slice() == wanted.as_slice());
-    hears(&rt, &mut receiver, frames.as_slice(), &seven)?;
-    Ok(())
+// The frames of a message to address 1: how many there are, and some of them, with their places.
+fn expect_frames(
+    rt: &impl Abort,
+    alloc: Global,
+    message: &[u8],
+    count: usize,
+    wanted: &[(usize, [u8; 8])],
+) -> Result<(), AllocError> {
+    assert!(rt; 1 <= message.len() && message.len() <= 4095);
+    let frames = frames_of(alloc, 1, message)?;
+    assert_eq!(rt; frames.len(), count);
+    for (place, frame) in wanted {
+        assert!(rt;
+            frames.get(*place) == Some(frame),
+            "frame {place} of {count}"
+        );
+    }
+    let mut receiver = Receiver::new(alloc, 1);
+    hears(rt, &mut receiver, frames.as_slice(), message)
 }
 
 #[test]
-fn longest_message(rt: HostRuntime) -> Result<(), Fail> {
-    let message = [0x5A; 4095];
-    let frames = frames_of(rt.alloc(), 1, &message)?;
-    assert_eq!(rt; frames.len(), 683);
-    assert!(rt; frames[0] == [0x01, 0x1F, 0xFF, 0x5A, 0x5A, 0x5A, 0x5A, 0x5A]);
-    assert!(rt; frames[682] == [0x01, 0x2A, 0x5A, 0x5A, 0x5A, 0x5A, 0xFF, 0xFF]);
-    let mut receiver = Receiver::new(rt.alloc(), 1);
-    hears(&rt, &mut receiver, frames.as_slice(), &message)?;
+fn frames_of_messages(rt: HostRuntime) -> Result<(), Fail> {
+    let six = [(0, [1, 6, 1, 2, 3, 4, 5, 6])];
+    expect_frames(&rt, rt.alloc(), &[1, 2, 3, 4, 5, 6], 1, &six)?;
+    let seven = [
+        (0, [1, 0x10, 7, 1, 2, 3, 4, 5]),
+        (1, [1, 0x21, 6, 7, 0xFF, 0xFF, 0xFF, 0xFF]),
+    ];
+    expect_frames(&rt, rt.alloc(), &[1, 2, 3, 4, 5, 6, 7], 2, &seven)?;
+    let longest = [
+        (0, [0x01, 0x1F, 0xFF, 0x5A, 0x5A, 0x5A, 0x5A, 0x5A]),
+        (682, [0x01, 0x2A, 0x5A, 0x5A, 0x5A, 0x5A, 0xFF, 0xFF]),
+    ];
+    expect_frames(&rt, rt.alloc(), &[0x5A; 4095], 683, &longest)?;
     Ok(())
 }
 
@@ -88,23 +94,41 @@ fn there_and_back(rt: HostRuntime) -> Result<(), Fail> {
     Ok(())
 }
 
+// What is heard in turn: frames, and whether each gives a message.
+fn hears_in_turn(
+    rt: &impl Abort,
+    receiver: &mut Receiver,
+    frames: &[([u8; 8], bool)],
+) -> Result<(), AllocError> {
+    for (frame, gives) in frames {
+        assert_eq!(rt; receiver.hear(frame)?.is_some(), *gives, "{frame:?}");
+    }
+    Ok(())
+}
+
+// The first and the last frame of seven bytes.
+const FIRST: [u8; 8] = [1, 0x10, 7, 1, 2, 3, 4, 5];
+
+const LAST: [u8; 8] = [1, 0x21, 6, 7, 0xFF, 0xFF, 0xFF, 0xFF];
+
+// A frame to another address is not looked at.
+const TO_ANOTHER: [u8; 8] = [2, 0x10, 7, 1, 2, 3, 4, 5];
+
 #[test]
 fn reset_cuts_a_message(rt: HostRuntime) -> Result<(), Fail> {
     let mut receiver = Receiver::new(rt.alloc(), 1);
-    assert!(rt; receiver.hear(&[1, 0x10, 7, 1, 2, 3, 4, 5])?.is_none());
+    hears_in_turn(&rt, &mut receiver, &[(FIRST, false)])?;
     receiver.reset();
-    assert!(rt;
-        receiver
-            .hear(&[1, 0x21, 6, 7, 0xFF, 0xFF, 0xFF, 0xFF])?
-            .is_none()
-    );
-    assert!(rt; receiver.hear(&[1, 0x10, 7, 1, 2, 3, 4, 5])?.is_none());
-    assert!(rt; receiver.hear(&[2, 0x10, 7, 1, 2, 3, 4, 5])?.is_none());
-    assert!(rt;
-        receiver
-            .hear(&[1, 0x21, 6, 7, 0xFF, 0xFF, 0xFF, 0xFF])?
-            .is_some()
-    );
+    hears_in_turn(
+        &rt,
+        &mut receiver,
+        &[
+            (LAST, false),
+            (FIRST, false),
+            (TO_ANOTHER, false),
+            (LAST, true),
+        ],
+    )?;
     Ok(())
 }
 
@@ -119,25 +143,22 @@ fn message_to_all(rt: HostRuntime) -> Result<(), Fail> {
     hears(&rt, &mut receiver, &[to_all], &[0x3E, 0x80])?;
     hears(&rt, &mut receiver, &[to_all], &[0x3E, 0x80])?;
 
-    // its own messages, too; but a frame to all ends what is partial
+    // its own messages, too; but a frame to all ends what is partial; and segmented ones to all are
+    // not read
     let seven = [1, 2, 3, 4, 5, 6, 7];
     let frames = frames_of(rt.alloc(), 5, &seven)?;
     hears(&rt, &mut receiver, frames.as_slice(), &seven)?;
-    assert!(rt; receiver.hear(&[5, 0x10, 7, 1, 2, 3, 4, 5])?.is_none());
-    assert!(rt; receiver.hear(&to_all)?.is_some());
-    assert!(rt;
-        receiver
-            .hear(&[5, 0x21, 6, 7, 0xFF, 0xFF, 0xFF, 0xFF])?
-            .is_none()
-    );
-
-    // segmented ones to all are not read
-    assert!(rt; receiver.hear(&[0x7E, 0x10, 7, 1, 2, 3, 4, 5])?.is_none());
-    assert!(rt;
-        receiver
-            .hear(&[0x7E, 0x21, 6, 7, 0xFF, 0xFF, 0xFF, 0xFF])?
-            .is_none()
-    );
+    hears_in_turn(
+        &rt,
+        &mut receiver,
+        &[
+            ([5, 0x10, 7, 1, 2, 3, 4, 5], false),
+            (to_all, true),
+            ([5, 0x21, 6, 7, 0xFF, 0xFF, 0xFF, 0xFF], false),
+            ([0x7E, 0x10, 7, 1, 2, 3, 4, 5], false),
+            ([0x7E, 0x21, 6, 7, 0xFF, 0xFF, 0xFF, 0xFF], false),
+        ],
+    )?;
 
     let mut plain = Receiver::new(rt.alloc(), 5);
     assert!(rt; plain.hear(&to_all)?.is_none());
@@ -360,12 +381,8 @@ fn reads_lists(rt: &impl Abort, alloc: Global, all: bool) -> Result<(), AllocErr
 
 #[test]
 fn lists_of_frames(rt: HostRuntime) -> Result<(), Fail> {
-    reads_lists(&rt, rt.alloc(), false)?;
-    Ok(())
-}
-
-#[test]
-fn lists_of_frames_also_to_all(rt: HostRuntime) -> Result<(), Fail> {
-    reads_lists(&rt, rt.alloc(), true)?;
+    for all in [false, true] {
+        reads_lists(&rt, rt.alloc(), all)?;
+    }
     Ok(())
 }

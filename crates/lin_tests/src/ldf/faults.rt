@@ -1,27 +1,10 @@
 //! The fault of each text that isn't read, with its place; and texts beside them that are read.
 
 use super::outcomes::{expect_outcomes, outcome};
-use crate::samples::{DOOR_CLUSTER, FOUR_LINES, HEADER, expect_text, joined};
+use crate::samples::{BYTE_ORDER_MARK, DOOR_CLUSTER, FOUR_LINES, HEADER, expect_text, joined};
 use std::alloc::Global;
 use std::process::Abort;
 use std::test::Fail;
-
-/// The first fault of the tokens, and a section that stands twice.
-#[test]
-fn ldf_faults_and_findings(rt: HostRuntime) -> Result<(), Fail> {
-    expect_outcomes(
-        &rt,
-        rt.alloc(),
-        b"",
-        "LIN_description_file; /* x => 1:23 fault 2 OpenComment",
-    )?;
-    expect_outcomes(
-        &rt,
-        rt.alloc(),
-        DOOR_CLUSTER,
-        "Frames {} Frames {} => 8:11 fault 6 SectionTwice",
-    )
-}
 
 /// Texts that are over early.
 const TEXTS: &str = " => 1:1 fault 4 Unexpected
@@ -59,26 +42,6 @@ fn expect_changes(rt: &impl Abort, alloc: Global, cases: &str) -> Result<(), Fai
     Ok(())
 }
 
-#[test]
-fn ldf_text(rt: HostRuntime) -> Result<(), Fail> {
-    expect_outcomes(&rt, rt.alloc(), b"", TEXTS)?;
-    expect_changes(&rt, rt.alloc(), CHANGES)
-}
-
-/// Texts that end after a separator or a comment.
-#[test]
-fn end_of_the_text(rt: HostRuntime) -> Result<(), Fail> {
-    expect_outcomes(&rt, rt.alloc(), b"\n", " => 2:1 fault 4 Unexpected")?;
-    expect_outcomes(&rt, rt.alloc(), b" \t", " => 1:3 fault 4 Unexpected")?;
-    expect_outcomes(&rt, rt.alloc(), b"// x\n", " => 2:1 fault 4 Unexpected")?;
-    expect_outcomes(
-        &rt,
-        rt.alloc(),
-        b"LIN_description_file;\n",
-        " => 2:1 fault 4 Unexpected",
-    )
-}
-
 /// A fault of the tokens after one of the grammar, before it and at it: that of the tokens is the first one.
 const BOTH_KINDS: &str = "Frames ; \" => 6:10 fault 3 OpenText
 Frames ; x /* => 6:12 fault 2 OpenComment
@@ -109,12 +72,6 @@ Signals { a: 8, 1, m; a => 6:23 fault 7 NameTwice
 Frames {} Frames => 6:11 fault 6 SectionTwice
 ";
 
-#[test]
-fn faults_of_both_kinds(rt: HostRuntime) -> Result<(), Fail> {
-    expect_outcomes(&rt, rt.alloc(), HEADER, BOTH_KINDS)?;
-    expect_outcomes(&rt, rt.alloc(), HEADER, AT_THE_LAST_BYTE)
-}
-
 /// Sections in any order, each used one once.
 const SECTIONS: &str = " => accepted
 Signals {} Signals => 6:12 fault 6 SectionTwice
@@ -141,11 +98,6 @@ Signals { Nodes: 1, 1, m; Signals: 1, 1, m; delay: 1, 0, m; } => accepted
 Schedule_tables { delay { delay delay 1 ms; } Nodes { ms delay 0 ms; } } => accepted
 ";
 
-#[test]
-fn sections(rt: HostRuntime) -> Result<(), Fail> {
-    expect_outcomes(&rt, rt.alloc(), HEADER, SECTIONS)
-}
-
 /// Extra lines of the header.
 const HEADER_LINES: &str =
     "LIN_description_file; Signals = { ; }, 7 !; kbps = ; Master = 1; LIN_protocol_version = \"2.2\"; Signals = { ; }, 7 !; kbps = ; Master = 1; LIN_language_version = \"2.2\"; Signals = { ; }, 7 !; kbps = ; Master = 1; LIN_speed = 19.2 kbps; Signals = { ; }, 7 !; kbps = ; Master = 1; Nodes { Master: m, 5 ms, 0.1 ms; Slaves: s; } => accepted
@@ -164,11 +116,6 @@ LIN_description_file; LIN_protocol_version = \"2\"; LIN_protocol_version => 1:51
 LIN_description_file; LIN_protocol_version = \"2\"; LIN_language_version = \"\"; LIN_speed = 1 bps; => 1:92 fault 4 Unexpected
 ";
 
-#[test]
-fn header_lines(rt: HostRuntime) -> Result<(), Fail> {
-    expect_outcomes(&rt, rt.alloc(), b"", HEADER_LINES)
-}
-
 /// Nodes, from line 5 on: their names differ.
 const NODES: &str = "Nodes { Master: m, 5 ms, 0.1 ms; Slaves: s, m; } => 5:45 fault 7 NameTwice
 Nodes { Master: m, 5 ms, 0.1 ms; Slaves: s, s } => 5:45 fault 7 NameTwice
@@ -180,11 +127,6 @@ Nodes { Master: m, 5 s, 0.1 ms; Slaves: s, t; } => 5:22 fault 4 Unexpected
 Nodes { Master: m, 4294967.295 ms, 0.1 ms; Slaves: s, t; } => accepted
 Nodes { Master: m, 4294967.296 ms, 0.1 ms; Slaves: s, t; } => 5:20 fault 5 NumberTooLarge
 ";
-
-#[test]
-fn nodes(rt: HostRuntime) -> Result<(), Fail> {
-    expect_outcomes(&rt, rt.alloc(), FOUR_LINES, NODES)
-}
 
 /// Names of one kind differ; fault 7 is at the second.
 const NAMES_TWICE: &str = "Signals { a: 8, 0, m; a => 6:23 fault 7 NameTwice
@@ -213,11 +155,6 @@ Signals { s: 1, 0, m, s, s; m: 1, 0, m; f: 1, 0, m; } Frames { s: 1, m, 1 { f, 0
 Sporadic_frames { f: g, g, f; } => accepted
 ";
 
-#[test]
-fn names_twice(rt: HostRuntime) -> Result<(), Fail> {
-    expect_outcomes(&rt, rt.alloc(), HEADER, NAMES_TWICE)
-}
-
 /// Tokens that are read and not used.
 const LISTS_AND_GROUPS: &str =
     "Node_attributes { s { x = ; y = { ; { } ; } , ! \"}\" 1.5; z { a = ; } w {} } } => accepted
@@ -237,11 +174,6 @@ x { { }  => 6:9 fault 4 Unexpected
 x { { } } } => 6:11 fault 4 Unexpected
 ";
 
-#[test]
-fn lists_and_groups(rt: HostRuntime) -> Result<(), Fail> {
-    expect_outcomes(&rt, rt.alloc(), HEADER, LISTS_AND_GROUPS)
-}
-
 /// Initial values, and words after them.
 const INITS: &str =
     "Signals { a: 8, {5}, m; b: 16, {1, 2}, m, s, t; c: 8, {1, 1, 1}, m; } => accepted
@@ -257,7 +189,36 @@ Event_triggered_frames { a: T, 1; } => 6:33 fault 4 Unexpected
 Event_triggered_frames { a: T, 1, ; } => 6:35 fault 4 Unexpected
 ";
 
+/// What stands before each text, and the texts.
 #[test]
-fn inits(rt: HostRuntime) -> Result<(), Fail> {
-    expect_outcomes(&rt, rt.alloc(), HEADER, INITS)
+fn ldf_faults_and_findings(rt: HostRuntime) -> Result<(), Fail> {
+    let cases: [(&[u8], &str); 17] = [
+        (
+            b"",
+            "LIN_description_file; /* x => 1:23 fault 2 OpenComment",
+        ),
+        (
+            DOOR_CLUSTER,
+            "Frames {} Frames {} => 8:11 fault 6 SectionTwice",
+        ),
+        (b"", TEXTS),
+        (b"\n", " => 2:1 fault 4 Unexpected"),
+        (b" \t", " => 1:3 fault 4 Unexpected"),
+        (b"// x\n", " => 2:1 fault 4 Unexpected"),
+        (b"LIN_description_file;\n", " => 2:1 fault 4 Unexpected"),
+        (BYTE_ORDER_MARK, " => 1:1 fault 4 Unexpected"),
+        (b"LIN_description_file\x80", " => 1:21 fault 1 BadByte"),
+        (HEADER, BOTH_KINDS),
+        (HEADER, AT_THE_LAST_BYTE),
+        (HEADER, SECTIONS),
+        (b"", HEADER_LINES),
+        (FOUR_LINES, NODES),
+        (HEADER, NAMES_TWICE),
+        (HEADER, LISTS_AND_GROUPS),
+        (HEADER, INITS),
+    ];
+    for (front, cases) in cases {
+        expect_outcomes(&rt, rt.alloc(), front, cases)?;
+    }
+    expect_changes(&rt, rt.alloc(), CHANGES)
 }

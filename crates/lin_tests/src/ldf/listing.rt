@@ -2,8 +2,8 @@
 
 use super::outcomes::expect_outcomes;
 use crate::samples::{
-    BODY_CLUSTER, DOOR_CLUSTER, HEADER, KEYS_CLUSTER, LIGHT_AND_FAN_CLUSTER, add, add_number,
-    add_place, expect_text, joined,
+    BODY_CLUSTER, BYTE_ORDER_MARK, DOOR_CLUSTER, HEADER, KEYS_CLUSTER, LIGHT_AND_FAN_CLUSTER, add,
+    add_number, add_place, expect_text, joined,
 };
 use lin_ldf::{
     Attributes, Description, EventFrame, Frame, Init, Name, Number, Signal, Sporadic, Table, parse,
@@ -11,8 +11,6 @@ use lin_ldf::{
 use std::alloc::Global;
 use std::process::Abort;
 use std::test::Fail;
-
-const BYTE_ORDER_MARK: &[u8] = b"\xEF\xBB\xBF";
 
 /// The text is read, after a byte-order mark too.
 fn expect_read(rt: &impl Abort, alloc: Global, text: &[u8]) -> Result<(), Fail> {
@@ -23,27 +21,16 @@ fn expect_read(rt: &impl Abort, alloc: Global, text: &[u8]) -> Result<(), Fail> 
 
 #[test]
 fn sample_clusters(rt: HostRuntime) -> Result<(), Fail> {
-    expect_read(&rt, rt.alloc(), DOOR_CLUSTER)?;
-    expect_read(&rt, rt.alloc(), KEYS_CLUSTER)?;
-    expect_read(&rt, rt.alloc(), LIGHT_AND_FAN_CLUSTER)?;
-    expect_read(&rt, rt.alloc(), BODY_CLUSTER)?;
-    expect_read(&rt, rt.alloc(), DOOR_MODULE)
-}
-
-#[test]
-fn faults_of_tokens(rt: HostRuntime) -> Result<(), Fail> {
-    expect_outcomes(
-        &rt,
-        rt.alloc(),
-        BYTE_ORDER_MARK,
-        " => 1:1 fault 4 Unexpected",
-    )?;
-    expect_outcomes(
-        &rt,
-        rt.alloc(),
-        b"LIN_description_file\x80",
-        " => 1:21 fault 1 BadByte",
-    )
+    for text in [
+        DOOR_CLUSTER,
+        KEYS_CLUSTER,
+        LIGHT_AND_FAN_CLUSTER,
+        BODY_CLUSTER,
+        DOOR_MODULE,
+    ] {
+        expect_read(&rt, rt.alloc(), text)?;
+    }
+    Ok(())
 }
 
 /// Ends a line by the place of what it names.

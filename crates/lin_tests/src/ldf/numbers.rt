@@ -31,11 +31,6 @@ Node_attributes { s { configured_NAD = 1.0; } } => 6:40 fault 4 Unexpected
 Signals { a: -1, 0, m; } => 6:14 fault 4 Unexpected
 ";
 
-#[test]
-fn ints(rt: HostRuntime) -> Result<(), Fail> {
-    expect_outcomes(&rt, rt.alloc(), HEADER, INTS)
-}
-
 /// Delays with up to three decimals; and a protocol, which has no limit.
 const DECIMALS: &str =
     "Node_attributes { s { LIN_protocol = 99999999999999.99999; } t { LIN_protocol = 0xFFFFFFFFFFFFFFFF; } } => accepted
@@ -54,6 +49,7 @@ Schedule_tables { T { f delay 10ms; } } => accepted
 ";
 
 #[test]
-fn decimals(rt: HostRuntime) -> Result<(), Fail> {
+fn numbers_at_their_limits(rt: HostRuntime) -> Result<(), Fail> {
+    expect_outcomes(&rt, rt.alloc(), HEADER, INTS)?;
     expect_outcomes(&rt, rt.alloc(), HEADER, DECIMALS)
 }

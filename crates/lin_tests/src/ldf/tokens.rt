@@ -1,8 +1,8 @@
 //! Tokens of whole texts, and each form at its edges.
 
 use crate::samples::{
-    BODY_CLUSTER, DOOR_CLUSTER, KEYS_CLUSTER, LIGHT_AND_FAN_CLUSTER, add, add_number, add_place,
-    expect_text,
+    BODY_CLUSTER, BYTE_ORDER_MARK, DOOR_CLUSTER, KEYS_CLUSTER, LIGHT_AND_FAN_CLUSTER, add,
+    add_number, add_place, expect_text, joined,
 };
 use lin_ldf::{Token, TokenKind, lex};
 use std::alloc::Global;
@@ -158,20 +158,12 @@ fn expect_tokens(rt: &impl Abort, alloc: Global, source: &[u8], lines: &str) -> 
 }
 
 #[test]
-fn built_in_cluster(rt: HostRuntime) -> Result<(), Fail> {
-    expect_tokens(&rt, rt.alloc(), DOOR_CLUSTER, BUILT_IN)
-}
-
-fn expect_some(rt: &impl Abort, alloc: Global, source: &[u8]) -> Result<(), Fail> {
-    assert!(rt; !lex(alloc, source)?.is_empty());
+fn sample_clusters(rt: HostRuntime) -> Result<(), Fail> {
+    expect_tokens(&rt, rt.alloc(), DOOR_CLUSTER, BUILT_IN)?;
+    for text in [KEYS_CLUSTER, LIGHT_AND_FAN_CLUSTER, BODY_CLUSTER] {
+        assert!(rt; !lex(rt.alloc(), text)?.is_empty());
+    }
     Ok(())
-}
-
-#[test]
-fn other_clusters(rt: HostRuntime) -> Result<(), Fail> {
-    expect_some(&rt, rt.alloc(), KEYS_CLUSTER)?;
-    expect_some(&rt, rt.alloc(), LIGHT_AND_FAN_CLUSTER)?;
-    expect_some(&rt, rt.alloc(), BODY_CLUSTER)
 }
 
 fn is_moved(a: &Token, b: &Token) -> bool {
@@ -200,14 +192,6 @@ const MARKS: &str = "\u{FEFF} =>
 a \u{FEFF} => 1:3 fault 1 BadByte
 ";
 
-#[test]
-fn byte_order_mark(rt: HostRuntime) -> Result<(), Fail> {
-    let mut marked = b"\xEF\xBB\xBF".to_vec(rt.alloc())?;
-    marked.extend_from_slice(DOOR_CLUSTER)?;
-    expect_moved(&rt, rt.alloc(), DOOR_CLUSTER, &marked)?;
-    expect_lines(&rt, rt.alloc(), MARKS)
-}
-
 fn expect_bad_byte(rt: &impl Abort, alloc: Global, source: &[u8]) -> Result<(), Fail> {
     let found = spelled(alloc, source)?;
     expect_text(rt, &found, b"1:1 fault 1 BadByte", "bad byte");
@@ -215,9 +199,14 @@ fn expect_bad_byte(rt: &impl Abort, alloc: Global, source: &[u8]) -> Result<(), 
 }
 
 #[test]
-fn parts_of_the_mark(rt: HostRuntime) -> Result<(), Fail> {
-    expect_bad_byte(&rt, rt.alloc(), b"\xEF\xBB")?;
-    expect_bad_byte(&rt, rt.alloc(), b"\xBF")
+fn byte_order_mark(rt: HostRuntime) -> Result<(), Fail> {
+    let marked = joined(rt.alloc(), &[BYTE_ORDER_MARK, DOOR_CLUSTER])?;
+    expect_moved(&rt, rt.alloc(), DOOR_CLUSTER, &marked)?;
+    expect_lines(&rt, rt.alloc(), MARKS)?;
+    for part in [b"\xEF\xBB".as_slice(), b"\xBF"] {
+        expect_bad_byte(&rt, rt.alloc(), part)?;
+    }
+    Ok(())
 }
 
 /// Texts and their tokens.
@@ -291,12 +280,6 @@ a => wa
 \"a => t\"\0\u{80}\u{FF}
 \" wa";
 
-#[test]
-fn forms(rt: HostRuntime) -> Result<(), Fail> {
-    expect_lines(&rt, rt.alloc(), FORMS)?;
-    expect_blocks(&rt, rt.alloc(), FORMS_OF_LINES)
-}
-
 /// Texts and their faults.
 const FAULTS: &str = "LIN_description_file; \"x => 1:23 fault 3 OpenText
 LIN_description_file; /* x => 1:23 fault 2 OpenComment
@@ -342,9 +325,14 @@ a\r\x0B => 1:3 fault 1 BadByte
  0x\u{80} /* \" => 2:4 fault 1 BadByte";
 
 #[test]
-fn faults(rt: HostRuntime) -> Result<(), Fail> {
-    expect_lines(&rt, rt.alloc(), FAULTS)?;
-    expect_blocks(&rt, rt.alloc(), FAULTS_OF_LINES)
+fn forms_and_faults(rt: HostRuntime) -> Result<(), Fail> {
+    for cases in [FORMS, FAULTS] {
+        expect_lines(&rt, rt.alloc(), cases)?;
+    }
+    for cases in [FORMS_OF_LINES, FAULTS_OF_LINES] {
+        expect_blocks(&rt, rt.alloc(), cases)?;
+    }
+    Ok(())
 }
 
 /// The kind of a byte that is a token alone; `?` is for a bad byte.

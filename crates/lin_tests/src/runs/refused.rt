@@ -78,19 +78,6 @@ bus finish
 
 const FULL: &str = "h1 send 0 1 LONG\n> refused 7\nh1 send 0 1 01\n> refused 9\n";
 
-#[test]
-fn sends(rt: HostRuntime) -> Result<(), Fail> {
-    expect_refused(&rt, rt.alloc(), 16, &[], SENDS)?;
-    expect_refused(&rt, rt.alloc(), 1, &[], WITHOUT_A_SLOT)?;
-    expect_refused(
-        &rt,
-        rt.alloc(),
-        1,
-        &[b"bus send 0 1 01\n> accepted 0 1\n"],
-        FULL,
-    )
-}
-
 const UNANSWERED: &str = "bus open
 > refused 12
 h0 open
@@ -121,8 +108,19 @@ n0 answer 0
 > refused 15
 ";
 
+/// Capacities, runs, and steps after them that are refused.
+const ROWS: &[(usize, &[&[u8]], &str)] = &[
+    (16, &[], SENDS),
+    (1, &[], WITHOUT_A_SLOT),
+    (1, &[b"bus send 0 1 01\n> accepted 0 1\n"], FULL),
+    (16, &[SEND, OPEN], UNANSWERED),
+    (16, &[SEND, OPEN, ANSWER], ANSWERED),
+];
+
 #[test]
-fn in_slots(rt: HostRuntime) -> Result<(), Fail> {
-    expect_refused(&rt, rt.alloc(), 16, &[SEND, OPEN], UNANSWERED)?;
-    expect_refused(&rt, rt.alloc(), 16, &[SEND, OPEN, ANSWER], ANSWERED)
+fn refused_steps(rt: HostRuntime) -> Result<(), Fail> {
+    for (capacity, run, refused) in ROWS {
+        expect_refused(&rt, rt.alloc(), *capacity, run, refused)?;
+    }
+    Ok(())
 }

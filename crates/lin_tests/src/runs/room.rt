@@ -1,8 +1,10 @@
-//! Room for a step after a long log.
+//! Room for a step, before the first and after a long log.
 
+use super::messages::OF_THREE_BYTES;
 use super::state;
-use crate::samples::{DOOR_CLUSTER, core_of};
+use crate::samples::{DOOR_CLUSTER, core_of, expect_text, joined};
 use lin_core::{Core, Payload, PortId, Step};
+use lin_log::write_log;
 use std::alloc::Global;
 use std::process::Abort;
 use std::test::Fail;
@@ -14,9 +16,14 @@ fn expect_step(rt: &impl Abort, core: &mut Core, by: PortId, step: Step) -> Resu
     Ok(())
 }
 
-/// A message of one byte: its send, its slot, and the schedule from its first entry again.
-fn expect_message(rt: &impl Abort, alloc: Global, core: &mut Core) -> Result<(), Fail> {
-    let message = Payload::new([1].to_vec(alloc)?);
+/// A message: its send, its slot, and the schedule from its first entry again.
+fn expect_message(
+    rt: &impl Abort,
+    alloc: Global,
+    core: &mut Core,
+    bytes: &[u8],
+) -> Result<(), Fail> {
+    let message = Payload::new(bytes.to_vec(alloc)?);
     let send = Step::Send {
         from: 0,
         to: 1,
@@ -30,10 +37,16 @@ fn expect_message(rt: &impl Abort, alloc: Global, core: &mut Core) -> Result<(),
 }
 
 #[test]
-fn room_behind_a_long_log(rt: HostRuntime) -> Result<(), Fail> {
+fn room_before_each_step(rt: HostRuntime) -> Result<(), Fail> {
+    let mut core = core_of(rt.alloc(), DOOR_CLUSTER, 0)?;
+    expect_message(&rt, rt.alloc(), &mut core, &[0x22, 0x06, 0x2E])?;
+    let mut text = Vec::new(rt.alloc());
+    write_log(core.log(), &mut text)?;
+    let wanted = joined(rt.alloc(), &[OF_THREE_BYTES, b"bus switch 0\n"])?;
+    expect_text(&rt, &text, &wanted, "log");
     let mut core = core_of(rt.alloc(), DOOR_CLUSTER, 0)?;
     for _ in 0..20_000 {
-        expect_message(&rt, rt.alloc(), &mut core)?;
+        expect_message(&rt, rt.alloc(), &mut core, &[1])?;
     }
     assert!(rt; core.log().len() == 100_000);
     assert!(rt; state(&core) == (200_000_000, 0, 0));

@@ -1,6 +1,6 @@
 //! Runs of signals, sporadic and event-triggered frames.
 
-use super::{core_behind, state};
+use super::{State, core_behind, state};
 use crate::samples::joined;
 use lin_core::Core;
 use lin_frame::Value;
@@ -54,31 +54,38 @@ const PLAIN: &[u8] = b"Schedule_tables {
 }
 ";
 
-/// What holds of the core after a run on the cluster with these frames.
-fn expect_core<F: FnOnce(&Core) -> bool>(
-    rt: &impl Abort,
-    alloc: Global,
-    frames: &[u8],
-    log: &[u8],
-    holds: F,
-) -> Result<(), Fail>
-    requires { F.IsAlwaysCallable holds }
-{
-    let text = joined(alloc, &[BUILD, frames])?;
-    assert!(rt; holds(&core_behind(rt, alloc, &text, 16, log)?));
-    Ok(())
+/// A run: whether its cluster has sporadic and event-triggered frames, its log in parts, and what is
+/// so after it: the state, and numbers of signals as nodes read them (of an array none).
+struct Run {
+    is_keyed: bool,
+    log: &'static [&'static [u8]],
+    state: State,
+    reads: &'static [(u8, u16, Option<u16>)],
 }
 
-/// Whether a node has this number of a signal; of an array none.
-fn has_scalar(core: &Core, node: u8, signal: u16, want: Option<u16>) -> bool {
+/// The number that a node reads of a signal; of an array none.
+fn number(rt: &impl Abort, core: &Core, node: u8, signal: u16) -> Option<u16> {
     let cluster = core.cluster();
-    if usize::from(node) >= cluster.nodes() || usize::from(signal) >= cluster.signals() {
-        return false;
-    }
+    assert!(rt; usize::from(node) < cluster.nodes());
+    assert!(rt; usize::from(signal) < cluster.signals());
     match core.signal(node, signal) {
-        Value::Scalar(number) => want == Some(number),
-        Value::Bytes(_) => want.is_none(),
+        Value::Scalar(number) => Some(number),
+        Value::Bytes(_) => None,
     }
+}
+
+fn expect_run(rt: &impl Abort, alloc: Global, run: &Run) -> Result<(), Fail> {
+    let frames = if run.is_keyed { KEYED } else { PLAIN };
+    let text = joined(alloc, &[BUILD, frames])?;
+    let log = joined(alloc, run.log)?;
+    let core = core_behind(rt, alloc, &text, 16, &log)?;
+    let log = std::str::from_utf8(&log).unwrap_or("no text");
+    assert_eq!(rt; state(&core), run.state, "after {log}");
+    for (node, signal, want) in run.reads {
+        let found = number(rt, &core, *node, *signal);
+        assert_eq!(rt; found, *want, "signal {signal} of node {node} after {log}");
+    }
+    Ok(())
 }
 
 const COLLISION: &[u8] = b"h1 write 1 3 17
@@ -115,13 +122,6 @@ bus open
 > slot 0 2 80
 > due 0
 ";
-
-#[test]
-fn collision_and_resolution(rt: HostRuntime) -> Result<(), Fail> {
-    expect_core(&rt, rt.alloc(), KEYED, COLLISION, |core| {
-        has_scalar(core, 0, 3, Some(17)) && has_scalar(core, 1, 4, Some(34))
-    })
-}
 
 /// A frame that two sporadic frames list goes for each of them.
 const UPDATES: &[u8] = b"bus write 0 2 7
@@ -199,14 +199,6 @@ bus open
 > slot 0 0 -
 ";
 
-#[test]
-fn sporadic_updates_and_a_switch(rt: HostRuntime) -> Result<(), Fail> {
-    for log in [UPDATES, SWITCH] {
-        expect_core(&rt, rt.alloc(), KEYED, log, |_| true)?;
-    }
-    Ok(())
-}
-
 const REFUSED: &[u8] = b"h1 write 0 0 1
 > refused 14
 h1 write 1 0 1
@@ -222,16 +214,6 @@ bus switch 3
 bus finish
 > refused 13
 ";
-
-#[test]
-fn refused_writes(rt: HostRuntime) -> Result<(), Fail> {
-    for frames in [KEYED, PLAIN] {
-        expect_core(&rt, rt.alloc(), frames, REFUSED, |core| {
-            has_scalar(core, 0, 0, Some(2))
-        })?;
-    }
-    Ok(())
-}
 
 const TABLES: &[u8] = b"bus open
 > slot 0 0 80
@@ -257,13 +239,6 @@ bus answer 1
 > put 1 FF00BD
 ";
 
-#[test]
-fn tables_without_sporadic_frames(rt: HostRuntime) -> Result<(), Fail> {
-    expect_core(&rt, rt.alloc(), PLAIN, TABLES, |core| {
-        state(core) == (15_000, 0, 0)
-    })
-}
-
 const LIMITS: &[u8] = b"h0 write 0 0 15
 h0 write 0 1 1023
 h0 write 0 5 xFF01
@@ -276,11 +251,93 @@ bus finish
 > seen good FFFF7F
 ";
 
+/// The publisher reads at once what it writes, the others once they heard it in a good frame.
+const WRITTEN: &[u8] = b"h0 write 0 0 3\n";
+
+const LIGHT_GOES: &[u8] = b"bus open
+> slot 0 0 80
+> due 0
+bus answer 0
+> put 0 53D556
+";
+
+const HEARD: &[u8] = b"bus finish\n> seen good 53D556\n";
+
+const DAMAGED: &[u8] = b"bus hurt -\nbus finish\n> seen damaged\n";
+
+const RUNS: &[Run] = &[
+    Run {
+        is_keyed: true,
+        log: &[COLLISION],
+        state: (40_000, 0, 1),
+        reads: &[(0, 3, Some(17)), (1, 4, Some(34))],
+    },
+    Run {
+        is_keyed: true,
+        log: &[UPDATES],
+        state: (70_000, 0, 0),
+        reads: &[(0, 2, Some(9)), (2, 2, Some(9)), (1, 0, Some(3))],
+    },
+    Run {
+        is_keyed: true,
+        log: &[SWITCH],
+        state: (30_000, 0, 0),
+        reads: &[(0, 3, Some(0)), (1, 3, Some(17))],
+    },
+    Run {
+        is_keyed: true,
+        log: &[REFUSED],
+        state: (0, 0, 0),
+        reads: &[(0, 0, Some(2)), (1, 0, Some(2))],
+    },
+    Run {
+        is_keyed: false,
+        log: &[REFUSED],
+        state: (0, 0, 0),
+        reads: &[(0, 0, Some(2)), (1, 0, Some(2))],
+    },
+    Run {
+        is_keyed: true,
+        log: &[WRITTEN],
+        state: (0, 0, 0),
+        reads: &[(0, 0, Some(3)), (1, 0, Some(2)), (2, 0, Some(2))],
+    },
+    Run {
+        is_keyed: true,
+        log: &[WRITTEN, LIGHT_GOES],
+        state: (0, 0, 0),
+        reads: &[(0, 0, Some(3)), (1, 0, Some(2)), (2, 0, Some(2))],
+    },
+    Run {
+        is_keyed: true,
+        log: &[WRITTEN, LIGHT_GOES, DAMAGED],
+        state: (10_000, 0, 0),
+        reads: &[(0, 0, Some(3)), (1, 0, Some(2)), (2, 0, Some(2))],
+    },
+    Run {
+        is_keyed: true,
+        log: &[WRITTEN, LIGHT_GOES, HEARD],
+        state: (10_000, 0, 0),
+        reads: &[(0, 0, Some(3)), (1, 0, Some(3)), (2, 0, Some(3))],
+    },
+    Run {
+        is_keyed: false,
+        log: &[TABLES],
+        state: (15_000, 0, 0),
+        reads: &[(2, 2, Some(5))],
+    },
+    Run {
+        is_keyed: false,
+        log: &[LIMITS],
+        state: (10_000, 0, 0),
+        reads: &[(1, 0, Some(15)), (2, 1, Some(0x3FF)), (0, 5, None)],
+    },
+];
+
 #[test]
-fn values_at_their_limits(rt: HostRuntime) -> Result<(), Fail> {
-    expect_core(&rt, rt.alloc(), PLAIN, LIMITS, |core| {
-        has_scalar(core, 1, 0, Some(15))
-            && has_scalar(core, 2, 1, Some(0x3FF))
-            && has_scalar(core, 0, 5, None)
-    })
+fn signals_after_runs(rt: HostRuntime) -> Result<(), Fail> {
+    for run in RUNS {
+        expect_run(&rt, rt.alloc(), run)?;
+    }
+    Ok(())
 }
