@@ -12,7 +12,7 @@ use Rattle.lin_cluster.specs.Described.{described_nad, parts_of}
 use Rattle.lin_cluster.specs.Findings.{IsFree}
 use Rattle.lin_cluster.specs.Sizes as sizes
 use Rattle.lin_cluster.specs.Fitting.{FitsInitial, FitsSignal, FitsFrame, FitsParts, HasMembers}
-use Rattle.lin_cluster_parts.specs.Rules.{IsCluster, IsAddress}
+use Rattle.lin_cluster_parts.specs.Rules.{AreTimes, IsCluster, IsAddress}
 use Rattle.lin_cluster.proofs.DescribedEvents.{described-sporadic, described-events}
 use Rattle.lin_cluster.proofs.DescribedFrames.{described-frames}
 use Rattle.lin_cluster.proofs.DescribedIdentifiers.{described-identifiers}
@@ -85,6 +85,16 @@ numbers-fit d free =
       events = λ k e lt. omega (arith, (good-events d none k e lt).id);
     }
 
+described-times : (d : Description) → NothingFound d → AreTimes (parts_of d)
+described-times d none =
+    let limits = within-limits d none
+    in let speed = and_parts (nat_le 1 d.speed.value) (nat_le d.speed.value 20000) limits.speed
+    in record {
+      speed = (leb-true 1 d.speed.value speed.0, leb-true d.speed.value 20000 speed.1);
+      jitter = limits.jitter;
+      base = limits.base;
+    }
+
 -- the law: where nothing is found, what the description says is a cluster
 pub described-cluster : (d : Description) → IsFree d → HasMembers d → IsCluster (parts_of d)
 described-cluster d free members =
@@ -97,4 +107,5 @@ described-cluster d free members =
       sporadic = described-sporadic d none members;
       events = described-events d none members;
       tables = described-tables d none;
+      times = described-times d none;
     }

@@ -13,10 +13,9 @@ use Rattle.lin_frame.specs.declared.sums.SumKind.TheVariants.{Classic, Enhanced}
 use Rattle.lin_description.specs.declared.description.Description.{Description}
 use Rattle.lin_description.specs.declared.description.EventFrame as declared_event
 use Rattle.lin_description.specs.declared.description.Name.{Name}
-use Rattle.lin_description.specs.declared.description.Sporadic.{Sporadic}
 use Rattle.lin_description.specs.declared.description.TableEntry.{TableEntry}
 use Rattle.lin_cluster_parts.specs.Cluster.{frame_of, table_of}
-use Rattle.lin_cluster.specs.Described.{node_number, frame_number, sporadic_number, event_number, table_number, members_of, described_event, described_entry, described_line, described_table, parts_of}
+use Rattle.lin_cluster.specs.Described.{node_number, frame_number, sporadic_number, event_number, table_number, described_sporadic, described_event, described_entry, described_line, described_table, parts_of}
 use Rattle.lin_cluster.specs.FindingsNames.{is_node, same_name, sporadic_named, event_named, is_event_entry}
 use Rattle.lin_cluster.specs.Members.{is_responders, is_bad_member, has_publisher, differs_from_first, is_in_front, is_mixed}
 use Rattle.lin_cluster.specs.Fitting.{HasMembers}
@@ -26,6 +25,7 @@ use Rattle.lin_cluster_parts.specs.declared.parts.Entry.TheVariants.{Frame, Spor
 use Rattle.lin_cluster_parts.specs.declared.parts.EventFrame.{EventFrame}
 use Rattle.lin_cluster_parts.specs.declared.parts.Line.{Line}
 use Rattle.lin_cluster_parts.specs.declared.parts.SignalFrame.{SignalFrame}
+use Rattle.lin_cluster_parts.specs.declared.parts.SporadicFrame.{SporadicFrame}
 use Rattle.lin_cluster_parts.specs.declared.parts.Table.{Table}
 use Rattle.lin_cluster.proofs.DescribedTables.{frames-count}
 use Rattle.lin_cluster.proofs.GoodParts.{GoodMember, GoodEvent, the_frame, good-frames, good-sporadics, good-events, within-limits}
@@ -69,12 +69,11 @@ commanders-frame d none m good =
 
 pub described-sporadic : (d : Description) → NothingFound d → HasMembers d → AreSporadic (parts_of d)
 described-sporadic d none members =
-    let make = λ (s : Sporadic). members_of d s.members
-    in let good = good-sporadics d none
+    let good = good-sporadics d none
     in record {
-      number = omega (arith, (within-limits d none).sporadic, length-map d.sporadic make);
-      members = All-map (λ (fs : List ℕ). 1 ≤ length fs) make d.sporadic (λ k s lt. omega (arith, members.sporadic k s lt, length-map (get_or d.sporadic k s).members (frame_number d)));
-      frames = All-map (λ (fs : List ℕ). All (IsCommanders (parts_of d)) fs) make d.sporadic (λ k s lt.
+      number = omega (arith, (within-limits d none).sporadic, length-map d.sporadic (described_sporadic d));
+      members = All-map (λ (s : SporadicFrame). 1 ≤ length s.frames) (described_sporadic d) d.sporadic (λ k s lt. omega (arith, members.sporadic k s lt, length-map (get_or d.sporadic k s).members (frame_number d)));
+      frames = All-map (λ (s : SporadicFrame). All (IsCommanders (parts_of d)) s.frames) (described_sporadic d) d.sporadic (λ k s lt.
           let here = get_or d.sporadic k s
           in All-map (IsCommanders (parts_of d)) (frame_number d) here.members (λ i m in'. commanders-frame d none (get_or here.members i m) ((good k s lt).members i m in')));
     }

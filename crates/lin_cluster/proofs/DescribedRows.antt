@@ -80,6 +80,7 @@ signal-row = refl
 
 abbrev light : SignalFrame
 light = record {
+  name = codes "Light";
   pid = 0x80;
   model = Enhanced;
   publisher = 0;
@@ -92,6 +93,7 @@ frame-row = refl
 
 abbrev left_key : SignalFrame
 left_key = record {
+  name = codes "LeftKey";
   pid = 0x42;
   model = Enhanced;
   publisher = 1;
@@ -103,10 +105,10 @@ left_key = record {
 listed-frame-row : frame_of (parts_of body) 1 ≡ left_key
 listed-frame-row = refl
 
-sporadic-row : sporadic_frames_of body ≡ (0 ∷ []) ∷ []
+sporadic-row : sporadic_frames_of body ≡ record { name = codes "Spor"; frames = 0 ∷ [] } ∷ []
 sporadic-row = refl
 
-events-row : events_of body ≡ record { pid = 0xC4; model = Enhanced; table = 1; frames = 1 ∷ 2 ∷ [] } ∷ []
+events-row : events_of body ≡ record { name = codes "Keys"; pid = 0xC4; model = Enhanced; table = 1; frames = 1 ∷ 2 ∷ [] } ∷ []
 events-row = refl
 
 sporadic-entry-row : line_of (parts_of body) 0 0 ≡ record { entry = SporadicEntry 0; delay_us = 10000 }

@@ -9,9 +9,8 @@ use Rattle.std.proofs.lemmas.List.FromFn.{length-enumerate_from}
 use Rattle.std.specs.List.{enumerate_from}
 use Rattle.lin_description.specs.declared.description.Description.{Description}
 use Rattle.lin_description.specs.declared.description.Name.{Name}
-use Rattle.lin_description.specs.declared.description.Sporadic.{Sporadic}
 use Rattle.lin_description.specs.declared.description.TableEntry.{TableEntry}
-use Rattle.lin_cluster.specs.Described.{frame_number, sporadic_number, event_number, frame_entry, described_frame, described_event, described_entry, described_line, described_table, members_of, parts_of}
+use Rattle.lin_cluster.specs.Described.{frame_number, sporadic_number, event_number, frame_entry, described_frame, described_event, described_entry, described_line, described_sporadic, described_table, parts_of}
 use Rattle.lin_cluster_parts.specs.Rules.{AreTables, IsEntry, IsDelay}
 use Rattle.lin_cluster_parts.specs.declared.parts.Entry.{Entry}
 use Rattle.lin_cluster_parts.specs.declared.parts.Entry.TheVariants.{MasterReq, SlaveResp, Quiet}
@@ -25,7 +24,7 @@ pub frames-count : (d : Description) → length (parts_of d).frames ≡ length d
 frames-count d = length-map (enumerate_from 0 d.frames) (described_frame d) ∙ length-enumerate_from 0 d.frames
 
 sporadic-count : (d : Description) → length (parts_of d).sporadic ≡ length d.sporadic
-sporadic-count d = length-map d.sporadic (λ (s : Sporadic). members_of d s.members)
+sporadic-count d = length-map d.sporadic (described_sporadic d)
 
 events-count : (d : Description) → length (parts_of d).events ≡ length d.events
 events-count d = length-map d.events (described_event d)

@@ -1,7 +1,6 @@
 -- What the signals of a frame take up, with one more signal.
 use Rattle.std.proofs.Common.{◌≡◌, ℕ, ◌+◌, ◌<◌, ◌≤◌, Bool, true, false, List, [], ◌∷◌, length, take, get_or, Option, Some, None, sym, ap, refl, subst, ◌∙◌, ◌⊎◌, inl, inr, arith}
 use Rattle.std.specs.Prelude.{◌↔◌, ◌||◌, ◌&&◌, ◌==◌, nat_lt, IsSome}
-use Rattle.std.specs.BTreeMap.{BTreeMap}
 use Rattle.std.specs.List.{list_any}
 use Rattle.std.specs.Option.{option_map, option_map_or}
 use Rattle.std.proofs.lemmas.Bool.{lt-ltb, cases_lt}
@@ -11,9 +10,10 @@ use Rattle.lin_cluster.specs.Described.{signal_number}
 use Rattle.lin_cluster.specs.Overlaps.{meets, share_bit}
 use Rattle.lin_cluster.specs.FindingsNames.{signal_named, same_name}
 use Rattle.lin_cluster.specs.FindingsPlaces.{IsTaken, lies_in}
-use Rattle.lin_cluster.specs.FindingsRanges.{Meets}
+use Rattle.lin_cluster.specs.FindingsRanges.{HasBit}
 use Rattle.lin_cluster.specs.Known.{signal_facts}
 use Rattle.lin_cluster.specs.declared.findings.facts.SignalFacts.{SignalFacts}
+use Rattle.lin_cluster.specs.declared.findings.ranges.Ranges.{Ranges}
 use Rattle.lin_cluster.proofs.KnownNames.{same-number}
 use Rattle.lin_cluster.proofs.Made.{some-made}
 use Rattle.lin_cluster.proofs.Named.{found-within}
@@ -57,10 +57,10 @@ no_bits m h = grind (arith, nat_tests)
 abbrev Shares : Description → ℕ → ℕ → List PlacedSignal → Bool → Bool
 Shares d a m xs b = list_any (λ (q : PlacedSignal). option_map_or (λ t. b && nat_lt 0 t.size.value && nat_lt a (q.offset.value + t.size.value) && nat_lt q.offset.value (a + m)) (signal_named d q.signal) false) xs
 
-bits_taken : (d : Description) (ranges : BTreeMap ℕ ℕ) (a m : ℕ) (xs : List PlacedSignal) → ((b e : ℕ) → b < e → Meets ranges b e ↔ (list_any (λ q. option_map_or (λ t. lies_in b e q t.size.value) (signal_named d q.signal) false) xs ≡ true))
-    → (list_any (λ q. option_map_or (λ t. share_bit a m q.offset.value t.size.value) (signal_named d q.signal) false) xs ≡ true) ↔ ((0 < m) × Meets ranges a (a + m))
+bits_taken : (d : Description) (ranges : Ranges) (a m : ℕ) (xs : List PlacedSignal) → ((b e : ℕ) → b < e → HasBit ranges b e ↔ (list_any (λ q. option_map_or (λ t. lies_in b e q t.size.value) (signal_named d q.signal) false) xs ≡ true))
+    → (list_any (λ q. option_map_or (λ t. share_bit a m q.offset.value t.size.value) (signal_named d q.signal) false) xs ≡ true) ↔ ((0 < m) × HasBit ranges a (a + m))
 bits_taken d ranges a m xs so =
-    elim (cases_lt 0 m) as (λ _. (list_any (λ q. option_map_or (λ t. share_bit a m q.offset.value t.size.value) (signal_named d q.signal) false) xs ≡ true) ↔ ((0 < m) × Meets ranges a (a + m))) [
+    elim (cases_lt 0 m) as (λ _. (list_any (λ q. option_map_or (λ t. share_bit a m q.offset.value t.size.value) (signal_named d q.signal) false) xs ≡ true) ↔ ((0 < m) × HasBit ranges a (a + m))) [
       | inl some ↦
           let e = ap (Shares d a m xs) (lt-ltb 0 m some) in
           let here = so a (a + m) (omega arith) in
@@ -70,9 +70,9 @@ bits_taken d ranges a m xs so =
           (λ h. absurd (let no : true ≡ false = sym h ∙ e in cc), λ met. absurd (let low : 0 < m = met.0 in omega arith))
     ]
 
-pub taken : (d : Description) (ranges : BTreeMap ℕ ℕ) (xs : List PlacedSignal) (p : PlacedSignal) (size : ℕ) (twice : Bool) → signal_number d p.signal < length d.signals
+pub taken : (d : Description) (ranges : Ranges) (xs : List PlacedSignal) (p : PlacedSignal) (size : ℕ) (twice : Bool) → signal_number d p.signal < length d.signals
     → twice ≡ list_any (λ q. signal_number d q.signal == signal_number d p.signal) xs
-    → ((b e : ℕ) → b < e → Meets ranges b e ↔ (list_any (λ q. option_map_or (λ t. lies_in b e q t.size.value) (signal_named d q.signal) false) xs ≡ true))
+    → ((b e : ℕ) → b < e → HasBit ranges b e ↔ (list_any (λ q. option_map_or (λ t. lies_in b e q t.size.value) (signal_named d q.signal) false) xs ≡ true))
     → (list_any (meets d p size) xs ≡ true) ↔ IsTaken twice ranges p size
 taken d ranges xs p size twice lt numbered so =
     let f : PlacedSignal → Bool = λ q. same_name q.signal p.signal in
@@ -111,11 +111,11 @@ more_bits old new p xs i d lt is so here =
 once : (twice : Bool) → twice ≡ false → twice ≡ true → ⊥
 once twice new again = absurd (let e : false ≡ true = sym new ∙ again in cc)
 
-pub taken_by_bits : (twice : Bool) (ranges : BTreeMap ℕ ℕ) (p : PlacedSignal) (bits start size : ℕ) (b : Bool) → twice ≡ false → start ≡ p.offset.value → size ≡ bits → 0 < size
-    → ((b ≡ true) ↔ Meets ranges start (start + size)) → (b ≡ true) ↔ IsTaken twice ranges p bits
+pub taken_by_bits : (twice : Bool) (ranges : Ranges) (p : PlacedSignal) (bits start size : ℕ) (b : Bool) → twice ≡ false → start ≡ p.offset.value → size ≡ bits → 0 < size
+    → ((b ≡ true) ↔ HasBit ranges start (start + size)) → (b ≡ true) ↔ IsTaken twice ranges p bits
 taken_by_bits twice ranges p bits start size b new at wide some met =
-    let there = subst (λ (xy : ℕ × ℕ). Meets ranges xy.0 (xy.0 + xy.1)) (λ i. (at i, wide i)) in
-    let back = subst (λ (xy : ℕ × ℕ). Meets ranges xy.0 (xy.0 + xy.1)) (λ i. (sym at i, sym wide i)) in (
+    let there = subst (λ (xy : ℕ × ℕ). HasBit ranges xy.0 (xy.0 + xy.1)) (λ i. (at i, wide i)) in
+    let back = subst (λ (xy : ℕ × ℕ). HasBit ranges xy.0 (xy.0 + xy.1)) (λ i. (sym at i, sym wide i)) in (
       λ e. inr (subst (λ n. 0 < n) wide some, there (met.0 e)),
       λ t. elim t as (λ _. b ≡ true) [
         | inl again ↦ absurd (once twice new again)
@@ -123,7 +123,7 @@ taken_by_bits twice ranges p bits start size b new at wide some met =
       ],
     )
 
-pub taken_by_none : (twice : Bool) (ranges : BTreeMap ℕ ℕ) (p : PlacedSignal) (bits size : ℕ) → twice ≡ false → size ≡ bits → size ≤ 0 → (nat_lt 0 size ≡ true) ↔ IsTaken twice ranges p bits
+pub taken_by_none : (twice : Bool) (ranges : Ranges) (p : PlacedSignal) (bits size : ℕ) → twice ≡ false → size ≡ bits → size ≤ 0 → (nat_lt 0 size ≡ true) ↔ IsTaken twice ranges p bits
 taken_by_none twice ranges p bits size new wide none = (
   λ e. absurd (let never : true ≡ false = sym e ∙ no_bits size none in cc),
   λ t. elim t as (λ _. nat_lt 0 size ≡ true) [

@@ -177,3 +177,25 @@ lowest s o r e = subst (λ x. (x ≤ s) × (x ≤ o) × ((x ≡ s) ⊎ (x ≡ o)
 
 pub highest : (s o r : ℕ) → r ≡ max s o → (s ≤ r) × (o ≤ r) × ((r ≡ s) ⊎ (r ≡ o))
 highest s o r e = subst (λ x. (s ≤ x) × (o ≤ x) × ((x ≡ s) ⊎ (x ≡ o))) (sym e) (max_high s o)
+
+-- ---- the newest range
+
+-- it joins the others, and another one takes its place
+pub put_away : (m n : BTreeMap ℕ ℕ) (f o s e a b : ℕ) → (Meets n a b ↔ Covers m f o a b)
+    → (((s < b) × (a < e)) ⊎ Meets n a b) ↔ ((((f < b) × (a < o)) ⊎ Meets m a b) ⊎ ((s < b) × (a < e)))
+put_away m n f o s e a b with = (
+  λ h. elim h as (λ _. (((f < b) × (a < o)) ⊎ Meets m a b) ⊎ ((s < b) × (a < e))) [
+    | inl new ↦ inr new
+    | inr met ↦ elim (with.0 met) as (λ _. (((f < b) × (a < o)) ⊎ Meets m a b) ⊎ ((s < b) × (a < e))) [
+      | inl old ↦ inl (inr old)
+      | inr here ↦ inl (inl here)
+    ]
+  ],
+  λ h. elim h as (λ _. ((s < b) × (a < e)) ⊎ Meets n a b) [
+    | inl old ↦ elim old as (λ _. ((s < b) × (a < e)) ⊎ Meets n a b) [
+      | inl here ↦ inr (with.1 (inr here))
+      | inr met ↦ inr (with.1 (inl met))
+    ]
+    | inr new ↦ inl new
+  ],
+)

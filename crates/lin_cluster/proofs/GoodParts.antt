@@ -44,6 +44,8 @@ pub record WithinLimits (d : Description) : Type 0 where
   pub events : length d.events ≤ 60
   pub tables : length d.tables ≤ 256
   pub speed : is_speed d.speed.value ≡ true
+  pub base : d.time_base.value ≤ 1000000000
+  pub jitter : d.jitter.value ≤ 1000000000
 
 some-length : {X : Type 0} (xs : List X) → (length xs == 0) ≡ false → 1 ≤ length xs
 some-length [] e = absurd (cc)
@@ -77,6 +79,8 @@ within-limits d none =
       events = within-limit (λ e. e.name) d.events 60 kinds.3;
       tables = within-limit (λ t. t.name) d.tables 256 parts.2;
       speed = not-false (is_speed d.speed.value) (when-nil _ (at_number LimitPassed d.speed) times.0);
+      base = ltb-false 1000000000 d.time_base.value (when-nil _ (at_number LimitPassed d.time_base) times.1);
+      jitter = ltb-false 1000000000 d.jitter.value (when-nil _ (at_number LimitPassed d.jitter) times.2);
     }
 
 -- ---- signals

@@ -19,6 +19,7 @@ pub mod FindingsRepeats
 pub mod FindingsRows
 pub mod GoodParts
 pub mod KnownNames
+pub mod LongSlots
 pub mod Made
 pub mod Named
 pub mod NothingFound

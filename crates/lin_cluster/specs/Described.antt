@@ -21,6 +21,7 @@ use Rattle.lin_description.specs.declared.description.Init.TheVariants as inits
 use Rattle.lin_description.specs.declared.description.Name.{Name}
 use Rattle.lin_description.specs.declared.description.PlacedSignal.{PlacedSignal}
 use Rattle.lin_description.specs.declared.description.Signal as declared_signal
+use Rattle.lin_description.specs.declared.description.Sporadic as declared_sporadic
 use Rattle.lin_description.specs.declared.description.Table as declared_table
 use Rattle.lin_description.specs.declared.description.TableEntry.{TableEntry}
 use Rattle.lin_cluster.specs.Models.{frame_model, first_model}
@@ -33,6 +34,7 @@ use Rattle.lin_cluster_parts.specs.declared.parts.Node.{Node}
 use Rattle.lin_cluster_parts.specs.declared.parts.Parts.{Parts}
 use Rattle.lin_cluster_parts.specs.declared.parts.Signal.{Signal}
 use Rattle.lin_cluster_parts.specs.declared.parts.SignalFrame.{SignalFrame}
+use Rattle.lin_cluster_parts.specs.declared.parts.SporadicFrame.{SporadicFrame}
 use Rattle.lin_cluster_parts.specs.declared.parts.Table.{Table}
 
 -- ---- numbers of names
@@ -122,6 +124,7 @@ described_layout d frame = record {
 
 abbrev pub described_frame : Description → ℕ × declared_frame.Frame → SignalFrame
 described_frame d frame = record {
+  name = frame.1.name.text;
   pid = pid frame.1.id.value;
   model = frame_model d frame.1;
   publisher = node_number d frame.1.publisher;
@@ -136,12 +139,16 @@ frames_of d = map (described_frame d) (enumerate_from 0 d.frames)
 abbrev pub members_of : Description → List Name → List ℕ
 members_of d names = map (frame_number d) names
 
-abbrev pub sporadic_frames_of : Description → List (List ℕ)
-sporadic_frames_of d = map (λ s. members_of d s.members) d.sporadic
+abbrev pub described_sporadic : Description → declared_sporadic.Sporadic → SporadicFrame
+described_sporadic d s = record { name = s.name.text; frames = members_of d s.members }
+
+abbrev pub sporadic_frames_of : Description → List SporadicFrame
+sporadic_frames_of d = map (described_sporadic d) d.sporadic
 
 -- its answers have the checksum model of the first member
 abbrev pub described_event : Description → declared_event.EventFrame → EventFrame
 described_event d e = record {
+  name = e.name.text;
   pid = pid e.id.value;
   model = option_map_or (λ model. model) (first_model d e.members) Enhanced;
   table = table_number d e.table;
@@ -179,7 +186,7 @@ described_table d t = record { name = t.name.text; lines = map (described_line d
 abbrev pub tables_of : Description → List Table
 tables_of d = map (described_table d) d.tables
 
--- ---- the whole cluster
+-- ---- the whole cluster, with its speed and times (sections 9.2.1 and 9.2.2)
 
 abbrev pub parts_of : Description → Parts
 parts_of d = record {
@@ -189,4 +196,7 @@ parts_of d = record {
   sporadic = sporadic_frames_of d;
   events = events_of d;
   tables = tables_of d;
+  speed = d.speed.value;
+  jitter_us = d.jitter.value;
+  base_us = d.time_base.value;
 }

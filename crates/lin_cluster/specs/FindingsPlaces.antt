@@ -1,22 +1,29 @@
 -- What the signals of a frame take up: their numbers, and the ranges of their bits.
 use Rattle.std.specs.Prelude.{◌≡◌, ◌<◌, ◌+◌, ◌*◌, ◌%◌, ◌⊎◌, ◌++◌, ℕ, List, Option, is_none, Bool}
-use Rattle.std.specs.Prelude.{true, not, ◌&&◌, ◌||◌, ◌==◌, nat_lt, false}
-use Rattle.std.specs.BTreeMap.{BTreeMap}
+use Rattle.std.specs.Prelude.{true, not, ◌&&◌, ◌||◌, ◌==◌, nat_eq, nat_lt, false, if◌then◌else◌}
+use Rattle.std.specs.Prelude.{get_or}
+use Rattle.indexmap.specs.IndexSet.{contains}
 use Rattle.std.specs.Option.{option_map_or}
 use Rattle.lin_cluster.specs.FindingsNames.{at_name, at_number, when}
 use Rattle.lin_cluster.specs.FindingsNodes.{are_two}
-use Rattle.lin_cluster.specs.FindingsRanges.{Meets}
+use Rattle.lin_cluster.specs.FindingsRanges.{HasBit}
 use Rattle.lin_cluster.specs.declared.finding.Finding.{Finding}
 use Rattle.lin_cluster.specs.declared.finding.FindingKind.TheVariants.{UnknownName, WrongPublisher}
 use Rattle.lin_cluster.specs.declared.finding.FindingKind.TheVariants.{SignalOutside}
 use Rattle.lin_cluster.specs.declared.findings.facts.SignalFacts.{SignalFacts}
+use Rattle.lin_cluster.specs.declared.findings.numbers.Numbers.{Numbers}
+use Rattle.lin_cluster.specs.declared.findings.ranges.Ranges.{Ranges}
 use Rattle.lin_description.specs.declared.description.Frame.{Frame}
 use Rattle.lin_description.specs.declared.description.PlacedSignal.{PlacedSignal}
 
+-- whether a number is in the set
+abbrev pub has_number : Numbers → ℕ → Bool
+has_number s q = if nat_lt q 1024 then get_or s.few q false else contains nat_eq s.others q
+
 -- a signal of so many bits that is there already, or of which a bit is
-abbrev pub IsTaken : Bool → BTreeMap ℕ ℕ → PlacedSignal → ℕ → Type 0
+abbrev pub IsTaken : Bool → Ranges → PlacedSignal → ℕ → Type 0
 IsTaken twice ranges p size =
-    (twice ≡ true) ⊎ ((0 < size) × Meets ranges p.offset.value (p.offset.value + size))
+    (twice ≡ true) ⊎ ((0 < size) × HasBit ranges p.offset.value (p.offset.value + size))
 
 -- whether a signal of so many bits has one of the range from a to b
 abbrev pub lies_in : ℕ → ℕ → PlacedSignal → ℕ → Bool

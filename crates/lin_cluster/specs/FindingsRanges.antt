@@ -1,7 +1,8 @@
--- Ranges of bits, as a map from starts to ends: a range has its start, and not its end.
+-- Ranges of bits: a range has its start, and not its end. Most stand in a map from starts to ends.
 use Rattle.std.specs.Prelude.{◌≡◌, ◌<◌, ◌≤◌, ◌⊎◌, ℕ, Some}
 use Rattle.std.specs.BTreeMap.{BTreeMap, get}
 use Rattle.std.specs.Ordering.{nat_cmp}
+use Rattle.lin_cluster.specs.declared.findings.ranges.Ranges.{Ranges}
 
 -- one of the ranges has a bit of the range from a to b
 abbrev pub Meets : BTreeMap ℕ ℕ → ℕ → ℕ → Type 0
@@ -25,3 +26,13 @@ IsLastBelow m b r =
 -- one of the ranges, or the range from s to e, has a bit of the range from a to b
 abbrev pub Covers : BTreeMap ℕ ℕ → ℕ → ℕ → ℕ → ℕ → Type 0
 Covers m s e a b = Meets m a b ⊎ ((s < b) × (a < e))
+
+-- the same of the newest range and those of the map
+abbrev pub HasBit : Ranges → ℕ → ℕ → Type 0
+HasBit r a b = ((r.first < b) × (a < r.after)) ⊎ Meets r.others a b
+
+-- the newest range has a bit, or there is none yet
+pub record IsRanges (r : Ranges) : Type 0 where
+  pub order : r.first ≤ r.after
+  pub some : 0 < r.after → r.first < r.after
+  pub others : AreApart r.others

@@ -1,5 +1,5 @@
 -- The numbers of findings, and findings by their kinds.
-use Rattle.std.specs.Prelude.{ℕ}
+use Rattle.std.specs.Prelude.{ℕ, List, [], ◌∷◌, codes, slice_index_or}
 use Rattle.lin_cluster.specs.declared.finding.Finding.{Finding}
 use Rattle.lin_cluster.specs.declared.finding.FindingKind.{FindingKind}
 use Rattle.lin_cluster.specs.declared.finding.FindingKind.TheVariants.{UnknownName, WrongPublisher}
@@ -31,6 +31,17 @@ number_of NestedCollision = 15
 number_of EmptyTable = 16
 number_of LimitPassed = 17
 number_of MixedChecksum = 18
+
+-- the names of findings, by their numbers, which begin at 1
+abbrev pub finding_names : List (List ℕ)
+finding_names =
+    [] ∷ codes "UnknownName" ∷ codes "WrongPublisher" ∷ codes "BadId" ∷ codes "IdTwice" ∷ codes "BadSize"
+    ∷ codes "SignalOutside" ∷ codes "SignalsOverlap" ∷ codes "BadInit" ∷ codes "SlotTooShort"
+    ∷ codes "ZeroDelay" ∷ codes "BadNad" ∷ codes "NadTwice" ∷ codes "BadEventFrame" ∷ codes "BadSporadic"
+    ∷ codes "NestedCollision" ∷ codes "EmptyTable" ∷ codes "LimitPassed" ∷ codes "MixedChecksum" ∷ []
+
+abbrev pub finding_name : ℕ → List ℕ
+finding_name number = slice_index_or finding_names number []
 
 -- the time in microseconds that a slot that is too short needs
 abbrev pub needed_by : FindingKind → ℕ

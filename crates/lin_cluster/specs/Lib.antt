@@ -9,6 +9,7 @@ pub mod Sizes
 pub mod Overlaps
 pub mod Addresses
 pub mod Slots
+pub mod SlotTimes
 pub mod Members
 pub mod Tables
 pub mod Limits

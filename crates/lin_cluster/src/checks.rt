@@ -5,6 +5,7 @@ ghost use Rattle.lin_cluster.specs.Checks.{IsFaultOf};
 ghost use Rattle.lin_cluster.specs.Described.{parts_of};
 ghost use Rattle.lin_cluster.specs.Findings.{AreFindings, IsFree};
 ghost use Rattle.lin_cluster.specs.Models.{frame_model};
+ghost use Rattle.lin_cluster.specs.SlotTimes.{NoSlotIsShort};
 ghost use Rattle.lin_cluster.specs.declared.finding.CheckFault.TheVariants.{OutOfMemory};
 
 use crate::described::parts_of;
@@ -32,7 +33,8 @@ fn cluster_of(
 ) -> Result<Cluster, AllocError>
     requires free { IsFree description.now }
     requires models { models.now ≡ map (frame_model description.now) description.now.frames }
-    ensures { IfOk result (λ cluster. cluster ≡ parts_of description.now) }
+    ensures cluster { IfOk result (λ cluster. cluster ≡ parts_of description.now) }
+    ensures slots { IfOk result NoSlotIsShort }
 {
     Cluster::new(alloc, parts_of(alloc, description, models)?)
 }
@@ -47,6 +49,7 @@ fn answer_to(
     requires found { AreFindings description.now found.items }
     requires models { models.now ≡ map (frame_model description.now) description.now.frames }
     ensures ok { IfOk result (λ cluster. IsFree description.now × (cluster ≡ parts_of description.now)) }
+    ensures slots { IfOk result NoSlotIsShort }
     ensures findings { IfErr result (IsFaultOf description.now) }
 {
     if found.as_slice().is_empty() {
@@ -55,13 +58,15 @@ fn answer_to(
     Err(CheckFault::Findings(Many::new(found)))
 }
 
-/// The cluster that a description says, where nothing is wrong with it (LIN 2.2A, section 9).
+/// The cluster that a description says, where nothing is wrong with it (LIN 2.2A, section 9). Each of
+/// its slots is as long as it needs (ISO 17987-3, frame slots).
 ///
 /// # Errors
 /// All that is wrong, by place and then by number; or out of memory, which says nothing of the
 /// description. The description is used up either way.
 pub fn check(alloc: Global, description: Description) -> Result<Cluster, CheckFault>
     ensures ok { IfOk result (λ cluster. IsFree description × (cluster ≡ parts_of description)) }
+    ensures slots { IfOk result NoSlotIsShort }
     ensures findings { IfErr result (IsFaultOf description) }
 {
     let Examined { found, models } = examine(alloc, &description)?;

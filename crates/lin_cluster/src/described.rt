@@ -39,5 +39,8 @@ pub(crate) fn parts_of(
         sporadic: frames::sporadic_frames_of(alloc, d, d.sporadic())?,
         events: frames::events_of(alloc, d, models, d.events())?,
         tables: tables::tables_of(alloc, d, d.tables())?,
+        speed: d.speed().value,
+        jitter_us: d.jitter().value,
+        base_us: d.time_base().value,
     })
 }

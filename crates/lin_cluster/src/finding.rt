@@ -1,11 +1,10 @@
 //! What is wrong with a description, and why there is no cluster.
 
-ghost use Rattle.std.specs.Prelude.{◌≡◌, IfSome};
-ghost use Rattle.lin_cluster.specs.Kinds.{number_of, finding_at};
+ghost use Rattle.std.specs.Prelude.{◌≡◌};
+ghost use Rattle.lin_cluster.specs.Kinds.{finding_at, finding_name, number_of};
 
 use lin_description::Place;
 use lin_lists::Many;
-use std::fmt;
 
 /// The kinds of findings, in the order of their numbers, 1 to 18.
 #[derive(Clone, Copy, Debug, PartialEq, Eq)]
@@ -59,16 +58,6 @@ impl FindingKind {
     }
 }
 
-/// The name, and for a slot that is too short the time that it needs.
-impl fmt::Display for FindingKind {
-    fn fmt<W: fmt::Write>(&self, f: &mut fmt::Formatter<W>) -> fmt::Result {
-        match self {
-            FindingKind::SlotTooShort { needed_us } => write!(f, "SlotTooShort {needed_us}"),
-            kind => write!(f, "{kind:?}"),
-        }
-    }
-}
-
 /// What is wrong, and where: the finding's number (1 to 18), line and column, and for a slot that
 /// is too short (9) the time in microseconds that it needs; otherwise 0. Findings are ordered by
 /// place, then by number.
@@ -96,34 +85,31 @@ impl Finding {
         }
     }
 
-    /// The kind, where the number is one's.
-    pub fn kind(&self) -> Option<FindingKind>
-        ensures { IfSome result (λ kind. number_of kind ≡ self.now.number) }
+    /// The name; only numbers from 1 to 18 have one.
+    pub fn name(&self) -> &'static str
+        ensures { result.now ≡ finding_name self.now.number }
     {
-        let kind = match self.number {
-            1 => FindingKind::UnknownName,
-            2 => FindingKind::WrongPublisher,
-            3 => FindingKind::BadId,
-            4 => FindingKind::IdTwice,
-            5 => FindingKind::BadSize,
-            6 => FindingKind::SignalOutside,
-            7 => FindingKind::SignalsOverlap,
-            8 => FindingKind::BadInit,
-            9 => FindingKind::SlotTooShort {
-                needed_us: self.needed_us,
-            },
-            10 => FindingKind::ZeroDelay,
-            11 => FindingKind::BadNad,
-            12 => FindingKind::NadTwice,
-            13 => FindingKind::BadEventFrame,
-            14 => FindingKind::BadSporadic,
-            15 => FindingKind::NestedCollision,
-            16 => FindingKind::EmptyTable,
-            17 => FindingKind::LimitPassed,
-            18 => FindingKind::MixedChecksum,
-            _ => return None,
-        };
-        Some(kind)
+        match self.number {
+            1 => "UnknownName",
+            2 => "WrongPublisher",
+            3 => "BadId",
+            4 => "IdTwice",
+            5 => "BadSize",
+            6 => "SignalOutside",
+            7 => "SignalsOverlap",
+            8 => "BadInit",
+            9 => "SlotTooShort",
+            10 => "ZeroDelay",
+            11 => "BadNad",
+            12 => "NadTwice",
+            13 => "BadEventFrame",
+            14 => "BadSporadic",
+            15 => "NestedCollision",
+            16 => "EmptyTable",
+            17 => "LimitPassed",
+            18 => "MixedChecksum",
+            _ => "",
+        }
     }
 }
 

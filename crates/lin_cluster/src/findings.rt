@@ -8,6 +8,7 @@ mod judged;
 mod known;
 mod limits;
 mod members;
+mod numbers;
 mod overlaps;
 mod places;
 mod ranges;

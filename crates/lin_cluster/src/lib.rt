@@ -17,5 +17,5 @@ pub use checks::check;
 pub use finding::{CheckFault, Finding, FindingKind};
 pub use findings::needed_us;
 pub use lin_cluster_parts::{
-    Cluster, Entry, EventFrame, Line, Node, Parts, Signal, SignalFrame, Table,
+    Cluster, Entry, EventFrame, Line, Node, Parts, Signal, SignalFrame, SporadicFrame, Table,
 };

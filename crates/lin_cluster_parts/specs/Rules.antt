@@ -101,8 +101,8 @@ IsResponders c f = (f < length c.frames) × ((frame_of c f).publisher ≢ 0)
 -- at most 256 sporadic frames: each has at least one frame, and they are the commander's
 pub record AreSporadic (c : Parts) : Type 0 where
   pub number : length c.sporadic ≤ 256
-  pub members : All (λ fs. 1 ≤ length fs) c.sporadic
-  pub frames : All (λ fs. All (IsCommanders c) fs) c.sporadic
+  pub members : All (λ s. 1 ≤ length s.frames) c.sporadic
+  pub frames : All (λ s. All (IsCommanders c) s.frames) c.sporadic
 
 -- two frames that different nodes publish
 abbrev pub HaveOwnPublishers : Parts → ℕ → ℕ → Type 0
@@ -149,6 +149,12 @@ pub record AreTables (c : Parts) : Type 0 where
   pub delays : All (λ t. All (λ line. IsDelay line.delay_us) t.lines) c.tables
   pub entries : All (λ t. All (λ line. IsEntry c line.entry) t.lines) c.tables
 
+-- a speed of at most 20,000 bits per second, and times of at most 1,000 seconds
+pub record AreTimes (c : Parts) : Type 0 where
+  pub speed : (1 ≤ c.speed) × (c.speed ≤ 20000)
+  pub jitter : c.jitter_us ≤ 1000000000
+  pub base : c.base_us ≤ 1000000000
+
 -- parts that make a cluster: all of these rules
 pub record IsCluster (c : Parts) : Type 0 where
   pub nodes : AreNodes c
@@ -158,3 +164,4 @@ pub record IsCluster (c : Parts) : Type 0 where
   pub sporadic : AreSporadic c
   pub events : AreEvents c
   pub tables : AreTables c
+  pub times : AreTimes c

@@ -5,21 +5,25 @@ ghost use Rattle.std.specs.Prelude.{IfSome};
 ghost use Rattle.std.specs.List.{list_any};
 ghost use Rattle.std.specs.Str.{bytes_eq};
 ghost use Rattle.lin_cluster_parts.specs.Cluster.{has_signal, nodes, nad, node_of, signal_of};
-ghost use Rattle.lin_cluster_parts.specs.Cluster.{frame_of};
+ghost use Rattle.lin_cluster_parts.specs.Cluster.{frame_of, named_sporadic, frame_name, sporadic_name};
+ghost use Rattle.lin_cluster_parts.specs.Cluster.{event_name, entry_name};
 ghost use Rattle.lin_cluster_parts.specs.Cluster.{frames_with, sporadic_of, event_of, named_table};
 ghost use Rattle.lin_cluster_parts.specs.Cluster.{table_of, line_of, first_table};
 ghost use Rattle.lin_cluster_parts.specs.Rules.{IsCluster, IsDelay};
 ghost use Rattle.lin_cluster_parts.specs.Sound.{IsSound};
 
 use crate::carriers::all_carriers;
-use crate::parts::{Entry, EventFrame, Line, Node, Parts, Signal, SignalFrame, Table};
+use crate::parts::{
+    Entry, EventFrame, Line, Node, Parts, Signal, SignalFrame, SporadicFrame, Table,
+};
 use lin_frame::{Layout, SumKind, Value};
 use lin_lists::Many;
 use std::alloc::{AllocError, Global};
 use std::marker::Model;
 
 /// A LIN cluster. Contracts see its parts. Nodes, signals, frames of each kind and tables are read
-/// by their numbers, which begin at 0; each read's condition is that the number is in range.
+/// by their numbers, which begin at 0; each read's condition is that the number is in range, but for
+/// the names of frames: there a number that no frame has gives no bytes.
 pub struct Cluster {
     parts: Parts,
     carriers: Vec<Many<u16>>,
@@ -102,6 +106,13 @@ impl Cluster {
         ensures { result.now ≡ frame_of self.now frame }
     {
         &self.parts.frames.as_slice()[frame as usize]
+    }
+
+    fn sporadic_frame(&self, sporadic: u16) -> &SporadicFrame
+        requires { sporadic < length self.now.sporadic }
+        ensures { result.now ≡ named_sporadic self.now sporadic }
+    {
+        &self.parts.sporadic.as_slice()[sporadic as usize]
     }
 
     fn event(&self, event: u16) -> &EventFrame
@@ -210,6 +221,18 @@ impl Cluster {
         self.parts.frames.as_slice().len()
     }
 
+    /// The name of an unconditional frame (LIN 2.2A, section 9.2.4.1); no bytes where none has this
+    /// number.
+    pub fn frame_name(&self, frame: u16) -> &[u8]
+        ensures { result.now ≡ frame_name self.now frame }
+    {
+        if (frame as usize) < self.frames() {
+            self.frame(frame).name.as_slice()
+        } else {
+            &[]
+        }
+    }
+
     /// The protected identifier of an unconditional frame (ISO 17987-3, frame header).
     pub fn frame_pid(&self, frame: u16) -> u8
         requires { frame < length self.now.frames }
@@ -269,12 +292,24 @@ impl Cluster {
         self.parts.sporadic.as_slice().len()
     }
 
+    /// The name of a sporadic frame (LIN 2.2A, section 9.2.4.2); no bytes where none has this
+    /// number.
+    pub fn sporadic_name(&self, sporadic: u16) -> &[u8]
+        ensures { result.now ≡ sporadic_name self.now sporadic }
+    {
+        if (sporadic as usize) < self.sporadics() {
+            self.sporadic_frame(sporadic).name.as_slice()
+        } else {
+            &[]
+        }
+    }
+
     /// The frames of a sporadic frame, the highest in rank first (ISO 17987-3, sporadic frames).
     pub fn sporadic(&self, sporadic: u16) -> &[u16]
         requires { sporadic < length self.now.sporadic }
         ensures { result.now ≡ sporadic_of self.now sporadic }
     {
-        self.parts.sporadic.as_slice()[sporadic as usize].as_slice()
+        self.sporadic_frame(sporadic).frames.as_slice()
     }
 
     /// How many event-triggered frames the cluster has.
@@ -282,6 +317,18 @@ impl Cluster {
         ensures { result ≡ length self.now.events }
     {
         self.parts.events.as_slice().len()
+    }
+
+    /// The name of an event-triggered frame (LIN 2.2A, section 9.2.4.3); no bytes where none has
+    /// this number.
+    pub fn event_name(&self, event: u16) -> &[u8]
+        ensures { result.now ≡ event_name self.now event }
+    {
+        if (event as usize) < self.events() {
+            self.event(event).name.as_slice()
+        } else {
+            &[]
+        }
     }
 
     /// The protected identifier of an event-triggered frame.
@@ -372,5 +419,45 @@ impl Cluster {
         ensures { result ≡ (line_of self.now table entry).entry }
     {
         self.line(table, entry).entry
+    }
+
+    /// The name of what an entry of a schedule table is for (LIN 2.2A, section 9.2.5): a frame's,
+    /// `MasterReq` or `SlaveResp`, and `-` for a configuration entry.
+    pub fn entry_name(&self, entry: Entry) -> &[u8]
+        ensures { result.now ≡ entry_name self.now entry }
+    {
+        match entry {
+            Entry::Frame(frame) => self.frame_name(frame),
+            Entry::Sporadic(sporadic) => self.sporadic_name(sporadic),
+            Entry::Event(event) => self.event_name(event),
+            Entry::MasterReq => b"MasterReq",
+            Entry::SlaveResp => b"SlaveResp",
+            Entry::Quiet => b"-",
+        }
+    }
+
+    /// The speed in bits per second (LIN 2.2A, section 9.2.1).
+    pub fn speed(&self) -> u32
+        ensures value { result ≡ self.now.speed }
+        ensures some { 1 ≤ result }
+        ensures few { result ≤ 20000 }
+    {
+        self.parts.speed
+    }
+
+    /// The jitter in microseconds (LIN 2.2A, section 9.2.2).
+    pub fn jitter_us(&self) -> u32
+        ensures value { result ≡ self.now.jitter_us }
+        ensures few { result ≤ 1000000000 }
+    {
+        self.parts.jitter_us
+    }
+
+    /// The time base in microseconds (LIN 2.2A, section 9.2.2).
+    pub fn base_us(&self) -> u32
+        ensures value { result ≡ self.now.base_us }
+        ensures few { result ≤ 1000000000 }
+    {
+        self.parts.base_us
     }
 }

@@ -13,4 +13,4 @@ mod cluster;
 mod parts;
 
 pub use cluster::Cluster;
-pub use parts::{Entry, EventFrame, Line, Node, Parts, Signal, SignalFrame, Table};
+pub use parts::{Entry, EventFrame, Line, Node, Parts, Signal, SignalFrame, SporadicFrame, Table};

@@ -2,6 +2,7 @@
 //! kind from 0.
 
 ghost use Rattle.std.specs.Prelude.{◌≡◌};
+ghost use Rattle.lin_cluster_parts.specs.Cluster.{entry_kind};
 ghost use Rattle.lin_cluster_parts.specs.Rules.{is_array, place_at};
 
 use lin_frame::{Layout, Place, SumKind, Value};
@@ -47,10 +48,12 @@ impl Signal {
     }
 }
 
-/// An unconditional frame: its protected identifier, its checksum model, the node that sends it,
-/// and its signals in the order of the places of its layout (ISO 17987-3, unconditional frames).
+/// An unconditional frame: its name, its protected identifier, its checksum model, the node that
+/// sends it, and its signals in the order of the places of its layout (ISO 17987-3, unconditional
+/// frames).
 #[derive(Drop)]
 pub struct SignalFrame {
+    pub name: Text,
     pub pid: u8,
     pub model: SumKind,
     pub publisher: u8,
@@ -58,10 +61,19 @@ pub struct SignalFrame {
     pub signals: Many<u16>,
 }
 
-/// An event-triggered frame: its protected identifier, the checksum model of its answers, the table
-/// that resolves a collision, and its frames (ISO 17987-3, event-triggered frames).
+/// A sporadic frame: its name and its frames, the first one first in rank (ISO 17987-3, sporadic
+/// frames).
+#[derive(Drop)]
+pub struct SporadicFrame {
+    pub name: Text,
+    pub frames: Many<u16>,
+}
+
+/// An event-triggered frame: its name, its protected identifier, the checksum model of its answers,
+/// the table that resolves a collision, and its frames (ISO 17987-3, event-triggered frames).
 #[derive(Drop)]
 pub struct EventFrame {
+    pub name: Text,
     pub pid: u8,
     pub model: SumKind,
     pub table: u16,
@@ -85,6 +97,23 @@ pub enum Entry {
     Quiet,
 }
 
+impl Entry {
+    /// What kind of frame it is for: `unconditional`, `sporadic`, `event`, `request`, `response`, or
+    /// `configuration` (ISO 17987-3, frame slots).
+    pub fn kind(self) -> &'static [u8]
+        ensures { result.now ≡ entry_kind self }
+    {
+        match self {
+            Entry::Frame(_) => b"unconditional",
+            Entry::Sporadic(_) => b"sporadic",
+            Entry::Event(_) => b"event",
+            Entry::MasterReq => b"request",
+            Entry::SlaveResp => b"response",
+            Entry::Quiet => b"configuration",
+        }
+    }
+}
+
 /// An entry of a schedule table with its delay in microseconds.
 #[derive(Clone, Copy, Debug, PartialEq, Eq)]
 pub struct Line {
@@ -99,14 +128,17 @@ pub struct Table {
     pub lines: Many<Line>,
 }
 
-/// All that a cluster is made of. A sporadic frame is the list of its frames, the first one first
-/// in rank.
+/// All that a cluster is made of, with its speed in bits per second, and its jitter and time base in
+/// microseconds (LIN 2.2A, sections 9.2.1 and 9.2.2).
 #[derive(Drop)]
 pub struct Parts {
     pub nodes: Many<Node>,
     pub signals: Many<Signal>,
     pub frames: Many<SignalFrame>,
-    pub sporadic: Many<Many<u16>>,
+    pub sporadic: Many<SporadicFrame>,
     pub events: Many<EventFrame>,
     pub tables: Many<Table>,
+    pub speed: u32,
+    pub jitter_us: u32,
+    pub base_us: u32,
 }

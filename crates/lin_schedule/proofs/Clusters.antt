@@ -21,7 +21,7 @@ no_table : Table
 no_table = record { name = []; lines = [] }
 
 no_event : EventFrame
-no_event = record { pid = 0x80; model = Enhanced; table = 0; frames = [] }
+no_event = record { name = []; pid = 0x80; model = Enhanced; table = 0; frames = [] }
 
 -- a table has 1 to 1,024 entries
 pub table-length : (c : Parts) → IsCluster c → (t : ℕ) → t < length c.tables → (1 ≤ length (table_of c t)) × (length (table_of c t) ≤ 1024)

@@ -6,15 +6,15 @@ ghost use Rattle.lin_frame.specs.Frame.{pid};
 ghost use Rattle.lin_cluster.specs.Described.{frame_number, signal_number, signals_of};
 ghost use Rattle.lin_cluster.specs.Described.{described_place, described_layout, described_frame};
 ghost use Rattle.lin_cluster.specs.Described.{frames_of, members_of, sporadic_frames_of};
-ghost use Rattle.lin_cluster.specs.Described.{described_event, events_of};
+ghost use Rattle.lin_cluster.specs.Described.{described_sporadic, described_event, events_of};
 ghost use Rattle.lin_cluster.specs.Fitting.{FitsFrame, FitsNumbers};
 ghost use Rattle.lin_cluster.specs.Models.{frame_model, model_named, first_model};
 
 use super::numbers::{frame_number, node_number, signal_number, table_number};
-use lin_cluster_parts::{EventFrame, Signal, SignalFrame};
+use lin_cluster_parts::{EventFrame, Signal, SignalFrame, SporadicFrame};
 use lin_description::{Description, Frame, Name, PlacedSignal, Sporadic};
 use lin_frame::{FrameId, Layout, Place, SumKind, protected};
-use lin_lists::Many;
+use lin_lists::{Many, Text};
 use std::alloc::{AllocError, Global};
 
 fn pid_of(id: u32) -> u8
@@ -143,6 +143,7 @@ fn frame_of(
     ensures { IfOk result (λ made. made ≡ described_frame d.now (number, frame.now)) }
 {
     Ok(SignalFrame {
+        name: Text::copied(alloc, frame.name.text.as_slice())?,
         pid: pid_of(frame.id.value),
         model,
         publisher: node_number(d, &frame.publisher),
@@ -185,21 +186,28 @@ fn members_of(alloc: Global, d: &Description, names: &[Name]) -> Result<Many<u16
     Ok(Many::new(members))
 }
 
-fn sporadic_of(alloc: Global, d: &Description, sporadic: &Sporadic) -> Result<Many<u16>, AllocError>
+fn sporadic_of(
+    alloc: Global,
+    d: &Description,
+    sporadic: &Sporadic,
+) -> Result<SporadicFrame, AllocError>
     requires { length d.now.frames ≤ 60 }
-    ensures made { IfOk result (λ made. made ≡ members_of d.now sporadic.now.members) }
+    ensures made { IfOk result (λ made. made ≡ described_sporadic d.now sporadic.now) }
     ensures some { OnOk result (1 ≤ length sporadic.now.members) }
 {
-    members_of(alloc, d, sporadic.members.as_slice())
+    Ok(SporadicFrame {
+        name: Text::copied(alloc, sporadic.name.text.as_slice())?,
+        frames: members_of(alloc, d, sporadic.members.as_slice())?,
+    })
 }
 
 pub(super) fn sporadic_frames_of(
     alloc: Global,
     d: &Description,
     sporadic: &[Sporadic],
-) -> Result<Many<Many<u16>>, AllocError>
+) -> Result<Many<SporadicFrame>, AllocError>
     requires { length d.now.frames ≤ 60 }
-    ensures made { IfOk result (λ made. made ≡ map (λ s. members_of d.now s.members) sporadic.now) }
+    ensures made { IfOk result (λ made. made ≡ map (described_sporadic d.now) sporadic.now) }
     ensures some { OnOk result (All (λ s. 1 ≤ length s.members) sporadic.now) }
 {
     let mut made = Vec::new(alloc);
@@ -243,6 +251,7 @@ fn event_of(
     ensures some { OnOk result (1 ≤ length event.now.members) }
 {
     Ok(EventFrame {
+        name: Text::copied(alloc, event.name.text.as_slice())?,
         pid: pid_of(event.id.value),
         model: first_model(d, models, event.members.as_slice()).unwrap_or(SumKind::Enhanced),
         table: table_number(d, &event.table),

@@ -3,9 +3,8 @@
 ghost use Rattle.std.specs.Prelude.{◌≡◌, ◌++◌, ◌+◌, ◌<◌, ◌||◌, ◌↔◌, ◌⊎◌, ℕ, Bool, true, nat_eq};
 ghost use Rattle.std.specs.Prelude.{IfOk, IsSome, OnOk, false};
 ghost use Rattle.std.specs.Option.{option_map_or};
-ghost use Rattle.indexmap.specs.IndexSet.{contains};
 ghost use Rattle.lin_cluster.specs.FindingsNames.{at_number, when};
-ghost use Rattle.lin_cluster.specs.FindingsRanges.{Meets, AreApart};
+ghost use Rattle.lin_cluster.specs.FindingsRanges.{HasBit, IsRanges};
 ghost use Rattle.lin_cluster.specs.FindingsPlaces.{IsTaken, lies_in};
 ghost use Rattle.lin_cluster.specs.declared.finding.FindingKind.TheVariants.{SignalsOverlap};
 
@@ -13,24 +12,12 @@ use super::facts::SignalFacts;
 use super::ranges::{Ranges, add_range, is_met};
 use super::walk::{at_number, push_when};
 use crate::finding::{Finding, FindingKind};
-use indexmap::IndexSet;
 use lin_description::PlacedSignal;
 use std::alloc::AllocError;
 
-/// Adds the number of a signal of a frame, and says whether it is there already.
-pub(super) fn stands_twice(numbers: &mut IndexSet<usize>, number: usize) -> Result<bool, AllocError>
-    ensures twice { IfOk result (λ twice. twice ≡ contains nat_eq numbers.old number) }
-    ensures added { OnOk result
-        ((q : ℕ) → contains nat_eq numbers.new q
-        ≡ (contains nat_eq numbers.old q || nat_eq number q)) }
-{
-    let is_new = numbers.insert(number)?;
-    Ok(!is_new)
-}
-
 // Whether the signal stands in its frame already, or one of the ranges has a bit of it.
 fn is_taken(twice: bool, ranges: &Ranges, placed: &PlacedSignal, size: u32) -> bool
-    requires { AreApart ranges.now }
+    requires { IsRanges ranges.now }
     ensures { (result ≡ true) ↔ IsTaken twice ranges.now placed.now size }
 {
     let start = u64::from(placed.offset.value);
@@ -50,7 +37,7 @@ pub(super) fn overlap(
     placed: &PlacedSignal,
     signal: Option<SignalFacts>,
 ) -> Result<(), AllocError>
-    requires { AreApart ranges.now }
+    requires { IsRanges ranges.now }
     ensures { OnOk result
         ((taken : ℕ → Bool)
         → (IsSome signal → (size : ℕ)
@@ -77,12 +64,12 @@ pub(super) fn add_bits(
     placed: &PlacedSignal,
     signal: Option<SignalFacts>,
 ) -> Result<(), AllocError>
-    requires { AreApart ranges.old }
-    ensures apart { OnOk result (AreApart ranges.new) }
+    requires { IsRanges ranges.old }
+    ensures apart { OnOk result (IsRanges ranges.new) }
     ensures meets { OnOk result
         ((a b : ℕ) → a < b
-        → Meets ranges.new a b ↔
-        (Meets ranges.old a b
+        → HasBit ranges.new a b ↔
+        (HasBit ranges.old a b
         ⊎ (option_map_or (λ s. lies_in a b placed.now s.size) signal false ≡ true))) }
 {
     if let Some(signal) = signal {

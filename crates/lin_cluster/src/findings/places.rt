@@ -5,23 +5,22 @@ ghost use Rattle.std.specs.Prelude.{◌≡◌, ◌++◌, ◌<◌, ◌||◌, ◌�
 ghost use Rattle.std.specs.Prelude.{IsSome, OnOk};
 ghost use Rattle.std.specs.List.{flat_map, enumerate_from};
 ghost use Rattle.std.specs.Option.{option_map_or};
-ghost use Rattle.indexmap.specs.IndexSet.{contains};
 ghost use Rattle.lin_cluster.specs.Findings.{in_placed};
 ghost use Rattle.lin_cluster.specs.FindingsNodes.{are_two};
 ghost use Rattle.lin_cluster.specs.FindingsNames.{at_number, when};
-ghost use Rattle.lin_cluster.specs.FindingsPlaces.{is_outside_by, in_placed_by, IsTaken, lies_in};
-ghost use Rattle.lin_cluster.specs.FindingsRanges.{Meets, AreApart};
+ghost use Rattle.lin_cluster.specs.FindingsPlaces.{IsTaken, has_number, in_placed_by, is_outside_by};
+ghost use Rattle.lin_cluster.specs.FindingsPlaces.{lies_in};
+ghost use Rattle.lin_cluster.specs.FindingsRanges.{HasBit, IsRanges};
 ghost use Rattle.lin_cluster.specs.declared.finding.FindingKind.TheVariants.{SignalsOverlap};
 
 use super::facts::{SignalFacts, Signals};
-use super::overlaps::{add_bits, overlap, stands_twice};
-use super::ranges::Ranges;
+use super::numbers::{Numbers, no_numbers, stands_twice};
+use super::overlaps::{add_bits, overlap};
+use super::ranges::{Ranges, no_ranges};
 use super::walk::{at_name, at_number, push_when};
 use crate::finding::{Finding, FindingKind};
-use indexmap::IndexSet;
 use lin_description::{Frame, PlacedSignal};
 use std::alloc::AllocError;
-use std::collections::BTreeMap;
 
 // A name that is no node's is no other node's.
 fn are_two(node: Option<usize>, other: Option<usize>) -> bool
@@ -71,7 +70,7 @@ fn find_placed(
 
 /// The signals that a frame places before one: their numbers, and the ranges of their bits.
 struct Earlier {
-    numbers: IndexSet<usize>,
+    numbers: Numbers,
     ranges: Ranges,
 }
 
@@ -96,25 +95,25 @@ fn add_placed(
     number: usize,
     signal: Option<SignalFacts>,
 ) -> Result<(), AllocError>
-    requires { AreApart earlier.old.ranges }
+    requires { IsRanges earlier.old.ranges }
     ensures found { OnOk result
         ((taken : ℕ → Bool)
         → (IsSome signal → (size : ℕ)
         → (taken size ≡ true) ↔
-        IsTaken (contains nat_eq earlier.old.numbers number) earlier.old.ranges placed.now size)
+        IsTaken (has_number earlier.old.numbers number) earlier.old.ranges placed.now size)
         → found.new.items
         ≡ found.old.items
         ++ in_placed_by frame.now publisher placed.now signal
         ++ when (option_map_or (λ s. taken s.size) signal false)
         (at_number SignalsOverlap placed.now.offset)) }
-    ensures apart { OnOk result (AreApart earlier.new.ranges) }
+    ensures apart { OnOk result (IsRanges earlier.new.ranges) }
     ensures numbers { OnOk result
-        ((q : ℕ) → contains nat_eq earlier.new.numbers q
-        ≡ (contains nat_eq earlier.old.numbers q || nat_eq number q)) }
+        ((q : ℕ) → has_number earlier.new.numbers q
+        ≡ (has_number earlier.old.numbers q || nat_eq number q)) }
     ensures ranges { OnOk result
         ((a b : ℕ) → a < b
-        → Meets earlier.new.ranges a b ↔
-        (Meets earlier.old.ranges a b
+        → HasBit earlier.new.ranges a b ↔
+        (HasBit earlier.old.ranges a b
         ⊎ (option_map_or (λ s. lies_in a b placed.now s.size) signal false ≡ true))) }
 {
     let twice = stands_twice(&mut earlier.numbers, number)?;
@@ -138,8 +137,8 @@ pub(super) fn signals_in_order(
 {
     let publisher = signals.known.node(&frame.publisher);
     let mut earlier = Earlier {
-        numbers: IndexSet::new(signals.alloc),
-        ranges: BTreeMap::new(signals.alloc),
+        numbers: no_numbers(signals.alloc),
+        ranges: no_ranges(signals.alloc),
     };
     for placed in all_placed {
         let (number, signal) = signals.numbered(&placed.signal);

@@ -1,17 +1,38 @@
-//! Ranges of bits, as a map from starts to ends in which no two share a bit.
+//! Ranges of bits.
 
-ghost use Rattle.std.specs.Prelude.{◌≡◌, ◌<◌, ◌↔◌, ℕ, Some, true, IfSome, IfNone, OnOk};
+ghost use Rattle.std.specs.Prelude.{◌≡◌, ◌<◌, ◌⊎◌, ◌↔◌, ℕ, Some, true, IfSome, IfNone, OnOk};
 ghost use Rattle.std.specs.BTreeMap.{get};
 ghost use Rattle.std.specs.Ordering.{nat_cmp};
 ghost use Rattle.lin_cluster.specs.FindingsRanges.{Meets, AreApart, Covers, IsNoneBelow};
-ghost use Rattle.lin_cluster.specs.FindingsRanges.{IsLastBelow};
+ghost use Rattle.lin_cluster.specs.FindingsRanges.{IsLastBelow, HasBit, IsRanges};
 
-use std::alloc::AllocError;
+use std::alloc::{AllocError, Global};
 use std::collections::BTreeMap;
 
-pub(super) type Ranges = BTreeMap<u64, u64>;
+/// Ranges as a map from starts to ends, in which no two share a bit.
+type Map = BTreeMap<u64, u64>;
 
-fn last_below(ranges: &Ranges, end: u64) -> Option<(u64, u64)>
+/// Ranges of bits. The newest one, from `first` to before `after`, stands beside the map of the
+/// others, and grows where the next begins at its end: a frame's signals mostly do, and then need no
+/// map.
+pub(super) struct Ranges {
+    first: u64,
+    after: u64,
+    others: Map,
+}
+
+// Written out, so that what owns one lets it go in one step.
+impl Drop for Ranges {
+    fn drop(self) {
+        let Ranges {
+            first: _,
+            after: _,
+            others: _others,
+        } = self;
+    }
+}
+
+fn last_below(ranges: &Map, end: u64) -> Option<(u64, u64)>
     ensures some { IfSome result (IsLastBelow ranges.now end) }
     ensures none { IfNone result (IsNoneBelow ranges.now end) }
 {
@@ -23,7 +44,7 @@ fn last_below(ranges: &Ranges, end: u64) -> Option<(u64, u64)>
 
 // A range with a bit of another range.
 #[tactic(auto, using(crate::proofs::FindingsRanges::none_met, crate::proofs::FindingsRanges::last_unmet))]
-fn meeting(ranges: &Ranges, start: u64, end: u64) -> Option<(u64, u64)>
+fn meeting(ranges: &Map, start: u64, end: u64) -> Option<(u64, u64)>
     requires { AreApart ranges.now }
     ensures some { IfSome result
         (λ r. (get nat_cmp ranges.now r.0 ≡ Some r.1) × (r.0 < end) × (start < r.1)) }
@@ -35,16 +56,8 @@ fn meeting(ranges: &Ranges, start: u64, end: u64) -> Option<(u64, u64)>
     }
 }
 
-/// Whether the range has a bit of one of these.
-pub(super) fn is_met(ranges: &Ranges, start: u64, end: u64) -> bool
-    requires { AreApart ranges.now }
-    ensures { (result ≡ true) ↔ Meets ranges.now start end }
-{
-    meeting(ranges, start, end).is_some()
-}
-
 // Takes out the ranges that have a bit of a range, and gives the range of all their bits.
-fn merged(ranges: &mut Ranges, start: u64, end: u64) -> (u64, u64)
+fn merged(ranges: &mut Map, start: u64, end: u64) -> (u64, u64)
     requires apart { AreApart ranges.old }
     requires some { start < end }
     ensures apart { AreApart ranges.new }
@@ -63,14 +76,59 @@ fn merged(ranges: &mut Ranges, start: u64, end: u64) -> (u64, u64)
     (first, after)
 }
 
-/// Adds the bits of one more range; an error means out of memory.
-pub(super) fn add_range(ranges: &mut Ranges, start: u64, end: u64) -> Result<(), AllocError>
+/// Adds the bits of one more range, which is none where it ends at 0.
+fn add(ranges: &mut Map, start: u64, end: u64) -> Result<(), AllocError>
     requires apart { AreApart ranges.old }
-    requires some { start < end }
+    requires some { 0 < end → start < end }
     ensures apart { OnOk result (AreApart ranges.new) }
     ensures meets { OnOk result ((a b : ℕ) → a < b → Meets ranges.new a b ↔ Covers ranges.old start end a b) }
 {
+    if end == 0 {
+        return Ok(());
+    }
     let (first, after) = merged(ranges, start, end);
     ranges.insert(first, after)?;
+    Ok(())
+}
+
+/// No range.
+pub(super) fn no_ranges(alloc: Global) -> Ranges
+    ensures ranges { IsRanges result }
+    ensures none { (a b : ℕ) → HasBit result a b → ⊥ }
+{
+    Ranges {
+        first: 0,
+        after: 0,
+        others: BTreeMap::new(alloc),
+    }
+}
+
+/// Whether the range has a bit of one of these.
+pub(super) fn is_met(ranges: &Ranges, start: u64, end: u64) -> bool
+    requires { IsRanges ranges.now }
+    ensures { (result ≡ true) ↔ HasBit ranges.now start end }
+{
+    if ranges.first < end && start < ranges.after {
+        return true;
+    }
+    meeting(&ranges.others, start, end).is_some()
+}
+
+/// Adds the bits of one more range; an error means out of memory.
+pub(super) fn add_range(ranges: &mut Ranges, start: u64, end: u64) -> Result<(), AllocError>
+    requires ranges { IsRanges ranges.old }
+    requires some { start < end }
+    ensures ranges { OnOk result (IsRanges ranges.new) }
+    ensures bits { OnOk result
+        ((a b : ℕ) → a < b
+        → HasBit ranges.new a b ↔ (HasBit ranges.old a b ⊎ ((start < b) × (a < end)))) }
+{
+    if start == ranges.after {
+        ranges.after = end;
+        return Ok(());
+    }
+    add(&mut ranges.others, ranges.first, ranges.after)?;
+    ranges.first = start;
+    ranges.after = end;
     Ok(())
 }

@@ -16,7 +16,7 @@ pub returns-then-is_empty-clause-ok : goal.returns-then-is_empty-clause-ok
 returns-then-is_empty-clause-ok c =
     let empty : (length c.as_slice.result.now == 0) ≡ true = sym c.is_empty.ensures ∙ c.if-is_empty.true
     in let none : length c.args.found.items ≡ 0 = subst (λ (fs : List Finding). length fs ≡ 0) c.as_slice.ensures.value (eqb-true (length c.as_slice.result.now) 0 empty)
-    in (free-from-none c.args.description.now c.args.found.items c.requires.found none, c.in_ok-cluster_of.ensures)
+    in (free-from-none c.args.description.now c.args.found.items c.requires.found none, c.in_ok-cluster_of.ensures.cluster)
 
 pub returns-clause-findings : goal.returns-clause-findings
 returns-clause-findings c =

@@ -1,4 +1,4 @@
-use Rattle.std.proofs.Common.{sym, ap, ◌∙◌, ◌++◌, take, append_assoc, false}
+use Rattle.std.proofs.Common.{sym, ap, ◌∙◌, ◌++◌, take, append-nil, append_assoc, false}
 use Rattle.std.specs.List.{flat_map, list_any}
 use Rattle.std.specs.Prelude.{◌==◌}
 use Rattle.std.specs.Option.{option_map_or}
@@ -8,13 +8,21 @@ use Rattle.lin_cluster.specs.Overlaps.{overlap_at, meets}
 use Rattle.lin_cluster.specs.FindingsNames.{at_number, signal_named, when}
 use Rattle.lin_cluster.specs.FindingsNodes.{node_of}
 use Rattle.lin_cluster.specs.FindingsPlaces.{lies_in, in_placed_by}
-use Rattle.lin_cluster.specs.FindingsRanges.{Meets}
+use Rattle.lin_cluster.specs.FindingsRanges.{HasBit}
 use Rattle.lin_cluster.specs.declared.finding.FindingKind.TheVariants.{SignalsOverlap}
 use Rattle.lin_cluster.proofs.FindingsLists.{each_step_at, each_all}
 use Rattle.lin_cluster.proofs.FindingsMaps.{seen_more}
 use Rattle.lin_cluster.proofs.FindingsPlaces.{taken, placed_found, more_bits}
 use Rattle.lin_cluster.proofs.Made.{placed_same, size_same, bits_same}
 use Rattle.lin_cluster.proofs.findings.places.signals_in_order.Goals as goal
+
+pub loop-placed-init : goal.loop-placed-init
+loop-placed-init c = record {
+  found = sym (append-nil c.args.found.now.items);
+  apart = c.no_ranges.ensures.ranges;
+  numbers = c.no_numbers.ensures;
+  ranges = λ a b ab. (λ bit. absurd (c.no_ranges.ensures.none a b bit), λ no. absurd cc);
+}
 
 pub loop-placed-preserved : goal.loop-placed-preserved
 loop-placed-preserved c =
@@ -38,8 +46,8 @@ loop-placed-preserved c =
           seen_more (λ x. signal_number d x.signal == q) all c.loop-placed.placed-index p (c.numbered-number.result.0 == q) _ _ c.loop-placed-test.true
           (ap (λ n. n == q) c.numbered-number.ensures.number ∙ ap (λ x. signal_number d x.signal == q) c.placed-item.is) (c.loop-placed.invariant.numbers q) (c.in_ok-add_placed.ensures.numbers q);
       ranges = λ a b ab.
-          more_bits (Meets c.loop-placed.earlier.ranges a b) (Meets c.add_placed.new.earlier.ranges a b) (λ x. option_map_or (λ t. lies_in a b x t.size.value) (signal_named d x.signal) false) all c.loop-placed.placed-index p c.loop-placed-test.true (sym c.placed-item.is)
-          (c.loop-placed.invariant.ranges a b ab) (bits_same d (lies_in a b p) (Meets c.loop-placed.earlier.ranges a b) (Meets c.add_placed.new.earlier.ranges a b) named facts c.numbered-number.ensures.facts (c.in_ok-add_placed.ensures.ranges a b ab));
+          more_bits (HasBit c.loop-placed.earlier.ranges a b) (HasBit c.add_placed.new.earlier.ranges a b) (λ x. option_map_or (λ t. lies_in a b x t.size.value) (signal_named d x.signal) false) all c.loop-placed.placed-index p c.loop-placed-test.true (sym c.placed-item.is)
+          (c.loop-placed.invariant.ranges a b ab) (bits_same d (lies_in a b p) (HasBit c.loop-placed.earlier.ranges a b) (HasBit c.add_placed.new.earlier.ranges a b) named facts c.numbered-number.ensures.facts (c.in_ok-add_placed.ensures.ranges a b ab));
     }
 
 pub returns : goal.returns

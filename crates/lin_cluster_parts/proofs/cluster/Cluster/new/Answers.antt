@@ -1,4 +1,4 @@
-use Rattle.std.proofs.Common.{arith, length, ◌+◌, ◌≤◌}
+use Rattle.std.proofs.Common.{arith}
 use Rattle.lin_cluster_parts.proofs.Limits.{few-identifiers}
 use Rattle.lin_cluster_parts.proofs.cluster.Cluster.new.Goals as goal
 
