@@ -11,6 +11,7 @@ use Rattle.lin_ldf.specs.declared.fault.LdfFault.TheVariants as faults
 use Rattle.lin_ldf.specs.declared.token.Token.{Token}
 use Rattle.lin_ldf.specs.declared.token.TokenKind.{TokenKind}
 use Rattle.lin_ldf.specs.declared.token.TokenKind.TheVariants.{Other}
+use Rattle.lin_ldf.specs.declared.front.Front.{Front}
 use Rattle.lin_ldf.specs.declared.lexer.Lexer.{Lexer}
 use Rattle.lin_ldf.specs.declared.lexer.Scanned.TheVariants as pieces
 use Rattle.lin_description.specs.declared.place.Place.{Place}
@@ -82,3 +83,6 @@ symbols_left None text place l = []
 symbols_left (Some kind) text place l =
     record { kind = kind; text = text; line = place.line; column = place.column }
     ∷ symbols_in l.source.now (still l).tokens
+
+abbrev pub symbols_of : Front → List Symbol
+symbols_of f = symbols_left f.kind f.text.now f.place f.lexer

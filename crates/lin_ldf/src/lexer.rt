@@ -110,7 +110,7 @@ fn hex_len(text: &[u8]) -> usize
 
 /// How many bytes stand before the first one that is `byte`.
 #[tactic(auto, using(crate::proofs::Scan::lengths, crate::proofs::Lines::no_such_byte, crate::proofs::Lines::first_such_byte))]
-pub fn len_before(byte: u8, text: &[u8]) -> usize
+fn len_before(byte: u8, text: &[u8]) -> usize
     ensures value { result ≡ prefix_len (λ c. not (c == byte)) text.now }
     ensures within { result ≤ length text.now }
 {

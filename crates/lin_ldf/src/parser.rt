@@ -20,7 +20,8 @@ ghost use Rattle.lin_ldf.specs.declared.fault.LdfFault.TheVariants.{OutOfMemory}
 ghost use Rattle.lin_description.specs.declared.description.Description.{Description};
 
 use crate::fault::LdfFault;
-use crate::lexer::{Lexer, first_fault};
+use crate::front::Front;
+use crate::lexer::first_fault;
 use crate::names::Names;
 use crate::node_attributes::NodeBlocks;
 use crate::number_values;
@@ -31,27 +32,23 @@ use lin_lists::Text;
 use std::alloc::Global;
 use std::marker::Model;
 
-/// The tokens that are left: the next one's kind, text and place, and the lexer, which stands after
-/// it. What is read takes memory of `alloc`.
+/// The tokens that are left. What is read takes memory of `alloc`.
 #[derive(Drop)]
 pub struct Parser<'a> {
     alloc: Global,
-    kind: Option<TokenKind>,
-    text: &'a [u8],
-    place: Place,
-    lexer: Lexer<'a>,
+    pub(crate) front: Front<'a>,
 }
 
 impl<'a> Model for Parser<'a> {
     ghost use Rattle.std.specs.Prelude.{List};
     ghost use Rattle.lin_ldf.specs.Symbols.{Symbol};
-    ghost use Rattle.lin_ldf.specs.Stream.{IsReady, symbols_left};
+    ghost use Rattle.lin_ldf.specs.Stream.{IsReady, symbols_of};
 
     ghost Value = { List Symbol };
 
-    ghost view = { λ p. symbols_left p.kind p.text.now p.place p.lexer };
+    ghost view = { λ p. symbols_of p.front };
 
-    ghost invariant = { λ p. IsReady p.lexer };
+    ghost invariant = { λ p. IsReady p.front.lexer };
 }
 
 pub fn is_word(text: &[u8], word: &[u8]) -> bool
@@ -84,18 +81,10 @@ impl<'a> Parser<'a> {
     pub fn new(alloc: Global, source: &'a [u8]) -> Parser<'a>
         ensures { result ≡ symbols_in source.now (start_of source.now).tokens }
     {
-        let lexer = Lexer::new(source);
-        // (it stands before the first token)
-        let nothing = Some(TokenKind::Other);
-        let mut parser = Parser {
+        Parser {
             alloc,
-            kind: nothing,
-            text: &[],
-            place: lexer.place,
-            lexer,
-        };
-        parser.skip();
-        parser
+            front: Front::new(source),
+        }
     }
 
     pub fn alloc(&self) -> Global {
@@ -106,43 +95,33 @@ impl<'a> Parser<'a> {
     fn text(&self) -> &'a [u8]
         ensures { result.now ≡ (front self.now).text }
     {
-        match self.kind {
-            Some(_) => self.text,
-            None => &[],
-        }
+        self.front.text()
     }
 
     /// The place of the next token, or after the text.
     pub fn place(&self) -> Place
         ensures { has_front self.now ≡ true → result ≡ place_of (front self.now) }
     {
-        match self.kind {
-            Some(_) => self.place,
-            None => self.lexer.place,
-        }
+        self.front.place()
     }
 
     /// As many tokens as can be left, or more.
-    #[tactic(auto, using(crate::proofs::Stream::symbols_fit))]
     pub fn left(&self) -> usize
         ensures { length self.now ≤ result }
     {
-        self.lexer.source.len() - self.lexer.offset + 1
+        self.front.left()
     }
 
     pub fn front_kind(&self) -> Option<TokenKind>
         ensures { result ≡ front_kind self.now }
     {
-        match self.kind {
-            Some(kind) => Some(kind),
-            None => None,
-        }
+        self.front.kind()
     }
 
     pub fn is_at(&self, kind: TokenKind) -> bool
         ensures { result ≡ is_next kind self.now }
     {
-        match self.kind {
+        match self.front_kind() {
             Some(next) => same_kind(kind, next),
             None => false,
         }
@@ -151,45 +130,17 @@ impl<'a> Parser<'a> {
     pub fn is_at_word(&self, word: &[u8]) -> bool
         ensures { result ≡ is_word_next word.now self.now }
     {
-        match self.kind {
-            Some(next) => same_kind(TokenKind::Word, next) && self.text == word,
+        match self.front_kind() {
+            Some(next) => same_kind(TokenKind::Word, next) && self.text() == word,
             None => false,
         }
     }
 
     /// The next token is passed over.
-    #[tactic(auto, using(crate::proofs::Stream::at_end))]
-    #[inline(always)]
-    pub fn advance(&mut self)
-        ensures { self.new ≡ tail self.old }
-    {
-        if self.kind.is_some() {
-            match self.lexer.next() {
-                Ok(Some(t)) => {
-                    self.kind = Some(t.kind);
-                    self.text = &self.lexer.source[t.start..t.end];
-                    self.place = Place {
-                        line: t.line,
-                        column: t.column,
-                    };
-                }
-                Ok(None) => self.kind = None,
-                // (a token that ends no file, and nothing after it)
-                Err(_) => {
-                    self.kind = Some(TokenKind::Other);
-                    self.text = &[];
-                    self.place = self.lexer.place;
-                    self.lexer.offset = self.lexer.source.len();
-                }
-            }
-        }
-    }
-
-    /// The same as a call, which keeps the code small.
     pub fn skip(&mut self)
         ensures { self.new ≡ tail self.old }
     {
-        self.advance();
+        self.front.advance();
     }
 
     pub fn mark(&mut self, kind: TokenKind) -> Result<(), LdfFault>
@@ -380,7 +331,7 @@ impl<'a> Parser<'a> {
     pub fn end(&self) -> Result<(), LdfFault>
         ensures { Gives result self.now (end.read self.now) }
     {
-        match self.kind {
+        match self.front_kind() {
             None => Ok(()),
             Some(_) => Err(LdfFault::Unexpected(self.place())),
         }
@@ -390,8 +341,8 @@ impl<'a> Parser<'a> {
     pub fn section_word(&self) -> SectionWord
         ensures { result ≡ front_section self.now }
     {
-        match self.kind {
-            Some(_) => section_word(self.text),
+        match self.front_kind() {
+            Some(_) => section_word(self.text()),
             None => SectionWord::Unused,
         }
     }
@@ -400,8 +351,8 @@ impl<'a> Parser<'a> {
     pub fn is_at_extra(&self) -> bool
         ensures { result ≡ is_extra_next self.now }
     {
-        match self.kind {
-            Some(kind) => same_kind(TokenKind::Word, kind) && !is_header_word(self.text),
+        match self.front_kind() {
+            Some(kind) => same_kind(TokenKind::Word, kind) && !is_header_word(self.text()),
             None => false,
         }
     }

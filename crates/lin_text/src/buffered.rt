@@ -102,12 +102,21 @@ impl<'a, W: Write> TextWriter<'a, W> {
         }
     }
 
+    /// Puts bytes one by one: for a few that is quicker than a copy.
+    fn put_few(&mut self, bytes: &[u8])
+        ensures { Grows W.contents self.old self.new bytes.now }
+    {
+        for byte in bytes {
+            self.put_byte(*byte);
+        }
+    }
+
     /// Puts an integer in decimal digits.
     pub fn put_number<N: Integer>(&mut self, number: N)
         ensures { Grows W.contents self.old self.new (N.text number) }
     {
         let mut digits = itoa::Buffer::new();
-        self.put(digits.format(number).as_bytes());
+        self.put_few(digits.format(number).as_bytes());
     }
 
     /// Puts a byte as two digits, in upper case.

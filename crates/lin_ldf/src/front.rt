@@ -1,0 +1,111 @@
+//! The tokens of a text that are left, and the next one.
+
+ghost use Rattle.std.specs.Prelude.{◌≡◌, ◌≤◌, true, length};
+ghost use Rattle.lin_ldf.specs.Symbols.{symbols_in};
+ghost use Rattle.lin_ldf.specs.Stream.{IsReady, start_of, symbols_of};
+ghost use Rattle.lin_ldf.specs.Forms.{has_front, front, tail};
+ghost use Rattle.lin_ldf.specs.UpTo.{front_kind};
+ghost use Rattle.lin_ldf.specs.Words.{place_of};
+
+use crate::lexer::Lexer;
+use crate::token::TokenKind;
+use lin_description::Place;
+
+/// The tokens that are left: the next one's kind, text and place, and the lexer, which stands after
+/// it.
+#[derive(Clone, Copy)]
+pub struct Front<'a> {
+    kind: Option<TokenKind>,
+    text: &'a [u8],
+    place: Place,
+    lexer: Lexer<'a>,
+}
+
+impl<'a> Front<'a> {
+    pub fn new(source: &'a [u8]) -> Front<'a>
+        ensures ready { IsReady result.lexer }
+        ensures symbols { symbols_of result ≡ symbols_in source.now (start_of source.now).tokens }
+    {
+        let lexer = Lexer::new(source);
+        // (it stands before the first token)
+        let mut front = Front {
+            kind: Some(TokenKind::Other),
+            text: &[],
+            place: lexer.place,
+            lexer,
+        };
+        front.advance();
+        front
+    }
+
+    /// The kind of the next token.
+    #[inline(always)]
+    pub fn kind(&self) -> Option<TokenKind>
+        ensures { result ≡ front_kind (symbols_of self.now) }
+    {
+        match self.kind {
+            Some(kind) => Some(kind),
+            None => None,
+        }
+    }
+
+    /// The text of the next token.
+    pub fn text(&self) -> &'a [u8]
+        ensures { result.now ≡ (front (symbols_of self.now)).text }
+    {
+        match self.kind {
+            Some(_) => self.text,
+            None => &[],
+        }
+    }
+
+    /// The place of the next token, or after the text.
+    pub fn place(&self) -> Place
+        ensures { has_front (symbols_of self.now) ≡ true
+            → result ≡ place_of (front (symbols_of self.now)) }
+    {
+        match self.kind {
+            Some(_) => self.place,
+            None => self.lexer.place,
+        }
+    }
+
+    /// As many tokens as can be left, or more.
+    #[tactic(auto, using(crate::proofs::Stream::symbols_fit))]
+    pub fn left(&self) -> usize
+        requires { IsReady self.now.lexer }
+        ensures { length (symbols_of self.now) ≤ result }
+    {
+        self.lexer.source.len() - self.lexer.offset + 1
+    }
+
+    /// The next token is passed over.
+    #[tactic(auto, using(crate::proofs::Stream::at_end))]
+    #[inline(always)]
+    pub fn advance(&mut self)
+        requires { IsReady self.old.lexer }
+        ensures ready { IsReady self.new.lexer }
+        ensures tail { symbols_of self.new ≡ tail (symbols_of self.old) }
+    {
+        if self.kind.is_some() {
+            match self.lexer.next() {
+                Ok(Some(t)) => {
+                    self.kind = Some(t.kind);
+                    self.text = &self.lexer.source[t.start..t.end];
+                    self.place = Place {
+                        line: t.line,
+                        column: t.column,
+                    };
+                }
+                Ok(None) => self.kind = None,
+                // (a token that ends no file, and nothing after it)
+                Err(_) => {
+                    self.kind = Some(TokenKind::Other);
+                    self.text = &[];
+                    self.place = self.lexer.place;
+                    self.lexer.offset = self.lexer.source.len();
+                }
+            }
+        }
+    }
+}
