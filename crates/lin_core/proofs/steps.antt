@@ -12,3 +12,4 @@ pub mod Goods
 pub mod Settled
 pub mod Reassembling
 pub mod ToAll
+pub mod Coming

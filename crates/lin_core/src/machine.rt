@@ -4,6 +4,7 @@ ghost use Rattle.std.specs.Prelude.{◌≡◌, ◌≤◌, ◌∷◌, [], vec_cap
 
 mod finish;
 mod make;
+mod next;
 mod refused;
 mod timeout;
 

@@ -28,6 +28,9 @@ cluster_a =
       sporadic = [];
       events = [];
       tables = record { name = 84 ∷ []; lines = record { entry = MasterReq; delay_us = 10000 } ∷ record { entry = SlaveResp; delay_us = 10000 } ∷ [] } ∷ [];
+      speed = 19200;
+      jitter_us = 100;
+      base_us = 5000;
     }
 
 -- the log of these steps, the newest entry first; the steps stand in order

@@ -34,23 +34,27 @@ cluster_b =
           ∷ [];
       frames =
           record {
+            name = [];
             pid = 0x80;
             model = Enhanced;
             publisher = 0;
             layout = record { len = 2; pid = None; places = record { offset = 0; size = 4; array = false } ∷ record { offset = 4; size = 10; array = false } ∷ [] };
             signals = 0 ∷ 1 ∷ [];
           }
-          ∷ record { pid = 0xC1; model = Enhanced; publisher = 0; layout = record { len = 1; pid = None; places = record { offset = 0; size = 8; array = false } ∷ [] }; signals = 2 ∷ [] }
-          ∷ record { pid = 0x42; model = Enhanced; publisher = 1; layout = record { len = 2; pid = Some 0x42; places = record { offset = 8; size = 8; array = false } ∷ [] }; signals = 3 ∷ [] }
-          ∷ record { pid = 0x03; model = Enhanced; publisher = 2; layout = record { len = 2; pid = Some 0x03; places = record { offset = 8; size = 8; array = false } ∷ [] }; signals = 4 ∷ [] }
+          ∷ record { name = []; pid = 0xC1; model = Enhanced; publisher = 0; layout = record { len = 1; pid = None; places = record { offset = 0; size = 8; array = false } ∷ [] }; signals = 2 ∷ [] }
+          ∷ record { name = []; pid = 0x42; model = Enhanced; publisher = 1; layout = record { len = 2; pid = Some 0x42; places = record { offset = 8; size = 8; array = false } ∷ [] }; signals = 3 ∷ [] }
+          ∷ record { name = []; pid = 0x03; model = Enhanced; publisher = 2; layout = record { len = 2; pid = Some 0x03; places = record { offset = 8; size = 8; array = false } ∷ [] }; signals = 4 ∷ [] }
           ∷ [];
-      sporadic = (0 ∷ 1 ∷ []) ∷ [];
-      events = record { pid = 0xC4; model = Enhanced; table = 1; frames = 2 ∷ 3 ∷ [] } ∷ [];
+      sporadic = record { name = []; frames = 0 ∷ 1 ∷ [] } ∷ [];
+      events = record { name = []; pid = 0xC4; model = Enhanced; table = 1; frames = 2 ∷ 3 ∷ [] } ∷ [];
       tables =
           record { name = []; lines = record { entry = Sporadic 0; delay_us = 10000 } ∷ record { entry = EventEntry 0; delay_us = 10000 } ∷ record { entry = FrameEntry 0; delay_us = 10000 } ∷ [] }
           ∷ record { name = []; lines = record { entry = FrameEntry 2; delay_us = 10000 } ∷ record { entry = FrameEntry 3; delay_us = 10000 } ∷ [] }
           ∷ record { name = []; lines = record { entry = MasterReq; delay_us = 10000 } ∷ record { entry = SlaveResp; delay_us = 10000 } ∷ [] }
           ∷ [];
+      speed = 19200;
+      jitter_us = 100;
+      base_us = 5000;
     }
 
 -- the log of these steps, the newest entry first; the steps stand in order

@@ -11,6 +11,7 @@ use Rattle.lin_cluster_parts.specs.Cluster.{signal_of, frame_of, sporadic_of, ev
 use Rattle.lin_cluster_parts.specs.Rules.{place_at, IsCluster, IsCommanders, IsResponders, IsSignalAt}
 use Rattle.lin_cluster_parts.specs.declared.parts.EventFrame.{EventFrame}
 use Rattle.lin_cluster_parts.specs.declared.parts.SignalFrame.{SignalFrame}
+use Rattle.lin_cluster_parts.specs.declared.parts.SporadicFrame.{SporadicFrame}
 use Rattle.lin_cluster_parts.specs.declared.parts.Parts.{Parts}
 use Rattle.lin_frame.specs.declared.sums.SumKind.TheVariants.{Enhanced}
 use Rattle.lin_cluster_parts.specs.declared.parts.Signal.{Signal}
@@ -23,10 +24,13 @@ abbrev pub no_value : Value
 no_value = Scalar 0
 
 abbrev pub no_frame : SignalFrame
-no_frame = record { pid = 0x80; model = Enhanced; publisher = 0; layout = record { len = 1; pid = None; places = [] }; signals = [] }
+no_frame = record { name = []; pid = 0x80; model = Enhanced; publisher = 0; layout = record { len = 1; pid = None; places = [] }; signals = [] }
+
+abbrev pub no_sporadic : SporadicFrame
+no_sporadic = record { name = []; frames = [] }
 
 abbrev pub no_event : EventFrame
-no_event = record { pid = 0x80; model = Enhanced; table = 0; frames = [] }
+no_event = record { name = []; pid = 0x80; model = Enhanced; table = 0; frames = [] }
 
 pub all-weaken : {X : Type 0} (P Q : X → Type 0) (xs : List X) → ((x : X) → P x → Q x) → All P xs → All Q xs
 all-weaken P Q xs f a = λ k d l. f _ (a k d l)
@@ -65,7 +69,7 @@ if-found P p (x ∷ xs) a = found-if P (p x) x (find p xs) (all-first P x xs a) 
 
 -- the frames of a sporadic frame, and those of an event-triggered one
 pub sporadic-there : (c : Parts) (k : ℕ) → IsCluster c → k < length c.sporadic → All (λ f. f < length c.frames) (sporadic_of c k)
-sporadic-there c k rules l = all-weaken (IsCommanders c) (λ f. f < length c.frames) (sporadic_of c k) (λ f p. p.0) (All-get_or (λ (fs : List ℕ). All (IsCommanders c) fs) c.sporadic k [] l rules.sporadic.frames)
+sporadic-there c k rules l = all-weaken (IsCommanders c) (λ f. f < length c.frames) (sporadic_of c k) (λ f p. p.0) (All-get_or (λ (s : SporadicFrame). All (IsCommanders c) s.frames) c.sporadic k no_sporadic l rules.sporadic.frames)
 
 pub event-there : (c : Parts) (e : ℕ) → IsCluster c → e < length c.events → All (λ f. f < length c.frames) (event_of c e).frames
 event-there c e rules l =

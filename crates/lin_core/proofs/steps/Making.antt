@@ -66,7 +66,7 @@ sender-inside a by from to message host w s e =
     in record { at = at; number = omega arith; room = omega arith }
 
 -- == an open
-waits-by : (n k : ℕ) → n ≡ k → nat_lt 0 k ≡ not (n == 0)
+pub waits-by : (n k : ℕ) → n ≡ k → nat_lt 0 k ≡ not (n == 0)
 waits-by zero k e = rw (← e) refl
 waits-by (suc n) k e = rw (← e) (grind (arith, nat_tests))
 

@@ -3,24 +3,18 @@ use Rattle.std.specs.Prelude.{not, Bool, ◌||◌, filter}
 use Rattle.lin_cluster_parts.specs.Cluster.{line_of, nodes}
 use Rattle.lin_frame.specs.Words.{numbers}
 use Rattle.lin_schedule.specs.Due.{due_for}
-use Rattle.lin_schedule.proofs.Clusters.{line-entry}
 use Rattle.lin_core.specs.kept.Slots.{HasDue, is_due_of, opening_slot_kept}
-use Rattle.lin_core.proofs.slots.Opening.{has-due}
 use Rattle.lin_core.specs.kept.State.{done_of, IsKept, Stage, stage}
 use Rattle.lin_core.specs.declared.step.Step.TheVariants.{Open}
 use Rattle.lin_core.proofs.kept.Keeping.{open-keeps, opening-is, Opens}
 use Rattle.lin_core.proofs.kept.BusAndSenders.{open-late}
 use Rattle.lin_core.proofs.steps.Making.{allowed-ready, opens-inside, past_in}
+use Rattle.lin_core.proofs.steps.Coming.{due-there}
 use Rattle.lin_core.proofs.slots.Selected.{responder-inside}
 use Rattle.lin_core.proofs.kept.Receiving.{heard-same}
 use Rattle.lin_core.specs.declared.slot.OpenSlot.{OpenSlot}
 use Rattle.lin_schedule.specs.declared.due.Due.{Due}
 use Rattle.lin_core.proofs.state.State.open.Goals as goal
-
-due-there : (a : Stage) (flags : List Bool) (due : Due) → IsKept a → due ≡ due_for a.cluster flags (line_of a.cluster a.state.walker.place.0 a.state.walker.place.1).entry → HasDue a.cluster due
-due-there a flags due w e =
-    subst (HasDue a.cluster) (sym e)
-    (has-due a.cluster flags (line_of a.cluster a.state.walker.place.0 a.state.walker.place.1).entry w.rules (line-entry a.cluster w.rules a.state.walker.place w.kept.walks.place))
 
 pub header_of-header-requires : goal.header_of-header-requires
 header_of-header-requires c = due-there (stage c.args.setup.now c.args.log.now c.args.self.now) c.as_slice-pending.result.now c.due-due.result c.requires.ready.whole c.due-due.ensures.entry
