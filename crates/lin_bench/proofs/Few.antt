@@ -1,16 +1,14 @@
 -- How many steps slots and lines come to at most.
-use Rattle.std.proofs.Common.{◌≡◌, ◌∙◌, ℕ, suc, zero, ◌+◌, ◌*◌, ◌≤◌, Bool, true, false, not, cond, List, [], ◌∷◌, ◌++◌, map, reverse, refl, sym, ap, arith, length, length-append, Option, Some, None}
+use Rattle.std.proofs.Common.{◌≡◌, ◌∙◌, ℕ, suc, zero, ◌+◌, ◌*◌, ◌≤◌, nat_lt, ltb-false, Bool, true, false, not, cond, List, [], ◌∷◌, ◌++◌, map, refl, ap, arith, length, length-append, Option, Some, None}
 use Rattle.std.specs.Prelude.{filter}
 use Rattle.std.specs.Option.{option_map_or}
 use Rattle.std.specs.List.{filter_map}
-use Rattle.std.proofs.lemmas.List.{length-map, length-reverse}
+use Rattle.std.proofs.lemmas.List.{length-map}
 use Rattle.std.proofs.lemmas.List.Filters.{length-filter_both}
 use Rattle.lin_frame.specs.Words.{numbers}
 use Rattle.lin_cluster_parts.specs.Cluster.{nodes, line_of}
 use Rattle.lin_cluster_parts.specs.declared.parts.Parts.{Parts}
-use Rattle.lin_core.specs.Core.{CoreData, past_of}
 use Rattle.lin_core.specs.Replies.{opening_events, refusal, reply}
-use Rattle.lin_core.specs.Runs.{entry_of}
 use Rattle.lin_core.specs.Slots.{due_nodes, is_due, next_due}
 use Rattle.lin_core.specs.declared.event.Event.TheVariants.{Due}
 use Rattle.lin_core.specs.declared.log.LogEntry.{LogEntry}
@@ -20,29 +18,17 @@ use Rattle.lin_core.specs.declared.reply.Refusal.{Refusal}
 use Rattle.lin_core.specs.declared.reply.Reply.TheVariants.{Done, Refused}
 use Rattle.lin_core.specs.declared.step.Step.{Step}
 use Rattle.lin_core.specs.declared.step.Step.TheVariants.{Open, Finish}
-use Rattle.lin_bench.specs.Making.{IsMade, IsPlayed, most_steps, said_on}
-use Rattle.lin_bench.specs.Played.{said, slots_made}
-use Rattle.lin_bench.specs.Slots.{after, decision, due_in, due_node, due_now, extent_steps, goes_on, hurt_steps, is_opened, most, slot_rest, slot_steps, slots_in, slots_steps}
+use Rattle.lin_bench.specs.Made.{BenchState, expects, judged, made, made_within, said, slots_made, stepped}
+use Rattle.lin_bench.specs.Making.{most_steps}
+use Rattle.lin_bench.specs.Slots.{after, decision, due_in, due_node, due_now, extent_steps, hurt_steps, is_opened, most, slot_rest, slot_steps, slots_in, slots_steps}
 use Rattle.lin_bench.specs.declared.line.Disturbance.{Disturbance}
 use Rattle.lin_bench.specs.declared.line.Disturbance.TheVariants as slot
+use Rattle.lin_bench.specs.declared.expected.Expected.{Expected}
+use Rattle.lin_bench.specs.declared.line.Extent.{Extent}
 use Rattle.lin_bench.specs.declared.line.Line.{Line}
 use Rattle.lin_bench.specs.declared.line.Line.TheVariants as line
-use Rattle.lin_bench.specs.declared.playing.Player.{Player}
-use Rattle.lin_bench.proofs.Makes.{length-last}
-use Rattle.lin_bench.proofs.SlotSteps.{one-slot, slots_in-append}
-
--- ---- a log has an entry more for each step
-after-length : (c : Parts) (o cap : ℕ) (past : List LogEntry) (ss : List (PortId × Step))
-    → length (after c o cap past ss) ≡ length past + length ss
-after-length c o cap past [] = omega arith
-after-length c o cap past (s ∷ ss) =
-    let e = after-length c o cap (entry_of c o cap past s ∷ past) ss in omega (arith, e)
-
-pub made-length : (a b : CoreData) (ss : List (PortId × Step)) → IsMade a ss b
-    → length b.log ≡ length a.log + length ss
-made-length a b ss p =
-    let made = ap length p.past ∙ after-length a.cluster a.opening a.capacity (past_of a) ss in
-    omega (arith, made, length-reverse a.log, length-reverse b.log)
+use Rattle.lin_bench.proofs.Makes.{after-length, length-last}
+use Rattle.lin_bench.proofs.SlotSteps.{no-slot, one-slot, slots_in-append}
 
 -- ---- at most each node is due
 length-numbers : (n : ℕ) → length (numbers n) ≡ n
@@ -121,6 +107,13 @@ turn-few true false one rest few ends shut more =
     let none : List (PortId × Step) = [] in
     omega (arith, length-append one none, slots_in-append one none, shut refl)
 
+turn-at-most : (goes is_open : Bool) (one rest : List (PortId × Step)) (n : ℕ) → (is_open ≡ true → slots_in one ≡ 1)
+    → (is_open ≡ false → slots_in one ≡ 0) → slots_in rest ≤ n → slots_in (cond goes (one ++ cond is_open rest []) []) ≤ suc n
+turn-at-most false is_open one rest n ends shut more = omega arith
+turn-at-most true true one rest n ends shut more = omega (arith, slots_in-append one rest, ends refl, more)
+turn-at-most true false one rest n ends shut more =
+    let none : List (PortId × Step) = [] in omega (arith, slots_in-append one none, shut refl)
+
 slots-few : (c : Parts) (o cap : ℕ) (how : Disturbance) (goes : List LogEntry → Bool) (n : ℕ)
     (past : List LogEntry) → nodes c ≤ 16
     → length (slots_steps c o cap how goes n past)
@@ -134,18 +127,59 @@ slots-few c o cap how goes (suc n) past few =
     (λ h. one-slot c o cap how past h) (λ h. slot-refused c o cap how past h)
     (slots-few c o cap how goes n (after c o cap past one) few)
 
-said-few : (c : Parts) (o cap : ℕ) (past : List LogEntry) (l : Line) → nodes c ≤ 16
-    → length (said c o cap past l) ≤ most_steps * slots_made l (said c o cap past l) + 1
-unfolding said extent_steps
-said-few c o cap past (line.Step by step) few = omega arith
-said-few c o cap past (line.Slot how) few = slots-few c o cap how _ _ past few
-said-few c o cap past (line.Slots extent) few = slots-few c o cap slot.Undisturbed _ _ past few
-said-few c o cap past (line.Expect what) few = omega arith
+-- at most n slots are made of n
+slots-at-most : (c : Parts) (o cap : ℕ) (how : Disturbance) (goes : List LogEntry → Bool) (n : ℕ) (past : List LogEntry)
+    → slots_in (slots_steps c o cap how goes n past) ≤ n
+unfolding slots_steps
+slots-at-most c o cap how goes zero past = omega arith
+slots-at-most c o cap how goes (suc n) past =
+    let one = slot_steps c o cap how past in
+    turn-at-most (goes past) (is_opened (due_now c o cap past)) one (slots_steps c o cap how goes n (after c o cap past one)) n
+    (λ h. one-slot c o cap how past h) (λ h. no-slot c o cap how past h) (slots-at-most c o cap how goes n (after c o cap past one))
 
--- what a log and the slots that are left may still come to grows by one at a line
-pub line-few : (p q : Player) (n : ℕ) (l : Line) → nodes p.core.cluster ≤ 16 → IsPlayed p n l q
-    → length q.core.log + most_steps * q.left ≤ length p.core.log + most_steps * p.left + 1
-line-few p q n l few is =
-    let made = made-length p.core q.core (said_on p.core l) is.made in
-    let said = said-few p.core.cluster p.core.opening p.core.capacity (past_of p.core) l few in
-    omega (arith, made, said, is.few, is.left)
+said-few : (c : Parts) (o cap : ℕ) (limit : Extent → ℕ) (past : List LogEntry) (l : Line) → nodes c ≤ 16
+    → length (said c o cap limit past l) ≤ most_steps * slots_made l (said c o cap limit past l) + 1
+unfolding said extent_steps
+said-few c o cap limit past (line.Step by step) few = omega arith
+said-few c o cap limit past (line.Slot how) few = slots-few c o cap how _ _ past few
+said-few c o cap limit past (line.Slots extent) few = slots-few c o cap slot.Undisturbed _ _ past few
+said-few c o cap limit past (line.Expect what) few = omega arith
+
+first-few : (c : Parts) (o cap n : ℕ) (past : List LogEntry) (l : Line) → slots_made l (said c o cap (λ e. n) past l) ≤ n
+unfolding said extent_steps
+first-few c o cap n past (line.Step by step) = omega arith
+first-few c o cap n past (line.Slot how) = slots-at-most c o cap how _ n past
+first-few c o cap n past (line.Slots extent) = slots-at-most c o cap slot.Undisturbed _ n past
+first-few c o cap n past (line.Expect what) = omega arith
+
+-- what a log and the slots that are left may still come to
+abbrev pub still_to_come : BenchState → ℕ
+still_to_come b = length b.past + most_steps * b.left
+
+judged-few : (c : Parts) (b : BenchState) (what : Option Expected) → still_to_come (judged c b what).0 ≡ still_to_come b
+judged-few c b None = refl
+judged-few c b (Some what) = refl
+
+stepped-few : (c : Parts) (o cap : ℕ) (b : BenchState) (count : ℕ) (steps : List (PortId × Step)) → count ≤ b.left
+    → length steps ≤ most_steps * count + 1 → still_to_come (stepped c o cap b count steps) ≤ still_to_come b + 1
+stepped-few c o cap b count steps few short = omega (arith, few, short, after-length c o cap b.past steps)
+
+within-few : (c : Parts) (o cap : ℕ) (b : BenchState) (count : ℕ) (steps first : List (PortId × Step)) (what : Option Expected) (t : Bool)
+    → nat_lt b.left count ≡ t → length steps ≤ most_steps * count + 1 → length first ≤ most_steps * b.left + 1
+    → still_to_come (made_within c o cap b count steps first what).0 ≤ still_to_come b + 1
+within-few c o cap b count steps first what true h all some =
+    rw h (stepped-few c o cap b b.left first (omega arith) some)
+within-few c o cap b count steps first what false h all some =
+    let few : count ≤ b.left = ltb-false b.left count h in
+    rw h (rw (judged-few c (stepped c o cap b count steps) what) (stepped-few c o cap b count steps few all))
+
+-- it grows by one at a line
+pub made-few : (c : Parts) (o cap : ℕ) (b : BenchState) (l : Line) → nodes c ≤ 16
+    → still_to_come (made c o cap b l).0 ≤ still_to_come b + 1
+unfolding made
+made-few c o cap b l few =
+    let all = said c o cap most b.past l in
+    let some = said c o cap (λ e. b.left) b.past l in
+    within-few c o cap b (slots_made l all) all some (expects l) (nat_lt b.left (slots_made l all)) refl
+    (said-few c o cap most b.past l few)
+    (let e = said-few c o cap (λ e. b.left) b.past l few in omega (arith, e, first-few c o cap b.left b.past l))

@@ -7,3 +7,4 @@ pub mod Hosts
 pub mod Few
 pub mod Runs
 pub mod Steps
+pub mod Benches

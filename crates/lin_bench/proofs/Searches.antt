@@ -1,20 +1,15 @@
 -- Searches for events that expectations take.
-use Rattle.std.proofs.Common.{◌≡◌, ◌∙◌, ◌+◌, ◌≤◌, ℕ, Bool, true, false, cond, List, [], ◌∷◌, ◌++◌, length, reverse, refl, sym, ap, subst, arith, add-zero, zero-add, append_assoc, length-append, Option, Some, None}
+use Rattle.std.proofs.Common.{◌≡◌, ◌∙◌, ◌+◌, ◌≤◌, ℕ, Bool, true, false, cond, List, [], ◌∷◌, ◌++◌, length, reverse, refl, sym, ap, subst, arith, add-zero, zero-add, length-append, Option, Some, None}
 use Rattle.std.specs.Prelude.{count_by, filter, find, flat_map, is_some, slice_get}
 use Rattle.std.proofs.lemmas.Bool.Decides.{nat_tests}
 use Rattle.std.proofs.lemmas.Grind.{flat_map-append}
-use Rattle.std.proofs.lemmas.List.{reverse-append, reverse-reverse, take-append-le}
+use Rattle.std.proofs.lemmas.List.{reverse-append, take-append-le}
 use Rattle.std.proofs.lemmas.List.Sums.{sum_by-append}
-use Rattle.lin_cluster_parts.specs.declared.parts.Parts.{Parts}
 use Rattle.lin_core.specs.Core.{CoreData, past_of}
 use Rattle.lin_core.specs.History.{events}
-use Rattle.lin_core.specs.Runs.{entry_of}
 use Rattle.lin_core.specs.declared.event.Event.{Event}
 use Rattle.lin_core.specs.declared.log.LogEntry.{LogEntry}
-use Rattle.lin_core.specs.declared.port.PortId.{PortId}
-use Rattle.lin_core.specs.declared.step.Step.{Step}
-use Rattle.lin_bench.specs.Making.{IsMade}
-use Rattle.lin_bench.specs.Slots.{after}
+use Rattle.lin_bench.specs.Making.{IsGrown}
 use Rattle.lin_bench.specs.Searches.{Finds, IsKnown, before, end_of, how_many, kind_found, last_end, taken_by}
 use Rattle.lin_bench.specs.Verdicts.{is_of, next_event, same_kind, with_taken}
 use Rattle.lin_bench.specs.declared.taken.EventKind.{EventKind}
@@ -38,20 +33,8 @@ known-append es more ss k =
       taken = λ kind. before-more es more kind (last_end kind ss) (k.within kind) ∙ k.taken kind;
     }
 
-after-adds : (c : Parts) (o cap : ℕ) (past : List LogEntry) (ss : List (PortId × Step)) → (more : List LogEntry) × (after c o cap past ss ≡ more ++ past)
-after-adds c o cap past [] = ([], refl)
-after-adds c o cap past (s ∷ ss) =
-    let e = entry_of c o cap past s in
-    let r = after-adds c o cap (e ∷ past) ss in
-    (r.0 ++ e ∷ [], r.1 ∙ sym (append_assoc r.0 (e ∷ []) past))
-
--- steps only add entries
-pub known-made : (a b : CoreData) (steps : List (PortId × Step)) (ss : List Search) → IsMade a steps b → IsKnown a.log ss → IsKnown b.log ss
-known-made a b steps ss made k =
-    let r = after-adds a.cluster a.opening a.capacity (past_of a) steps in
-    let log : b.log ≡ a.log ++ reverse r.0 =
-    sym (reverse-reverse b.log) ∙ ap reverse (made.past ∙ r.1) ∙ reverse-append r.0 (past_of a) ∙ ap (λ l. l ++ reverse r.0) (reverse-reverse a.log) in
-    subst (λ l. IsKnown l ss) (sym log) (known-append a.log (reverse r.0) ss k)
+pub known-grown : (a b : CoreData) (ss : List Search) → IsGrown a b → IsKnown a.log ss → IsKnown b.log ss
+known-grown a b ss grown k = subst (λ l. IsKnown l ss) (sym grown.log) (known-append a.log grown.more ss k)
 
 -- ---- one more search
 same-kind : (q k : EventKind) → same_kind q k ≡ true → q ≡ k

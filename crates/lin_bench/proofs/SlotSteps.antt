@@ -1,21 +1,29 @@
 -- The steps of slots.
-use Rattle.std.proofs.Common.{◌≡◌, ◌∙◌, ℕ, suc, zero, ◌+◌, ◌<◌, Bool, true, false, List, [], ◌∷◌, ◌++◌, map, refl, sym, ap, arith, append_assoc, add-one, subst, cond, length, length-append, Option, Some, None}
-use Rattle.std.specs.Prelude.{filter, if◌then◌else◌}
+use Rattle.std.proofs.Common.{◌≡◌, ◌∙◌, ℕ, suc, zero, ◌+◌, ◌<◌, eqb-true, Bool, true, false, not, List, [], ◌∷◌, ◌++◌, map, refl, sym, ap, arith, append_assoc, add-one, subst, cond, length, length-append, Option, Some, None}
+use Rattle.std.specs.Prelude.{◌==◌, ◌&&◌, filter, if◌then◌else◌, is_some}
+use Rattle.std.specs.Option.{option_map_or}
+use Rattle.std.proofs.lemmas.Bool.{and_parts}
 use Rattle.std.proofs.lemmas.List.Elements.{filter-append}
 use Rattle.lin_cluster_parts.specs.declared.parts.Parts.{Parts}
 use Rattle.lin_core.specs.Core.{CoreData, past_of}
 use Rattle.lin_core.specs.History.{is_finish, is_in, time}
+use Rattle.lin_core.specs.Replies.{done_events, refusal, reply}
+use Rattle.lin_core.specs.declared.event.Event.{Event}
 use Rattle.lin_core.specs.declared.log.LogEntry.{LogEntry}
 use Rattle.lin_core.specs.declared.port.PortId.{PortId}
 use Rattle.lin_core.specs.declared.port.PortId.TheVariants.{Bus}
+use Rattle.lin_core.specs.declared.reply.Refusal.{Refusal}
+use Rattle.lin_core.specs.declared.reply.Reply.TheVariants.{Done, Refused}
 use Rattle.lin_core.specs.declared.step.Step.{Step}
 use Rattle.lin_core.specs.declared.step.Step.TheVariants.{Open, Answer, Leave, Finish}
-use Rattle.lin_bench.specs.Making.{IsMade, extent_on}
-use Rattle.lin_bench.specs.Slots.{after, decision, due_now, extent_steps, goes_on, hurt_steps, is_opened, leave_nodes, most, slot_rest, slot_steps, slots_in, slots_steps}
+use Rattle.lin_bench.specs.Making.{IsGrown, IsMade, NoRoom, SlotsFail, StepsFail, extent_on, first_on}
+use Rattle.lin_bench.specs.Slots.{after, decision, due_in, due_now, extent_steps, goes_on, hurt_steps, is_opened, leave_nodes, most, slot_rest, slot_steps, slots_in, slots_steps}
 use Rattle.lin_bench.specs.declared.line.Disturbance.{Disturbance}
 use Rattle.lin_bench.specs.declared.line.Disturbance.TheVariants as slot
 use Rattle.lin_bench.specs.declared.line.Extent.{Extent}
-use Rattle.lin_bench.proofs.Makes.{append-nothing, made-more, made-nothing}
+use Rattle.lin_bench.specs.declared.fault.MakeFault.{MakeFault}
+use Rattle.lin_bench.specs.declared.fault.MakeFault.TheVariants.{LogFull, OutOfMemory}
+use Rattle.lin_bench.proofs.Makes.{append-nothing, fails-after, fails-before, grown-made, grown-more, made-more, made-nothing}
 
 -- ---- how many slots end by steps
 pub slots_in-append : (ss ts : List (PortId × Step)) → slots_in (ss ++ ts) ≡ slots_in ss + slots_in ts
@@ -61,6 +69,30 @@ pub no-slot : (c : Parts) (o cap : ℕ) (how : Disturbance) (past : List LogEntr
 unfolding slot_steps
 no-slot c o cap how past h = refused-ends-none how (due_now c o cap past) h
 
+pub steps-opened : (c : Parts) (o cap : ℕ) (how : Disturbance) (past : List LogEntry) (due : List ℕ) → due_now c o cap past ≡ Some due
+    → slot_steps c o cap how past ≡ (Bus, Open) ∷ slot_rest how (Some due)
+unfolding slot_steps
+steps-opened c o cap how past due h = rw h refl
+
+-- whether a slot can be opened, by the refusal of its open
+opened-by : (why : Option Refusal) (es : List Event) (b : Bool) → is_some why ≡ not b → b ≡ is_opened (due_in (option_map_or Refused why (Done es)))
+opened-by None es true h = refl
+opened-by None es false h = h
+opened-by (Some why) es true h = h
+opened-by (Some why) es false h = refl
+
+pub can-open : (c : Parts) (o cap : ℕ) (past : List LogEntry) (b : Bool) → is_some (refusal c cap past Bus Open) ≡ not b → b ≡ is_opened (due_now c o cap past)
+unfolding reply
+can-open c o cap past b h = opened-by (refusal c cap past Bus Open) (done_events c o past Bus Open) b h
+
+pub some-left : (n : ℕ) (b : Bool) → (n == 0 && b) ≡ false → b ≡ true → 0 < n
+some-left zero true h k = absurd (cc)
+some-left zero false h k = absurd (cc)
+some-left (suc n) b h k = omega arith
+
+pub none-left : (n : ℕ) (b : Bool) → (n == 0 && b) ≡ true → (n ≡ 0) × (b ≡ true)
+none-left n b h = let p = and_parts (n == 0) b h in (eqb-true n 0 p.0, p.1)
+
 -- ---- one more slot of those of a line
 turn-stops : (c : Parts) (o cap : ℕ) (how : Disturbance) (goes : List LogEntry → Bool) (n : ℕ) (past : List LogEntry)
     → goes past ≡ false → slots_steps c o cap how goes n past ≡ []
@@ -91,11 +123,12 @@ pub record AreBegun (a : CoreData) (how : Disturbance) (extent : Extent) (left :
   pub steps : List (PortId × Step)
   pub made : IsMade a steps now
   pub whole : extent_on a how extent ≡ steps ++ turns a how extent n (past_of now)
+  pub first : first_on a how extent left ≡ steps ++ turns a how extent rest (past_of now)
   pub count : slots_in steps + rest ≡ left
 
 begin-all : (a : CoreData) (how : Disturbance) (extent : Extent) (left : ℕ) → AreBegun a how extent left a (most extent) left
 unfolding extent_steps
-begin-all a how extent left = record { steps = []; made = made-nothing a; whole = refl; count = omega arith }
+begin-all a how extent left = record { steps = []; made = made-nothing a; whole = refl; first = refl; count = omega arith }
 
 pub begin : (a : CoreData) (how : Disturbance) (extent : Extent) (left n : ℕ) → n ≡ most extent → AreBegun a how extent left a n left
 begin a how extent left n e = subst (λ k. AreBegun a how extent left a k left) (sym e) (begin-all a how extent left)
@@ -133,7 +166,15 @@ ended a now how extent left rest b =
     let all : extent_on a how extent ≡ b.steps = b.whole ∙ append-nothing b.steps in
     (rw all b.made, rw all b.count)
 
--- the next one couldn't be opened
+-- the next one can't be opened
+refused-whole : (a now : CoreData) (how : Disturbance) (extent : Extent) (left n rest : ℕ) (b : AreBegun a how extent left now (suc n) rest)
+    → goes_on a.cluster extent (time a.cluster (past_of a)) (past_of now) ≡ true
+    → is_opened (due_now now.cluster now.opening now.capacity (past_of now)) ≡ false
+    → extent_on a how extent ≡ b.steps ++ slot_steps now.cluster now.opening now.capacity how (past_of now)
+refused-whole a now how extent left n rest b goes shut =
+    let closed = ap is_opened (sym (same-due a now b.steps b.made)) ∙ shut in
+    b.whole ∙ ap (λ l. b.steps ++ l) (turn-refused _ _ _ how _ n (past_of now) goes closed ∙ append-nothing _ ∙ sym (same-slot a now how b.steps b.made))
+
 pub refused : (a now new : CoreData) (how : Disturbance) (extent : Extent) (left n rest : ℕ) → AreBegun a how extent left now (suc n) rest
     → goes_on a.cluster extent (time a.cluster (past_of a)) (past_of now) ≡ true
     → IsMade now (slot_steps now.cluster now.opening now.capacity how (past_of now)) new
@@ -141,51 +182,97 @@ pub refused : (a now new : CoreData) (how : Disturbance) (extent : Extent) (left
     → IsMade a (extent_on a how extent) new × (slots_in (extent_on a how extent) + rest ≡ left)
 refused a now new how extent left n rest b goes made shut =
     let one = slot_steps now.cluster now.opening now.capacity how (past_of now) in
-    let same = same-slot a now how b.steps b.made in
-    let closed = ap is_opened (sym (same-due a now b.steps b.made)) ∙ shut in
-    let all : extent_on a how extent ≡ b.steps ++ one =
-    b.whole ∙ ap (λ l. b.steps ++ l) (turn-refused _ _ _ how _ n (past_of now) goes closed ∙ append-nothing _ ∙ sym same) in
+    let all = refused-whole a now how extent left n rest b goes shut in
     let none : slots_in one ≡ 0 = no-slot _ _ _ how (past_of now) shut in
     let count : slots_in (b.steps ++ one) + rest ≡ left = let e = slots_in-append b.steps one in omega (arith, e, none, b.count) in
     (rw all (made-more a now new b.steps one b.made made), rw all count)
 
 -- the next one was opened
-pub opened : (a now new : CoreData) (how : Disturbance) (extent : Extent) (left n rest : ℕ) → AreBegun a how extent left now (suc n) (rest + 1)
+turned : (a now new : CoreData) (how : Disturbance) (extent : Extent) (n : ℕ) (xs steps : List (PortId × Step))
+    → xs ≡ steps ++ turns a how extent (suc n) (past_of now) → IsMade a steps now
+    → goes_on a.cluster extent (time a.cluster (past_of a)) (past_of now) ≡ true
+    → IsMade now (slot_steps now.cluster now.opening now.capacity how (past_of now)) new
+    → is_opened (due_now now.cluster now.opening now.capacity (past_of now)) ≡ true
+    → xs ≡ (steps ++ slot_steps now.cluster now.opening now.capacity how (past_of now)) ++ turns a how extent n (past_of new)
+turned a now new how extent n xs steps whole so_far goes made is_open =
+    let one = slot_steps now.cluster now.opening now.capacity how (past_of now) in
+    let same = same-slot a now how steps so_far in
+    let is = ap is_opened (sym (same-due a now steps so_far)) ∙ is_open in
+    let later : past_of new ≡ after a.cluster a.opening a.capacity (past_of now) (slot_steps a.cluster a.opening a.capacity how (past_of now)) =
+    rw (so_far.alike.0, so_far.alike.1, so_far.alike.2) at made.past in
+    whole ∙ ap (λ l. steps ++ l) (turn-opened _ _ _ how _ n (past_of now) goes is)
+    ∙ ap (λ l. steps ++ (l ++ turns a how extent n (after a.cluster a.opening a.capacity (past_of now) (slot_steps a.cluster a.opening a.capacity how (past_of now))))) (sym same)
+    ∙ ap (λ l. steps ++ (one ++ turns a how extent n l)) (sym later)
+    ∙ sym (append_assoc steps one (turns a how extent n (past_of new)))
+
+pub opened : (a now new : CoreData) (how : Disturbance) (extent : Extent) (left n rest : ℕ) → AreBegun a how extent left now (suc n) (suc rest)
     → goes_on a.cluster extent (time a.cluster (past_of a)) (past_of now) ≡ true
     → IsMade now (slot_steps now.cluster now.opening now.capacity how (past_of now)) new
     → is_opened (due_now now.cluster now.opening now.capacity (past_of now)) ≡ true
     → AreBegun a how extent left new n rest
 opened a now new how extent left n rest b goes made is_open =
     let one = slot_steps now.cluster now.opening now.capacity how (past_of now) in
-    let same = same-slot a now how b.steps b.made in
-    let is = ap is_opened (sym (same-due a now b.steps b.made)) ∙ is_open in
     let one_ends : slots_in one ≡ 1 = one-slot _ _ _ how (past_of now) is_open in
-    let later : past_of new ≡ after a.cluster a.opening a.capacity (past_of now) (slot_steps a.cluster a.opening a.capacity how (past_of now)) =
-    rw (b.made.alike.0, b.made.alike.1, b.made.alike.2) at made.past in
     record {
       steps = b.steps ++ one;
       made = made-more a now new b.steps one b.made made;
-      whole =
-          b.whole ∙ ap (λ l. b.steps ++ l) (turn-opened _ _ _ how _ n (past_of now) goes is)
-          ∙ ap (λ l. b.steps ++ (l ++ turns a how extent n (after a.cluster a.opening a.capacity (past_of now) (slot_steps a.cluster a.opening a.capacity how (past_of now))))) (sym same)
-          ∙ ap (λ l. b.steps ++ (one ++ turns a how extent n l)) (sym later)
-          ∙ sym (append_assoc b.steps one (turns a how extent n (past_of new)));
+      whole = turned a now new how extent n _ b.steps b.whole b.made goes made is_open;
+      first = turned a now new how extent rest _ b.steps b.first b.made goes made is_open;
       count = let e = slots_in-append b.steps one in omega (arith, e, one_ends, b.count);
     }
 
--- it was opened, and none was left
-pub too-many : (a now : CoreData) (how : Disturbance) (extent : Extent) (left n : ℕ) → AreBegun a how extent left now (suc n) 0
+-- the steps of a slot that is opened, among those of a line
+slot-among : (a now : CoreData) (how : Disturbance) (extent : Extent) (n : ℕ) (xs steps : List (PortId × Step))
+    → xs ≡ steps ++ turns a how extent (suc n) (past_of now) → IsMade a steps now
     → goes_on a.cluster extent (time a.cluster (past_of a)) (past_of now) ≡ true
     → is_opened (due_now now.cluster now.opening now.capacity (past_of now)) ≡ true
-    → left < slots_in (extent_on a how extent)
-too-many a now how extent left n b goes is_open =
+    → (more : List (PortId × Step)) × (xs ≡ steps ++ (slot_steps now.cluster now.opening now.capacity how (past_of now) ++ more))
+slot-among a now how extent n xs steps whole so_far goes is_open =
     let one = slot_steps a.cluster a.opening a.capacity how (past_of now) in
-    let rest = turns a how extent n (after a.cluster a.opening a.capacity (past_of now) one) in
-    let is = ap is_opened (sym (same-due a now b.steps b.made)) ∙ is_open in
-    let one_ends : slots_in one ≡ 1 = one-slot _ _ _ how (past_of now) is in
-    let all = ap slots_in (b.whole ∙ ap (λ l. b.steps ++ l) (turn-opened _ _ _ how _ n (past_of now) goes is)) ∙ slots_in-append b.steps (one ++ rest) in
-    let two = slots_in-append one rest in
-    omega (arith, all, two, one_ends, b.count)
+    let is = ap is_opened (sym (same-due a now steps so_far)) ∙ is_open in
+    let more = turns a how extent n (after a.cluster a.opening a.capacity (past_of now) one) in (
+      more,
+      whole ∙ ap (λ l. steps ++ l) (turn-opened _ _ _ how _ n (past_of now) goes is ∙ ap (λ l. l ++ more) (sym (same-slot a now how steps so_far))),
+    )
+
+-- it could be opened, and none was left
+pub over : (a now : CoreData) (how : Disturbance) (extent : Extent) (left n : ℕ) → AreBegun a how extent left now (suc n) 0
+    → goes_on a.cluster extent (time a.cluster (past_of a)) (past_of now) ≡ true
+    → is_opened (due_now now.cluster now.opening now.capacity (past_of now)) ≡ true
+    → IsMade a (first_on a how extent left) now × (left < slots_in (extent_on a how extent))
+unfolding slots_steps
+over a now how extent left n b goes is_open =
+    let one = slot_steps now.cluster now.opening now.capacity how (past_of now) in
+    let more = slot-among a now how extent n _ b.steps b.whole b.made goes is_open in
+    let one_ends : slots_in one ≡ 1 = one-slot _ _ _ how (past_of now) is_open in
+    let all = ap slots_in more.1 ∙ slots_in-append b.steps (one ++ more.0) in
+    let two = slots_in-append one more.0 in
+    let some : first_on a how extent left ≡ b.steps = b.first ∙ append-nothing b.steps in
+    (rw some b.made, omega (arith, all, two, one_ends, b.count))
+
+-- it couldn't be made
+slot-fails : (fault : MakeFault) (a now : CoreData) (xs steps one more : List (PortId × Step)) → xs ≡ steps ++ (one ++ more) → IsMade a steps now
+    → StepsFail fault now one → StepsFail fault a xs
+slot-fails fault a now xs steps one more e made fails =
+    subst (StepsFail fault a) (sym e) (fails-after fault a now steps (one ++ more) made (fails-before fault now one more fails))
+
+no-room : (a now : CoreData) (how : Disturbance) (extent : Extent) (left n rest : ℕ) (t : Bool) → AreBegun a how extent left now (suc n) rest
+    → goes_on a.cluster extent (time a.cluster (past_of a)) (past_of now) ≡ true
+    → is_opened (due_now now.cluster now.opening now.capacity (past_of now)) ≡ t → (t ≡ true → 0 < rest)
+    → NoRoom now (slot_steps now.cluster now.opening now.capacity how (past_of now)) → SlotsFail LogFull a how extent left
+no-room a now how extent left n zero true b goes is some full = absurd (let none = some refl in omega (arith, none))
+no-room a now how extent left n (suc rest) true b goes is some full =
+    let one = slot_steps now.cluster now.opening now.capacity how (past_of now) in
+    let all = slot-among a now how extent n _ b.steps b.whole b.made goes is in
+    let few = slot-among a now how extent rest _ b.steps b.first b.made goes is in
+    (λ h. slot-fails LogFull a now _ b.steps one all.0 all.1 b.made full, λ h. slot-fails LogFull a now _ b.steps one few.0 few.1 b.made full)
+no-room a now how extent left n rest false b goes is some full =
+    let one = slot_steps now.cluster now.opening now.capacity how (past_of now) in
+    let all = refused-whole a now how extent left n rest b goes is in
+    let none : slots_in one ≡ 0 = no-slot _ _ _ how (past_of now) is in (
+      λ h. slot-fails LogFull a now _ b.steps one [] (all ∙ ap (λ l. b.steps ++ l) (sym (append-nothing one))) b.made full,
+      λ h. absurd (let k = ap slots_in all ∙ slots_in-append b.steps one in omega (arith, k, none, b.count, h)),
+    )
 
 -- ---- the same, as the code has it
 pub next-stops : (a now : CoreData) (how : Disturbance) (extent : Extent) (left n rest t : ℕ) → AreBegun a how extent left now n rest
@@ -205,6 +292,10 @@ pub next-refused : (a now new : CoreData) (how : Disturbance) (extent : Extent) 
 next-refused a now new how extent left m n rest t b em e h made shut =
     refused a now new how extent left n rest (one-left a now how extent left m n rest b em) (same-goes a now b.steps extent t true b.made e h) made shut
 
+one-more : (a now : CoreData) (how : Disturbance) (extent : Extent) (left n many rest : ℕ) → AreBegun a how extent left now n many → many ≡ rest + 1
+    → AreBegun a how extent left now n (suc rest)
+one-more a now how extent left n many rest b e = subst (λ k. AreBegun a how extent left now n k) (e ∙ add-one rest) b
+
 pub next-opened : (a now new : CoreData) (how : Disturbance) (extent : Extent) (left m n many rest t : ℕ) → AreBegun a how extent left now m many
     → m ≡ n + 1 → many ≡ rest + 1 → t ≡ time a.cluster (past_of a) → goes_on now.cluster extent t (past_of now) ≡ true
     → IsMade now (slot_steps now.cluster now.opening now.capacity how (past_of now)) new
@@ -212,17 +303,29 @@ pub next-opened : (a now new : CoreData) (how : Disturbance) (extent : Extent) (
     → AreBegun a how extent left new n rest
 next-opened a now new how extent left m n many rest t b em er e h made is_open =
     opened a now new how extent left n rest
-    (subst (λ r. AreBegun a how extent left now (suc n) r) er (one-left a now how extent left m n many b em))
+    (one-more a now how extent left (suc n) many rest (one-left a now how extent left m n many b em) er)
     (same-goes a now b.steps extent t true b.made e h) made is_open
 
 pub next-over : (a now : CoreData) (how : Disturbance) (extent : Extent) (left m n none t : ℕ) → AreBegun a how extent left now m none
     → m ≡ n + 1 → none ≡ 0 → t ≡ time a.cluster (past_of a) → goes_on now.cluster extent t (past_of now) ≡ true
     → is_opened (due_now now.cluster now.opening now.capacity (past_of now)) ≡ true
-    → left < slots_in (extent_on a how extent)
+    → IsMade a (first_on a how extent left) now × (left < slots_in (extent_on a how extent))
 next-over a now how extent left m n none t b em er e h is_open =
-    too-many a now how extent left n
+    over a now how extent left n
     (subst (λ r. AreBegun a how extent left now (suc n) r) er (one-left a now how extent left m n none b em))
     (same-goes a now b.steps extent t true b.made e h) is_open
+
+pub next-fails : (fault : MakeFault) (a now new : CoreData) (how : Disturbance) (extent : Extent) (left m n rest t : ℕ) → AreBegun a how extent left now m rest
+    → m ≡ n + 1 → t ≡ time a.cluster (past_of a) → goes_on now.cluster extent t (past_of now) ≡ true
+    → (is_opened (due_now now.cluster now.opening now.capacity (past_of now)) ≡ true → 0 < rest)
+    → StepsFail fault now (slot_steps now.cluster now.opening now.capacity how (past_of now)) × IsGrown now new
+    → SlotsFail fault a how extent left × IsGrown a new
+next-fails LogFull a now new how extent left m n rest t b em e h some (full, grown) = (
+  no-room a now how extent left n rest _ (one-left a now how extent left m n rest b em) (same-goes a now b.steps extent t true b.made e h) refl some full,
+  grown-more a now new (grown-made a now b.steps b.made) grown,
+)
+next-fails OutOfMemory a now new how extent left m n rest t b em e h some (none, grown) =
+    (tt, grown-more a now new (grown-made a now b.steps b.made) grown)
 
 pub all-made : (a now : CoreData) (how : Disturbance) (extent : Extent) (left n rest : ℕ) → AreBegun a how extent left now n rest → n ≡ 0
     → IsMade a (extent_on a how extent) now × (slots_in (extent_on a how extent) + rest ≡ left)

@@ -1,26 +1,26 @@
 -- Texts in the language of a cluster's names, as bench scripts: scripts of numbers, and logs with names.
-use Rattle.std.proofs.Common.{◌≡◌, ◌∙◌, ◌+◌, ◌-◌, ◌==◌, ◌||◌, ◌&&◌, ◌++◌, ℕ, List, [], ◌∷◌, Bool, true, false, not, nat_le, nat_lt, refl, sym, ap, arith, append-nil, append_assoc, Option, Some, None, Result, Ok, Err, filter, length, slice_index, take, option_map, if◌then◌else◌}
-use Rattle.std.specs.Prelude.{cond}
+use Rattle.std.proofs.Common.{◌≡◌, ◌∙◌, ◌+◌, ◌-◌, ◌==◌, ℕ, List, [], ◌∷◌, Bool, true, false, not, nat_lt, refl, sym, ap, arith, reverse, Option, Some, None, Result, Ok, Err, filter, length, slice_index, take, option_map}
 use Rattle.std.specs.List.{slice_split, onto_first, take_while}
-use Rattle.std.specs.Str.{bytes_eq}
 use Rattle.std.specs.Str.Lines.{strip_carriage_return}
-use Rattle.std.proofs.lemmas.Bool.{and_parts}
 use Rattle.std.proofs.lemmas.Grind.{common_steps}
 use Rattle.std.proofs.lemmas.List.Sums.{take_while-cons}
 use Rattle.lin_cluster_parts.specs.declared.parts.Parts.{Parts}
+use Rattle.lin_core.specs.Runs.{entry_of, history}
 use Rattle.lin_core.specs.declared.port.PortId.{PortId}
 use Rattle.lin_core.specs.declared.step.Step.{Step}
 use Rattle.lin_log.specs.Language.{named, plain}
-use Rattle.lin_log.specs.Laws.{TextsStay}
 use Rattle.lin_log.specs.Said.{is_comment, is_digit, is_gap, is_port, is_text, line_says, of_fields as step_of_fields, port_step, steps_from, text_says}
 use Rattle.lin_log.specs.Said as log
 use Rattle.lin_log.specs.Script.{script, without_reason}
 use Rattle.lin_log.specs.declared.reason.Reason.{Reason}
 use Rattle.lin_log.proofs.Stays.{texts-stay}
-use Rattle.lin_bench.specs.Fields.{fields, of_step}
+use Rattle.lin_bench.proofs.Makes.{after-history}
+use Rattle.lin_bench.specs.Fields.{fields}
 use Rattle.lin_bench.specs.Lines.{line_form, of_fields, read, read_line, read_lines, without_mark}
-use Rattle.lin_bench.specs.Plain.{NamedTexts, PlainScripts, SaysSteps}
-use Rattle.lin_bench.specs.Played.{Run, first, in_turn, next, said}
+use Rattle.lin_bench.specs.Plain.{NamedTexts, PlainScripts}
+use Rattle.lin_bench.specs.Made.{made, said}
+use Rattle.lin_bench.specs.Played.{Run, first, in_turn, next}
+use Rattle.lin_bench.specs.Slots.{after}
 use Rattle.lin_bench.specs.declared.line.Line.{Line}
 use Rattle.lin_bench.specs.declared.reason.Reason.{Reason as BenchReason}
 use Rattle.lin_bench.specs.declared.line.Line.TheVariants as line
@@ -132,20 +132,19 @@ lines-say c n (l ∷ ls) steps e =
 
 -- ---- what they come to
 one-turn : (c : Parts) (o room : ℕ) (run : Run) (n : ℕ) (by : PortId) (step : Step)
-    → next c o room run (n, line.Step by step) ≡ Ok (record run { steps = run.steps ++ (by, step) ∷ [] })
-unfolding next said
+    → next c o room run (n, line.Step by step) ≡ Ok (record run { bench = record run.bench { past = entry_of c o room run.bench.past (by, step) ∷ run.bench.past } })
+unfolding made said
 one-turn c o room run n by step =
-    let few : nat_lt run.left 0 ≡ false = grind (arith, common_steps) in
-    let left : run.left - 0 ≡ run.left = omega arith in
-    rw (few, left, append-nil run.unmet) refl
+    let few : nat_lt run.bench.left 0 ≡ false = grind (arith, common_steps) in
+    let left : run.bench.left - 0 ≡ run.bench.left = omega arith in
+    rw (few, left) refl
 
 turns : (c : Parts) (o room : ℕ) (run : Run) (ts : List (ℕ × (PortId × Step)))
-    → in_turn c o room (Ok run) (lines_of ts) ≡ Ok (record run { steps = run.steps ++ steps_of ts })
-turns c o room run [] = rw (append-nil run.steps) refl
+    → in_turn c o room (Ok run) (lines_of ts) ≡ Ok (record run { bench = record run.bench { past = after c o room run.bench.past (steps_of ts) } })
+turns c o room run [] = refl
 turns c o room run (t ∷ ts) =
     ap (λ r. in_turn c o room r (lines_of ts)) (one-turn c o room run t.0 t.1.0 t.1.1)
-    ∙ turns c o room (record run { steps = run.steps ++ t.1 ∷ [] }) ts
-    ∙ ap (λ ss. Ok (record run { steps = ss })) (append_assoc run.steps (t.1 ∷ []) (steps_of ts))
+    ∙ turns c o room (record run { bench = record run.bench { past = entry_of c o room run.bench.past t.1 ∷ run.bench.past } }) ts
 
 -- ---- no text that says steps begins with the mark EF BB BF
 first-word : (x : ℕ) (ps : List (List ℕ)) → (x == 35) ≡ false
@@ -215,7 +214,10 @@ named-texts c opening capacity text steps e =
     record {
       lines = lines_of q.numbered;
       reading = rw (no-mark c text steps e) q.reading;
-      steps_alone = turns c opening capacity first q.numbered ∙ ap (λ ss. Ok (record first { steps = ss })) (sym q.steps_are);
+      steps_alone =
+          turns c opening capacity first q.numbered
+          ∙ ap (λ past. Ok (record first { bench = record first.bench { past = past } }))
+          (after-history c opening capacity [] (steps_of q.numbered) ∙ ap (λ ss. history c opening capacity (reverse ss)) (sym q.steps_are));
     }
 
 reasonless : (r : log.Steps) (steps : List (PortId × Step)) → without_reason r ≡ Ok steps → r ≡ Ok steps

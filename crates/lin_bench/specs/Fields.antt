@@ -1,6 +1,6 @@
 -- The fields of a bench script's line, as the language of a cluster's names has them, and what is
 -- said of one that is bad.
-use Rattle.std.specs.Prelude.{ℕ, Bool, true, List, map, Option, Some, None, Result, Ok, Err}
+use Rattle.std.specs.Prelude.{ℕ, true, List, map, Option, Some, None, Result, Ok, Err}
 use Rattle.std.specs.Borrow.{Bor}
 use Rattle.lin_frame.specs.declared.value.Value.{Value}
 use Rattle.lin_cluster_parts.specs.declared.parts.Parts.{Parts}

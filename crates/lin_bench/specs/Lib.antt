@@ -5,8 +5,10 @@ pub mod Read
 pub mod Slots
 pub mod Verdicts
 pub mod Searches
-pub mod Played
+pub mod Made
 pub mod Making
+pub mod Bench
+pub mod Played
 pub mod Plays
 pub mod Texts
 pub mod Plain

@@ -1,75 +1,68 @@
 -- What making steps on a core answers.
-use Rattle.std.specs.Prelude.{◌≡◌, ℕ, ◌<◌, ◌+◌, ◌-◌, ◌≤◌, List, ◌++◌, Option}
+use Rattle.std.specs.Prelude.{◌≡◌, ℕ, ◌<◌, ◌+◌, ◌-◌, ◌^◌, ◌≤◌, List, ◌++◌, length, Option}
 use Rattle.std.specs.Prelude.{Some, None, Result, Ok, Err}
 use Rattle.lin_core.specs.Core.{CoreData, IsAlike, past_of}
+use Rattle.lin_core.specs.declared.log.LogEntry.{LogEntry}
 use Rattle.lin_core.specs.declared.port.PortId.{PortId}
 use Rattle.lin_core.specs.declared.step.Step.{Step}
-use Rattle.lin_bench.specs.Slots.{after, extent_steps, slots_in}
+use Rattle.lin_bench.specs.Slots.{after, extent_steps, most, slots_in}
 use Rattle.lin_bench.specs.declared.line.Disturbance.{Disturbance}
 use Rattle.lin_bench.specs.declared.line.Extent.{Extent}
-use Rattle.lin_bench.specs.declared.line.Line.{Line}
-use Rattle.lin_bench.specs.declared.fault.PlayFault.{PlayFault}
-use Rattle.lin_bench.specs.declared.fault.PlayFault.TheVariants.{SlotLimit, OutOfMemory}
-use Rattle.lin_bench.specs.declared.playing.Player.{Player}
-use Rattle.lin_bench.specs.Played.{said, slots_made, taken_after, unmet_at}
-use Rattle.lin_bench.specs.Searches.{taken_by}
+use Rattle.lin_bench.specs.declared.fault.MakeFault.{MakeFault}
+use Rattle.lin_bench.specs.declared.fault.MakeFault.TheVariants.{LogFull, OutOfMemory}
 
 -- the steps were made, in order, and nothing else
 pub record IsMade (old : CoreData) (steps : List (PortId × Step)) (new : CoreData) : Type 0 where
   pub past : past_of new ≡ after old.cluster old.opening old.capacity (past_of old) steps
   pub alike : IsAlike old new
 
+-- the log stands as it was, with more entries behind
+pub record IsGrown (old new : CoreData) : Type 0 where
+  pub more : List LogEntry
+  pub log : new.log ≡ old.log ++ more
+
+-- the log would have more entries than it takes
+abbrev pub NoRoom : CoreData → List (PortId × Step) → Type 0
+NoRoom core steps = 2 ^ 32 - 1 < length core.log + length steps
+
+-- why steps aren't made
+abbrev pub StepsFail : MakeFault → CoreData → List (PortId × Step) → Type 0
+StepsFail LogFull core steps = NoRoom core steps
+StepsFail OutOfMemory core steps = Unit {0}
+
+-- what making steps answers
+abbrev pub MakesSteps : {X : Type 0} → CoreData → List (PortId × Step) → Result X MakeFault → CoreData
+    → Type 0
+MakesSteps old steps (Ok x) new = IsMade old steps new
+MakesSteps old steps (Err fault) new = StepsFail fault old steps × IsGrown old new
+
 -- the most steps of a slot: its open, what each of 16 nodes decides, a damage and its finish
 abbrev pub most_steps : ℕ
 most_steps = 19
 
+-- the steps of at most n slots of a line on a core
+abbrev pub first_on : CoreData → Disturbance → Extent → ℕ → List (PortId × Step)
+first_on core how extent n =
+    extent_steps core.cluster core.opening core.capacity how extent n (past_of core)
+
 -- the steps of a line of slots on a core
 abbrev pub extent_on : CoreData → Disturbance → Extent → List (PortId × Step)
-extent_on core how extent =
-    extent_steps core.cluster core.opening core.capacity how extent (past_of core)
+extent_on core how extent = first_on core how extent (most extent)
 
--- the slots of a line were made, and so many are left; or they are more than were left
-abbrev pub MakesSlots : CoreData → Disturbance → Extent → ℕ → Option ℕ → CoreData → Type 0
-MakesSlots old how extent left (Some rest) new =
+-- why slots aren't made: there is no room for those of the line, or for those that are left
+abbrev pub SlotsFail : MakeFault → CoreData → Disturbance → Extent → ℕ → Type 0
+SlotsFail LogFull core how extent left =
+    (slots_in (extent_on core how extent) ≤ left → NoRoom core (extent_on core how extent))
+    × (left < slots_in (extent_on core how extent) → NoRoom core (first_on core how extent left))
+SlotsFail OutOfMemory core how extent left = Unit {0}
+
+-- the slots of a line were made, and so many are left; or they are more than were left, and those
+-- were made
+abbrev pub MakesSlots : CoreData → Disturbance → Extent → ℕ → Result (Option ℕ) MakeFault → CoreData
+    → Type 0
+MakesSlots old how extent left (Ok (Some rest)) new =
     IsMade old (extent_on old how extent) new × (slots_in (extent_on old how extent) + rest ≡ left)
-MakesSlots old how extent left None new = left < slots_in (extent_on old how extent)
-
--- what a line is given: a player's core before it, and the steps that it says
-abbrev pub said_on : CoreData → Line → List (PortId × Step)
-said_on core line = said core.cluster core.opening core.capacity (past_of core) line
-
--- a line with this number was played
-pub record IsPlayed (old : Player) (n : ℕ) (line : Line) (new : Player) : Type 0 where
-  pub made : IsMade old.core (said_on old.core line) new.core
-  pub few : slots_made line (said_on old.core line) ≤ old.left
-  pub left : new.left ≡ old.left - slots_made line (said_on old.core line)
-  pub taken :
-      taken_by new.searches.items
-      ≡ taken_after (past_of old.core) (taken_by old.searches.items) line
-  pub unmet :
-      new.unmet.items ≡ old.unmet.items
-      ++ unmet_at old.core.cluster n (past_of old.core) (past_of new.core)
-      (taken_by old.searches.items) line
-
--- what making the slots of a line answers
-pub record AreSlots (old : Player) (steps : List (PortId × Step)) (new : Player) : Type 0 where
-  pub made : IsMade old.core steps new.core
-  pub few : slots_in steps ≤ old.left
-  pub left : new.left ≡ old.left - slots_in steps
-  pub searches : new.searches ≡ old.searches
-  pub unmet : new.unmet ≡ old.unmet
-
-abbrev pub SlotsFail : PlayFault → ℕ → ℕ → ℕ → Type 0
-SlotsFail (SlotLimit m) left n made = (m ≡ n) × (left < made)
-SlotsFail OutOfMemory left n made = Unit {0}
-
-abbrev pub PlaysSlots : Player → ℕ → Disturbance → Extent → Result Unit PlayFault → Player → Type 0
-PlaysSlots old n how extent (Ok done) new = AreSlots old (extent_on old.core how extent) new
-PlaysSlots old n how extent (Err fault) new =
-    SlotsFail fault old.left n (slots_in (extent_on old.core how extent))
-
--- what playing a line answers: it makes more slots than are left, or it was played
-abbrev pub PlaysLine : Player → ℕ → Line → Result Unit PlayFault → Player → Type 0
-PlaysLine old n line (Ok done) new = IsPlayed old n line new
-PlaysLine old n line (Err fault) new =
-    SlotsFail fault old.left n (slots_made line (said_on old.core line))
+MakesSlots old how extent left (Ok None) new =
+    IsMade old (first_on old how extent left) new × (left < slots_in (extent_on old how extent))
+MakesSlots old how extent left (Err fault) new =
+    SlotsFail fault old how extent left × IsGrown old new

@@ -1,7 +1,8 @@
 -- Texts that say steps alone: those in the language of the cluster's names, as logs with names are,
 -- and the scripts that `replay` reads.
-use Rattle.std.specs.Prelude.{◌≡◌, ℕ, List, Ok}
+use Rattle.std.specs.Prelude.{◌≡◌, ℕ, List, reverse, Ok}
 use Rattle.lin_cluster_parts.specs.declared.parts.Parts.{Parts}
+use Rattle.lin_core.specs.Runs.{history}
 use Rattle.lin_core.specs.declared.port.PortId.{PortId}
 use Rattle.lin_core.specs.declared.step.Step.{Step}
 use Rattle.lin_log.specs.Language.{named}
@@ -17,7 +18,11 @@ pub record SaysSteps (c : Parts) (opening : ℕ) (capacity : ℕ) (text : List �
     (steps : List (PortId × Step)) : Type 0 where
   pub lines : List (ℕ × Line)
   pub reading : read c text ≡ Ok lines
-  pub steps_alone : played c opening capacity lines ≡ Ok (record first { steps = steps })
+  pub steps_alone :
+      played c opening capacity lines
+      ≡ Ok (record first {
+        bench = record first.bench { past = history c opening capacity (reverse steps) };
+      })
 
 -- a script of `replay` says the same steps as a bench script
 abbrev pub PlainScripts : Type 0

@@ -109,11 +109,11 @@ most (slots.Count n) = n
 most (slots.Milliseconds n) = slot_limit + 1
 most (slots.Idle n) = n
 
--- the steps of a line of slots
-unfoldable pub extent_steps : Parts → ℕ → ℕ → Disturbance → Extent → List LogEntry
+-- the steps of a line of slots, of at most n
+unfoldable pub extent_steps : Parts → ℕ → ℕ → Disturbance → Extent → ℕ → List LogEntry
     → List (PortId × Step)
-extent_steps c opening capacity how extent past =
-    slots_steps c opening capacity how (goes_on c extent (time c past)) (most extent) past
+extent_steps c opening capacity how extent n past =
+    slots_steps c opening capacity how (goes_on c extent (time c past)) n past
 
 -- how many slots end by these steps
 abbrev pub slots_in : List (PortId × Step) → ℕ

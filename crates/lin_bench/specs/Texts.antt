@@ -15,7 +15,6 @@ use Rattle.lin_bench.specs.declared.expected.Expected.TheVariants as expected
 use Rattle.lin_bench.specs.declared.got.Got.{Got}
 use Rattle.lin_bench.specs.declared.got.Got.TheVariants as got
 use Rattle.lin_bench.specs.declared.got.Unmet.{Unmet}
-use Rattle.lin_bench.specs.declared.got.Unmet.TheVariants as unmet
 
 -- fields with one space between two
 abbrev pub fields_text : List (List ℕ) → List ℕ
@@ -90,6 +89,18 @@ expected_text c expected.Done = codes "done"
 expected_text c (expected.Refused why) = codes "refused " ++ refusal_word why
 expected_text c expected.Asleep = codes "asleep"
 expected_text c expected.Awake = codes "awake"
+expected_text c expected.Idle = codes "idle"
+
+-- how many messages of a host wait
+abbrev pub waiting_text : Parts → ℕ × ℕ → List ℕ
+waiting_text c h = decimal h.1 ++ (codes " of " ++ (node_word c h.0 ++ codes " waiting"))
+
+abbrev pub other_host_text : Parts → ℕ × ℕ → List ℕ
+other_host_text c h = codes ", " ++ waiting_text c h
+
+abbrev pub hosts_text : Parts → List (ℕ × ℕ) → List ℕ
+hosts_text c [] = []
+hosts_text c (h ∷ hs) = waiting_text c h ++ flat_map (other_host_text c) hs
 
 -- what is so in its place
 abbrev pub got_text : Parts → Got → List ℕ
@@ -108,19 +119,9 @@ got_text c (got.Refused why) = codes "refused " ++ refusal_word why
 got_text c got.NoStep = codes "no step"
 got_text c got.Asleep = codes "asleep"
 got_text c got.Awake = codes "awake"
+got_text c (got.StillWaiting hosts) = hosts_text c hosts
 got_text c got.NoNode = codes "no such node"
 got_text c got.NoNodeOrSignal = codes "no such node or signal"
-
--- how many messages of a host wait
-abbrev pub waiting_text : Parts → ℕ × ℕ → List ℕ
-waiting_text c h = decimal h.1 ++ (codes " of " ++ (node_word c h.0 ++ codes " waiting"))
-
-abbrev pub other_host_text : Parts → ℕ × ℕ → List ℕ
-other_host_text c h = codes ", " ++ waiting_text c h
-
-abbrev pub hosts_text : Parts → List (ℕ × ℕ) → List ℕ
-hosts_text c [] = []
-hosts_text c (h ∷ hs) = waiting_text c h ++ flat_map (other_host_text c) hs
 
 -- what is expected and what is so
 abbrev pub verdict_text : List ℕ → List ℕ → List ℕ
@@ -128,7 +129,6 @@ verdict_text what is = codes " expected " ++ (what ++ (codes ": " ++ (is ++ 10 �
 
 -- the line of an expectation that isn't met
 abbrev pub unmet_text : Parts → Unmet → List ℕ
-unmet_text c (unmet.Expected n what is) =
-    codes "script " ++ (decimal n ++ verdict_text (expected_text c what) (got_text c is))
-unmet_text c (unmet.Idle n hosts) =
-    codes "script " ++ (decimal n ++ verdict_text (codes "idle") (hosts_text c hosts))
+unmet_text c u =
+    codes "script "
+    ++ (decimal u.line ++ verdict_text (expected_text c u.expected) (got_text c u.got))

@@ -20,6 +20,7 @@ use Rattle.lin_core.specs.declared.log.LogEntry.{LogEntry}
 use Rattle.lin_core.specs.declared.reply.Refusal.{Refusal}
 use Rattle.lin_core.specs.declared.reply.Reply.{Reply}
 use Rattle.lin_core.specs.declared.reply.Reply.TheVariants.{Done, Refused}
+use Rattle.lin_bench.specs.Slots.{hosts_waiting}
 use Rattle.lin_bench.specs.declared.expected.Expected.{Expected}
 use Rattle.lin_bench.specs.declared.expected.Expected.TheVariants as expected
 use Rattle.lin_bench.specs.declared.got.Got.{Got}
@@ -138,6 +139,10 @@ refused_verdict why (Some (Done es)) = Some got.Done
 refused_verdict why (Some (Refused r)) =
     unless (refusal_number r == refusal_number why) (got.Refused r)
 
+-- no host has a message that waits
+abbrev pub idle_verdict : List (ℕ × ℕ) → Option Got
+idle_verdict hosts = unless (length hosts == 0) (got.StillWaiting hosts)
+
 unfoldable pub verdict : Parts → List LogEntry → List EventKind → Expected → Option Got
 verdict c past taken (expected.Signal node signal value) = signal_verdict c past node signal value
 verdict c past taken (expected.Waiting host count) = waiting_verdict c past host count
@@ -152,3 +157,4 @@ verdict c past taken expected.Done = done_verdict (newest_reply past)
 verdict c past taken (expected.Refused why) = refused_verdict why (newest_reply past)
 verdict c past taken expected.Asleep = unless (asleep past) got.Awake
 verdict c past taken expected.Awake = if asleep past then Some got.Asleep else None
+verdict c past taken expected.Idle = idle_verdict (hosts_waiting c past)

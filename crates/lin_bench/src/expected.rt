@@ -26,4 +26,6 @@ pub enum Expected {
     Refused(Refusal),
     Asleep,
     Awake,
+    /// No message of any host waits: `slots idle` expects it after its slots.
+    Idle,
 }

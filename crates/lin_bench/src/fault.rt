@@ -2,6 +2,7 @@
 
 ghost use Rattle.std.specs.Prelude.{◌≡◌};
 ghost use Rattle.lin_bench.specs.Read.{step_fault};
+ghost use Rattle.lin_bench.specs.declared.fault.MakeFault.TheVariants.{OutOfMemory as NotMade};
 ghost use Rattle.lin_bench.specs.declared.fault.PlayFault.TheVariants.{OutOfMemory as NoMemory};
 ghost use Rattle.lin_bench.specs.declared.fault.LineFault.TheVariants.{OutOfMemory};
 
@@ -10,7 +11,7 @@ use std::alloc::AllocError;
 
 /// A line is bad, or there was no memory for what it says.
 #[derive(Debug, Drop)]
-pub(crate) enum LineFault {
+pub enum LineFault {
     Bad(Reason),
     OutOfMemory,
 }
@@ -40,6 +41,22 @@ pub enum ReadFault {
     /// The first line that is bad, counted from 1 over all lines.
     BadLine { line: u64, reason: Reason },
     OutOfMemory,
+}
+
+/// Why a line isn't made.
+#[derive(Debug, Drop)]
+pub enum MakeFault {
+    /// Its steps are more than the log has room for, which takes 4,294,967,295 entries.
+    LogFull,
+    OutOfMemory,
+}
+
+impl From<AllocError> for MakeFault {
+    ghost from_gives = { λ _ fault. fault ≡ NotMade };
+
+    fn from(_: AllocError) -> MakeFault {
+        MakeFault::OutOfMemory
+    }
 }
 
 /// Why a bench script isn't played.

@@ -1,4 +1,4 @@
-//! Expectations that aren't met.
+//! Verdicts on lines, and expectations that aren't met.
 
 use crate::expected::Expected;
 use lin_core::{Cause, Look, Payload, Refusal};
@@ -34,24 +34,35 @@ pub enum Got {
     NoStep,
     Asleep,
     Awake,
+    /// Messages of these hosts wait still, so many of each.
+    StillWaiting(Many<(u8, usize)>),
     /// No node has this number.
     NoNode,
     /// No node, or no signal, has this number.
     NoNodeOrSignal,
 }
 
-/// An expectation that isn't met, with the number of its line, counted from 1.
+/// What a line came to.
 #[derive(Drop)]
-pub enum Unmet {
-    /// What the line expects, and what is so.
-    Expected {
-        line: u64,
-        expected: Expected,
-        got: Got,
-    },
-    /// After `slots idle` messages of these hosts wait still, so many of each.
-    Idle {
-        line: u64,
-        waiting: Many<(u8, usize)>,
-    },
+pub enum Verdict {
+    /// Its steps were made, and it expects nothing.
+    Nothing,
+    /// Its steps were made, and what it expects is so.
+    Met(Expected),
+    /// Its steps were made, and what it expects isn't so, but this.
+    Unmet(Expected, Got),
+    /// It makes more slots than are left. Those that are left were made, and no more.
+    SlotLimit,
+}
+
+/// An expectation that isn't met.
+#[derive(Drop)]
+pub struct Unmet {
+    /// The number of its line, counted from 1.
+    pub line: u64,
+    /// How many entries the log had when it was judged.
+    pub entries: usize,
+    pub expected: Expected,
+    /// What is so.
+    pub got: Got,
 }

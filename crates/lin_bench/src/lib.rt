@@ -6,9 +6,19 @@
 //! let lines = read(alloc, &cluster, b"send cem door 3E\nslots idle\nexpect sent cem\n")?;
 //! let Played { core, unmet } = play(alloc, cluster, table, capacity, lines)?;
 //! write_unmet(core.cluster(), unmet.as_slice(), &mut errors)?;
+//!
+//! // the same in hand, a line at a time
+//! let mut bench = Bench::new(alloc, Core::new(alloc, cluster, table, capacity)?);
+//! let before = bench.core().log().len();
+//! if let Some(line) = read_line(alloc, bench.core().cluster(), b"slots idle")? {
+//!     bench.renew_slots();
+//!     match bench.make(alloc, line)? { .. }
+//! }
+//! // the line's entries are those of bench.core().log() from `before` on
 //! ```
 #![tactic(auto)]
 
+mod bench;
 mod expectations;
 mod expected;
 mod fault;
@@ -25,13 +35,16 @@ mod taken;
 mod texts;
 mod verdicts;
 
+pub use bench::Bench;
 pub use expected::Expected;
-pub use fault::{PlayFault, ReadFault};
-pub use got::{Got, Unmet};
+pub use fault::{LineFault, MakeFault, PlayFault, ReadFault};
+pub use got::{Got, Unmet, Verdict};
 pub use law::plain_scripts_say_the_same;
 pub use lin_core::Look;
 pub use line::{Disturbance, Extent, Line};
+pub use lines::read_line;
 pub use playing::{Played, play};
 pub use reason::Reason;
 pub use script::read;
-pub use texts::{write_bad_line, write_unmet};
+pub use slots::hosts_waiting;
+pub use texts::{put_hosts, put_reason, put_unmet, put_verdict, write_bad_line, write_unmet};

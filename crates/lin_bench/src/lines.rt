@@ -110,13 +110,13 @@ fn of_word(alloc: Global, cluster: &Cluster, word: &[u8], rest: &[u8]) -> Result
     }
 }
 
-/// What a line without its end says; nothing where it has no field or begins with `>`.
+/// What a line of a bench script, without its end, says; nothing where it has no field or begins
+/// with `>`. Nodes, signals and schedule tables are those of the cluster.
+///
+/// # Errors
+/// `Bad` with why the line is; `OutOfMemory`.
 #[tactic(auto, unfolding(crate::specs::Lines::read_line))]
-pub(crate) fn read_line(
-    alloc: Global,
-    cluster: &Cluster,
-    line: &[u8],
-) -> Result<Option<Line>, LineFault>
+pub fn read_line(alloc: Global, cluster: &Cluster, line: &[u8]) -> Result<Option<Line>, LineFault>
     ensures { Gives (λ l. l) result (read_line cluster.now line.now) }
 {
     if let [b'>', ..] = line {

@@ -1,32 +1,33 @@
 //! Slots that lines make.
 
-ghost use Rattle.std.specs.Prelude.{◌≡◌, ◌<◌, ◌≤◌, ◌+◌, ◌-◌, ◌*◌, ◌^◌, ◌∷◌, [], length, map};
-ghost use Rattle.std.specs.Prelude.{option_map, IfOk, IfSome, OnOk};
+ghost use Rattle.std.specs.Prelude.{◌≡◌, ◌==◌, ◌&&◌, ◌∷◌, [], map, option_map, Some, IfOk};
 ghost use Rattle.std.specs.List.{filter_map};
 ghost use Rattle.lin_core.specs.History.{is_in};
 ghost use Rattle.lin_core.specs.declared.step.Step.TheVariants.{Open};
 ghost use Rattle.lin_core.specs.Core.{past_of};
 ghost use Rattle.lin_core.specs.declared.port.PortId.TheVariants.{Bus};
-ghost use Rattle.lin_bench.specs.Making.{IsMade, MakesSlots, most_steps};
+ghost use Rattle.lin_bench.specs.Making.{MakesSlots, MakesSteps};
 ghost use Rattle.lin_bench.specs.Slots.{decision, due_in, due_now, goes_on, hosts_waiting};
 ghost use Rattle.lin_bench.specs.Slots.{due_node, hurt_steps, is_opened, leave_nodes, most};
 ghost use Rattle.lin_bench.specs.Slots.{slot_rest, slot_steps, some_wait};
 
+use crate::fault::MakeFault;
 use crate::line::{Disturbance, Extent};
-use lin_core::{Core, Event, Payload, PortId, Reply, Step};
-use lin_log::make_step;
+use lin_core::{Core, Event, Hold, Payload, PortId, Reply, Step};
 use std::alloc::{AllocError, Global};
 
 /// How many slots lines of slots may make in a run.
 pub(crate) const SLOT_LIMIT: u32 = 1_000_000;
 
 /// Makes a step by a port.
-pub(crate) fn make(core: &mut Core, by: PortId, step: Step) -> Result<(), AllocError>
-    requires { length core.old.log < 2 ^ 32 - 1 }
-    ensures { OnOk result (IsMade core.old ((by, step) ∷ []) core.new) }
+pub(crate) fn make(core: &mut Core, by: PortId, step: Step) -> Result<(), MakeFault>
+    ensures { MakesSteps core.old ((by, step) ∷ []) result core.new }
 {
-    make_step(core, by, step)?;
-    Ok(())
+    match core.step(by, step) {
+        Ok(()) => Ok(()),
+        Err(Hold::LogFull(_)) => Err(MakeFault::LogFull),
+        Err(Hold::OutOfMemory(_)) => Err(MakeFault::OutOfMemory),
+    }
 }
 
 fn due_node(event: &Event) -> Option<u8>
@@ -79,9 +80,8 @@ fn decision(how: &Disturbance, node: u8) -> Step
 }
 
 /// The nodes that are due answer, or leave their responses out.
-fn decide(core: &mut Core, how: &Disturbance, due: &[u8]) -> Result<(), AllocError>
-    requires { length core.old.log + length due.now < 2 ^ 32 }
-    ensures { OnOk result (IsMade core.old (map (decision how.now) due.now) core.new) }
+fn decide(core: &mut Core, how: &Disturbance, due: &[u8]) -> Result<(), MakeFault>
+    ensures { MakesSteps core.old (map (decision how.now) due.now) result core.new }
 {
     for node in due {
         make(core, PortId::Bus, decision(how, *node))?;
@@ -90,9 +90,8 @@ fn decide(core: &mut Core, how: &Disturbance, due: &[u8]) -> Result<(), AllocErr
 }
 
 /// Disturbs the response of the open slot, where it is to be.
-fn hurt(alloc: Global, core: &mut Core, how: &Disturbance) -> Result<(), AllocError>
-    requires { length core.old.log < 2 ^ 32 - 1 }
-    ensures { OnOk result (IsMade core.old (hurt_steps how.now) core.new) }
+fn hurt(alloc: Global, core: &mut Core, how: &Disturbance) -> Result<(), MakeFault>
+    ensures { MakesSteps core.old (hurt_steps how.now) result core.new }
 {
     match how {
         Disturbance::Hurt(bytes) => {
@@ -103,10 +102,17 @@ fn hurt(alloc: Global, core: &mut Core, how: &Disturbance) -> Result<(), AllocEr
     }
 }
 
+/// Whether a slot could be opened that is more than are left.
+fn is_at_limit(core: &Core, left: u32) -> bool
+    ensures { result ≡ (left == 0 && is_opened
+        (due_now core.now.cluster core.now.opening core.now.capacity (past_of core.now))) }
+{
+    left == 0 && core.refusal_of(PortId::Bus, &Step::Open).is_none()
+}
+
 /// Opens a slot, and answers which nodes are due in it; none where it couldn't be opened.
-fn open(alloc: Global, core: &mut Core) -> Result<Option<Vec<u8>>, AllocError>
-    requires { length core.old.log < 2 ^ 32 - 1 }
-    ensures made { OnOk result (IsMade core.old ((Bus, Open) ∷ []) core.new) }
+fn open(alloc: Global, core: &mut Core) -> Result<Option<Vec<u8>>, MakeFault>
+    ensures made { MakesSteps core.old ((Bus, Open) ∷ []) result core.new }
     ensures due { IfOk result (λ due. option_map (λ v. v.items) due
         ≡ due_now core.old.cluster core.old.opening core.old.capacity (past_of core.old)) }
 {
@@ -120,28 +126,23 @@ fn rest_of_slot(
     core: &mut Core,
     how: &Disturbance,
     due: &[u8],
-) -> Result<(), AllocError>
-    requires { length core.old.log + length due.now + 2 < 2 ^ 32 }
-    ensures { OnOk result (IsMade core.old (slot_rest how.now (Some due.now)) core.new) }
+) -> Result<(), MakeFault>
+    ensures { MakesSteps core.old (slot_rest how.now (Some due.now)) result core.new }
 {
     decide(core, how, due)?;
     hurt(alloc, core, how)?;
-    make(core, PortId::Bus, Step::Finish)?;
-    Ok(())
+    make(core, PortId::Bus, Step::Finish)
 }
 
 /// Makes a slot, and answers whether it could be opened.
 #[tactic(auto, unfolding(crate::specs::Slots::slot_steps))]
-fn slot(alloc: Global, core: &mut Core, how: &Disturbance) -> Result<bool, AllocError>
-    requires { length core.old.log + most_steps < 2 ^ 32 }
-    ensures steps { OnOk result (IsMade core.old
+fn slot(alloc: Global, core: &mut Core, how: &Disturbance) -> Result<bool, MakeFault>
+    ensures steps { MakesSteps core.old
         (slot_steps core.old.cluster core.old.opening core.old.capacity how.now (past_of core.old))
-        core.new) }
+        result core.new }
     ensures opened { IfOk result (λ is. is ≡ is_opened
         (due_now core.old.cluster core.old.opening core.old.capacity (past_of core.old))) }
-    ensures few { OnOk result (length core.new.log ≤ length core.old.log + most_steps) }
 {
-    core.cluster().sound();
     let Some(due) = open(alloc, core)? else {
         return Ok(false);
     };
@@ -161,8 +162,8 @@ fn some_wait(core: &Core) -> bool
     false
 }
 
-/// The hosts of which messages wait, and how many.
-pub(crate) fn hosts_waiting(alloc: Global, core: &Core) -> Result<Vec<(u8, usize)>, AllocError>
+/// The hosts of which messages wait, and how many. An error means out of memory.
+pub fn hosts_waiting(alloc: Global, core: &Core) -> Result<Vec<(u8, usize)>, AllocError>
     ensures { IfOk result (λ v. v.items ≡ hosts_waiting core.now.cluster (past_of core.now)) }
 {
     let mut hosts = Vec::new(alloc);
@@ -196,8 +197,8 @@ fn most(extent: Extent) -> u32
     }
 }
 
-/// Makes the slots of a line, and answers how many are left of those that the run may still make;
-/// none where the line makes more than these.
+/// Makes the slots of a line, and answers how many are left of those that may still be made; none
+/// where the line makes more than these, which are made then.
 #[tactic(auto, unfolding(crate::specs::Slots::extent_steps))]
 pub(crate) fn slots(
     alloc: Global,
@@ -205,9 +206,8 @@ pub(crate) fn slots(
     how: &Disturbance,
     extent: Extent,
     left: u32,
-) -> Result<Option<u32>, AllocError>
-    requires { length core.old.log + most_steps * (left + 1) < 2 ^ 32 }
-    ensures { IfOk result (λ rest. MakesSlots core.old how.now extent left rest core.new) }
+) -> Result<Option<u32>, MakeFault>
+    ensures { MakesSlots core.old how.now extent left result core.new }
 {
     let began = core.time();
     let mut left = left;
@@ -215,11 +215,11 @@ pub(crate) fn slots(
         if !goes_on(core, extent, began) {
             return Ok(Some(left));
         }
+        if is_at_limit(core, left) {
+            return Ok(None);
+        }
         if !slot(alloc, core, how)? {
             return Ok(Some(left));
-        }
-        if left == 0 {
-            return Ok(None);
         }
         left -= 1;
     }

@@ -6,7 +6,7 @@ ghost use Rattle.lin_log.specs.Words.{spaced_word};
 ghost use Rattle.lin_text.specs.Written.{Grows, WritesText};
 ghost use Rattle.lin_bench.specs.Texts.{bad_line_text, expected_text, fields_text, fields_word};
 ghost use Rattle.lin_bench.specs.Texts.{got_text, hosts_text, other_host_text, reason_text};
-ghost use Rattle.lin_bench.specs.Texts.{step_reason_text, unmet_text, waiting_text};
+ghost use Rattle.lin_bench.specs.Texts.{step_reason_text, unmet_text, verdict_text, waiting_text};
 
 use crate::expected::Expected;
 use crate::got::{Got, Unmet};
@@ -111,7 +111,7 @@ fn put_step_reason<W: Write>(out: &mut TextWriter<'_, W>, reason: &StepReason)
 }
 
 /// Why a line is bad.
-fn put_reason<W: Write>(out: &mut TextWriter<'_, W>, reason: &Reason)
+pub fn put_reason<W: Write>(out: &mut TextWriter<'_, W>, reason: &Reason)
     ensures { Grows W.contents out.old out.new (reason_text reason.now) }
 {
     match reason {
@@ -211,6 +211,39 @@ fn put_expected<W: Write>(out: &mut TextWriter<'_, W>, cluster: &Cluster, expect
         }
         Expected::Asleep => out.put_text(" asleep"),
         Expected::Awake => out.put_text(" awake"),
+        Expected::Idle => out.put_text(" idle"),
+    }
+}
+
+/// How many messages of a host wait.
+fn put_waiting<W: Write>(out: &mut TextWriter<'_, W>, cluster: &Cluster, host: &(u8, usize))
+    ensures { Grows W.contents out.old out.new (waiting_text cluster.now host.now) }
+{
+    out.put_number(host.1);
+    out.put_text(" of");
+    put_node(out, cluster, host.0);
+    out.put_text(" waiting");
+}
+
+fn put_others<W: Write>(out: &mut TextWriter<'_, W>, cluster: &Cluster, hosts: &[(u8, usize)])
+    ensures { Grows W.contents out.old out.new (flat_map (other_host_text cluster.now) hosts.now) }
+{
+    for host in hosts {
+        out.put_text(", ");
+        put_waiting(out, cluster, host);
+    }
+}
+
+/// How many messages of each of these hosts wait: `1 of door waiting, 2 of cem waiting`.
+pub fn put_hosts<W: Write>(out: &mut TextWriter<'_, W>, cluster: &Cluster, hosts: &[(u8, usize)])
+    ensures { Grows W.contents out.old out.new (hosts_text cluster.now hosts.now) }
+{
+    match hosts {
+        [] => {}
+        [first, rest @ ..] => {
+            put_waiting(out, cluster, first);
+            put_others(out, cluster, rest);
+        }
     }
 }
 
@@ -248,67 +281,39 @@ fn put_got<W: Write>(out: &mut TextWriter<'_, W>, cluster: &Cluster, got: &Got)
         Got::NoStep => out.put_text(" no step"),
         Got::Asleep => out.put_text(" asleep"),
         Got::Awake => out.put_text(" awake"),
+        Got::StillWaiting(hosts) => {
+            out.put_byte(b' ');
+            put_hosts(out, cluster, hosts.as_slice());
+        }
         Got::NoNode => out.put_text(" no such node"),
         Got::NoNodeOrSignal => out.put_text(" no such node or signal"),
     }
 }
 
-/// How many messages of a host wait.
-fn put_waiting<W: Write>(out: &mut TextWriter<'_, W>, cluster: &Cluster, host: &(u8, usize))
-    ensures { Grows W.contents out.old out.new (waiting_text cluster.now host.now) }
+/// That what is expected isn't so, and what is: ` expected WHAT: GOT` and the line's end.
+pub fn put_verdict<W: Write>(
+    out: &mut TextWriter<'_, W>,
+    cluster: &Cluster,
+    expected: &Expected,
+    got: &Got,
+)
+    ensures { Grows W.contents out.old out.new
+        (verdict_text (expected_text cluster.now expected.now) (got_text cluster.now got.now)) }
 {
-    out.put_number(host.1);
-    out.put_text(" of");
-    put_node(out, cluster, host.0);
-    out.put_text(" waiting");
+    out.put_text(" expected");
+    put_expected(out, cluster, expected);
+    out.put_byte(b':');
+    put_got(out, cluster, got);
+    out.put_byte(b'\n');
 }
 
-fn put_others<W: Write>(out: &mut TextWriter<'_, W>, cluster: &Cluster, hosts: &[(u8, usize)])
-    ensures { Grows W.contents out.old out.new (flat_map (other_host_text cluster.now) hosts.now) }
-{
-    for host in hosts {
-        out.put_text(", ");
-        put_waiting(out, cluster, host);
-    }
-}
-
-fn put_hosts<W: Write>(out: &mut TextWriter<'_, W>, cluster: &Cluster, hosts: &[(u8, usize)])
-    ensures { Grows W.contents out.old out.new (hosts_text cluster.now hosts.now) }
-{
-    match hosts {
-        [] => {}
-        [first, rest @ ..] => {
-            put_waiting(out, cluster, first);
-            put_others(out, cluster, rest);
-        }
-    }
-}
-
-fn put_unmet<W: Write>(out: &mut TextWriter<'_, W>, cluster: &Cluster, unmet: &Unmet)
+/// The line of an expectation that isn't met.
+pub fn put_unmet<W: Write>(out: &mut TextWriter<'_, W>, cluster: &Cluster, unmet: &Unmet)
     ensures { Grows W.contents out.old out.new (unmet_text cluster.now unmet.now) }
 {
-    match unmet {
-        Unmet::Expected {
-            line,
-            expected,
-            got,
-        } => {
-            out.put_text("script ");
-            out.put_number(*line);
-            out.put_text(" expected");
-            put_expected(out, cluster, expected);
-            out.put_byte(b':');
-            put_got(out, cluster, got);
-            out.put_byte(b'\n');
-        }
-        Unmet::Idle { line, waiting } => {
-            out.put_text("script ");
-            out.put_number(*line);
-            out.put_text(" expected idle: ");
-            put_hosts(out, cluster, waiting.as_slice());
-            out.put_byte(b'\n');
-        }
-    }
+    out.put_text("script ");
+    out.put_number(unmet.line);
+    put_verdict(out, cluster, &unmet.expected, &unmet.got);
 }
 
 fn put_all_unmet<W: Write>(out: &mut TextWriter<'_, W>, cluster: &Cluster, unmet: &[Unmet])

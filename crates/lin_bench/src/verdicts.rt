@@ -3,7 +3,8 @@
 ghost use Rattle.std.specs.Prelude.{◌≡◌, ◌==◌, ◌<◌, ◌≤◌, ◌&&◌, IfOk, OnOk, None, option_map};
 ghost use Rattle.lin_core.specs.Core.{past_of};
 ghost use Rattle.lin_bench.specs.Searches.{IsKnown, last_end, last_search, taken_by};
-ghost use Rattle.lin_bench.specs.Verdicts.{same_kind, done_verdict, kind_taken, last_event};
+ghost use Rattle.lin_bench.specs.Slots.{hosts_waiting};
+ghost use Rattle.lin_bench.specs.Verdicts.{same_kind, done_verdict, idle_verdict, kind_taken, last_event};
 ghost use Rattle.lin_bench.specs.Verdicts.{lost_verdict, message_verdict, newest_reply};
 ghost use Rattle.lin_bench.specs.Verdicts.{next_event, refused_verdict};
 ghost use Rattle.lin_bench.specs.Verdicts.{same_value, seen_verdict, sent_verdict, signal_verdict};
@@ -12,9 +13,11 @@ ghost use Rattle.lin_bench.specs.Verdicts.{with_taken};
 
 use crate::expected::Expected;
 use crate::got::Got;
+use crate::slots::hosts_waiting;
 use crate::taken::{EventKind, Place, Search, event_from, last_event};
 use lin_core::{Cause, Core, Event, Look, Payload, Refusal, Reply};
 use lin_frame::Value;
+use lin_lists::Many;
 use std::alloc::{AllocError, Global};
 
 fn same_value(a: &Value, b: &Value) -> bool
@@ -183,6 +186,17 @@ fn refused(reply: Option<&Reply>, why: Refusal) -> Option<Got>
     }
 }
 
+/// Whether no message waits.
+fn idle(alloc: Global, core: &Core) -> Result<Option<Got>, AllocError>
+    ensures { IfOk result (λ v. v ≡ idle_verdict (hosts_waiting core.now.cluster (past_of core.now))) }
+{
+    let hosts = hosts_waiting(alloc, core)?;
+    if hosts.is_empty() {
+        return Ok(None);
+    }
+    Ok(Some(Got::StillWaiting(Many::new(hosts))))
+}
+
 /// The last search for a kind.
 fn last_search(searches: &[Search], kind: EventKind) -> Option<&Search>
     ensures { option_map (λ s. s.now) result ≡ last_search kind searches.now }
@@ -215,7 +229,7 @@ fn take_next<'a>(
     ensures taken { OnOk result (taken_by searches.new.items ≡ with_taken
         (next_event (past_of core.now) (taken_by searches.old.items) kind) kind
         (taken_by searches.old.items)) }
-    ensures known { OnOk result (IsKnown core.now.log searches.new.items) }
+    ensures known { IsKnown core.now.log searches.new.items }
 {
     let from = last_end(searches.as_slice(), kind);
     let (event, end) = event_from(core.log(), kind, from);
@@ -241,7 +255,7 @@ pub(crate) fn verdict(
         (λ v. v ≡ verdict core.now.cluster (past_of core.now) (taken_by searches.old.items) expected.now) }
     ensures taken { OnOk result (taken_by searches.new.items
         ≡ taking (past_of core.now) (taken_by searches.old.items) (kind_taken expected.now)) }
-    ensures known { OnOk result (IsKnown core.now.log searches.new.items) }
+    ensures known { IsKnown core.now.log searches.new.items }
 {
     match expected {
         Expected::Signal {
@@ -283,5 +297,6 @@ pub(crate) fn verdict(
         } else {
             None
         }),
+        Expected::Idle => idle(alloc, core),
     }
 }

@@ -28,7 +28,6 @@ use Rattle.lin_ldf.specs.declared.section.SectionWord.TheVariants as words_of
 use Rattle.lin_ldf.specs.declared.section.Sections.{Sections}
 use Rattle.lin_ldf.specs.declared.token.TokenKind.TheVariants.{Word}
 use Rattle.lin_log.specs.Laws.{AreNames, is_name}
-use Rattle.lin_laws.specs.NamedScripts.{AllNames}
 use Rattle.lin_laws.proofs.LdfWords.{IsGood, tokens-good}
 
 -- the name of what is declared
@@ -77,6 +76,9 @@ new-name seen ts n rest (t, e, is, same) good =
     let p = and_parts (is_kind Word t.kind) (not (has_name seen t.text)) is in
     let g : IsGood t = All-head IsGood t rest (subst AllGood e good) in
     rw same (record { word = g p.0; new = no-name (has_name seen t.text) p.1 })
+
+abbrev pub AllNames : List (List ℕ) → Type 0
+AllNames names = All (λ name. is_name name ≡ true) names
 
 -- names, each new after those before it
 abbrev AllNew : List (List ℕ) → List (List ℕ) → Type 0

@@ -14,28 +14,22 @@ use Rattle.lin_ldf.specs.declared.token.Token.{Token}
 use Rattle.lin_ldf.specs.declared.token.TokenKind.{TokenKind}
 use Rattle.lin_ldf.specs.declared.token.TokenKind.TheVariants.{Word}
 use Rattle.lin_log.specs.Said.{is_digit}
-use Rattle.lin_log.specs.Laws.{all_visible, is_name}
-use Rattle.lin_log.proofs.Items.{both}
+use Rattle.lin_log.specs.Laws.{all_visible, is_name, is_visible}
+use Rattle.lin_log.proofs.Items.{both, weaker}
 
 letter-begins : (b : ℕ) → is_letter b ≡ true → not (is_digit b || b == 35) ≡ true
 letter-begins b h = grind (arith, common_steps)
 
-byte-visible : (b : ℕ) → is_word_byte b ≡ true → (nat_lt 32 b && nat_lt b 127) ≡ true
+byte-visible : (b : ℕ) → is_word_byte b ≡ true → is_visible b ≡ true
 byte-visible b h = grind (arith, common_steps)
 
 letter-byte : (b : ℕ) → is_letter b ≡ true → is_word_byte b ≡ true
 letter-byte b h = rw h refl
 
-bytes-visible : (bs : List ℕ) → list_all is_word_byte bs ≡ true → all_visible bs ≡ true
-bytes-visible [] h = refl
-bytes-visible (b ∷ bs) h =
-    let p = and_parts (is_word_byte b) (list_all is_word_byte bs) h in
-    both (nat_lt 32 b && nat_lt b 127) (all_visible bs) (byte-visible b p.0) (bytes-visible bs p.1)
-
 word-name : (w : List ℕ) → ldf.IsWord w → is_name w ≡ true
 word-name w (b, bs, e, first, others) =
     rw e (both (not (is_digit b || b == 35)) (all_visible (b ∷ bs)) (letter-begins b first)
-    (both (nat_lt 32 b && nat_lt b 127) (all_visible bs) (byte-visible b (letter-byte b first)) (bytes-visible bs others)))
+    (both (is_visible b) (all_visible bs) (byte-visible b (letter-byte b first)) (weaker is_word_byte is_visible byte-visible bs others)))
 
 -- a token that, where it is a word, is a name
 abbrev pub IsGood : Symbol → Type 0

@@ -8,6 +8,6 @@ use Rattle.lin_laws.specs.NamedScripts.{NamedLogs}
 use Rattle.lin_laws.proofs.Replies.{reply-quiet}
 
 pub named-logs : NamedLogs
-named-logs c names log opening capacity a b fits =
-    named-texts c opening capacity (named_log c names log) (steps_of log)
-    (texts-again (named c) (reply_lines c names) log a (λ e past. reply-quiet c names a b e past e.reply) fits)
+named-logs c log opening capacity a b fits =
+    named-texts c opening capacity (named_log c log) (steps_of log)
+    (texts-again (named c) (reply_lines c) log a (λ e past. reply-quiet c a b e past e.reply) fits)

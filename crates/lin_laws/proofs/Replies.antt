@@ -12,13 +12,16 @@ use Rattle.lin_frame.specs.Bits.{unpacked_value}
 use Rattle.lin_frame.specs.declared.layout.Place.{Place}
 use Rattle.lin_frame.specs.declared.value.Value.{Value}
 use Rattle.lin_frame.specs.declared.value.Value.TheVariants.{Scalar, Bytes}
-use Rattle.lin_cluster_parts.specs.Cluster.{frame_of, line_of, node_of, nodes, signal_of}
+use Rattle.lin_cluster_parts.specs.Cluster.{entry_name, frame_name, frame_of, line_of, node_of, nodes, signal_of}
 use Rattle.lin_cluster_parts.specs.declared.parts.Entry.{Entry}
 use Rattle.lin_cluster_parts.specs.declared.parts.Entry.TheVariants.{Frame, Sporadic, Event as Triggered, MasterReq, SlaveResp, Quiet}
+use Rattle.lin_cluster_parts.specs.declared.parts.EventFrame.{EventFrame}
 use Rattle.lin_cluster_parts.specs.declared.parts.Node.{Node as NodeParts}
 use Rattle.lin_cluster_parts.specs.declared.parts.Parts.{Parts}
 use Rattle.lin_cluster_parts.specs.declared.parts.Signal.{Signal}
-use Rattle.lin_names.specs.Names.{NamesData}
+use Rattle.lin_cluster_parts.specs.declared.parts.SignalFrame.{SignalFrame}
+use Rattle.lin_cluster_parts.specs.declared.parts.SporadicFrame.{SporadicFrame}
+use Rattle.lin_core.proofs.slots.ClusterFrames.{no_event, no_frame, no_sporadic}
 use Rattle.lin_core.specs.History.{Slot, header_is, open_slot, time}
 use Rattle.lin_core.specs.Slots.{node_with}
 use Rattle.lin_core.specs.Tables.{refusal_number, refusal_word}
@@ -35,20 +38,21 @@ use Rattle.lin_core.specs.declared.step.Step.TheVariants.{Finish}
 use Rattle.lin_log.specs.Language.{named}
 use Rattle.lin_log.specs.Laws.{HasNames, IsQuiet, are_quiet, is_name, is_quiet}
 use Rattle.lin_log.specs.Words.{event_words, value_word}
-use Rattle.lin_log.proofs.Items.{item-name}
+use Rattle.lin_log.proofs.Items.{item-name, joined}
 use Rattle.lin_log.proofs.Quiet.{quiet-decimal, quiet-encoded, quiet-event, quiet-hex, quiet-visible}
 use Rattle.lin_export.specs.Named.{behind, control_words, event_lines, frame_words, good_words, lines_of_reply, named_event, signal_words, slot_names, sporadic_frame, time_words, transport, transport_words, who_word}
-use Rattle.lin_export.specs.Shown.{entry_name, frame_name, slot_frame}
-use Rattle.lin_laws.specs.NamedScripts.{AllNames, HasFrameNames}
+use Rattle.lin_export.specs.Shown.{slot_frame}
+use Rattle.lin_laws.specs.NamedScripts.{HasFrameNames}
 
 quiet-name : (name : List ℕ) → is_name name ≡ true → is_quiet name ≡ true
 quiet-name name h = quiet-visible name (item-name name h).0.visible
 
--- a name of a list, and none past its end
-listed-name : (names : List (List ℕ)) (i : ℕ) → AllNames names → is_quiet (slice_index_or names i []) ≡ true
-listed-name [] i a = refl
-listed-name (n ∷ ns) zero a = quiet-name n (All-head (λ name. is_name name ≡ true) n ns a)
-listed-name (n ∷ ns) (suc i) a = listed-name ns i (All-tail (λ name. is_name name ≡ true) n ns a)
+-- a name of a list of things, and none past its end
+listed-name : {X : Type 0} (name_of : X → List ℕ) (other : X) → name_of other ≡ [] → (xs : List X) (i : ℕ) → All (λ x. is_name (name_of x) ≡ true) xs
+    → is_quiet (name_of (slice_index_or xs i other)) ≡ true
+listed-name name_of other none [] i a = rw none refl
+listed-name name_of other none (x ∷ xs) zero a = quiet-name (name_of x) (All-head (λ y. is_name (name_of y) ≡ true) x xs a)
+listed-name name_of other none (x ∷ xs) (suc i) a = listed-name name_of other none xs i (All-tail (λ y. is_name (name_of y) ≡ true) x xs a)
 
 name-by : (n k : ℕ) (name : List ℕ) (t : Bool) → nat_lt k n ≡ t → (k < n → is_name name ≡ true) → (n ≤ k → name ≡ []) → is_quiet name ≡ true
 name-by n k name true e p q = quiet-name name (p (grind (arith, common_steps)))
@@ -64,34 +68,28 @@ signal-name c a k =
     name-by (length c.signals) k (signal_of c k).name (nat_lt k (length c.signals)) refl (a.of_signals.words k)
     (λ le. ap (λ (s : Signal). s.name) (get_or_past c.signals k (record { name = []; publisher = 0; size = 1; initial = Scalar 0 }) le))
 
-frame-name : (names : NamesData) → HasFrameNames names → (f : ℕ) → is_quiet (frame_name names f) ≡ true
-frame-name names b f = listed-name names.frames f b.of_frames
+frame-name : (c : Parts) → HasFrameNames c → (f : ℕ) → is_quiet (frame_name c f) ≡ true
+frame-name c b f = listed-name (λ (x : SignalFrame). x.name) no_frame refl c.frames f b.of_frames
 
-entry-name : (names : NamesData) → HasFrameNames names → (e : Entry) → is_quiet (entry_name names e) ≡ true
-entry-name names b (Frame f) = frame-name names b f
-entry-name names b (Sporadic k) = listed-name names.sporadic k b.of_sporadic
-entry-name names b (Triggered e) = listed-name names.events e b.of_events
-entry-name names b MasterReq = refl
-entry-name names b SlaveResp = refl
-entry-name names b Quiet = refl
+entry-name : (c : Parts) → HasFrameNames c → (e : Entry) → is_quiet (entry_name c e) ≡ true
+entry-name c b (Frame f) = frame-name c b f
+entry-name c b (Sporadic k) = listed-name (λ (x : SporadicFrame). x.name) no_sporadic refl c.sporadic k b.of_sporadic
+entry-name c b (Triggered e) = listed-name (λ (x : EventFrame). x.name) no_event refl c.events e b.of_events
+entry-name c b MasterReq = refl
+entry-name c b SlaveResp = refl
+entry-name c b Quiet = refl
 
-listed-frames : (names : NamesData) → HasFrameNames names → (o : Option ℕ) → are_quiet (map (frame_name names) (option_to_list o)) ≡ true
-listed-frames names b None = refl
-listed-frames names b (Some f) = rw (frame-name names b f) refl
+listed-frames : (c : Parts) → HasFrameNames c → (o : Option ℕ) → are_quiet (map (frame_name c) (option_to_list o)) ≡ true
+listed-frames c b None = refl
+listed-frames c b (Some f) = rw (frame-name c b f) refl
 
-slot-quiet : (c : Parts) (names : NamesData) → HasFrameNames names → (e : Event) → are_quiet (slot_names c names e) ≡ true
-slot-quiet c names b (event.Slot table entry header) =
-    rw (entry-name names b (line_of c table entry).entry, listed-frames names b (sporadic_frame c (line_of c table entry).entry header)) refl
-slot-quiet c names b e = refl
+slot-quiet : (c : Parts) → HasFrameNames c → (e : Event) → are_quiet (slot_names c e) ≡ true
+slot-quiet c b (event.Slot table entry header) =
+    rw (entry-name c b (line_of c table entry).entry, listed-frames c b (sporadic_frame c (line_of c table entry).entry header)) refl
+slot-quiet c b e = refl
 
-both-quiet : (xs ys : List (List ℕ)) → are_quiet xs ≡ true → are_quiet ys ≡ true → are_quiet (xs ++ ys) ≡ true
-both-quiet [] ys h k = k
-both-quiet (x ∷ xs) ys h k =
-    let p = and_parts (is_quiet x) (are_quiet xs) h in
-    rw (p.0, both-quiet xs ys p.1 k) refl
-
-event-quiet : (c : Parts) (names : NamesData) → HasNames (named c) → HasFrameNames names → (e : Event) → are_quiet (named_event c names e) ≡ true
-event-quiet c names a b e = both-quiet (event_words (named c) e) (slot_names c names e) (quiet-event (named c) a e) (slot-quiet c names b e)
+event-quiet : (c : Parts) → HasNames (named c) → HasFrameNames c → (e : Event) → are_quiet (named_event c e) ≡ true
+event-quiet c a b e = joined is_quiet (event_words (named c) e) (slot_names c e) (quiet-event (named c) a e) (slot-quiet c b e)
 
 value-quiet : (v : Value) → is_quiet (value_word v) ≡ true
 value-quiet (Scalar n) = quiet-decimal n
@@ -107,10 +105,10 @@ signals-quiet c a answer [] = refl
 signals-quiet c a answer (p ∷ ps) =
     rw (signal-name c a p.0, value-quiet (unpacked_value p.1 (take 8 answer)), signals-quiet c a answer ps) refl
 
-frame-quiet : (c : Parts) (names : NamesData) → HasNames (named c) → HasFrameNames names → (f : ℕ) (answer : List ℕ)
-    → are_quiet (frame_words c names f answer) ≡ true
-frame-quiet c names a b f answer =
-    rw (frame-name names b f, signals-quiet c a answer (zip (frame_of c f).signals (frame_of c f).layout.places)) refl
+frame-quiet : (c : Parts) → HasNames (named c) → HasFrameNames c → (f : ℕ) (answer : List ℕ)
+    → are_quiet (frame_words c f answer) ≡ true
+frame-quiet c a b f answer =
+    rw (frame-name c b f, signals-quiet c a answer (zip (frame_of c f).signals (frame_of c f).layout.places)) refl
 
 option-quiet : (f : ℕ → List ℕ) (o : Option ℕ) (other : List ℕ) → ((k : ℕ) → is_quiet (f k) ≡ true) → is_quiet other ≡ true
     → is_quiet (option_map_or f o other) ≡ true
@@ -162,14 +160,14 @@ transport-quiet c a header answer =
     (words-if (slice_index answer 0 == 0) (codes "transport" ∷ codes "sleep" ∷ []) (transport_words c (codes "down") answer) refl (way-quiet c a (codes "down") answer refl))
     (may-if (header_is 0x7D header) (Some (transport_words c (codes "up") answer)) None (way-quiet c a (codes "up") answer refl) tt)
 
-good-quiet : (c : Parts) (names : NamesData) → HasNames (named c) → HasFrameNames names → (answer : List ℕ) (s : Slot) → MayBeQuiet (good_words c names answer s)
-good-quiet c names a b answer s =
-    may-option (λ f. Some (frame_words c names f answer)) (slot_frame c (line_of c s.table s.entry).entry s) (transport c s.header answer)
-    (λ f. frame-quiet c names a b f answer) (transport-quiet c a s.header answer)
+good-quiet : (c : Parts) → HasNames (named c) → HasFrameNames c → (answer : List ℕ) (s : Slot) → MayBeQuiet (good_words c answer s)
+good-quiet c a b answer s =
+    may-option (λ f. Some (frame_words c f answer)) (slot_frame c (line_of c s.table s.entry).entry s) (transport c s.header answer)
+    (λ f. frame-quiet c a b f answer) (transport-quiet c a s.header answer)
 
-behind-quiet : (c : Parts) (names : NamesData) → HasNames (named c) → HasFrameNames names → (o : Option Slot) (e : Event) → MayBeQuiet (behind c names o e)
-behind-quiet c names a b o (event.Seen (seen.Good answer)) = may-option (good_words c names answer) o None (good-quiet c names a b answer) tt
-behind-quiet c names a b o e = tt
+behind-quiet : (c : Parts) → HasNames (named c) → HasFrameNames c → (o : Option Slot) (e : Event) → MayBeQuiet (behind c o e)
+behind-quiet c a b o (event.Seen (seen.Good answer)) = may-option (good_words c answer) o None (good-quiet c a b answer) tt
+behind-quiet c a b o e = tt
 
 -- ---- replies
 abbrev AreQuiet : List (List (List ℕ)) → Type 0
@@ -183,16 +181,16 @@ time-quiet : (s : Step) (at : ℕ) → MayBeQuiet (time_words s at)
 time-quiet Finish at = word-and-number (codes "time") at refl
 time-quiet s at = tt
 
-events-quiet : (c : Parts) (names : NamesData) → HasNames (named c) → HasFrameNames names → (o : Option Slot) (es : List Event) (more : List (List (List ℕ)))
-    → AreQuiet more → AreQuiet (flat_map (event_lines c names o) es ++ more)
-events-quiet c names a b o [] more q = q
-events-quiet c names a b o (e ∷ es) more q =
-    let own : List (List (List ℕ)) = option_to_list (behind c names o e) in
-    let others : List (List (List ℕ)) = flat_map (event_lines c names o) es in
+events-quiet : (c : Parts) → HasNames (named c) → HasFrameNames c → (o : Option Slot) (es : List Event) (more : List (List (List ℕ)))
+    → AreQuiet more → AreQuiet (flat_map (event_lines c o) es ++ more)
+events-quiet c a b o [] more q = q
+events-quiet c a b o (e ∷ es) more q =
+    let own : List (List (List ℕ)) = option_to_list (behind c o e) in
+    let others : List (List (List ℕ)) = flat_map (event_lines c o) es in
     let p : AreQuiet (own ++ (others ++ more)) =
-    all-may (behind c names o e) (others ++ more) (behind-quiet c names a b o e) (events-quiet c names a b o es more q) in
-    subst (λ (l : List (List (List ℕ))). AreQuiet (named_event c names e ∷ l)) (sym (append_assoc own others more))
-    (All-cons (λ ws. are_quiet ws ≡ true) (named_event c names e) (own ++ (others ++ more)) (event-quiet c names a b e) p)
+    all-may (behind c o e) (others ++ more) (behind-quiet c a b o e) (events-quiet c a b o es more q) in
+    subst (λ (l : List (List (List ℕ))). AreQuiet (named_event c e ∷ l)) (sym (append_assoc own others more))
+    (All-cons (λ ws. are_quiet ws ≡ true) (named_event c e) (own ++ (others ++ more)) (event-quiet c a b e) p)
 
 refusal-quiet : (r : Refusal) → is_quiet (refusal_word r) ≡ true
 refusal-quiet refusal.NoSuchNode = refl
@@ -214,13 +212,13 @@ refusal-quiet refusal.NothingOnWire = refl
 refusal-quiet refusal.PassesCheck = refl
 refusal-quiet refusal.NoTransfer = refl
 
-pub reply-quiet : (c : Parts) (names : NamesData) → HasNames (named c) → HasFrameNames names → (e : LogEntry) (past : List LogEntry) (r : Reply)
-    → IsQuiet (lines_of_reply c names e past r)
-reply-quiet c names a b e past (Done events) =
+pub reply-quiet : (c : Parts) → HasNames (named c) → HasFrameNames c → (e : LogEntry) (past : List LogEntry) (r : Reply)
+    → IsQuiet (lines_of_reply c e past r)
+reply-quiet c a b e past (Done events) =
     let t = time_words e.step (time c (e ∷ past)) in
     let last : AreQuiet (option_to_list t) = rw append-nil at (all-may t [] (time-quiet e.step (time c (e ∷ past))) (All-nil (λ ws. are_quiet ws ≡ true))) in
-    events-quiet c names a b (open_slot past) events (option_to_list t) last
-reply-quiet c names a b e past (Refused r) =
+    events-quiet c a b (open_slot past) events (option_to_list t) last
+reply-quiet c a b e past (Refused r) =
     let ws : List (List ℕ) = codes "refused" ∷ decimal (refusal_number r) ∷ refusal_word r ∷ [] in
     let q : are_quiet ws ≡ true = rw (quiet-decimal (refusal_number r), refusal-quiet r) refl in
     All-cons (λ ws. are_quiet ws ≡ true) ws [] q (All-nil (λ ws. are_quiet ws ≡ true))

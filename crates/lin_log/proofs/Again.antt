@@ -16,12 +16,12 @@ use Rattle.lin_core.specs.declared.port.PortId.{PortId}
 use Rattle.lin_core.specs.declared.port.PortId.TheVariants.{Bus, Host, Node}
 use Rattle.lin_core.specs.declared.step.Step.{Step}
 use Rattle.lin_core.specs.declared.step.Step.TheVariants.{Send, Write, Open, Answer, Leave, Hurt, Finish, Timeout, Switch, AskSleep, Wake, Close}
-use Rattle.lin_log.specs.Words.{hex_word, port_number_word, port_word, spaced_word, step_words, value_word}
+use Rattle.lin_log.specs.Words.{hex_word, port_word, spaced_word, step_words, value_word}
 use Rattle.lin_log.proofs.Decimals.{hex-again, number-decimal}
 use Rattle.lin_core.specs.Tables.{direction_word}
 use Rattle.lin_log.specs.Language.{Called, Language, number_named, word_of}
 use Rattle.lin_log.specs.Laws.{AreNames, HasNames, LinesAgain, all_visible, is_visible}
-use Rattle.lin_log.specs.Said.{bytes_fields, called_field, direction_field, is_hex_number, is_port, line_says, node_field, of_fields, port, port_step, signal_field, step_after, step_form, send_form, write_form, hurt_form, timeout_form, switch_form, node_form, alone, table_field, value_field}
+use Rattle.lin_log.specs.Said.{bytes_fields, called_field, direction_field, is_digit, is_hex_number, is_port, line_says, node_field, of_fields, port, port_number, port_step, signal_field, step_after, step_form, send_form, write_form, hurt_form, timeout_form, switch_form, node_form, alone, table_field, value_field}
 use Rattle.lin_log.specs.declared.reason.Reason.{Reason}
 use Rattle.lin_log.specs.declared.reason.Reason.TheVariants.{NoNode, NoSignal, NoTable}
 use Rattle.lin_log.proofs.Found.{first-passing}
@@ -130,17 +130,10 @@ write-says l f g h by signal v p q r = record {
   reading = rw (p.reading, q.reading, r.reading) refl;
 }
 
-answer-says : (l : Language) (f : List ℕ) (k : ℕ) → Says f (node_field l f) k → SaysStep l (codes "answer" ∷ f ∷ []) (Answer k)
-unfolding step_form node_form
-answer-says l f k p = record { words = more (item _ (omega arith) refl refl) (more p.word none); reading = rw p.reading refl }
-
-leave-says : (l : Language) (f : List ℕ) (k : ℕ) → Says f (node_field l f) k → SaysStep l (codes "leave" ∷ f ∷ []) (Leave k)
-unfolding step_form node_form
-leave-says l f k p = record { words = more (item _ (omega arith) refl refl) (more p.word none); reading = rw p.reading refl }
-
-close-says : (l : Language) (f : List ℕ) (k : ℕ) → Says f (node_field l f) k → SaysStep l (codes "close" ∷ f ∷ []) (Close k)
-unfolding step_form node_form
-close-says l f k p = record { words = more (item _ (omega arith) refl refl) (more p.word none); reading = rw p.reading refl }
+lone-says : (l : Language) (word f : List ℕ) (step : ℕ → Step) (k : ℕ) → IsItem word → step_form l word (f ∷ []) ≡ node_form l step word (f ∷ [])
+    → Says f (node_field l f) k → SaysStep l (word ∷ f ∷ []) (step k)
+unfolding node_form
+lone-says l word f step k i e p = record { words = more i (more p.word none); reading = e ∙ rw p.reading refl }
 
 hurt-says : (l : Language) (f m : List ℕ) → Says f (bytes_fields l (f ∷ [])) m → SaysStep l (codes "hurt" ∷ f ∷ []) (Hurt m)
 unfolding step_form hurt_form
@@ -166,15 +159,15 @@ step-says l a (Write by signal v) h =
     write-says l (word_of l.nodes by) (word_of l.signals signal) (value_word v) by signal v (node-says l a by (omega arith)) (signal-says l a signal (omega arith))
     (value-says l v h.2)
 step-says l a Open h = record { words = more (item _ (omega arith) refl refl) none; reading = refl }
-step-says l a (Answer k) h = answer-says l (word_of l.nodes k) k (node-says l a k (omega arith))
-step-says l a (Leave k) h = leave-says l (word_of l.nodes k) k (node-says l a k (omega arith))
+step-says l a (Answer k) h = lone-says l (codes "answer") (word_of l.nodes k) Answer k (item _ (omega arith) refl refl) refl (node-says l a k (omega arith))
+step-says l a (Leave k) h = lone-says l (codes "leave") (word_of l.nodes k) Leave k (item _ (omega arith) refl refl) refl (node-says l a k (omega arith))
 step-says l a (Hurt m) h = hurt-says l (hex_word m) m (bytes-say l m h)
 step-says l a Finish h = record { words = more (item _ (omega arith) refl refl) none; reading = refl }
 step-says l a (Timeout k d) h = timeout-says l (word_of l.nodes k) (direction_word d) k d (node-says l a k (omega arith)) (direction-says d)
 step-says l a (Switch t) h = switch-says l (word_of l.tables t) t (table-says l a t (omega arith))
 step-says l a AskSleep h = record { words = more (item _ (omega arith) refl refl) none; reading = refl }
 step-says l a Wake h = record { words = more (item _ (omega arith) refl refl) none; reading = refl }
-step-says l a (Close k) h = close-says l (word_of l.nodes k) k (node-says l a k (omega arith))
+step-says l a (Close k) h = lone-says l (codes "close") (word_of l.nodes k) Close k (item _ (omega arith) refl refl) refl (node-says l a k (omega arith))
 
 -- ---- the word of a port
 pub record SaysPort (l : Language) (w : List ℕ) (p : PortId) : Type 0 where
@@ -182,45 +175,36 @@ pub record SaysPort (l : Language) (w : List ℕ) (p : PortId) : Type 0 where
   pub is : is_port w ≡ true
   pub reading : port l w ≡ Ok p
 
-host-says : (l : Language) → HasNames l → (n : ℕ) (t : Bool) → nat_lt n l.nodes.count ≡ t → n < 256
-    → SaysPort l (104 ∷ (if t then 58 ∷ l.nodes.name n else decimal n)) (Host n)
-unfolding port
-host-says l a n true e h =
-    let less : n < l.nodes.count = grind (arith, common_steps) in
-    let f = item-name (l.nodes.name n) (a.of_nodes.words n less) in
-    record { word = item _ (omega arith) (rw f.0.visible refl) refl; is = refl; reading = rw (named-first l.nodes a.of_nodes n less) refl }
-host-says l a n false e h =
-    let d = digits-decimal n (omega arith) in
-    let x = first-digit (decimal n) d in
-    let i = item-digits (decimal n) d in
-    record {
-      word = item _ (omega arith) (rw i.visible refl) refl;
-      is = rw x refl;
-      reading = rw ((not-digit (slice_index (decimal n) 0) x).1, number-decimal 255 n (omega arith) (omega arith)) refl;
-    }
+-- a node's name after a colon, or its number
+record SaysNumber (l : Language) (w : List ℕ) (n : ℕ) : Type 0 where
+  visible : all_visible w ≡ true
+  starts : (is_digit (slice_index w 0) || slice_index w 0 == 58) ≡ true
+  reading : port_number l w ≡ Ok n
 
-node-port-says : (l : Language) → HasNames l → (n : ℕ) (t : Bool) → nat_lt n l.nodes.count ≡ t → n < 256
-    → SaysPort l (110 ∷ (if t then 58 ∷ l.nodes.name n else decimal n)) (Node n)
-unfolding port
-node-port-says l a n true e h =
+number-says : (l : Language) → HasNames l → (n : ℕ) (t : Bool) → nat_lt n l.nodes.count ≡ t → n < 256
+    → SaysNumber l (if t then 58 ∷ l.nodes.name n else decimal n) n
+number-says l a n true e h =
     let less : n < l.nodes.count = grind (arith, common_steps) in
     let f = item-name (l.nodes.name n) (a.of_nodes.words n less) in
-    record { word = item _ (omega arith) (rw f.0.visible refl) refl; is = refl; reading = rw (named-first l.nodes a.of_nodes n less) refl }
-node-port-says l a n false e h =
+    record { visible = rw f.0.visible refl; starts = refl; reading = rw (named-first l.nodes a.of_nodes n less) refl }
+number-says l a n false e h =
     let d = digits-decimal n (omega arith) in
     let x = first-digit (decimal n) d in
-    let i = item-digits (decimal n) d in
     record {
-      word = item _ (omega arith) (rw i.visible refl) refl;
-      is = rw x refl;
+      visible = (item-digits (decimal n) d).visible;
+      starts = rw x refl;
       reading = rw ((not-digit (slice_index (decimal n) 0) x).1, number-decimal 255 n (omega arith) (omega arith)) refl;
     }
 
 pub port-says : (l : Language) → HasNames l → (p : PortId) → FitsPort p → SaysPort l (port_word l p) p
 unfolding port
 port-says l a Bus h = record { word = item _ (omega arith) refl refl; is = refl; reading = refl }
-port-says l a (Host n) h = host-says l a n (nat_lt n l.nodes.count) refl h
-port-says l a (Node n) h = node-port-says l a n (nat_lt n l.nodes.count) refl h
+port-says l a (Host n) h =
+    let p = number-says l a n (nat_lt n l.nodes.count) refl h in
+    record { word = item _ (omega arith) (rw p.visible refl) refl; is = rw p.starts refl; reading = rw p.reading refl }
+port-says l a (Node n) h =
+    let p = number-says l a n (nat_lt n l.nodes.count) refl h in
+    record { word = item _ (omega arith) (rw p.visible refl) refl; is = rw p.starts refl; reading = rw p.reading refl }
 
 -- ---- a port and a step on one line
 port-start : (l : Language) (p : PortId) (rest : List ℕ)

@@ -1,5 +1,7 @@
--- What ends with nothing, and words that end a line.
-use Rattle.std.proofs.Common.{◌≡◌, ◌∙◌, ℕ, List, [], ◌∷◌, ◌++◌, Option, sym, append-nil, flat_map}
+-- What ends with nothing, words that end a line, and one word more.
+use Rattle.std.proofs.Common.{◌≡◌, ◌∙◌, ◌+◌, ◌<◌, ℕ, List, [], ◌∷◌, ◌++◌, Option, sym, ap, append-nil, flat_map, get_or, length, map, take}
+use Rattle.std.proofs.lemmas.Grind.{flat_map-append}
+use Rattle.std.proofs.lemmas.List.{map-append, take_more}
 use Rattle.lin_text.specs.Written.{Grows}
 use Rattle.lin_text.specs.declared.buffered.TextWriter.{TextWriter}
 use Rattle.lin_text.proofs.Growing.{grows-more, same-growth}
@@ -17,3 +19,9 @@ ended ws = sym (line-end ws []) ∙ append-nil (line_tail ws)
 pub grows-ended : {W : Type 0} {contents : W → Option (List ℕ)} {x y z : TextWriter W} (ws : List (List ℕ))
     → Grows contents x y (flat_map spaced_word ws) → Grows contents y z (10 ∷ []) → Grows contents x z (line_tail ws)
 grows-ended ws h k = same-growth (ended ws) (grows-more h k)
+
+pub mapped-more : {X Y : Type 0} (f : Y → List ℕ) (g : X → Y) (xs : List X) (i : ℕ) (d : X) → i < length xs
+    → flat_map f (map g (take (i + 1) xs)) ≡ flat_map f (map g (take i xs)) ++ f (g (get_or xs i d))
+mapped-more f g xs i d h =
+    ap (λ l. flat_map f (map g l)) (take_more xs i d h) ∙ ap (flat_map f) (map-append g (take i xs) (get_or xs i d ∷ []))
+    ∙ flat_map-append f (map g (take i xs)) (g (get_or xs i d) ∷ []) ∙ ap (λ l. flat_map f (map g (take i xs)) ++ l) (append-nil (f (g (get_or xs i d))))

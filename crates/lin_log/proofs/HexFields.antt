@@ -1,5 +1,6 @@
 -- Hexadecimal digits hold no tab and begin no comment.
 use Rattle.std.proofs.Common.{◌≡◌, ◌+◌, ◌*◌, ◌-◌, ◌==◌, ◌%◌, ◌&&◌, ◌||◌, ℕ, List, [], ◌∷◌, Bool, true, false, not, nat_le, refl, arith, Option, Some, None, Result, Ok, Err, length, slice_index, if◌then◌else◌}
+use Rattle.std.specs.List.{list_all}
 use Rattle.std.specs.Result.{result_ok}
 use Rattle.std.proofs.lemmas.Bool.{and_parts}
 use Rattle.std.proofs.lemmas.Grind.{common_steps}
@@ -12,8 +13,7 @@ abbrev pub no_tab : ℕ → Bool
 no_tab b = not (b == 9)
 
 abbrev pub no_tabs : List ℕ → Bool
-no_tabs [] = true
-no_tabs (b ∷ bs) = no_tab b && no_tabs bs
+no_tabs = list_all no_tab
 
 abbrev pub is_field : List ℕ → Bool
 is_field f = no_tabs f && not (slice_index f 0 == 35)

@@ -1,11 +1,12 @@
 -- The words of lines: visible, and no comments.
 use Rattle.std.proofs.Common.{◌≡◌, ◌∙◌, ℕ, zero, suc, List, [], ◌∷◌, ◌++◌, refl, ap, length, ◌+◌, ◌/◌, ◌%◌, ◌^◌, ◌<◌, ◌==◌, ◌&&◌, ◌||◌, arith, Bool, true, false, not, slice_index, flat_map, codes}
-use Rattle.std.specs.List.{All}
+use Rattle.std.specs.List.{All, list_all}
 use Rattle.std.specs.Fmt.{decimal}
 use Rattle.std.proofs.lemmas.Bool.{and_parts}
 use Rattle.std.proofs.lemmas.Fmt.{decimal_by_steps}
 use Rattle.std.proofs.lemmas.Grind.{common_steps}
 use Rattle.std.proofs.lemmas.List.Elements.{All-nil, All-cons}
+use Rattle.std.proofs.lemmas.List.Folds.{list_all-append}
 use Rattle.hex.specs.Hex.{encode_upper, encode_with, upper_digits}
 use Rattle.lin_log.specs.Words.{hex_word, spaced_word}
 use Rattle.lin_log.specs.Said.{fields, is_digit, is_gap}
@@ -28,11 +29,20 @@ pub and-no : (a b : Bool) → b ≡ false → (a && b) ≡ false
 and-no true b h = h
 and-no false b h = refl
 
-pub visible-append : (xs ys : List ℕ) → all_visible xs ≡ true → all_visible ys ≡ true → all_visible (xs ++ ys) ≡ true
-visible-append [] ys h k = k
-visible-append (x ∷ xs) ys h k =
-    let p = and_parts (is_visible x) (all_visible xs) h in
-    both (is_visible x) (all_visible (xs ++ ys)) p.0 (visible-append xs ys p.1 k)
+-- what holds of all parts of a list
+pub weaker : {X : Type 0} (p q : X → Bool) → ((x : X) → p x ≡ true → q x ≡ true) → (xs : List X) → list_all p xs ≡ true → list_all q xs ≡ true
+weaker p q f [] h = refl
+weaker p q f (x ∷ xs) h =
+    let a = and_parts (p x) (list_all p xs) h in
+    both (q x) (list_all q xs) (f x a.0) (weaker p q f xs a.1)
+
+pub joined : {X : Type 0} (p : X → Bool) (xs ys : List X) → list_all p xs ≡ true → list_all p ys ≡ true → list_all p (xs ++ ys) ≡ true
+joined p xs ys h k = list_all-append p xs ys ∙ both (list_all p xs) (list_all p ys) h k
+
+pub at-place : (p : ℕ → Bool) (xs : List ℕ) (i : ℕ) → p 0 ≡ true → list_all p xs ≡ true → p (slice_index xs i) ≡ true
+at-place p [] i z h = z
+at-place p (x ∷ xs) zero z h = (and_parts (p x) (list_all p xs) h).0
+at-place p (x ∷ xs) (suc i) z h = at-place p xs i z (and_parts (p x) (list_all p xs) h).1
 
 visible-gap : (free : Bool) (x : ℕ) → is_visible x ≡ true → is_gap free x ≡ false
 visible-gap true x h = grind (arith, common_steps)
@@ -64,32 +74,19 @@ fields-joined free w (x ∷ xs) a (more p q) =
 
 -- ---- digits
 abbrev pub all_digits : List ℕ → Bool
-all_digits [] = true
-all_digits (b ∷ bs) = is_digit b && all_digits bs
+all_digits = list_all is_digit
 
 pub record IsDigits (w : List ℕ) : Type 0 where
   pub some : 0 < length w
   pub digits : all_digits w ≡ true
 
-digits-append : (xs ys : List ℕ) → all_digits xs ≡ true → all_digits ys ≡ true → all_digits (xs ++ ys) ≡ true
-digits-append [] ys h k = k
-digits-append (x ∷ xs) ys h k =
-    let p = and_parts (is_digit x) (all_digits xs) h in
-    both (is_digit x) (all_digits (xs ++ ys)) p.0 (digits-append xs ys p.1 k)
-
 pub digits-decimal : (n : ℕ) → n < 2 ^ 64 → IsDigits (decimal n)
 digits-decimal n h =
     decimal_by_steps (λ k ds. IsDigits ds) (λ k small. record { some = omega arith; digits = grind (arith, common_steps) })
-    (λ k ds big ih. record { some = grind (arith, common_steps, ih.some); digits = digits-append ds ((48 + k % 10) ∷ []) ih.digits (grind (arith, common_steps)) }) n h
+    (λ k ds big ih. record { some = grind (arith, common_steps, ih.some); digits = joined is_digit ds ((48 + k % 10) ∷ []) ih.digits (grind (arith, common_steps)) }) n h
 
 digit-visible : (b : ℕ) → is_digit b ≡ true → is_visible b ≡ true
 digit-visible b h = grind (arith, common_steps)
-
-digits-visible : (w : List ℕ) → all_digits w ≡ true → all_visible w ≡ true
-digits-visible [] h = refl
-digits-visible (b ∷ bs) h =
-    let p = and_parts (is_digit b) (all_digits bs) h in
-    both (is_visible b) (all_visible bs) (digit-visible b p.0) (digits-visible bs p.1)
 
 -- what a digit isn't
 pub not-digit : (b : ℕ) → is_digit b ≡ true → ((b == 35) ≡ false) × ((b == 58) ≡ false) × ((b == 120) ≡ false)
@@ -108,7 +105,7 @@ second-digit [] h = refl
 second-digit (b ∷ bs) h = no-x bs (and_parts (is_digit b) (all_digits bs) h).1
 
 pub item-digits : (w : List ℕ) → IsDigits w → IsItem w
-item-digits w d = item w d.some (digits-visible w d.digits) (not-digit (slice_index w 0) (first-digit w d)).0
+item-digits w d = item w d.some (weaker is_digit is_visible digit-visible w d.digits) (not-digit (slice_index w 0) (first-digit w d)).0
 
 -- ---- bytes
 visible-table : (t : List ℕ) (d : ℕ) → all_visible t ≡ true → d < length t → is_visible (slice_index t d) ≡ true
@@ -123,21 +120,12 @@ visible-hex (b ∷ bs) h =
     let small : b < 256 = h 0 in
     rw (visible-table upper_digits (b / 16) refl (omega arith), visible-table upper_digits (b % 16) refl (omega arith), visible-hex bs (λ i. h (suc i))) refl
 
-abbrev all_said : List ℕ → Bool
-all_said [] = true
-all_said (b ∷ bs) = not (b == 35) && all_said bs
-
 not-said : (b : ℕ) → not (b == 35) ≡ true → (b == 35) ≡ false
 not-said b h = grind (arith, common_steps)
 
-digit-said : (t : List ℕ) (d : ℕ) → all_said t ≡ true → (slice_index t d == 35) ≡ false
-digit-said [] d h = refl
-digit-said (x ∷ t) zero h = not-said x (and_parts (not (x == 35)) (all_said t) h).0
-digit-said (x ∷ t) (suc d) h = digit-said t d (and_parts (not (x == 35)) (all_said t) h).1
-
 hex-said : (b : ℕ) (bs : List ℕ) → (slice_index (encode_upper (b ∷ bs)) 0 == 35) ≡ false
 unfolding encode_with
-hex-said b bs = digit-said upper_digits (b / 16) refl
+hex-said b bs = not-said (slice_index upper_digits (b / 16)) (at-place (λ x. not (x == 35)) upper_digits (b / 16) refl refl)
 
 hex-some : (b : ℕ) (bs : List ℕ) → 0 < length (encode_upper (b ∷ bs))
 unfolding encode_with

@@ -1,5 +1,5 @@
 -- Words without ends of lines.
-use Rattle.std.proofs.Common.{◌≡◌, ℕ, zero, suc, List, [], ◌∷◌, ◌++◌, refl, ap, ◌∙◌, append_assoc, sym, length, ◌+◌, ◌-◌, ◌/◌, ◌%◌, ◌<◌, ◌==◌, ◌&&◌, arith, Bool, true, false, not, nat_lt, slice_index, flat_map, codes, Option, Some, None, if◌then◌else◌}
+use Rattle.std.proofs.Common.{◌≡◌, ℕ, zero, suc, List, [], ◌∷◌, ◌++◌, refl, ap, ◌∙◌, append_assoc, sym, length, ◌-◌, ◌/◌, ◌%◌, ◌<◌, ◌==◌, arith, Bool, true, false, nat_lt, slice_index, flat_map, Option, Some, None, if◌then◌else◌}
 use Rattle.std.specs.Fmt.{decimal, digits, digits_onto, digit_glyph}
 use Rattle.std.specs.List.{All}
 use Rattle.std.specs.Str.Lines.{strip_carriage_return}
@@ -17,28 +17,19 @@ use Rattle.lin_core.specs.declared.link.Cause.TheVariants as cause
 use Rattle.lin_log.specs.Language.{Called, Language, word_of}
 use Rattle.lin_log.specs.Laws.{AreNames, HasNames, all_visible, are_quiet, is_quiet, is_visible, no_end}
 use Rattle.lin_log.specs.Words.{event_words, header_word, hex_word, line_tail, seen_words, spaced_word}
-use Rattle.lin_log.proofs.Items.{both, item-name}
-
-pub quiet-append : (xs ys : List ℕ) → is_quiet xs ≡ true → is_quiet ys ≡ true → is_quiet (xs ++ ys) ≡ true
-quiet-append [] ys h k = k
-quiet-append (x ∷ xs) ys h k =
-    let p = and_parts (no_end x) (is_quiet xs) h in
-    rw (p.0, quiet-append xs ys p.1 k) refl
+use Rattle.lin_log.proofs.Items.{at-place, item-name, joined, weaker}
 
 pub quiet-spaced : (ws : List (List ℕ)) → are_quiet ws ≡ true → is_quiet (flat_map spaced_word ws) ≡ true
 quiet-spaced [] h = refl
 quiet-spaced (w ∷ ws) h =
     let p = and_parts (is_quiet w) (are_quiet ws) h in
-    quiet-append w (flat_map spaced_word ws) p.0 (quiet-spaced ws p.1)
+    joined no_end w (flat_map spaced_word ws) p.0 (quiet-spaced ws p.1)
 
 visible-end : (x : ℕ) → is_visible x ≡ true → no_end x ≡ true
 visible-end x h = grind (arith, common_steps)
 
 pub quiet-visible : (w : List ℕ) → all_visible w ≡ true → is_quiet w ≡ true
-quiet-visible [] h = refl
-quiet-visible (x ∷ xs) h =
-    let p = and_parts (is_visible x) (all_visible xs) h in
-    both (no_end x) (is_quiet xs) (visible-end x p.0) (quiet-visible xs p.1)
+quiet-visible w h = weaker is_visible no_end visible-end w h
 
 pub no-end : (w : List ℕ) → is_quiet w ≡ true → All (λ x. (x == 10) ≡ false) w
 no-end [] h = All-nil (λ x. (x == 10) ≡ false)
@@ -48,9 +39,7 @@ no-end (x ∷ xs) h =
     All-cons (λ x. (x == 10) ≡ false) x xs q (no-end xs p.1)
 
 no-return : (w : List ℕ) (i : ℕ) → is_quiet w ≡ true → (slice_index w i == 13) ≡ false
-no-return [] i h = refl
-no-return (x ∷ xs) zero h = let r = (and_parts (no_end x) (is_quiet xs) h).0 in grind (arith, common_steps)
-no-return (x ∷ xs) (suc i) h = no-return xs i (and_parts (no_end x) (is_quiet xs) h).1
+no-return w i h = let r : no_end (slice_index w i) ≡ true = at-place no_end w i refl h in grind (arith, common_steps)
 
 pub not-stripped : (w : List ℕ) → is_quiet w ≡ true → strip_carriage_return w ≡ w
 not-stripped w h = rw (no-return w (length w - 1) h) refl
@@ -76,15 +65,10 @@ pub quiet-decimal : (n : ℕ) → is_quiet (decimal n) ≡ true
 unfolding digits
 quiet-decimal n = quiet-digits 64 n [] refl
 
-quiet-table : (t : List ℕ) (d : ℕ) → is_quiet t ≡ true → no_end (slice_index t d) ≡ true
-quiet-table [] d h = refl
-quiet-table (x ∷ t) zero h = (and_parts (no_end x) (is_quiet t) h).0
-quiet-table (x ∷ t) (suc d) h = quiet-table t d (and_parts (no_end x) (is_quiet t) h).1
-
 pub quiet-encoded : (bs : List ℕ) → is_quiet (encode_upper bs) ≡ true
 unfolding encode_with
 quiet-encoded [] = refl
-quiet-encoded (b ∷ bs) = rw (quiet-table upper_digits (b / 16) refl, quiet-table upper_digits (b % 16) refl, quiet-encoded bs) refl
+quiet-encoded (b ∷ bs) = rw (at-place no_end upper_digits (b / 16) refl refl, at-place no_end upper_digits (b % 16) refl refl, quiet-encoded bs) refl
 
 pub quiet-hex : (bs : List ℕ) → is_quiet (hex_word bs) ≡ true
 quiet-hex [] = refl

@@ -1,11 +1,11 @@
 -- The fields of lines.
-use Rattle.std.proofs.Common.{◌≡◌, ℕ, zero, suc, List, [], ◌∷◌, ◌++◌, refl, sym, ap, subst, ◌∙◌, append-nil, take, drop, length, ◌-◌, ◌<◌, ◌≤◌, ◌==◌, ◌&&◌, filter, arith, Bool, true, false, not, slice_index}
+use Rattle.std.proofs.Common.{◌≡◌, ℕ, zero, suc, List, [], ◌∷◌, ◌++◌, refl, sym, ap, subst, ◌∙◌, append-nil, take, drop, length, ◌<◌, ◌≤◌, ◌==◌, ◌&&◌, filter, arith, Bool, true, false, not, slice_index}
 use Rattle.std.specs.List.{slice_split, onto_first, take_while, All}
 use Rattle.std.proofs.lemmas.List.{take-append-drop}
 use Rattle.std.proofs.lemmas.List.Splits.{slice_split_at, slice_split_none}
 use Rattle.std.proofs.lemmas.List.Sums.{take_while-cons}
 use Rattle.std.proofs.lemmas.Grind.{common_steps}
-use Rattle.lin_log.specs.Said.{fields, is_comment, is_gap, is_text}
+use Rattle.lin_log.specs.Said.{fields, is_comment, is_gap, is_text, no_fields}
 
 -- a gap in front of a line
 pub gap-front : (free : Bool) (b : ℕ) (rest : List ℕ) → is_gap free b ≡ true → fields free (b ∷ rest) ≡ fields free rest
@@ -43,6 +43,17 @@ comment-by true b rest h = let e : b ≡ 35 = grind (arith, common_steps) in rw 
 pub none-left : (free : Bool) (s : List ℕ) → is_comment free s ≡ true → fields free s ≡ []
 none-left free [] h = refl
 none-left free (b ∷ rest) h = comment-by free b rest h
+
+-- a field is left of a line
+field-first : (free : Bool) (b : ℕ) (ps : List (List ℕ)) → (free && b == 35) ≡ false
+    → no_fields (take_while (λ f. not (is_comment free f)) (filter is_text (onto_first b ps))) ≡ false
+field-first free b [] h = ap no_fields (word-taken free (b ∷ []) [] (omega arith) h)
+field-first free b (p ∷ ps) h = ap no_fields (word-taken free (b ∷ p) ps (omega arith) h)
+
+pub field-left : (free : Bool) (s : List ℕ) → 0 < length s → is_gap free (slice_index s 0) ≡ false → is_comment free s ≡ false
+    → no_fields (fields free s) ≡ false
+field-left free [] some h n = absurd (omega arith)
+field-left free (b ∷ rest) some h n = rw h (field-first free b (slice_split (is_gap free) rest) n)
 
 pub fields-front : (free : Bool) (w rest : List ℕ) → 0 < length w → All (λ x. is_gap free x ≡ false) w
     → (0 < length rest → is_gap free (slice_index rest 0) ≡ true) → is_comment free w ≡ false → fields free (w ++ rest) ≡ w ∷ fields free rest

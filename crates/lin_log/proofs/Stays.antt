@@ -1,38 +1,32 @@
 -- A line that says something by numbers says it in each language: its fields hold no tab and begin no comment.
-use Rattle.std.proofs.Common.{◌≡◌, ◌∙◌, ◌+◌, ◌*◌, ◌-◌, ◌==◌, ◌%◌, ◌<◌, ◌&&◌, ◌||◌, ℕ, List, [], ◌∷◌, Bool, true, false, not, nat_le, refl, sym, ap, subst, arith, Option, Some, None, Result, Ok, Err, drop, filter, length, slice_index, codes, if◌then◌else◌}
-use Rattle.std.specs.Prelude.{find, option_map}
-use Rattle.std.specs.List.{slice_split, onto_first, take_while}
-use Rattle.std.specs.Result.{result_ok}
+use Rattle.std.proofs.Common.{◌≡◌, ◌∙◌, ◌+◌, ◌*◌, ◌-◌, ◌==◌, ◌&&◌, ◌||◌, ℕ, List, [], ◌∷◌, ◌++◌, Bool, true, false, not, nat_le, refl, sym, ap, arith, Option, Some, None, Result, Ok, Err, drop, filter, length, slice_index, codes, if◌then◌else◌}
+use Rattle.std.specs.List.{list_all, slice_split, onto_first, take_while}
 use Rattle.std.specs.Str.{bytes_eq}
 use Rattle.std.specs.Str.Lines.{strip_carriage_return}
 use Rattle.std.proofs.lemmas.Bool.{and_parts}
 use Rattle.std.proofs.lemmas.Grind.{common_steps}
 use Rattle.std.proofs.lemmas.List.Sums.{take_while-cons}
 use Rattle.std.proofs.lemmas.Slice.Eq.{bytes_eq-Decides}
-use Rattle.hex.specs.Hex.{decode_of}
 use Rattle.lin_frame.specs.declared.value.Value.{Value}
 use Rattle.lin_frame.specs.declared.value.Value.TheVariants.{Scalar, Bytes}
 use Rattle.lin_core.specs.declared.link.Direction.{Direction}
-use Rattle.lin_core.specs.declared.link.Direction.TheVariants.{Down, Up}
 use Rattle.lin_core.specs.declared.port.PortId.{PortId}
 use Rattle.lin_core.specs.declared.port.PortId.TheVariants.{Bus, Host, Node}
 use Rattle.lin_core.specs.declared.step.Step.{Step}
-use Rattle.lin_core.specs.declared.step.Step.TheVariants.{Send, Write, Open, Answer, Leave, Hurt, Finish, Timeout, Switch, AskSleep, Wake, Close}
+use Rattle.lin_core.specs.declared.step.Step.TheVariants.{Open, Answer, Leave, Finish, AskSleep, Wake, Close}
 use Rattle.lin_log.specs.Language.{Called, Language, nameless, plain}
 use Rattle.lin_log.specs.Laws.{LinesStay, TextsStay}
-use Rattle.lin_log.specs.Said.{◌>>=◌, Steps, alone, array_form, bytes_fields, bytes_of, called_field, direction_field, fields, hex_bytes, hurt_form, is_comment, is_digit, is_gap, is_hex_number, is_number, is_port, is_text, line_says, node_field, node_form, node_write, number, number_after, number_field, of_fields, only, or_bad, port, port_number, port_step, send_form, signal_field, step_after, step_form, steps_from, switch_form, table_field, text_says, timeout_form, timeout_of, up_to, value_field, with_said, with_step, write_form, write_of}
+use Rattle.lin_log.specs.Said.{◌>>=◌, Steps, alone, array_form, bytes_fields, called_field, direction_field, fields, hex_bytes, hurt_form, is_comment, is_digit, is_gap, is_hex_number, is_number, is_port, is_text, line_says, node_field, node_form, number, number_after, number_field, of_fields, or_bad, port, port_number, port_step, send_form, signal_field, step_after, step_form, steps_from, switch_form, table_field, text_says, timeout_form, up_to, value_field, with_said, write_form}
 use Rattle.lin_log.specs.declared.reason.Reason.{Reason}
 use Rattle.lin_log.specs.declared.reason.Reason.TheVariants.{NoNode, NoSignal, NoTable}
 use Rattle.lin_log.proofs.HexFields.{digits-of_bytes, is_field, no_tab, no_tabs}
-use Rattle.lin_log.proofs.Items.{all_digits, and-no, both, not-digit, second-digit}
+use Rattle.lin_log.proofs.Items.{IsDigits, all_digits, and-no, both, first-digit, joined, not-digit, second-digit, weaker}
 
 abbrev all_fields : List (List ℕ) → Bool
-all_fields [] = true
-all_fields (f ∷ fs) = is_field f && all_fields fs
+all_fields = list_all is_field
 
 abbrev pieces_whole : List (List ℕ) → Bool
-pieces_whole [] = true
-pieces_whole (f ∷ fs) = no_tabs f && pieces_whole fs
+pieces_whole = list_all no_tabs
 
 -- ---- lines
 whole-pieces : (ps : List (List ℕ)) → all_fields (filter is_text ps) ≡ true → pieces_whole ps ≡ true
@@ -55,29 +49,24 @@ whole-onto x (p ∷ ps) h =
 space-whole : (x : ℕ) → is_gap false x ≡ true → no_tab x ≡ true
 space-whole x h = grind (arith, common_steps)
 
-split-by : (x : ℕ) (xs : List ℕ) (t : Bool) → (pieces_whole (slice_split (is_gap false) xs) ≡ true → no_tabs xs ≡ true)
-    → is_gap false x ≡ t → pieces_whole (slice_split (is_gap false) (x ∷ xs)) ≡ true → no_tabs (x ∷ xs) ≡ true
-split-by x xs true more e h =
-    let k : pieces_whole ([] ∷ slice_split (is_gap false) xs) ≡ true = rw e at h in
-    both (no_tab x) (no_tabs xs) (space-whole x e) (more k)
-split-by x xs false more e h =
-    let k : pieces_whole (onto_first x (slice_split (is_gap false) xs)) ≡ true = rw e at h in
-    let p = whole-onto x (slice_split (is_gap false) xs) k in
-    both (no_tab x) (no_tabs xs) p.0 (more p.1)
-
-whole-split : (line : List ℕ) → pieces_whole (slice_split (is_gap false) line) ≡ true → no_tabs line ≡ true
-whole-split [] h = refl
-whole-split (x ∷ xs) h = split-by x xs (is_gap false x) (whole-split xs) refl h
-
 same-gap : (free : Bool) (x : ℕ) → no_tab x ≡ true → is_gap free x ≡ is_gap false x
 same-gap true x h = grind (arith, common_steps)
 same-gap false x h = refl
 
-same-split : (free : Bool) (line : List ℕ) → no_tabs line ≡ true → slice_split (is_gap free) line ≡ slice_split (is_gap false) line
+split-by : (free : Bool) (x : ℕ) (xs : List ℕ) (t : Bool) → is_gap false x ≡ t
+    → (pieces_whole (slice_split (is_gap false) xs) ≡ true → slice_split (is_gap free) xs ≡ slice_split (is_gap false) xs)
+    → pieces_whole (slice_split (is_gap false) (x ∷ xs)) ≡ true → slice_split (is_gap free) (x ∷ xs) ≡ slice_split (is_gap false) (x ∷ xs)
+split-by free x xs true e more h =
+    let k : pieces_whole ([] ∷ slice_split (is_gap false) xs) ≡ true = rw e at h in
+    rw (same-gap free x (space-whole x e), more k) refl
+split-by free x xs false e more h =
+    let k : pieces_whole (onto_first x (slice_split (is_gap false) xs)) ≡ true = rw e at h in
+    let p = whole-onto x (slice_split (is_gap false) xs) k in
+    rw (same-gap free x p.0, more p.1) refl
+
+same-split : (free : Bool) (line : List ℕ) → pieces_whole (slice_split (is_gap false) line) ≡ true → slice_split (is_gap free) line ≡ slice_split (is_gap false) line
 same-split free [] h = refl
-same-split free (x ∷ xs) h =
-    let p = and_parts (no_tab x) (no_tabs xs) h in
-    rw (same-gap free x p.0, same-split free xs p.1) refl
+same-split free (x ∷ xs) h = split-by free x xs (is_gap false x) refl (same-split free xs) h
 
 no-comment : (free : Bool) (f : List ℕ) → not (slice_index f 0 == 35) ≡ true → not (is_comment free f) ≡ true
 no-comment true f h = h
@@ -98,7 +87,7 @@ same-fields : (free : Bool) (line : List ℕ) → all_fields (fields false line)
 same-fields free line h =
     let ps = slice_split (is_gap false) line in
     let k : all_fields (filter is_text ps) ≡ true = rw (every-taken (filter is_text ps)) at h in
-    ap (λ qs. take_while (λ f. not (is_comment free f)) (filter is_text qs)) (same-split free line (whole-split line (whole-pieces ps k)))
+    ap (λ qs. take_while (λ f. not (is_comment free f)) (filter is_text qs)) (same-split free line (whole-pieces ps k))
     ∙ all-taken free (filter is_text ps) k ∙ sym (every-taken (filter is_text ps))
 
 -- ---- what was read
@@ -114,10 +103,39 @@ some-if : {A : Type 0} (t : Bool) (x : Option A) (a : A) → (if t then x else N
 some-if true x a e = (refl, e)
 some-if false x a e = absurd (cc)
 
--- a field, and what it says in another language
-record Says {A : Type 0} (f : List ℕ) (said : Result A Reason) (x : A) : Type 0 where
-  field : is_field f ≡ true
-  reading : said ≡ Ok x
+-- fields, and what they say in another language
+record Say {A : Type 0} (fs : List (List ℕ)) (other : Result A Reason) (x : A) : Type 0 where
+  fields : all_fields fs ≡ true
+  reading : other ≡ Ok x
+
+says : {A : Type 0} (f : List ℕ) (other : Result A Reason) (x : A) → is_field f ≡ true → other ≡ Ok x → Say (f ∷ []) other x
+says f other x h e = record { fields = both (is_field f) true h refl; reading = e }
+
+-- what fields say by numbers they say in another language
+record Stay {A : Type 0} (fs : List (List ℕ)) (read other : Result A Reason) : Type 0 where
+  say : (x : A) → read ≡ Ok x → Say fs other x
+
+bad-stay : {A : Type 0} (fs : List (List ℕ)) (why : Reason) (other : Result A Reason) → Stay fs (Err why) other
+bad-stay fs why other = record { say = λ x e. absurd (cc) }
+
+then-stay : {A B : Type 0} (fs gs : List (List ℕ)) (read other : Result A Reason) (f g : A → Result B Reason) → Stay fs read other
+    → ((a : A) → Stay gs (f a) (g a)) → Stay (fs ++ gs) (read >>= f) (other >>= g)
+then-stay fs gs read other f g p q = record {
+  say = λ x e.
+      let a = ok-then read f x e in
+      let s = p.say a.0 a.1 in
+      let t = (q a.0).say x a.2 in
+      record { fields = joined is_field fs gs s.fields t.fields; reading = rw s.reading t.reading };
+}
+
+last-stay : {A B : Type 0} (fs : List (List ℕ)) (read other : Result A Reason) (f : A → B) → Stay fs read other
+    → Stay fs (read >>= (λ a. Ok (f a))) (other >>= (λ a. Ok (f a)))
+last-stay fs read other f p = record {
+  say = λ x e.
+      let a = ok-then read (λ a. Ok (f a)) x e in
+      let s = p.say a.0 a.1 in
+      record { fields = s.fields; reading = rw s.reading a.2 };
+}
 
 -- ---- numbers: digits, the first of which stands first
 digits-after : (m : ℕ) (f : List ℕ) (n : ℕ) → number_after m f ≡ Some n → all_digits f ≡ true
@@ -130,53 +148,47 @@ digit-whole : (b : ℕ) → is_digit b ≡ true → no_tab b ≡ true
 digit-whole b h = grind (arith, common_steps)
 
 digits-whole : (f : List ℕ) → all_digits f ≡ true → no_tabs f ≡ true
-digits-whole [] h = refl
-digits-whole (b ∷ bs) h =
-    let p = and_parts (is_digit b) (all_digits bs) h in
-    both (no_tab b) (no_tabs bs) (digit-whole b p.0) (digits-whole bs p.1)
+digits-whole f h = weaker is_digit no_tab digit-whole f h
 
 up-to : (most : ℕ) (o : Option ℕ) (n : ℕ) → up_to most o ≡ Some n → (m : ℕ) × (o ≡ Some m)
 up-to most None n e = absurd (cc)
 up-to most (Some m) n e = (m, refl)
 
-record Digits (f : List ℕ) : Type 0 where
-  all : all_digits f ≡ true
-  first : is_digit (slice_index f 0) ≡ true
-
-digits-of : (most : ℕ) (f : List ℕ) (n : ℕ) → number most f ≡ Some n → Digits f
+digits-of : (most : ℕ) (f : List ℕ) (n : ℕ) → number most f ≡ Some n → IsDigits f
 digits-of most [] n e = absurd (cc)
 digits-of most (b ∷ bs) n e =
     let p = some-if (nat_le 1 (length (b ∷ bs)) && nat_le (length (b ∷ bs)) 10) (up_to most (number_after 0 (b ∷ bs))) n e in
     let q = up-to most (number_after 0 (b ∷ bs)) n p.1 in
-    let all = digits-after 0 (b ∷ bs) q.0 q.1 in
-    record { all = all; first = (and_parts (is_digit b) (all_digits bs) all).0 }
+    record { some = omega arith; digits = digits-after 0 (b ∷ bs) q.0 q.1 }
 
-digits-field : (f : List ℕ) → Digits f → is_field f ≡ true
+digits-field : (f : List ℕ) → IsDigits f → is_field f ≡ true
 digits-field f d =
-    both (no_tabs f) (not (slice_index f 0 == 35)) (digits-whole f d.all) (rw ((not-digit (slice_index f 0) d.first).0) refl)
+    both (no_tabs f) (not (slice_index f 0 == 35)) (digits-whole f d.digits) (rw ((not-digit (slice_index f 0) (first-digit f d)).0) refl)
 
 called-by : (called : Called) (most : ℕ) (f : List ℕ) (why other : Reason) (unknown : List ℕ → Reason) (n : ℕ) (t : Bool) → is_number f ≡ t
     → (if t then or_bad (number most f) why else or_bad None other) ≡ Ok n → (is_number f ≡ true) × (number most f ≡ Some n)
 called-by called most f why other unknown n true h e = (h, ok-found (number most f) why n e)
 called-by called most f why other unknown n false h e = absurd (cc)
 
-called-stays : (called : Called) (most : ℕ) (unknown : List ℕ → Reason) (f : List ℕ) (n : ℕ) → called_field most nameless unknown f ≡ Ok n
-    → Says f (called_field most called unknown f) n
-called-stays called most unknown f n e =
-    let p = called-by called most f _ _ unknown n (is_number f) refl e in
-    record { field = digits-field f (digits-of most f n p.1); reading = rw (p.0, p.1) refl }
+called-stay : (called : Called) (most : ℕ) (unknown : List ℕ → Reason) (f : List ℕ)
+    → Stay (f ∷ []) (called_field most nameless unknown f) (called_field most called unknown f)
+called-stay called most unknown f = record {
+  say = λ n e.
+      let p = called-by called most f _ _ unknown n (is_number f) refl e in
+      says f (called_field most called unknown f) n (digits-field f (digits-of most f n p.1)) (rw (p.0, p.1) refl);
+}
 
-node-stays : (l : Language) (f : List ℕ) (n : ℕ) → node_field plain f ≡ Ok n → Says f (node_field l f) n
+node-stay : (l : Language) (f : List ℕ) → Stay (f ∷ []) (node_field plain f) (node_field l f)
 unfolding node_field
-node-stays l f n e = called-stays l.nodes 255 NoNode f n e
+node-stay l f = called-stay l.nodes 255 NoNode f
 
-signal-stays : (l : Language) (f : List ℕ) (n : ℕ) → signal_field plain f ≡ Ok n → Says f (signal_field l f) n
+signal-stay : (l : Language) (f : List ℕ) → Stay (f ∷ []) (signal_field plain f) (signal_field l f)
 unfolding signal_field
-signal-stays l f n e = called-stays l.signals 65535 NoSignal f n e
+signal-stay l f = called-stay l.signals 65535 NoSignal f
 
-table-stays : (l : Language) (f : List ℕ) (n : ℕ) → table_field plain f ≡ Ok n → Says f (table_field l f) n
+table-stay : (l : Language) (f : List ℕ) → Stay (f ∷ []) (table_field plain f) (table_field l f)
 unfolding table_field
-table-stays l f n e = called-stays l.tables 65535 NoTable f n e
+table-stay l f = called-stay l.tables 65535 NoTable f
 
 word-field : (f word : List ℕ) → bytes_eq f word ≡ true → is_field word ≡ true → is_field f ≡ true
 word-field f word e h = rw ((bytes_eq-Decides f word).0 e) h
@@ -190,18 +202,10 @@ hex-by f bs false false h k e =
 hex-field : (f bs : List ℕ) → hex_bytes f ≡ Some bs → is_field f ≡ true
 hex-field f bs e = hex-by f bs (bytes_eq f (codes "-")) (length f == 0) refl refl e
 
--- fields, and what they say in another language
-record SayAll {A : Type 0} (fs : List (List ℕ)) (said : Result A Reason) (x : A) : Type 0 where
-  fields : all_fields fs ≡ true
-  reading : said ≡ Ok x
-
-bytes-stay : (l : Language) (fs : List (List ℕ)) (m : List ℕ) → bytes_fields plain fs ≡ Ok m → SayAll fs (bytes_fields l fs) m
+bytes-stay : (l : Language) (fs : List (List ℕ)) → Stay fs (bytes_fields plain fs) (bytes_fields l fs)
 unfolding bytes_fields
-bytes-stay l [] m e = absurd (cc)
-bytes-stay l (f ∷ []) m e =
-    let h = ok-found (hex_bytes f) _ m e in
-    record { fields = both (is_field f) true (hex-field f m h) refl; reading = e }
-bytes-stay l (f ∷ g ∷ fs) m e = absurd (cc)
+bytes-stay l (f ∷ []) = record { say = λ m e. says f _ m (hex-field f m (ok-found (hex_bytes f) _ m e)) e }
+bytes-stay l fs = bad-stay fs _ _
 
 -- ---- values
 array-field : (f : List ℕ) (v : Value) → (slice_index f 0 == 120) ≡ true → array_form f (drop 1 f) ≡ Ok v → is_field f ≡ true
@@ -214,24 +218,24 @@ array-field (x ∷ xs) v h e =
     both (no_tabs (x ∷ xs)) (not (x == 35)) (both (no_tab x) (no_tabs xs) a q.0) b
 
 scalar-stays : (l : Language) (f : List ℕ) (v : Value) → (slice_index f 0 == 120) ≡ false → (number_field 65535 f >>= (λ n. Ok (Scalar n))) ≡ Ok v
-    → Says f (value_field l f) v
+    → Say (f ∷ []) (value_field l f) v
 unfolding value_field
 scalar-stays l f v h e =
     let p = ok-then (number_field 65535 f) (λ n. Ok (Scalar n)) v e in
     let d = digits-of 65535 f p.0 (ok-found (number 65535 f) _ p.0 p.1) in
     let z : is_hex_number l f ≡ false = and-no l.free (slice_index f 0 == 48 && slice_index f 1 == 120)
-    (and-no (slice_index f 0 == 48) (slice_index f 1 == 120) (second-digit f d.all)) in
-    record { field = digits-field f d; reading = rw (h, z) e }
+    (and-no (slice_index f 0 == 48) (slice_index f 1 == 120) (second-digit f d.digits)) in
+    says f (value_field l f) v (digits-field f d) (rw (h, z) e)
 
-value-by : (l : Language) (f : List ℕ) (v : Value) (t : Bool) → (slice_index f 0 == 120) ≡ t → value_field plain f ≡ Ok v → Says f (value_field l f) v
+value-by : (l : Language) (f : List ℕ) (v : Value) (t : Bool) → (slice_index f 0 == 120) ≡ t → value_field plain f ≡ Ok v → Say (f ∷ []) (value_field l f) v
 unfolding value_field
 value-by l f v true h e =
     let a : array_form f (drop 1 f) ≡ Ok v = rw h at e in
-    record { field = array-field f v h a; reading = rw h a }
+    says f (value_field l f) v (array-field f v h a) (rw h a)
 value-by l f v false h e = scalar-stays l f v h (rw h at e)
 
-value-stays : (l : Language) (f : List ℕ) (v : Value) → value_field plain f ≡ Ok v → Says f (value_field l f) v
-value-stays l f v e = value-by l f v (slice_index f 0 == 120) refl e
+value-stay : (l : Language) (f : List ℕ) → Stay (f ∷ []) (value_field plain f) (value_field l f)
+value-stay l f = record { say = λ v e. value-by l f v (slice_index f 0 == 120) refl e }
 
 -- ---- directions
 direction-by : (f : List ℕ) (d : Direction) (t u : Bool) → bytes_eq (codes "down") f ≡ t → bytes_eq (codes "up") f ≡ u → direction_field f ≡ Ok d → is_field f ≡ true
@@ -240,19 +244,18 @@ direction-by f d true u h k e = rw (sym ((bytes_eq-Decides (codes "down") f).0 h
 direction-by f d false true h k e = rw (sym ((bytes_eq-Decides (codes "up") f).0 k)) refl
 direction-by f d false false h k e = let n : or_bad None _ ≡ Ok d = rw (h, k) at e in absurd (cc)
 
-direction-stays : (f : List ℕ) (d : Direction) → direction_field f ≡ Ok d → Says f (direction_field f) d
-direction-stays f d e = record { field = direction-by f d (bytes_eq (codes "down") f) (bytes_eq (codes "up") f) refl refl e; reading = e }
+direction-stay : (f : List ℕ) → Stay (f ∷ []) (direction_field f) (direction_field f)
+direction-stay f = record {
+  say = λ d e. says f (direction_field f) d (direction-by f d (bytes_eq (codes "down") f) (bytes_eq (codes "up") f) refl refl e) e;
+}
 
 -- ---- ports: a letter, and a number after it
 port-number : (l : Language) (f : List ℕ) (n : ℕ) (t : Bool) → (slice_index f 0 == 58) ≡ t → port_number plain f ≡ Ok n
-    → Digits f × (port_number l f ≡ Ok n)
+    → IsDigits f × (port_number l f ≡ Ok n)
 port-number l f n true h e = let k : or_bad None _ ≡ Ok n = rw h at e in absurd (cc)
 port-number l f n false h e =
     let k : number_field 255 f ≡ Ok n = rw h at e in
     (digits-of 255 f n (ok-found (number 255 f) _ n k), rw h k)
-
-lettered : (x : ℕ) (xs : List ℕ) → Digits xs → no_tab x ≡ true → not (x == 35) ≡ true → is_field (x ∷ xs) ≡ true
-lettered x xs d a b = both (no_tabs (x ∷ xs)) (not (x == 35)) (both (no_tab x) (no_tabs xs) a (digits-whole xs d.all)) b
 
 letters : (x : ℕ) → (x == 104 || x == 110) ≡ true → (no_tab x ≡ true) × (not (x == 35) ≡ true)
 letters x h = (grind (arith, common_steps), grind (arith, common_steps))
@@ -262,176 +265,120 @@ port-letter x xs h k =
     let p : ((x == 104 || x == 110) && (is_digit (slice_index xs 0) || slice_index xs 0 == 58)) ≡ true = rw h at k in
     (and_parts (x == 104 || x == 110) (is_digit (slice_index xs 0) || slice_index xs 0 == 58) p).0
 
-numbered : (l : Language) (xs : List ℕ) (k : ℕ → PortId) (by : PortId) → (port_number plain xs >>= (λ n. Ok (k n))) ≡ Ok by
-    → Digits xs × ((port_number l xs >>= (λ n. Ok (k n))) ≡ Ok by)
-numbered l xs k by e =
+lettered : (l : Language) (x : ℕ) (xs : List ℕ) (k : ℕ → PortId) (by : PortId) → (x == 104 || x == 110) ≡ true
+    → (port_number plain xs >>= (λ n. Ok (k n))) ≡ Ok by → Say ((x ∷ xs) ∷ []) (port_number l xs >>= (λ n. Ok (k n))) by
+lettered l x xs k by h e =
     let p = ok-then (port_number plain xs) (λ n. Ok (k n)) by e in
     let q = port-number l xs p.0 (slice_index xs 0 == 58) refl p.1 in
-    (q.0, rw q.1 p.2)
+    let a = letters x h in
+    says (x ∷ xs) _ by (both (no_tabs (x ∷ xs)) (not (x == 35)) (both (no_tab x) (no_tabs xs) a.0 (digits-whole xs q.0.digits)) a.1) (rw q.1 p.2)
 
 port-by : (l : Language) (f : List ℕ) (by : PortId) (t u : Bool) → bytes_eq f (codes "bus") ≡ t → (slice_index f 0 == 104) ≡ u → is_port f ≡ true
-    → port plain f ≡ Ok by → Says f (port l f) by
+    → port plain f ≡ Ok by → Say (f ∷ []) (port l f) by
 unfolding port
 port-by l f by true u h k i e =
     let s : Ok Bus ≡ Ok by = rw h at e in
-    record { field = word-field f (codes "bus") h refl; reading = rw h s }
+    says f _ by (word-field f (codes "bus") h refl) (rw h s)
 port-by l [] by false u h k i e = absurd (cc)
 port-by l (x ∷ xs) by false true h k i e =
-    let s : (port_number plain xs >>= (λ n. Ok (Host n))) ≡ Ok by = rw (h, k) at e in
-    let q = numbered l xs Host by s in
-    let a = letters x (port-letter x xs h i) in
-    record { field = lettered x xs q.0 a.0 a.1; reading = rw (h, k) q.1 }
+    let s = lettered l x xs Host by (port-letter x xs h i) (rw (h, k) at e) in
+    record { fields = s.fields; reading = rw (h, k) s.reading }
 port-by l (x ∷ xs) by false false h k i e =
-    let s : (port_number plain xs >>= (λ n. Ok (Node n))) ≡ Ok by = rw (h, k) at e in
-    let q = numbered l xs Node by s in
-    let a = letters x (port-letter x xs h i) in
-    record { field = lettered x xs q.0 a.0 a.1; reading = rw (h, k) q.1 }
+    let s = lettered l x xs Node by (port-letter x xs h i) (rw (h, k) at e) in
+    record { fields = s.fields; reading = rw (h, k) s.reading }
 
-port-stays : (l : Language) (f : List ℕ) (by : PortId) → is_port f ≡ true → port plain f ≡ Ok by → Says f (port l f) by
-port-stays l f by i e = port-by l f by (bytes_eq f (codes "bus")) (slice_index f 0 == 104) refl refl i e
+port-stay : (l : Language) (f : List ℕ) → is_port f ≡ true → Stay (f ∷ []) (port plain f) (port l f)
+port-stay l f i = record { say = λ by e. port-by l f by (bytes_eq f (codes "bus")) (slice_index f 0 == 104) refl refl i e }
 
 -- ---- the forms of the steps
-send-stays : (l : Language) (fs : List (List ℕ)) (s : Step) → send_form plain fs ≡ Ok s → SayAll fs (send_form l fs) s
+send-stay : (l : Language) (fs : List (List ℕ)) → Stay fs (send_form plain fs) (send_form l fs)
 unfolding send_form
-send-stays l [] s e = absurd (cc)
-send-stays l (a ∷ []) s e = absurd (cc)
-send-stays l (a ∷ b ∷ []) s e = absurd (cc)
-send-stays l (a ∷ b ∷ f ∷ fs) s e =
-    let p = ok-then (node_field plain a) _ s e in
-    let q = ok-then (node_field plain b) _ s p.2 in
-    let r = ok-then (bytes_fields plain (f ∷ fs)) _ s q.2 in
-    let x = node-stays l a p.0 p.1 in
-    let y = node-stays l b q.0 q.1 in
-    let z = bytes-stay l (f ∷ fs) r.0 r.1 in
-    record {
-      fields = both (is_field a) (all_fields (b ∷ f ∷ fs)) x.field (both (is_field b) (all_fields (f ∷ fs)) y.field z.fields);
-      reading = rw (x.reading, y.reading, z.reading) r.2;
-    }
+send-stay l (a ∷ b ∷ f ∷ fs) =
+    then-stay (a ∷ []) (b ∷ f ∷ fs) (node_field plain a) (node_field l a) _ _ (node-stay l a) (λ from.
+    then-stay (b ∷ []) (f ∷ fs) (node_field plain b) (node_field l b) _ _ (node-stay l b) (λ to.
+    last-stay (f ∷ fs) (bytes_fields plain (f ∷ fs)) (bytes_fields l (f ∷ fs)) _ (bytes-stay l (f ∷ fs))))
+send-stay l fs = bad-stay fs _ _
 
-write-stays : (l : Language) (fs : List (List ℕ)) (s : Step) → write_form plain fs ≡ Ok s → SayAll fs (write_form l fs) s
+write-stay : (l : Language) (fs : List (List ℕ)) → Stay fs (write_form plain fs) (write_form l fs)
 unfolding write_form
-write-stays l [] s e = absurd (cc)
-write-stays l (a ∷ []) s e = absurd (cc)
-write-stays l (a ∷ b ∷ []) s e = absurd (cc)
-write-stays l (a ∷ b ∷ c ∷ []) s e =
-    let p = ok-then (node_field plain a) _ s e in
-    let q = ok-then (signal_field plain b) _ s p.2 in
-    let r = ok-then (value_field plain c) _ s q.2 in
-    let x = node-stays l a p.0 p.1 in
-    let y = signal-stays l b q.0 q.1 in
-    let z = value-stays l c r.0 r.1 in
-    record {
-      fields = both (is_field a) (all_fields (b ∷ c ∷ [])) x.field (both (is_field b) (all_fields (c ∷ [])) y.field (both (is_field c) true z.field refl));
-      reading = rw (x.reading, y.reading, z.reading) r.2;
-    }
-write-stays l (a ∷ b ∷ c ∷ d ∷ fs) s e = absurd (cc)
+write-stay l (a ∷ b ∷ c ∷ []) =
+    then-stay (a ∷ []) (b ∷ c ∷ []) (node_field plain a) (node_field l a) _ _ (node-stay l a) (λ by.
+    then-stay (b ∷ []) (c ∷ []) (signal_field plain b) (signal_field l b) _ _ (signal-stay l b) (λ signal.
+    last-stay (c ∷ []) (value_field plain c) (value_field l c) _ (value-stay l c)))
+write-stay l fs = bad-stay fs _ _
 
-hurt-stays : (l : Language) (fs : List (List ℕ)) (s : Step) → hurt_form plain fs ≡ Ok s → SayAll fs (hurt_form l fs) s
+hurt-stay : (l : Language) (fs : List (List ℕ)) → Stay fs (hurt_form plain fs) (hurt_form l fs)
 unfolding hurt_form
-hurt-stays l fs s e =
-    let p = ok-then (bytes_fields plain fs) _ s e in
-    let x = bytes-stay l fs p.0 p.1 in
-    record { fields = x.fields; reading = rw x.reading p.2 }
+hurt-stay l fs = last-stay fs (bytes_fields plain fs) (bytes_fields l fs) _ (bytes-stay l fs)
 
-abbrev done : Step → Result Step Reason
-done s = Ok s
-
-timeout-read : (u : Result ℕ Reason) (v : Result Direction Reason) (node : ℕ) (dir : Direction) (s : Step) → u ≡ Ok node → v ≡ Ok dir
-    → done (Timeout node dir) ≡ done s → (u >>= (λ n. v >>= (λ d. Ok (Timeout n d)))) ≡ Ok s
-timeout-read u v node dir s h k e = rw (h, k) e
-
-timeout-stays : (l : Language) (word : List ℕ) (fs : List (List ℕ)) (s : Step) → timeout_form plain word fs ≡ Ok s → SayAll fs (timeout_form l word fs) s
+timeout-stay : (l : Language) (word : List ℕ) (fs : List (List ℕ)) → Stay fs (timeout_form plain word fs) (timeout_form l word fs)
 unfolding timeout_form
-timeout-stays l word [] s e = absurd (cc)
-timeout-stays l word (a ∷ []) s e = absurd (cc)
-timeout-stays l word (a ∷ b ∷ []) s e =
-    let p = ok-then (node_field plain a) _ s e in
-    let q = ok-then (direction_field b) _ s p.2 in
-    let x = node-stays l a p.0 p.1 in
-    let y = direction-stays b q.0 q.1 in
-    record {
-      fields = both (is_field a) (all_fields (b ∷ [])) x.field (both (is_field b) true y.field refl);
-      reading = timeout-read (node_field l a) (direction_field b) p.0 q.0 s x.reading y.reading q.2;
-    }
-timeout-stays l word (a ∷ b ∷ c ∷ fs) s e = absurd (cc)
+timeout-stay l word (a ∷ b ∷ []) =
+    then-stay (a ∷ []) (b ∷ []) (node_field plain a) (node_field l a) _ _ (node-stay l a) (λ node.
+    last-stay (b ∷ []) (direction_field b) (direction_field b) _ (direction-stay b))
+timeout-stay l word fs = bad-stay fs _ _
 
-switch-stays : (l : Language) (word : List ℕ) (fs : List (List ℕ)) (s : Step) → switch_form plain word fs ≡ Ok s → SayAll fs (switch_form l word fs) s
+switch-stay : (l : Language) (word : List ℕ) (fs : List (List ℕ)) → Stay fs (switch_form plain word fs) (switch_form l word fs)
 unfolding switch_form
-switch-stays l word [] s e = absurd (cc)
-switch-stays l word (a ∷ []) s e =
-    let p = ok-then (table_field plain a) _ s e in
-    let x = table-stays l a p.0 p.1 in
-    record { fields = both (is_field a) true x.field refl; reading = rw x.reading p.2 }
-switch-stays l word (a ∷ b ∷ fs) s e = absurd (cc)
+switch-stay l word (a ∷ []) = last-stay (a ∷ []) (table_field plain a) (table_field l a) _ (table-stay l a)
+switch-stay l word fs = bad-stay fs _ _
 
-node-step-stays : (l : Language) (step : ℕ → Step) (word : List ℕ) (fs : List (List ℕ)) (s : Step) → node_form plain step word fs ≡ Ok s
-    → SayAll fs (node_form l step word fs) s
+lone-stay : (l : Language) (step : ℕ → Step) (word : List ℕ) (fs : List (List ℕ)) → Stay fs (node_form plain step word fs) (node_form l step word fs)
 unfolding node_form
-node-step-stays l step word [] s e = absurd (cc)
-node-step-stays l step word (a ∷ []) s e =
-    let p = ok-then (node_field plain a) _ s e in
-    let x = node-stays l a p.0 p.1 in
-    record { fields = both (is_field a) true x.field refl; reading = rw x.reading p.2 }
-node-step-stays l step word (a ∷ b ∷ fs) s e = absurd (cc)
+lone-stay l step word (a ∷ []) = last-stay (a ∷ []) (node_field plain a) (node_field l a) _ (node-stay l a)
+lone-stay l step word fs = bad-stay fs _ _
 
-alone-stays : (step : Step) (word : List ℕ) (fs : List (List ℕ)) (s : Step) → alone step word fs ≡ Ok s → SayAll fs (alone step word fs) s
+alone-stay : (step : Step) (word : List ℕ) (fs : List (List ℕ)) → Stay fs (alone step word fs) (alone step word fs)
 unfolding alone
-alone-stays step word [] s e = record { fields = refl; reading = e }
-alone-stays step word (f ∷ fs) s e = absurd (cc)
+alone-stay step word [] = record { say = λ s e. record { fields = refl; reading = e } }
+alone-stay step word (f ∷ fs) = bad-stay (f ∷ fs) _ _
 
 -- a word and its form, and the forms of the other words
-pick : (word name : List ℕ) (fs : List (List ℕ)) (u v x y : Result Step Reason) (s : Step) (t : Bool) → bytes_eq word name ≡ t
-    → is_field name ≡ true → (u ≡ Ok s → SayAll fs x s) → (v ≡ Ok s → SayAll (word ∷ fs) y s)
-    → (if t then u else v) ≡ Ok s → SayAll (word ∷ fs) (if t then x else y) s
-pick word name fs u v x y s true h k f g e =
-    let p = f e in
-    record { fields = both (is_field word) (all_fields fs) (word-field word name h k) p.fields; reading = p.reading }
-pick word name fs u v x y s false h k f g e = g e
+pick : (word name : List ℕ) (fs : List (List ℕ)) (u v x y : Result Step Reason) (t : Bool) → bytes_eq word name ≡ t → is_field name ≡ true
+    → Stay fs u x → Stay (word ∷ fs) v y → Stay (word ∷ fs) (if t then u else v) (if t then x else y)
+pick word name fs u v x y true h k p q = record {
+  say = λ s e.
+      let a = p.say s e in
+      record { fields = both (is_field word) (all_fields fs) (word-field word name h k) a.fields; reading = a.reading };
+}
+pick word name fs u v x y false h k p q = q
 
-form-stays : (l : Language) (word : List ℕ) (fs : List (List ℕ)) (s : Step) → step_form plain word fs ≡ Ok s → SayAll (word ∷ fs) (step_form l word fs) s
+form-stay : (l : Language) (word : List ℕ) (fs : List (List ℕ)) → Stay (word ∷ fs) (step_form plain word fs) (step_form l word fs)
 unfolding step_form
-form-stays l word fs s e =
-    pick word (codes "send") fs _ _ _ _ s (bytes_eq word (codes "send")) refl refl (send-stays l fs s) (λ e1.
-    pick word (codes "write") fs _ _ _ _ s (bytes_eq word (codes "write")) refl refl (write-stays l fs s) (λ e2.
-    pick word (codes "open") fs _ _ _ _ s (bytes_eq word (codes "open")) refl refl (alone-stays Open word fs s) (λ e3.
-    pick word (codes "answer") fs _ _ _ _ s (bytes_eq word (codes "answer")) refl refl (node-step-stays l Answer word fs s) (λ e4.
-    pick word (codes "leave") fs _ _ _ _ s (bytes_eq word (codes "leave")) refl refl (node-step-stays l Leave word fs s) (λ e5.
-    pick word (codes "hurt") fs _ _ _ _ s (bytes_eq word (codes "hurt")) refl refl (hurt-stays l fs s) (λ e6.
-    pick word (codes "finish") fs _ _ _ _ s (bytes_eq word (codes "finish")) refl refl (alone-stays Finish word fs s) (λ e7.
-    pick word (codes "timeout") fs _ _ _ _ s (bytes_eq word (codes "timeout")) refl refl (timeout-stays l word fs s) (λ e8.
-    pick word (codes "switch") fs _ _ _ _ s (bytes_eq word (codes "switch")) refl refl (switch-stays l word fs s) (λ e9.
-    pick word (codes "sleep") fs _ _ _ _ s (bytes_eq word (codes "sleep")) refl refl (alone-stays AskSleep word fs s) (λ e10.
-    pick word (codes "wake") fs _ _ _ _ s (bytes_eq word (codes "wake")) refl refl (alone-stays Wake word fs s) (λ e11.
-    pick word (codes "close") fs _ _ _ _ s (bytes_eq word (codes "close")) refl refl (node-step-stays l Close word fs s) (λ e12. absurd (cc))
-    e11) e10) e9) e8) e7) e6) e5) e4) e3) e2) e1) e
-
-step-stays : (l : Language) (fs : List (List ℕ)) (s : Step) → step_after plain fs ≡ Ok s → SayAll fs (step_after l fs) s
-step-stays l [] s e = absurd (cc)
-step-stays l (word ∷ fs) s e = form-stays l word fs s e
+form-stay l word fs =
+    pick word (codes "send") fs _ _ _ _ (bytes_eq word (codes "send")) refl refl (send-stay l fs) (
+    pick word (codes "write") fs _ _ _ _ (bytes_eq word (codes "write")) refl refl (write-stay l fs) (
+    pick word (codes "open") fs _ _ _ _ (bytes_eq word (codes "open")) refl refl (alone-stay Open word fs) (
+    pick word (codes "answer") fs _ _ _ _ (bytes_eq word (codes "answer")) refl refl (lone-stay l Answer word fs) (
+    pick word (codes "leave") fs _ _ _ _ (bytes_eq word (codes "leave")) refl refl (lone-stay l Leave word fs) (
+    pick word (codes "hurt") fs _ _ _ _ (bytes_eq word (codes "hurt")) refl refl (hurt-stay l fs) (
+    pick word (codes "finish") fs _ _ _ _ (bytes_eq word (codes "finish")) refl refl (alone-stay Finish word fs) (
+    pick word (codes "timeout") fs _ _ _ _ (bytes_eq word (codes "timeout")) refl refl (timeout-stay l word fs) (
+    pick word (codes "switch") fs _ _ _ _ (bytes_eq word (codes "switch")) refl refl (switch-stay l word fs) (
+    pick word (codes "sleep") fs _ _ _ _ (bytes_eq word (codes "sleep")) refl refl (alone-stay AskSleep word fs) (
+    pick word (codes "wake") fs _ _ _ _ (bytes_eq word (codes "wake")) refl refl (alone-stay Wake word fs) (
+    pick word (codes "close") fs _ _ _ _ (bytes_eq word (codes "close")) refl refl (lone-stay l Close word fs)
+    (bad-stay (word ∷ fs) _ _))))))))))))
 
 -- ---- a port, then a step
-port-step-stays : (l : Language) (word : List ℕ) (fs : List (List ℕ)) (s : PortId × Step) → is_port word ≡ true → port_step plain word fs ≡ Ok s
-    → SayAll (word ∷ fs) (port_step l word fs) s
+step-stay : (l : Language) (fs : List (List ℕ)) → Stay fs (step_after plain fs) (step_after l fs)
+step-stay l [] = bad-stay [] _ _
+step-stay l (word ∷ fs) = form-stay l word fs
+
+port-step-stay : (l : Language) (word : List ℕ) (fs : List (List ℕ)) → is_port word ≡ true → Stay (word ∷ fs) (port_step plain word fs) (port_step l word fs)
 unfolding port_step
-port-step-stays l word fs s i e =
-    let p = ok-then (port plain word) _ s e in
-    let q = ok-then (step_after plain fs) _ s p.2 in
-    let x = port-stays l word p.0 i p.1 in
-    let y = step-stays l fs q.0 q.1 in
-    record { fields = both (is_field word) (all_fields fs) x.field y.fields; reading = rw (x.reading, y.reading) q.2 }
+port-step-stay l word fs i =
+    then-stay (word ∷ []) fs (port plain word) (port l word) _ _ (port-stay l word i) (λ by.
+    last-stay fs (step_after plain fs) (step_after l fs) _ (step-stay l fs))
 
-fields-by : (l : Language) (word : List ℕ) (fs : List (List ℕ)) (o : Option (PortId × Step)) (t : Bool) → is_port word ≡ t → of_fields plain (word ∷ fs) ≡ Ok o
-    → SayAll (word ∷ fs) (of_fields l (word ∷ fs)) o
-fields-by l word fs o true i e =
-    let k : (port_step plain word fs >>= (λ s. Ok (Some s))) ≡ Ok o = rw i at e in
-    let p = ok-then (port_step plain word fs) (λ s. Ok (Some s)) o k in
-    let x = port-step-stays l word fs p.0 i p.1 in
-    record { fields = x.fields; reading = rw (i, x.reading) p.2 }
-fields-by l word fs o false i e = let n : Err _ ≡ Ok o = rw i at e in absurd (cc)
+fields-by : (l : Language) (word : List ℕ) (fs : List (List ℕ)) (why : Reason) (t : Bool) → is_port word ≡ t
+    → Stay (word ∷ fs) (if t then port_step plain word fs >>= (λ s. Ok (Some s)) else Err why) (if t then port_step l word fs >>= (λ s. Ok (Some s)) else Err why)
+fields-by l word fs why true i = last-stay (word ∷ fs) (port_step plain word fs) (port_step l word fs) _ (port-step-stay l word fs i)
+fields-by l word fs why false i = bad-stay (word ∷ fs) _ _
 
-fields-stay : (l : Language) (fs : List (List ℕ)) (o : Option (PortId × Step)) → of_fields plain fs ≡ Ok o → SayAll fs (of_fields l fs) o
-fields-stay l [] o e = record { fields = refl; reading = e }
-fields-stay l (word ∷ fs) o e = fields-by l word fs o (is_port word) refl e
+fields-stay : (l : Language) (fs : List (List ℕ)) → Stay fs (of_fields plain fs) (of_fields l fs)
+fields-stay l [] = record { say = λ o e. record { fields = refl; reading = e } }
+fields-stay l (word ∷ fs) = fields-by l word fs _ (is_port word) refl
 
 line-by : (l : Language) (line : List ℕ) (o : Option (PortId × Step)) (t : Bool) → (slice_index line 0 == 35 || slice_index line 0 == 62) ≡ t
     → line_says plain line ≡ Ok o → line_says l line ≡ Ok o
@@ -439,7 +386,7 @@ unfolding line_says
 line-by l line o true h e = rw h (rw h at e)
 line-by l line o false h e =
     let k : of_fields plain (fields false line) ≡ Ok o = rw h at e in
-    let x = fields-stay l (fields false line) o k in
+    let x = (fields-stay l (fields false line)).say o k in
     rw (h, same-fields l.free line x.fields) x.reading
 
 pub lines-stay : LinesStay

@@ -1,8 +1,6 @@
 -- The text of a log says its steps.
-use Rattle.std.proofs.Common.{◌≡◌, ◌∙◌, ℕ, List, [], ◌∷◌, ◌++◌, refl, sym, ap, subst, append_assoc, ◌+◌, ◌==◌, ◌&&◌, arith, Bool, true, not, flat_map, Some, None, Ok}
+use Rattle.std.proofs.Common.{◌≡◌, ◌∙◌, ℕ, List, [], ◌∷◌, ◌++◌, refl, sym, ap, subst, append_assoc, ◌+◌, ◌==◌, Bool, true, flat_map, Some, None, Ok}
 use Rattle.std.specs.List.{All, slice_split}
-use Rattle.std.proofs.lemmas.Bool.{and_parts}
-use Rattle.std.proofs.lemmas.Grind.{common_steps}
 use Rattle.std.proofs.lemmas.List.Elements.{All-head, All-tail}
 use Rattle.std.proofs.lemmas.List.Splits.{slice_split_at}
 use Rattle.lin_core.specs.Fits.{FitsPort, FitsStep}
@@ -11,12 +9,12 @@ use Rattle.lin_core.specs.declared.log.LogEntry.{LogEntry}
 use Rattle.lin_core.specs.declared.port.PortId.{PortId}
 use Rattle.lin_core.specs.declared.step.Step.{Step}
 use Rattle.lin_log.specs.Words.{line_tail, log_text, port_word, reply_line, spaced_word, step_line, step_words}
-use Rattle.lin_log.proofs.Quiet.{line-end, no-end, not-stripped, quiet-append, quiet-spaced, quiet-visible}
+use Rattle.lin_log.proofs.Quiet.{line-end, no-end, not-stripped, quiet-spaced, quiet-visible}
 use Rattle.lin_log.specs.Language.{Language}
-use Rattle.lin_log.specs.Laws.{FitsEntry, HasNames, IsQuiet, TextsAgain, are_quiet, is_quiet, step_body}
+use Rattle.lin_log.specs.Laws.{FitsEntry, HasNames, IsQuiet, TextsAgain, are_quiet, is_quiet, no_end, step_body}
 use Rattle.lin_log.specs.Said.{line_says, steps_from, text_says}
 use Rattle.lin_log.proofs.Again.{lines-again, port-says, step-says}
-use Rattle.lin_log.proofs.Items.{AreItems, more}
+use Rattle.lin_log.proofs.Items.{AreItems, joined, more}
 
 items-quiet : (ws : List (List ℕ)) → AreItems ws → are_quiet ws ≡ true
 items-quiet [] h = refl
@@ -64,7 +62,7 @@ entry-before l p s rest xs a h k =
     let ws = step_words l s in
     let e : step_line l p s ++ rest ≡ step_body l p s ++ 10 ∷ rest =
     append_assoc w (line_tail ws) rest ∙ ap (λ t. w ++ t) (line-end ws rest) ∙ sym (append_assoc w (flat_map spaced_word ws) (10 ∷ rest)) in
-    let i = quiet-append w (flat_map spaced_word ws) (quiet-visible w (port-says l a p h.0).word.visible) (quiet-spaced ws (items-quiet ws (step-says l a s h.1).words)) in
+    let i = joined no_end w (flat_map spaced_word ws) (quiet-visible w (port-says l a p h.0).word.visible) (quiet-spaced ws (items-quiet ws (step-says l a s h.1).words)) in
     subst (λ t. Says l t ((p, s) ∷ xs)) (sym e) (step-before l (step_body l p s) rest (p, s) xs i (lines-again l p s a h.0 h.1) k)
 
 nothing-left : (l : Language) → Says l [] []

@@ -1,7 +1,7 @@
 -- What is written in a language is read again in it.
 use Rattle.std.specs.Prelude.{◌≡◌, ◌<◌, ℕ, ◌==◌, ◌||◌, ◌&&◌, ◌++◌, Bool, true, false, not, nat_lt}
 use Rattle.std.specs.Prelude.{List, [], ◌∷◌, Ok, Option, Some, flat_map}
-use Rattle.std.specs.List.{All}
+use Rattle.std.specs.List.{All, list_all}
 use Rattle.lin_core.specs.Fits.{FitsPort, FitsStep}
 use Rattle.lin_core.specs.Runs.{steps_of}
 use Rattle.lin_core.specs.declared.log.LogEntry.{LogEntry}
@@ -15,8 +15,7 @@ abbrev pub is_visible : ℕ → Bool
 is_visible b = nat_lt 32 b && nat_lt b 127
 
 abbrev pub all_visible : List ℕ → Bool
-all_visible [] = true
-all_visible (b ∷ bs) = is_visible b && all_visible bs
+all_visible = list_all is_visible
 
 -- visible ASCII characters that begin neither a number nor a comment
 abbrev pub is_name : List ℕ → Bool
@@ -47,12 +46,10 @@ abbrev pub no_end : ℕ → Bool
 no_end b = not (b == 10) && not (b == 13)
 
 abbrev pub is_quiet : List ℕ → Bool
-is_quiet [] = true
-is_quiet (b ∷ bs) = no_end b && is_quiet bs
+is_quiet = list_all no_end
 
 abbrev pub are_quiet : List (List ℕ) → Bool
-are_quiet [] = true
-are_quiet (w ∷ ws) = is_quiet w && are_quiet ws
+are_quiet = list_all is_quiet
 
 abbrev pub IsQuiet : List (List (List ℕ)) → Type 0
 IsQuiet replies = All (λ ws. are_quiet ws ≡ true) replies

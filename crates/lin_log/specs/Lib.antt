@@ -6,3 +6,4 @@ pub mod Read
 pub mod Judged
 pub mod Replay
 pub mod Laws
+pub mod Shown

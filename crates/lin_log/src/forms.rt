@@ -10,7 +10,7 @@ ghost use Rattle.lin_log.specs.Said.{node_write, only, port, port_number, port_s
 ghost use Rattle.lin_log.specs.Said.{send_form, step_after, step_form, switch_form};
 ghost use Rattle.lin_log.specs.Said.{timeout_form, write_form, write_of};
 
-use crate::fields::{first_field, is_over, number_field};
+use crate::fields::{first_field, is_over, is_word, number_field};
 use crate::naming::Naming;
 use crate::reason::{LineFault, Reason};
 use crate::values::{
@@ -45,7 +45,7 @@ fn port_number<N: Naming>(alloc: Global, names: &N, field: &[u8]) -> Result<u8, 
 fn port<N: Naming>(alloc: Global, names: &N, field: &[u8]) -> Result<PortId, LineFault>
     ensures { Gives (λ p. p) result (port (N.language names.now) field.now) }
 {
-    if field == b"bus".as_slice() {
+    if is_word(field, b"bus") {
         return Ok(PortId::Bus);
     }
     match field {
@@ -257,33 +257,33 @@ pub fn step<N: Naming>(
     ensures { Gives (λ s. s) result (step_form (N.language names.now) word.now
         (fields (N.language names.now).free rest.now)) }
 {
-    if word == b"send".as_slice() {
+    if is_word(word, b"send") {
         send(alloc, names, rest)
-    } else if word == b"write".as_slice() {
+    } else if is_word(word, b"write") {
         write(alloc, names, rest)
-    } else if word == b"open".as_slice() {
+    } else if is_word(word, b"open") {
         alone(alloc, names, Step::Open, word, rest)
-    } else if word == b"answer".as_slice() {
+    } else if is_word(word, b"answer") {
         Ok(Step::Answer {
             node: only_node(alloc, names, word, rest)?,
         })
-    } else if word == b"leave".as_slice() {
+    } else if is_word(word, b"leave") {
         Ok(Step::Leave {
             node: only_node(alloc, names, word, rest)?,
         })
-    } else if word == b"hurt".as_slice() {
+    } else if is_word(word, b"hurt") {
         hurt(alloc, names, rest)
-    } else if word == b"finish".as_slice() {
+    } else if is_word(word, b"finish") {
         alone(alloc, names, Step::Finish, word, rest)
-    } else if word == b"timeout".as_slice() {
+    } else if is_word(word, b"timeout") {
         timeout(alloc, names, word, rest)
-    } else if word == b"switch".as_slice() {
+    } else if is_word(word, b"switch") {
         switch(alloc, names, word, rest)
-    } else if word == b"sleep".as_slice() {
+    } else if is_word(word, b"sleep") {
         alone(alloc, names, Step::AskSleep, word, rest)
-    } else if word == b"wake".as_slice() {
+    } else if is_word(word, b"wake") {
         alone(alloc, names, Step::Wake, word, rest)
-    } else if word == b"close".as_slice() {
+    } else if is_word(word, b"close") {
         Ok(Step::Close {
             host: only_node(alloc, names, word, rest)?,
         })

@@ -95,30 +95,15 @@ impl Naming for Cluster {
     ghost language = { λ c. named c };
 
     fn node_called(&self, name: &[u8]) -> Option<u8> {
-        for node in 0..self.nodes() as u8 {
-            if self.node_name(node) == name {
-                return Some(node);
-            }
-        }
-        None
+        (0..self.nodes() as u8).find(|node| self.node_name(*node) == name)
     }
 
     fn signal_called(&self, name: &[u8]) -> Option<u16> {
-        for signal in 0..self.signals() as u16 {
-            if self.signal_name(signal) == name {
-                return Some(signal);
-            }
-        }
-        None
+        (0..self.signals() as u16).find(|signal| self.signal_name(*signal) == name)
     }
 
     fn table_called(&self, name: &[u8]) -> Option<u16> {
-        for table in 0..self.tables() as u16 {
-            if self.table_name(table) == name {
-                return Some(table);
-            }
-        }
-        None
+        (0..self.tables() as u16).find(|table| self.table_name(*table) == name)
     }
 
     fn name_of_node(&self, node: u8) -> Option<&[u8]> {

@@ -1,8 +1,8 @@
 use Rattle.std.proofs.Common.{arith}
-use Rattle.std.proofs.lemmas.List.{map_more}
+use Rattle.std.proofs.lemmas.Result.{err_from_is_err_and}
+use Rattle.std.proofs.lemmas.List.{length-map, map_more}
 use Rattle.lin_bench.specs.Slots.{decision}
-use Rattle.lin_bench.proofs.Few.{made-length}
-use Rattle.lin_bench.proofs.Makes.{made-nothing, made-more}
+use Rattle.lin_bench.proofs.Makes.{fails-among, grown-made, grown-more, made-length, made-nothing, made-more}
 use Rattle.lin_bench.proofs.slots.decide.Goals as goal
 
 pub loop-node-init : goal.loop-node-init
@@ -19,3 +19,13 @@ loop-node-preserved c =
           c.loop-node.invariant.made (rw c.decision.ensures at one));
       count = omega (arith, made-length _ _ _ one, c.loop-node.invariant.count);
     }
+
+pub returns-in_err-make : goal.returns-in_err-make
+returns-in_err-make c =
+    let p = err_from_is_err_and c.from_residual.result c.from_residual.ensures.1 in
+    let e = c.in_err-make.ensures in
+    let at = c.loop-node in
+    rw (p.1, p.2) (
+      fails-among _ c.args.core.now at.core _ _ (omega (arith, at.invariant.count, length-map c.args.due.now (decision c.args.how.now))) e.0,
+      grown-more _ _ _ (grown-made c.args.core.now at.core _ at.invariant.made) e.1,
+    )

@@ -1,29 +1,23 @@
-use Rattle.std.proofs.Common.{arith}
-use Rattle.std.proofs.lemmas.List.{length-map}
-use Rattle.lin_bench.specs.Slots.{decision}
-use Rattle.lin_bench.proofs.Few.{hurt-few, made-length}
-use Rattle.lin_bench.proofs.Makes.{made-more}
+use Rattle.std.proofs.lemmas.Result.{err_from_is_err_and}
+use Rattle.lin_bench.proofs.Makes.{fails-after, fails-before, grown-made, grown-more, makes-more}
 use Rattle.lin_bench.proofs.slots.rest_of_slot.Goals as goal
 
-pub hurt-requires : goal.hurt-requires
-hurt-requires c =
-    let decided = made-length c.args.core.now c.decide.new.core _ c.in_ok-decide.ensures in
-    omega (arith, decided, length-map c.args.due.now (decision c.args.how.now), c.requires)
+pub returns-in_err-decide : goal.returns-in_err-decide
+returns-in_err-decide c =
+    let p = err_from_is_err_and c.from_residual.result c.from_residual.ensures.1 in
+    let e = c.in_err-decide.ensures in
+    rw (p.1, p.2) (fails-before _ c.args.core.now _ _ e.0, e.1)
 
-pub make-requires : goal.make-requires
-make-requires c =
-    let decided = made-length c.args.core.now c.decide.new.core _ c.in_ok-decide.ensures in
-    let damaged = made-length c.decide.new.core c.hurt.new.core _ c.in_ok-hurt.ensures in
-    omega (
-      arith,
-      decided,
-      length-map c.args.due.now (decision c.args.how.now),
-      damaged,
-      hurt-few c.args.how.now,
-      c.requires,
+pub returns-in_err-hurt : goal.returns-in_err-hurt
+returns-in_err-hurt c =
+    let p = err_from_is_err_and c.from_residual-in_err-hurt.result c.from_residual-in_err-hurt.ensures.1 in
+    let e = c.in_err-hurt.ensures in
+    rw (p.1, p.2) (
+      fails-after _ c.args.core.now c.decide.new.core _ _ c.in_ok-decide.ensures (fails-before _ c.decide.new.core _ _ e.0),
+      grown-more _ _ _ (grown-made c.args.core.now c.decide.new.core _ c.in_ok-decide.ensures) e.1,
     )
 
 pub returns : goal.returns
 returns c =
-    made-more c.args.core.now c.decide.new.core c.make.new.core _ _ c.in_ok-decide.ensures
-    (made-more c.decide.new.core c.hurt.new.core c.make.new.core _ _ c.in_ok-hurt.ensures c.in_ok-make.ensures)
+    makes-more c.args.core.now c.decide.new.core c.make.new.core _ _ _ c.in_ok-decide.ensures
+    (makes-more c.decide.new.core c.hurt.new.core c.make.new.core _ _ _ c.in_ok-hurt.ensures c.make.ensures)

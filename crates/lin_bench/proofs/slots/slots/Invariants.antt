@@ -1,7 +1,6 @@
-use Rattle.std.proofs.Common.{◌≡◌, ◌<◌, ◌+◌, ◌-◌, ◌*◌, ◌^◌, length}
+use Rattle.std.proofs.Common.{◌≡◌, ◌-◌}
 use Rattle.lin_core.specs.Core.{past_of}
 use Rattle.lin_core.specs.History.{time}
-use Rattle.lin_bench.specs.Making.{most_steps}
 use Rattle.lin_bench.specs.Slots.{most}
 use Rattle.lin_bench.proofs.SlotSteps.{AreBegun}
 use Rattle.lin_bench.proofs.slots.slots.Given as goal
@@ -9,6 +8,5 @@ use Rattle.lin_bench.proofs.slots.slots.Given as goal
 abbrev pub invariant-loop : goal.invariant-loop
 invariant-loop l = record {
   begun : AreBegun l.fn.core l.how l.extent l.fn.left l.core (most l.extent - l.counter) l.left;
-  room : length l.core.log + most_steps * (l.left + 1) < 2 ^ 32;
   began : l.began ≡ time l.fn.core.cluster (past_of l.fn.core);
 }

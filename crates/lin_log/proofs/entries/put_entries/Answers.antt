@@ -1,4 +1,4 @@
-use Rattle.std.proofs.Common.{◌≡◌, ◌∙◌, ap, arith, flat_map, length, take}
+use Rattle.std.proofs.Common.{◌≡◌, ◌∙◌, ap, arith, flat_map, take}
 use Rattle.std.proofs.lemmas.Grind.{common_steps}
 use Rattle.lin_text.proofs.Growing.{grows-next, grows-nothing, same-growth}
 use Rattle.lin_log.proofs.Logs.{entry_text, text-entries}

@@ -1,17 +1,14 @@
-use Rattle.std.proofs.Common.{◌≡◌, ◌∙◌, sym, ap, arith, ℕ, Bool, List, length}
+use Rattle.std.proofs.Common.{rules, tests, ℕ, Bool, length, arith}
 use Rattle.std.specs.Str.{bytes_eq}
+use Rattle.std.proofs.lemmas.Iterator.{YieldsList-from_range}
+use Rattle.std.proofs.lemmas.Iterator.Search.{find_from_yields_List}
 use Rattle.lin_cluster_parts.specs.Cluster.{named_table}
-use Rattle.lin_log.proofs.Found.{first-passing, none-passing}
+use Rattle.lin_log.proofs.Found.{found-number}
 use Rattle.lin_log.proofs.naming.ClusterNaming.table_called.Goals as goal
 
-pub returns-then-eq : goal.returns-then-eq
-returns-then-eq c =
+pub returns : goal.returns
+returns c =
+    let n = length c.args.self.now.tables in
     let has : ℕ → Bool = λ k. bytes_eq (named_table c.args.self.now k).name c.args.name.now in
-    let tested : has c.loop-table.table ≡ c.eq.result = ap (λ (w : List ℕ). bytes_eq w c.args.name.now) (sym c.table_name.ensures) ∙ sym c.eq.ensures in
-    sym (first-passing has (length c.args.self.now.tables) c.loop-table.table (omega arith) (tested ∙ c.if-eq.true) c.loop-table.invariant)
-
-pub loop-table-preserved : goal.loop-table-preserved
-loop-table-preserved c =
-    let has : ℕ → Bool = λ k. bytes_eq (named_table c.args.self.now k).name c.args.name.now in
-    let tested : has c.loop-table.table ≡ c.eq.result = ap (λ (w : List ℕ). bytes_eq w c.args.name.now) (sym c.table_name.ensures) ∙ sym c.eq.ensures in
-    none-passing has c.loop-table.table (tested ∙ c.if-eq.false) c.loop-table.invariant
+    found-number has n c.find.result
+    (find_from_yields_List has _ _ _ c.find.ensures.ran (YieldsList-from_range 0 n n (cc) (omega arith)) (λ x b q k. search (rules, tests)))

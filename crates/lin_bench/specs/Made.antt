@@ -1,0 +1,81 @@
+-- What a line of a bench script comes to on a bench: the steps that it says, and its verdict.
+use Rattle.std.specs.Prelude.{ℕ, ◌-◌, nat_lt, if◌then◌else◌, List, [], ◌∷◌, Option, Some, None}
+use Rattle.lin_cluster_parts.specs.declared.parts.Parts.{Parts}
+use Rattle.lin_core.specs.declared.log.LogEntry.{LogEntry}
+use Rattle.lin_core.specs.declared.port.PortId.{PortId}
+use Rattle.lin_core.specs.declared.step.Step.{Step}
+use Rattle.lin_bench.specs.Slots.{after, extent_steps, most, slots_in}
+use Rattle.lin_bench.specs.Verdicts.{kind_taken, taking, verdict}
+use Rattle.lin_bench.specs.declared.expected.Expected.{Expected}
+use Rattle.lin_bench.specs.declared.expected.Expected.TheVariants.{Idle as IsIdle}
+use Rattle.lin_bench.specs.declared.got.Got.{Got}
+use Rattle.lin_bench.specs.declared.got.Verdict.{Verdict}
+use Rattle.lin_bench.specs.declared.got.Verdict.TheVariants.{Nothing, Met, Unmet, SlotLimit}
+use Rattle.lin_bench.specs.declared.line.Disturbance.TheVariants.{Undisturbed}
+use Rattle.lin_bench.specs.declared.line.Extent.{Extent}
+use Rattle.lin_bench.specs.declared.line.Extent.TheVariants.{Count, Idle}
+use Rattle.lin_bench.specs.declared.line.Line.{Line}
+use Rattle.lin_bench.specs.declared.line.Line.TheVariants as line
+use Rattle.lin_bench.specs.declared.taken.EventKind.{EventKind}
+
+-- the steps that a line says, given the history before it; where they are slots, at most as many as
+-- a limit of their extent allows
+unfoldable pub said : Parts → ℕ → ℕ → (Extent → ℕ) → List LogEntry → Line → List (PortId × Step)
+said c opening capacity limit past (line.Step by step) = (by, step) ∷ []
+said c opening capacity limit past (line.Slot how) =
+    extent_steps c opening capacity how (Count 1) (limit (Count 1)) past
+said c opening capacity limit past (line.Slots extent) =
+    extent_steps c opening capacity Undisturbed extent (limit extent) past
+said c opening capacity limit past (line.Expect what) = []
+
+-- how many slots a line of slots made by these steps; no other line makes any
+abbrev pub slots_made : Line → List (PortId × Step) → ℕ
+slots_made (line.Step by step) steps = 0
+slots_made (line.Slot how) steps = slots_in steps
+slots_made (line.Slots extent) steps = slots_in steps
+slots_made (line.Expect what) steps = 0
+
+-- what a line expects, of the history after its steps
+abbrev pub expects : Line → Option Expected
+expects (line.Slots (Idle n)) = Some IsIdle
+expects (line.Expect what) = Some what
+expects line = None
+
+-- a bench: the entries of its log, the newest first, of which kinds expectations took events, in
+-- order, and how many slots lines of slots may still make
+pub record BenchState : Type 0 where
+  pub past : List LogEntry
+  pub taken : List EventKind
+  pub left : ℕ
+
+abbrev pub met_or : Expected → Option Got → Verdict
+met_or what None = Met what
+met_or what (Some got) = Unmet what got
+
+-- a bench on which a line's steps were made, and its verdict on what the line expects
+abbrev pub judged : Parts → BenchState → Option Expected → BenchState × Verdict
+judged c b None = (b, Nothing)
+judged c b (Some what) = (
+  record b { taken = taking b.past b.taken (kind_taken what) },
+  met_or what (verdict c b.past b.taken what),
+)
+
+-- a bench after these steps, by which so many slots were made
+abbrev pub stepped : Parts → ℕ → ℕ → BenchState → ℕ → List (PortId × Step) → BenchState
+stepped c opening capacity b count steps =
+    record b { past = after c opening capacity b.past steps; left = b.left - count }
+
+-- What steps that make so many slots come to, and what is expected after them; where these are more
+-- slots than are left, the steps of those that are left are made, and nothing is judged.
+abbrev pub made_within : Parts → ℕ → ℕ → BenchState → ℕ → List (PortId × Step)
+    → List (PortId × Step) → Option Expected → BenchState × Verdict
+made_within c opening capacity b count steps first what =
+    if nat_lt b.left count then (stepped c opening capacity b b.left first, SlotLimit)
+    else judged c (stepped c opening capacity b count steps) what
+
+-- a bench after a line, and the line's verdict
+unfoldable pub made : Parts → ℕ → ℕ → BenchState → Line → BenchState × Verdict
+made c opening capacity b line =
+    let steps = said c opening capacity most b.past line
+    in made_within c opening capacity b (slots_made line steps) steps
+    (said c opening capacity (λ extent. b.left) b.past line) (expects line)

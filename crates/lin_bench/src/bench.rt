@@ -1,0 +1,166 @@
+//! Benches in hand.
+
+ghost use Rattle.std.specs.Prelude.{◌≡◌, IfOk, OnOk};
+ghost use Rattle.lin_core.specs.Core.{past_of};
+ghost use Rattle.lin_bench.specs.Made.{expects, met_or};
+ghost use Rattle.lin_bench.specs.Searches.{IsKnown, taken_by};
+ghost use Rattle.lin_bench.specs.Verdicts.{kind_taken, taking, verdict};
+ghost use Rattle.lin_bench.specs.declared.line.Line.{Line};
+
+use crate::expected::Expected;
+use crate::fault::MakeFault;
+use crate::got::Verdict;
+use crate::line::{Disturbance, Extent, Line};
+use crate::slots::{SLOT_LIMIT, make, slots};
+use crate::taken::Search;
+use crate::verdicts::verdict;
+use lin_core::Core;
+use std::alloc::{AllocError, Global};
+use std::marker::Model;
+
+/// A core in hand, on which lines of bench scripts are made, each after those before it. Contracts
+/// see the core, of which kinds expectations took events, in order, and how many slots lines of
+/// slots may still make.
+#[derive(Drop)]
+pub struct Bench {
+    core: Core,
+    /// The searches for events that expectations take.
+    searches: Vec<Search>,
+    left: u32,
+}
+
+impl Model for Bench {
+    ghost use Rattle.lin_bench.specs.Bench.{AreKnown, BenchData, bench_data};
+
+    ghost Value = { BenchData };
+
+    ghost view = { bench_data };
+
+    ghost invariant = { AreKnown };
+}
+
+/// Judges what is expected.
+fn judge(
+    alloc: Global,
+    core: &Core,
+    searches: &mut Vec<Search>,
+    expected: Expected,
+) -> Result<Verdict, AllocError>
+    requires { IsKnown core.now.log searches.old.items }
+    ensures verdict { IfOk result (λ v. v ≡ met_or expected
+        (verdict core.now.cluster (past_of core.now) (taken_by searches.old.items) expected)) }
+    ensures taken { OnOk result (taken_by searches.new.items
+        ≡ taking (past_of core.now) (taken_by searches.old.items) (kind_taken expected)) }
+    ensures known { IsKnown core.now.log searches.new.items }
+{
+    match verdict(alloc, core, searches, &expected)? {
+        None => Ok(Verdict::Met(expected)),
+        Some(got) => Ok(Verdict::Unmet(expected, got)),
+    }
+}
+
+/// What a line of slots expects after them.
+fn expected_after(extent: Extent) -> Option<Expected>
+    ensures { result ≡ expects (Line.Slots extent) }
+{
+    match extent {
+        Extent::Count(_) | Extent::Milliseconds(_) => None,
+        Extent::Idle(_) => Some(Expected::Idle),
+    }
+}
+
+impl Bench {
+    ghost use Rattle.lin_bench.specs.Bench.{Judges, Makes, MakesLine, made_slots, fresh, renewed};
+
+    /// A bench over a core, on which no line was made. Its lines of slots may make 1,000,000 slots.
+    pub fn new(alloc: Global, core: Core) -> Bench
+        ensures { result ≡ fresh core }
+    {
+        Bench {
+            core,
+            searches: Vec::new(alloc),
+            left: SLOT_LIMIT,
+        }
+    }
+
+    /// The core, with the log of all steps that were made.
+    pub fn core(&self) -> &Core
+        ensures { result.now ≡ self.now.core }
+    {
+        &self.core
+    }
+
+    /// The core, with the log of all steps that were made.
+    pub fn into_core(self) -> Core
+        ensures { result ≡ self.core }
+    {
+        let Bench { core, .. } = self;
+        core
+    }
+
+    /// Lets the lines from now on make 1,000,000 slots, whatever those before made.
+    pub fn renew_slots(&mut self)
+        ensures { self.new ≡ renewed self.old }
+    {
+        self.left = SLOT_LIMIT;
+    }
+
+    /// Judges what is expected, if something is.
+    fn judge(&mut self, alloc: Global, expected: Option<Expected>) -> Result<Verdict, MakeFault>
+        ensures { Judges self.old expected result self.new }
+    {
+        match expected {
+            None => Ok(Verdict::Nothing),
+            Some(expected) => Ok(judge(alloc, &self.core, &mut self.searches, expected)?),
+        }
+    }
+
+    /// Makes slots, and judges what is expected after them.
+    fn slots(
+        &mut self,
+        alloc: Global,
+        how: &Disturbance,
+        extent: Extent,
+        expected: Option<Expected>,
+    ) -> Result<Verdict, MakeFault>
+        ensures { Makes (made_slots self.old how.now extent expected) self.old result self.new }
+    {
+        match slots(alloc, &mut self.core, how, extent, self.left)? {
+            Some(left) => {
+                self.left = left;
+                self.judge(alloc, expected)
+            }
+            None => {
+                self.left = 0;
+                Ok(Verdict::SlotLimit)
+            }
+        }
+    }
+
+    /// Makes a line: the steps that it says, each answered on the history before it, and its
+    /// verdict. What it expects is judged after its steps. The entries of these steps are those by
+    /// which the core's log grows.
+    ///
+    /// # Errors
+    /// The log stands as it was, with entries of some of the line's steps behind; the bench isn't
+    /// for more lines.
+    /// - `LogFull`: the line's steps are more than fit;
+    /// - `OutOfMemory`.
+    #[tactic(auto, unfolding(crate::specs::Made::made, crate::specs::Made::said))]
+    pub fn make(&mut self, alloc: Global, line: Line) -> Result<Verdict, MakeFault>
+        ensures { MakesLine self.old line result self.new }
+    {
+        match line {
+            Line::Step(by, step) => {
+                make(&mut self.core, by, step)?;
+                Ok(Verdict::Nothing)
+            }
+            Line::Slot(how) => self.slots(alloc, &how, Extent::Count(1), None),
+            Line::Slots(extent) => {
+                let expected = expected_after(extent);
+                self.slots(alloc, &Disturbance::Undisturbed, extent, expected)
+            }
+            Line::Expect(expected) => self.judge(alloc, Some(expected)),
+        }
+    }
+}
