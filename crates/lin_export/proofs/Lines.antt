@@ -4,7 +4,6 @@ use Rattle.std.specs.Prelude.{Option, Some, None, option_map, zip}
 use Rattle.std.specs.Option.{option_map_or, option_to_list}
 use Rattle.lin_cluster_parts.specs.Cluster.{line_of}
 use Rattle.lin_cluster_parts.specs.declared.parts.Parts.{Parts}
-use Rattle.lin_names.specs.Names.{NamesData}
 use Rattle.lin_core.specs.History.{Slot}
 use Rattle.lin_core.specs.declared.event.Event.{Event}
 use Rattle.lin_core.specs.declared.event.Event.TheVariants as event
@@ -16,67 +15,68 @@ use Rattle.lin_export.specs.Track.{shown_slot}
 use Rattle.lin_core.specs.declared.log.LogEntry.{LogEntry}
 use Rattle.lin_log.specs.Language.{named}
 use Rattle.lin_log.specs.Words.{line_tail, log_text, reply_line, spaced_word, step_line}
+use Rattle.lin_log.proofs.Ends.{ended}
 use Rattle.lin_export.proofs.Rows.{flat-append, frame-shown}
 
 flat-same : {X : Type 0} (f h : X → List ℕ) (xs : List X) → ((x : X) → f x ≡ h x) → flat_map f xs ≡ flat_map h xs
 flat-same f h [] e = refl
 flat-same f h (x ∷ xs) e = ap (λ l. l ++ flat_map f xs) (e x) ∙ ap (λ l. h x ++ l) (flat-same f h xs e)
 
-good-shown : (c : Parts) (names : NamesData) (answer : List ℕ) (s : Slot) → good_words c names answer (shown_slot s) ≡ good_words c names answer s
-good-shown c names answer s =
-    ap (λ (o : Option ℕ). option_map_or (λ f. Some (frame_words c names f answer)) o (transport c s.header answer)) (frame-shown c (line_of c s.table s.entry).entry s)
+good-shown : (c : Parts) (answer : List ℕ) (s : Slot) → good_words c answer (shown_slot s) ≡ good_words c answer s
+good-shown c answer s =
+    ap (λ (o : Option ℕ). option_map_or (λ f. Some (frame_words c f answer)) o (transport c s.header answer)) (frame-shown c (line_of c s.table s.entry).entry s)
 
-behind-good : (c : Parts) (names : NamesData) (o : Option Slot) (answer : List ℕ)
-    → option_map_or (good_words c names answer) (option_map shown_slot o) None ≡ option_map_or (good_words c names answer) o None
-behind-good c names None answer = refl
-behind-good c names (Some s) answer = good-shown c names answer s
+behind-good : (c : Parts) (o : Option Slot) (answer : List ℕ)
+    → option_map_or (good_words c answer) (option_map shown_slot o) None ≡ option_map_or (good_words c answer) o None
+behind-good c None answer = refl
+behind-good c (Some s) answer = good-shown c answer s
 
-behind-shown : (c : Parts) (names : NamesData) (o : Option Slot) (e : Event) → behind c names (option_map shown_slot o) e ≡ behind c names o e
-behind-shown c names o (event.Accepted host number) = refl
-behind-shown c names o (event.Slot table entry header) = refl
-behind-shown c names o (event.Due node) = refl
-behind-shown c names o (event.Put node answer) = refl
-behind-shown c names o (event.Seen (seen.Good answer)) = behind-good c names o answer
-behind-shown c names o (event.Seen seen.Silent) = refl
-behind-shown c names o (event.Seen seen.NoAnswer) = refl
-behind-shown c names o (event.Seen seen.Damaged) = refl
-behind-shown c names o (event.Seen seen.Collided) = refl
-behind-shown c names o (event.Message from to bytes) = refl
-behind-shown c names o (event.Sent host number) = refl
-behind-shown c names o (event.Lost host number why) = refl
-behind-shown c names o event.Asleep = refl
+behind-shown : (c : Parts) (o : Option Slot) (e : Event) → behind c (option_map shown_slot o) e ≡ behind c o e
+behind-shown c o (event.Accepted host number) = refl
+behind-shown c o (event.Slot table entry header) = refl
+behind-shown c o (event.Due node) = refl
+behind-shown c o (event.Put node answer) = refl
+behind-shown c o (event.Seen (seen.Good answer)) = behind-good c o answer
+behind-shown c o (event.Seen seen.Silent) = refl
+behind-shown c o (event.Seen seen.NoAnswer) = refl
+behind-shown c o (event.Seen seen.Damaged) = refl
+behind-shown c o (event.Seen seen.Collided) = refl
+behind-shown c o (event.Message from to bytes) = refl
+behind-shown c o (event.Sent host number) = refl
+behind-shown c o (event.Lost host number why) = refl
+behind-shown c o event.Asleep = refl
 
-pub lines-shown : (c : Parts) (names : NamesData) (o : Option Slot) (es : List Event)
-    → flat_map (event_text c names (option_map shown_slot o)) es ≡ flat_map (event_text c names o) es
-lines-shown c names o es =
-    flat-same (event_text c names (option_map shown_slot o)) (event_text c names o) es
-    (λ e. ap (λ (b : Option (List (List ℕ))). reply_line (named_event c names e) ++ line_or_none b) (behind-shown c names o e))
+pub lines-shown : (c : Parts) (o : Option Slot) (es : List Event)
+    → flat_map (event_text c (option_map shown_slot o)) es ≡ flat_map (event_text c o) es
+lines-shown c o es =
+    flat-same (event_text c (option_map shown_slot o)) (event_text c o) es
+    (λ e. ap (λ (b : Option (List (List ℕ))). reply_line (named_event c e) ++ line_or_none b) (behind-shown c o e))
 
 -- lines, one after another
 pub one-line : (o : Option (List (List ℕ))) → line_or_none o ≡ flat_map reply_line (option_to_list o)
 one-line None = refl
 one-line (Some ws) = sym (append-nil (reply_line ws))
 
-pub lines-joined : (c : Parts) (names : NamesData) (o : Option Slot) (es : List Event) (t : Option (List (List ℕ)))
-    → flat_map (event_text c names o) es ++ line_or_none t ≡ flat_map reply_line (flat_map (event_lines c names o) es ++ option_to_list t)
-lines-joined c names o [] t = one-line t
-lines-joined c names o (e ∷ es) t =
-    let first = reply_line (named_event c names e) in
-    let b = behind c names o e in
-    append_assoc (first ++ line_or_none b) (flat_map (event_text c names o) es) (line_or_none t)
-    ∙ append_assoc first (line_or_none b) (flat_map (event_text c names o) es ++ line_or_none t)
-    ∙ ap (λ l. first ++ (line_or_none b ++ l)) (lines-joined c names o es t)
-    ∙ ap (λ l. first ++ (l ++ flat_map reply_line (flat_map (event_lines c names o) es ++ option_to_list t))) (one-line b)
-    ∙ ap (λ l. first ++ l) (sym (flat-append reply_line (option_to_list b) (flat_map (event_lines c names o) es ++ option_to_list t)))
-    ∙ ap (λ (l : List (List (List ℕ))). first ++ flat_map reply_line l) (sym (append_assoc (option_to_list b) (flat_map (event_lines c names o) es) (option_to_list t)))
+pub lines-joined : (c : Parts) (o : Option Slot) (es : List Event) (t : Option (List (List ℕ)))
+    → flat_map (event_text c o) es ++ line_or_none t ≡ flat_map reply_line (flat_map (event_lines c o) es ++ option_to_list t)
+lines-joined c o [] t = one-line t
+lines-joined c o (e ∷ es) t =
+    let first = reply_line (named_event c e) in
+    let b = behind c o e in
+    append_assoc (first ++ line_or_none b) (flat_map (event_text c o) es) (line_or_none t)
+    ∙ append_assoc first (line_or_none b) (flat_map (event_text c o) es ++ line_or_none t)
+    ∙ ap (λ l. first ++ (line_or_none b ++ l)) (lines-joined c o es t)
+    ∙ ap (λ l. first ++ (l ++ flat_map reply_line (flat_map (event_lines c o) es ++ option_to_list t))) (one-line b)
+    ∙ ap (λ l. first ++ l) (sym (flat-append reply_line (option_to_list b) (flat_map (event_lines c o) es ++ option_to_list t)))
+    ∙ ap (λ (l : List (List (List ℕ))). first ++ flat_map reply_line l) (sym (append_assoc (option_to_list b) (flat_map (event_lines c o) es) (option_to_list t)))
 
 -- a log, entry by entry
-pub log-entries : (c : Parts) (names : NamesData) (past log : List LogEntry)
-    → each_entry (named_entry c names) past log ≡ log_text (named c) (reply_lines c names) past log
-log-entries c names past [] = refl
-log-entries c names past (e ∷ es) =
-    append_assoc (step_line (named c) e.port e.step) (flat_map reply_line (reply_lines c names e past)) (each_entry (named_entry c names) (e ∷ past) es)
-    ∙ ap (λ t. step_line (named c) e.port e.step ++ (flat_map reply_line (reply_lines c names e past) ++ t)) (log-entries c names (e ∷ past) es)
+pub log-entries : (c : Parts) (past log : List LogEntry)
+    → each_entry (named_entry c) past log ≡ log_text (named c) (reply_lines c) past log
+log-entries c past [] = refl
+log-entries c past (e ∷ es) =
+    append_assoc (step_line (named c) e.port e.step) (flat_map reply_line (reply_lines c e past)) (each_entry (named_entry c) (e ∷ past) es)
+    ∙ ap (λ t. step_line (named c) e.port e.step ++ (flat_map reply_line (reply_lines c e past) ++ t)) (log-entries c (e ∷ past) es)
 
 pub zip-at : {X Y : Type 0} (xs : List X) (ys : List Y) (i : ℕ) (x : X) (y : Y) → i < length xs → i < length ys → get_or (zip xs ys) i (x, y) ≡ (get_or xs i x, get_or ys i y)
 zip-at [] ys i x y h k = absurd (omega arith)
@@ -90,10 +90,6 @@ length-zip (a ∷ xs) [] e = absurd (omega arith)
 length-zip (a ∷ xs) (b ∷ ys) e = let more = length-zip xs ys (omega arith) in omega arith
 
 -- words that end a line
-pub ended-flat : (ws : List (List ℕ)) → flat_map spaced_word ws ++ 10 ∷ [] ≡ line_tail ws
-ended-flat [] = refl
-ended-flat (w ∷ ws) = append_assoc (spaced_word w) (flat_map spaced_word ws) (10 ∷ []) ∙ ap (λ l. spaced_word w ++ l) (ended-flat ws)
-
 pub ended-both : (xs ys : List (List ℕ)) → flat_map spaced_word xs ++ (flat_map spaced_word ys ++ 10 ∷ []) ≡ line_tail (xs ++ ys)
 ended-both xs ys =
-    sym (append_assoc (flat_map spaced_word xs) (flat_map spaced_word ys) (10 ∷ [])) ∙ ap (λ l. l ++ 10 ∷ []) (sym (flat-append spaced_word xs ys)) ∙ ended-flat (xs ++ ys)
+    sym (append_assoc (flat_map spaced_word xs) (flat_map spaced_word ys) (10 ∷ [])) ∙ ap (λ l. l ++ 10 ∷ []) (sym (flat-append spaced_word xs ys)) ∙ ended (xs ++ ys)

@@ -1,5 +1,5 @@
 -- What a slot says, and what the nodes hear of it.
-use Rattle.std.proofs.Common.{◌≡◌, ℕ, List, [], ◌∷◌, ◌++◌, refl, sym, ap, ◌∙◌, append_assoc, length, take, drop, flat_map, map, ◌-◌, zero, suc, ◌+◌, ◌<◌, ◌≤◌, get_or, arith}
+use Rattle.std.proofs.Common.{◌≡◌, ℕ, List, [], ◌∷◌, ◌++◌, refl, sym, ap, ◌∙◌, append_assoc, length, take, drop, flat_map, map, ◌-◌, zero, suc, ◌+◌, ◌<◌, ◌≤◌, get_or, if◌then◌else◌, arith}
 use Rattle.std.proofs.Math.Seq.{take-suc}
 use Rattle.std.proofs.lemmas.List.{append-nil, map-append, take_all, take_more}
 use Rattle.std.proofs.lemmas.Option.{slice_get-get_or}
@@ -14,8 +14,7 @@ use Rattle.lin_cluster_parts.specs.declared.parts.Parts.{Parts}
 use Rattle.lin_cluster_parts.specs.declared.parts.Signal.{Signal}
 use Rattle.lin_cluster_parts.specs.declared.parts.Entry.{Entry}
 use Rattle.lin_cluster_parts.specs.declared.parts.Entry.TheVariants as entries
-use Rattle.lin_names.specs.Names.{NamesData}
-use Rattle.lin_core.specs.History.{Slot, done_step, good, is_sleep_slot, open_slot, time}
+use Rattle.lin_core.specs.History.{Slot, done_step, finished_slot, good, is_finish, is_sleep_slot, open_slot, time}
 use Rattle.lin_core.specs.Signals.{ArePointwise, carried_frame, carried_by, heard_value, place_in, value_in}
 use Rattle.lin_core.specs.declared.event.Event.{Event}
 use Rattle.lin_core.specs.declared.log.LogEntry.{LogEntry}
@@ -24,6 +23,7 @@ use Rattle.lin_core.specs.declared.reply.Reply.TheVariants.{Done}
 use Rattle.lin_core.specs.declared.step.Step.{Step}
 use Rattle.lin_core.specs.declared.step.Step.TheVariants.{Finish}
 use Rattle.lin_export.specs.Csv.{comma, csv_line, node_name, nodes_cell, row, slot_line, spaced_name, step_row, value_cell}
+use Rattle.lin_export.specs.FirstSlots.{slot_row}
 use Rattle.lin_export.specs.Pcap.{bus_event, finish_packets, goes_to_sleep, packet, slot_packet}
 use Rattle.lin_export.specs.Shown.{slot_frame}
 use Rattle.lin_export.specs.Track.{shown_slot, slots_in}
@@ -76,14 +76,10 @@ flat-append f [] ys = refl
 flat-append f (x ∷ xs) ys = ap (λ l. f x ++ l) (flat-append f xs ys) ∙ sym (append_assoc (f x) (flat_map f xs) (flat_map f ys))
 
 -- the parts of a line
-pub line-parts : (first middle : List ℕ) (xs ys zs : List (List ℕ))
-    → first ++ (flat_map comma xs ++ (comma middle ++ (flat_map comma ys ++ (flat_map comma zs ++ 10 ∷ [])))) ≡ csv_line (first ∷ (xs ++ middle ∷ (ys ++ zs)))
-line-parts first middle xs ys zs =
-    ap (λ l. first ++ l)
-    (ap (λ l. flat_map comma xs ++ (comma middle ++ l)) (sym (append_assoc (flat_map comma ys) (flat_map comma zs) (10 ∷ [])) ∙ ap (λ l. l ++ 10 ∷ []) (sym (flat-append comma ys zs)))
-    ∙ ap (λ l. flat_map comma xs ++ l) (sym (append_assoc (comma middle) (flat_map comma (ys ++ zs)) (10 ∷ [])))
-    ∙ sym (append_assoc (flat_map comma xs) (flat_map comma (middle ∷ (ys ++ zs))) (10 ∷ []))
-    ∙ ap (λ l. l ++ 10 ∷ []) (sym (flat-append comma xs (middle ∷ (ys ++ zs)))))
+pub line-parts : (first : List ℕ) (xs zs : List (List ℕ))
+    → first ++ (flat_map comma xs ++ (flat_map comma zs ++ 10 ∷ [])) ≡ csv_line (first ∷ (xs ++ zs))
+line-parts first xs zs =
+    ap (λ l. first ++ l) (sym (append_assoc (flat_map comma xs) (flat_map comma zs) (10 ∷ [])) ∙ ap (λ l. l ++ 10 ∷ []) (sym (flat-append comma xs zs)))
 
 -- the values of a list are those that a function says of its places
 values-some : (g : ℕ → Value) (vs : List Value) → ArePointwise g vs → (n : ℕ) → n ≤ length vs
@@ -101,15 +97,15 @@ pub values-all : (g : ℕ → Value) (vs : List Value) (n : ℕ) → ArePointwis
     → flat_map (λ v. comma (value_cell v)) vs ≡ flat_map comma (map (λ k. value_cell (g k)) (numbers n))
 values-all g vs n p e = ap (flat_map (λ v. comma (value_cell v))) (sym (take_all n vs (omega arith))) ∙ values-some g vs p n (omega arith)
 
-row-of : (c : Parts) (names : NamesData) (e : LogEntry) (past : List LogEntry) (reply : Reply) (step : Step) (events : List Event) (s : Slot)
+row-of : (c : Parts) (e : LogEntry) (past : List LogEntry) (reply : Reply) (step : Step) (events : List Event) (s : Slot)
     → reply ≡ Done events → step ≡ Finish → open_slot past ≡ Some s
-    → option_map_or (step_row c names e past) (done_step reply step) [] ≡ slot_line c names (slots_in past) (time c past) s (heard_value c (e ∷ past))
-row-of c names e past reply step events s r f o = rw (r, f, o) refl
+    → option_map_or (step_row c e past) (done_step reply step) [] ≡ slot_line c (slots_in past) (time c past) s (heard_value c (e ∷ past))
+row-of c e past reply step events s r f o = rw (r, f, o) refl
 
-pub row-finish : (c : Parts) (names : NamesData) (e : LogEntry) (past : List LogEntry) (events : List Event) (s : Slot)
+pub row-finish : (c : Parts) (e : LogEntry) (past : List LogEntry) (events : List Event) (s : Slot)
     → e.reply ≡ Done events → e.step ≡ Finish → open_slot past ≡ Some s
-    → row c names e past ≡ slot_line c names (slots_in past) (time c past) s (heard_value c (e ∷ past))
-row-finish c names e past events s r f o = row-of c names e past e.reply e.step events s r f o
+    → row c e past ≡ slot_line c (slots_in past) (time c past) s (heard_value c (e ∷ past))
+row-finish c e past events s r f o = row-of c e past e.reply e.step events s r f o
 
 -- a slot that puts the cluster to sleep
 pub finish-asleep : (c : Parts) (at end : ℕ) (s : Slot) → is_sleep_slot s ≡ true → end ≡ at + (line_of c s.table s.entry).delay_us
@@ -127,12 +123,6 @@ pub texts-more : {X A : Type 0} (f : X → List A) (xs : List X) (i : ℕ) (d : 
 texts-more f xs i d h =
     ap (flat_map f) (take_more xs i d h) ∙ flat-append f (take i xs) (get_or xs i d ∷ []) ∙ ap (λ l. flat_map f (take i xs) ++ l) (append-nil (f (get_or xs i d)))
 
-pub mapped-more : {X Y : Type 0} (f : Y → List ℕ) (g : X → Y) (xs : List X) (i : ℕ) (d : X) → i < length xs
-    → flat_map f (map g (take (i + 1) xs)) ≡ flat_map f (map g (take i xs)) ++ f (g (get_or xs i d))
-mapped-more f g xs i d h =
-    ap (λ l. flat_map f (map g l)) (take_more xs i d h) ∙ ap (flat_map f) (map-append g (take i xs) (get_or xs i d ∷ []))
-    ∙ flat-append f (map g (take i xs)) (g (get_or xs i d) ∷ []) ∙ ap (λ l. flat_map f (map g (take i xs)) ++ l) (append-nil (f (g (get_or xs i d))))
-
 -- the first name, and those after it
 pub nodes-first : (c : Parts) (puts : List (ℕ × List ℕ)) (first : ℕ × List ℕ) → 1 ≤ length puts → first ≡ get_or puts 0 first
     → node_name c first ++ flat_map (spaced_name c) (take (length puts - 1) (drop 1 puts)) ≡ nodes_cell c puts
@@ -141,8 +131,20 @@ nodes-first c (p ∷ ps) first h is =
     ap (λ (l : List (ℕ × List ℕ)). node_name c first ++ flat_map (spaced_name c) l) (take_all (length (p ∷ ps) - 1) ps (omega arith))
     ∙ ap (λ (x : ℕ × List ℕ). node_name c x ++ flat_map (spaced_name c) ps) is
 
-pub line-shown : (c : Parts) (names : NamesData) (n t : ℕ) (s : Slot) (g : ℕ → Value) → slot_line c names n t (shown_slot s) g ≡ slot_line c names n t s g
-line-shown c names n t s g = rw (frame-shown c (line_of c s.table s.entry).entry s) refl
+pub line-shown : (c : Parts) (n t : ℕ) (s : Slot) (g : ℕ → Value) → slot_line c n t (shown_slot s) g ≡ slot_line c n t s g
+line-shown c n t s g = rw (frame-shown c (line_of c s.table s.entry).entry s) refl
+
+pub row-shown : (c : Parts) (n t : ℕ) (s : Slot) → slot_row c n t (shown_slot s) ≡ slot_row c n t s
+row-shown c n t s = rw (frame-shown c (line_of c s.table s.entry).entry s) refl
+
+-- the slot that an entry finishes
+finished-by : (past : List LogEntry) (reply : Reply) (step : Step) (events : List Event) (s : Slot) → reply ≡ Done events → step ≡ Finish → open_slot past ≡ Some s
+    → option_map_or (λ (x : Step). if is_finish x then open_slot past else None) (done_step reply step) None ≡ Some s
+finished-by past reply step events s r f o = rw (r, f, o) refl
+
+pub slot-finished : (e : LogEntry) (past : List LogEntry) (events : List Event) (s : Slot) → e.reply ≡ Done events → e.step ≡ Finish → open_slot past ≡ Some s
+    → finished_slot e past ≡ Some s
+slot-finished e past events s r f o = finished-by past e.reply e.step events s r f o
 
 pub heard-finish : (c : Parts) (e : LogEntry) (past : List LogEntry) (events : List Event) (s t : Slot) (k : ℕ)
     → e.reply ≡ Done events → e.step ≡ Finish → open_slot past ≡ Some s → t ≡ shown_slot s

@@ -7,13 +7,8 @@ use Rattle.hex.specs.Hex.{encode_upper}
 use Rattle.lin_frame.specs.Words.{numbers}
 use Rattle.lin_frame.specs.declared.value.Value.{Value}
 use Rattle.lin_frame.specs.declared.value.Value.TheVariants.{Scalar, Bytes}
-use Rattle.lin_cluster_parts.specs.Cluster.{line_of, named_table, node_of}
+use Rattle.lin_cluster_parts.specs.Cluster.{entry_kind, line_of, named_table, node_of}
 use Rattle.lin_cluster_parts.specs.declared.parts.Parts.{Parts}
-use Rattle.lin_cluster_parts.specs.declared.parts.Entry.{Entry}
-use Rattle.lin_cluster_parts.specs.declared.parts.Entry.TheVariants.{Frame, Sporadic, Event}
-use Rattle.lin_cluster_parts.specs.declared.parts.Entry.TheVariants.{MasterReq}
-use Rattle.lin_cluster_parts.specs.declared.parts.Entry.TheVariants.{SlaveResp, Quiet}
-use Rattle.lin_names.specs.Names.{NamesData}
 use Rattle.lin_core.specs.History.{Slot, done, good_bytes, open_slot, seen_of, time}
 use Rattle.lin_core.specs.Signals.{heard_value}
 use Rattle.lin_core.specs.Tables.{look_of, look_word}
@@ -24,6 +19,10 @@ use Rattle.lin_core.specs.declared.step.Step.TheVariants.{Finish}
 use Rattle.lin_export.specs.Shown.{checksum_in, data_of, slot_name}
 use Rattle.lin_export.specs.Telling.{each_entry}
 use Rattle.lin_export.specs.Track.{slots_in}
+
+-- a cell after the mark that stands before it
+abbrev pub marked : List ℕ → List ℕ → List ℕ
+marked mark cell = mark ++ cell
 
 -- a line: its cells with a comma between two, and LF
 abbrev pub comma : List ℕ → List ℕ
@@ -40,14 +39,6 @@ hex_cell bytes = codes "0x" ++ encode_upper bytes
 abbrev pub value_cell : Value → List ℕ
 value_cell (Scalar n) = decimal n
 value_cell (Bytes bytes) = hex_cell bytes
-
-abbrev pub kind_cell : Entry → List ℕ
-kind_cell (Frame f) = codes "unconditional"
-kind_cell (Sporadic k) = codes "sporadic"
-kind_cell (Event e) = codes "event"
-kind_cell MasterReq = codes "request"
-kind_cell SlaveResp = codes "response"
-kind_cell Quiet = codes "configuration"
 
 -- the names of the nodes that put responses, with one space between two
 abbrev pub node_name : Parts → ℕ × List ℕ → List ℕ
@@ -67,14 +58,14 @@ head_line c =
     ++ (flat_map comma (map (λ s. s.name) c.signals) ++ 10 ∷ [])
 
 -- a slot at a time: its delay, its entry, what that is for, and its header
-abbrev pub schedule_cells : Parts → NamesData → ℕ → Slot → List (List ℕ)
-schedule_cells c names at s =
+abbrev pub schedule_cells : Parts → ℕ → Slot → List (List ℕ)
+schedule_cells c at s =
     decimal at
     ∷ decimal (line_of c s.table s.entry).delay_us
     ∷ (named_table c s.table).name
     ∷ decimal s.entry
-    ∷ kind_cell (line_of c s.table s.entry).entry
-    ∷ slot_name c names s
+    ∷ entry_kind (line_of c s.table s.entry).entry
+    ∷ slot_name c s
     ∷ option_map_or (λ header. hex_cell (header ∷ [])) s.header []
     ∷ []
 
@@ -86,28 +77,30 @@ response_cells how =
     ∷ option_map_or (λ answer. hex_cell (checksum_in answer ∷ [])) (good_bytes how) []
     ∷ []
 
+-- a slot by the time at its start: all cells between its number and the signals
+abbrev pub slot_cells : Parts → ℕ → Slot → List (List ℕ)
+slot_cells c at s =
+    schedule_cells c at s ++ nodes_cell c s.puts ∷ response_cells (seen_of s)
+
 -- the line of a slot by its number, the time at its start, and the values of the signals that are
 -- heard after it
-abbrev pub slot_line : Parts → NamesData → ℕ → ℕ → Slot → (ℕ → Value) → List ℕ
-slot_line c names number at s values =
+abbrev pub slot_line : Parts → ℕ → ℕ → Slot → (ℕ → Value) → List ℕ
+slot_line c number at s values =
     csv_line
     (decimal number
-    ∷ (schedule_cells c names at s
-    ++ nodes_cell c s.puts
-    ∷ (response_cells (seen_of s)
-    ++ map (λ k. value_cell (values k)) (numbers (length c.signals)))))
+    ∷ (slot_cells c at s ++ map (λ k. value_cell (values k)) (numbers (length c.signals))))
 
 -- what an entry that was done says on those before it: the line of the slot that it finishes
-abbrev pub step_row : Parts → NamesData → LogEntry → List LogEntry → Step → List ℕ
-step_row c names e past Finish =
+abbrev pub step_row : Parts → LogEntry → List LogEntry → Step → List ℕ
+step_row c e past Finish =
     option_map_or
-    (λ s. slot_line c names (slots_in past) (time c past) s (heard_value c (e ∷ past)))
+    (λ s. slot_line c (slots_in past) (time c past) s (heard_value c (e ∷ past)))
     (open_slot past) []
-step_row c names e past step = []
+step_row c e past step = []
 
-abbrev pub row : Parts → NamesData → LogEntry → List LogEntry → List ℕ
-row c names e past = option_map_or (step_row c names e past) (done e) []
+abbrev pub row : Parts → LogEntry → List LogEntry → List ℕ
+row c e past = option_map_or (step_row c e past) (done e) []
 
 -- the table of a log, the oldest entry first
-abbrev pub csv : Parts → NamesData → List LogEntry → List ℕ
-csv c names log = head_line c ++ each_entry (row c names) [] log
+abbrev pub csv : Parts → List LogEntry → List ℕ
+csv c log = head_line c ++ each_entry (row c) [] log

@@ -8,6 +8,7 @@ pub mod Pcap
 pub mod Captured
 pub mod Csv
 pub mod Cells
+pub mod FirstSlots
 pub mod Named
 pub mod NamedWords
 pub mod Vcd

@@ -9,11 +9,11 @@ use Rattle.std.specs.Fmt.{decimal}
 use Rattle.hex.specs.Hex.{encode_upper}
 use Rattle.lin_frame.specs.Bits.{unpacked_value}
 use Rattle.lin_frame.specs.declared.layout.Place.{Place}
-use Rattle.lin_cluster_parts.specs.Cluster.{frame_of, line_of, node_of, signal_of, sporadic_of}
+use Rattle.lin_cluster_parts.specs.Cluster.{entry_name, frame_name, frame_of, line_of, node_of}
+use Rattle.lin_cluster_parts.specs.Cluster.{signal_of, sporadic_of}
 use Rattle.lin_cluster_parts.specs.declared.parts.Parts.{Parts}
 use Rattle.lin_cluster_parts.specs.declared.parts.Entry.{Entry}
 use Rattle.lin_cluster_parts.specs.declared.parts.Entry.TheVariants.{Sporadic}
-use Rattle.lin_names.specs.Names.{NamesData}
 use Rattle.lin_core.specs.History.{Slot, header_is, open_slot, time}
 use Rattle.lin_core.specs.Slots.{node_with}
 use Rattle.lin_core.specs.declared.event.Event.{Event}
@@ -27,7 +27,7 @@ use Rattle.lin_core.specs.declared.step.Step.TheVariants.{Finish}
 use Rattle.lin_core.specs.Tables.{refusal_number, refusal_word}
 use Rattle.lin_log.specs.Language.{named}
 use Rattle.lin_log.specs.Words.{event_words, log_text, value_word}
-use Rattle.lin_export.specs.Shown.{entry_name, frame_name, slot_frame}
+use Rattle.lin_export.specs.Shown.{slot_frame}
 
 -- the frame of a sporadic entry with a header
 abbrev pub sporadic_frame : Parts → Entry → Option ℕ → Option ℕ
@@ -36,25 +36,25 @@ sporadic_frame c (Sporadic k) header =
 sporadic_frame c entry header = None
 
 -- an opened slot: after its numbers what its entry is for
-abbrev pub slot_names : Parts → NamesData → Event → List (List ℕ)
-slot_names c names (event.Slot table entry header) =
-    entry_name names (line_of c table entry).entry
-    ∷ map (frame_name names)
+abbrev pub slot_names : Parts → Event → List (List ℕ)
+slot_names c (event.Slot table entry header) =
+    entry_name c (line_of c table entry).entry
+    ∷ map (frame_name c)
     (option_to_list (sporadic_frame c (line_of c table entry).entry header))
-slot_names c names other = []
+slot_names c other = []
 
 -- what an event is called, and its parts
-abbrev pub named_event : Parts → NamesData → Event → List (List ℕ)
-named_event c names e = event_words (named c) e ++ slot_names c names e
+abbrev pub named_event : Parts → Event → List (List ℕ)
+named_event c e = event_words (named c) e ++ slot_names c e
 
 -- a good frame of signals: its name, and each signal with its value, in the order of the places
 abbrev pub signal_words : Parts → List ℕ → ℕ × Place → List (List ℕ)
 signal_words c answer p =
     (signal_of c p.0).name ∷ value_word (unpacked_value p.1 (take 8 answer)) ∷ []
 
-abbrev pub frame_words : Parts → NamesData → ℕ → List ℕ → List (List ℕ)
-frame_words c names f answer =
-    codes "frame" ∷ frame_name names f
+abbrev pub frame_words : Parts → ℕ → List ℕ → List (List ℕ)
+frame_words c f answer =
+    codes "frame" ∷ frame_name c f
     ∷ flat_map (signal_words c answer) (zip (frame_of c f).signals (frame_of c f).layout.places)
 
 -- a good frame of a message (ISO 17987-2, protocol control information): the node with its address,
@@ -86,36 +86,36 @@ transport c header answer =
     else transport_words c (codes "down") answer)
     else (if header_is 0x7D header then Some (transport_words c (codes "up") answer) else None)
 
-abbrev pub good_words : Parts → NamesData → List ℕ → Slot → Option (List (List ℕ))
-good_words c names answer s =
+abbrev pub good_words : Parts → List ℕ → Slot → Option (List (List ℕ))
+good_words c answer s =
     option_map_or
-    (λ f. Some (frame_words c names f answer))
+    (λ f. Some (frame_words c f answer))
     (slot_frame c (line_of c s.table s.entry).entry s) (transport c s.header answer)
 
 -- what stands after an event, in the open slot
-abbrev pub behind : Parts → NamesData → Option Slot → Event → Option (List (List ℕ))
-behind c names o (event.Seen (Good answer)) = option_map_or (good_words c names answer) o None
-behind c names o e = None
+abbrev pub behind : Parts → Option Slot → Event → Option (List (List ℕ))
+behind c o (event.Seen (Good answer)) = option_map_or (good_words c answer) o None
+behind c o e = None
 
-abbrev pub event_lines : Parts → NamesData → Option Slot → Event → List (List (List ℕ))
-event_lines c names o e = named_event c names e ∷ option_to_list (behind c names o e)
+abbrev pub event_lines : Parts → Option Slot → Event → List (List (List ℕ))
+event_lines c o e = named_event c e ∷ option_to_list (behind c o e)
 
 -- after the lines of a finish, the time in microseconds
 abbrev pub time_words : Step → ℕ → Option (List (List ℕ))
 time_words Finish at = Some (codes "time" ∷ decimal at ∷ [])
 time_words step at = None
 
-abbrev pub lines_of_reply : Parts → NamesData → LogEntry → List LogEntry → Reply
+abbrev pub lines_of_reply : Parts → LogEntry → List LogEntry → Reply
     → List (List (List ℕ))
-lines_of_reply c names e past (Done events) =
-    flat_map (event_lines c names (open_slot past)) events
+lines_of_reply c e past (Done events) =
+    flat_map (event_lines c (open_slot past)) events
     ++ option_to_list (time_words e.step (time c (e ∷ past)))
-lines_of_reply c names e past (Refused r) =
+lines_of_reply c e past (Refused r) =
     (codes "refused" ∷ decimal (refusal_number r) ∷ refusal_word r ∷ []) ∷ []
 
-abbrev pub reply_lines : Parts → NamesData → LogEntry → List LogEntry → List (List (List ℕ))
-reply_lines c names e past = lines_of_reply c names e past e.reply
+abbrev pub reply_lines : Parts → LogEntry → List LogEntry → List (List (List ℕ))
+reply_lines c e past = lines_of_reply c e past e.reply
 
 -- the log with names, the oldest entry first
-abbrev pub named_log : Parts → NamesData → List LogEntry → List ℕ
-named_log c names log = log_text (named c) (reply_lines c names) [] log
+abbrev pub named_log : Parts → List LogEntry → List ℕ
+named_log c log = log_text (named c) (reply_lines c) [] log

@@ -5,9 +5,9 @@ ghost use Rattle.lin_core.specs.Signals.{heard_value, ArePointwise};
 ghost use Rattle.lin_frame.specs.declared.value.Value.{Value};
 ghost use Rattle.lin_text.specs.Written.{Grows, WritesText};
 ghost use Rattle.lin_export.specs.Cells.{cell_text};
-ghost use Rattle.lin_export.specs.Csv.{comma, csv, head_line, hex_cell, kind_cell, node_name};
-ghost use Rattle.lin_export.specs.Csv.{nodes_cell, response_cells, row, schedule_cells};
-ghost use Rattle.lin_export.specs.Csv.{slot_line, spaced_name, value_cell};
+ghost use Rattle.lin_export.specs.Csv.{comma, csv, head_line, hex_cell, marked};
+ghost use Rattle.lin_export.specs.Csv.{node_name, nodes_cell, response_cells, row, schedule_cells};
+ghost use Rattle.lin_export.specs.Csv.{slot_cells, slot_line, spaced_name, value_cell};
 ghost use Rattle.lin_export.specs.Look.{looks};
 ghost use Rattle.lin_export.specs.Open.{slot_in};
 
@@ -17,17 +17,16 @@ use crate::hearing::hear_slot;
 use crate::naming::{node_name, slot_name, table_name};
 use crate::slot::{Look, OpenSlot, byte_at};
 use crate::track::Track;
-use lin_cluster_parts::{Cluster, Entry};
+use lin_cluster_parts::Cluster;
 use lin_core::{Listed, Log, LogEntry, Reply, Step, initial_values};
 use lin_frame::{Answer, Value};
-use lin_names::Names;
 use lin_text::TextWriter;
 use std::alloc::Global;
 use std::io::Write;
 
 /// A cell of a line.
 #[derive(Clone, Copy)]
-enum Cell<'a> {
+pub(crate) enum Cell<'a> {
     Text(&'a [u8]),
     Number(u64),
     Byte(Option<u8>),
@@ -54,18 +53,20 @@ fn put_cell<W: Write>(out: &mut TextWriter<'_, W>, cell: Cell<'_>)
     }
 }
 
-fn put_next<W: Write>(out: &mut TextWriter<'_, W>, cell: Cell<'_>)
-    ensures { Grows W.contents out.old out.new (comma (cell_text cell.entry)) }
+/// A cell after its mark.
+pub(crate) fn put_next<W: Write>(out: &mut TextWriter<'_, W>, mark: &[u8], cell: Cell<'_>)
+    ensures { Grows W.contents out.old out.new (marked mark.now (cell_text cell.entry)) }
 {
-    out.put_byte(b',');
+    out.put(mark);
     put_cell(out, cell);
 }
 
-fn put_cells<W: Write>(out: &mut TextWriter<'_, W>, cells: &[Cell<'_>])
-    ensures { Grows W.contents out.old out.new (flat_map comma (map cell_text cells.now)) }
+fn put_cells<W: Write>(out: &mut TextWriter<'_, W>, mark: &[u8], cells: &[Cell<'_>])
+    ensures { Grows W.contents out.old out.new
+        (flat_map (marked mark.now) (map cell_text cells.now)) }
 {
     for cell in cells {
-        put_next(out, *cell);
+        put_next(out, mark, *cell);
     }
 }
 
@@ -74,8 +75,8 @@ fn put_value<W: Write>(out: &mut TextWriter<'_, W>, value: &Value)
 {
     match value {
         Value::Scalar(number) if *number < 10 => out.put(&[b',', b'0' + *number as u8]),
-        Value::Scalar(number) => put_next(out, Cell::Number(u64::from(*number))),
-        Value::Bytes(bytes) => put_next(out, Cell::Hex(bytes.as_slice())),
+        Value::Scalar(number) => put_next(out, b",", Cell::Number(u64::from(*number))),
+        Value::Bytes(bytes) => put_next(out, b",", Cell::Hex(bytes.as_slice())),
     }
 }
 
@@ -93,7 +94,7 @@ fn put_signal_names<W: Write>(out: &mut TextWriter<'_, W>, cluster: &Cluster)
         (flat_map comma (map (λ s. s.name) cluster.now.signals)) }
 {
     for signal in 0..cluster.signals() as u16 {
-        put_next(out, Cell::Text(cluster.signal_name(signal)));
+        put_next(out, b",", Cell::Text(cluster.signal_name(signal)));
     }
 }
 
@@ -106,40 +107,28 @@ fn put_head<W: Write>(out: &mut TextWriter<'_, W>, cluster: &Cluster)
     out.put_byte(b'\n');
 }
 
-fn kind_of(entry: Entry) -> &'static str
-    ensures { result.now ≡ kind_cell entry }
-{
-    match entry {
-        Entry::Frame(_) => "unconditional",
-        Entry::Sporadic(_) => "sporadic",
-        Entry::Event(_) => "event",
-        Entry::MasterReq => "request",
-        Entry::SlaveResp => "response",
-        Entry::Quiet => "configuration",
-    }
-}
-
 /// Where a slot stands in the schedule, and what it is for.
 fn put_schedule<'a, W: Write>(
     out: &mut TextWriter<'_, W>,
+    mark: &[u8],
     cluster: &'a Cluster,
-    names: &'a Names,
     at: u64,
     slot: &OpenSlot,
 )
     ensures { Grows W.contents out.old out.new
-        (flat_map comma (schedule_cells cluster.now names.now at (slot_in slot.now))) }
+        (flat_map (marked mark.now) (schedule_cells cluster.now at (slot_in slot.now))) }
 {
     let line = slot.line(cluster);
     put_cells(
         out,
+        mark,
         &[
             Cell::Number(at),
             Cell::Number(u64::from(line.delay_us)),
             Cell::Text(table_name(cluster, slot.table())),
             Cell::Number(u64::from(slot.entry())),
-            Cell::Text(kind_of(line.entry).as_bytes()),
-            Cell::Text(slot_name(cluster, names, slot)),
+            Cell::Text(line.entry.kind()),
+            Cell::Text(slot_name(cluster, slot)),
             Cell::Byte(slot.header()),
         ],
     );
@@ -167,10 +156,15 @@ fn put_more_nodes<W: Write>(out: &mut TextWriter<'_, W>, cluster: &Cluster, puts
 }
 
 /// The nodes that put responses.
-fn put_nodes<W: Write>(out: &mut TextWriter<'_, W>, cluster: &Cluster, puts: &[(u8, Answer)])
-    ensures { Grows W.contents out.old out.new (comma (nodes_cell cluster.now puts.now)) }
+fn put_nodes<W: Write>(
+    out: &mut TextWriter<'_, W>,
+    mark: &[u8],
+    cluster: &Cluster,
+    puts: &[(u8, Answer)],
+)
+    ensures { Grows W.contents out.old out.new (marked mark.now (nodes_cell cluster.now puts.now)) }
 {
-    out.put_byte(b',');
+    out.put(mark);
     if let [first, rest @ ..] = puts {
         put_node(out, cluster, first);
         put_more_nodes(out, cluster, rest);
@@ -178,9 +172,9 @@ fn put_nodes<W: Write>(out: &mut TextWriter<'_, W>, cluster: &Cluster, puts: &[(
 }
 
 /// How a slot was seen, with the response of a good one.
-fn put_response<W: Write>(out: &mut TextWriter<'_, W>, look: Look<'_>)
+fn put_response<W: Write>(out: &mut TextWriter<'_, W>, mark: &[u8], look: Look<'_>)
     ensures { Grows W.contents out.old out.new
-        (flat_map comma (response_cells (looks look.entry))) }
+        (flat_map (marked mark.now) (response_cells (looks look.entry))) }
 {
     let seen = Cell::Text(look.kind().word().as_bytes());
     match look {
@@ -190,18 +184,34 @@ fn put_response<W: Write>(out: &mut TextWriter<'_, W>, look: Look<'_>)
             let checksum = Some(byte_at(bytes, count));
             put_cells(
                 out,
+                mark,
                 &[seen, Cell::Hex(&bytes[..count]), Cell::Byte(checksum)],
             );
         }
-        _ => put_cells(out, &[seen, Cell::Byte(None), Cell::Byte(None)]),
+        _ => put_cells(out, mark, &[seen, Cell::Byte(None), Cell::Byte(None)]),
     }
+}
+
+/// The cells of a slot between its number and the signals, each after a mark.
+pub(crate) fn put_slot<'a, W: Write>(
+    out: &mut TextWriter<'_, W>,
+    mark: &[u8],
+    cluster: &'a Cluster,
+    at: u64,
+    slot: &OpenSlot,
+)
+    ensures { Grows W.contents out.old out.new
+        (flat_map (marked mark.now) (slot_cells cluster.now at (slot_in slot.now))) }
+{
+    put_schedule(out, mark, cluster, at, slot);
+    put_nodes(out, mark, cluster, slot.puts());
+    put_response(out, mark, slot.look());
 }
 
 /// The line of a slot.
 fn put_line<'a, W: Write>(
     out: &mut TextWriter<'_, W>,
     cluster: &'a Cluster,
-    names: &'a Names,
     track: &Track,
     slot: &OpenSlot,
     values: &[Value],
@@ -209,27 +219,24 @@ fn put_line<'a, W: Write>(
     requires { length values.now ≡ length cluster.now.signals }
     ensures { (g : ℕ → Value) → ArePointwise g values.now
         → Grows W.contents out.old out.new
-        (slot_line cluster.now names.now track.now.slots track.now.time (slot_in slot.now) g) }
+        (slot_line cluster.now track.now.slots track.now.time (slot_in slot.now) g) }
 {
     put_cell(out, Cell::Number(track.slots()));
-    put_schedule(out, cluster, names, track.time(), slot);
-    put_nodes(out, cluster, slot.puts());
-    put_response(out, slot.look());
+    put_slot(out, b",", cluster, track.time(), slot);
     put_values(out, values);
     out.put_byte(b'\n');
 }
 
 /// A table, and the values of the signals that are heard.
 #[derive(Drop)]
-struct Sheet<'a> {
-    names: &'a Names,
+struct Sheet {
     values: Vec<Value>,
 }
 
-impl Format for Sheet<'_> {
+impl Format for Sheet {
     ghost begins = { λ f c. head_line c };
 
-    ghost says = { λ f c. row c f.names.now };
+    ghost says = { λ f c. row c };
 
     ghost ends = { λ f c past. [] };
 
@@ -256,14 +263,7 @@ impl Format for Sheet<'_> {
         };
         if let Some(slot) = track.slot() {
             hear_slot(&mut self.values, cluster, slot);
-            put_line(
-                out,
-                cluster,
-                self.names,
-                track,
-                slot,
-                self.values.as_slice(),
-            );
+            put_line(out, cluster, track, slot, self.values.as_slice());
         }
     }
 
@@ -285,13 +285,12 @@ impl Format for Sheet<'_> {
 pub fn write_csv<W: Write>(
     alloc: Global,
     cluster: &Cluster,
-    names: &Names,
     log: &Log,
     writer: &mut W,
 ) -> Result<(), ExportFault>
     ensures { WritesText (W.contents writer.old) (W.contents writer.new) result
-        (csv cluster.now names.now log.now.entries) }
+        (csv cluster.now log.now.entries) }
 {
     let values = initial_values(alloc, cluster)?;
-    write_as(&mut Sheet { names, values }, alloc, cluster, log, writer)
+    write_as(&mut Sheet { values }, alloc, cluster, log, writer)
 }

@@ -1,11 +1,11 @@
 //! What all formats have in common: something before the entries of a log, something for each, and
 //! something after them.
 
-ghost use Rattle.std.specs.Prelude.{◌≡◌, ◌∷◌, ◌++◌, ◌<◌, ◌^◌, ℕ, [], Bool, true, List, reverse};
+ghost use Rattle.std.specs.Prelude.{◌≡◌, ◌∷◌, ◌++◌, ◌<◌, ◌^◌, ℕ, [], List, reverse};
 ghost use Rattle.lin_core.specs.declared.log.LogEntry.{LogEntry};
 ghost use Rattle.lin_cluster_parts.specs.declared.parts.Parts.{Parts};
 ghost use Rattle.lin_text.specs.Written.{Grows, WritesText};
-ghost use Rattle.lin_export.specs.Putting.{OfText, PutsAll};
+ghost use Rattle.lin_export.specs.Putting.{PutsAll};
 ghost use Rattle.lin_export.specs.Telling.{each_entry};
 ghost use Rattle.lin_export.specs.Track.{track_of};
 
@@ -17,11 +17,8 @@ use lin_text::TextWriter;
 use std::alloc::{AllocError, Global};
 use std::io::Write;
 
-/// A format: what it keeps of the entries that were read, and what it puts. Where no definition
-/// says its text, it isn't exact.
+/// A format: what it keeps of the entries that were read, and what it puts.
 pub(crate) trait Format {
-    ghost exact: { Bool } = { true };
-
     ghost begins: { Self → Parts → List ℕ };
 
     ghost says: { Self → Parts → LogEntry → List LogEntry → List ℕ };
@@ -34,7 +31,7 @@ pub(crate) trait Format {
 
     /// Puts what stands before the entries.
     fn put_head<W: Write>(&self, out: &mut TextWriter<'_, W>, cluster: &Cluster)
-        ensures { OfText exact (Grows W.contents out.old out.new) (begins self.now cluster.now) };
+        ensures { Grows W.contents out.old out.new (begins self.now cluster.now) };
 
     /// Puts what an entry says on those before it.
     fn put_entry<W: Write>(
@@ -53,14 +50,13 @@ pub(crate) trait Format {
             → keeps self.old cluster.now past → keeps self.new cluster.now (entry.now ∷ past) }
         ensures text { (past : List LogEntry) → track.now ≡ track_of cluster.now past
             → keeps self.old cluster.now past
-            → OfText exact (Grows W.contents out.old out.new)
-            (says self.old cluster.now entry.now past) };
+            → Grows W.contents out.old out.new (says self.old cluster.now entry.now past) };
 
     /// Puts what stands after the entries.
     fn put_end<W: Write>(&self, out: &mut TextWriter<'_, W>, cluster: &Cluster, track: &Track)
         ensures { (past : List LogEntry) → track.now ≡ track_of cluster.now past
             → keeps self.now cluster.now past
-            → OfText exact (Grows W.contents out.old out.new) (ends self.now cluster.now past) };
+            → Grows W.contents out.old out.new (ends self.now cluster.now past) };
 }
 
 /// Puts the entries of a log, and what stands after them. The error is that it is out of memory.
@@ -73,7 +69,7 @@ fn put_entries<F: Format, W: Write>(
 ) -> Result<(), AllocError>
     requires fits { F.fits format.old cluster.now }
     requires keeps { F.keeps format.old cluster.now [] }
-    ensures { OfText F.exact (PutsAll W.contents out.old out.new result)
+    ensures { PutsAll W.contents out.old out.new result
         (each_entry (F.says format.old cluster.now) [] log.now.entries
         ++ F.ends format.old cluster.now (reverse log.now.entries)) }
 {
@@ -106,7 +102,7 @@ pub(crate) fn write_as<F: Format, W: Write>(
 ) -> Result<(), ExportFault>
     requires fits { F.fits format.old cluster.now }
     requires keeps { F.keeps format.old cluster.now [] }
-    ensures { OfText F.exact (WritesText (W.contents writer.old) (W.contents writer.new) result)
+    ensures { WritesText (W.contents writer.old) (W.contents writer.new) result
         (F.begins format.old cluster.now
         ++ (each_entry (F.says format.old cluster.now) [] log.now.entries
         ++ F.ends format.old cluster.now (reverse log.now.entries))) }

@@ -4,34 +4,39 @@ ghost use Rattle.std.specs.Prelude.{◌≡◌, ◌∷◌, ◌<◌, ⊤, [], code
 ghost use Rattle.std.specs.Prelude.{zip};
 ghost use Rattle.std.specs.Fmt.{decimal};
 ghost use Rattle.std.specs.Option.{option_to_list};
-ghost use Rattle.lin_cluster_parts.specs.Cluster.{frame_of};
+ghost use Rattle.lin_cluster_parts.specs.Cluster.{frame_name, frame_of};
 ghost use Rattle.lin_cluster_parts.specs.Rules.{IsEntry};
 ghost use Rattle.lin_core.specs.Tables.{refusal_number, refusal_word};
+ghost use Rattle.lin_log.specs.Shown.{word_shown};
 ghost use Rattle.lin_log.specs.Words.{reply_line, spaced_word};
 ghost use Rattle.lin_text.specs.Written.{Grows, WritesText};
 ghost use Rattle.lin_export.specs.Named.{behind, control_words, frame_words, good_words};
 ghost use Rattle.lin_export.specs.Named.{named_event, named_log, signal_words, slot_names};
 ghost use Rattle.lin_export.specs.Named.{sporadic_frame, time_words, transport, transport_words};
 ghost use Rattle.lin_export.specs.Named.{who_word};
-ghost use Rattle.lin_export.specs.NamedWords.{event_text, line_or_none, named_entry, word_shown};
+ghost use Rattle.lin_export.specs.NamedWords.{event_text, line_or_none, named_entry};
 ghost use Rattle.lin_export.specs.Open.{slot_in};
-ghost use Rattle.lin_export.specs.Shown.{frame_name};
 
 use crate::carried::line_at;
 use crate::fault::ExportFault;
 use crate::format::{Format, write_as};
-use crate::naming::{entry_name, node_name};
+use crate::naming::node_name;
 use crate::slot::{OpenSlot, byte_at};
 use crate::track::Track;
-use crate::words::{Word, put_reply, put_words, value_word};
 use lin_cluster_parts::{Cluster, Entry};
 use lin_core::{Event, Listed, Log, LogEntry, Refusal, Reply, Seen, Step, frame_under, node_with};
 use lin_frame::{Answer, unpack};
-use lin_log::put_step_line;
-use lin_names::Names;
+use lin_log::{Word, put_line, put_step_line, put_words, value_word};
 use lin_text::TextWriter;
 use std::alloc::Global;
 use std::io::Write;
+
+/// A line of a reply.
+fn put_reply<W: Write>(out: &mut TextWriter<'_, W>, words: &[Word<'_>])
+    ensures { Grows W.contents out.old out.new (reply_line (map word_shown words.now)) }
+{
+    put_line(out, b">", words);
+}
 
 /// The frame of a sporadic entry with a header.
 fn sporadic_frame(cluster: &Cluster, entry: Entry, header: Option<u8>) -> Option<u16>
@@ -49,24 +54,19 @@ fn sporadic_frame(cluster: &Cluster, entry: Entry, header: Option<u8>) -> Option
 }
 
 /// The name of a member, where there is one.
-fn put_member<W: Write>(out: &mut TextWriter<'_, W>, names: &Names, member: Option<u16>)
+fn put_member<W: Write>(out: &mut TextWriter<'_, W>, cluster: &Cluster, member: Option<u16>)
     ensures { Grows W.contents out.old out.new
-        (flat_map spaced_word (map (frame_name names.now) (option_to_list member))) }
+        (flat_map spaced_word (map (frame_name cluster.now) (option_to_list member))) }
 {
     if let Some(frame) = member {
-        put_words(out, &[Word::Name(names.frame_name(frame))]);
+        put_words(out, &[Word::Name(cluster.frame_name(frame))]);
     }
 }
 
 /// What the entry of an opened slot is for.
-fn put_slot_names<W: Write>(
-    out: &mut TextWriter<'_, W>,
-    cluster: &Cluster,
-    names: &Names,
-    event: &Event,
-)
+fn put_slot_names<W: Write>(out: &mut TextWriter<'_, W>, cluster: &Cluster, event: &Event)
     ensures { Grows W.contents out.old out.new
-        (flat_map spaced_word (slot_names cluster.now names.now event.now)) }
+        (flat_map spaced_word (slot_names cluster.now event.now)) }
 {
     if let Event::Slot {
         table,
@@ -75,23 +75,18 @@ fn put_slot_names<W: Write>(
     } = event
     {
         let entry = line_at(cluster, *table, *number).entry;
-        put_words(out, &[Word::Name(entry_name(names, entry))]);
-        put_member(out, names, sporadic_frame(cluster, entry, *header));
+        put_words(out, &[Word::Name(cluster.entry_name(entry))]);
+        put_member(out, cluster, sporadic_frame(cluster, entry, *header));
     }
 }
 
-pub(crate) fn put_event<W: Write>(
-    out: &mut TextWriter<'_, W>,
-    cluster: &Cluster,
-    names: &Names,
-    event: &Event,
-)
+pub(crate) fn put_event<W: Write>(out: &mut TextWriter<'_, W>, cluster: &Cluster, event: &Event)
     ensures { Grows W.contents out.old out.new
-        (reply_line (named_event cluster.now names.now event.now)) }
+        (reply_line (named_event cluster.now event.now)) }
 {
     out.put_byte(b'>');
     lin_log::put_event(out, cluster, event);
-    put_slot_names(out, cluster, names, event);
+    put_slot_names(out, cluster, event);
     out.put_byte(b'\n');
 }
 
@@ -120,21 +115,15 @@ fn put_signals<W: Write>(
 }
 
 /// A good frame of signals.
-fn put_frame<W: Write>(
-    out: &mut TextWriter<'_, W>,
-    cluster: &Cluster,
-    names: &Names,
-    frame: u16,
-    answer: &Answer,
-)
+fn put_frame<W: Write>(out: &mut TextWriter<'_, W>, cluster: &Cluster, frame: u16, answer: &Answer)
     requires { frame < length cluster.now.frames }
     ensures { Grows W.contents out.old out.new
-        (reply_line (frame_words cluster.now names.now frame answer.now)) }
+        (reply_line (frame_words cluster.now frame answer.now)) }
 {
     out.put_byte(b'>');
     put_words(
         out,
-        &[Word::Text("frame"), Word::Name(names.frame_name(frame))],
+        &[Word::Text("frame"), Word::Name(cluster.frame_name(frame))],
     );
     put_signals(out, cluster, frame, answer);
     out.put_byte(b'\n');
@@ -207,15 +196,14 @@ fn put_transport_line<W: Write>(
 fn put_good<W: Write>(
     out: &mut TextWriter<'_, W>,
     cluster: &Cluster,
-    names: &Names,
     slot: &OpenSlot,
     answer: &Answer,
 )
     ensures { Grows W.contents out.old out.new
-        (line_or_none (good_words cluster.now names.now answer.now (slot_in slot.now))) }
+        (line_or_none (good_words cluster.now answer.now (slot_in slot.now))) }
 {
     match slot.frame(cluster) {
-        Some(frame) => put_frame(out, cluster, names, frame, answer),
+        Some(frame) => put_frame(out, cluster, frame, answer),
         None => put_transport_line(out, cluster, slot.header(), answer.as_slice()),
     }
 }
@@ -224,46 +212,43 @@ fn put_good<W: Write>(
 fn put_behind<W: Write>(
     out: &mut TextWriter<'_, W>,
     cluster: &Cluster,
-    names: &Names,
     slot: &Option<OpenSlot>,
     event: &Event,
 )
     ensures { Grows W.contents out.old out.new
-        (line_or_none (behind cluster.now names.now (option_map slot_in slot.now) event.now)) }
+        (line_or_none (behind cluster.now (option_map slot_in slot.now) event.now)) }
 {
     if let Event::Seen(Seen::Good(answer)) = event
         && let Some(slot) = slot
     {
-        put_good(out, cluster, names, slot, answer);
+        put_good(out, cluster, slot, answer);
     }
 }
 
 fn put_lines<W: Write>(
     out: &mut TextWriter<'_, W>,
     cluster: &Cluster,
-    names: &Names,
     slot: &Option<OpenSlot>,
     event: &Event,
 )
     ensures { Grows W.contents out.old out.new
-        (event_text cluster.now names.now (option_map slot_in slot.now) event.now) }
+        (event_text cluster.now (option_map slot_in slot.now) event.now) }
 {
-    put_event(out, cluster, names, event);
-    put_behind(out, cluster, names, slot, event);
+    put_event(out, cluster, event);
+    put_behind(out, cluster, slot, event);
 }
 
 fn put_events<W: Write>(
     out: &mut TextWriter<'_, W>,
     cluster: &Cluster,
-    names: &Names,
     slot: &Option<OpenSlot>,
     events: &[Event],
 )
     ensures { Grows W.contents out.old out.new
-        (flat_map (event_text cluster.now names.now (option_map slot_in slot.now)) events.now) }
+        (flat_map (event_text cluster.now (option_map slot_in slot.now)) events.now) }
 {
     for event in events {
-        put_lines(out, cluster, names, slot, event);
+        put_lines(out, cluster, slot, event);
     }
 }
 
@@ -292,16 +277,14 @@ fn put_time<W: Write>(out: &mut TextWriter<'_, W>, step: &Step, time: u64)
     }
 }
 
-/// A log with names, and what it needs for them.
+/// A log with names.
 #[derive(Drop)]
-struct NamedLog<'a> {
-    names: &'a Names,
-}
+struct NamedLog;
 
-impl Format for NamedLog<'_> {
+impl Format for NamedLog {
     ghost begins = { λ f c. [] };
 
-    ghost says = { λ f c. named_entry c f.names.now };
+    ghost says = { λ f c. named_entry c };
 
     ghost ends = { λ f c past. [] };
 
@@ -321,7 +304,7 @@ impl Format for NamedLog<'_> {
         put_step_line(out, cluster, entry.port, &entry.step);
         match &entry.reply {
             Reply::Done(events) => {
-                put_events(out, cluster, self.names, track.slot(), events.as_slice());
+                put_events(out, cluster, track.slot(), events.as_slice());
                 put_time(out, &entry.step, track.time_behind(cluster, entry));
             }
             Reply::Refused(refusal) => put_refusal(out, *refusal),
@@ -345,12 +328,11 @@ impl Format for NamedLog<'_> {
 pub fn write_named<W: Write>(
     alloc: Global,
     cluster: &Cluster,
-    names: &Names,
     log: &Log,
     writer: &mut W,
 ) -> Result<(), ExportFault>
     ensures { WritesText (W.contents writer.old) (W.contents writer.new) result
-        (named_log cluster.now names.now log.now.entries) }
+        (named_log cluster.now log.now.entries) }
 {
-    write_as(&mut NamedLog { names }, alloc, cluster, log, writer)
+    write_as(&mut NamedLog, alloc, cluster, log, writer)
 }

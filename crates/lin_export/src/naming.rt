@@ -1,13 +1,12 @@
 //! Names of what a slot speaks of.
 
-ghost use Rattle.std.specs.Prelude.{◌≡◌, [], slice_index_or};
+ghost use Rattle.std.specs.Prelude.{◌≡◌};
 ghost use Rattle.lin_cluster_parts.specs.Cluster.{named_table, node_of};
 ghost use Rattle.lin_export.specs.Open.{slot_in};
-ghost use Rattle.lin_export.specs.Shown.{entry_name, slot_name};
+ghost use Rattle.lin_export.specs.Shown.{slot_name};
 
 use crate::slot::OpenSlot;
-use lin_cluster_parts::{Cluster, Entry};
-use lin_names::Names;
+use lin_cluster_parts::Cluster;
 
 /// The name of a node; no bytes where none has this number.
 pub(crate) fn node_name(cluster: &Cluster, node: u8) -> &[u8]
@@ -31,26 +30,12 @@ pub(crate) fn table_name(cluster: &Cluster, table: u16) -> &[u8]
     }
 }
 
-/// The name of what an entry is for.
-pub(crate) fn entry_name(names: &Names, entry: Entry) -> &[u8]
-    ensures { result.now ≡ entry_name names.now entry }
-{
-    match entry {
-        Entry::Frame(frame) => names.frame_name(frame),
-        Entry::Sporadic(sporadic) => names.sporadic_name(sporadic),
-        Entry::Event(event) => names.event_name(event),
-        Entry::MasterReq => b"MasterReq",
-        Entry::SlaveResp => b"SlaveResp",
-        Entry::Quiet => b"-",
-    }
-}
-
 /// The name of a slot's frame, and failing that of what its entry is for.
-pub(crate) fn slot_name<'a>(cluster: &Cluster, names: &'a Names, slot: &OpenSlot) -> &'a [u8]
-    ensures { result.now ≡ slot_name cluster.now names.now (slot_in slot.now) }
+pub(crate) fn slot_name<'a>(cluster: &'a Cluster, slot: &OpenSlot) -> &'a [u8]
+    ensures { result.now ≡ slot_name cluster.now (slot_in slot.now) }
 {
     match slot.frame(cluster) {
-        Some(frame) => names.frame_name(frame),
-        None => entry_name(names, slot.line(cluster).entry),
+        Some(frame) => cluster.frame_name(frame),
+        None => cluster.entry_name(slot.line(cluster).entry),
     }
 }

@@ -6,8 +6,7 @@ ghost use Rattle.std.specs.Prelude.{Some};
 use crate::runs::{expect_bytes, run};
 use crate::samples;
 use lin_core::Core;
-use lin_export::{ExportFault, write_csv, write_html, write_named, write_pcap, write_vcd};
-use lin_names::Names;
+use lin_export::{ExportFault, write_csv, write_first_slots, write_named, write_pcap, write_vcd};
 use std::alloc::{AllocError, Global};
 use std::io::{Error, ErrorKind, Write};
 use std::process::Abort;
@@ -56,10 +55,16 @@ enum Form {
     Csv,
     Pcap,
     Vcd,
-    Html,
+    FirstSlots,
 }
 
-const FORMS: [Form; 5] = [Form::Named, Form::Csv, Form::Pcap, Form::Vcd, Form::Html];
+const FORMS: [Form; 5] = [
+    Form::Named,
+    Form::Csv,
+    Form::Pcap,
+    Form::Vcd,
+    Form::FirstSlots,
+];
 
 fn name_of(form: Form) -> &'static str {
     match form {
@@ -67,25 +72,24 @@ fn name_of(form: Form) -> &'static str {
         Form::Csv => "csv",
         Form::Pcap => "pcap",
         Form::Vcd => "vcd",
-        Form::Html => "html",
+        Form::FirstSlots => "first slots",
     }
 }
 
 fn write_form<W: Write>(
     form: Form,
     alloc: Global,
-    names: &Names,
     core: &Core,
     writer: &mut W,
 ) -> Result<(), ExportFault> {
     let cluster = core.cluster();
     let log = core.log();
     match form {
-        Form::Named => write_named(alloc, cluster, names, log, writer),
-        Form::Csv => write_csv(alloc, cluster, names, log, writer),
+        Form::Named => write_named(alloc, cluster, log, writer),
+        Form::Csv => write_csv(alloc, cluster, log, writer),
         Form::Pcap => write_pcap(alloc, cluster, log, writer),
         Form::Vcd => write_vcd(alloc, cluster, log, writer),
-        Form::Html => write_html(alloc, cluster, names, log, writer),
+        Form::FirstSlots => write_first_slots(alloc, cluster, log, writer),
     }
 }
 
@@ -94,19 +98,19 @@ fn expect_beginning(
     rt: &impl Abort,
     alloc: Global,
     form: Form,
-    run: &(Names, Core),
+    core: &Core,
     good: usize,
     kind: Option<ErrorKind>,
 ) -> Result<(), Fail> {
     let mut text = Vec::new(alloc);
-    write_form(form, alloc, &run.0, &run.1, &mut text)?;
+    write_form(form, alloc, core, &mut text)?;
     let mut writer = Refusing {
         taken: Vec::new(alloc),
         good,
         calls: 0,
         kind,
     };
-    let written = write_form(form, alloc, &run.0, &run.1, &mut writer);
+    let written = write_form(form, alloc, core, &mut writer);
     let name = name_of(form);
     assert!(rt;
         matches!(written, Err(ExportFault::WriteFailed)),
@@ -132,7 +136,7 @@ fn writers_that_fail(rt: HostRuntime) -> Result<(), Fail> {
     let first = run(rt.alloc(), samples::BUILT_IN, samples::FIRST_LOG)?;
     for form in FORMS {
         let mut text = Vec::new(rt.alloc());
-        write_form(form, rt.alloc(), &first.0, &first.1, &mut text)?;
+        write_form(form, rt.alloc(), &first, &mut text)?;
         for good in 0..text.len().div_ceil(MOST) {
             expect_beginning(&rt, rt.alloc(), form, &first, good, Some(ErrorKind::Other))?;
         }
@@ -153,17 +157,17 @@ fn writers_that_fail(rt: HostRuntime) -> Result<(), Fail> {
 
 #[test]
 fn a_few_bytes_a_write(rt: HostRuntime) -> Result<(), Fail> {
-    let (names, core) = run(rt.alloc(), samples::BUILT_IN, samples::FIRST_LOG)?;
+    let core = run(rt.alloc(), samples::BUILT_IN, samples::FIRST_LOG)?;
     for form in FORMS {
         let mut text = Vec::new(rt.alloc());
-        write_form(form, rt.alloc(), &names, &core, &mut text)?;
+        write_form(form, rt.alloc(), &core, &mut text)?;
         let mut writer = Refusing {
             taken: Vec::new(rt.alloc()),
             good: text.len(),
             calls: 0,
             kind: None,
         };
-        write_form(form, rt.alloc(), &names, &core, &mut writer)?;
+        write_form(form, rt.alloc(), &core, &mut writer)?;
         expect_bytes(
             &rt,
             &writer.taken,
@@ -177,25 +181,29 @@ fn a_few_bytes_a_write(rt: HostRuntime) -> Result<(), Fail> {
 
 #[test]
 fn empty_log(rt: HostRuntime) -> Result<(), Fail> {
-    let (names, core) = run(rt.alloc(), samples::BUILT_IN, b"")?;
+    let core = run(rt.alloc(), samples::BUILT_IN, b"")?;
     let mut named = Vec::new(rt.alloc());
-    write_form(Form::Named, rt.alloc(), &names, &core, &mut named)?;
+    write_form(Form::Named, rt.alloc(), &core, &mut named)?;
     expect_bytes(&rt, &named, b"", "an empty log", "named");
     let mut csv = Vec::new(rt.alloc());
-    write_form(Form::Csv, rt.alloc(), &names, &core, &mut csv)?;
+    write_form(Form::Csv, rt.alloc(), &core, &mut csv)?;
     let columns = b"slot,time_us,delay_us,table,entry,kind,frame,header,nodes,seen,data,checksum\n";
     expect_bytes(&rt, &csv, columns, "an empty log", "csv");
     let mut pcap = Vec::new(rt.alloc());
-    write_form(Form::Pcap, rt.alloc(), &names, &core, &mut pcap)?;
+    write_form(Form::Pcap, rt.alloc(), &core, &mut pcap)?;
     assert!(rt; pcap.len() == 24 && samples::FIRST_PCAP.starts_with(pcap.as_slice()));
     let mut vcd = Vec::new(rt.alloc());
-    write_form(Form::Vcd, rt.alloc(), &names, &core, &mut vcd)?;
+    write_form(Form::Vcd, rt.alloc(), &core, &mut vcd)?;
     assert!(rt; samples::FIRST_VCD.starts_with(vcd.as_slice()));
     assert!(rt; vcd.as_slice().ends_with(b"$end\n"));
-    let mut html = Vec::new(rt.alloc());
-    write_form(Form::Html, rt.alloc(), &names, &core, &mut html)?;
-    assert!(rt; html.as_slice().starts_with(b"<!DOCTYPE html>"));
-    assert!(rt; html.as_slice().ends_with(b"</html>\n"));
+    let mut first = Vec::new(rt.alloc());
+    write_form(Form::FirstSlots, rt.alloc(), &core, &mut first)?;
+    assert!(rt;
+        first
+            .as_slice()
+            .starts_with(b"<table>\n<tr><th>slot<th>time_us")
+    );
+    assert!(rt; first.as_slice().ends_with(b"<th>checksum\n</table>\n"));
     Ok(())
 }
 
@@ -220,7 +228,7 @@ fn replaced(alloc: Global, text: &[u8], old: &[u8], new: &[u8]) -> Result<Vec<u8
 const LONG: [u8; 1000] = [b'n'; 1000];
 
 /// A run of a cluster in which a name is a long one.
-fn renamed(alloc: Global, ldf: &[u8], name: &[u8], log: &[u8]) -> Result<(Names, Core), Fail> {
+fn renamed(alloc: Global, ldf: &[u8], name: &[u8], log: &[u8]) -> Result<Core, Fail> {
     let ldf = replaced(alloc, ldf, name, &LONG)?;
     run(alloc, &ldf, log)
 }
@@ -230,17 +238,13 @@ fn expect_renamed(
     rt: &impl Abort,
     alloc: Global,
     form: Form,
-    run: &(Names, Core),
+    core: &Core,
     text: &[u8],
     name: &[u8],
 ) -> Result<(), Fail> {
     let mut found = Vec::new(alloc);
-    write_form(form, alloc, &run.0, &run.1, &mut found)?;
-    let mut want = Vec::new(alloc);
-    if matches!(form, Form::Html) {
-        want.extend_from_slice(samples::HTML_HEAD)?;
-    }
-    want.extend_from_slice(&replaced(alloc, text, name, &LONG)?)?;
+    write_form(form, alloc, core, &mut found)?;
+    let want = replaced(alloc, text, name, &LONG)?;
     expect_bytes(rt, &found, &want, "a long name", name_of(form));
     Ok(())
 }
@@ -254,9 +258,9 @@ fn expect_long_name(
     log: &[u8],
     texts: &[(Form, &[u8])],
 ) -> Result<(), Fail> {
-    let run = renamed(alloc, ldf, name, log)?;
+    let core = renamed(alloc, ldf, name, log)?;
     for (form, text) in texts {
-        expect_renamed(rt, alloc, *form, &run, text, name)?;
+        expect_renamed(rt, alloc, *form, &core, text, name)?;
     }
     Ok(())
 }
@@ -273,7 +277,6 @@ fn names_of_1000_bytes(rt: HostRuntime) -> Result<(), Fail> {
             (Form::Named, samples::FIRST_NAMED),
             (Form::Pcap, samples::FIRST_PCAP),
             (Form::Vcd, samples::FIRST_VCD),
-            (Form::Html, samples::FIRST_HTML),
         ],
     )?;
     expect_long_name(
@@ -286,7 +289,6 @@ fn names_of_1000_bytes(rt: HostRuntime) -> Result<(), Fail> {
             (Form::Named, samples::KEYS_NAMED),
             (Form::Csv, samples::KEYS_CSV),
             (Form::Vcd, samples::KEYS_VCD),
-            (Form::Html, samples::KEYS_HTML),
         ],
     )
 }

@@ -2,13 +2,12 @@
 
 use crate::runs::{expect_bytes, run};
 use crate::samples;
-use lin_export::{write_csv, write_html, write_named, write_pcap, write_vcd};
+use lin_export::{write_csv, write_first_slots, write_named, write_pcap, write_vcd};
 use std::alloc::Global;
 use std::process::Abort;
 use std::test::Fail;
 
-/// A name, a log, the LDF text of its cluster, and what it is written as; of a picture what stands after
-/// its head.
+/// A name, a log, the LDF text of its cluster, and what it is written as.
 #[derive(Drop)]
 struct Sample<'a> {
     name: &'a str,
@@ -18,16 +17,15 @@ struct Sample<'a> {
     csv: &'a [u8],
     pcap: &'a [u8],
     vcd: &'a [u8],
-    html: &'a [u8],
 }
 
 fn expect_formats(rt: &impl Abort, alloc: Global, sample: &Sample<'_>) -> Result<(), Fail> {
-    let (names, core) = run(alloc, sample.ldf, sample.log)?;
+    let core = run(alloc, sample.ldf, sample.log)?;
     let mut named = Vec::new(alloc);
-    write_named(alloc, core.cluster(), &names, core.log(), &mut named)?;
+    write_named(alloc, core.cluster(), core.log(), &mut named)?;
     expect_bytes(rt, &named, sample.named, sample.name, "named");
     let mut csv = Vec::new(alloc);
-    write_csv(alloc, core.cluster(), &names, core.log(), &mut csv)?;
+    write_csv(alloc, core.cluster(), core.log(), &mut csv)?;
     expect_bytes(rt, &csv, sample.csv, sample.name, "csv");
     let mut pcap = Vec::new(alloc);
     write_pcap(alloc, core.cluster(), core.log(), &mut pcap)?;
@@ -35,17 +33,6 @@ fn expect_formats(rt: &impl Abort, alloc: Global, sample: &Sample<'_>) -> Result
     let mut vcd = Vec::new(alloc);
     write_vcd(alloc, core.cluster(), core.log(), &mut vcd)?;
     expect_bytes(rt, &vcd, sample.vcd, sample.name, "vcd");
-    let mut html = Vec::new(alloc);
-    write_html(alloc, core.cluster(), &names, core.log(), &mut html)?;
-    let head = samples::HTML_HEAD;
-    assert!(rt; html.as_slice().starts_with(head));
-    expect_bytes(
-        rt,
-        &html.as_slice()[head.len()..],
-        sample.html,
-        sample.name,
-        "html",
-    );
     Ok(())
 }
 
@@ -58,7 +45,6 @@ fn first() -> Sample<'static> {
         csv: samples::FIRST_CSV,
         pcap: samples::FIRST_PCAP,
         vcd: samples::FIRST_VCD,
-        html: samples::FIRST_HTML,
     }
 }
 
@@ -71,7 +57,6 @@ fn wake() -> Sample<'static> {
         csv: samples::WAKE_CSV,
         pcap: samples::WAKE_PCAP,
         vcd: samples::WAKE_VCD,
-        html: samples::WAKE_HTML,
     }
 }
 
@@ -84,7 +69,6 @@ fn keys() -> Sample<'static> {
         csv: samples::KEYS_CSV,
         pcap: samples::KEYS_PCAP,
         vcd: samples::KEYS_VCD,
-        html: samples::KEYS_HTML,
     }
 }
 
@@ -97,7 +81,6 @@ fn window() -> Sample<'static> {
         csv: samples::WINDOW_CSV,
         pcap: samples::WINDOW_PCAP,
         vcd: samples::WINDOW_VCD,
-        html: samples::WINDOW_HTML,
     }
 }
 
@@ -110,7 +93,6 @@ fn task_c() -> Sample<'static> {
         csv: samples::TASK_C_CSV,
         pcap: samples::TASK_C_PCAP,
         vcd: samples::TASK_C_VCD,
-        html: samples::TASK_C_HTML,
     }
 }
 
@@ -119,5 +101,15 @@ fn samples_in_each_format(rt: HostRuntime) -> Result<(), Fail> {
     for sample in [first(), wake(), keys(), window(), task_c()] {
         expect_formats(&rt, rt.alloc(), &sample)?;
     }
+    Ok(())
+}
+
+#[test]
+fn first_slots_are_rows(rt: HostRuntime) -> Result<(), Fail> {
+    let alloc = rt.alloc();
+    let core = run(alloc, samples::BUILT_IN, samples::FIRST_LOG)?;
+    let mut rows = Vec::new(alloc);
+    write_first_slots(alloc, core.cluster(), core.log(), &mut rows)?;
+    expect_bytes(&rt, &rows, samples::FIRST_ROWS, "first", "first slots");
     Ok(())
 }

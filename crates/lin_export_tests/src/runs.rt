@@ -4,23 +4,19 @@ use lin_cluster::check;
 use lin_core::Core;
 use lin_ldf::parse;
 use lin_log::replay;
-use lin_names::Names;
 use std::alloc::Global;
 use std::process::Abort;
 use std::test::Fail;
 
-/// What an LDF text describes, and the core after a log on its first table.
-pub fn run(alloc: Global, ldf: &[u8], log: &[u8]) -> Result<(Names, Core), Fail> {
-    let description = parse(alloc, ldf)?;
-    let names = Names::of(alloc, &description)?;
-    let cluster = check(alloc, description)?;
+/// The core of the cluster of an LDF text after a log on its first table.
+pub fn run(alloc: Global, ldf: &[u8], log: &[u8]) -> Result<Core, Fail> {
+    let cluster = check(alloc, parse(alloc, ldf)?)?;
     if cluster.tables() == 0 {
         return Err(Fail::from("no table"));
     }
     let mut rest = log;
     let mut text = Vec::new(alloc);
-    let core = replay(alloc, cluster, 0, 16, &mut rest, &mut text)?;
-    Ok((names, core))
+    Ok(replay(alloc, cluster, 0, 16, &mut rest, &mut text)?)
 }
 
 /// Compares what was written of a case in a format.

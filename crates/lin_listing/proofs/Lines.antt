@@ -1,5 +1,5 @@
 -- Lines as they are put, word by word and thing by thing.
-use Rattle.std.proofs.Common.{◌≡◌, ℕ, ◌+◌, ◌<◌, List, [], ◌∷◌, ◌++◌, Option, true, false, ◌==◌, length, get_or, take, map, flat_map, refl, sym, ap, ◌∙◌, append_assoc, append-nil, add-one, arith}
+use Rattle.std.proofs.Common.{◌≡◌, ℕ, ◌+◌, ◌<◌, List, [], ◌∷◌, ◌++◌, Option, false, length, get_or, take, map, flat_map, refl, sym, ap, ◌∙◌, append_assoc, append-nil, add-one, arith}
 use Rattle.std.proofs.lemmas.Grind.{flat_map-append}
 use Rattle.std.proofs.lemmas.List.{map-append, take_more}
 use Rattle.std.proofs.lemmas.Slice.Zip.{get_or-zip, length-zip}
@@ -12,22 +12,9 @@ use Rattle.lin_text.specs.Written.{Grows}
 use Rattle.lin_text.specs.declared.buffered.TextWriter.{TextWriter}
 
 -- words that end a line
-pub ended-flat : (ws : List (List ℕ)) → flat_map spaced_word ws ++ 10 ∷ [] ≡ line_tail ws
-ended-flat [] = refl
-ended-flat (w ∷ ws) = append_assoc (spaced_word w) (flat_map spaced_word ws) (10 ∷ []) ∙ ap (λ l. spaced_word w ++ l) (ended-flat ws)
-
 pub ended-both : (xs ys : List (List ℕ)) → flat_map spaced_word xs ++ line_tail ys ≡ line_tail (xs ++ ys)
 ended-both [] ys = refl
 ended-both (x ∷ xs) ys = append_assoc (spaced_word x) (flat_map spaced_word xs) (line_tail ys) ∙ ap (λ l. spaced_word x ++ l) (ended-both xs ys)
-
--- one word more
-pub words-next : {X : Type 0} (f : X → List ℕ) (xs : List X) (i : ℕ) (d : X) → i < length xs
-    → flat_map spaced_word (map f (take (i + 1) xs)) ≡ flat_map spaced_word (map f (take i xs)) ++ spaced_word (f (get_or xs i d))
-words-next f xs i d lt =
-    ap (λ l. flat_map spaced_word (map f l)) (take_more xs i d lt)
-    ∙ ap (flat_map spaced_word) (map-append f (take i xs) (get_or xs i d ∷ []))
-    ∙ flat_map-append spaced_word (map f (take i xs)) (f (get_or xs i d) ∷ [])
-    ∙ ap (λ l. flat_map spaced_word (map f (take i xs)) ++ l) (append-nil (spaced_word (f (get_or xs i d))))
 
 -- the lines of one number more
 pub numbers-next : (f : ℕ → List ℕ) (i : ℕ) → flat_map f (numbers (i + 1)) ≡ flat_map f (numbers i) ++ f i

@@ -7,10 +7,9 @@ use Rattle.lin_frame.specs.declared.layout.Place.{Place}
 use Rattle.lin_frame.specs.declared.sums.SumKind.{SumKind}
 use Rattle.lin_frame.specs.declared.sums.SumKind.TheVariants.{Classic, Enhanced}
 use Rattle.lin_cluster_parts.specs.Cluster.{event_of, frame_of, named_table, node_of, signal_of}
-use Rattle.lin_cluster_parts.specs.Cluster.{sporadic_of}
+use Rattle.lin_cluster_parts.specs.Cluster.{event_name, frame_name, sporadic_name, sporadic_of}
 use Rattle.lin_cluster_parts.specs.declared.parts.Parts.{Parts}
 use Rattle.lin_cluster_parts.specs.declared.parts.SignalFrame.{SignalFrame}
-use Rattle.lin_names.specs.Names.{NamesData, event_name, frame_name, sporadic_name}
 use Rattle.lin_log.specs.Words.{line, value_word}
 
 -- the identifier in a protected identifier: all but its two parity bits (ISO 17987-3, frame header)
@@ -23,12 +22,12 @@ model_word Enhanced = codes "enhanced"
 
 -- number, name, identifier, protected identifier, data bytes, publisher and checksum model of an
 -- unconditional frame
-abbrev pub frame_line : Parts → NamesData → ℕ → List ℕ
-frame_line c names f =
+abbrev pub frame_line : Parts → ℕ → List ℕ
+frame_line c f =
     line
     (codes "frame"
     ∷ decimal f
-    ∷ frame_name names f
+    ∷ frame_name c f
     ∷ identifier_word (frame_of c f).pid
     ∷ encode_upper ((frame_of c f).pid ∷ [])
     ∷ decimal (frame_of c f).layout.len
@@ -46,30 +45,30 @@ place_line c f p =
     line (codes "place" ∷ decimal f ∷ decimal p.1.offset ∷ decimal p.1.size ∷ (signal_of c p.0).name
     ∷ value_word (signal_of c p.0).initial ∷ [])
 
-abbrev pub frame_lines : Parts → NamesData → ℕ → List ℕ
-frame_lines c names f = frame_line c names f ++ flat_map (place_line c f) (places (frame_of c f))
+abbrev pub frame_lines : Parts → ℕ → List ℕ
+frame_lines c f = frame_line c f ++ flat_map (place_line c f) (places (frame_of c f))
 
 -- a sporadic frame: its frames, the highest in rank first
-abbrev pub sporadic_line : Parts → NamesData → ℕ → List ℕ
-sporadic_line c names k =
-    line (codes "sporadic" ∷ decimal k ∷ sporadic_name names k
-    ∷ map (frame_name names) (sporadic_of c k))
+abbrev pub sporadic_line : Parts → ℕ → List ℕ
+sporadic_line c k =
+    line (codes "sporadic" ∷ decimal k ∷ sporadic_name c k
+    ∷ map (frame_name c) (sporadic_of c k))
 
 -- an event-triggered frame: its identifiers, the table that resolves its collisions, and its frames
-abbrev pub event_line : Parts → NamesData → ℕ → List ℕ
-event_line c names e =
+abbrev pub event_line : Parts → ℕ → List ℕ
+event_line c e =
     line
     (codes "event"
     ∷ decimal e
-    ∷ event_name names e
+    ∷ event_name c e
     ∷ identifier_word (event_of c e).pid
     ∷ encode_upper ((event_of c e).pid ∷ [])
     ∷ (named_table c (event_of c e).table).name
-    ∷ map (frame_name names) (event_of c e).frames)
+    ∷ map (frame_name c) (event_of c e).frames)
 
 -- the frames of each kind, by their numbers
-abbrev pub frames : Parts → NamesData → List ℕ
-frames c names =
-    flat_map (frame_lines c names) (numbers (length c.frames))
-    ++ flat_map (sporadic_line c names) (numbers (length c.sporadic))
-    ++ flat_map (event_line c names) (numbers (length c.events))
+abbrev pub frames : Parts → List ℕ
+frames c =
+    flat_map (frame_lines c) (numbers (length c.frames))
+    ++ flat_map (sporadic_line c) (numbers (length c.sporadic))
+    ++ flat_map (event_line c) (numbers (length c.events))

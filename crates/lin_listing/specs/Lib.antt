@@ -1,3 +1,3 @@
-pub mod Shown
+pub mod Listing
 pub mod Frames
 pub mod Slots

@@ -1,16 +1,19 @@
-//! What an LDF describes, as lines: its frames with the places of their signals, and how much time
-//! its slots leave.
+//! What an LDF describes, as lines: its nodes, signals and schedule tables, its frames with the
+//! places of their signals, and how much time its slots leave.
 //!
 //! ```
-//! // a line for each frame and each place, and then one for each slot and each table
-//! write_frames(&cluster, &names, &mut writer)?;
-//! write_slots(&cluster, &names, &mut writer)?;
+//! // a line for each node, signal and table, for each frame and each place, and for each slot and
+//! // each table's load
+//! write_list(&cluster, &mut writer)?;
+//! write_frames(&cluster, &mut writer)?;
+//! write_slots(&cluster, &mut writer)?;
 //! ```
 #![tactic(auto)]
 
 mod frames;
+mod listing;
 mod slots;
-mod words;
 
 pub use frames::write_frames;
+pub use listing::write_list;
 pub use slots::write_slots;

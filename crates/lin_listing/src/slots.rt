@@ -5,14 +5,13 @@ ghost use Rattle.lin_frame.specs.Words.{numbers};
 ghost use Rattle.lin_cluster_parts.specs.Cluster.{frame_of, line_of, table_of};
 ghost use Rattle.lin_cluster_parts.specs.Rules.{IsEntry};
 ghost use Rattle.lin_text.specs.Written.{Grows, WritesText};
-ghost use Rattle.lin_listing.specs.Slots.{AreOfOneDescription, NoSlotIsShort, bits_of, delay_of};
-ghost use Rattle.lin_listing.specs.Slots.{frame_bytes, greatest_bytes, load_line, nominal_bits};
-ghost use Rattle.lin_listing.specs.Slots.{permille, slot_bytes, slot_line, slots, table_lines};
+ghost use Rattle.lin_cluster.specs.SlotTimes.{frame_bytes, greatest_bytes, slot_bytes};
+ghost use Rattle.lin_listing.specs.Slots.{bits_of, delay_of, load_line, nominal_bits, permille};
+ghost use Rattle.lin_listing.specs.Slots.{slot_line, slots, table_lines};
 
-use crate::words::{Word, put_line};
 use lin_cluster::needed_us;
 use lin_cluster_parts::{Cluster, Entry};
-use lin_names::{Names, entry_kind};
+use lin_log::{Word, put_line};
 use lin_text::{TextWriter, WriteFailed};
 use std::io::Write;
 
@@ -53,50 +52,42 @@ fn slot_bytes(cluster: &Cluster, entry: Entry) -> u8
 fn put_slot<'a, W: Write>(
     out: &mut TextWriter<'_, W>,
     cluster: &'a Cluster,
-    names: &'a Names,
     table: u16,
     number: u16,
 )
     requires table { table < length cluster.now.tables }
     requires entry { number < length (table_of cluster.now table) }
-    requires together { AreOfOneDescription cluster.now names.now }
-    ensures { Grows W.contents out.old out.new (slot_line cluster.now names.now table number) }
+    ensures { Grows W.contents out.old out.new (slot_line cluster.now table number) }
 {
     cluster.sound();
     let entry = cluster.entry(table, number);
     let bytes = slot_bytes(cluster, entry);
     let delay = u64::from(cluster.delay_us(table, number));
-    let needed = needed_us(names.jitter_us(), names.speed(), u32::from(bytes));
+    let needed = needed_us(cluster.jitter_us(), cluster.speed(), u32::from(bytes));
     put_line(
         out,
         b"slot",
         &[
             Word::Number(u64::from(table)),
             Word::Number(u64::from(number)),
-            Word::Name(names.entry_name(entry)),
-            Word::Name(entry_kind(entry)),
+            Word::Name(cluster.entry_name(entry)),
+            Word::Name(entry.kind()),
             Word::Number(u64::from(bytes)),
             Word::Number(delay),
             Word::Number(needed),
-            Word::Number(delay - needed),
+            Word::Number(delay.saturating_sub(needed)),
         ],
     );
 }
 
-fn put_table_slots<W: Write>(
-    out: &mut TextWriter<'_, W>,
-    cluster: &Cluster,
-    names: &Names,
-    table: u16,
-)
+fn put_table_slots<W: Write>(out: &mut TextWriter<'_, W>, cluster: &Cluster, table: u16)
     requires table { table < length cluster.now.tables }
-    requires together { AreOfOneDescription cluster.now names.now }
     ensures { Grows W.contents out.old out.new
-        (flat_map (slot_line cluster.now names.now table)
+        (flat_map (slot_line cluster.now table)
         (numbers (length (table_of cluster.now table)))) }
 {
     for entry in 0..cluster.entries(table) as u16 {
-        put_slot(out, cluster, names, table, entry);
+        put_slot(out, cluster, table, entry);
     }
 }
 
@@ -147,14 +138,9 @@ fn permille(bits: u64, speed: u32, delay: u64) -> u64
 }
 
 /// The line of the load of a table.
-fn put_load<'a, W: Write>(
-    out: &mut TextWriter<'_, W>,
-    cluster: &'a Cluster,
-    names: &'a Names,
-    table: u16,
-)
+fn put_load<'a, W: Write>(out: &mut TextWriter<'_, W>, cluster: &'a Cluster, table: u16)
     requires { table < length cluster.now.tables }
-    ensures { Grows W.contents out.old out.new (load_line cluster.now names.now table) }
+    ensures { Grows W.contents out.old out.new (load_line cluster.now table) }
 {
     let delay = delay_of(cluster, table);
     let bits = bits_of(cluster, table);
@@ -165,51 +151,41 @@ fn put_load<'a, W: Write>(
             Word::Number(u64::from(table)),
             Word::Name(cluster.table_name(table)),
             Word::Number(delay),
-            Word::Number(permille(bits, names.speed(), delay)),
+            Word::Number(permille(bits, cluster.speed(), delay)),
         ],
     );
 }
 
-fn put_table<W: Write>(out: &mut TextWriter<'_, W>, cluster: &Cluster, names: &Names, table: u16)
+fn put_table<W: Write>(out: &mut TextWriter<'_, W>, cluster: &Cluster, table: u16)
     requires table { table < length cluster.now.tables }
-    requires together { AreOfOneDescription cluster.now names.now }
-    ensures { Grows W.contents out.old out.new (table_lines cluster.now names.now table) }
+    ensures { Grows W.contents out.old out.new (table_lines cluster.now table) }
 {
-    put_table_slots(out, cluster, names, table);
-    put_load(out, cluster, names, table);
+    put_table_slots(out, cluster, table);
+    put_load(out, cluster, table);
 }
 
-fn put_slots<W: Write>(out: &mut TextWriter<'_, W>, cluster: &Cluster, names: &Names)
-    requires { AreOfOneDescription cluster.now names.now }
-    ensures { Grows W.contents out.old out.new (slots cluster.now names.now) }
+fn put_slots<W: Write>(out: &mut TextWriter<'_, W>, cluster: &Cluster)
+    ensures { Grows W.contents out.old out.new (slots cluster.now) }
 {
     for table in 0..cluster.tables() as u16 {
-        put_table(out, cluster, names, table);
+        put_table(out, cluster, table);
     }
 }
 
 /// Writes for each schedule table a line for each slot, with the time that it needs and its slack
-/// in microseconds, and then one for the table's load (ISO 17987-3, frame slots). The names are
-/// those of the description that the cluster was made of; since nothing was found in that, no slack
-/// is negative.
+/// in microseconds, and then one for the table's load (ISO 17987-3, frame slots). In a cluster that
+/// `check` made no slot is short; the slack of one that is would be 0.
 ///
 /// It goes through a buffer of fixed size, and takes no memory. The writer isn't flushed.
 ///
 /// # Errors
 /// `WriteFailed` at the first error of the writer, an interrupted write too, and at the first write
 /// of 0 bytes. What was written then is the beginning of the lines.
-pub fn write_slots<W: Write>(
-    cluster: &Cluster,
-    names: &Names,
-    writer: &mut W,
-) -> Result<(), WriteFailed>
-    requires { AreOfOneDescription cluster.now names.now }
-    ensures lines { WritesText (W.contents writer.old) (W.contents writer.new) result
-        (slots cluster.now names.now) }
-    ensures slack { NoSlotIsShort cluster.now names.now }
+pub fn write_slots<W: Write>(cluster: &Cluster, writer: &mut W) -> Result<(), WriteFailed>
+    ensures { WritesText (W.contents writer.old) (W.contents writer.new) result
+        (slots cluster.now) }
 {
-    cluster.sound();
     let mut out = TextWriter::new(writer);
-    put_slots(&mut out, cluster, names);
+    put_slots(&mut out, cluster);
     out.finish()
 }

@@ -4,7 +4,6 @@ use crate::samples;
 use lin_cluster::check;
 use lin_ldf::parse;
 use lin_listing::{write_frames, write_slots};
-use lin_names::Names;
 use std::alloc::Global;
 use std::process::Abort;
 use std::test::Fail;
@@ -22,14 +21,12 @@ fn expect_lists(
     frames: &[u8],
     slots: &[u8],
 ) -> Result<(), Fail> {
-    let description = parse(alloc, ldf)?;
-    let names = Names::of(alloc, &description)?;
-    let cluster = check(alloc, description)?;
+    let cluster = check(alloc, parse(alloc, ldf)?)?;
     let mut found = Vec::new(alloc);
-    write_frames(&cluster, &names, &mut found)?;
+    write_frames(&cluster, &mut found)?;
     expect_bytes(rt, &found, frames, "frames");
     let mut found = Vec::new(alloc);
-    write_slots(&cluster, &names, &mut found)?;
+    write_slots(&cluster, &mut found)?;
     expect_bytes(rt, &found, slots, "slots");
     Ok(())
 }

@@ -2,4 +2,4 @@ use Rattle.lin_text.proofs.Growing.{grows-more}
 use Rattle.lin_export.proofs.csv.put_next.Goals as goal
 
 pub returns : goal.returns
-returns g c = grows-more c.put_byte.ensures c.put_cell.ensures
+returns g c = grows-more c.put.ensures c.put_cell.ensures

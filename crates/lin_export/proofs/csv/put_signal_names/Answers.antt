@@ -2,7 +2,7 @@ use Rattle.std.proofs.Common.{sym, ap, ◌∙◌, arith, ◌++◌, flat_map, map
 use Rattle.lin_cluster_parts.specs.declared.parts.Signal.{Signal}
 use Rattle.lin_text.proofs.Growing.{grows-more, same-growth}
 use Rattle.lin_export.specs.Csv.{comma}
-use Rattle.lin_export.proofs.Rows.{mapped-more}
+use Rattle.lin_log.proofs.Ends.{mapped-more}
 use Rattle.lin_export.proofs.csv.put_signal_names.Goals as goal
 
 pub loop-signal-preserved : goal.loop-signal-preserved

@@ -1,7 +1,4 @@
-use Rattle.std.proofs.Common.{ap, ◌∷◌}
 use Rattle.std.proofs.lemmas.Fmt.{decimal_digit}
-use Rattle.lin_text.specs.Written.{Grows}
-use Rattle.lin_export.specs.Csv.{comma, value_cell}
 use Rattle.lin_export.proofs.csv.put_value.Goals as goal
 
 pub returns-in-Scalar : goal.returns-in-Scalar

@@ -2,8 +2,7 @@ use Rattle.std.proofs.Common.{refl, ◌≡◌, ◌+◌, ◌∷◌, ◌++◌, [],
 use Rattle.std.proofs.lemmas.Grind.{common_steps}
 use Rattle.lin_core.specs.declared.log.LogEntry.{LogEntry}
 use Rattle.lin_cluster_parts.specs.declared.parts.Parts.{Parts}
-use Rattle.lin_text.proofs.Growing.{grows-more, grows-nothing}
-use Rattle.lin_export.proofs.OfTexts.{of-both, of-other, of-same, of-this}
+use Rattle.lin_text.proofs.Growing.{grows-more, grows-nothing, same-growth}
 use Rattle.lin_export.proofs.Puttings.{puts-all, puts-some}
 use Rattle.lin_export.proofs.Tellings.{before, before-next, each-next, each-cut}
 use Rattle.lin_export.specs.Telling.{each_entry}
@@ -12,7 +11,7 @@ use Rattle.lin_export.proofs.format.put_entries.Goals as goal
 
 pub loop-index-init : goal.loop-index-init
 loop-index-init g c = record {
-  told = of-this g.F.Format.exact _ [] (grows-nothing c.args.out.now);
+  told = grows-nothing c.args.out.now;
   kept = c.new-track.ensures c.args.cluster.now;
   time = rw (c.new-track.ensures c.args.cluster.now) (omega arith);
   slots = rw (c.new-track.ensures c.args.cluster.now) (omega arith);
@@ -37,8 +36,8 @@ loop-index-preserved g c =
     let next : before es (i + 1) ≡ e ∷ past = before-next es i e c.entry-entry.ensures (omega arith) in
     record {
       told =
-          of-same g.F.Format.exact _ (sym (each-next (g.F.Format.says c.args.format.now x) es i e c.entry-entry.ensures (omega arith)))
-          (of-both g.F.Format.exact _ _ _ _ _ (λ a b u v. grows-more u v) v.told (of-same g.F.Format.exact _ (ap (λ (s : Says). s x e past) v.says) (c.put_entry.ensures.text past v.kept v.keeps)));
+          same-growth (sym (each-next (g.F.Format.says c.args.format.now x) es i e c.entry-entry.ensures (omega arith)))
+          (grows-more v.told (same-growth (ap (λ (s : Says). s x e past) v.says) (c.put_entry.ensures.text past v.kept v.keeps)));
       kept = c.in_ok-follow.ensures.kept past v.kept ∙ ap (track_of x) (sym next);
       time = let t = c.follow.ensures.time in let s = v.time in omega arith;
       slots = let t = c.follow.ensures.slots in let s = v.slots in omega arith;
@@ -61,14 +60,10 @@ returns-in_err-follow g c =
     let v = c.loop-index.invariant in
     let end = g.F.Format.ends c.args.format.now x (reverse es) in
     let rest = each_entry says (e ∷ past) (drop (i + 1) es) in
-    let exact = g.F.Format.exact in
-    of-same exact _
-    (sym
+    puts-some (rest ++ end) c.from_residual.ensures.0
     (ap (λ l. l ++ end) (each-cut says es i e c.entry-entry.ensures (omega arith) ∙ sym (append_assoc (each_entry says [] (take i es)) (says e past) rest))
-    ∙ append_assoc (each_entry says [] (take i es) ++ says e past) rest end))
-    (of-other exact _ _ _ (λ t. t ++ (rest ++ end))
-    (of-both exact _ _ _ _ _ (λ a b u v. grows-more u v) v.told (of-same exact _ (ap (λ (s : Says). s x e past) v.says) (c.put_entry.ensures.text past v.kept v.keeps)))
-    (λ t h. puts-some (rest ++ end) c.from_residual.ensures.0 refl h))
+    ∙ append_assoc (each_entry says [] (take i es) ++ says e past) rest end)
+    (grows-more v.told (same-growth (ap (λ (s : Says). s x e past) v.says) (c.put_entry.ensures.text past v.kept v.keeps)))
 
 pub returns : goal.returns
 returns g c =
@@ -77,9 +72,6 @@ returns g c =
     let i = c.loop-index.index in
     let v = c.loop-index.invariant in
     let whole : take i es ≡ es = grind (arith, common_steps) in
-    let exact = g.F.Format.exact in
-    of-same exact _
+    puts-all
     (ap (λ (l : List LogEntry). each_entry (g.F.Format.says c.args.format.now x) [] l ++ g.F.Format.ends c.args.format.now x (reverse l)) whole)
-    (of-other exact _ _ _ (λ t. t)
-    (of-both exact _ _ _ _ _ (λ a b u v. grows-more u v) v.told (of-same exact _ (ap (λ (f : Parts → List LogEntry → List ℕ). f x (before es i)) v.ends) (c.put_end.ensures (before es i) v.kept v.keeps)))
-    (λ t h. puts-all refl h))
+    (grows-more v.told (same-growth (ap (λ (f : Parts → List LogEntry → List ℕ). f x (before es i)) v.ends) (c.put_end.ensures (before es i) v.kept v.keeps)))

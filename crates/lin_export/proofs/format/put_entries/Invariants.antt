@@ -1,14 +1,13 @@
 use Rattle.std.proofs.Common.{◌≡◌, ◌*◌, ◌≤◌, [], take}
 use Rattle.lin_text.specs.Written.{Grows}
 use Rattle.lin_export.proofs.Tellings.{before}
-use Rattle.lin_export.specs.Putting.{OfText}
 use Rattle.lin_export.specs.Telling.{each_entry}
 use Rattle.lin_export.specs.Track.{track_of}
 use Rattle.lin_export.proofs.format.put_entries.Given as goal
 
 abbrev pub invariant-loop-index : goal.invariant-loop-index
 invariant-loop-index g l = record {
-  told : OfText g.F.Format.exact (Grows g.W.Write.contents l.initial.out l.out) (each_entry (g.F.Format.says l.fn.format l.fn.cluster) [] (take l.index l.fn.log.entries));
+  told : Grows g.W.Write.contents l.initial.out l.out (each_entry (g.F.Format.says l.fn.format l.fn.cluster) [] (take l.index l.fn.log.entries));
   kept : l.track ≡ track_of l.fn.cluster (before l.fn.log.entries l.index);
   time : l.track.time ≤ 1000000000 * l.index;
   slots : l.track.slots ≤ l.index;

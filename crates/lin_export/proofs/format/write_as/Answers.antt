@@ -1,29 +1,25 @@
 use Rattle.std.proofs.Common.{rules}
 use Rattle.lin_export.specs.declared.fault.ExportFault.{ExportFault}
-use Rattle.lin_export.proofs.OfTexts.{of-other}
 use Rattle.lin_export.proofs.Puttings.{same-writer, written-part, written-whole}
 use Rattle.lin_export.proofs.format.write_as.Goals as goal
 
 pub returns-in_err-finish : goal.returns-in_err-finish
 returns-in_err-finish g c =
-    let exact = g.F.Format.exact in
-    let same = same-writer exact g.W.Write.contents _ _ _ _ _ _ _ c.new-out.ensures c.put_head.ensures c.put_entries-followed.ensures in
-    let written = written-part exact g.W.Write.contents _ _ _ _ _ _ _ _ _ _ c.from_residual.ensures.0 c.new-out.ensures c.put_head.ensures c.put_entries-followed.ensures c.finish.ensures in
-    of-other exact _ _ _ (λ t. t) written (λ t w. search rules)
+    let same = same-writer g.W.Write.contents _ _ _ _ _ _ _ c.new-out.ensures c.put_head.ensures c.put_entries-followed.ensures in
+    let written = written-part g.W.Write.contents _ _ _ _ _ _ _ _ _ _ c.from_residual.ensures.0 c.new-out.ensures c.put_head.ensures c.put_entries-followed.ensures c.finish.ensures in
+    search rules
 
 pub returns-in_err-followed : goal.returns-in_err-followed
 returns-in_err-followed g c =
-    let exact = g.F.Format.exact in
-    let same = same-writer exact g.W.Write.contents _ _ _ _ _ _ _ c.new-out.ensures c.put_head.ensures c.put_entries-followed.ensures in
+    let same = same-writer g.W.Write.contents _ _ _ _ _ _ _ c.new-out.ensures c.put_head.ensures c.put_entries-followed.ensures in
     let written =
-    written-part exact g.W.Write.contents _ _ _ _ _ _ _ _ _ _ c.from_residual-in_err-followed.ensures.0 c.new-out.ensures c.put_head.ensures c.put_entries-followed.ensures c.finish.ensures in
-    of-other exact _ _ _ (λ t. t) written (λ t w. search rules)
+    written-part g.W.Write.contents _ _ _ _ _ _ _ _ _ _ c.from_residual-in_err-followed.ensures.0 c.new-out.ensures c.put_head.ensures c.put_entries-followed.ensures c.finish.ensures in
+    search rules
 
 pub returns : goal.returns
 returns g c =
-    let exact = g.F.Format.exact in
-    let same = same-writer exact g.W.Write.contents _ _ _ _ _ _ _ c.new-out.ensures c.put_head.ensures c.put_entries-followed.ensures in
+    let same = same-writer g.W.Write.contents _ _ _ _ _ _ _ c.new-out.ensures c.put_head.ensures c.put_entries-followed.ensures in
     let written =
-    written-whole ExportFault _ exact g.W.Write.contents _ _ _ _ _ _ _ c.new-out.ensures c.put_head.ensures (rw c.in_ok-followed.was at c.put_entries-followed.ensures)
+    written-whole ExportFault _ g.W.Write.contents _ _ _ _ _ _ _ c.new-out.ensures c.put_head.ensures (rw c.in_ok-followed.was at c.put_entries-followed.ensures)
     (rw c.in_ok-finish.was at c.finish.ensures) in
-    of-other exact _ _ _ (λ t. t) written (λ t w. search rules)
+    search rules

@@ -1,4 +1,4 @@
-use Rattle.std.proofs.Common.{ap, ◌∷◌, List, ℕ}
+use Rattle.std.proofs.Common.{ap, ◌∷◌}
 use Rattle.lin_log.specs.Language.{named}
 use Rattle.lin_log.specs.Words.{event_words}
 use Rattle.lin_text.proofs.Growing.{grows-more, same-growth}
@@ -10,5 +10,5 @@ pub returns : goal.returns
 returns g c =
     let x = c.args.cluster.now in
     let e = c.args.event.now in
-    same-growth (ap (λ l. 62 ∷ l) (ended-both (event_words (named x) e) (slot_names x c.args.names.now e)))
+    same-growth (ap (λ l. 62 ∷ l) (ended-both (event_words (named x) e) (slot_names x e)))
     (grows-more c.put_byte.ensures (grows-more c.put_event.ensures (grows-more c.put_slot_names.ensures c.put_byte-2.ensures)))

@@ -7,4 +7,4 @@ use Rattle.lin_export.proofs.named.put_events.Goals as goal
 
 pub loop-event-preserved : goal.loop-event-preserved
 loop-event-preserved g c =
-    grows-next (event_text c.args.cluster.now c.args.names.now (option_map slot_in c.args.slot.now)) c.args.events.now c.loop-event.event-index c.event-item.result c.event-item.is (omega arith) c.loop-event.invariant c.put_lines.ensures
+    grows-next (event_text c.args.cluster.now (option_map slot_in c.args.slot.now)) c.args.events.now c.loop-event.event-index c.event-item.result c.event-item.is (omega arith) c.loop-event.invariant c.put_lines.ensures

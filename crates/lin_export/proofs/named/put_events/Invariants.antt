@@ -6,4 +6,4 @@ use Rattle.lin_export.specs.Open.{slot_in}
 use Rattle.lin_export.proofs.named.put_events.Given as goal
 
 abbrev pub invariant-loop-event : goal.invariant-loop-event
-invariant-loop-event g l = Grows g.W.Write.contents l.initial.out l.out (flat_map (event_text l.cluster l.names (option_map slot_in l.slot)) (take l.event-index l.events))
+invariant-loop-event g l = Grows g.W.Write.contents l.initial.out l.out (flat_map (event_text l.cluster (option_map slot_in l.slot)) (take l.event-index l.events))

@@ -1,16 +1,15 @@
 use Rattle.std.proofs.Common.{◌∷◌, [], flat_map, ap, codes}
 use Rattle.std.specs.Prelude.{zip}
-use Rattle.lin_cluster_parts.specs.Cluster.{frame_of}
+use Rattle.lin_cluster_parts.specs.Cluster.{frame_name, frame_of}
 use Rattle.lin_text.proofs.Growing.{grows-more, same-growth}
 use Rattle.lin_export.specs.Named.{signal_words}
-use Rattle.lin_export.specs.Shown.{frame_name}
 use Rattle.lin_export.proofs.Lines.{ended-both}
 use Rattle.lin_export.proofs.named.put_frame.Goals as goal
 
 pub returns : goal.returns
 returns g c =
     let x = c.args.cluster.now in
-    let head = codes "frame" ∷ frame_name c.args.names.now c.args.frame ∷ [] in
+    let head = codes "frame" ∷ frame_name x c.args.frame ∷ [] in
     let signals = flat_map (signal_words x c.args.answer.now) (zip (frame_of x c.args.frame).signals (frame_of x c.args.frame).layout.places) in
     same-growth
     (ap (λ l. 62 ∷ l) (ended-both head signals))

@@ -10,7 +10,7 @@ use Rattle.lin_core.proofs.slots.Hearing.{no_place, unpacked-same}
 use Rattle.lin_log.specs.Words.{spaced_word, value_word}
 use Rattle.lin_text.proofs.Growing.{grows-more, same-growth}
 use Rattle.lin_export.specs.Named.{signal_words}
-use Rattle.lin_export.specs.NamedWords.{word_shown}
+use Rattle.lin_log.specs.Shown.{word_shown}
 use Rattle.lin_export.proofs.Lines.{length-zip, zip-at}
 use Rattle.lin_export.proofs.Rows.{flat-append, texts-more}
 use Rattle.lin_export.proofs.named.put_signals.Goals as goal

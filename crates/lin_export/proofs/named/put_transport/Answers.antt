@@ -3,7 +3,7 @@ use Rattle.std.specs.Prelude.{slice_index}
 use Rattle.lin_log.specs.Words.{reply_line}
 use Rattle.lin_text.proofs.Growing.{same-growth}
 use Rattle.lin_export.specs.Named.{control_words, who_word}
-use Rattle.lin_export.specs.NamedWords.{word_shown}
+use Rattle.lin_log.specs.Shown.{word_shown}
 use Rattle.lin_export.proofs.named.put_transport.Goals as goal
 
 pub returns : goal.returns

@@ -8,6 +8,5 @@ use Rattle.lin_export.proofs.named.write_named.Goals as goal
 pub returns : goal.returns
 returns g c =
     let x = c.args.cluster.now in
-    let names = c.args.names.now in
     let log = c.args.log.now.entries in
-    written-same (append-nil (each_entry (named_entry x names) [] log) ∙ log-entries x names [] log) c.write_as.ensures
+    written-same (append-nil (each_entry (named_entry x) [] log) ∙ log-entries x [] log) c.write_as.ensures

@@ -7,4 +7,4 @@ pub loop-event-init : goal.loop-event-init
 loop-event-init g c = grows-nothing c.args.out.now
 
 pub loop-event-preserved : goal.loop-event-preserved
-loop-event-preserved g c = grows-number (event_line c.args.cluster.now c.args.names.now) c.loop-event.event c.loop-event.invariant c.put_event.ensures
+loop-event-preserved g c = grows-number (event_line c.args.cluster.now) c.loop-event.event c.loop-event.invariant c.put_event.ensures

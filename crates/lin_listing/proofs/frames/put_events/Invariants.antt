@@ -5,4 +5,4 @@ use Rattle.lin_listing.specs.Frames.{event_line}
 use Rattle.lin_listing.proofs.frames.put_events.Given as goal
 
 abbrev pub invariant-loop-event : goal.invariant-loop-event
-invariant-loop-event g l = Grows g.W.Write.contents l.initial.out l.out (flat_map (event_line l.fn.cluster l.fn.names) (numbers l.event))
+invariant-loop-event g l = Grows g.W.Write.contents l.initial.out l.out (flat_map (event_line l.fn.cluster) (numbers l.event))

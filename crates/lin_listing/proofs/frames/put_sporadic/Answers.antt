@@ -1,14 +1,13 @@
 use Rattle.std.proofs.Common.{◌∷◌, [], map, List, ℕ, codes}
 use Rattle.std.specs.Fmt.{decimal}
-use Rattle.lin_names.specs.Names.{frame_name, sporadic_name}
-use Rattle.lin_cluster_parts.specs.Cluster.{sporadic_of}
+use Rattle.lin_cluster_parts.specs.Cluster.{frame_name, sporadic_name, sporadic_of}
 use Rattle.lin_text.proofs.Growing.{grows-more, same-growth}
 use Rattle.lin_listing.proofs.Lines.{head-and-members}
 use Rattle.lin_listing.proofs.frames.put_sporadic.Goals as goal
 
 pub returns : goal.returns
 returns g c =
-    let names = c.args.names.now in
-    let head : List (List ℕ) = decimal c.args.sporadic ∷ sporadic_name names c.args.sporadic ∷ [] in
-    same-growth (head-and-members (codes "sporadic") head (map (frame_name names) (sporadic_of c.args.cluster.now c.args.sporadic)))
+    let x = c.args.cluster.now in
+    let head : List (List ℕ) = decimal c.args.sporadic ∷ sporadic_name x c.args.sporadic ∷ [] in
+    same-growth (head-and-members (codes "sporadic") head (map (frame_name x) (sporadic_of x c.args.sporadic)))
     (grows-more (rw (c.from.ensures, c.sporadic_name.ensures) at c.put_head.ensures) (rw c.sporadic.ensures at c.put_members.ensures))

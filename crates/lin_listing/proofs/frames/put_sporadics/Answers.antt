@@ -7,4 +7,4 @@ pub loop-sporadic-init : goal.loop-sporadic-init
 loop-sporadic-init g c = grows-nothing c.args.out.now
 
 pub loop-sporadic-preserved : goal.loop-sporadic-preserved
-loop-sporadic-preserved g c = grows-number (sporadic_line c.args.cluster.now c.args.names.now) c.loop-sporadic.sporadic c.loop-sporadic.invariant c.put_sporadic.ensures
+loop-sporadic-preserved g c = grows-number (sporadic_line c.args.cluster.now) c.loop-sporadic.sporadic c.loop-sporadic.invariant c.put_sporadic.ensures

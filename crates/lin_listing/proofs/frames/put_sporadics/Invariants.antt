@@ -5,4 +5,4 @@ use Rattle.lin_listing.specs.Frames.{sporadic_line}
 use Rattle.lin_listing.proofs.frames.put_sporadics.Given as goal
 
 abbrev pub invariant-loop-sporadic : goal.invariant-loop-sporadic
-invariant-loop-sporadic g l = Grows g.W.Write.contents l.initial.out l.out (flat_map (sporadic_line l.fn.cluster l.fn.names) (numbers l.sporadic))
+invariant-loop-sporadic g l = Grows g.W.Write.contents l.initial.out l.out (flat_map (sporadic_line l.fn.cluster) (numbers l.sporadic))

@@ -7,4 +7,4 @@ pub loop-frame-init : goal.loop-frame-init
 loop-frame-init g c = grows-nothing c.args.out.now
 
 pub loop-frame-preserved : goal.loop-frame-preserved
-loop-frame-preserved g c = grows-number (frame_lines c.args.cluster.now c.args.names.now) c.loop-frame.frame c.loop-frame.invariant c.put_frame_lines.ensures
+loop-frame-preserved g c = grows-number (frame_lines c.args.cluster.now) c.loop-frame.frame c.loop-frame.invariant c.put_frame_lines.ensures

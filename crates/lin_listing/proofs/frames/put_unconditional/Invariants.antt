@@ -5,4 +5,4 @@ use Rattle.lin_listing.specs.Frames.{frame_lines}
 use Rattle.lin_listing.proofs.frames.put_unconditional.Given as goal
 
 abbrev pub invariant-loop-frame : goal.invariant-loop-frame
-invariant-loop-frame g l = Grows g.W.Write.contents l.initial.out l.out (flat_map (frame_lines l.fn.cluster l.fn.names) (numbers l.frame))
+invariant-loop-frame g l = Grows g.W.Write.contents l.initial.out l.out (flat_map (frame_lines l.fn.cluster) (numbers l.frame))

@@ -1,5 +1,5 @@
 use Rattle.std.proofs.Common.{◌≡◌, take}
-use Rattle.lin_listing.specs.Slots.{greatest_bytes}
+use Rattle.lin_cluster.specs.SlotTimes.{greatest_bytes}
 use Rattle.lin_listing.proofs.slots.greatest_bytes.Given as goal
 
 abbrev pub invariant-loop-frame : goal.invariant-loop-frame

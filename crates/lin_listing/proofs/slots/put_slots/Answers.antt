@@ -7,4 +7,4 @@ pub loop-table-init : goal.loop-table-init
 loop-table-init g c = grows-nothing c.args.out.now
 
 pub loop-table-preserved : goal.loop-table-preserved
-loop-table-preserved g c = grows-number (table_lines c.args.cluster.now c.args.names.now) c.loop-table.table c.loop-table.invariant c.put_table.ensures
+loop-table-preserved g c = grows-number (table_lines c.args.cluster.now) c.loop-table.table c.loop-table.invariant c.put_table.ensures

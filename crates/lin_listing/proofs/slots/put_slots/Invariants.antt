@@ -5,4 +5,4 @@ use Rattle.lin_listing.specs.Slots.{table_lines}
 use Rattle.lin_listing.proofs.slots.put_slots.Given as goal
 
 abbrev pub invariant-loop-table : goal.invariant-loop-table
-invariant-loop-table g l = Grows g.W.Write.contents l.initial.out l.out (flat_map (table_lines l.fn.cluster l.fn.names) (numbers l.table))
+invariant-loop-table g l = Grows g.W.Write.contents l.initial.out l.out (flat_map (table_lines l.fn.cluster) (numbers l.table))

@@ -7,4 +7,4 @@ pub loop-entry-init : goal.loop-entry-init
 loop-entry-init g c = grows-nothing c.args.out.now
 
 pub loop-entry-preserved : goal.loop-entry-preserved
-loop-entry-preserved g c = grows-number (slot_line c.args.cluster.now c.args.names.now c.args.table) c.loop-entry.entry c.loop-entry.invariant c.put_slot.ensures
+loop-entry-preserved g c = grows-number (slot_line c.args.cluster.now c.args.table) c.loop-entry.entry c.loop-entry.invariant c.put_slot.ensures

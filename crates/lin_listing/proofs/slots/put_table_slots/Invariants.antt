@@ -5,4 +5,4 @@ use Rattle.lin_listing.specs.Slots.{slot_line}
 use Rattle.lin_listing.proofs.slots.put_table_slots.Given as goal
 
 abbrev pub invariant-loop-entry : goal.invariant-loop-entry
-invariant-loop-entry g l = Grows g.W.Write.contents l.initial.out l.out (flat_map (slot_line l.fn.cluster l.fn.names l.fn.table) (numbers l.entry))
+invariant-loop-entry g l = Grows g.W.Write.contents l.initial.out l.out (flat_map (slot_line l.fn.cluster l.fn.table) (numbers l.entry))

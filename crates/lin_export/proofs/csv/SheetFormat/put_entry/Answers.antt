@@ -20,16 +20,15 @@ returns-in-Some-clause-keeps g c = λ past is kept.
 pub returns-in-Some-clause-text : goal.returns-in-Some-clause-text
 returns-in-Some-clause-text g c = λ past is kept.
     let x = c.args.cluster.now in
-    let names = c.args.self.now.names.now in
     let e = c.args.entry.now in
     let t = slot_in c.in-Some.slot in
     let o : Shows (open_slot past) t = shows (open_slot past) t (ap (option_map slot_in) (sym c.in-Some.is) ∙ c.slot.ensures ∙ ap (λ (d : TrackData). d.slot) is) in
     let values = heard_value x (e ∷ past) in
     same-growth
-    (ap (λ (d : TrackData). slot_line x names d.slots d.time t values) is
-    ∙ ap (λ (u : Slot). slot_line x names (slots_in past) (time x past) u values) o.same
-    ∙ line-shown x names (slots_in past) (time x past) o.slot values
-    ∙ sym (row-finish x names e past c.in-Done.field-0 o.slot c.in-Done.is c.in-Finish.is o.is_open))
+    (ap (λ (d : TrackData). slot_line x d.slots d.time t values) is
+    ∙ ap (λ (u : Slot). slot_line x (slots_in past) (time x past) u values) o.same
+    ∙ line-shown x (slots_in past) (time x past) o.slot values
+    ∙ sym (row-finish x e past c.in-Done.field-0 o.slot c.in-Done.is c.in-Finish.is o.is_open))
     (c.put_line.ensures values (λ s v at.
     c.hear_slot.ensures.heard (heard_value x past) kept s v (rw c.as_slice.ensures.value at at)
     ∙ heard-finish x e past c.in-Done.field-0 o.slot t s c.in-Done.is c.in-Finish.is o.is_open o.same))

@@ -17,24 +17,22 @@ use Rattle.lin_export.proofs.named.NamedLogFormat.put_entry.Goals as goal
 pub returns-in-Done-clause-text : goal.returns-in-Done-clause-text
 returns-in-Done-clause-text g c = λ past is kept.
     let x = c.args.cluster.now in
-    let names = c.args.self.now.names.now in
     let e = c.args.entry.now in
     let es = c.in-Done.events in
     let first = step_line (named x) e.port e.step in
     same-growth
-    (ap (λ (l : List Event). first ++ (flat_map (event_text x names (option_map slot_in c.slot.result.now)) l ++ line_or_none (time_words e.step c.time_behind.result))) c.as_slice.ensures
-    ∙ ap (λ (o : Option Slot). first ++ (flat_map (event_text x names o) es ++ line_or_none (time_words e.step c.time_behind.result))) (c.slot.ensures ∙ ap (λ (d : TrackData). d.slot) is)
-    ∙ ap (λ l. first ++ (l ++ line_or_none (time_words e.step c.time_behind.result))) (lines-shown x names (open_slot past) es)
-    ∙ ap (λ n. first ++ (flat_map (event_text x names (open_slot past)) es ++ line_or_none (time_words e.step n))) (c.time_behind.ensures past is)
-    ∙ ap (λ l. first ++ l) (lines-joined x names (open_slot past) es _)
-    ∙ ap (λ (r : Reply). first ++ flat_map reply_line (lines_of_reply x names e past r)) (sym c.in-Done.is))
+    (ap (λ (l : List Event). first ++ (flat_map (event_text x (option_map slot_in c.slot.result.now)) l ++ line_or_none (time_words e.step c.time_behind.result))) c.as_slice.ensures
+    ∙ ap (λ (o : Option Slot). first ++ (flat_map (event_text x o) es ++ line_or_none (time_words e.step c.time_behind.result))) (c.slot.ensures ∙ ap (λ (d : TrackData). d.slot) is)
+    ∙ ap (λ l. first ++ (l ++ line_or_none (time_words e.step c.time_behind.result))) (lines-shown x (open_slot past) es)
+    ∙ ap (λ n. first ++ (flat_map (event_text x (open_slot past)) es ++ line_or_none (time_words e.step n))) (c.time_behind.ensures past is)
+    ∙ ap (λ l. first ++ l) (lines-joined x (open_slot past) es _)
+    ∙ ap (λ (r : Reply). first ++ flat_map reply_line (lines_of_reply x e past r)) (sym c.in-Done.is))
     (grows-more c.put_step_line.ensures (grows-more c.put_events.ensures c.put_time.ensures))
 
 pub returns-in-Refused-clause-text : goal.returns-in-Refused-clause-text
 returns-in-Refused-clause-text g c = λ past is kept.
     let x = c.args.cluster.now in
-    let names = c.args.self.now.names.now in
     let e = c.args.entry.now in
     let first = step_line (named x) e.port e.step in
-    same-growth (ap (λ (r : Reply). first ++ flat_map reply_line (lines_of_reply x names e past r)) (sym c.in-Refused.is))
+    same-growth (ap (λ (r : Reply). first ++ flat_map reply_line (lines_of_reply x e past r)) (sym c.in-Refused.is))
     (grows-more c.put_step_line.ensures (grows-last c.put_refusal.ensures))

@@ -1,5 +1,0 @@
-use Rattle.lin_export.proofs.Sinces.{since-more}
-use Rattle.lin_export.proofs.html.put_asked.Goals as goal
-
-pub returns : goal.returns
-returns g c = λ start h. since-more h c.put_step.ensures

@@ -1,8 +1,0 @@
-use Rattle.std.proofs.Common.{take, flat_map, map}
-use Rattle.lin_log.specs.Words.{spaced_word}
-use Rattle.lin_text.specs.Written.{Grows}
-use Rattle.lin_export.specs.NamedWords.{word_shown}
-use Rattle.lin_export.proofs.words.put_words.Given as goal
-
-abbrev pub invariant-loop-word : goal.invariant-loop-word
-invariant-loop-word g l = Grows g.W.Write.contents l.initial.out l.out (flat_map spaced_word (map word_shown (take l.word-index l.words)))

@@ -1,0 +1,121 @@
+//! The first slots of a log, as a table of HTML.
+
+ghost use Rattle.std.specs.Prelude.{◌∷◌, ◌++◌, ⊤, if◌then◌else◌, nat_lt, [], codes};
+ghost use Rattle.lin_text.specs.Written.{Grows, WritesText};
+ghost use Rattle.lin_export.specs.FirstSlots.{first_row, first_slots, slot_row, table_head};
+ghost use Rattle.lin_export.specs.Open.{slot_in};
+
+use crate::csv::{Cell, put_next, put_slot};
+use crate::fault::ExportFault;
+use crate::format::{Format, write_as};
+use crate::slot::OpenSlot;
+use crate::track::Track;
+use lin_cluster_parts::Cluster;
+use lin_core::{Log, LogEntry, Reply, Step};
+use lin_text::TextWriter;
+use std::alloc::Global;
+use std::io::Write;
+
+/// How many slots have a row.
+const MOST: u64 = 200;
+
+/// The row of a slot.
+fn put_row<'a, W: Write>(
+    out: &mut TextWriter<'_, W>,
+    cluster: &'a Cluster,
+    track: &Track,
+    slot: &OpenSlot,
+)
+    ensures { Grows W.contents out.old out.new
+        (slot_row cluster.now track.now.slots track.now.time (slot_in slot.now)) }
+{
+    out.put(b"<tr>");
+    put_next(out, b"<td>", Cell::Number(track.slots()));
+    put_slot(out, b"<td>", cluster, track.time(), slot);
+    out.put_byte(b'\n');
+}
+
+/// The row of a slot, where it is one of the first.
+fn put_first<W: Write>(
+    out: &mut TextWriter<'_, W>,
+    cluster: &Cluster,
+    track: &Track,
+    slot: &OpenSlot,
+)
+    ensures { Grows W.contents out.old out.new
+        (if nat_lt track.now.slots 200
+        then slot_row cluster.now track.now.slots track.now.time (slot_in slot.now)
+        else []) }
+{
+    if track.slots() < MOST {
+        put_row(out, cluster, track, slot);
+    }
+}
+
+/// A table of the first slots.
+#[derive(Drop)]
+struct FirstSlots;
+
+impl Format for FirstSlots {
+    ghost begins = { λ f c. table_head };
+
+    ghost says = { λ f c. first_row c };
+
+    ghost ends = { λ f c past. codes "</table>" ++ 10 ∷ [] };
+
+    ghost fits = { λ f c. ⊤ };
+
+    ghost keeps = { λ f c past. ⊤ };
+
+    fn put_head<W: Write>(&self, out: &mut TextWriter<'_, W>, _cluster: &Cluster) {
+        out.put(b"<table>\n<tr><th>slot<th>time_us<th>delay_us<th>table<th>entry<th>kind");
+        out.put(b"<th>frame<th>header<th>nodes<th>seen<th>data<th>checksum\n");
+    }
+
+    fn put_entry<W: Write>(
+        &mut self,
+        out: &mut TextWriter<'_, W>,
+        cluster: &Cluster,
+        track: &Track,
+        entry: &LogEntry,
+    ) {
+        let Reply::Done(_) = &entry.reply else {
+            return;
+        };
+        let Step::Finish = &entry.step else {
+            return;
+        };
+        if let Some(slot) = track.slot() {
+            put_first(out, cluster, track, slot);
+        }
+    }
+
+    fn put_end<W: Write>(&self, out: &mut TextWriter<'_, W>, _cluster: &Cluster, _track: &Track) {
+        out.put(b"</table>\n");
+    }
+}
+
+/// Writes the first 200 slots of a log as a table of HTML: a row with the names of the columns, and
+/// one per finished slot with its number from 0, its times in microseconds, its entry and its
+/// response, as `write_csv` has them before the signals. Nothing of it needs an escape, since names
+/// of LDFs are words.
+///
+/// It goes through a buffer of fixed size, and takes memory for the responses of one slot. The
+/// writer isn't flushed.
+///
+/// # Errors
+/// What was written then is the beginning of the table.
+/// - `OutOfMemory`;
+/// - `WriteFailed` at the first error of the writer, an interrupted write too, and at the first
+///   write of 0 bytes.
+pub fn write_first_slots<W: Write>(
+    alloc: Global,
+    cluster: &Cluster,
+    log: &Log,
+    writer: &mut W,
+) -> Result<(), ExportFault>
+    ensures { WritesText (W.contents writer.old) (W.contents writer.new) result
+        (first_slots cluster.now log.now.entries) }
+{
+    write_as(&mut FirstSlots, alloc, cluster, log, writer)
+}
