@@ -1,0 +1,44 @@
+-- What is kept of a line says what the line is.
+use Rattle.std.proofs.Common.{◌≡◌, ℕ, ◌+◌, ◌-◌, ◌<◌, ◌≤◌, ◌==◌, Bool, true, false, cond, List, ◌++◌, length, take, Some, None, sym, ap, ◌∙◌, inl, inr, arith}
+use Rattle.std.specs.Str.Lines.{strip_carriage_return}
+use Rattle.std.proofs.lemmas.Bool.{lt-leb}
+use Rattle.std.proofs.lemmas.Bool.Decides.{leb_tells, nat_tests}
+use Rattle.std.proofs.lemmas.List.{length-take-le, length-append}
+use Rattle.lin_live.specs.Transcript.{short}
+use Rattle.lin_live.specs.Begun.{added, ended, held, is_nothing}
+
+-- more than a line and a CR
+too-long : (bytes : List ℕ) → 16777217 < length bytes → held bytes ≡ None
+too-long bytes h = ap (λ b. cond b (Some bytes) None) (lt-leb (length bytes) 16777217 h)
+
+-- a line that is longer than it may be
+no-short : (line : List ℕ) → 16777216 < length line → short line ≡ None
+no-short line h = ap (λ b. cond b (Some line) None) (lt-leb (length line) 16777216 h)
+
+cut-length : (b : Bool) (l : List ℕ) → length l ≤ length (cond b (take (length l - 1) l) l) + 1
+cut-length true l = omega (arith, length-take-le (length l - 1) l (omega arith))
+cut-length false l = omega arith
+
+strip-length : (l : List ℕ) → length l ≤ length (strip_carriage_return l) + 1
+strip-length l = cut-length _ l
+
+pub held-added : (bytes more : List ℕ) → added (held bytes) more ≡ held (bytes ++ more)
+held-added bytes more =
+    elim (leb_tells (length bytes) 16777217) [
+      | inl h ↦ ap (λ b. added (cond b (Some bytes) None) more) h.0
+      | inr h ↦ ap (λ k. added k more) (too-long bytes h.1) ∙ sym (too-long (bytes ++ more) (omega (arith, length-append bytes more, h.1)))
+    ]
+
+pub held-ended : (bytes : List ℕ) → ended (held bytes) ≡ short (strip_carriage_return bytes)
+held-ended bytes =
+    elim (leb_tells (length bytes) 16777217) [
+      | inl h ↦ ap (λ b. ended (cond b (Some bytes) None)) h.0
+      | inr h ↦ ap ended (too-long bytes h.1) ∙ sym (no-short (strip_carriage_return bytes) (omega (arith, strip-length bytes, h.1)))
+    ]
+
+pub held-nothing : (bytes : List ℕ) → is_nothing (held bytes) ≡ (length bytes == 0)
+held-nothing bytes =
+    elim (leb_tells (length bytes) 16777217) [
+      | inl h ↦ ap (λ b. is_nothing (cond b (Some bytes) None)) h.0
+      | inr h ↦ let long = h.1 in ap is_nothing (too-long bytes h.1) ∙ grind (arith, nat_tests)
+    ]

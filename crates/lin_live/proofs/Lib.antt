@@ -1,0 +1,5 @@
+mod Adding
+mod Cuts
+mod Keeping
+mod Transcripts
+pub mod Writing

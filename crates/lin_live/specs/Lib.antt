@@ -1,0 +1,4 @@
+pub mod Lines
+pub mod Transcript
+pub mod Begun
+pub mod Serving

@@ -1,0 +1,88 @@
+-- What a loop that answers lines has done to its state, its reader and its writer, whose bytes are
+-- spoken of where they are known.
+use Rattle.std.specs.Prelude.{◌≡◌, ℕ, List, [], ◌∷◌, ◌++◌, Option, IfSome, Result, Ok, Err}
+use Rattle.std.specs.Io.KnownBytes.{Appends, Consumes}
+use Rattle.std.specs.Str.Lines.{strip_carriage_return}
+use Rattle.lin_live.specs.Lines.{closed, last_line, lines, tail}
+use Rattle.lin_live.specs.Transcript.{after, short, transcript}
+use Rattle.lin_live.specs.Begun.{held}
+use Rattle.lin_live.specs.declared.fault.Fault.{Fault}
+use Rattle.lin_live.specs.declared.fault.Fault.TheVariants.{ReadFailed, WriteFailed, OutOfMemory}
+use Rattle.lin_live.specs.declared.fault.Fault.TheVariants.{LogFull}
+
+-- a beginning of a text was written
+abbrev pub IsPart : Option (List ℕ) → Option (List ℕ) → List ℕ → Type 0
+IsPart old new text = (part rest : List ℕ) × Appends old new part × (text ≡ part ++ rest)
+
+-- what telling the second of a pair has done: it was written, and the state is the first; or a
+-- beginning was written; or nothing, where there was no memory or no place
+abbrev pub Tells : {S : Type 0} → S × List ℕ → Type 0 → S → Option (List ℕ) → Option (List ℕ)
+    → Result Unit Fault → Type 0
+Tells p full t old new (Ok done) = Appends old new p.1 × (t ≡ p.0)
+Tells p full t old new (Err WriteFailed) = IsPart old new p.1
+Tells p full t old new (Err OutOfMemory) = Appends old new []
+Tells p full t old new (Err LogFull) = Appends old new [] × full
+Tells p full t old new (Err ReadFailed) = ⊥
+
+-- what answering a line has done
+abbrev pub Replies : {S : Type 0} → (S → Option (List ℕ) → S × List ℕ)
+    → (S → Option (List ℕ) → Type 0) → S → S → Option (List ℕ) → Option (List ℕ)
+    → Option (List ℕ) → Result Unit Fault → Type 0
+Replies reply full s t old new line result = Tells (reply s line) (full s line) t old new result
+
+-- these lines were answered, all of them
+abbrev pub Answers : {S : Type 0} → (S → Option (List ℕ) → S × List ℕ) → S → S
+    → Option (List ℕ) → Option (List ℕ) → List (List ℕ) → Type 0
+Answers reply s t old new ls = Appends old new (transcript reply s ls) × (t ≡ after reply s ls)
+
+-- these lines weren't all answered: a beginning of their transcript was written, or the transcript
+-- of those before one for which there was no memory or no place
+abbrev pub Fails : {S : Type 0} → (S → Option (List ℕ) → S × List ℕ)
+    → (S → Option (List ℕ) → Type 0) → S → Option (List ℕ) → Option (List ℕ) → List (List ℕ)
+    → Fault → Type 0
+Fails reply full s old new ls WriteFailed = IsPart old new (transcript reply s ls)
+Fails reply full s old new ls OutOfMemory =
+    (first more : List (List ℕ)) × (ls ≡ first ++ more) × Appends old new (transcript reply s first)
+Fails reply full s old new ls LogFull =
+    (first : List (List ℕ)) × (line : List ℕ) × (more : List (List ℕ)) × (ls ≡ first ++ line ∷ more)
+    × Appends old new (transcript reply s first) × full (after reply s first) (short line)
+Fails reply full s old new ls ReadFailed = ⊥
+
+-- what the loop has done: each line of the reader was answered; or it ended early, after a failed
+-- read with the answers to all lines that an LF ended
+abbrev pub IsLive : {S : Type 0} → (S → Option (List ℕ) → S × List ℕ)
+    → (S → Option (List ℕ) → Type 0) → S → S → Option (List ℕ) → Option (List ℕ)
+    → Option (List ℕ) → Option (List ℕ) → Result Unit Fault → Type 0
+IsLive reply full s t known left old new (Ok done) =
+    (read : List ℕ) × IfSome known (λ bytes. read ≡ bytes) × Answers reply s t old new (lines read)
+IsLive reply full s t known left old new (Err ReadFailed) =
+    (read : List ℕ) × Consumes known left read × Answers reply s t old new (closed read)
+IsLive reply full s t known left old new (Err fault) =
+    (read : List ℕ) × Consumes known left read × Fails reply full s old new (lines read) fault
+
+-- ---- the loop's parts
+
+-- a line was answered, with its CR where it has one
+abbrev pub IsAnswered : {S : Type 0} → (S → Option (List ℕ) → S × List ℕ)
+    → (S → Option (List ℕ) → Type 0) → S → S → Option (List ℕ) → Option (List ℕ) → List ℕ
+    → Result Unit Fault → Type 0
+IsAnswered reply full s t old new bytes result =
+    Replies reply full s t old new (short (strip_carriage_return bytes)) result
+
+-- what a piece of the input does after the beginning of a line: the lines that end in it were
+-- answered, and the beginning of the next one is kept; or they weren't all answered
+abbrev pub Feeds : {S : Type 0} → (S → Option (List ℕ) → S × List ℕ)
+    → (S → Option (List ℕ) → Type 0) → S → S → Option (List ℕ) → Option (List ℕ)
+    → Option (List ℕ) → List ℕ → List ℕ → Result Unit Fault → Type 0
+Feeds reply full s t old new begun bytes piece (Ok done) =
+    Answers reply s t old new (closed (bytes ++ piece)) × (begun ≡ held (tail (bytes ++ piece)))
+Feeds reply full s t old new begun bytes piece (Err fault) =
+    Fails reply full s old new (closed (bytes ++ piece)) fault
+
+-- what the end of the input does after the beginning of a line
+abbrev pub Finishes : {S : Type 0} → (S → Option (List ℕ) → S × List ℕ)
+    → (S → Option (List ℕ) → Type 0) → S → S → Option (List ℕ) → Option (List ℕ) → List ℕ
+    → Result Unit Fault → Type 0
+Finishes reply full s t old new bytes (Ok done) = Answers reply s t old new (last_line bytes)
+Finishes reply full s t old new bytes (Err fault) =
+    Fails reply full s old new (last_line bytes) fault

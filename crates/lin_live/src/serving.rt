@@ -1,0 +1,112 @@
+//! The loop.
+
+ghost use Rattle.std.specs.Prelude.{◌≡◌, ℕ, List};
+ghost use Rattle.lin_live.specs.Begun.{held};
+ghost use Rattle.lin_live.specs.Lines.{HasNoLf};
+ghost use Rattle.lin_live.specs.Serving.{Feeds, Finishes, IsAnswered, IsLive};
+
+use crate::answering::Answering;
+use crate::begun::Begun;
+use crate::fault::Fault;
+use memchr::memchr;
+use std::alloc::Global;
+use std::io::{ErrorKind, Read, Write};
+
+/// Answers the line that ends here, and flushes the writer.
+fn answer_line<S: Answering, W: Write>(
+    alloc: Global,
+    state: &mut S,
+    begun: &Begun,
+    writer: &mut W,
+) -> Result<(), Fault>
+    ensures { (bytes : List ℕ) → begun.now ≡ held bytes
+        → IsAnswered S.reply S.is_full (S.state state.old) (S.state state.new)
+        (W.contents writer.old) (W.contents writer.new) bytes result }
+{
+    state.answer(alloc, begun.line(), writer)?;
+    match writer.flush() {
+        Ok(()) => Ok(()),
+        Err(_) => Err(Fault::WriteFailed),
+    }
+}
+
+/// Answers each line that ends in a piece of the input, and keeps the beginning of the next one.
+fn feed<S: Answering, W: Write>(
+    alloc: Global,
+    state: &mut S,
+    begun: &mut Begun,
+    piece: &[u8],
+    writer: &mut W,
+) -> Result<(), Fault>
+    ensures { (bytes : List ℕ) → begun.old ≡ held bytes → HasNoLf bytes
+        → Feeds S.reply S.is_full (S.state state.old) (S.state state.new) (W.contents writer.old)
+        (W.contents writer.new) begun.new bytes piece.now result }
+{
+    let mut rest = piece;
+    while let Some(end) = memchr(b'\n', rest) {
+        begun.add(alloc, &rest[..end])?;
+        answer_line(alloc, state, begun, writer)?;
+        begun.clear();
+        let (_, behind) = rest.split_at(end + 1);
+        rest = behind;
+    }
+    begun.add(alloc, rest)?;
+    Ok(())
+}
+
+/// Answers what stands after the last LF, if anything does.
+fn finish<S: Answering, W: Write>(
+    alloc: Global,
+    state: &mut S,
+    begun: &Begun,
+    writer: &mut W,
+) -> Result<(), Fault>
+    ensures { (bytes : List ℕ) → begun.now ≡ held bytes
+        → Finishes S.reply S.is_full (S.state state.old) (S.state state.new)
+        (W.contents writer.old) (W.contents writer.new) bytes result }
+{
+    if begun.is_nothing() {
+        return Ok(());
+    }
+    answer_line(alloc, state, begun, writer)
+}
+
+/// Answers each line of a reader on a writer: writes the whole answer and flushes the writer before
+/// it reads on. A line stands before an LF, or at the end of the input without one where it has a
+/// byte; one CR before its end belongs to no line. A line of more than 16,777,216 bytes is passed
+/// over in no more memory than these take, and answered as such.
+///
+/// An interrupted reader is asked again. Memory grows with the longest line.
+///
+/// # Errors
+/// What was written then is the beginning of the transcript of the lines.
+/// - `ReadFailed` at the first other error of the reader: the answers to all lines that an LF ended
+///   before;
+/// - `OutOfMemory`, and `LogFull` where the state has no place for a line: the answers to the lines
+///   before the one that isn't answered;
+/// - `WriteFailed` at the first failed write or flush.
+pub fn live<S: Answering, R: Read, W: Write>(
+    alloc: Global,
+    state: &mut S,
+    reader: &mut R,
+    writer: &mut W,
+) -> Result<(), Fault>
+    ensures { IsLive S.reply S.is_full (S.state state.old) (S.state state.new)
+        (R.remaining reader.old) (R.remaining reader.new) (W.contents writer.old)
+        (W.contents writer.new) result }
+{
+    let mut begun = Begun::new(alloc);
+    let mut buffer = [0u8; 65_536];
+    for _ in 0..u64::MAX {
+        match reader.read(&mut buffer) {
+            Ok(0) => return finish(alloc, state, &begun, writer),
+            Ok(count) => feed(alloc, state, &mut begun, &buffer[..count], writer)?,
+            Err(fault) => {
+                if fault.kind() != ErrorKind::Interrupted {
+                    return Err(Fault::ReadFailed);
+                }
+            }
+        }
+    }
+    Err(Fault::ReadFailed)
+}
