@@ -1,0 +1,13 @@
+use Rattle.std.proofs.Common.{◌∷◌, ◌++◌, [], ap, sym, append_assoc, flat_map}
+use Rattle.std.specs.Prelude.{codes}
+use Rattle.lin_text.proofs.Growing.{grows-more, same-growth}
+use Rattle.lin_page.specs.Page.{escaped}
+use Rattle.lin_page.specs.declared.pieces.TheConstants.{HEAD}
+use Rattle.lin_page.proofs.data.put_head.Goals as goal
+
+pub returns : goal.returns
+returns g c =
+    same-growth
+    (ap (λ l. HEAD.now ++ (codes "page 1" ++ 10 ∷ codes "file " ++ 34 ∷ l)) (sym (append_assoc (flat_map escaped c.args.file.now) (10 ∷ []) _)))
+    (grows-more c.put_text.ensures (grows-more c.put_text-2.ensures
+    (grows-more c.put_field.ensures (grows-more c.put_text-3.ensures (grows-more (rw c.speed.ensures.value at c.put_number.ensures) c.put_byte.ensures)))))

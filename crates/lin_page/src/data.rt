@@ -1,0 +1,100 @@
+//! The lines that a page has beside the log: what its script needs to read it.
+
+ghost use Rattle.std.specs.Prelude.{◌<◌, flat_map, length};
+ghost use Rattle.lin_frame.specs.Words.{numbers};
+ghost use Rattle.lin_text.specs.Written.{Grows, WritesText};
+ghost use Rattle.lin_page.specs.Page.{alone_line, log_head, page_head, unmet_line};
+
+use crate::field::put_field;
+use crate::pieces::HEAD;
+use lin_bench::{Unmet, put_unmet};
+use lin_cluster_parts::Cluster;
+use lin_log::{put_number, put_value};
+use lin_text::{TextWriter, WriteFailed};
+use std::io::Write;
+
+fn put_head<W: Write>(out: &mut TextWriter<'_, W>, cluster: &Cluster, file: &[u8])
+    ensures { Grows W.contents out.old out.new (page_head cluster.now file.now) }
+{
+    out.put_text(HEAD);
+    out.put_text("page 1\nfile ");
+    put_field(out, file);
+    out.put_text("\nspeed ");
+    out.put_number(cluster.speed());
+    out.put_byte(b'\n');
+}
+
+/// Writes what stands before the listing of the cluster.
+///
+/// # Errors
+/// `WriteFailed`; what was written then is the beginning of it.
+pub(crate) fn write_head<W: Write>(
+    cluster: &Cluster,
+    file: &[u8],
+    writer: &mut W,
+) -> Result<(), WriteFailed>
+    ensures { WritesText (W.contents writer.old) (W.contents writer.new) result
+        (page_head cluster.now file.now) }
+{
+    let mut out = TextWriter::new(writer);
+    put_head(&mut out, cluster, file);
+    out.finish()
+}
+
+/// The line of a signal, where no frame has it.
+fn put_alone<W: Write>(out: &mut TextWriter<'_, W>, cluster: &Cluster, signal: u16)
+    requires { signal < length cluster.now.signals }
+    ensures { Grows W.contents out.old out.new (alone_line cluster.now signal) }
+{
+    if cluster.frames_with(signal).is_empty() {
+        out.put_text("alone");
+        put_number(out, signal);
+        put_value(out, cluster.initial(signal));
+        out.put_byte(b'\n');
+    }
+}
+
+fn put_all_alone<W: Write>(out: &mut TextWriter<'_, W>, cluster: &Cluster)
+    ensures { Grows W.contents out.old out.new
+        (flat_map (alone_line cluster.now) (numbers (length cluster.now.signals))) }
+{
+    for signal in 0..cluster.signals() as u16 {
+        put_alone(out, cluster, signal);
+    }
+}
+
+/// Writes what stands between the listing of the cluster and the log.
+///
+/// # Errors
+/// `WriteFailed`; what was written then is the beginning of it.
+pub(crate) fn write_log_head<W: Write>(cluster: &Cluster, writer: &mut W) -> Result<(), WriteFailed>
+    ensures { WritesText (W.contents writer.old) (W.contents writer.new) result
+        (log_head cluster.now) }
+{
+    let mut out = TextWriter::new(writer);
+    put_all_alone(&mut out, cluster);
+    out.put_text("log\n");
+    out.finish()
+}
+
+/// The line of an expectation that isn't met.
+fn put_unmet_line<W: Write>(out: &mut TextWriter<'_, W>, cluster: &Cluster, unmet: &Unmet)
+    ensures { Grows W.contents out.old out.new (unmet_line cluster.now unmet.now) }
+{
+    out.put_text("unmet");
+    put_number(out, unmet.entries);
+    out.put_byte(b' ');
+    put_unmet(out, cluster, unmet);
+}
+
+pub(crate) fn put_unmet_lines<W: Write>(
+    out: &mut TextWriter<'_, W>,
+    cluster: &Cluster,
+    unmet: &[Unmet],
+)
+    ensures { Grows W.contents out.old out.new (flat_map (unmet_line cluster.now) unmet.now) }
+{
+    for one in unmet {
+        put_unmet_line(out, cluster, one);
+    }
+}

@@ -1,0 +1,16 @@
+//! A run as a page for browsers: what its cluster has and the log itself, and scripts that draw
+//! them (`page/` has these as files of their own).
+//!
+//! ```
+//! let mut page = Vec::new(alloc);
+//! write_page(alloc, &core, b"door.ldf", &[], &mut page)?;
+//! ```
+#![tactic(auto)]
+
+mod data;
+mod field;
+mod page;
+mod pieces;
+mod summary;
+
+pub use page::write_page;

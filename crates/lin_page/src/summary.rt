@@ -1,0 +1,126 @@
+//! What a reader without scripts sees first: what stands in a log, in numbers.
+
+ghost use Rattle.std.specs.Prelude.{◌≡◌, ◌≤◌, flat_map, length};
+ghost use Rattle.std.specs.List.{count_by};
+ghost use Rattle.lin_core.specs.History.{reply_events};
+ghost use Rattle.lin_core.specs.Tables.{looks};
+ghost use Rattle.lin_text.specs.Written.{Grows};
+ghost use Rattle.lin_page.specs.Page.{events_so, is_refusal, look_count, number_of, summary};
+ghost use Rattle.lin_page.specs.Told.{is_told};
+
+use itoa::Integer;
+use lin_core::{Core, Event, Listed, Log, Look, Reply};
+use lin_text::TextWriter;
+use std::io::Write;
+
+/// Which events are counted.
+#[derive(Clone, Copy)]
+enum Told {
+    Slots,
+    Seen(Look),
+    Lost,
+}
+
+/// Whether an event is counted.
+fn is_told(told: Told, event: &Event) -> bool
+    ensures { result ≡ is_told told event.now }
+{
+    match (told, event) {
+        (Told::Slots, Event::Seen(_)) => true,
+        (Told::Seen(look), Event::Seen(how)) => how.look().number() == look.number(),
+        (Told::Lost, Event::Lost { .. }) => true,
+        _ => false,
+    }
+}
+
+/// How many events of a step are counted.
+fn events_told(told: Told, events: &[Event]) -> usize
+    ensures count { result ≡ count_by (is_told told) events.now }
+    ensures few { result ≤ length events.now }
+{
+    let mut count = 0;
+    for event in events {
+        if is_told(told, event) {
+            count += 1;
+        }
+    }
+    count
+}
+
+/// How many events of an entry are counted.
+fn entry_told(told: Told, reply: &Reply) -> usize
+    ensures { result ≡ count_by (is_told told) (reply_events reply.now) }
+{
+    match reply {
+        Reply::Done(events) => events_told(told, events.as_slice()),
+        Reply::Refused(_) => 0,
+    }
+}
+
+/// How many events of a log are counted.
+fn count(told: Told, log: &Log) -> u128
+    ensures { result ≡ events_so (is_told told) log.now.entries }
+{
+    let mut count: u128 = 0;
+    for index in 0..log.len() {
+        count += entry_told(told, &log.entry(index).reply) as u128;
+    }
+    count
+}
+
+fn is_refused(reply: &Reply) -> bool
+    ensures { result ≡ is_refusal reply.now }
+{
+    matches!(reply, Reply::Refused(_))
+}
+
+/// How many steps of a log were refused.
+fn refused(log: &Log) -> usize
+    ensures { result ≡ count_by (λ e. is_refusal e.reply) log.now.entries }
+{
+    let mut count = 0;
+    for index in 0..log.len() {
+        if is_refused(&log.entry(index).reply) {
+            count += 1;
+        }
+    }
+    count
+}
+
+fn put_count<W: Write, I: Integer>(out: &mut TextWriter<'_, W>, word: &str, count: I)
+    ensures { Grows W.contents out.old out.new (number_of word.now (I.text count)) }
+{
+    out.put_text(word);
+    out.put_text(": ");
+    out.put_number(count);
+}
+
+/// How many slots were seen so.
+fn put_look<W: Write>(out: &mut TextWriter<'_, W>, log: &Log, look: Look)
+    ensures { Grows W.contents out.old out.new (look_count log.now.entries look) }
+{
+    out.put_text(", ");
+    put_count(out, look.word(), count(Told::Seen(look), log));
+}
+
+fn put_looks<W: Write>(out: &mut TextWriter<'_, W>, log: &Log)
+    ensures { Grows W.contents out.old out.new (flat_map (look_count log.now.entries) looks) }
+{
+    for look in Look::all() {
+        put_look(out, log, *look);
+    }
+}
+
+/// The line of numbers.
+pub(crate) fn put_summary<W: Write>(out: &mut TextWriter<'_, W>, core: &Core)
+    ensures { Grows W.contents out.old out.new (summary core.now.cluster core.now.log) }
+{
+    let log = core.log();
+    out.put_text("<p>");
+    put_count(out, "slots", count(Told::Slots, log));
+    put_looks(out, log);
+    put_count(out, ", refused", refused(log));
+    put_count(out, ", lost", count(Told::Lost, log));
+    put_count(out, ", time_us", core.time());
+    out.put_text("</p>\n");
+}
