@@ -5,12 +5,9 @@ use Rattle.lin_text.specs.Written.{WritesText}
 use Rattle.lin_bench.specs.Lines.{Script, read}
 use Rattle.lin_bench.specs.Played.{Run, played}
 use Rattle.lin_cluster_parts.specs.declared.parts.Parts.{Parts}
-use Rattle.lin_log.specs.Replay.{log_of}
 use Rattle.lin_bench.specs.Texts.{unmet_text}
 use Rattle.lin_bench.specs.declared.line.Line.{Line}
-use Rattle.lin_tool.specs.Formats.{log_as}
-use Rattle.lin_tool.specs.Playing.{PlaysScript, Says, WritesPlayed}
-use Rattle.lin_tool.specs.declared.describing.Described.{Described}
+use Rattle.lin_tool.specs.Playing.{PlaysScript, Says, WritesPlayed, run_as}
 use Rattle.lin_tool.specs.declared.fault.Fault.{Fault}
 use Rattle.lin_tool.specs.declared.fault.Fault.TheVariants.{OutOfMemory, Unmet, WriteFailed}
 use Rattle.lin_tool.specs.declared.formats.Format.{Format}
@@ -42,17 +39,17 @@ writes-after {a = a} {b = b} {c = c} h k = record {
 }
 
 -- a run of these lines was written, where nothing was told before
-pub plays : (format : Format) (d : Described) (opening capacity : ℕ) (result : Result Unit Fault)
-    (told old new silent mid heard : Option (List ℕ)) (ls : List (ℕ × Line)) (run : Run) → Says d.cluster told (Ok ls) → played d.cluster opening capacity ls ≡ Ok run
+pub plays : (format : Format) (c : Parts) (opening capacity : ℕ) (result : Result Unit Fault)
+    (told old new silent mid heard : Option (List ℕ)) (ls : List (ℕ × Line)) (run : Run) → Says c told (Ok ls) → played c opening capacity ls ≡ Ok run
     → Keeps silent mid
-    → WritesPlayed format (log_as format d.names d.cluster (log_of d.cluster opening capacity run.steps)) run.unmet (flat_map (unmet_text d.cluster) run.unmet) result old new mid heard
-    → PlaysScript format d opening capacity result told old new silent heard
-plays format d opening capacity (Ok done) told old new silent mid heard ls run says comes kept (shown, met, quiet) =
+    → WritesPlayed format (run_as format c run) run.unmet (flat_map (unmet_text c) run.unmet) result old new mid heard
+    → PlaysScript format c opening capacity result told old new silent heard
+plays format c opening capacity (Ok done) told old new silent mid heard ls run says comes kept (shown, met, quiet) =
     (run, (ls, says, comes), (shown, met, keeps-more silent mid heard kept quiet))
-plays format d opening capacity (Err (Unmet outcome)) told old new silent mid heard ls run says comes kept (shown, missed, said) =
+plays format c opening capacity (Err (Unmet outcome)) told old new silent mid heard ls run says comes kept (shown, missed, said) =
     (run, (ls, says, comes), (shown, missed, writes-after kept said))
-plays format d opening capacity (Err WriteFailed) told old new silent mid heard ls run says comes kept (begun, quiet) =
+plays format c opening capacity (Err WriteFailed) told old new silent mid heard ls run says comes kept (begun, quiet) =
     (run, (ls, says, comes), (begun, keeps-more silent mid heard kept quiet))
-plays format d opening capacity (Err OutOfMemory) told old new silent mid heard ls run says comes kept (other, begun, quiet) =
+plays format c opening capacity (Err OutOfMemory) told old new silent mid heard ls run says comes kept (other, begun, quiet) =
     inr (run, (ls, says, comes), (other, begun, keeps-more silent mid heard kept quiet))
-plays format d opening capacity (Err _) told old new silent mid heard ls run says comes kept h = absurd h
+plays format c opening capacity (Err _) told old new silent mid heard ls run says comes kept h = absurd h

@@ -10,32 +10,29 @@ use Rattle.lin_log.specs.Replay.{IsReplay, IsScriptOf, log_of}
 use Rattle.lin_log.specs.declared.fault.ReplayFault.{ReplayFault}
 use Rattle.lin_log.specs.declared.fault.ReplayFault.TheVariants as replay
 use Rattle.lin_log.specs.declared.fault.ScriptFault.TheVariants as script
-use Rattle.lin_names.specs.Names.{NamesData}
+use Rattle.lin_bench.specs.declared.got.Unmet.{Unmet}
 use Rattle.lin_export.specs.Vcd.{vcd}
 use Rattle.lin_export.specs.declared.fault.ExportFault.{ExportFault}
 use Rattle.lin_export.specs.declared.fault.ExportFault.TheVariants as export
-use Rattle.lin_tool.specs.Formats.{Begins, Shows, export_fault, log_as}
+use Rattle.lin_tool.specs.Formats.{Begins, export_fault, log_as}
 use Rattle.lin_tool.specs.Replaying.{IsLogOf, Replays, Stops, replay_fault}
-use Rattle.lin_tool.specs.declared.describing.Described.{Described}
 use Rattle.lin_tool.specs.declared.formats.Format.{Format}
 use Rattle.lin_tool.specs.declared.formats.Format.TheVariants.{Log, Vcd}
 
-pub shows : (E : Type 0) (old new : Option (List ℕ)) (whole : Option (List ℕ))
-    → IfSome whole (WritesText {E = E} old new (Ok tt)) → Shows old new whole
-shows E old new None h = tt
-shows E old new (Some bytes) h =
+pub shows : (E : Type 0) (old new : Option (List ℕ)) (whole : List ℕ)
+    → WritesText {E = E} old new (Ok tt) whole → Appends old new whole
+shows E old new whole h =
     let P : List ℕ → Type 0 = λ b. Appends old new b in subst P h.all h.written
 
-pub begins : {E : Type 0} (old new : Option (List ℕ)) (whole : Option (List ℕ)) (fault : E)
-    → IfSome whole (WritesText old new (Err fault)) → Begins old new whole
-begins old new None fault h = tt
-begins old new (Some bytes) fault h = (h.part, h.rest, h.whole, h.written)
+pub begins : {E : Type 0} (old new : Option (List ℕ)) (whole : List ℕ) (fault : E)
+    → WritesText old new (Err fault) whole → Begins old new whole
+begins old new whole fault h = (h.part, h.rest, h.whole, h.written)
 
 -- a dump of a log over the same cluster
-pub shows-dump : {E : Type 0} (old new : Option (List ℕ)) (result : Result Unit E) (names : NamesData)
-    (a b : Parts) (xs ys : List LogEntry) → a ≡ b → xs ≡ ys
-    → WritesText old new result (vcd a xs) → IfSome (log_as Vcd names b ys) (WritesText old new result)
-shows-dump old new result names a b xs ys cluster log h =
+pub shows-dump : {E : Type 0} (old new : Option (List ℕ)) (result : Result Unit E)
+    (a b : Parts) (xs ys : List LogEntry) (unmet : List Unmet) → a ≡ b → xs ≡ ys
+    → WritesText old new result (vcd a xs) → WritesText old new result (log_as Vcd b ys unmet)
+shows-dump old new result a b xs ys unmet cluster log h =
     let P : List LogEntry → Type 0 = λ l. WritesText old new result (vcd a l) in
     let Q : Parts → Type 0 = λ c. WritesText old new result (vcd c ys) in
     subst Q cluster (subst P log h)
@@ -50,24 +47,24 @@ log-of c opening capacity (Some b) bytes log is said script made =
     let P : List ℕ → Type 0 = λ x. IsScriptOf x said in (said, subst P is script, made)
 
 -- writing stopped early
-pub stopped : (format : Format) (d : Described) (opening capacity : ℕ)
+pub stopped : (format : Format) (c : Parts) (opening capacity : ℕ)
     (told old new : Option (List ℕ)) (fault : ExportFault)
-    → (format ≡ Log → fault ≡ export.WriteFailed) → Stops format d opening capacity told old new
-    → Replays format d opening capacity (Err (export_fault fault)) told old new
-stopped format d opening capacity told old new export.OutOfMemory memory stops =
+    → (format ≡ Log → fault ≡ export.WriteFailed) → Stops format c opening capacity told old new
+    → Replays format c opening capacity (Err (export_fault fault)) told old new
+stopped format c opening capacity told old new export.OutOfMemory memory stops =
     inr ((λ is. let bad : export.OutOfMemory ≡ export.WriteFailed = memory is in cc), stops)
-stopped format d opening capacity told old new export.WriteFailed memory stops = stops
+stopped format c opening capacity told old new export.WriteFailed memory stops = stops
 
 -- a replay that stopped early, in the log's own text
-pub replay-stopped : {X : Type 0} (d : Described) (opening capacity : ℕ) (view : X → List LogEntry)
+pub replay-stopped : {X : Type 0} (c : Parts) (opening capacity : ℕ) (view : X → List LogEntry)
     (fault : ReplayFault) (told old new : Option (List ℕ))
-    → IsReplay d.cluster opening capacity view (Err fault) told old new
-    → Replays Log d opening capacity (Err (replay_fault fault)) told old new
-replay-stopped d opening capacity view (replay.Script (script.BadLine n)) told old new h = h
-replay-stopped d opening capacity view (replay.Script script.TooLong) told old new h = h
-replay-stopped d opening capacity view (replay.Script script.ReadFailed) told old new h = h.1
-replay-stopped d opening capacity view (replay.Script script.OutOfMemory) told old new h = inl h.1
-replay-stopped d opening capacity view replay.OutOfMemory told old new h = inl h
-replay-stopped d opening capacity view replay.WriteFailed told old new h =
+    → IsReplay c opening capacity view (Err fault) told old new
+    → Replays Log c opening capacity (Err (replay_fault fault)) told old new
+replay-stopped c opening capacity view (replay.Script (script.BadLine n)) told old new h = h
+replay-stopped c opening capacity view (replay.Script script.TooLong) told old new h = h
+replay-stopped c opening capacity view (replay.Script script.ReadFailed) told old new h = h.1
+replay-stopped c opening capacity view (replay.Script script.OutOfMemory) told old new h = inl h.1
+replay-stopped c opening capacity view replay.OutOfMemory told old new h = inl h
+replay-stopped c opening capacity view replay.WriteFailed told old new h =
     let (said, read, part, rest, whole, written) = h in
-    (log_of d.cluster opening capacity said, (said, read, refl), (part, rest, whole, written))
+    (log_of c opening capacity said, (said, read, refl), (part, rest, whole, written))

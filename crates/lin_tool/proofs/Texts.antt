@@ -5,10 +5,10 @@ use Rattle.lin_ldf.specs.Tokens.{IsLexFault}
 use Rattle.lin_ldf.specs.declared.fault.LdfFault.{LdfFault}
 use Rattle.lin_ldf.specs.declared.fault.LdfFault.TheVariants as ldf
 use Rattle.lin_description.specs.declared.description.Description.{Description}
-use Rattle.lin_listing.specs.Slots.{AreOfOneDescription}
+use Rattle.lin_cluster.specs.SlotTimes.{NoSlotIsShort}
 use Rattle.lin_tool.specs.Clusters.{AnswersText, Tells, TextFaults}
 use Rattle.lin_tool.specs.Reading.{AnswersLdf, ReadFaults}
-use Rattle.lin_tool.specs.declared.describing.Described.{Described}
+use Rattle.lin_cluster_parts.specs.declared.parts.Parts.{Parts}
 use Rattle.lin_tool.specs.declared.fault.Fault.{Fault}
 use Rattle.lin_tool.specs.declared.fault.Fault.TheVariants.{Ldf, Findings, LdfTooLong, OutOfMemory, ReadFailed}
 
@@ -24,7 +24,7 @@ tells_fault text (Ldf f) fault (same, some) only first = record {
 tells_fault text OutOfMemory fault h only first = tt
 tells_fault text _ fault h only first = absurd h
 
-pub answers_read : (r : Result Described Fault) (told : Option (List ℕ)) (text : List ℕ)
+pub answers_read : (r : Result Parts Fault) (told : Option (List ℕ)) (text : List ℕ)
     → IfSome told (λ bytes. text ≡ bytes) → length text ≤ 4194304 → AnswersText r text → AnswersLdf r told
 answers_read (Ok answer) told text is short h = (text, is, short, h)
 answers_read (Err (Ldf f)) told text is short h = (text, is, short, h)
@@ -40,7 +40,7 @@ answers_unread OutOfMemory told h = tt
 answers_unread ReadFailed told h = tt
 answers_unread _ told h = absurd h
 
-pub answers_untold : (r : Result Described Fault) (told : Option (List ℕ)) → AnswersLdf r told → AnswersLdf r None
+pub answers_untold : (r : Result Parts Fault) (told : Option (List ℕ)) → AnswersLdf r told → AnswersLdf r None
 answers_untold (Ok answer) told (text, is, short, h) = (text, tt, short, h)
 answers_untold (Err (Ldf f)) told (text, is, short, h) = (text, tt, short, h)
 answers_untold (Err (Findings found)) told (text, is, short, h) = (text, tt, short, h)
@@ -49,9 +49,7 @@ answers_untold (Err OutOfMemory) told h = tt
 answers_untold (Err ReadFailed) told h = tt
 answers_untold (Err _) told h = absurd h
 
--- a cluster that is answered and its names are of one description
-pub one_description : (r : Result Described Fault) (told : Option (List ℕ)) → AnswersLdf r told
-    → IfOk r (λ d. AreOfOneDescription d.cluster d.names)
-one_description (Ok answer) told (text, is, short, h) =
-    record { description = h.description; free = h.free; said = h.said; named = h.named }
-one_description (Err fault) told h = tt
+-- no slot of a cluster that is answered is short
+pub long_slots : (r : Result Parts Fault) (told : Option (List ℕ)) → AnswersLdf r told → IfOk r NoSlotIsShort
+long_slots (Ok answer) told (text, is, short, h) = h.long
+long_slots (Err fault) told h = tt

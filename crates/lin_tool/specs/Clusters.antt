@@ -8,20 +8,21 @@ use Rattle.lin_description.specs.declared.description.Description.{Description}
 use Rattle.lin_cluster.specs.Checks.{IsFaultOf}
 use Rattle.lin_cluster.specs.Described.{parts_of}
 use Rattle.lin_cluster.specs.Findings.{IsFree}
+use Rattle.lin_cluster.specs.SlotTimes.{NoSlotIsShort}
 use Rattle.lin_cluster.specs.declared.finding.CheckFault.TheVariants as check
 use Rattle.lin_cluster.specs.declared.finding.Finding.{Finding}
-use Rattle.lin_names.specs.Names.{names_of}
-use Rattle.lin_tool.specs.declared.describing.Described.{Described}
+use Rattle.lin_cluster_parts.specs.declared.parts.Parts.{Parts}
 use Rattle.lin_tool.specs.declared.fault.Fault.{Fault}
 use Rattle.lin_tool.specs.declared.fault.Fault.TheVariants.{Ldf, Findings, OutOfMemory}
 
--- These are the cluster and the names of what the text describes, in which nothing is found.
-pub record IsClusterOf (text : List ℕ) (answer : Described) : Type 0 where
+-- This is the cluster of what the text describes, in which nothing is found, so that no slot is
+-- short.
+pub record IsClusterOf (text : List ℕ) (answer : Parts) : Type 0 where
   pub description : Description
   pub described : Describes text description
   pub free : IsFree description
-  pub said : answer.cluster ≡ parts_of description
-  pub named : answer.names ≡ names_of description
+  pub said : answer ≡ parts_of description
+  pub long : NoSlotIsShort answer
 
 -- The text describes nothing; where its tokens have a fault, it is this one.
 pub record IsTextFault (text : List ℕ) (fault : LdfFault) : Type 0 where
@@ -49,7 +50,7 @@ TextFaults OutOfMemory text = Unit {0}
 TextFaults _ text = ⊥
 
 -- what is answered to an LDF text
-abbrev pub AnswersText : Result Described Fault → List ℕ → Type 0
+abbrev pub AnswersText : Result Parts Fault → List ℕ → Type 0
 AnswersText (Ok answer) text = IsClusterOf text answer
 AnswersText (Err fault) text = TextFaults fault text
 

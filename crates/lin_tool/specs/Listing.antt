@@ -1,51 +1,19 @@
--- What a cluster has, as lines.
-use Rattle.std.specs.Prelude.{ℕ, ◌+◌, Bool, List, [], ◌∷◌, ◌++◌, length, if◌then◌else◌, Option}
-use Rattle.std.specs.Prelude.{Some, None, codes}
-use Rattle.std.specs.Fmt.{decimal}
-use Rattle.lin_cluster_parts.specs.declared.parts.Node.{Node}
+-- Which lists of a cluster are written, and in which order.
+use Rattle.std.specs.Prelude.{ℕ, Bool, List, [], ◌++◌, if◌then◌else◌}
 use Rattle.lin_cluster_parts.specs.declared.parts.Parts.{Parts}
-use Rattle.lin_cluster_parts.specs.declared.parts.Signal.{Signal}
-use Rattle.lin_cluster_parts.specs.declared.parts.Table.{Table}
-use Rattle.lin_log.specs.Words.{line}
 use Rattle.lin_listing.specs.Frames.{frames}
+use Rattle.lin_listing.specs.Listing.{listing}
 use Rattle.lin_listing.specs.Slots.{slots}
-use Rattle.lin_tool.specs.declared.describing.Described.{Described}
 use Rattle.lin_tool.specs.declared.listing.Lists.{Lists}
 
--- a diagnostic address, and `-` for none
-abbrev pub address_word : Option ℕ → List ℕ
-address_word None = codes "-"
-address_word (Some nad) = decimal nad
-
-abbrev pub node_line : ℕ → Node → List ℕ
-node_line n node = line (codes "node" ∷ decimal n ∷ node.name ∷ address_word node.nad ∷ [])
-
-abbrev pub signal_line : ℕ → Signal → List ℕ
-signal_line n signal = line (codes "signal" ∷ decimal n ∷ signal.name ∷ [])
-
-abbrev pub table_line : ℕ → Table → List ℕ
-table_line n table =
-    line (codes "table" ∷ decimal n ∷ table.name ∷ decimal (length table.lines) ∷ [])
-
--- the lines of things that are numbered from n on
-abbrev pub numbered_lines : {X : Type 0} → (ℕ → X → List ℕ) → ℕ → List X → List ℕ
-numbered_lines f n [] = []
-numbered_lines f n (x ∷ xs) = f n x ++ numbered_lines f (n + 1) xs
-
--- a line for each node, for each signal and for each schedule table
-abbrev pub listing : Parts → List ℕ
-listing c =
-    numbered_lines node_line 0 c.nodes ++ numbered_lines signal_line 0 c.signals
-    ++ numbered_lines table_line 0 c.tables
-
 -- the lines of frames and their places, and those of slots and loads, where they are wanted
-abbrev pub listed_frames : Described → Bool → List ℕ
-listed_frames d is_wanted = if is_wanted then frames d.cluster d.names else []
+abbrev pub listed_frames : Parts → Bool → List ℕ
+listed_frames c is_wanted = if is_wanted then frames c else []
 
-abbrev pub listed_slots : Described → Bool → List ℕ
-listed_slots d is_wanted = if is_wanted then slots d.cluster d.names else []
+abbrev pub listed_slots : Parts → Bool → List ℕ
+listed_slots c is_wanted = if is_wanted then slots c else []
 
--- that list, and after it those that are wanted
-abbrev pub listed : Described → Lists → List ℕ
-listed d wanted =
-    listing d.cluster ++ listed_frames d wanted.frames ++ listed_slots d wanted.slots
+-- the list of nodes, signals and schedule tables, and after it those that are wanted
+abbrev pub listed : Parts → Lists → List ℕ
+listed c wanted =
+    listing c ++ listed_frames c wanted.frames ++ listed_slots c wanted.slots

@@ -1,10 +1,9 @@
 -- What the program's play answers.
-use Rattle.std.specs.Prelude.{◌≡◌, ◌≢◌, ◌⊎◌, ℕ, ◌≤◌, List, [], length, flat_map, Option, IfSome}
+use Rattle.std.specs.Prelude.{◌≡◌, ◌≢◌, ◌⊎◌, ℕ, ◌≤◌, List, [], length, reverse, flat_map, Option, IfSome}
 use Rattle.std.specs.Prelude.{Result, Ok, Err}
-use Rattle.std.specs.Io.KnownBytes.{Keeps}
+use Rattle.std.specs.Io.KnownBytes.{Appends, Keeps}
 use Rattle.lin_text.specs.Written.{WritesText}
 use Rattle.lin_cluster_parts.specs.declared.parts.Parts.{Parts}
-use Rattle.lin_log.specs.Replay.{log_of}
 use Rattle.lin_log.specs.declared.fault.ScriptFault.TheVariants as script
 use Rattle.lin_bench.specs.Lines.{Script, read}
 use Rattle.lin_bench.specs.Played.{Run, played}
@@ -14,9 +13,8 @@ use Rattle.lin_bench.specs.declared.fault.PlayFault.TheVariants as play
 use Rattle.lin_bench.specs.declared.got.Unmet.{Unmet as Missed}
 use Rattle.lin_bench.specs.declared.line.Line.{Line}
 use Rattle.lin_bench.specs.declared.reason.Reason.{Reason}
-use Rattle.lin_tool.specs.Formats.{Begins, Shows, log_as}
+use Rattle.lin_tool.specs.Formats.{Begins, log_as}
 use Rattle.lin_tool.specs.Replaying.{IsRefused}
-use Rattle.lin_tool.specs.declared.describing.Described.{Described}
 use Rattle.lin_tool.specs.declared.fault.Fault.{Fault}
 use Rattle.lin_tool.specs.declared.fault.Fault.TheVariants.{BadBenchLine, SlotLimit, Unmet}
 use Rattle.lin_tool.specs.declared.fault.Fault.TheVariants.{ScriptTooLong, OutOfMemory}
@@ -41,20 +39,19 @@ abbrev pub ComesTo : Parts → ℕ → ℕ → Option (List ℕ) → Result Run 
 ComesTo c opening capacity told end =
     (ls : List (ℕ × Line)) × Says c told (Ok ls) × (played c opening capacity ls ≡ end)
 
--- the log of a run in a format that has a definition
-abbrev pub run_as : Format → Described → ℕ → ℕ → Run → Option (List ℕ)
-run_as format d opening capacity run =
-    log_as format d.names d.cluster (log_of d.cluster opening capacity run.steps)
+-- the log of a run in a format
+abbrev pub run_as : Format → Parts → Run → List ℕ
+run_as format c run = log_as format c (reverse run.bench.past) run.unmet
 
 -- What is written of a run: its log (this is the whole of it), and then to errors this text of the
 -- expectations that it missed, if it missed any; or writing the log stopped at some place. (The
 -- log's own text takes no memory.)
-abbrev pub WritesPlayed : Format → Option (List ℕ) → List Missed → List ℕ → Result Unit Fault
+abbrev pub WritesPlayed : Format → List ℕ → List Missed → List ℕ → Result Unit Fault
     → Option (List ℕ) → Option (List ℕ) → Option (List ℕ) → Option (List ℕ) → Type 0
 WritesPlayed format whole missed text (Ok done) old new silent heard =
-    Shows old new whole × (missed ≡ []) × Keeps silent heard
+    Appends old new whole × (missed ≡ []) × Keeps silent heard
 WritesPlayed format whole missed text (Err (Unmet outcome)) old new silent heard =
-    Shows old new whole × (missed ≢ []) × WritesText silent heard outcome text
+    Appends old new whole × (missed ≢ []) × WritesText silent heard outcome text
 WritesPlayed format whole missed text (Err WriteFailed) old new silent heard =
     Begins old new whole × Keeps silent heard
 WritesPlayed format whole missed text (Err OutOfMemory) old new silent heard =
@@ -62,37 +59,37 @@ WritesPlayed format whole missed text (Err OutOfMemory) old new silent heard =
 WritesPlayed format whole missed text (Err _) old new silent heard = ⊥
 
 -- the lines of a bench script came to a run, and this was written of it
-abbrev pub WritesRunOf : Format → Described → ℕ → ℕ → Result Unit Fault → Option (List ℕ)
+abbrev pub WritesRunOf : Format → Parts → ℕ → ℕ → Result Unit Fault → Option (List ℕ)
     → Option (List ℕ) → Option (List ℕ) → Option (List ℕ) → Option (List ℕ) → Type 0
-WritesRunOf format d opening capacity result told old new silent heard =
-    (run : Run) × ComesTo d.cluster opening capacity told (Ok run)
-    × WritesPlayed format (run_as format d opening capacity run) run.unmet
-    (flat_map (unmet_text d.cluster) run.unmet) result old new silent heard
+WritesRunOf format c opening capacity result told old new silent heard =
+    (run : Run) × ComesTo c opening capacity told (Ok run)
+    × WritesPlayed format (run_as format c run) run.unmet
+    (flat_map (unmet_text c) run.unmet) result old new silent heard
 
 -- What a play in this format answers, what the writer took (from old to new), and what the writer
 -- of errors took (from silent to heard). Of a log that was written, all expectations are met exactly
 -- where the answer is Ok.
-abbrev pub PlaysScript : Format → Described → ℕ → ℕ → Result Unit Fault → Option (List ℕ)
+abbrev pub PlaysScript : Format → Parts → ℕ → ℕ → Result Unit Fault → Option (List ℕ)
     → Option (List ℕ) → Option (List ℕ) → Option (List ℕ) → Option (List ℕ) → Type 0
-PlaysScript format d opening capacity (Ok done) told old new silent heard =
-    WritesRunOf format d opening capacity (Ok done) told old new silent heard
-PlaysScript format d opening capacity (Err (Unmet outcome)) told old new silent heard =
-    WritesRunOf format d opening capacity (Err (Unmet outcome)) told old new silent heard
-PlaysScript format d opening capacity (Err (BadBenchLine n outcome)) told old new silent heard =
-    (why : Reason) × Says d.cluster told (Err (n, why)) × Keeps old new
+PlaysScript format c opening capacity (Ok done) told old new silent heard =
+    WritesRunOf format c opening capacity (Ok done) told old new silent heard
+PlaysScript format c opening capacity (Err (Unmet outcome)) told old new silent heard =
+    WritesRunOf format c opening capacity (Err (Unmet outcome)) told old new silent heard
+PlaysScript format c opening capacity (Err (BadBenchLine n outcome)) told old new silent heard =
+    (why : Reason) × Says c told (Err (n, why)) × Keeps old new
     × WritesText silent heard outcome (bad_line_text n why)
-PlaysScript format d opening capacity (Err (SlotLimit n)) told old new silent heard =
-    ComesTo d.cluster opening capacity told (Err n) × Keeps old new × Keeps silent heard
-PlaysScript format d opening capacity (Err ScriptTooLong) told old new silent heard =
+PlaysScript format c opening capacity (Err (SlotLimit n)) told old new silent heard =
+    ComesTo c opening capacity told (Err n) × Keeps old new × Keeps silent heard
+PlaysScript format c opening capacity (Err ScriptTooLong) told old new silent heard =
     IsRefused script.TooLong told old new × Keeps silent heard
-PlaysScript format d opening capacity (Err ReadFailed) told old new silent heard =
+PlaysScript format c opening capacity (Err ReadFailed) told old new silent heard =
     Keeps old new × Keeps silent heard
-PlaysScript format d opening capacity (Err OutOfMemory) told old new silent heard =
+PlaysScript format c opening capacity (Err OutOfMemory) told old new silent heard =
     (Keeps old new × Keeps silent heard)
-    ⊎ WritesRunOf format d opening capacity (Err OutOfMemory) told old new silent heard
-PlaysScript format d opening capacity (Err WriteFailed) told old new silent heard =
-    WritesRunOf format d opening capacity (Err WriteFailed) told old new silent heard
-PlaysScript format d opening capacity (Err _) told old new silent heard = ⊥
+    ⊎ WritesRunOf format c opening capacity (Err OutOfMemory) told old new silent heard
+PlaysScript format c opening capacity (Err WriteFailed) told old new silent heard =
+    WritesRunOf format c opening capacity (Err WriteFailed) told old new silent heard
+PlaysScript format c opening capacity (Err _) told old new silent heard = ⊥
 
 -- what reading the lines of a bench script answers, and what the writer of errors took
 abbrev pub ReadsLines : {X : Type 0} → (X → List (ℕ × Line)) → Result X Fault → Script

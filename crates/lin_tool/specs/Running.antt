@@ -1,5 +1,6 @@
 -- What `linsim run` reads and writes.
 use Rattle.std.specs.Prelude.{◌≡◌, ◌≢◌, ℕ, List, Option, Result, Ok, Err}
+use Rattle.std.specs.Io.KnownBytes.{Appends}
 use Rattle.std.specs.Global.{Vec}
 use Rattle.std.specs.List.{All, Contains}
 use Rattle.lin_core.specs.declared.port.PortId.{PortId}
@@ -14,7 +15,7 @@ use Rattle.lin_threads.specs.declared.runs.RunFault.{RunFault}
 use Rattle.lin_threads.specs.declared.runs.RunFault.TheVariants as run
 use Rattle.lin_threads.specs.declared.runs.Ended.TheVariants as ended
 use Rattle.lin_threads.specs.declared.runs.Ended.{Ended}
-use Rattle.lin_tool.specs.Formats.{Begins, Shows}
+use Rattle.lin_tool.specs.Formats.{Begins}
 use Rattle.lin_tool.specs.declared.fault.Fault.{Fault}
 use Rattle.lin_tool.specs.declared.fault.Fault.TheVariants.{BadLine, ScriptTooLong, NotHostStep}
 use Rattle.lin_tool.specs.declared.fault.Fault.TheVariants.{OutOfMemory, ReadFailed, WriteFailed}
@@ -48,12 +49,12 @@ ReadsHosts hosts (Err _) bytes = ⊥
 
 -- All that is shown of the log was written, and each task was done or one met its limit; or writing
 -- stopped at some place. (The log's own text takes no memory.)
-abbrev pub WritesRun : Format → Option (List ℕ) → List Ended
+abbrev pub WritesRun : Format → List ℕ → List Ended
     → Option (List ℕ) → Option (List ℕ) → Result Unit Fault → Type 0
 WritesRun format whole tasks old new (Ok x) =
-    Shows old new whole × All (λ task. task ≡ ended.Done) tasks
+    Appends old new whole × All (λ task. task ≡ ended.Done) tasks
 WritesRun format whole tasks old new (Err TaskLimit) =
-    Shows old new whole × Contains tasks ended.Limit
+    Appends old new whole × Contains tasks ended.Limit
 WritesRun format whole tasks old new (Err WriteFailed) = Begins old new whole
 WritesRun format whole tasks old new (Err OutOfMemory) = (format ≢ Log) × Begins old new whole
 WritesRun format whole tasks old new (Err _) = ⊥

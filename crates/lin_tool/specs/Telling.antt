@@ -1,11 +1,11 @@
 -- What the program says of a fault, as lines.
 use Rattle.std.specs.Prelude.{ℕ, ◌==◌, List, [], ◌∷◌, ◌++◌, flat_map, if◌then◌else◌, codes}
-use Rattle.std.specs.Prelude.{slice_index_or}
 use Rattle.std.specs.Fmt.{decimal}
 use Rattle.lin_description.specs.declared.place.Place.{Place}
 use Rattle.lin_ldf.specs.declared.fault.LdfFault.{LdfFault}
 use Rattle.lin_ldf.specs.declared.fault.LdfFault.TheVariants as ldf
 use Rattle.lin_cluster.specs.declared.finding.Finding.{Finding}
+use Rattle.lin_cluster.specs.Kinds.{finding_name}
 use Rattle.lin_log.specs.Words.{line}
 use Rattle.lin_tool.specs.declared.fault.Fault.{Fault}
 use Rattle.lin_tool.specs.declared.fault.Fault.TheVariants.{BadLine, Ldf, Findings, LdfTooLong}
@@ -19,25 +19,15 @@ use Rattle.lin_tool.specs.declared.fault.Fault.TheVariants.{Unmet}
 abbrev pub place_word : ℕ → ℕ → List ℕ
 place_word line column = decimal line ++ 58 ∷ decimal column
 
--- the numbers and names of findings, by their numbers, which begin at 1
-abbrev pub finding_kinds : List (List ℕ)
-finding_kinds =
-    [] ∷ codes "1 UnknownName" ∷ codes "2 WrongPublisher" ∷ codes "3 BadId" ∷ codes "4 IdTwice"
-    ∷ codes "5 BadSize" ∷ codes "6 SignalOutside" ∷ codes "7 SignalsOverlap" ∷ codes "8 BadInit"
-    ∷ codes "9 SlotTooShort" ∷ codes "10 ZeroDelay" ∷ codes "11 BadNad" ∷ codes "12 NadTwice"
-    ∷ codes "13 BadEventFrame" ∷ codes "14 BadSporadic" ∷ codes "15 NestedCollision"
-    ∷ codes "16 EmptyTable" ∷ codes "17 LimitPassed" ∷ codes "18 MixedChecksum" ∷ []
-
-abbrev pub kind_word : ℕ → List ℕ
-kind_word number = slice_index_or finding_kinds number []
-
 -- of a slot that is too short the time in microseconds that it needs
 abbrev pub needed_words : Finding → List (List ℕ)
 needed_words finding = if finding.number == 9 then decimal finding.needed_us ∷ [] else []
 
 abbrev pub finding_line : Finding → List ℕ
 finding_line f =
-    line (place_word f.line f.column ∷ codes "finding" ∷ kind_word f.number ∷ needed_words f)
+    line
+    (place_word f.line f.column ∷ codes "finding" ∷ decimal f.number ∷ finding_name f.number
+    ∷ needed_words f)
 
 -- the line of a fault of an LDF text, by its number and name
 abbrev pub ldf_line : Place → List ℕ → List ℕ

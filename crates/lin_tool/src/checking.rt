@@ -19,6 +19,6 @@ pub fn check<R: AllocGlobal + Files + Input + Print>(
     lists: Lists,
     notes: &mut Notes<'_>,
 ) -> Result<(), Fault> {
-    let described = cluster_at(rt, path, notes)?;
-    Ok(write_lists(&described, lists, &mut io::writer(rt))?)
+    let cluster = cluster_at(rt, path, notes)?;
+    Ok(write_lists(&cluster, lists, &mut io::writer(rt))?)
 }

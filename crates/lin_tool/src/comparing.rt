@@ -85,10 +85,10 @@ pub fn compare<R: AllocGlobal + Files + Input>(
     settings: &Settings<'_>,
     notes: &mut Notes<'_>,
 ) -> Result<(), Fault> {
-    let Opened { described, table } = begin(rt, settings, notes)?;
+    let Opened { cluster, table } = begin(rt, settings, notes)?;
     compare_script(
         rt.alloc(),
-        described.cluster,
+        cluster,
         table,
         within_limits(settings.capacity),
         &mut rt.reader(),

@@ -3,7 +3,7 @@
 
 ghost use Rattle.std.specs.Prelude.{◌≡◌, List, ℕ, IfOk, IsSome};
 ghost use Rattle.lin_ldf.specs.Describes.{Describes};
-ghost use Rattle.lin_listing.specs.Slots.{AreOfOneDescription};
+ghost use Rattle.lin_cluster.specs.SlotTimes.{NoSlotIsShort};
 ghost use Rattle.lin_tool.specs.Clusters.{AnswersParse, AnswersText, Tells};
 ghost use Rattle.lin_tool.specs.Reading.{AnswersLdf, ReadsAll};
 
@@ -14,7 +14,6 @@ use lin_cluster::{CheckFault, check};
 use lin_cluster_parts::Cluster;
 use lin_description::Description;
 use lin_ldf::{LdfFault, parse};
-use lin_names::Names;
 use lin_text::{ReadFault, read_whole};
 use std::alloc::Global;
 use std::fs::{self, Files};
@@ -34,13 +33,6 @@ Nodes { Master: cem, 5 ms, 0.1 ms; Slaves: door; }
 Node_attributes { door { LIN_protocol = \"2.2\"; configured_NAD = 0x01; } }
 Schedule_tables { diag { MasterReq delay 10 ms; SlaveResp delay 10 ms; } }
 ";
-
-/// The cluster that an LDF text describes, and what the text says that a cluster doesn't keep.
-#[derive(Drop)]
-pub struct Described {
-    pub cluster: Cluster,
-    pub names: Names,
-}
 
 /// The bytes that a reader gives up to its end, at most 4,194,304.
 ///
@@ -82,27 +74,26 @@ fn description_of(alloc: Global, text: &[u8]) -> Result<Description, Fault>
     }
 }
 
-/// The cluster that a description says, and what it says that a cluster doesn't keep.
+/// The cluster that a description says.
 ///
 /// # Errors
 /// `Findings` for all the reasons why it says no cluster; `OutOfMemory`.
-fn said_by(alloc: Global, description: Description) -> Result<Described, Fault>
+fn said_by(alloc: Global, description: Description) -> Result<Cluster, Fault>
     ensures { (text : List ℕ) → Describes text description → AnswersText result text }
 {
-    let names = Names::of(alloc, &description)?;
     match check(alloc, description) {
-        Ok(cluster) => Ok(Described { cluster, names }),
+        Ok(cluster) => Ok(cluster),
         Err(CheckFault::OutOfMemory) => Err(Fault::OutOfMemory),
         Err(CheckFault::Findings(findings)) => Err(Fault::Findings(Findings(findings))),
     }
 }
 
-/// What an LDF text describes.
+/// The cluster that an LDF text describes.
 ///
 /// # Errors
 /// `Ldf` for the first fault of the text; `Findings` for all the reasons why it describes no
 /// cluster; `OutOfMemory`.
-pub fn cluster_of_text(alloc: Global, text: &[u8]) -> Result<Described, Fault>
+pub fn cluster_of_text(alloc: Global, text: &[u8]) -> Result<Cluster, Fault>
     ensures { AnswersText result text.now }
 {
     match description_of(alloc, text) {
@@ -118,13 +109,13 @@ fn let_go(text: &mut Vec<u8>) {
     text.shrink_to_fit();
 }
 
-/// What an LDF text describes, as of `cluster_of_text`. Where it is at fault, the notes tell where;
+/// The cluster that an LDF text describes, as of `cluster_of_text`. Where it is at fault, the notes tell where;
 /// where they want no text, its memory is let go of before the description is checked.
 fn cluster_of_bytes(
     alloc: Global,
     mut bytes: Vec<u8>,
     notes: &mut Notes<'_>,
-) -> Result<Described, Fault>
+) -> Result<Cluster, Fault>
     ensures { AnswersText result bytes.items }
 {
     let parsed = description_of(alloc, bytes.as_slice());
@@ -151,7 +142,7 @@ pub fn cluster_of_reader<R: Read>(
     alloc: Global,
     reader: &mut R,
     notes: &mut Notes<'_>,
-) -> Result<Described, Fault>
+) -> Result<Cluster, Fault>
     ensures { AnswersLdf result (R.remaining reader.old) }
 {
     let text = read_text(alloc, reader)?;
@@ -166,7 +157,7 @@ pub fn cluster_of_reader<R: Read>(
 pub fn cluster_of_input<R: AllocGlobal + Input>(
     rt: &R,
     notes: &mut Notes<'_>,
-) -> Result<Described, Fault>
+) -> Result<Cluster, Fault>
     ensures { AnswersLdf result None }
 {
     let answer = cluster_of_reader(rt.alloc(), &mut rt.reader(), notes);
@@ -185,7 +176,7 @@ pub fn cluster_of_file<R: AllocGlobal + Files>(
     rt: &R,
     path: Option<&str>,
     notes: &mut Notes<'_>,
-) -> Result<Described, Fault>
+) -> Result<Cluster, Fault>
     ensures built_in { path.entry ≡ None → AnswersText result BUILT_IN.now }
     ensures file { IsSome path.entry → AnswersLdf result None }
 {
@@ -209,13 +200,13 @@ pub fn cluster_of_file<R: AllocGlobal + Files>(
 ///
 /// # Errors
 /// Those of `cluster_of_file` and `cluster_of_input`.
-#[tactic(auto, using(crate::proofs::Texts::one_description))]
+#[tactic(auto, using(crate::proofs::Texts::long_slots))]
 pub fn cluster_at<R: AllocGlobal + Files + Input>(
     rt: &R,
     path: &str,
     notes: &mut Notes<'_>,
-) -> Result<Described, Fault>
-    ensures { IfOk result (λ d. AreOfOneDescription d.cluster d.names) }
+) -> Result<Cluster, Fault>
+    ensures { IfOk result NoSlotIsShort }
 {
     if path == "-" {
         cluster_of_input(rt, notes)

@@ -1,9 +1,9 @@
 //! The findings of a description, as lines.
 
-ghost use Rattle.std.specs.Prelude.{◌≡◌, ◌++◌, codes, flat_map};
+ghost use Rattle.std.specs.Prelude.{flat_map};
 ghost use Rattle.lin_text.specs.Written.{Grows};
 ghost use Rattle.lin_log.specs.Words.{line_tail};
-ghost use Rattle.lin_tool.specs.Telling.{finding_line, kind_word, needed_words, place_word};
+ghost use Rattle.lin_tool.specs.Telling.{finding_line, needed_words, place_word};
 
 use lin_cluster::Finding;
 use lin_lists::Many;
@@ -13,33 +13,6 @@ use std::io::Write;
 /// All that is wrong with a description.
 #[derive(Debug, Drop)]
 pub struct Findings(pub Many<Finding>);
-
-/// The words of findings with this number; none but those from 1 to 18 has any.
-fn words_of(number: u8) -> &'static [u8]
-    ensures { result.now ≡ codes " finding " ++ kind_word number }
-{
-    match number {
-        1 => b" finding 1 UnknownName",
-        2 => b" finding 2 WrongPublisher",
-        3 => b" finding 3 BadId",
-        4 => b" finding 4 IdTwice",
-        5 => b" finding 5 BadSize",
-        6 => b" finding 6 SignalOutside",
-        7 => b" finding 7 SignalsOverlap",
-        8 => b" finding 8 BadInit",
-        9 => b" finding 9 SlotTooShort",
-        10 => b" finding 10 ZeroDelay",
-        11 => b" finding 11 BadNad",
-        12 => b" finding 12 NadTwice",
-        13 => b" finding 13 BadEventFrame",
-        14 => b" finding 14 BadSporadic",
-        15 => b" finding 15 NestedCollision",
-        16 => b" finding 16 EmptyTable",
-        17 => b" finding 17 LimitPassed",
-        18 => b" finding 18 MixedChecksum",
-        _ => b" finding ",
-    }
-}
 
 /// A line and a column, both from 1.
 pub(crate) fn put_place<W: Write>(out: &mut TextWriter<'_, W>, line: u64, column: u64)
@@ -69,7 +42,10 @@ fn put_finding<W: Write>(out: &mut TextWriter<'_, W>, finding: &Finding)
     ensures { Grows W.contents out.old out.new (finding_line finding.now) }
 {
     put_place(out, finding.line, finding.column);
-    out.put(words_of(finding.number));
+    out.put(b" finding ");
+    out.put_number(u64::from(finding.number));
+    out.put_byte(b' ');
+    out.put(finding.name().as_bytes());
     put_needed(out, finding);
 }
 

@@ -1,21 +1,22 @@
 //! The formats in which the log of a run is written.
 
-ghost use Rattle.std.specs.Prelude.{◌≡◌, IfErr, IfSome};
+ghost use Rattle.std.specs.Prelude.{◌≡◌, IfErr};
 ghost use Rattle.lin_export.specs.declared.fault.ExportFault.TheVariants.{WriteFailed};
 ghost use Rattle.lin_text.specs.Written.{WritesText};
 ghost use Rattle.lin_tool.specs.Formats.{log_as};
 ghost use Rattle.lin_tool.specs.declared.formats.Format.TheVariants.{Log};
 
+use lin_bench::Unmet;
 use lin_core::Core;
-use lin_export::{ExportFault, write_csv, write_html, write_named, write_pcap, write_vcd};
+use lin_export::{ExportFault, write_csv, write_named, write_pcap, write_vcd};
 use lin_log::write_log;
-use lin_names::Names;
+use lin_page::write_page;
 use std::alloc::Global;
 use std::io::Write;
 
 /// A format in which a log is written.
 #[derive(Clone, Copy, Debug, Drop, PartialEq)]
-pub enum Format {
+pub enum Format<'a> {
     /// The log's own text, which is a script of the same steps.
     Log,
     /// The log with names.
@@ -26,26 +27,26 @@ pub enum Format {
     Pcap,
     /// A dump of changes over time (IEEE 1364-2005, section 18).
     Vcd,
-    /// A picture of the run (HTML): one file, without scripts.
-    Html,
+    /// A picture of the run (HTML), one file, under this name of the LDF.
+    Html(&'a [u8]),
 }
 
-/// Writes the log of a core in a format. A log's own text takes no memory, and the others take
-/// little.
+/// Writes the log of a core in a format; a picture also has expectations that aren't met. A log's
+/// own text takes no memory, and the others take little.
 ///
 /// # Errors
 /// `OutOfMemory`, which a log's own text hasn't, and `WriteFailed`. What was written then is the
 /// beginning of the whole.
 pub fn write_shown<W: Write>(
     alloc: Global,
-    format: Format,
-    names: &Names,
+    format: Format<'_>,
     core: &Core,
+    unmet: &[Unmet],
     writer: &mut W,
 ) -> Result<(), ExportFault>
-    ensures text { IfSome (log_as format names.now core.now.cluster core.now.log)
-        (WritesText (W.contents writer.old) (W.contents writer.new) result) }
-    ensures memory { format ≡ Log → IfErr result (λ fault. fault ≡ WriteFailed) }
+    ensures text { WritesText (W.contents writer.old) (W.contents writer.new) result
+        (log_as format.entry core.now.cluster core.now.log unmet.now) }
+    ensures memory { format.entry ≡ Log → IfErr result (λ fault. fault ≡ WriteFailed) }
 {
     let cluster = core.cluster();
     let log = core.log();
@@ -54,10 +55,10 @@ pub fn write_shown<W: Write>(
             Ok(()) => Ok(()),
             Err(_) => Err(ExportFault::WriteFailed),
         },
-        Format::Named => write_named(alloc, cluster, names, log, writer),
-        Format::Csv => write_csv(alloc, cluster, names, log, writer),
+        Format::Named => write_named(alloc, cluster, log, writer),
+        Format::Csv => write_csv(alloc, cluster, log, writer),
         Format::Pcap => write_pcap(alloc, cluster, log, writer),
         Format::Vcd => write_vcd(alloc, cluster, log, writer),
-        Format::Html => write_html(alloc, cluster, names, log, writer),
+        Format::Html(file) => write_page(alloc, core, file, unmet, writer),
     }
 }

@@ -3,9 +3,9 @@
 //!
 //! ```
 //! let mut notes = Notes::new(alloc, wanted);
-//! let described = cluster_of_text(alloc, text)?;
-//! let table = opening_table(&described.cluster, Some("diag"))?;
-//! replay_script(alloc, described, table, 16, Format::Log, &mut reader, &mut writer)?;
+//! let cluster = cluster_of_text(alloc, text)?;
+//! let table = opening_table(&cluster, Some("diag"))?;
+//! replay_script(alloc, cluster, table, 16, Format::Log, &mut reader, &mut writer)?;
 //! ```
 #![tactic(auto)]
 
@@ -31,13 +31,13 @@ mod telling;
 pub use checking::check;
 pub use comparing::{compare, compare_script, first_difference};
 pub use describing::{
-    BUILT_IN, Described, cluster_of_file, cluster_of_input, cluster_of_reader, cluster_of_text,
-    read_text,
+    BUILT_IN, cluster_of_file, cluster_of_input, cluster_of_reader, cluster_of_text, read_text,
 };
 pub use fault::{Fault, exit_status};
 pub use findings::Findings;
 pub use formats::{Format, write_shown};
-pub use listing::{Lists, write_list, write_lists};
+pub use lin_listing::write_list;
+pub use listing::{Lists, write_lists};
 pub use notes::{Notes, Wanted};
 pub use opening::{Settings, opening_table};
 pub use playing::{play, play_script};

@@ -71,11 +71,12 @@ fn put_finding(
         number,
         line,
         column,
-        needed_us: _,
+        needed_us,
     } = *finding;
-    write!(out, "{file}:{line}:{column}: finding {number}")?;
-    if let Some(kind) = finding.kind() {
-        write!(out, " {kind}")?;
+    let name = finding.name();
+    write!(out, "{file}:{line}:{column}: finding {number} {name}")?;
+    if needed_us > 0 {
+        write!(out, " {needed_us}")?;
     }
     // (that a description has no table is found at its first byte, and of no token)
     if line == 1 && column == 1 {

@@ -4,7 +4,7 @@
 ghost use Rattle.std.specs.Prelude.{◌≡◌, ◌≤◌, ◌<◌, length, min, max, IfOk};
 ghost use Rattle.lin_tool.specs.Opening.{Opens, opening_of};
 
-use crate::describing::{Described, cluster_of_file};
+use crate::describing::cluster_of_file;
 use crate::fault::Fault;
 use crate::formats::Format;
 use crate::notes::Notes;
@@ -21,7 +21,7 @@ pub struct Settings<'a> {
     /// How many messages of a host may wait: the nearest number of 1 to 1,024.
     pub capacity: u16,
     /// The format of the log.
-    pub format: Format,
+    pub format: Format<'a>,
 }
 
 /// The number of the cluster's schedule table of this name; of the first one, where no name is
@@ -43,7 +43,7 @@ pub fn opening_table(cluster: &Cluster, name: Option<&str>) -> Result<u16, Fault
 /// The cluster that a run begins with, and the number of its schedule table.
 #[derive(Drop)]
 pub(crate) struct Opened {
-    pub(crate) described: Described,
+    pub(crate) cluster: Cluster,
     pub(crate) table: u16,
 }
 
@@ -57,13 +57,13 @@ pub(crate) fn begin<R: AllocGlobal + Files>(
     settings: &Settings<'_>,
     notes: &mut Notes<'_>,
 ) -> Result<Opened, Fault>
-    ensures { IfOk result (λ it. it.table < length it.described.cluster.tables) }
+    ensures { IfOk result (λ it. it.table < length it.cluster.tables) }
 {
-    let described = cluster_of_file(rt, settings.file, notes)?;
-    match opening_table(&described.cluster, settings.table) {
-        Ok(table) => Ok(Opened { described, table }),
+    let cluster = cluster_of_file(rt, settings.file, notes)?;
+    match opening_table(&cluster, settings.table) {
+        Ok(table) => Ok(Opened { cluster, table }),
         Err(fault) => {
-            notes.add_tables(&described.cluster);
+            notes.add_tables(&cluster);
             Err(fault)
         }
     }

@@ -8,7 +8,6 @@ ghost use Rattle.lin_bench.specs.Texts.{unmet_text};
 ghost use Rattle.lin_tool.specs.Formats.{log_as};
 ghost use Rattle.lin_tool.specs.Playing.{Judges, PlaysScript, ReadsLines, WritesPlayed};
 
-use crate::describing::Described;
 use crate::fault::Fault;
 use crate::formats::{Format, write_shown};
 use crate::notes::Notes;
@@ -19,7 +18,6 @@ use lin_bench::{
 };
 use lin_cluster_parts::Cluster;
 use lin_core::Core;
-use lin_names::Names;
 use std::alloc::Global;
 use std::fs::Files;
 use std::io::{self, Read, Write};
@@ -78,19 +76,19 @@ fn judge<E: Write>(cluster: &Cluster, unmet: &[Unmet], errors: &mut E) -> Result
 /// met.
 fn put_played<W: Write, E: Write>(
     alloc: Global,
-    format: Format,
-    names: &Names,
+    format: Format<'_>,
     core: &Core,
     unmet: &[Unmet],
     writer: &mut W,
     errors: &mut E,
 ) -> Result<(), Fault>
-    ensures { WritesPlayed format (log_as format names.now core.now.cluster core.now.log) unmet.now
+    ensures { WritesPlayed format.entry
+        (log_as format.entry core.now.cluster core.now.log unmet.now) unmet.now
         (flat_map (unmet_text core.now.cluster) unmet.now) result
         (W.contents writer.old) (W.contents writer.new)
         (E.contents errors.old) (E.contents errors.new) }
 {
-    write_shown(alloc, format, names, core, writer)?;
+    write_shown(alloc, format, core, unmet, writer)?;
     judge(core.cluster(), unmet, errors)
 }
 
@@ -110,34 +108,25 @@ fn put_played<W: Write, E: Write>(
 /// met.
 pub fn play_script<R: Read, W: Write, E: Write>(
     alloc: Global,
-    described: Described,
+    cluster: Cluster,
     table: u16,
     capacity: usize,
-    format: Format,
+    format: Format<'_>,
     reader: &mut R,
     writer: &mut W,
     errors: &mut E,
     notes: &mut Notes<'_>,
 ) -> Result<(), Fault>
-    requires table { table < length described.cluster.tables }
+    requires table { table < length cluster.tables }
     requires capacity { (1 ≤ capacity) × (capacity ≤ 1024) }
-    ensures { PlaysScript format described table capacity result (R.remaining reader.old)
+    ensures { PlaysScript format.entry cluster table capacity result (R.remaining reader.old)
         (W.contents writer.old) (W.contents writer.new)
         (E.contents errors.old) (E.contents errors.new) }
 {
-    let Described { cluster, names } = described;
     let bytes = noted_bytes(alloc, reader, notes)?;
     let lines = bench_lines(alloc, &cluster, bytes.as_slice(), errors, notes)?;
     let Played { core, unmet } = play_lines(alloc, cluster, table, capacity, lines)?;
-    let judged = put_played(
-        alloc,
-        format,
-        &names,
-        &core,
-        unmet.as_slice(),
-        writer,
-        errors,
-    );
+    let judged = put_played(alloc, format, &core, unmet.as_slice(), writer, errors);
     notes.add_refusals(core.log());
     mem::forget(core);
     judged
@@ -156,10 +145,10 @@ pub fn play<R: AllocGlobal + Files + Input + Print, E: Write>(
     errors: &mut E,
     notes: &mut Notes<'_>,
 ) -> Result<(), Fault> {
-    let Opened { described, table } = begin(rt, settings, notes)?;
+    let Opened { cluster, table } = begin(rt, settings, notes)?;
     play_script(
         rt.alloc(),
-        described,
+        cluster,
         table,
         within_limits(settings.capacity),
         settings.format,

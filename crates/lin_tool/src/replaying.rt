@@ -5,12 +5,12 @@ ghost use Rattle.std.specs.Prelude.{◌≤◌, ◌<◌, length};
 ghost use Rattle.lin_tool.specs.Replaying.{Replays};
 ghost use Rattle.lin_tool.specs.declared.formats.Format.TheVariants.{Log};
 
-use crate::describing::Described;
 use crate::fault::Fault;
 use crate::formats::{Format, write_shown};
 use crate::notes::Notes;
 use crate::opening::{Opened, Settings, begin, within_limits};
 use crate::scripts::{noted_bytes, noted_run};
+use lin_cluster_parts::Cluster;
 use std::alloc::Global;
 use std::fs::Files;
 use std::io::{self, Read, Write};
@@ -20,18 +20,17 @@ use std::mem;
 /// `lin_log::replay`. (The core's memory is left to the end of the program.)
 fn replay_log<R: Read, W: Write>(
     alloc: Global,
-    described: Described,
+    cluster: Cluster,
     table: u16,
     capacity: usize,
     reader: &mut R,
     writer: &mut W,
 ) -> Result<(), Fault>
-    requires table { table < length described.cluster.tables }
+    requires table { table < length cluster.tables }
     requires capacity { (1 ≤ capacity) × (capacity ≤ 1024) }
-    ensures { Replays Log described table capacity result
+    ensures { Replays Log cluster table capacity result
         (R.remaining reader.old) (W.contents writer.old) (W.contents writer.new) }
 {
-    let Described { cluster, names: _ } = described;
     let core = lin_log::replay(alloc, cluster, table, capacity, reader, writer)?;
     mem::forget(core);
     Ok(())
@@ -51,26 +50,25 @@ fn replay_log<R: Read, W: Write>(
 /// beginning of the whole.
 pub fn replay_script<R: Read, W: Write>(
     alloc: Global,
-    described: Described,
+    cluster: Cluster,
     table: u16,
     capacity: usize,
-    format: Format,
+    format: Format<'_>,
     reader: &mut R,
     writer: &mut W,
     notes: &mut Notes<'_>,
 ) -> Result<(), Fault>
-    requires table { table < length described.cluster.tables }
+    requires table { table < length cluster.tables }
     requires capacity { (1 ≤ capacity) × (capacity ≤ 1024) }
-    ensures { Replays format described table capacity result
+    ensures { Replays format.entry cluster table capacity result
         (R.remaining reader.old) (W.contents writer.old) (W.contents writer.new) }
 {
     if format == Format::Log && !notes.is_explained() {
-        return replay_log(alloc, described, table, capacity, reader, writer);
+        return replay_log(alloc, cluster, table, capacity, reader, writer);
     }
-    let Described { cluster, names } = described;
     let bytes = noted_bytes(alloc, reader, notes)?;
     let core = noted_run(alloc, cluster, table, capacity, bytes.as_slice(), notes)?;
-    let written = write_shown(alloc, format, &names, &core, writer);
+    let written = write_shown(alloc, format, &core, &[], writer);
     notes.add_refusals(core.log());
     mem::forget(core);
     match written {
@@ -90,10 +88,10 @@ pub fn replay<R: AllocGlobal + Files + Input + Print>(
     settings: &Settings<'_>,
     notes: &mut Notes<'_>,
 ) -> Result<(), Fault> {
-    let Opened { described, table } = begin(rt, settings, notes)?;
+    let Opened { cluster, table } = begin(rt, settings, notes)?;
     replay_script(
         rt.alloc(),
-        described,
+        cluster,
         table,
         within_limits(settings.capacity),
         settings.format,

@@ -9,7 +9,6 @@ ghost use Rattle.lin_threads.specs.Runs.{bus_steps};
 ghost use Rattle.lin_tool.specs.Formats.{log_as};
 ghost use Rattle.lin_tool.specs.Running.{ReadsHosts, WritesRun};
 
-use crate::describing::Described;
 use crate::fault::Fault;
 use crate::formats::{Format, write_shown};
 use crate::notes::Notes;
@@ -17,7 +16,6 @@ use crate::opening::{Opened, Settings, begin, within_limits};
 use crate::scripts::noted_script;
 use lin_cluster_parts::Cluster;
 use lin_core::Core;
-use lin_names::Names;
 use lin_threads::{
     Ended, HostStep, HostTask, Plan, RunReport, ScriptTask, run_cluster, split, wire,
 };
@@ -134,15 +132,14 @@ fn run_steps<R: AllocGlobal + Threads + Wait>(
 /// its turns before it was done.
 fn put_report<W: Write>(
     alloc: Global,
-    format: Format,
-    names: &Names,
+    format: Format<'_>,
     report: &RunReport,
     writer: &mut W,
 ) -> Result<(), Fault>
-    ensures { WritesRun format (log_as format names.now report.now.core.cluster report.now.core.log)
-        report.now.ended.items (W.contents writer.old) (W.contents writer.new) result }
+    ensures { WritesRun format.entry
+        (log_as format.entry report.now.core.cluster report.now.core.log []) report.now.ended.items (W.contents writer.old) (W.contents writer.new) result }
 {
-    write_shown(alloc, format, names, &report.core, writer)?;
+    write_shown(alloc, format, &report.core, &[], writer)?;
     if report.ended.contains(&Ended::Limit) {
         return Err(Fault::TaskLimit);
     }
@@ -159,10 +156,9 @@ fn run_over<R: AllocGlobal + Input + Print + Eprint + Threads + Wait>(
     is_watched: bool,
     notes: &mut Notes<'_>,
 ) -> Result<(), Fault>
-    requires { opened.table < length opened.described.cluster.tables }
+    requires { opened.table < length opened.cluster.tables }
 {
-    let Opened { described, table } = opened;
-    let Described { cluster, names } = described;
+    let Opened { cluster, table } = opened;
     let mut reader = rt.reader();
     let lists = host_steps(rt.alloc(), &mut reader, cluster.nodes(), notes)?;
     if is_watched {
@@ -171,7 +167,7 @@ fn run_over<R: AllocGlobal + Input + Print + Eprint + Threads + Wait>(
     let capacity = within_limits(settings.capacity);
     let report = run_steps(rt, cluster, table, capacity, slots, lists)?;
     let mut writer = io::writer(rt);
-    let written = put_report(rt.alloc(), settings.format, &names, &report, &mut writer);
+    let written = put_report(rt.alloc(), settings.format, &report, &mut writer);
     notes.add_refusals(report.core.log());
     mem::forget(report);
     written

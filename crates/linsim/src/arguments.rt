@@ -184,14 +184,15 @@ pub(crate) enum Request<'a> {
     Run { settings: Settings<'a>, slots: u32 },
 }
 
-/// The format of this word; the log's own text for any other.
-fn format_of(word: Option<&str>) -> Format {
+/// The format of this word; the log's own text for any other. A picture tells the LDF by the name
+/// of its file.
+fn format_of<'a>(word: Option<&str>, file: Option<&'a str>) -> Format<'a> {
     match word {
         Some("named") => Format::Named,
         Some("csv") => Format::Csv,
         Some("pcap") => Format::Pcap,
         Some("vcd") => Format::Vcd,
-        Some("html") => Format::Html,
+        Some("html") => Format::Html(file.unwrap_or("built-in").as_bytes()),
         _ => Format::Log,
     }
 }
@@ -213,11 +214,12 @@ fn wanted_of<'a>(matches: &ArgMatches<'a>) -> Wanted<'a> {
 
 /// What a run begins with.
 fn settings_of<'a>(found: &ArgMatches<'a>) -> Settings<'a> {
+    let file = found.get_str("file");
     Settings {
-        file: found.get_str("file"),
+        file,
         table: found.get_str("table"),
         capacity: found.get_one::<u16>("capacity").unwrap_or(16),
-        format: format_of(found.get_str("to")),
+        format: format_of(found.get_str("to"), file),
     }
 }
 

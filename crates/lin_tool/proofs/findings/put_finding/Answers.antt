@@ -3,4 +3,6 @@ use Rattle.lin_tool.proofs.findings.put_finding.Goals as goal
 
 pub returns : goal.returns
 returns g c =
-    rw (c.words_of.ensures) at (grows-more c.put_place.ensures (grows-more c.put.ensures c.put_needed.ensures))
+    rw (c.from.ensures, c.as_bytes.ensures.value, c.name.ensures) at
+    (grows-more c.put_place.ensures (grows-more c.put.ensures (grows-more c.put_number.ensures
+    (grows-more c.put_byte.ensures (grows-more c.put-2.ensures c.put_needed.ensures)))))

@@ -1,4 +1,4 @@
-use Rattle.lin_tool.proofs.Written.{writes-nothing}
+use Rattle.lin_export.proofs.Puttings.{writes-nothing}
 use Rattle.lin_tool.proofs.listing.write_wanted_frames.Goals as goal
 
 pub returns-then-is_wanted : goal.returns-then-is_wanted
