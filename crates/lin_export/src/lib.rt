@@ -26,6 +26,6 @@ pub use csv::write_csv;
 pub use fault::ExportFault;
 pub use first_slots::write_first_slots;
 pub use law::{captures_what_was_seen, dumps_last_values};
-pub use named::write_named;
+pub use named::{put_slot_names, write_named};
 pub use pcap::write_pcap;
 pub use vcd::write_vcd;

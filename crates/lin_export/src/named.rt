@@ -64,7 +64,7 @@ fn put_member<W: Write>(out: &mut TextWriter<'_, W>, cluster: &Cluster, member: 
 }
 
 /// What the entry of an opened slot is for.
-fn put_slot_names<W: Write>(out: &mut TextWriter<'_, W>, cluster: &Cluster, event: &Event)
+pub fn put_slot_names<W: Write>(out: &mut TextWriter<'_, W>, cluster: &Cluster, event: &Event)
     ensures { Grows W.contents out.old out.new
         (flat_map spaced_word (slot_names cluster.now event.now)) }
 {

@@ -1,6 +1,6 @@
 //! Logs as text.
 
-ghost use Rattle.std.specs.Prelude.{◌++◌, flat_map};
+ghost use Rattle.std.specs.Prelude.{◌++◌, drop, flat_map};
 ghost use Rattle.lin_text.specs.Written.{Grows, WritesText};
 ghost use Rattle.lin_log.specs.Language.{plain};
 ghost use Rattle.lin_log.specs.Words.{event_words, reply_line, reply_words, step_line, text};
@@ -65,10 +65,11 @@ fn put_entry<W: Write>(out: &mut TextWriter<'_, W>, entry: &LogEntry)
     put_reply(out, &entry.reply);
 }
 
-fn put_entries<W: Write>(out: &mut TextWriter<'_, W>, log: &Log)
-    ensures { Grows W.contents out.old out.new (text log.now.entries) }
+/// The lines of the entries of a log from one on.
+pub fn put_entries<W: Write>(out: &mut TextWriter<'_, W>, log: &Log, from: usize)
+    ensures { Grows W.contents out.old out.new (text (drop from log.now.entries)) }
 {
-    for index in 0..log.len() {
+    for index in from..log.len() {
         put_entry(out, log.entry(index));
     }
 }
@@ -86,6 +87,6 @@ pub fn write_log<W: Write>(log: &Log, writer: &mut W) -> Result<(), WriteFailed>
         (text log.now.entries) }
 {
     let mut lines = TextWriter::new(writer);
-    put_entries(&mut lines, log);
+    put_entries(&mut lines, log, 0);
     lines.finish()
 }

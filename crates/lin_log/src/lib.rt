@@ -21,7 +21,7 @@ mod steps;
 mod values;
 mod writing;
 
-pub use entries::{put_event_line, put_step_line, write_log};
+pub use entries::{put_entries, put_event_line, put_step_line, write_log};
 pub use fault::{ReplayFault, ScriptFault};
 pub use fields::{copied, first_field, is_number, is_over, number, number_field};
 pub use forms::{is_port, line_step, port_step, step};

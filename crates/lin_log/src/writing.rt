@@ -2,6 +2,7 @@
 
 ghost use Rattle.std.specs.Prelude.{◌∷◌, ◌++◌, codes, flat_map};
 ghost use Rattle.std.specs.Fmt.{decimal};
+ghost use Rattle.std.specs.Option.{option_map_or};
 ghost use Rattle.lin_text.specs.Written.{Grows};
 ghost use Rattle.lin_log.specs.Language.{word_of};
 ghost use Rattle.lin_log.specs.Words.{event_words, header_word, hex_word, port_number_word};
@@ -32,17 +33,26 @@ pub fn put_number<W: Write, I: Integer>(out: &mut TextWriter<'_, W>, number: I)
     out.put_number(number);
 }
 
+/// A space, and a name, or the number of what has none.
+#[inline]
+fn put_called<W: Write, I: Integer>(out: &mut TextWriter<'_, W>, name: Option<&[u8]>, number: I)
+    ensures { Grows W.contents out.old out.new
+        (spaced_word (option_map_or (λ w. w.now) name.entry (I.text number))) }
+{
+    out.put_byte(b' ');
+    match name {
+        Some(name) => out.put(name),
+        None => out.put_number(number),
+    }
+}
+
 /// A space, and a node's name, or its number where it has none.
 #[inline]
 pub fn put_node<N: Naming, W: Write>(out: &mut TextWriter<'_, W>, names: &N, node: u8)
     ensures { Grows W.contents out.old out.new
         (spaced_word (word_of (N.language names.now).nodes node)) }
 {
-    out.put_byte(b' ');
-    match names.name_of_node(node) {
-        Some(name) => out.put(name),
-        None => out.put_number(node),
-    }
+    put_called(out, names.name_of_node(node), node);
 }
 
 /// A space, and a signal's name, or its number where it has none.
@@ -51,11 +61,7 @@ pub fn put_signal<N: Naming, W: Write>(out: &mut TextWriter<'_, W>, names: &N, s
     ensures { Grows W.contents out.old out.new
         (spaced_word (word_of (N.language names.now).signals signal)) }
 {
-    out.put_byte(b' ');
-    match names.name_of_signal(signal) {
-        Some(name) => out.put(name),
-        None => out.put_number(signal),
-    }
+    put_called(out, names.name_of_signal(signal), signal);
 }
 
 /// A space, and a schedule table's name, or its number where it has none.
@@ -64,11 +70,7 @@ pub fn put_table<N: Naming, W: Write>(out: &mut TextWriter<'_, W>, names: &N, ta
     ensures { Grows W.contents out.old out.new
         (spaced_word (word_of (N.language names.now).tables table)) }
 {
-    out.put_byte(b' ');
-    match names.name_of_table(table) {
-        Some(name) => out.put(name),
-        None => out.put_number(table),
-    }
+    put_called(out, names.name_of_table(table), table);
 }
 
 /// A letter and a node: after a colon its name, or its number where it has none.
