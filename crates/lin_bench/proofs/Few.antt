@@ -137,20 +137,24 @@ slots-at-most c o cap how goes (suc n) past =
     turn-at-most (goes past) (is_opened (due_now c o cap past)) one (slots_steps c o cap how goes n (after c o cap past one)) n
     (λ h. one-slot c o cap how past h) (λ h. no-slot c o cap how past h) (slots-at-most c o cap how goes n (after c o cap past one))
 
-said-few : (c : Parts) (o cap : ℕ) (limit : Extent → ℕ) (past : List LogEntry) (l : Line) → nodes c ≤ 16
-    → length (said c o cap limit past l) ≤ most_steps * slots_made l (said c o cap limit past l) + 1
+said-few : (c : Parts) (o cap : ℕ) (limit : Extent → ℕ) (b : BenchState) (l : Line) → nodes c ≤ 16
+    → length (said c o cap limit b l) ≤ most_steps * slots_made l (said c o cap limit b l) + 1
 unfolding said extent_steps
-said-few c o cap limit past (line.Step by step) few = omega arith
-said-few c o cap limit past (line.Slot how) few = slots-few c o cap how _ _ past few
-said-few c o cap limit past (line.Slots extent) few = slots-few c o cap slot.Undisturbed _ _ past few
-said-few c o cap limit past (line.Expect what) few = omega arith
+said-few c o cap limit b (line.Step by step) few = omega arith
+said-few c o cap limit b (line.Slot how) few = slots-few c o cap how _ _ b.past few
+said-few c o cap limit b (line.Slots extent) few = slots-few c o cap slot.Undisturbed _ _ b.past few
+said-few c o cap limit b (line.Until extent what) few = slots-few c o cap slot.Undisturbed _ _ b.past few
+said-few c o cap limit b (line.Expect what) few = omega arith
+said-few c o cap limit b line.Forget few = omega arith
 
-first-few : (c : Parts) (o cap n : ℕ) (past : List LogEntry) (l : Line) → slots_made l (said c o cap (λ e. n) past l) ≤ n
+first-few : (c : Parts) (o cap n : ℕ) (b : BenchState) (l : Line) → slots_made l (said c o cap (λ e. n) b l) ≤ n
 unfolding said extent_steps
-first-few c o cap n past (line.Step by step) = omega arith
-first-few c o cap n past (line.Slot how) = slots-at-most c o cap how _ n past
-first-few c o cap n past (line.Slots extent) = slots-at-most c o cap slot.Undisturbed _ n past
-first-few c o cap n past (line.Expect what) = omega arith
+first-few c o cap n b (line.Step by step) = omega arith
+first-few c o cap n b (line.Slot how) = slots-at-most c o cap how _ n b.past
+first-few c o cap n b (line.Slots extent) = slots-at-most c o cap slot.Undisturbed _ n b.past
+first-few c o cap n b (line.Until extent what) = slots-at-most c o cap slot.Undisturbed _ n b.past
+first-few c o cap n b (line.Expect what) = omega arith
+first-few c o cap n b line.Forget = omega arith
 
 -- what a log and the slots that are left may still come to
 abbrev pub still_to_come : BenchState → ℕ
@@ -173,13 +177,23 @@ within-few c o cap b count steps first what false h all some =
     let few : count ≤ b.left = ltb-false b.left count h in
     rw h (rw (judged-few c (stepped c o cap b count steps) what) (stepped-few c o cap b count steps few all))
 
+steps-few : (c : Parts) (o cap : ℕ) (b : BenchState) (l : Line) → nodes c ≤ 16
+    → still_to_come (made_within c o cap b (slots_made l (said c o cap most b l)) (said c o cap most b l) (said c o cap (λ e. b.left) b l) (expects l)).0
+    ≤ still_to_come b + 1
+steps-few c o cap b l few =
+    let all = said c o cap most b l in
+    let some = said c o cap (λ e. b.left) b l in
+    within-few c o cap b (slots_made l all) all some (expects l) (nat_lt b.left (slots_made l all)) refl
+    (said-few c o cap most b l few)
+    (let e = said-few c o cap (λ e. b.left) b l few in omega (arith, e, first-few c o cap b.left b l))
+
 -- it grows by one at a line
 pub made-few : (c : Parts) (o cap : ℕ) (b : BenchState) (l : Line) → nodes c ≤ 16
     → still_to_come (made c o cap b l).0 ≤ still_to_come b + 1
 unfolding made
-made-few c o cap b l few =
-    let all = said c o cap most b.past l in
-    let some = said c o cap (λ e. b.left) b.past l in
-    within-few c o cap b (slots_made l all) all some (expects l) (nat_lt b.left (slots_made l all)) refl
-    (said-few c o cap most b.past l few)
-    (let e = said-few c o cap (λ e. b.left) b.past l few in omega (arith, e, first-few c o cap b.left b.past l))
+made-few c o cap b line.Forget few = omega arith
+made-few c o cap b (line.Step by step) few = steps-few c o cap b (line.Step by step) few
+made-few c o cap b (line.Slot how) few = steps-few c o cap b (line.Slot how) few
+made-few c o cap b (line.Slots extent) few = steps-few c o cap b (line.Slots extent) few
+made-few c o cap b (line.Until extent what) few = steps-few c o cap b (line.Until extent what) few
+made-few c o cap b (line.Expect what) few = steps-few c o cap b (line.Expect what) few

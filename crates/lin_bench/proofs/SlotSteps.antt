@@ -16,8 +16,10 @@ use Rattle.lin_core.specs.declared.reply.Refusal.{Refusal}
 use Rattle.lin_core.specs.declared.reply.Reply.TheVariants.{Done, Refused}
 use Rattle.lin_core.specs.declared.step.Step.{Step}
 use Rattle.lin_core.specs.declared.step.Step.TheVariants.{Open, Answer, Leave, Finish}
-use Rattle.lin_bench.specs.Making.{IsGrown, IsMade, NoRoom, SlotsFail, StepsFail, extent_on, first_on}
-use Rattle.lin_bench.specs.Slots.{after, decision, due_in, due_now, extent_steps, goes_on, hurt_steps, is_opened, leave_nodes, most, slot_rest, slot_steps, slots_in, slots_steps}
+use Rattle.lin_bench.specs.Making.{IsGrown, IsMade, NoRoom, SlotsFail, StepsFail, ends_at, extent_on, first_on}
+use Rattle.lin_bench.specs.Slots.{after, decision, due_in, due_now, extent_steps, hurt_steps, is_opened, leave_nodes, most, one_more, slot_rest, slot_steps, slots_in, slots_steps}
+use Rattle.lin_bench.specs.declared.expected.Expected.{Expected}
+use Rattle.lin_bench.specs.declared.taken.EventKind.{EventKind}
 use Rattle.lin_bench.specs.declared.line.Disturbance.{Disturbance}
 use Rattle.lin_bench.specs.declared.line.Disturbance.TheVariants as slot
 use Rattle.lin_bench.specs.declared.line.Extent.{Extent}
@@ -114,32 +116,40 @@ unfolding slots_steps
 turn-opened c o cap how goes n past h g = rw (h, g) refl
 
 -- the steps of at most n more slots of a line that began on a core
-abbrev pub turns : CoreData → Disturbance → Extent → ℕ → List LogEntry → List (PortId × Step)
-turns a how extent n past =
-    slots_steps a.cluster a.opening a.capacity how (goes_on a.cluster extent (time a.cluster (past_of a))) n past
+abbrev pub turns : CoreData → Disturbance → Extent → (List LogEntry → Bool) → ℕ → List LogEntry → List (PortId × Step)
+turns a how extent ends n past =
+    slots_steps a.cluster a.opening a.capacity how (one_more a.cluster extent ends (time a.cluster (past_of a))) n past
 
 -- slots of a line that began on a core were made, at most n more follow, and so many are left
-pub record AreBegun (a : CoreData) (how : Disturbance) (extent : Extent) (left : ℕ) (now : CoreData) (n : ℕ) (rest : ℕ) : Type 0 where
+pub record AreBegun (a : CoreData) (how : Disturbance) (extent : Extent) (ends : List LogEntry → Bool) (left : ℕ) (now : CoreData) (n : ℕ) (rest : ℕ) : Type 0 where
   pub steps : List (PortId × Step)
   pub made : IsMade a steps now
-  pub whole : extent_on a how extent ≡ steps ++ turns a how extent n (past_of now)
-  pub first : first_on a how extent left ≡ steps ++ turns a how extent rest (past_of now)
+  pub whole : extent_on a how extent ends ≡ steps ++ turns a how extent ends n (past_of now)
+  pub first : first_on a how extent ends left ≡ steps ++ turns a how extent ends rest (past_of now)
   pub count : slots_in steps + rest ≡ left
 
-begin-all : (a : CoreData) (how : Disturbance) (extent : Extent) (left : ℕ) → AreBegun a how extent left a (most extent) left
+begin-all : (a : CoreData) (how : Disturbance) (extent : Extent) (ends : List LogEntry → Bool) (left : ℕ) → AreBegun a how extent ends left a (most extent) left
 unfolding extent_steps
-begin-all a how extent left = record { steps = []; made = made-nothing a; whole = refl; first = refl; count = omega arith }
+begin-all a how extent ends left = record { steps = []; made = made-nothing a; whole = refl; first = refl; count = omega arith }
 
-pub begin : (a : CoreData) (how : Disturbance) (extent : Extent) (left n : ℕ) → n ≡ most extent → AreBegun a how extent left a n left
-begin a how extent left n e = subst (λ k. AreBegun a how extent left a k left) (sym e) (begin-all a how extent left)
+pub begin : (a : CoreData) (how : Disturbance) (extent : Extent) (ends : List LogEntry → Bool) (left n : ℕ) → n ≡ most extent → AreBegun a how extent ends left a n left
+begin a how extent ends left n e = subst (λ k. AreBegun a how extent ends left a k left) (sym e) (begin-all a how extent ends left)
 
 -- whether one more is to be made, by the time at the line's beginning
-same-goes : (a now : CoreData) (ss : List (PortId × Step)) (extent : Extent) (t : ℕ) (b : Bool) → IsMade a ss now
-    → t ≡ time a.cluster (past_of a) → goes_on now.cluster extent t (past_of now) ≡ b
-    → goes_on a.cluster extent (time a.cluster (past_of a)) (past_of now) ≡ b
-same-goes a now ss extent t b p e h =
-    ap (λ c. goes_on c extent (time a.cluster (past_of a)) (past_of now)) (sym p.alike.0)
-    ∙ ap (λ k. goes_on now.cluster extent k (past_of now)) (sym e) ∙ h
+same-goes : (a now : CoreData) (ss : List (PortId × Step)) (extent : Extent) (ends : List LogEntry → Bool) (t : ℕ) (b : Bool) → IsMade a ss now
+    → t ≡ time a.cluster (past_of a) → one_more now.cluster extent ends t (past_of now) ≡ b
+    → one_more a.cluster extent ends (time a.cluster (past_of a)) (past_of now) ≡ b
+same-goes a now ss extent ends t b p e h =
+    ap (λ c. one_more c extent ends (time a.cluster (past_of a)) (past_of now)) (sym p.alike.0)
+    ∙ ap (λ k. one_more now.cluster extent ends k (past_of now)) (sym e) ∙ h
+
+-- and with what is taken at the line's beginning
+pub same-ends : (a now : CoreData) (ss : List (PortId × Step)) (js ks : List EventKind) (what : Option Expected) (extent : Extent) (t : ℕ) (b : Bool)
+    → IsMade a ss now → js ≡ ks → b ≡ one_more now.cluster extent (ends_at now.cluster js what) t (past_of now)
+    → one_more now.cluster extent (ends_at a.cluster ks what) t (past_of now) ≡ b
+same-ends a now ss js ks what extent t b p same h =
+    ap (λ c. one_more now.cluster extent (ends_at c ks what) t (past_of now)) (sym p.alike.0)
+    ∙ ap (λ l. one_more now.cluster extent (ends_at now.cluster l what) t (past_of now)) (sym same) ∙ sym h
 
 -- what a slot of a core says by the core that the line began on
 same-slot : (a now : CoreData) (how : Disturbance) (ss : List (PortId × Step)) → IsMade a ss now
@@ -151,103 +161,103 @@ same-due : (a now : CoreData) (ss : List (PortId × Step)) → IsMade a ss now
 same-due a now ss p = rw (p.alike.0, p.alike.1, p.alike.2) refl
 
 -- no more is to be made
-pub stopped : (a now : CoreData) (how : Disturbance) (extent : Extent) (left n rest : ℕ) → AreBegun a how extent left now n rest
-    → goes_on a.cluster extent (time a.cluster (past_of a)) (past_of now) ≡ false
-    → IsMade a (extent_on a how extent) now × (slots_in (extent_on a how extent) + rest ≡ left)
-stopped a now how extent left n rest b h =
-    let all : extent_on a how extent ≡ b.steps = b.whole ∙ ap (λ l. b.steps ++ l) (turn-stops _ _ _ how _ n (past_of now) h) ∙ append-nothing b.steps in
+pub stopped : (a now : CoreData) (how : Disturbance) (extent : Extent) (ends : List LogEntry → Bool) (left n rest : ℕ) → AreBegun a how extent ends left now n rest
+    → one_more a.cluster extent ends (time a.cluster (past_of a)) (past_of now) ≡ false
+    → IsMade a (extent_on a how extent ends) now × (slots_in (extent_on a how extent ends) + rest ≡ left)
+stopped a now how extent ends left n rest b h =
+    let all : extent_on a how extent ends ≡ b.steps = b.whole ∙ ap (λ l. b.steps ++ l) (turn-stops _ _ _ how _ n (past_of now) h) ∙ append-nothing b.steps in
     (rw all b.made, rw all b.count)
 
 -- all were made
-pub ended : (a now : CoreData) (how : Disturbance) (extent : Extent) (left rest : ℕ) → AreBegun a how extent left now 0 rest
-    → IsMade a (extent_on a how extent) now × (slots_in (extent_on a how extent) + rest ≡ left)
+pub ended : (a now : CoreData) (how : Disturbance) (extent : Extent) (ends : List LogEntry → Bool) (left rest : ℕ) → AreBegun a how extent ends left now 0 rest
+    → IsMade a (extent_on a how extent ends) now × (slots_in (extent_on a how extent ends) + rest ≡ left)
 unfolding slots_steps
-ended a now how extent left rest b =
-    let all : extent_on a how extent ≡ b.steps = b.whole ∙ append-nothing b.steps in
+ended a now how extent ends left rest b =
+    let all : extent_on a how extent ends ≡ b.steps = b.whole ∙ append-nothing b.steps in
     (rw all b.made, rw all b.count)
 
 -- the next one can't be opened
-refused-whole : (a now : CoreData) (how : Disturbance) (extent : Extent) (left n rest : ℕ) (b : AreBegun a how extent left now (suc n) rest)
-    → goes_on a.cluster extent (time a.cluster (past_of a)) (past_of now) ≡ true
+refused-whole : (a now : CoreData) (how : Disturbance) (extent : Extent) (ends : List LogEntry → Bool) (left n rest : ℕ) (b : AreBegun a how extent ends left now (suc n) rest)
+    → one_more a.cluster extent ends (time a.cluster (past_of a)) (past_of now) ≡ true
     → is_opened (due_now now.cluster now.opening now.capacity (past_of now)) ≡ false
-    → extent_on a how extent ≡ b.steps ++ slot_steps now.cluster now.opening now.capacity how (past_of now)
-refused-whole a now how extent left n rest b goes shut =
+    → extent_on a how extent ends ≡ b.steps ++ slot_steps now.cluster now.opening now.capacity how (past_of now)
+refused-whole a now how extent ends left n rest b goes shut =
     let closed = ap is_opened (sym (same-due a now b.steps b.made)) ∙ shut in
     b.whole ∙ ap (λ l. b.steps ++ l) (turn-refused _ _ _ how _ n (past_of now) goes closed ∙ append-nothing _ ∙ sym (same-slot a now how b.steps b.made))
 
-pub refused : (a now new : CoreData) (how : Disturbance) (extent : Extent) (left n rest : ℕ) → AreBegun a how extent left now (suc n) rest
-    → goes_on a.cluster extent (time a.cluster (past_of a)) (past_of now) ≡ true
+pub refused : (a now new : CoreData) (how : Disturbance) (extent : Extent) (ends : List LogEntry → Bool) (left n rest : ℕ) → AreBegun a how extent ends left now (suc n) rest
+    → one_more a.cluster extent ends (time a.cluster (past_of a)) (past_of now) ≡ true
     → IsMade now (slot_steps now.cluster now.opening now.capacity how (past_of now)) new
     → is_opened (due_now now.cluster now.opening now.capacity (past_of now)) ≡ false
-    → IsMade a (extent_on a how extent) new × (slots_in (extent_on a how extent) + rest ≡ left)
-refused a now new how extent left n rest b goes made shut =
+    → IsMade a (extent_on a how extent ends) new × (slots_in (extent_on a how extent ends) + rest ≡ left)
+refused a now new how extent ends left n rest b goes made shut =
     let one = slot_steps now.cluster now.opening now.capacity how (past_of now) in
-    let all = refused-whole a now how extent left n rest b goes shut in
+    let all = refused-whole a now how extent ends left n rest b goes shut in
     let none : slots_in one ≡ 0 = no-slot _ _ _ how (past_of now) shut in
     let count : slots_in (b.steps ++ one) + rest ≡ left = let e = slots_in-append b.steps one in omega (arith, e, none, b.count) in
     (rw all (made-more a now new b.steps one b.made made), rw all count)
 
 -- the next one was opened
-turned : (a now new : CoreData) (how : Disturbance) (extent : Extent) (n : ℕ) (xs steps : List (PortId × Step))
-    → xs ≡ steps ++ turns a how extent (suc n) (past_of now) → IsMade a steps now
-    → goes_on a.cluster extent (time a.cluster (past_of a)) (past_of now) ≡ true
+turned : (a now new : CoreData) (how : Disturbance) (extent : Extent) (ends : List LogEntry → Bool) (n : ℕ) (xs steps : List (PortId × Step))
+    → xs ≡ steps ++ turns a how extent ends (suc n) (past_of now) → IsMade a steps now
+    → one_more a.cluster extent ends (time a.cluster (past_of a)) (past_of now) ≡ true
     → IsMade now (slot_steps now.cluster now.opening now.capacity how (past_of now)) new
     → is_opened (due_now now.cluster now.opening now.capacity (past_of now)) ≡ true
-    → xs ≡ (steps ++ slot_steps now.cluster now.opening now.capacity how (past_of now)) ++ turns a how extent n (past_of new)
-turned a now new how extent n xs steps whole so_far goes made is_open =
+    → xs ≡ (steps ++ slot_steps now.cluster now.opening now.capacity how (past_of now)) ++ turns a how extent ends n (past_of new)
+turned a now new how extent ends n xs steps whole so_far goes made is_open =
     let one = slot_steps now.cluster now.opening now.capacity how (past_of now) in
     let same = same-slot a now how steps so_far in
     let is = ap is_opened (sym (same-due a now steps so_far)) ∙ is_open in
     let later : past_of new ≡ after a.cluster a.opening a.capacity (past_of now) (slot_steps a.cluster a.opening a.capacity how (past_of now)) =
     rw (so_far.alike.0, so_far.alike.1, so_far.alike.2) at made.past in
     whole ∙ ap (λ l. steps ++ l) (turn-opened _ _ _ how _ n (past_of now) goes is)
-    ∙ ap (λ l. steps ++ (l ++ turns a how extent n (after a.cluster a.opening a.capacity (past_of now) (slot_steps a.cluster a.opening a.capacity how (past_of now))))) (sym same)
-    ∙ ap (λ l. steps ++ (one ++ turns a how extent n l)) (sym later)
-    ∙ sym (append_assoc steps one (turns a how extent n (past_of new)))
+    ∙ ap (λ l. steps ++ (l ++ turns a how extent ends n (after a.cluster a.opening a.capacity (past_of now) (slot_steps a.cluster a.opening a.capacity how (past_of now))))) (sym same)
+    ∙ ap (λ l. steps ++ (one ++ turns a how extent ends n l)) (sym later)
+    ∙ sym (append_assoc steps one (turns a how extent ends n (past_of new)))
 
-pub opened : (a now new : CoreData) (how : Disturbance) (extent : Extent) (left n rest : ℕ) → AreBegun a how extent left now (suc n) (suc rest)
-    → goes_on a.cluster extent (time a.cluster (past_of a)) (past_of now) ≡ true
+pub opened : (a now new : CoreData) (how : Disturbance) (extent : Extent) (ends : List LogEntry → Bool) (left n rest : ℕ) → AreBegun a how extent ends left now (suc n) (suc rest)
+    → one_more a.cluster extent ends (time a.cluster (past_of a)) (past_of now) ≡ true
     → IsMade now (slot_steps now.cluster now.opening now.capacity how (past_of now)) new
     → is_opened (due_now now.cluster now.opening now.capacity (past_of now)) ≡ true
-    → AreBegun a how extent left new n rest
-opened a now new how extent left n rest b goes made is_open =
+    → AreBegun a how extent ends left new n rest
+opened a now new how extent ends left n rest b goes made is_open =
     let one = slot_steps now.cluster now.opening now.capacity how (past_of now) in
     let one_ends : slots_in one ≡ 1 = one-slot _ _ _ how (past_of now) is_open in
     record {
       steps = b.steps ++ one;
       made = made-more a now new b.steps one b.made made;
-      whole = turned a now new how extent n _ b.steps b.whole b.made goes made is_open;
-      first = turned a now new how extent rest _ b.steps b.first b.made goes made is_open;
+      whole = turned a now new how extent ends n _ b.steps b.whole b.made goes made is_open;
+      first = turned a now new how extent ends rest _ b.steps b.first b.made goes made is_open;
       count = let e = slots_in-append b.steps one in omega (arith, e, one_ends, b.count);
     }
 
 -- the steps of a slot that is opened, among those of a line
-slot-among : (a now : CoreData) (how : Disturbance) (extent : Extent) (n : ℕ) (xs steps : List (PortId × Step))
-    → xs ≡ steps ++ turns a how extent (suc n) (past_of now) → IsMade a steps now
-    → goes_on a.cluster extent (time a.cluster (past_of a)) (past_of now) ≡ true
+slot-among : (a now : CoreData) (how : Disturbance) (extent : Extent) (ends : List LogEntry → Bool) (n : ℕ) (xs steps : List (PortId × Step))
+    → xs ≡ steps ++ turns a how extent ends (suc n) (past_of now) → IsMade a steps now
+    → one_more a.cluster extent ends (time a.cluster (past_of a)) (past_of now) ≡ true
     → is_opened (due_now now.cluster now.opening now.capacity (past_of now)) ≡ true
     → (more : List (PortId × Step)) × (xs ≡ steps ++ (slot_steps now.cluster now.opening now.capacity how (past_of now) ++ more))
-slot-among a now how extent n xs steps whole so_far goes is_open =
+slot-among a now how extent ends n xs steps whole so_far goes is_open =
     let one = slot_steps a.cluster a.opening a.capacity how (past_of now) in
     let is = ap is_opened (sym (same-due a now steps so_far)) ∙ is_open in
-    let more = turns a how extent n (after a.cluster a.opening a.capacity (past_of now) one) in (
+    let more = turns a how extent ends n (after a.cluster a.opening a.capacity (past_of now) one) in (
       more,
       whole ∙ ap (λ l. steps ++ l) (turn-opened _ _ _ how _ n (past_of now) goes is ∙ ap (λ l. l ++ more) (sym (same-slot a now how steps so_far))),
     )
 
 -- it could be opened, and none was left
-pub over : (a now : CoreData) (how : Disturbance) (extent : Extent) (left n : ℕ) → AreBegun a how extent left now (suc n) 0
-    → goes_on a.cluster extent (time a.cluster (past_of a)) (past_of now) ≡ true
+pub over : (a now : CoreData) (how : Disturbance) (extent : Extent) (ends : List LogEntry → Bool) (left n : ℕ) → AreBegun a how extent ends left now (suc n) 0
+    → one_more a.cluster extent ends (time a.cluster (past_of a)) (past_of now) ≡ true
     → is_opened (due_now now.cluster now.opening now.capacity (past_of now)) ≡ true
-    → IsMade a (first_on a how extent left) now × (left < slots_in (extent_on a how extent))
+    → IsMade a (first_on a how extent ends left) now × (left < slots_in (extent_on a how extent ends))
 unfolding slots_steps
-over a now how extent left n b goes is_open =
+over a now how extent ends left n b goes is_open =
     let one = slot_steps now.cluster now.opening now.capacity how (past_of now) in
-    let more = slot-among a now how extent n _ b.steps b.whole b.made goes is_open in
+    let more = slot-among a now how extent ends n _ b.steps b.whole b.made goes is_open in
     let one_ends : slots_in one ≡ 1 = one-slot _ _ _ how (past_of now) is_open in
     let all = ap slots_in more.1 ∙ slots_in-append b.steps (one ++ more.0) in
     let two = slots_in-append one more.0 in
-    let some : first_on a how extent left ≡ b.steps = b.first ∙ append-nothing b.steps in
+    let some : first_on a how extent ends left ≡ b.steps = b.first ∙ append-nothing b.steps in
     (rw some b.made, omega (arith, all, two, one_ends, b.count))
 
 -- it couldn't be made
@@ -256,77 +266,77 @@ slot-fails : (fault : MakeFault) (a now : CoreData) (xs steps one more : List (P
 slot-fails fault a now xs steps one more e made fails =
     subst (StepsFail fault a) (sym e) (fails-after fault a now steps (one ++ more) made (fails-before fault now one more fails))
 
-no-room : (a now : CoreData) (how : Disturbance) (extent : Extent) (left n rest : ℕ) (t : Bool) → AreBegun a how extent left now (suc n) rest
-    → goes_on a.cluster extent (time a.cluster (past_of a)) (past_of now) ≡ true
+no-room : (a now : CoreData) (how : Disturbance) (extent : Extent) (ends : List LogEntry → Bool) (left n rest : ℕ) (t : Bool) → AreBegun a how extent ends left now (suc n) rest
+    → one_more a.cluster extent ends (time a.cluster (past_of a)) (past_of now) ≡ true
     → is_opened (due_now now.cluster now.opening now.capacity (past_of now)) ≡ t → (t ≡ true → 0 < rest)
-    → NoRoom now (slot_steps now.cluster now.opening now.capacity how (past_of now)) → SlotsFail LogFull a how extent left
-no-room a now how extent left n zero true b goes is some full = absurd (let none = some refl in omega (arith, none))
-no-room a now how extent left n (suc rest) true b goes is some full =
+    → NoRoom now (slot_steps now.cluster now.opening now.capacity how (past_of now)) → SlotsFail LogFull a how extent ends left
+no-room a now how extent ends left n zero true b goes is some full = absurd (let none = some refl in omega (arith, none))
+no-room a now how extent ends left n (suc rest) true b goes is some full =
     let one = slot_steps now.cluster now.opening now.capacity how (past_of now) in
-    let all = slot-among a now how extent n _ b.steps b.whole b.made goes is in
-    let few = slot-among a now how extent rest _ b.steps b.first b.made goes is in
+    let all = slot-among a now how extent ends n _ b.steps b.whole b.made goes is in
+    let few = slot-among a now how extent ends rest _ b.steps b.first b.made goes is in
     (λ h. slot-fails LogFull a now _ b.steps one all.0 all.1 b.made full, λ h. slot-fails LogFull a now _ b.steps one few.0 few.1 b.made full)
-no-room a now how extent left n rest false b goes is some full =
+no-room a now how extent ends left n rest false b goes is some full =
     let one = slot_steps now.cluster now.opening now.capacity how (past_of now) in
-    let all = refused-whole a now how extent left n rest b goes is in
+    let all = refused-whole a now how extent ends left n rest b goes is in
     let none : slots_in one ≡ 0 = no-slot _ _ _ how (past_of now) is in (
       λ h. slot-fails LogFull a now _ b.steps one [] (all ∙ ap (λ l. b.steps ++ l) (sym (append-nothing one))) b.made full,
       λ h. absurd (let k = ap slots_in all ∙ slots_in-append b.steps one in omega (arith, k, none, b.count, h)),
     )
 
 -- ---- the same, as the code has it
-pub next-stops : (a now : CoreData) (how : Disturbance) (extent : Extent) (left n rest t : ℕ) → AreBegun a how extent left now n rest
-    → t ≡ time a.cluster (past_of a) → goes_on now.cluster extent t (past_of now) ≡ false
-    → IsMade a (extent_on a how extent) now × (slots_in (extent_on a how extent) + rest ≡ left)
-next-stops a now how extent left n rest t b e h = stopped a now how extent left n rest b (same-goes a now b.steps extent t false b.made e h)
+pub next-stops : (a now : CoreData) (how : Disturbance) (extent : Extent) (ends : List LogEntry → Bool) (left n rest t : ℕ) → AreBegun a how extent ends left now n rest
+    → t ≡ time a.cluster (past_of a) → one_more now.cluster extent ends t (past_of now) ≡ false
+    → IsMade a (extent_on a how extent ends) now × (slots_in (extent_on a how extent ends) + rest ≡ left)
+next-stops a now how extent ends left n rest t b e h = stopped a now how extent ends left n rest b (same-goes a now b.steps extent ends t false b.made e h)
 
-one-left : (a now : CoreData) (how : Disturbance) (extent : Extent) (left m n rest : ℕ) → AreBegun a how extent left now m rest → m ≡ n + 1
-    → AreBegun a how extent left now (suc n) rest
-one-left a now how extent left m n rest b e = subst (λ k. AreBegun a how extent left now k rest) (e ∙ add-one n) b
+one-left : (a now : CoreData) (how : Disturbance) (extent : Extent) (ends : List LogEntry → Bool) (left m n rest : ℕ) → AreBegun a how extent ends left now m rest → m ≡ n + 1
+    → AreBegun a how extent ends left now (suc n) rest
+one-left a now how extent ends left m n rest b e = subst (λ k. AreBegun a how extent ends left now k rest) (e ∙ add-one n) b
 
-pub next-refused : (a now new : CoreData) (how : Disturbance) (extent : Extent) (left m n rest t : ℕ) → AreBegun a how extent left now m rest
-    → m ≡ n + 1 → t ≡ time a.cluster (past_of a) → goes_on now.cluster extent t (past_of now) ≡ true
+pub next-refused : (a now new : CoreData) (how : Disturbance) (extent : Extent) (ends : List LogEntry → Bool) (left m n rest t : ℕ) → AreBegun a how extent ends left now m rest
+    → m ≡ n + 1 → t ≡ time a.cluster (past_of a) → one_more now.cluster extent ends t (past_of now) ≡ true
     → IsMade now (slot_steps now.cluster now.opening now.capacity how (past_of now)) new
     → is_opened (due_now now.cluster now.opening now.capacity (past_of now)) ≡ false
-    → IsMade a (extent_on a how extent) new × (slots_in (extent_on a how extent) + rest ≡ left)
-next-refused a now new how extent left m n rest t b em e h made shut =
-    refused a now new how extent left n rest (one-left a now how extent left m n rest b em) (same-goes a now b.steps extent t true b.made e h) made shut
+    → IsMade a (extent_on a how extent ends) new × (slots_in (extent_on a how extent ends) + rest ≡ left)
+next-refused a now new how extent ends left m n rest t b em e h made shut =
+    refused a now new how extent ends left n rest (one-left a now how extent ends left m n rest b em) (same-goes a now b.steps extent ends t true b.made e h) made shut
 
-one-more : (a now : CoreData) (how : Disturbance) (extent : Extent) (left n many rest : ℕ) → AreBegun a how extent left now n many → many ≡ rest + 1
-    → AreBegun a how extent left now n (suc rest)
-one-more a now how extent left n many rest b e = subst (λ k. AreBegun a how extent left now n k) (e ∙ add-one rest) b
+one-more : (a now : CoreData) (how : Disturbance) (extent : Extent) (ends : List LogEntry → Bool) (left n many rest : ℕ) → AreBegun a how extent ends left now n many → many ≡ rest + 1
+    → AreBegun a how extent ends left now n (suc rest)
+one-more a now how extent ends left n many rest b e = subst (λ k. AreBegun a how extent ends left now n k) (e ∙ add-one rest) b
 
-pub next-opened : (a now new : CoreData) (how : Disturbance) (extent : Extent) (left m n many rest t : ℕ) → AreBegun a how extent left now m many
-    → m ≡ n + 1 → many ≡ rest + 1 → t ≡ time a.cluster (past_of a) → goes_on now.cluster extent t (past_of now) ≡ true
+pub next-opened : (a now new : CoreData) (how : Disturbance) (extent : Extent) (ends : List LogEntry → Bool) (left m n many rest t : ℕ) → AreBegun a how extent ends left now m many
+    → m ≡ n + 1 → many ≡ rest + 1 → t ≡ time a.cluster (past_of a) → one_more now.cluster extent ends t (past_of now) ≡ true
     → IsMade now (slot_steps now.cluster now.opening now.capacity how (past_of now)) new
     → is_opened (due_now now.cluster now.opening now.capacity (past_of now)) ≡ true
-    → AreBegun a how extent left new n rest
-next-opened a now new how extent left m n many rest t b em er e h made is_open =
-    opened a now new how extent left n rest
-    (one-more a now how extent left (suc n) many rest (one-left a now how extent left m n many b em) er)
-    (same-goes a now b.steps extent t true b.made e h) made is_open
+    → AreBegun a how extent ends left new n rest
+next-opened a now new how extent ends left m n many rest t b em er e h made is_open =
+    opened a now new how extent ends left n rest
+    (one-more a now how extent ends left (suc n) many rest (one-left a now how extent ends left m n many b em) er)
+    (same-goes a now b.steps extent ends t true b.made e h) made is_open
 
-pub next-over : (a now : CoreData) (how : Disturbance) (extent : Extent) (left m n none t : ℕ) → AreBegun a how extent left now m none
-    → m ≡ n + 1 → none ≡ 0 → t ≡ time a.cluster (past_of a) → goes_on now.cluster extent t (past_of now) ≡ true
+pub next-over : (a now : CoreData) (how : Disturbance) (extent : Extent) (ends : List LogEntry → Bool) (left m n none t : ℕ) → AreBegun a how extent ends left now m none
+    → m ≡ n + 1 → none ≡ 0 → t ≡ time a.cluster (past_of a) → one_more now.cluster extent ends t (past_of now) ≡ true
     → is_opened (due_now now.cluster now.opening now.capacity (past_of now)) ≡ true
-    → IsMade a (first_on a how extent left) now × (left < slots_in (extent_on a how extent))
-next-over a now how extent left m n none t b em er e h is_open =
-    over a now how extent left n
-    (subst (λ r. AreBegun a how extent left now (suc n) r) er (one-left a now how extent left m n none b em))
-    (same-goes a now b.steps extent t true b.made e h) is_open
+    → IsMade a (first_on a how extent ends left) now × (left < slots_in (extent_on a how extent ends))
+next-over a now how extent ends left m n none t b em er e h is_open =
+    over a now how extent ends left n
+    (subst (λ r. AreBegun a how extent ends left now (suc n) r) er (one-left a now how extent ends left m n none b em))
+    (same-goes a now b.steps extent ends t true b.made e h) is_open
 
-pub next-fails : (fault : MakeFault) (a now new : CoreData) (how : Disturbance) (extent : Extent) (left m n rest t : ℕ) → AreBegun a how extent left now m rest
-    → m ≡ n + 1 → t ≡ time a.cluster (past_of a) → goes_on now.cluster extent t (past_of now) ≡ true
+pub next-fails : (fault : MakeFault) (a now new : CoreData) (how : Disturbance) (extent : Extent) (ends : List LogEntry → Bool) (left m n rest t : ℕ) → AreBegun a how extent ends left now m rest
+    → m ≡ n + 1 → t ≡ time a.cluster (past_of a) → one_more now.cluster extent ends t (past_of now) ≡ true
     → (is_opened (due_now now.cluster now.opening now.capacity (past_of now)) ≡ true → 0 < rest)
     → StepsFail fault now (slot_steps now.cluster now.opening now.capacity how (past_of now)) × IsGrown now new
-    → SlotsFail fault a how extent left × IsGrown a new
-next-fails LogFull a now new how extent left m n rest t b em e h some (full, grown) = (
-  no-room a now how extent left n rest _ (one-left a now how extent left m n rest b em) (same-goes a now b.steps extent t true b.made e h) refl some full,
+    → SlotsFail fault a how extent ends left × IsGrown a new
+next-fails LogFull a now new how extent ends left m n rest t b em e h some (full, grown) = (
+  no-room a now how extent ends left n rest _ (one-left a now how extent ends left m n rest b em) (same-goes a now b.steps extent ends t true b.made e h) refl some full,
   grown-more a now new (grown-made a now b.steps b.made) grown,
 )
-next-fails OutOfMemory a now new how extent left m n rest t b em e h some (none, grown) =
+next-fails OutOfMemory a now new how extent ends left m n rest t b em e h some (none, grown) =
     (tt, grown-more a now new (grown-made a now b.steps b.made) grown)
 
-pub all-made : (a now : CoreData) (how : Disturbance) (extent : Extent) (left n rest : ℕ) → AreBegun a how extent left now n rest → n ≡ 0
-    → IsMade a (extent_on a how extent) now × (slots_in (extent_on a how extent) + rest ≡ left)
-all-made a now how extent left n rest b e = ended a now how extent left rest (subst (λ k. AreBegun a how extent left now k rest) e b)
+pub all-made : (a now : CoreData) (how : Disturbance) (extent : Extent) (ends : List LogEntry → Bool) (left n rest : ℕ) → AreBegun a how extent ends left now n rest → n ≡ 0
+    → IsMade a (extent_on a how extent ends) now × (slots_in (extent_on a how extent ends) + rest ≡ left)
+all-made a now how extent ends left n rest b e = ended a now how extent ends left rest (subst (λ k. AreBegun a how extent ends left now k rest) e b)

@@ -1,10 +1,12 @@
 -- What contracts see of a bench, and what making a line on it answers.
-use Rattle.std.specs.Prelude.{◌≡◌, ℕ, ◌-◌, ◌<◌, ◌^◌, List, [], length, Option, Result, Ok, Err}
+use Rattle.std.specs.Prelude.{◌≡◌, Bool, if◌then◌else◌, None, ℕ, ◌-◌, ◌<◌, ◌^◌, List, [], length, Option, Result, Ok, Err}
 use Rattle.lin_core.specs.Core.{CoreData, IsAlike, past_of}
+use Rattle.lin_core.specs.declared.log.LogEntry.{LogEntry}
 use Rattle.lin_bench.specs.Made.{BenchState, judged, made, made_within}
-use Rattle.lin_bench.specs.Making.{IsGrown, extent_on, first_on}
+use Rattle.lin_bench.specs.Making.{IsGrown, ends_at, extent_on, first_on}
 use Rattle.lin_bench.specs.Searches.{IsKnown, taken_by}
 use Rattle.lin_bench.specs.Slots.{slot_limit, slots_in}
+use Rattle.lin_bench.specs.Verdicts.{all_taken}
 use Rattle.lin_bench.specs.declared.bench.Bench.TheInside.{Inside}
 use Rattle.lin_bench.specs.declared.expected.Expected.{Expected}
 use Rattle.lin_bench.specs.declared.fault.MakeFault.{MakeFault}
@@ -21,10 +23,10 @@ pub record BenchData : Type 0 where
   pub left : ℕ
 
 abbrev pub bench_data : Inside → BenchData
-bench_data a = record { core = a.core; taken = taken_by a.searches.items; left = a.left }
+bench_data a = record { core = a.core; taken = taken_by a.core.log a.taken; left = a.left }
 
 abbrev pub AreKnown : Inside → Type 0
-AreKnown a = IsKnown a.core.log a.searches.items
+AreKnown a = IsKnown a.core.log a.taken
 
 -- a bench on which no line was made
 abbrev pub fresh : CoreData → BenchData
@@ -32,6 +34,10 @@ fresh core = record { core = core; taken = []; left = slot_limit }
 
 abbrev pub renewed : BenchData → BenchData
 renewed b = record b { left = slot_limit }
+
+-- a bench of which all events so far are taken
+abbrev pub forgotten : BenchData → BenchData
+forgotten b = record b { taken = all_taken (past_of b.core) }
 
 -- the bench of the definitions
 abbrev pub state_of : BenchData → BenchState
@@ -41,12 +47,22 @@ state_of b = record { past = past_of b.core; taken = b.taken; left = b.left }
 abbrev pub made_on : BenchData → Line → BenchState × Verdict
 made_on b line = made b.core.cluster b.core.opening b.core.capacity (state_of b) line
 
+abbrev pub awaited : Bool → Option Expected → Option Expected
+awaited is what = if is then what else None
+
 -- slots on a bench, and what is expected after them
-abbrev pub made_slots : BenchData → Disturbance → Extent → Option Expected → BenchState × Verdict
-made_slots b how extent what =
+abbrev pub made_slots : BenchData → Disturbance → Extent → (List LogEntry → Bool) → Option Expected
+    → BenchState × Verdict
+made_slots b how extent ends what =
     made_within b.core.cluster b.core.opening b.core.capacity (state_of b)
-    (slots_in (extent_on b.core how extent)) (extent_on b.core how extent)
-    (first_on b.core how extent b.left) what
+    (slots_in (extent_on b.core how extent ends)) (extent_on b.core how extent ends)
+    (first_on b.core how extent ends b.left) what
+
+-- likewise, where they may end as soon as that comes
+abbrev pub made_until : BenchData → Disturbance → Extent → Bool → Option Expected
+    → BenchState × Verdict
+made_until b how extent is_awaited what =
+    made_slots b how extent (ends_at b.core.cluster b.taken (awaited is_awaited what)) what
 
 -- the log would have more entries than it takes
 abbrev pub Fails : MakeFault → BenchState → Type 0

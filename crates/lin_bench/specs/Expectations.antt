@@ -1,5 +1,6 @@
 -- What a bench script expects.
-use Rattle.std.specs.Prelude.{ℕ, if◌then◌else◌, List, [], ◌∷◌, Result, Ok}
+use Rattle.std.specs.Prelude.{ℕ, Bool, ◌||◌, if◌then◌else◌, List, [], ◌∷◌, Option, Some, None, Result}
+use Rattle.std.specs.Prelude.{Ok}
 use Rattle.std.specs.Prelude.{Err, codes}
 use Rattle.std.specs.Str.{bytes_eq}
 use Rattle.lin_cluster_parts.specs.declared.parts.Parts.{Parts}
@@ -8,10 +9,10 @@ use Rattle.lin_core.specs.Tables.{refusal_number, refusal_word, refusals}
 use Rattle.lin_core.specs.declared.reply.Refusal.{Refusal}
 use Rattle.lin_log.specs.Said.{is_number}
 use Rattle.lin_bench.specs.Fields.{◌>>=◌, bytes_fields, node_field, number_field, or_bad}
-use Rattle.lin_bench.specs.Fields.{signal_field, table_field, value_field}
+use Rattle.lin_bench.specs.Fields.{range_ends, range_field, signal_field, table_field, value_field}
 use Rattle.lin_bench.specs.declared.reason.Reason.{Reason}
 use Rattle.lin_bench.specs.declared.reason.Reason.TheVariants.{NoRefusal, TooSmall, ExpectForm}
-use Rattle.lin_bench.specs.declared.reason.Reason.TheVariants.{UnknownExpectation}
+use Rattle.lin_bench.specs.declared.reason.Reason.TheVariants.{UnknownExpectation, UntilForm, UnknownUntil}
 use Rattle.lin_bench.specs.declared.expected.Expected.{Expected}
 use Rattle.lin_bench.specs.declared.expected.Expected.TheVariants as expected
 
@@ -23,12 +24,18 @@ refusal_field f =
 
 -- the forms of the expectations: all fields after `expect`, which are shown where there is no form
 -- of them, and those after the first word. A wrong number of fields is no form
+abbrev pub signal_value : Parts → ℕ → ℕ → List ℕ → Option (List ℕ × List ℕ) → Result Expected Reason
+signal_value c node signal v None =
+    value_field c v >>= (λ value. Ok (expected.Signal node signal value))
+signal_value c node signal v (Some ends) =
+    range_field c v ends.0 ends.1
+    >>= (λ range. Ok (expected.SignalWithin node signal range.0 range.1))
+
 abbrev pub signal_form : Parts → List (List ℕ) → List (List ℕ) → Result Expected Reason
 signal_form c all (n ∷ s ∷ v ∷ []) = do
   node ← node_field c n
   signal ← signal_field c s
-  value ← value_field c v
-  Ok (expected.Signal node signal value)
+  signal_value c node signal v (range_ends v)
 signal_form c all fs = Err (UnknownExpectation all)
 
 abbrev pub waiting_form : Parts → List (List ℕ) → List (List ℕ) → Result Expected Reason
@@ -81,6 +88,20 @@ abbrev pub lone_form : List (List ℕ) → Expected → List (List ℕ) → Resu
 lone_form all what [] = Ok what
 lone_form all what (f ∷ fs) = Err (UnknownExpectation all)
 
+abbrev pub no_message_form : Parts → List (List ℕ) → List (List ℕ) → Result Expected Reason
+no_message_form c all (from ∷ to ∷ []) = do
+  sender ← node_field c from
+  receiver ← node_field c to
+  Ok (expected.NoMessage sender receiver)
+no_message_form c all fs = Err (UnknownExpectation all)
+
+-- what isn't to be
+abbrev pub no_form : Parts → List (List ℕ) → List (List ℕ) → Result Expected Reason
+no_form c all [] = Err (UnknownExpectation all)
+no_form c all (word ∷ fs) =
+    if bytes_eq word (codes "message") then no_message_form c all fs
+    else Err (UnknownExpectation all)
+
 -- the expectation that a word names, with the fields after it
 abbrev pub word_expectation : Parts → List (List ℕ) → List ℕ → List (List ℕ)
     → Result Expected Reason
@@ -88,6 +109,7 @@ word_expectation c all word fs =
     if bytes_eq word (codes "signal") then signal_form c all fs
     else if bytes_eq word (codes "waiting") then waiting_form c all fs
     else if bytes_eq word (codes "message") then message_form c all fs
+    else if bytes_eq word (codes "no") then no_form c all fs
     else if bytes_eq word (codes "sent") then sent_form c all fs
     else if bytes_eq word (codes "lost") then lost_form c all fs
     else if bytes_eq word (codes "seen") then seen_form all fs
@@ -102,3 +124,19 @@ word_expectation c all word fs =
 unfoldable pub expectation : Parts → List (List ℕ) → Result Expected Reason
 expectation c [] = Err ExpectForm
 expectation c (word ∷ fs) = word_expectation c (word ∷ fs) word fs
+
+-- what comes after a step alone, or stands for what doesn't come
+abbrev pub never_comes : List ℕ → Bool
+never_comes word =
+    bytes_eq word (codes "done") || bytes_eq word (codes "refused") || bytes_eq word (codes "no")
+
+abbrev pub as_until : Result Expected Reason → Result Expected Reason
+as_until (Err (UnknownExpectation fs)) = Err (UnknownUntil fs)
+as_until read = read
+
+-- what is waited for, by the fields after `until`
+unfoldable pub until_form : Parts → List (List ℕ) → Result Expected Reason
+until_form c [] = Err UntilForm
+until_form c (word ∷ fs) =
+    if never_comes word then Err (UnknownUntil (word ∷ fs))
+    else as_until (word_expectation c (word ∷ fs) word fs)

@@ -1,14 +1,16 @@
 -- The fields of a bench script's line, as the language of a cluster's names has them, and what is
 -- said of one that is bad.
-use Rattle.std.specs.Prelude.{ℕ, true, List, map, Option, Some, None, Result, Ok, Err}
+use Rattle.std.specs.Prelude.{ℕ, ◌==◌, ◌&&◌, nat_lt, if◌then◌else◌, true, List, [], ◌∷◌, map}
+use Rattle.std.specs.Prelude.{drop, slice_index, Option, Some, None, option_map, Result, Ok, Err}
 use Rattle.std.specs.Borrow.{Bor}
 use Rattle.lin_frame.specs.declared.value.Value.{Value}
+use Rattle.lin_frame.specs.declared.value.Value.TheVariants.{Scalar}
 use Rattle.lin_cluster_parts.specs.declared.parts.Parts.{Parts}
 use Rattle.lin_log.specs.Language.{named}
 use Rattle.lin_log.specs.Said as log
 use Rattle.lin_log.specs.declared.reason.Reason.{Reason as StepReason}
 use Rattle.lin_bench.specs.declared.reason.Reason.{Reason}
-use Rattle.lin_bench.specs.declared.reason.Reason.TheVariants.{Step}
+use Rattle.lin_bench.specs.declared.reason.Reason.TheVariants.{Step, NoRange}
 
 -- what is said in turn: the first bad part says why
 infixl 10 ◌>>=◌
@@ -48,5 +50,33 @@ table_field c f = of_step (log.table_field (named c) f)
 abbrev pub bytes_fields : Parts → List (List ℕ) → Result (List ℕ) Reason
 bytes_fields c fs = of_step (log.bytes_fields (named c) fs)
 
+-- what stands after `..` at the beginning of a text
+abbrev pub after_dots : List ℕ → Option (List ℕ)
+after_dots xs =
+    if slice_index xs 0 == 46 && slice_index xs 1 == 46 then Some (drop 2 xs) else None
+
+abbrev pub split_here : ℕ → Option (List ℕ) → Option (List ℕ × List ℕ)
+    → Option (List ℕ × List ℕ)
+split_here x (Some rest) later = Some ([], rest)
+split_here x None later =
+    option_map (λ (ends : List ℕ × List ℕ). (x ∷ ends.0, ends.1)) later
+
+-- what stands before and after the first `..` of a field
+abbrev pub range_ends : List ℕ → Option (List ℕ × List ℕ)
+range_ends [] = None
+range_ends (x ∷ xs) = split_here x (after_dots (x ∷ xs)) (range_ends xs)
+
 abbrev pub value_field : Parts → List ℕ → Result Value Reason
 value_field c f = of_step (log.value_field (named c) f)
+
+-- two scalars, of which the first isn't above the second
+abbrev pub range_of : List ℕ → Value → Value → Result (ℕ × ℕ) Reason
+range_of f (Scalar low) (Scalar high) = if nat_lt high low then Err (NoRange f) else Ok (low, high)
+range_of f low high = Err (NoRange f)
+
+-- the ends of a range that a field has
+unfoldable pub range_field : Parts → List ℕ → List ℕ → List ℕ → Result (ℕ × ℕ) Reason
+range_field c f low high = do
+  from ← value_field c low
+  to ← value_field c high
+  range_of f from to

@@ -8,10 +8,11 @@ use Rattle.lin_cluster_parts.specs.declared.parts.Parts.{Parts}
 use Rattle.lin_core.specs.declared.port.PortId.TheVariants.{Bus}
 use Rattle.lin_log.specs.Language.{named}
 use Rattle.lin_log.specs.Said.{is_port, port_step, step_form}
+use Rattle.lin_log.specs.declared.reason.Reason.TheVariants.{Takes}
 use Rattle.lin_bench.specs.Fields.{◌>>=◌, bytes_fields, fields, node_field, number_field, of_step}
-use Rattle.lin_bench.specs.Expectations.{expectation}
+use Rattle.lin_bench.specs.Expectations.{expectation, until_form}
 use Rattle.lin_bench.specs.declared.reason.Reason.{Reason}
-use Rattle.lin_bench.specs.declared.reason.Reason.TheVariants.{TooSmall, SlotsForm, SlotForm}
+use Rattle.lin_bench.specs.declared.reason.Reason.TheVariants.{Step, TooSmall, SlotsForm, SlotForm}
 use Rattle.lin_bench.specs.declared.reason.Reason.TheVariants.{LeaveForm}
 use Rattle.lin_bench.specs.declared.line.Disturbance.{Disturbance}
 use Rattle.lin_bench.specs.declared.line.Disturbance.TheVariants as slot
@@ -24,17 +25,36 @@ use Rattle.lin_bench.specs.declared.line.Line.TheVariants as line
 abbrev pub count_field : List ℕ → Result ℕ Reason
 count_field f = number_field 1000000 f >>= (λ n. if n == 0 then Err TooSmall else Ok n)
 
--- how many slots, for how many milliseconds of the schedule's time, or until no message waits, at
--- most 10,000 where no number says how many
-unfoldable pub slots_form : List (List ℕ) → Result Extent Reason
-slots_form (f ∷ []) =
-    if bytes_eq f (codes "idle") then Ok (slots.Idle 10000)
-    else count_field f >>= (λ n. Ok (slots.Count n))
-slots_form (f ∷ g ∷ []) =
-    if bytes_eq f (codes "idle") then count_field g >>= (λ n. Ok (slots.Idle n))
-    else if bytes_eq g (codes "ms") then count_field f >>= (λ n. Ok (slots.Milliseconds n))
+-- until no message waits, at most 10,000 slots where no number says how many
+abbrev pub idle_form : List (List ℕ) → Result Line Reason
+idle_form [] = Ok (line.Slots (slots.Idle 10000))
+idle_form (f ∷ []) = count_field f >>= (λ n. Ok (line.Slots (slots.Idle n)))
+idle_form fs = Err SlotsForm
+
+-- so many, until something comes
+abbrev pub until_line : Parts → (ℕ → Extent) → List ℕ → List (List ℕ) → Result Line Reason
+until_line c extent f fs = do
+  n ← count_field f
+  what ← until_form c fs
+  Ok (line.Until (extent n) what)
+
+-- for so many milliseconds of the schedule's time
+abbrev pub time_form : Parts → List ℕ → List (List ℕ) → Result Line Reason
+time_form c f [] = count_field f >>= (λ n. Ok (line.Slots (slots.Milliseconds n)))
+time_form c f (word ∷ fs) =
+    if bytes_eq word (codes "until") then until_line c slots.Milliseconds f fs else Err SlotsForm
+
+abbrev pub count_form : Parts → List ℕ → List (List ℕ) → Result Line Reason
+count_form c f [] = count_field f >>= (λ n. Ok (line.Slots (slots.Count n)))
+count_form c f (word ∷ fs) =
+    if bytes_eq word (codes "until") then until_line c slots.Count f fs
+    else if bytes_eq word (codes "ms") then time_form c f fs
     else Err SlotsForm
-slots_form fs = Err SlotsForm
+
+-- how many slots are made, by the fields after `slots`
+unfoldable pub slots_form : Parts → List (List ℕ) → Result Line Reason
+slots_form c [] = Err SlotsForm
+slots_form c (f ∷ fs) = if bytes_eq f (codes "idle") then idle_form fs else count_form c f fs
 
 abbrev pub node_fields : Parts → List (List ℕ) → Result (List ℕ) Reason
 node_fields c [] = Ok []
@@ -55,14 +75,19 @@ slot_form c (word ∷ fs) =
     else if bytes_eq word (codes "leave") then leave_form c fs
     else Err (SlotForm word)
 
+abbrev pub forget_form : List (List ℕ) → Result Line Reason
+forget_form [] = Ok line.Forget
+forget_form fs = Err (Step (Takes (codes "forget") 0))
+
 -- what a line says, by its first field and those after it. Where no port stands before a step, the
 -- bus gives it
 unfoldable pub line_form : Parts → List ℕ → List (List ℕ) → Result Line Reason
 line_form c word fs =
     if is_port word then of_step (port_step (named c) word fs) >>= (λ s. Ok (line.Step s.0 s.1))
-    else if bytes_eq word (codes "slots") then slots_form fs >>= (λ extent. Ok (line.Slots extent))
+    else if bytes_eq word (codes "slots") then slots_form c fs
     else if bytes_eq word (codes "slot") then slot_form c fs >>= (λ how. Ok (line.Slot how))
     else if bytes_eq word (codes "expect") then expectation c fs >>= (λ what. Ok (line.Expect what))
+    else if bytes_eq word (codes "forget") then forget_form fs
     else of_step (step_form (named c) word fs) >>= (λ step. Ok (line.Step Bus step))
 
 abbrev pub of_fields : Parts → List (List ℕ) → Result (Option Line) Reason

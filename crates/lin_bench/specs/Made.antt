@@ -1,11 +1,13 @@
 -- What a line of a bench script comes to on a bench: the steps that it says, and its verdict.
-use Rattle.std.specs.Prelude.{ℕ, ◌-◌, nat_lt, if◌then◌else◌, List, [], ◌∷◌, Option, Some, None}
+use Rattle.std.specs.Prelude.{ℕ, ◌-◌, Bool, false, nat_lt, if◌then◌else◌, List, [], ◌∷◌, Option}
+use Rattle.std.specs.Prelude.{Some, None, is_none, is_some}
+use Rattle.std.specs.Option.{option_map_or}
 use Rattle.lin_cluster_parts.specs.declared.parts.Parts.{Parts}
 use Rattle.lin_core.specs.declared.log.LogEntry.{LogEntry}
 use Rattle.lin_core.specs.declared.port.PortId.{PortId}
 use Rattle.lin_core.specs.declared.step.Step.{Step}
 use Rattle.lin_bench.specs.Slots.{after, extent_steps, most, slots_in}
-use Rattle.lin_bench.specs.Verdicts.{kind_taken, taking, verdict}
+use Rattle.lin_bench.specs.Verdicts.{all_taken, kind_taken, next_event, taking, verdict}
 use Rattle.lin_bench.specs.declared.expected.Expected.{Expected}
 use Rattle.lin_bench.specs.declared.expected.Expected.TheVariants.{Idle as IsIdle}
 use Rattle.lin_bench.specs.declared.got.Got.{Got}
@@ -18,35 +20,51 @@ use Rattle.lin_bench.specs.declared.line.Line.{Line}
 use Rattle.lin_bench.specs.declared.line.Line.TheVariants as line
 use Rattle.lin_bench.specs.declared.taken.EventKind.{EventKind}
 
--- the steps that a line says, given the history before it; where they are slots, at most as many as
--- a limit of their extent allows
-unfoldable pub said : Parts → ℕ → ℕ → (Extent → ℕ) → List LogEntry → Line → List (PortId × Step)
-said c opening capacity limit past (line.Step by step) = (by, step) ∷ []
-said c opening capacity limit past (line.Slot how) =
-    extent_steps c opening capacity how (Count 1) (limit (Count 1)) past
-said c opening capacity limit past (line.Slots extent) =
-    extent_steps c opening capacity Undisturbed extent (limit extent) past
-said c opening capacity limit past (line.Expect what) = []
-
--- how many slots a line of slots made by these steps; no other line makes any
-abbrev pub slots_made : Line → List (PortId × Step) → ℕ
-slots_made (line.Step by step) steps = 0
-slots_made (line.Slot how) steps = slots_in steps
-slots_made (line.Slots extent) steps = slots_in steps
-slots_made (line.Expect what) steps = 0
-
--- what a line expects, of the history after its steps
-abbrev pub expects : Line → Option Expected
-expects (line.Slots (Idle n)) = Some IsIdle
-expects (line.Expect what) = Some what
-expects line = None
-
 -- a bench: the entries of its log, the newest first, of which kinds expectations took events, in
 -- order, and how many slots lines of slots may still make
 pub record BenchState : Type 0 where
   pub past : List LogEntry
   pub taken : List EventKind
   pub left : ℕ
+
+-- what is waited for comes: where it speaks of messages or of what became of them, there is one that
+-- isn't taken, right or wrong; and otherwise it is so
+abbrev pub comes : Parts → List EventKind → Expected → List LogEntry → Bool
+comes c taken what past =
+    option_map_or (λ kind. is_some (next_event past taken kind))
+    (kind_taken what) (is_none (verdict c past taken what))
+
+abbrev pub never : List LogEntry → Bool
+never past = false
+
+-- the steps that a line says on a bench; where they are slots, at most as many as a limit of their
+-- extent allows
+unfoldable pub said : Parts → ℕ → ℕ → (Extent → ℕ) → BenchState → Line → List (PortId × Step)
+said c opening capacity limit b (line.Step by step) = (by, step) ∷ []
+said c opening capacity limit b (line.Slot how) =
+    extent_steps c opening capacity how (Count 1) never (limit (Count 1)) b.past
+said c opening capacity limit b (line.Slots extent) =
+    extent_steps c opening capacity Undisturbed extent never (limit extent) b.past
+said c opening capacity limit b (line.Until extent what) =
+    extent_steps c opening capacity Undisturbed extent (comes c b.taken what) (limit extent) b.past
+said c opening capacity limit b (line.Expect what) = []
+said c opening capacity limit b line.Forget = []
+
+-- how many slots a line of slots made by these steps; no other line makes any
+abbrev pub slots_made : Line → List (PortId × Step) → ℕ
+slots_made (line.Step by step) steps = 0
+slots_made (line.Slot how) steps = slots_in steps
+slots_made (line.Slots extent) steps = slots_in steps
+slots_made (line.Until extent what) steps = slots_in steps
+slots_made (line.Expect what) steps = 0
+slots_made line.Forget steps = 0
+
+-- what a line expects, of the history after its steps
+abbrev pub expects : Line → Option Expected
+expects (line.Slots (Idle n)) = Some IsIdle
+expects (line.Until extent what) = Some what
+expects (line.Expect what) = Some what
+expects line = None
 
 abbrev pub met_or : Expected → Option Got → Verdict
 met_or what None = Met what
@@ -73,9 +91,14 @@ made_within c opening capacity b count steps first what =
     if nat_lt b.left count then (stepped c opening capacity b b.left first, SlotLimit)
     else judged c (stepped c opening capacity b count steps) what
 
+-- a bench of which all events so far are taken
+abbrev pub forgotten : BenchState → BenchState
+forgotten b = record b { taken = all_taken b.past }
+
 -- a bench after a line, and the line's verdict
 unfoldable pub made : Parts → ℕ → ℕ → BenchState → Line → BenchState × Verdict
+made c opening capacity b line.Forget = (forgotten b, Nothing)
 made c opening capacity b line =
-    let steps = said c opening capacity most b.past line
+    let steps = said c opening capacity most b line
     in made_within c opening capacity b (slots_made line steps) steps
-    (said c opening capacity (λ extent. b.left) b.past line) (expects line)
+    (said c opening capacity (λ extent. b.left) b line) (expects line)

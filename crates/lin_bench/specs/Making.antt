@@ -1,11 +1,15 @@
 -- What making steps on a core answers.
-use Rattle.std.specs.Prelude.{◌≡◌, ℕ, ◌<◌, ◌+◌, ◌-◌, ◌^◌, ◌≤◌, List, ◌++◌, length, Option}
+use Rattle.std.specs.Prelude.{◌≡◌, Bool, ℕ, ◌<◌, ◌+◌, ◌-◌, ◌^◌, ◌≤◌, List, ◌++◌, length, Option}
 use Rattle.std.specs.Prelude.{Some, None, Result, Ok, Err}
+use Rattle.lin_cluster_parts.specs.declared.parts.Parts.{Parts}
 use Rattle.lin_core.specs.Core.{CoreData, IsAlike, past_of}
 use Rattle.lin_core.specs.declared.log.LogEntry.{LogEntry}
 use Rattle.lin_core.specs.declared.port.PortId.{PortId}
 use Rattle.lin_core.specs.declared.step.Step.{Step}
+use Rattle.lin_bench.specs.Made.{comes, never}
 use Rattle.lin_bench.specs.Slots.{after, extent_steps, most, slots_in}
+use Rattle.lin_bench.specs.declared.expected.Expected.{Expected}
+use Rattle.lin_bench.specs.declared.taken.EventKind.{EventKind}
 use Rattle.lin_bench.specs.declared.line.Disturbance.{Disturbance}
 use Rattle.lin_bench.specs.declared.line.Extent.{Extent}
 use Rattle.lin_bench.specs.declared.fault.MakeFault.{MakeFault}
@@ -40,29 +44,34 @@ MakesSteps old steps (Err fault) new = StepsFail fault old steps × IsGrown old 
 abbrev pub most_steps : ℕ
 most_steps = 19
 
+-- how slots end where they are made until what is expected comes, with what is taken
+abbrev pub ends_at : Parts → List EventKind → Option Expected → List LogEntry → Bool
+ends_at c taken None = never
+ends_at c taken (Some what) = comes c taken what
+
 -- the steps of at most n slots of a line on a core
-abbrev pub first_on : CoreData → Disturbance → Extent → ℕ → List (PortId × Step)
-first_on core how extent n =
-    extent_steps core.cluster core.opening core.capacity how extent n (past_of core)
+abbrev pub first_on : CoreData → Disturbance → Extent → (List LogEntry → Bool) → ℕ → List (PortId × Step)
+first_on core how extent ends n =
+    extent_steps core.cluster core.opening core.capacity how extent ends n (past_of core)
 
 -- the steps of a line of slots on a core
-abbrev pub extent_on : CoreData → Disturbance → Extent → List (PortId × Step)
-extent_on core how extent = first_on core how extent (most extent)
+abbrev pub extent_on : CoreData → Disturbance → Extent → (List LogEntry → Bool) → List (PortId × Step)
+extent_on core how extent ends = first_on core how extent ends (most extent)
 
 -- why slots aren't made: there is no room for those of the line, or for those that are left
-abbrev pub SlotsFail : MakeFault → CoreData → Disturbance → Extent → ℕ → Type 0
-SlotsFail LogFull core how extent left =
-    (slots_in (extent_on core how extent) ≤ left → NoRoom core (extent_on core how extent))
-    × (left < slots_in (extent_on core how extent) → NoRoom core (first_on core how extent left))
-SlotsFail OutOfMemory core how extent left = Unit {0}
+abbrev pub SlotsFail : MakeFault → CoreData → Disturbance → Extent → (List LogEntry → Bool) → ℕ → Type 0
+SlotsFail LogFull core how extent ends left =
+    (slots_in (extent_on core how extent ends) ≤ left → NoRoom core (extent_on core how extent ends))
+    × (left < slots_in (extent_on core how extent ends) → NoRoom core (first_on core how extent ends left))
+SlotsFail OutOfMemory core how extent ends left = Unit {0}
 
 -- the slots of a line were made, and so many are left; or they are more than were left, and those
 -- were made
-abbrev pub MakesSlots : CoreData → Disturbance → Extent → ℕ → Result (Option ℕ) MakeFault → CoreData
+abbrev pub MakesSlots : CoreData → Disturbance → Extent → (List LogEntry → Bool) → ℕ → Result (Option ℕ) MakeFault → CoreData
     → Type 0
-MakesSlots old how extent left (Ok (Some rest)) new =
-    IsMade old (extent_on old how extent) new × (slots_in (extent_on old how extent) + rest ≡ left)
-MakesSlots old how extent left (Ok None) new =
-    IsMade old (first_on old how extent left) new × (left < slots_in (extent_on old how extent))
-MakesSlots old how extent left (Err fault) new =
-    SlotsFail fault old how extent left × IsGrown old new
+MakesSlots old how extent ends left (Ok (Some rest)) new =
+    IsMade old (extent_on old how extent ends) new × (slots_in (extent_on old how extent ends) + rest ≡ left)
+MakesSlots old how extent ends left (Ok None) new =
+    IsMade old (first_on old how extent ends left) new × (left < slots_in (extent_on old how extent ends))
+MakesSlots old how extent ends left (Err fault) new =
+    SlotsFail fault old how extent ends left × IsGrown old new

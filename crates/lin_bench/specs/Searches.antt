@@ -1,43 +1,48 @@
 -- Events that expectations took, and the searches that found them, given the entries of a log, the
 -- oldest first.
-use Rattle.std.specs.Prelude.{◌≡◌, ◌≤◌, ◌+◌, ℕ, List, [], ◌∷◌, count_by, find, flat_map, length}
+use Rattle.std.specs.Prelude.{◌≡◌, ◌≤◌, ◌+◌, ℕ, List, [], ◌∷◌, ◌++◌, count_by, find, flat_map, length}
 use Rattle.std.specs.Prelude.{if◌then◌else◌, filter, reverse, slice_get, take, Option, Some, None}
 use Rattle.std.specs.Prelude.{Result, Ok, Err}
+use Rattle.std.specs.List.{filter_map}
 use Rattle.lin_core.specs.History.{events}
 use Rattle.lin_core.specs.declared.event.Event.{Event}
 use Rattle.lin_core.specs.declared.log.LogEntry.{LogEntry}
-use Rattle.lin_bench.specs.Verdicts.{is_of, same_kind}
+use Rattle.lin_bench.specs.Verdicts.{is_of, kind_of, same_kind}
 use Rattle.lin_bench.specs.declared.taken.EventKind.{EventKind}
 use Rattle.lin_bench.specs.declared.taken.Place.{Place}
 use Rattle.lin_bench.specs.declared.taken.Search.{Search}
+use Rattle.lin_bench.specs.declared.taken.Taken.{Taken}
 
 abbrev pub kind_found : Search → List EventKind
 kind_found s = if s.found then s.kind ∷ [] else []
 
--- of which kinds searches took events
-abbrev pub taken_by : List Search → List EventKind
-taken_by ss = flat_map kind_found ss
+-- of which kinds events were taken
+abbrev pub taken_by : List LogEntry → Taken → List EventKind
+taken_by es t =
+    filter_map kind_of (flat_map events (take t.forgotten es))
+    ++ flat_map kind_found t.searches.items
 
 abbrev pub last_search : EventKind → List Search → Option Search
 last_search kind ss = find (λ s. same_kind kind s.kind) (reverse ss)
 
-abbrev pub end_of : Option Search → Place
-end_of None = record { entry = 0; events = 0 }
-end_of (Some s) = s.end
+abbrev pub end_of : ℕ → Option Search → Place
+end_of forgotten None = record { entry = forgotten; events = 0 }
+end_of forgotten (Some s) = s.end
 
 -- where the last search for a kind ended
-abbrev pub last_end : EventKind → List Search → Place
-last_end kind ss = end_of (last_search kind ss)
+abbrev pub last_end : EventKind → Taken → Place
+last_end kind t = end_of t.forgotten (last_search kind t.searches.items)
 
 -- how many events of a kind stand before a place
 abbrev pub before : List LogEntry → EventKind → Place → ℕ
 before es kind p = count_by (is_of kind) (flat_map events (take p.entry es)) + p.events
 
 -- the last search for each kind ended behind all events that were taken of it
-pub record IsKnown (es : List LogEntry) (ss : List Search) : Type 0 where
-  pub within : (kind : EventKind) → (last_end kind ss).entry ≤ length es
+pub record IsKnown (es : List LogEntry) (t : Taken) : Type 0 where
+  pub forgotten : t.forgotten ≤ length es
+  pub within : (kind : EventKind) → (last_end kind t).entry ≤ length es
   pub taken : (kind : EventKind)
-      → before es kind (last_end kind ss) ≡ count_by (same_kind kind) (taken_by ss)
+      → before es kind (last_end kind t) ≡ count_by (same_kind kind) (taken_by es t)
 
 abbrev pub how_many : Option Event → ℕ
 how_many None = 0

@@ -1,6 +1,6 @@
 -- What lines of slots stand for, given the history before them: the entries of a log, the newest
 -- first.
-use Rattle.std.specs.Prelude.{ℕ, suc, zero, ◌+◌, ◌-◌, ◌*◌, Bool, true, false, nat_lt, if◌then◌else◌}
+use Rattle.std.specs.Prelude.{ℕ, suc, zero, ◌+◌, ◌-◌, ◌*◌, Bool, true, false, not, ◌&&◌, nat_lt, if◌then◌else◌}
 use Rattle.std.specs.Prelude.{List, [], ◌∷◌, ◌++◌, map, filter, length, Option, Some, None}
 use Rattle.std.specs.List.{list_any, filter_map}
 use Rattle.lin_frame.specs.Words.{numbers}
@@ -109,11 +109,16 @@ most (slots.Count n) = n
 most (slots.Milliseconds n) = slot_limit + 1
 most (slots.Idle n) = n
 
+-- likewise, where slots also end as soon as a test of the history holds
+abbrev pub one_more : Parts → Extent → (List LogEntry → Bool) → ℕ → List LogEntry → Bool
+one_more c extent ends began past = goes_on c extent began past && not (ends past)
+
 -- the steps of a line of slots, of at most n
-unfoldable pub extent_steps : Parts → ℕ → ℕ → Disturbance → Extent → ℕ → List LogEntry
+unfoldable pub extent_steps : Parts → ℕ → ℕ → Disturbance → Extent → (List LogEntry → Bool) → ℕ
+    → List LogEntry
     → List (PortId × Step)
-extent_steps c opening capacity how extent n past =
-    slots_steps c opening capacity how (goes_on c extent (time c past)) n past
+extent_steps c opening capacity how extent ends n past =
+    slots_steps c opening capacity how (one_more c extent ends (time c past)) n past
 
 -- how many slots end by these steps
 abbrev pub slots_in : List (PortId × Step) → ℕ

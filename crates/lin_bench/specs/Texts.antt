@@ -47,12 +47,15 @@ step_reason_text step.TimeoutForm = codes "timeout takes down or up"
 abbrev pub reason_text : Reason → List ℕ
 reason_text (reason.Step why) = step_reason_text why
 reason_text (reason.NoRefusal name) = codes "no refusal " ++ name
+reason_text (reason.NoRange field) = field ++ codes " is no range"
 reason_text reason.TooSmall = codes "0 is too small"
 reason_text reason.SlotsForm = codes "slots takes a number, a number and ms, or idle"
 reason_text (reason.SlotForm word) = codes "slot takes hurt or leave, not " ++ word
 reason_text reason.LeaveForm = codes "slot leave takes nodes"
 reason_text reason.ExpectForm = codes "expect takes what is expected"
 reason_text (reason.UnknownExpectation fields) = codes "expect has no form " ++ fields_text fields
+reason_text reason.UntilForm = codes "until takes what is expected"
+reason_text (reason.UnknownUntil fields) = codes "until has no form " ++ fields_text fields
 
 -- the line of a bad line
 abbrev pub bad_line_text : ℕ → Reason → List ℕ
@@ -74,11 +77,18 @@ abbrev pub expected_text : Parts → Expected → List ℕ
 expected_text c (expected.Signal node signal value) =
     codes "signal "
     ++ (node_word c node ++ (spaced_word (signal_word c signal) ++ spaced_word (value_word value)))
+expected_text c (expected.SignalWithin node signal low high) =
+    codes "signal "
+    ++ (node_word c node
+    ++ (spaced_word (signal_word c signal)
+    ++ spaced_word (decimal low ++ (codes ".." ++ decimal high))))
 expected_text c (expected.Waiting host count) =
     codes "waiting " ++ (node_word c host ++ spaced_word (decimal count))
 expected_text c (expected.Message from to bytes) =
     codes "message "
     ++ (node_word c from ++ (spaced_word (node_word c to) ++ spaced_word (hex_word bytes)))
+expected_text c (expected.NoMessage from to) =
+    codes "no message " ++ (node_word c from ++ spaced_word (node_word c to))
 expected_text c (expected.Sent host) = codes "sent " ++ node_word c host
 expected_text c (expected.Lost host cause) =
     codes "lost " ++ (node_word c host ++ spaced_word (cause_word cause))

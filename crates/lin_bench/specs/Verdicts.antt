@@ -1,8 +1,10 @@
 -- Whether what a bench script expects is so, given the history before it: the entries of a log, the
 -- newest first.
-use Rattle.std.specs.Prelude.{ℕ, ◌==◌, ◌&&◌, Bool, true, false, nat_lt, if◌then◌else◌, List, []}
+use Rattle.std.specs.Prelude.{ℕ, ◌==◌, ◌&&◌, Bool, true, false, nat_le, nat_lt, if◌then◌else◌, List, []}
 use Rattle.std.specs.Prelude.{◌∷◌, ◌++◌, filter, length, slice_get, Option, Some, None, count_by}
 use Rattle.std.specs.Prelude.{find, reverse}
+use Rattle.std.specs.List.{filter_map}
+use Rattle.std.specs.Option.{option_map_or}
 use Rattle.std.specs.Str.{bytes_eq}
 use Rattle.lin_frame.specs.declared.value.Value.{Value}
 use Rattle.lin_frame.specs.declared.value.Value.TheVariants.{Scalar, Bytes}
@@ -36,13 +38,23 @@ same_value (Bytes a) (Bytes b) = bytes_eq a b
 
 -- ---- events that expectations speak of: messages from one host to another, what became of a
 -- host's messages, how slots were seen, and which slots began
+abbrev pub kind_of : Event → Option EventKind
+kind_of (event.Message from to bytes) = Some (Messages from to)
+kind_of (event.Sent host number) = Some (Fates host)
+kind_of (event.Lost host number cause) = Some (Fates host)
+kind_of (event.Seen how) = Some Ends
+kind_of (event.Slot table entry header) = Some Begins
+kind_of event = None
+
+abbrev pub same_kind : EventKind → EventKind → Bool
+same_kind (Messages from to) (Messages f t) = from == f && to == t
+same_kind (Fates host) (Fates h) = host == h
+same_kind Ends Ends = true
+same_kind Begins Begins = true
+same_kind kind other = false
+
 abbrev pub is_of : EventKind → Event → Bool
-is_of (Messages from to) (event.Message sender receiver bytes) = sender == from && receiver == to
-is_of (Fates host) (event.Sent h number) = h == host
-is_of (Fates host) (event.Lost h number cause) = h == host
-is_of Ends (event.Seen how) = true
-is_of Begins (event.Slot table entry header) = true
-is_of kind event = false
+is_of kind event = option_map_or (same_kind kind) (kind_of event) false
 
 -- the events of a history, the oldest first
 abbrev pub all_events : List LogEntry → List Event
@@ -54,13 +66,6 @@ abbrev pub last_event : List LogEntry → EventKind → Option Event
 last_event past kind = find (is_of kind) (reverse (all_events past))
 
 -- ---- events that expectations take, each once
-abbrev pub same_kind : EventKind → EventKind → Bool
-same_kind (Messages from to) (Messages f t) = from == f && to == t
-same_kind (Fates host) (Fates h) = host == h
-same_kind Ends Ends = true
-same_kind Begins Begins = true
-same_kind kind other = false
-
 -- the oldest event of a kind that no expectation has taken
 abbrev pub next_event : List LogEntry → List EventKind → EventKind → Option Event
 next_event past taken kind =
@@ -77,6 +82,10 @@ kind_taken (expected.Sent host) = Some (Fates host)
 kind_taken (expected.Lost host cause) = Some (Fates host)
 kind_taken what = None
 
+-- all events so far are taken
+abbrev pub all_taken : List LogEntry → List EventKind
+all_taken past = filter_map kind_of (all_events past)
+
 -- what expectations have taken after one more, met or not
 abbrev pub taking : List LogEntry → List EventKind → Option EventKind → List EventKind
 taking past taken None = taken
@@ -86,12 +95,21 @@ taking past taken (Some kind) = with_taken (next_event past taken kind) kind tak
 abbrev pub unless : Bool → Got → Option Got
 unless met what = if met then None else Some what
 
-abbrev pub signal_verdict : Parts → List LogEntry → ℕ → ℕ → Value → Option Got
-signal_verdict c past node signal value =
+-- what a node sees of a signal, none where there is no such node or signal
+abbrev pub value_seen : Parts → List LogEntry → ℕ → ℕ → Option Value
+value_seen c past node signal =
     if nat_lt node (nodes c) && nat_lt signal (length c.signals)
-    then unless (same_value (value_at c past node signal) value)
-    (got.Value (value_at c past node signal))
-    else Some got.NoNodeOrSignal
+    then Some (value_at c past node signal)
+    else None
+
+abbrev pub value_verdict : (Value → Bool) → Option Value → Option Got
+value_verdict is None = Some got.NoNodeOrSignal
+value_verdict is (Some value) = unless (is value) (got.Value value)
+
+-- a scalar from one number to another
+abbrev pub is_within : ℕ → ℕ → Value → Bool
+is_within low high (Scalar n) = nat_le low n && nat_le n high
+is_within low high (Bytes b) = false
 
 abbrev pub waiting_verdict : Parts → List LogEntry → ℕ → ℕ → Option Got
 waiting_verdict c past host count =
@@ -102,6 +120,10 @@ waiting_verdict c past host count =
 abbrev pub message_verdict : List ℕ → Option Event → Option Got
 message_verdict bytes (Some (event.Message from to b)) = unless (bytes_eq b bytes) (got.Message b)
 message_verdict bytes other = Some got.NoEvent
+
+abbrev pub no_message_verdict : Option Event → Option Got
+no_message_verdict (Some (event.Message from to b)) = Some (got.Message b)
+no_message_verdict other = None
 
 abbrev pub sent_verdict : Option Event → Option Got
 sent_verdict (Some (event.Sent host number)) = None
@@ -144,10 +166,15 @@ abbrev pub idle_verdict : List (ℕ × ℕ) → Option Got
 idle_verdict hosts = unless (length hosts == 0) (got.StillWaiting hosts)
 
 unfoldable pub verdict : Parts → List LogEntry → List EventKind → Expected → Option Got
-verdict c past taken (expected.Signal node signal value) = signal_verdict c past node signal value
+verdict c past taken (expected.Signal node signal value) =
+    value_verdict (λ v. same_value v value) (value_seen c past node signal)
+verdict c past taken (expected.SignalWithin node signal low high) =
+    value_verdict (is_within low high) (value_seen c past node signal)
 verdict c past taken (expected.Waiting host count) = waiting_verdict c past host count
 verdict c past taken (expected.Message from to bytes) =
     message_verdict bytes (next_event past taken (Messages from to))
+verdict c past taken (expected.NoMessage from to) =
+    no_message_verdict (next_event past taken (Messages from to))
 verdict c past taken (expected.Sent host) = sent_verdict (next_event past taken (Fates host))
 verdict c past taken (expected.Lost host cause) =
     lost_verdict cause (next_event past taken (Fates host))

@@ -1,6 +1,7 @@
 //! Benches in hand.
 
-ghost use Rattle.std.specs.Prelude.{◌≡◌, IfOk, OnOk};
+ghost use Rattle.std.specs.Prelude.{◌≡◌, IfOk, OnOk, option_map};
+ghost use Rattle.lin_bench.specs.Bench.{awaited};
 ghost use Rattle.lin_core.specs.Core.{past_of};
 ghost use Rattle.lin_bench.specs.Made.{expects, met_or};
 ghost use Rattle.lin_bench.specs.Searches.{IsKnown, taken_by};
@@ -12,7 +13,7 @@ use crate::fault::MakeFault;
 use crate::got::Verdict;
 use crate::line::{Disturbance, Extent, Line};
 use crate::slots::{SLOT_LIMIT, make, slots};
-use crate::taken::Search;
+use crate::taken::Taken;
 use crate::verdicts::verdict;
 use lin_core::Core;
 use std::alloc::{AllocError, Global};
@@ -24,8 +25,7 @@ use std::marker::Model;
 #[derive(Drop)]
 pub struct Bench {
     core: Core,
-    /// The searches for events that expectations take.
-    searches: Vec<Search>,
+    taken: Taken,
     left: u32,
 }
 
@@ -43,17 +43,17 @@ impl Model for Bench {
 fn judge(
     alloc: Global,
     core: &Core,
-    searches: &mut Vec<Search>,
+    taken: &mut Taken,
     expected: Expected,
 ) -> Result<Verdict, AllocError>
-    requires { IsKnown core.now.log searches.old.items }
+    requires { IsKnown core.now.log taken.old }
     ensures verdict { IfOk result (λ v. v ≡ met_or expected
-        (verdict core.now.cluster (past_of core.now) (taken_by searches.old.items) expected)) }
-    ensures taken { OnOk result (taken_by searches.new.items
-        ≡ taking (past_of core.now) (taken_by searches.old.items) (kind_taken expected)) }
-    ensures known { IsKnown core.now.log searches.new.items }
+        (verdict core.now.cluster (past_of core.now) (taken_by core.now.log taken.old) expected)) }
+    ensures taken { OnOk result (taken_by core.now.log taken.new
+        ≡ taking (past_of core.now) (taken_by core.now.log taken.old) (kind_taken expected)) }
+    ensures known { IsKnown core.now.log taken.new }
 {
-    match verdict(alloc, core, searches, &expected)? {
+    match verdict(alloc, core, taken, &expected)? {
         None => Ok(Verdict::Met(expected)),
         Some(got) => Ok(Verdict::Unmet(expected, got)),
     }
@@ -69,8 +69,16 @@ fn expected_after(extent: Extent) -> Option<Expected>
     }
 }
 
+/// What is expected, where it is awaited.
+fn awaited(expected: &Option<Expected>, is_awaited: bool) -> Option<&Expected>
+    ensures { option_map (λ e. e.now) result ≡ awaited is_awaited expected.now }
+{
+    if is_awaited { expected.as_ref() } else { None }
+}
+
 impl Bench {
-    ghost use Rattle.lin_bench.specs.Bench.{Judges, Makes, MakesLine, made_slots, fresh, renewed};
+    ghost use Rattle.lin_bench.specs.Bench.{Judges, Makes, MakesLine, forgotten, fresh, made_until};
+    ghost use Rattle.lin_bench.specs.Bench.{renewed};
 
     /// A bench over a core, on which no line was made. Its lines of slots may make 1,000,000 slots.
     pub fn new(alloc: Global, core: Core) -> Bench
@@ -78,7 +86,10 @@ impl Bench {
     {
         Bench {
             core,
-            searches: Vec::new(alloc),
+            taken: Taken {
+                forgotten: 0,
+                searches: Vec::new(alloc),
+            },
             left: SLOT_LIMIT,
         }
     }
@@ -111,21 +122,42 @@ impl Bench {
     {
         match expected {
             None => Ok(Verdict::Nothing),
-            Some(expected) => Ok(judge(alloc, &self.core, &mut self.searches, expected)?),
+            Some(expected) => Ok(judge(alloc, &self.core, &mut self.taken, expected)?),
         }
     }
 
-    /// Makes slots, and judges what is expected after them.
+    /// Takes all events so far.
+    fn forget(&mut self, alloc: Global)
+        ensures { self.new ≡ forgotten self.old }
+    {
+        self.taken = Taken {
+            forgotten: self.core.log().len(),
+            searches: Vec::new(alloc),
+        };
+    }
+
+    /// Makes slots, and judges what is expected after them; where that is awaited, they end as soon
+    /// as it comes.
     fn slots(
         &mut self,
         alloc: Global,
         how: &Disturbance,
         extent: Extent,
         expected: Option<Expected>,
+        is_awaited: bool,
     ) -> Result<Verdict, MakeFault>
-        ensures { Makes (made_slots self.old how.now extent expected) self.old result self.new }
+        ensures { Makes (made_until self.old how.now extent is_awaited expected) self.old result self.new }
     {
-        match slots(alloc, &mut self.core, how, extent, self.left)? {
+        let until = awaited(&expected, is_awaited);
+        match slots(
+            alloc,
+            &mut self.core,
+            how,
+            extent,
+            until,
+            &mut self.taken,
+            self.left,
+        )? {
             Some(left) => {
                 self.left = left;
                 self.judge(alloc, expected)
@@ -155,12 +187,25 @@ impl Bench {
                 make(&mut self.core, by, step)?;
                 Ok(Verdict::Nothing)
             }
-            Line::Slot(how) => self.slots(alloc, &how, Extent::Count(1), None),
+            Line::Slot(how) => self.slots(alloc, &how, Extent::Count(1), None, false),
             Line::Slots(extent) => {
                 let expected = expected_after(extent);
-                self.slots(alloc, &Disturbance::Undisturbed, extent, expected)
+                self.slots(alloc, &Disturbance::Undisturbed, extent, expected, false)
+            }
+            Line::Until(extent, expected) => {
+                self.slots(
+                    alloc,
+                    &Disturbance::Undisturbed,
+                    extent,
+                    Some(expected),
+                    true,
+                )
             }
             Line::Expect(expected) => self.judge(alloc, Some(expected)),
+            Line::Forget => {
+                self.forget(alloc);
+                Ok(Verdict::Nothing)
+            }
         }
     }
 }

@@ -2,11 +2,11 @@
 
 ghost use Rattle.std.specs.Prelude.{◌≡◌, IfOk};
 ghost use Rattle.lin_bench.specs.Expectations.{expectation, lone_form, loss_of, lost_form};
-ghost use Rattle.lin_bench.specs.Expectations.{message_form};
+ghost use Rattle.lin_bench.specs.Expectations.{message_form, no_form, no_message_form, signal_value};
 ghost use Rattle.lin_bench.specs.Expectations.{refusal_field, refused_form, seen_form, sent_form};
-ghost use Rattle.lin_bench.specs.Expectations.{signal_form, slot_form, waiting_form};
+ghost use Rattle.lin_bench.specs.Expectations.{signal_form, slot_form, until_form, waiting_form};
 ghost use Rattle.lin_bench.specs.Expectations.{word_expectation};
-ghost use Rattle.lin_bench.specs.Fields.{fields, words};
+ghost use Rattle.lin_bench.specs.Fields.{fields, range_ends, words};
 ghost use Rattle.lin_bench.specs.Read.{Gives};
 ghost use Rattle.lin_bench.specs.declared.fault.LineFault.{LineFault};
 ghost use Rattle.lin_bench.specs.declared.reason.Reason.{Reason};
@@ -14,7 +14,8 @@ ghost use Rattle.lin_bench.specs.declared.reason.Reason.{Reason};
 use crate::expected::Expected;
 use crate::fault::LineFault;
 use crate::fields::{
-    bytes_fields, fields, node_field, number_field, signal_field, table_field, value_field,
+    bytes_fields, fields, node_field, number_field, range_ends, range_field, signal_field,
+    table_field, value_field,
 };
 use crate::reason::Reason;
 use lin_cluster_parts::Cluster;
@@ -48,6 +49,35 @@ fn no_form(alloc: Global, cluster: &Cluster, all: &[u8]) -> Result<LineFault, Al
     Ok(LineFault::Bad(Reason::UnknownExpectation(copied(alloc, cluster, all)?)))
 }
 
+/// A value of a signal, or a range of them, by its field.
+fn signal_value(
+    alloc: Global,
+    cluster: &Cluster,
+    node: u8,
+    signal: u16,
+    value: &[u8],
+) -> Result<Expected, LineFault>
+    ensures { Gives (λ e. e) result
+        (signal_value cluster.now node signal value.now (range_ends value.now)) }
+{
+    match range_ends(value) {
+        Some((low, high)) => {
+            let (low, high) = range_field(alloc, cluster, value, low, high)?;
+            Ok(Expected::SignalWithin {
+                node,
+                signal,
+                low,
+                high,
+            })
+        }
+        None => Ok(Expected::Signal {
+            node,
+            signal,
+            value: value_field(alloc, cluster, value)?,
+        }),
+    }
+}
+
 fn signal(
     alloc: Global,
     cluster: &Cluster,
@@ -57,11 +87,11 @@ fn signal(
     ensures { Gives (λ e. e) result (signal_form cluster.now (fields all.now) (words parts.now)) }
 {
     match parts {
-        [node, signal, value] => Ok(Expected::Signal {
-            node: node_field(alloc, cluster, node)?,
-            signal: signal_field(alloc, cluster, signal)?,
-            value: value_field(alloc, cluster, value)?,
-        }),
+        [node, signal, value] => {
+            let node = node_field(alloc, cluster, node)?;
+            let signal = signal_field(alloc, cluster, signal)?;
+            signal_value(alloc, cluster, node, signal, value)
+        }
         _ => Err(no_form(alloc, cluster, all)?),
     }
 }
@@ -200,6 +230,39 @@ fn refused(
     }
 }
 
+fn no_message(
+    alloc: Global,
+    cluster: &Cluster,
+    all: &[u8],
+    parts: &[&[u8]],
+) -> Result<Expected, LineFault>
+    ensures { Gives (λ e. e) result
+        (no_message_form cluster.now (fields all.now) (words parts.now)) }
+{
+    match parts {
+        [from, to] => Ok(Expected::NoMessage {
+            from: node_field(alloc, cluster, from)?,
+            to: node_field(alloc, cluster, to)?,
+        }),
+        _ => Err(no_form(alloc, cluster, all)?),
+    }
+}
+
+/// What isn't to be, by the fields after `no`.
+fn nothing(alloc: Global, cluster: &Cluster, all: &[u8], line: &[u8]) -> Result<Expected, LineFault>
+    ensures { Gives (λ e. e) result (no_form cluster.now (fields all.now) (fields line.now)) }
+{
+    let Some((word, rest)) = first_field(cluster, line) else {
+        return Err(no_form(alloc, cluster, all)?);
+    };
+    let parts = fields(alloc, cluster, rest)?;
+    if word == b"message".as_slice() {
+        no_message(alloc, cluster, all, parts.as_slice())
+    } else {
+        Err(no_form(alloc, cluster, all)?)
+    }
+}
+
 /// What is expected, where no field stands after its word.
 fn lone(
     alloc: Global,
@@ -235,6 +298,8 @@ fn of_word(
         waiting(alloc, cluster, all, parts)
     } else if word == b"message".as_slice() {
         message(alloc, cluster, all, line)
+    } else if word == b"no".as_slice() {
+        nothing(alloc, cluster, all, line)
     } else if word == b"sent".as_slice() {
         sent(alloc, cluster, all, parts)
     } else if word == b"lost".as_slice() {
@@ -253,6 +318,25 @@ fn of_word(
         lone(alloc, cluster, Expected::Awake, all, parts)
     } else {
         Err(no_form(alloc, cluster, all)?)
+    }
+}
+
+/// What is waited for, by the fields after `until`.
+#[tactic(auto, unfolding(crate::specs::Expectations::until_form))]
+pub(crate) fn until(alloc: Global, cluster: &Cluster, line: &[u8]) -> Result<Expected, LineFault>
+    ensures { Gives (λ e. e) result (until_form cluster.now (fields line.now)) }
+{
+    let Some((word, rest)) = first_field(cluster, line) else {
+        return Err(LineFault::Bad(Reason::UntilForm));
+    };
+    if word == b"done".as_slice() || word == b"refused".as_slice() || word == b"no".as_slice() {
+        return Err(LineFault::Bad(Reason::UnknownUntil(copied(alloc, cluster, line)?)));
+    }
+    match of_word(alloc, cluster, line, word, rest) {
+        Err(LineFault::Bad(Reason::UnknownExpectation(fields))) => {
+            Err(LineFault::Bad(Reason::UnknownUntil(fields)))
+        }
+        answer => answer,
     }
 }
 

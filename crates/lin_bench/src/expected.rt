@@ -7,19 +7,50 @@ use lin_frame::Value;
 #[derive(Drop)]
 pub enum Expected {
     /// A node sees this value of a signal (ISO 17987-3, signals).
-    Signal { node: u8, signal: u16, value: Value },
+    Signal {
+        node: u8,
+        signal: u16,
+        value: Value,
+    },
+    /// A node sees a value of a scalar signal from one to another.
+    SignalWithin {
+        node: u8,
+        signal: u16,
+        low: u16,
+        high: u16,
+    },
     /// So many messages of a host wait.
-    Waiting { host: u8, count: u16 },
+    Waiting {
+        host: u8,
+        count: u16,
+    },
     /// The next message from one host to another has these bytes (ISO 17987-2).
-    Message { from: u8, to: u8, bytes: Payload },
+    Message {
+        from: u8,
+        to: u8,
+        bytes: Payload,
+    },
+    /// No message from one host to another has arrived that isn't taken.
+    NoMessage {
+        from: u8,
+        to: u8,
+    },
     /// The next message of a host that waits no longer was sent.
-    Sent { host: u8 },
+    Sent {
+        host: u8,
+    },
     /// The next message of a host that waits no longer was lost.
-    Lost { host: u8, cause: Cause },
+    Lost {
+        host: u8,
+        cause: Cause,
+    },
     /// The last slot that ended was seen so.
     Seen(Look),
     /// The last slot that began was for this entry of a schedule table.
-    Slot { table: u16, entry: u16 },
+    Slot {
+        table: u16,
+        entry: u16,
+    },
     /// The last step was done.
     Done,
     /// The last step was refused for this reason.

@@ -1,14 +1,17 @@
 //! The fields of a line, as the language of a cluster's names has them.
 
-ghost use Rattle.std.specs.Prelude.{◌≡◌, IfOk};
+ghost use Rattle.std.specs.Prelude.{◌≡◌, IfOk, option_map};
 ghost use Rattle.lin_bench.specs.Fields.{bytes_fields, fields, node_field, number_field};
+ghost use Rattle.lin_bench.specs.Fields.{after_dots, range_ends, range_field};
 ghost use Rattle.lin_bench.specs.Fields.{signal_field, table_field, value_field, words};
 ghost use Rattle.lin_bench.specs.Read.{Gives};
 
 use crate::fault::LineFault;
+use crate::reason::Reason;
 use lin_cluster_parts::Cluster;
 use lin_core::Payload;
 use lin_frame::Value;
+use lin_lists::Text;
 use lin_log::first_field;
 use std::alloc::{AllocError, Global};
 
@@ -66,6 +69,47 @@ pub(crate) fn bytes_fields(
     ensures { Gives (λ p. p) result (bytes_fields cluster.now (fields line.now)) }
 {
     Ok(lin_log::bytes_fields(alloc, cluster, line)?)
+}
+
+/// What stands after `..` at the beginning of a text.
+fn after_dots(text: &[u8]) -> Option<&[u8]>
+    ensures { option_map (λ rest. rest.now) result ≡ after_dots text.now }
+{
+    match text {
+        [b'.', b'.', rest @ ..] => Some(rest),
+        _ => None,
+    }
+}
+
+/// What stands before and after the first `..` of a field.
+pub(crate) fn range_ends(field: &[u8]) -> Option<(&[u8], &[u8])>
+    ensures { option_map (λ ends. (ends.0.now, ends.1.now)) result ≡ range_ends field.now }
+{
+    for i in 0..field.len() {
+        if let Some(rest) = after_dots(&field[i..]) {
+            return Some((&field[..i], rest));
+        }
+    }
+    None
+}
+
+/// A scalar from one end of a range, which stands in this field, to the other.
+#[tactic(auto, unfolding(crate::specs::Fields::range_field))]
+pub(crate) fn range_field(
+    alloc: Global,
+    cluster: &Cluster,
+    field: &[u8],
+    low: &[u8],
+    high: &[u8],
+) -> Result<(u16, u16), LineFault>
+    ensures { Gives (λ r. r) result (range_field cluster.now field.now low.now high.now) }
+{
+    let low = value_field(alloc, cluster, low)?;
+    let high = value_field(alloc, cluster, high)?;
+    match (low, high) {
+        (Value::Scalar(low), Value::Scalar(high)) if low <= high => Ok((low, high)),
+        _ => Err(LineFault::Bad(Reason::NoRange(Text::copied(alloc, field)?))),
+    }
 }
 
 /// A signal's value.

@@ -45,6 +45,8 @@ pub use line::{Disturbance, Extent, Line};
 pub use lines::read_line;
 pub use playing::{Played, play};
 pub use reason::Reason;
-pub use script::read;
+pub use script::{read, without_mark};
 pub use slots::hosts_waiting;
-pub use texts::{put_hosts, put_reason, put_unmet, put_verdict, write_bad_line, write_unmet};
+pub use texts::{
+    put_fields, put_hosts, put_reason, put_unmet, put_verdict, write_bad_line, write_unmet,
+};

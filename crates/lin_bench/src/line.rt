@@ -34,5 +34,9 @@ pub enum Line {
     Slot(Disturbance),
     /// Slots, in which each node that is due answers.
     Slots(Extent),
+    /// Slots, in which each node that is due answers, until what is expected comes, and it is judged.
+    Until(Extent, Expected),
     Expect(Expected),
+    /// Of all messages that arrived, and of all that were sent or lost, expectations speak no more.
+    Forget,
 }

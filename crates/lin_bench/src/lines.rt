@@ -2,13 +2,14 @@
 
 ghost use Rattle.std.specs.Prelude.{◌≡◌};
 ghost use Rattle.lin_bench.specs.Fields.{fields};
-ghost use Rattle.lin_bench.specs.Lines.{count_field, leave_form, line_form, node_fields};
-ghost use Rattle.lin_bench.specs.Lines.{read_line, slot_form, slots_form};
+ghost use Rattle.lin_bench.specs.Lines.{count_field, count_form, forget_form, idle_form, leave_form};
+ghost use Rattle.lin_bench.specs.Lines.{line_form, node_fields, read_line, slot_form, slots_form};
+ghost use Rattle.lin_bench.specs.Lines.{time_form};
 ghost use Rattle.lin_bench.specs.Read.{Gives};
 
-use crate::expectations::expectation;
+use crate::expectations::{expectation, until};
 use crate::fault::LineFault;
-use crate::fields::{bytes_fields, fields, node_field, number_field};
+use crate::fields::{bytes_fields, node_field, number_field};
 use crate::line::{Disturbance, Extent, Line};
 use crate::reason::Reason;
 use lin_cluster_parts::Cluster;
@@ -30,23 +31,82 @@ fn count_field(alloc: Global, field: &[u8]) -> Result<u32, LineFault>
     }
 }
 
-/// How many slots are made, by the fields after `slots`.
-#[tactic(auto, unfolding(crate::specs::Lines::slots_form))]
-fn slots(alloc: Global, cluster: &Cluster, line: &[u8]) -> Result<Extent, LineFault>
-    ensures { Gives (λ e. e) result (slots_form (fields line.now)) }
+/// Slots until no message waits, by the fields after `idle`.
+fn idle(alloc: Global, cluster: &Cluster, line: &[u8]) -> Result<Line, LineFault>
+    ensures { Gives (λ l. l) result (idle_form (fields line.now)) }
 {
-    let fields = fields(alloc, cluster, line)?;
-    match fields.as_slice() {
-        [word] if *word == b"idle".as_slice() => Ok(Extent::Idle(IDLE)),
-        [count] => Ok(Extent::Count(count_field(alloc, count)?)),
-        [word, count] if *word == b"idle".as_slice() => Ok(Extent::Idle(count_field(
-            alloc, count,
-        )?)),
-        [count, word] if *word == b"ms".as_slice() => {
-            Ok(Extent::Milliseconds(count_field(alloc, count)?))
-        }
-        _ => Err(LineFault::Bad(Reason::SlotsForm)),
+    let Some((count, rest)) = first_field(cluster, line) else {
+        return Ok(Line::Slots(Extent::Idle(IDLE)));
+    };
+    if !is_over(cluster, rest) {
+        return Err(LineFault::Bad(Reason::SlotsForm));
     }
+    Ok(Line::Slots(Extent::Idle(count_field(alloc, count)?)))
+}
+
+/// Slots for a time, by its number and the fields after `ms`.
+fn milliseconds(
+    alloc: Global,
+    cluster: &Cluster,
+    count: &[u8],
+    line: &[u8],
+) -> Result<Line, LineFault>
+    ensures { Gives (λ l. l) result (time_form cluster.now count.now (fields line.now)) }
+{
+    let Some((word, rest)) = first_field(cluster, line) else {
+        return Ok(Line::Slots(Extent::Milliseconds(count_field(alloc, count)?)));
+    };
+    if word == b"until".as_slice() {
+        let extent = Extent::Milliseconds(count_field(alloc, count)?);
+        Ok(Line::Until(extent, until(alloc, cluster, rest)?))
+    } else {
+        Err(LineFault::Bad(Reason::SlotsForm))
+    }
+}
+
+/// Slots, by their number or that of a time and the fields after it.
+fn counted(alloc: Global, cluster: &Cluster, count: &[u8], line: &[u8]) -> Result<Line, LineFault>
+    ensures { Gives (λ l. l) result (count_form cluster.now count.now (fields line.now)) }
+{
+    let Some((word, rest)) = first_field(cluster, line) else {
+        return Ok(Line::Slots(Extent::Count(count_field(alloc, count)?)));
+    };
+    if word == b"until".as_slice() {
+        let extent = Extent::Count(count_field(alloc, count)?);
+        Ok(Line::Until(extent, until(alloc, cluster, rest)?))
+    } else if word == b"ms".as_slice() {
+        milliseconds(alloc, cluster, count, rest)
+    } else {
+        Err(LineFault::Bad(Reason::SlotsForm))
+    }
+}
+
+/// Slots, by the fields after `slots`.
+#[tactic(auto, unfolding(crate::specs::Lines::slots_form))]
+fn slots(alloc: Global, cluster: &Cluster, line: &[u8]) -> Result<Line, LineFault>
+    ensures { Gives (λ l. l) result (slots_form cluster.now (fields line.now)) }
+{
+    let Some((count, rest)) = first_field(cluster, line) else {
+        return Err(LineFault::Bad(Reason::SlotsForm));
+    };
+    if count == b"idle".as_slice() {
+        idle(alloc, cluster, rest)
+    } else {
+        counted(alloc, cluster, count, rest)
+    }
+}
+
+/// That all events so far are taken, where no field stands after its word.
+fn forget(alloc: Global, cluster: &Cluster, line: &[u8]) -> Result<Line, LineFault>
+    ensures { Gives (λ l. l) result (forget_form (fields line.now)) }
+{
+    if is_over(cluster, line) {
+        return Ok(Line::Forget);
+    }
+    Err(LineFault::Bad(Reason::Step(lin_log::Reason::Takes {
+        word: Text::copied(alloc, b"forget")?,
+        fields: 0,
+    })))
 }
 
 fn node_fields(alloc: Global, cluster: &Cluster, line: &[u8]) -> Result<Many<u8>, LineFault>
@@ -100,11 +160,13 @@ fn of_word(alloc: Global, cluster: &Cluster, word: &[u8], rest: &[u8]) -> Result
         let (by, step) = port_step(alloc, cluster, word, rest)?;
         Ok(Line::Step(by, step))
     } else if word == b"slots".as_slice() {
-        Ok(Line::Slots(slots(alloc, cluster, rest)?))
+        slots(alloc, cluster, rest)
     } else if word == b"slot".as_slice() {
         Ok(Line::Slot(slot(alloc, cluster, rest)?))
     } else if word == b"expect".as_slice() {
         Ok(Line::Expect(expectation(alloc, cluster, rest)?))
+    } else if word == b"forget".as_slice() {
+        forget(alloc, cluster, rest)
     } else {
         Ok(Line::Step(PortId::Bus, step(alloc, cluster, word, rest)?))
     }

@@ -9,6 +9,8 @@ pub enum Reason {
     Step(lin_log::Reason),
     /// No refusal has this name.
     NoRefusal(Text),
+    /// A field of two numbers of which the first is above the second, or that aren't both numbers.
+    NoRange(Text),
     /// A 0 where a number from 1 on is wanted.
     TooSmall,
     /// `slots` takes a number, a number and `ms`, or `idle`.
@@ -21,4 +23,8 @@ pub enum Reason {
     ExpectForm,
     /// `expect` has no form of these fields.
     UnknownExpectation(Many<Text>),
+    /// `until` takes what is expected.
+    UntilForm,
+    /// `until` has no form of these fields.
+    UnknownUntil(Many<Text>),
 }

@@ -14,7 +14,7 @@ use lin_log::{first_line, without_return};
 use std::alloc::Global;
 
 /// A text without the mark EF BB BF at its start.
-fn without_mark(text: &[u8]) -> &[u8]
+pub fn without_mark(text: &[u8]) -> &[u8]
     ensures same { result.now ≡ without_mark text.now }
     ensures shorter { length result.now ≤ length text.now }
 {

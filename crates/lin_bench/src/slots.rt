@@ -1,18 +1,22 @@
 //! Slots that lines make.
 
-ghost use Rattle.std.specs.Prelude.{◌≡◌, ◌==◌, ◌&&◌, ◌∷◌, [], map, option_map, Some, IfOk};
+ghost use Rattle.std.specs.Prelude.{◌≡◌, ◌==◌, ◌&&◌, ◌∷◌, [], map, option_map, Some, IfOk, OnOk};
 ghost use Rattle.std.specs.List.{filter_map};
 ghost use Rattle.lin_core.specs.History.{is_in};
 ghost use Rattle.lin_core.specs.declared.step.Step.TheVariants.{Open};
 ghost use Rattle.lin_core.specs.Core.{past_of};
 ghost use Rattle.lin_core.specs.declared.port.PortId.TheVariants.{Bus};
-ghost use Rattle.lin_bench.specs.Making.{MakesSlots, MakesSteps};
+ghost use Rattle.lin_bench.specs.Making.{MakesSlots, MakesSteps, ends_at};
+ghost use Rattle.lin_bench.specs.Searches.{IsKnown, taken_by};
 ghost use Rattle.lin_bench.specs.Slots.{decision, due_in, due_now, goes_on, hosts_waiting};
-ghost use Rattle.lin_bench.specs.Slots.{due_node, hurt_steps, is_opened, leave_nodes, most};
+ghost use Rattle.lin_bench.specs.Slots.{due_node, hurt_steps, is_opened, leave_nodes, most, one_more};
 ghost use Rattle.lin_bench.specs.Slots.{slot_rest, slot_steps, some_wait};
 
+use crate::expected::Expected;
 use crate::fault::MakeFault;
 use crate::line::{Disturbance, Extent};
+use crate::taken::Taken;
+use crate::verdicts::comes;
 use lin_core::{Core, Event, Hold, Payload, PortId, Reply, Step};
 use std::alloc::{AllocError, Global};
 
@@ -197,22 +201,58 @@ fn most(extent: Extent) -> u32
     }
 }
 
+/// Whether one more slot is to be made: the line's extent goes on, and what it waits for, if it
+/// does, hasn't come. That takes nothing.
+fn is_going(
+    alloc: Global,
+    core: &Core,
+    extent: Extent,
+    began: u64,
+    until: Option<&Expected>,
+    taken: &mut Taken,
+) -> Result<bool, AllocError>
+    requires { IsKnown core.now.log taken.old }
+    ensures going { IfOk result (λ is. is ≡ one_more core.now.cluster extent
+        (ends_at core.now.cluster (taken_by core.now.log taken.old) (option_map (λ e. e.now) until.entry))
+        began (past_of core.now)) }
+    ensures taken { OnOk result
+        (taken_by core.now.log taken.new ≡ taken_by core.now.log taken.old) }
+    ensures known { IsKnown core.now.log taken.new }
+{
+    if !goes_on(core, extent, began) {
+        return Ok(false);
+    }
+    match until {
+        None => Ok(true),
+        Some(expected) => Ok(!comes(alloc, core, taken, expected)?),
+    }
+}
+
 /// Makes the slots of a line, and answers how many are left of those that may still be made; none
-/// where the line makes more than these, which are made then.
+/// where the line makes more than these, which are made then. What it waits for isn't taken.
 #[tactic(auto, unfolding(crate::specs::Slots::extent_steps))]
 pub(crate) fn slots(
     alloc: Global,
     core: &mut Core,
     how: &Disturbance,
     extent: Extent,
+    until: Option<&Expected>,
+    taken: &mut Taken,
     left: u32,
 ) -> Result<Option<u32>, MakeFault>
-    ensures { MakesSlots core.old how.now extent left result core.new }
+    requires { IsKnown core.old.log taken.old }
+    ensures made { MakesSlots core.old how.now extent
+        (ends_at core.old.cluster (taken_by core.old.log taken.old) (option_map (λ e. e.now) until.entry))
+        left result core.new }
+    ensures taken { OnOk result
+        (taken_by core.new.log taken.new ≡ taken_by core.old.log taken.old) }
+    ensures known { IsKnown core.new.log taken.new }
 {
     let began = core.time();
     let mut left = left;
     for _ in 0..most(extent) {
-        if !goes_on(core, extent, began) {
+        let goes = is_going(alloc, core, extent, began, until, taken)?;
+        if !goes {
             return Ok(Some(left));
         }
         if is_at_limit(core, left) {

@@ -42,12 +42,12 @@ impl EventKind {
     {
         match (self, event) {
             (EventKind::Messages { from, to }, Event::Message { from: f, to: t, .. }) => {
-                *f == from && *t == to
+                from == *f && to == *t
             }
             (
                 EventKind::Fates { host },
                 Event::Sent { host: h, .. } | Event::Lost { host: h, .. },
-            ) => { *h == host }
+            ) => { host == *h }
             (EventKind::Ends, Event::Seen(_)) | (EventKind::Begins, Event::Slot { .. }) => true,
             _ => false,
         }
@@ -71,6 +71,15 @@ pub(crate) struct Search {
     pub(crate) found: bool,
     /// Where the next search for the kind goes on.
     pub(crate) end: Place,
+}
+
+/// What expectations have taken.
+#[derive(Drop)]
+pub(crate) struct Taken {
+    /// All events of so many entries are taken.
+    pub(crate) forgotten: usize,
+    /// The searches since these, each behind them.
+    pub(crate) searches: Vec<Search>,
 }
 
 /// The events of an entry.

@@ -39,7 +39,7 @@ fn put_all_spaced<W: Write>(out: &mut TextWriter<'_, W>, words: &[Text])
 }
 
 /// Fields with one space between two.
-fn put_fields<W: Write>(out: &mut TextWriter<'_, W>, fields: &[Text])
+pub fn put_fields<W: Write>(out: &mut TextWriter<'_, W>, fields: &[Text])
     ensures { Grows W.contents out.old out.new (fields_text fields.now) }
 {
     match fields {
@@ -117,6 +117,10 @@ pub fn put_reason<W: Write>(out: &mut TextWriter<'_, W>, reason: &Reason)
     match reason {
         Reason::Step(why) => put_step_reason(out, why),
         Reason::NoRefusal(name) => put_after(out, "no refusal ", name.as_slice()),
+        Reason::NoRange(field) => {
+            out.put(field.as_slice());
+            out.put_text(" is no range");
+        }
         Reason::TooSmall => out.put_text("0 is too small"),
         Reason::SlotsForm => out.put_text("slots takes a number, a number and ms, or idle"),
         Reason::SlotForm(word) => {
@@ -126,6 +130,11 @@ pub fn put_reason<W: Write>(out: &mut TextWriter<'_, W>, reason: &Reason)
         Reason::ExpectForm => out.put_text("expect takes what is expected"),
         Reason::UnknownExpectation(fields) => {
             out.put_text("expect has no form ");
+            put_fields(out, fields.as_slice());
+        }
+        Reason::UntilForm => out.put_text("until takes what is expected"),
+        Reason::UnknownUntil(fields) => {
+            out.put_text("until has no form ");
             put_fields(out, fields.as_slice());
         }
     }
@@ -175,6 +184,19 @@ fn put_expected<W: Write>(out: &mut TextWriter<'_, W>, cluster: &Cluster, expect
             put_signal(out, cluster, *signal);
             put_value(out, value);
         }
+        Expected::SignalWithin {
+            node,
+            signal,
+            low,
+            high,
+        } => {
+            out.put_text(" signal");
+            put_node(out, cluster, *node);
+            put_signal(out, cluster, *signal);
+            put_number(out, *low);
+            out.put_text("..");
+            out.put_number(*high);
+        }
         Expected::Waiting { host, count } => {
             out.put_text(" waiting");
             put_node(out, cluster, *host);
@@ -185,6 +207,11 @@ fn put_expected<W: Write>(out: &mut TextWriter<'_, W>, cluster: &Cluster, expect
             put_node(out, cluster, *from);
             put_node(out, cluster, *to);
             put_bytes(out, bytes.as_slice());
+        }
+        Expected::NoMessage { from, to } => {
+            out.put_text(" no message");
+            put_node(out, cluster, *from);
+            put_node(out, cluster, *to);
         }
         Expected::Sent { host } => {
             out.put_text(" sent");

@@ -2,19 +2,20 @@
 
 ghost use Rattle.std.specs.Prelude.{◌≡◌, ◌==◌, ◌<◌, ◌≤◌, ◌&&◌, IfOk, OnOk, None, option_map};
 ghost use Rattle.lin_core.specs.Core.{past_of};
+ghost use Rattle.lin_bench.specs.Made.{comes};
 ghost use Rattle.lin_bench.specs.Searches.{IsKnown, last_end, last_search, taken_by};
 ghost use Rattle.lin_bench.specs.Slots.{hosts_waiting};
 ghost use Rattle.lin_bench.specs.Verdicts.{same_kind, done_verdict, idle_verdict, kind_taken, last_event};
 ghost use Rattle.lin_bench.specs.Verdicts.{lost_verdict, message_verdict, newest_reply};
 ghost use Rattle.lin_bench.specs.Verdicts.{next_event, refused_verdict};
-ghost use Rattle.lin_bench.specs.Verdicts.{same_value, seen_verdict, sent_verdict, signal_verdict};
-ghost use Rattle.lin_bench.specs.Verdicts.{slot_verdict, taking, verdict, waiting_verdict};
+ghost use Rattle.lin_bench.specs.Verdicts.{is_within, no_message_verdict, same_value, seen_verdict, sent_verdict};
+ghost use Rattle.lin_bench.specs.Verdicts.{slot_verdict, taking, value_seen, value_verdict, verdict, waiting_verdict};
 ghost use Rattle.lin_bench.specs.Verdicts.{with_taken};
 
 use crate::expected::Expected;
 use crate::got::Got;
 use crate::slots::hosts_waiting;
-use crate::taken::{EventKind, Place, Search, event_from, last_event};
+use crate::taken::{EventKind, Place, Search, Taken, event_from, last_event};
 use lin_core::{Cause, Core, Event, Look, Payload, Refusal, Reply};
 use lin_frame::Value;
 use lin_lists::Many;
@@ -30,19 +31,51 @@ fn same_value(a: &Value, b: &Value) -> bool
     }
 }
 
-fn signal(core: &Core, node: u8, signal: u16, value: &Value) -> Option<Got>
-    ensures { result ≡ signal_verdict core.now.cluster (past_of core.now) node signal value.now }
+/// What a node sees of a signal; none where there is no such node or signal.
+fn value_seen(core: &Core, node: u8, signal: u16) -> Option<Value>
+    ensures { result ≡ value_seen core.now.cluster (past_of core.now) node signal }
 {
     let cluster = core.cluster();
     if (node as usize) < cluster.nodes() && (signal as usize) < cluster.signals() {
-        let seen = core.signal(node, signal);
-        if same_value(&seen, value) {
+        Some(core.signal(node, signal))
+    } else {
+        None
+    }
+}
+
+fn signal(seen: Option<Value>, value: &Value) -> Option<Got>
+    ensures { result ≡ value_verdict (λ v. same_value v value.now) seen }
+{
+    match seen {
+        None => Some(Got::NoNodeOrSignal),
+        Some(seen) => if same_value(&seen, value) {
             None
         } else {
             Some(Got::Value(seen))
-        }
-    } else {
-        Some(Got::NoNodeOrSignal)
+        },
+    }
+}
+
+/// Whether a value is a scalar from one number to another.
+fn is_within(value: &Value, low: u16, high: u16) -> bool
+    ensures { result ≡ is_within low high value.now }
+{
+    match value {
+        Value::Scalar(n) => low <= *n && *n <= high,
+        Value::Bytes(_) => false,
+    }
+}
+
+fn signal_within(seen: Option<Value>, low: u16, high: u16) -> Option<Got>
+    ensures { result ≡ value_verdict (is_within low high) seen }
+{
+    match seen {
+        None => Some(Got::NoNodeOrSignal),
+        Some(seen) => if is_within(&seen, low, high) {
+            None
+        } else {
+            Some(Got::Value(seen))
+        },
     }
 }
 
@@ -74,6 +107,17 @@ fn message(alloc: Global, event: Option<&Event>, bytes: &[u8]) -> Result<Option<
             }
         }
         _ => Ok(Some(Got::NoEvent)),
+    }
+}
+
+fn no_message(alloc: Global, event: Option<&Event>) -> Result<Option<Got>, AllocError>
+    ensures { IfOk result (λ v. v ≡ no_message_verdict (option_map (λ e. e.now) event.entry)) }
+{
+    match event {
+        Some(Event::Message { bytes, .. }) => {
+            Ok(Some(Got::Message(Payload::new(Vec::from_slice(alloc, bytes.as_slice())?))))
+        }
+        _ => Ok(None),
     }
 }
 
@@ -204,41 +248,105 @@ fn last_search(searches: &[Search], kind: EventKind) -> Option<&Search>
     searches.iter().rev().find(|search| kind.is(search.kind))
 }
 
-/// Where it ended, or the beginning of the log.
-fn last_end(searches: &[Search], kind: EventKind) -> Place
-    ensures { result ≡ last_end kind searches.now }
+/// Where it ended, or the end of what is forgotten.
+fn last_end(taken: &Taken, kind: EventKind) -> Place
+    ensures { result ≡ last_end kind taken.now }
 {
-    match last_search(searches, kind) {
+    match last_search(taken.searches.as_slice(), kind) {
         Some(search) => search.end,
         None => Place {
-            entry: 0,
+            entry: taken.forgotten,
             events: 0,
         },
+    }
+}
+
+/// The oldest event of a kind that isn't taken.
+fn look_for<'a>(
+    core: &'a Core,
+    taken: &mut Taken,
+    kind: EventKind,
+) -> Result<Option<&'a Event>, AllocError>
+    requires { IsKnown core.now.log taken.old }
+    ensures event { IfOk result (λ e. option_map (λ e. e.now) e
+        ≡ next_event (past_of core.now) (taken_by core.now.log taken.old) kind) }
+    ensures taken { OnOk result
+        (taken_by core.now.log taken.new ≡ taken_by core.now.log taken.old) }
+    ensures known { IsKnown core.now.log taken.new }
+{
+    let from = last_end(taken, kind);
+    let (event, end) = event_from(core.log(), kind, from);
+    match event {
+        Some(event) => Ok(Some(event)),
+        None => {
+            taken.searches.push(Search {
+                kind,
+                found: false,
+                end,
+            })?;
+            Ok(None)
+        }
     }
 }
 
 /// The oldest event of a kind that no expectation has taken, which is taken now.
 fn take_next<'a>(
     core: &'a Core,
-    searches: &mut Vec<Search>,
+    taken: &mut Taken,
     kind: EventKind,
 ) -> Result<Option<&'a Event>, AllocError>
-    requires { IsKnown core.now.log searches.old.items }
+    requires { IsKnown core.now.log taken.old }
     ensures event { IfOk result (λ e. option_map (λ e. e.now) e
-        ≡ next_event (past_of core.now) (taken_by searches.old.items) kind) }
-    ensures taken { OnOk result (taken_by searches.new.items ≡ with_taken
-        (next_event (past_of core.now) (taken_by searches.old.items) kind) kind
-        (taken_by searches.old.items)) }
-    ensures known { IsKnown core.now.log searches.new.items }
+        ≡ next_event (past_of core.now) (taken_by core.now.log taken.old) kind) }
+    ensures taken { OnOk result (taken_by core.now.log taken.new ≡ with_taken
+        (next_event (past_of core.now) (taken_by core.now.log taken.old) kind) kind
+        (taken_by core.now.log taken.old)) }
+    ensures known { IsKnown core.now.log taken.new }
 {
-    let from = last_end(searches.as_slice(), kind);
+    let from = last_end(taken, kind);
     let (event, end) = event_from(core.log(), kind, from);
-    searches.push(Search {
+    taken.searches.push(Search {
         kind,
         found: event.is_some(),
         end,
     })?;
     Ok(event)
+}
+
+/// The kind of event that an expectation takes, if it takes one.
+fn kind_taken(expected: &Expected) -> Option<EventKind>
+    ensures { result ≡ kind_taken expected.now }
+{
+    match expected {
+        Expected::Message { from, to, .. } => Some(EventKind::Messages {
+            from: *from,
+            to: *to,
+        }),
+        Expected::Sent { host } | Expected::Lost { host, .. } => {
+            Some(EventKind::Fates { host: *host })
+        }
+        _ => None,
+    }
+}
+
+/// Whether what is waited for comes. It takes nothing.
+pub(crate) fn comes(
+    alloc: Global,
+    core: &Core,
+    taken: &mut Taken,
+    expected: &Expected,
+) -> Result<bool, AllocError>
+    requires { IsKnown core.now.log taken.old }
+    ensures comes { IfOk result (λ is. is ≡ comes core.now.cluster
+        (taken_by core.now.log taken.old) expected.now (past_of core.now)) }
+    ensures taken { OnOk result
+        (taken_by core.now.log taken.new ≡ taken_by core.now.log taken.old) }
+    ensures known { IsKnown core.now.log taken.new }
+{
+    match kind_taken(expected) {
+        Some(kind) => Ok(look_for(core, taken, kind)?.is_some()),
+        None => Ok(verdict(alloc, core, taken, expected)?.is_none()),
+    }
 }
 
 /// Whether what is expected is so, and what is so where it isn't; the event that it speaks of is
@@ -247,37 +355,50 @@ fn take_next<'a>(
 pub(crate) fn verdict(
     alloc: Global,
     core: &Core,
-    searches: &mut Vec<Search>,
+    taken: &mut Taken,
     expected: &Expected,
 ) -> Result<Option<Got>, AllocError>
-    requires { IsKnown core.now.log searches.old.items }
+    requires { IsKnown core.now.log taken.old }
     ensures verdict { IfOk result
-        (λ v. v ≡ verdict core.now.cluster (past_of core.now) (taken_by searches.old.items) expected.now) }
-    ensures taken { OnOk result (taken_by searches.new.items
-        ≡ taking (past_of core.now) (taken_by searches.old.items) (kind_taken expected.now)) }
-    ensures known { IsKnown core.now.log searches.new.items }
+        (λ v. v ≡ verdict core.now.cluster (past_of core.now) (taken_by core.now.log taken.old) expected.now) }
+    ensures taken { OnOk result (taken_by core.now.log taken.new
+        ≡ taking (past_of core.now) (taken_by core.now.log taken.old) (kind_taken expected.now)) }
+    ensures known { IsKnown core.now.log taken.new }
 {
     match expected {
         Expected::Signal {
             node,
             signal: number,
             value,
-        } => Ok(signal(core, *node, *number, value)),
+        } => Ok(signal(value_seen(core, *node, *number), value)),
+        Expected::SignalWithin {
+            node,
+            signal,
+            low,
+            high,
+        } => Ok(signal_within(value_seen(core, *node, *signal), *low, *high)),
         Expected::Waiting { host, count } => Ok(waiting(core, *host, *count)),
         Expected::Message { from, to, bytes } => {
             let kind = EventKind::Messages {
                 from: *from,
                 to: *to,
             };
-            let event = take_next(core, searches, kind)?;
+            let event = take_next(core, taken, kind)?;
             message(alloc, event, bytes.as_slice())
         }
+        Expected::NoMessage { from, to } => {
+            let kind = EventKind::Messages {
+                from: *from,
+                to: *to,
+            };
+            no_message(alloc, look_for(core, taken, kind)?)
+        }
         Expected::Sent { host } => {
-            let event = take_next(core, searches, EventKind::Fates { host: *host })?;
+            let event = take_next(core, taken, EventKind::Fates { host: *host })?;
             Ok(sent(event))
         }
         Expected::Lost { host, cause } => {
-            let event = take_next(core, searches, EventKind::Fates { host: *host })?;
+            let event = take_next(core, taken, EventKind::Fates { host: *host })?;
             Ok(lost(event, *cause))
         }
         Expected::Seen(how) => Ok(seen(last_event(core.log(), EventKind::Ends), *how)),

@@ -75,9 +75,65 @@ const BAD_LINES: &[(&str, &str)] = &[
         "expect\tseen  bad",
         "script 1 bad line: expect has no form seen bad\n",
     ),
+    ("expect no", "script 1 bad line: expect has no form no\n"),
+    (
+        "expect no sent DCU",
+        "script 1 bad line: expect has no form no sent DCU\n",
+    ),
+    (
+        "expect no message DCU",
+        "script 1 bad line: expect has no form no message DCU\n",
+    ),
+    (
+        "expect no message DCU dor",
+        "script 1 bad line: no node dor\n",
+    ),
+    (
+        "expect signal DCU WinPos 5..4",
+        "script 1 bad line: 5..4 is no range\n",
+    ),
+    (
+        "expect signal DCU WinPos 4..x05",
+        "script 1 bad line: 4..x05 is no range\n",
+    ),
+    (
+        "expect signal DCU WinPos 4..0x10000",
+        "script 1 bad line: 0x10000 is no number up to 65535\n",
+    ),
+    (
+        "expect signal DCU WinPos ..5",
+        "script 1 bad line:  is no number up to 65535\n",
+    ),
+    ("forget all", "script 1 bad line: forget takes 0 fields\n"),
     ("slots 0", "script 1 bad line: 0 is too small\n"),
     ("slots 2 s", SLOTS),
     ("slots", SLOTS),
+    ("slots 2 ms 3", SLOTS),
+    ("slots idle until asleep", SLOTS),
+    (
+        "slots 0 until asleep",
+        "script 1 bad line: 0 is too small\n",
+    ),
+    (
+        "slots 2 until # asleep",
+        "script 1 bad line: until takes what is expected\n",
+    ),
+    (
+        "slots 2 ms until done",
+        "script 1 bad line: until has no form done\n",
+    ),
+    (
+        "slots 2 until no message DCU WinMot",
+        "script 1 bad line: until has no form no message DCU WinMot\n",
+    ),
+    (
+        "slots 2 until seen bad",
+        "script 1 bad line: until has no form seen bad\n",
+    ),
+    (
+        "slots 2 until message dcu WinMot 3E",
+        "script 1 bad line: no node dcu\n",
+    ),
     (
         "slots 1000001 ms",
         "script 1 bad line: 1000001 is no number up to 1000000\n",

@@ -87,6 +87,25 @@ fn name_of(line: &Line) -> &'static str {
                 cause: Cause::TimedOut,
             },
         ) => "lost in time",
+        Line::Expect(
+            Expected::SignalWithin {
+                node: 0,
+                signal: 7,
+                low: 690,
+                high: 710,
+            },
+        ) => "signal in a range",
+        Line::Expect(Expected::NoMessage { from: 0, to: 1 }) => "no message",
+        Line::Forget => "forget",
+        Line::Until(
+            Extent::Count(20),
+            Expected::Message {
+                from: 1,
+                to: 0,
+                bytes,
+            },
+        ) if bytes.as_slice() == [0x7E].as_slice() => "slots until a message",
+        Line::Until(Extent::Milliseconds(200), Expected::Asleep) => "slots of 200 ms until asleep",
         _ => "anything else",
     }
 }
@@ -103,6 +122,13 @@ const ON_BUILT_IN: Lines<'static> = &[
     (b"expect refused 10", "refused as asleep"),
     (b"expect seen none", "seen none"),
     (b"expect lost door timedout", "lost in time"),
+    (b"expect no message cem 1", "no message"),
+    (b"forget # what was before", "forget"),
+    (
+        b"slots 20 until message door cem 7E",
+        "slots until a message",
+    ),
+    (b"slots 200 ms until asleep", "slots of 200 ms until asleep"),
 ];
 
 const ON_DOOR_ZONE: Lines<'static> = &[
@@ -113,6 +139,7 @@ const ON_DOOR_ZONE: Lines<'static> = &[
     ),
     (b"h3 write 3 14 x-", "write of no bytes"),
     (b"slot leave Panel 1", "slot with two left out"),
+    (b"expect signal DCU WinTemp 690..0x2C6", "signal in a range"),
 ];
 
 fn expect_lines(rt: &impl Abort, alloc: Global, ldf: &[u8], lines: Lines) -> Result<(), Fail> {

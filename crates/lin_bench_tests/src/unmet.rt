@@ -18,6 +18,24 @@ const ON_BUILT_IN: Rows<'static> = &[
         b"send cem door 3E\nslot hurt -\nexpect sent cem\nexpect seen good\nsend cem door 3E\nslot\nslot hurt 00\nexpect lost cem timedout\nexpect lost cem damaged\n",
         b"script 3 expected sent cem: message 1 lost damaged\nscript 4 expected seen good: damaged\nscript 8 expected lost cem timedout: message 2 lost damaged\nscript 9 expected lost cem damaged: none\n",
     ),
+    // No message takes none, and what is forgotten is taken.
+    (
+        b"expect no message cem door\nsend cem door 3E\nslots idle\nexpect no message cem door\nexpect no message door cem\nexpect message cem door 3E\nexpect no message cem door\n",
+        b"script 4 expected no message cem door: 3E\n",
+    ),
+    (
+        b"send cem door 3E\nslots idle\nforget\nexpect no message cem door\nexpect sent cem\nsend cem door 3F\nslots idle\nexpect message cem door 3F\nexpect sent cem\nforget\nforget\nexpect message cem door 3F\n",
+        b"script 5 expected sent cem: none\nscript 12 expected message cem door 3F: none\n",
+    ),
+    // What is waited for comes right or wrong, before the line or in time, or doesn't come.
+    (
+        b"send cem door 22F1\nslots 9 until message cem door 22F1\nslots 9 until sent cem\nexpect slot diag 0\nsend cem door 22F2\nslots 9 until message cem door 22F3\nexpect slot diag 0\nslots 3 until message cem door 22F2\nexpect slot diag 1\n",
+        b"script 6 expected message cem door 22F3: 22F2\nscript 8 expected message cem door 22F2: none\n",
+    ),
+    (
+        b"slots 5 until awake\nexpect seen good\nslots 25 ms until asleep\nexpect slot diag 0\nsleep\nslots 9 until asleep\nslots 9 until seen none\nexpect refused Asleep\n",
+        b"script 2 expected seen good: no slot\nscript 3 expected asleep: awake\nscript 7 expected seen none: good\n",
+    ),
     // The responder answers only once a request to it was good.
     (
         b"send door cem 3E\nslots idle 1\nsend cem door 3E\nsend cem door 3F\nslot\nslots idle 1\nsend door cem 3E\nslots idle 1\nsend cem door 3E\nslots idle 1\nslots idle",
@@ -46,6 +64,10 @@ const ON_DOOR_ZONE: Rows<'static> = &[
     (
         b"expect waiting Panel 1\nexpect waiting 9 0\nexpect signal DCU WinPos 0x11\nexpect signal DCU WinPos x11\nexpect signal 9 WinPos 1\nexpect signal DCU 99 1\nexpect signal DCU PanelId x31323334\nexpect signal DCU PanelId 49\n",
         b"script 1 expected waiting Panel 1: 0\nscript 2 expected waiting 9 0: no such node\nscript 3 expected signal DCU WinPos 17: 0\nscript 4 expected signal DCU WinPos x11: 0\nscript 5 expected signal 9 WinPos 1: no such node or signal\nscript 6 expected signal DCU 99 1: no such node or signal\nscript 8 expected signal DCU PanelId 49: x31323334\n",
+    ),
+    (
+        b"expect signal DCU WinTemp 450..450\nexpect signal DCU WinTemp 0..449\nexpect signal DCU WinTemp 451..0xFFFF\nexpect signal DCU PanelId 0..65535\nexpect signal 9 WinTemp 0..1\n",
+        b"script 2 expected signal DCU WinTemp 0..449: 450\nscript 3 expected signal DCU WinTemp 451..65535: 450\nscript 4 expected signal DCU PanelId 0..65535: x31323334\nscript 5 expected signal 9 WinTemp 0..1: no such node or signal\n",
     ),
 ];
 

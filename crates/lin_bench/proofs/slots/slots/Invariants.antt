@@ -1,12 +1,19 @@
 use Rattle.std.proofs.Common.{◌≡◌, ◌-◌}
+use Rattle.std.specs.Prelude.{option_map}
 use Rattle.lin_core.specs.Core.{past_of}
 use Rattle.lin_core.specs.History.{time}
+use Rattle.lin_bench.specs.Making.{ends_at}
+use Rattle.lin_bench.specs.Searches.{IsKnown, taken_by}
 use Rattle.lin_bench.specs.Slots.{most}
 use Rattle.lin_bench.proofs.SlotSteps.{AreBegun}
 use Rattle.lin_bench.proofs.slots.slots.Given as goal
 
 abbrev pub invariant-loop : goal.invariant-loop
 invariant-loop l = record {
-  begun : AreBegun l.fn.core l.how l.extent l.fn.left l.core (most l.extent - l.counter) l.left;
+  begun :
+      AreBegun l.fn.core l.how l.extent (ends_at l.fn.core.cluster (taken_by l.fn.core.log l.fn.taken) (option_map (λ e. e.now) l.until)) l.fn.left l.core
+      (most l.extent - l.counter) l.left;
   began : l.began ≡ time l.fn.core.cluster (past_of l.fn.core);
+  taken : taken_by l.core.log l.taken ≡ taken_by l.fn.core.log l.fn.taken;
+  known : IsKnown l.core.log l.taken;
 }

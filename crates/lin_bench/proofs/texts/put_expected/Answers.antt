@@ -5,7 +5,7 @@ pub returns-in-Signal : goal.returns-in-Signal
 returns-in-Signal g c = rw c.in-Signal.is (grows-more c.put_text.ensures (grows-more c.put_node.ensures (grows-more c.put_signal.ensures c.put_value.ensures)))
 
 pub returns-in-Waiting : goal.returns-in-Waiting
-returns-in-Waiting g c = rw c.in-Waiting.is (grows-more c.put_text-in-Waiting.ensures (grows-more c.put_node-in-Waiting.ensures c.put_number.ensures))
+returns-in-Waiting g c = rw c.in-Waiting.is (grows-more c.put_text-in-Waiting.ensures (grows-more c.put_node-in-Waiting.ensures c.put_number-in-Waiting.ensures))
 
 pub returns-in-Message : goal.returns-in-Message
 returns-in-Message g c = rw c.in-Message.is
@@ -26,3 +26,12 @@ returns-in-Slot g c = rw c.in-Slot.is (grows-more c.put_text-in-Slot.ensures (gr
 
 pub returns-in-Refused : goal.returns-in-Refused
 returns-in-Refused g c = rw c.in-Refused.is (grows-more c.put_text-in-Refused.ensures (rw c.word-in-Refused.ensures at c.put_word-in-Refused.ensures))
+
+pub returns-in-SignalWithin : goal.returns-in-SignalWithin
+returns-in-SignalWithin g c = rw c.in-SignalWithin.is
+    (grows-more c.put_text-in-SignalWithin.ensures (grows-more c.put_node-in-SignalWithin.ensures (grows-more c.put_signal-in-SignalWithin.ensures
+    (grows-more c.put_number.ensures (grows-more c.put_text-in-SignalWithin-2.ensures c.put_number-in-SignalWithin.ensures)))))
+
+pub returns-in-NoMessage : goal.returns-in-NoMessage
+returns-in-NoMessage g c = rw c.in-NoMessage.is
+    (grows-more c.put_text-in-NoMessage.ensures (grows-more c.put_node-in-NoMessage.ensures c.put_node-in-NoMessage-2.ensures))

@@ -1,6 +1,14 @@
-use Rattle.lin_bench.proofs.Benches.{steps-grown}
-use Rattle.lin_bench.proofs.Searches.{known-grown}
+use Rattle.std.proofs.Common.{refl}
+use Rattle.lin_bench.specs.Bench.{bench_data}
+use Rattle.lin_bench.proofs.Benches.{step-made, steps-grown}
+use Rattle.lin_bench.proofs.Searches.{known-grown, taken-grown}
 use Rattle.lin_bench.proofs.bench.Bench.make.Goals as goal
 
 pub invariant_of-self-in-Step : goal.invariant_of-self-in-Step
 invariant_of-self-in-Step c = known-grown _ _ _ (steps-grown _ _ _ c.make.result c.make.ensures) c.self.invariant
+
+pub returns-in_ok-make-in-Step : goal.returns-in_ok-make-in-Step
+returns-in_ok-make-in-Step c =
+    rw (c.in-Step.is, ← c.self.view_is)
+    (step-made (bench_data c.self.inside) _ c.in-Step.by c.in-Step.step c.in_ok-make-in-Step.ensures
+    (taken-grown _ _ _ (steps-grown _ _ _ c.make.result c.make.ensures) c.self.invariant) refl)
