@@ -3,3 +3,7 @@ mod Cuts
 mod Keeping
 mod Transcripts
 pub mod Writing
+mod Growth
+mod LinesTold
+mod Replying
+mod Plays

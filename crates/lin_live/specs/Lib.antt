@@ -2,3 +2,9 @@ pub mod Lines
 pub mod Transcript
 pub mod Begun
 pub mod Serving
+pub mod Asked
+pub mod Heard
+pub mod Told
+pub mod Hand
+pub mod Answers
+pub mod Play

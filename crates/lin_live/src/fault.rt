@@ -1,6 +1,7 @@
 //! Why lines aren't answered.
 
 ghost use Rattle.std.specs.Prelude.{◌≡◌};
+ghost use Rattle.lin_live.specs.Hand.{fault_of};
 ghost use Rattle.lin_live.specs.declared.fault.Fault.TheVariants.{OutOfMemory as NoMemory};
 ghost use Rattle.lin_live.specs.declared.fault.Fault.TheVariants.{WriteFailed as NotWritten};
 
@@ -37,5 +38,16 @@ impl From<lin_text::WriteFailed> for Fault {
 
     fn from(_: lin_text::WriteFailed) -> Fault {
         Fault::WriteFailed
+    }
+}
+
+impl From<lin_bench::MakeFault> for Fault {
+    ghost from_gives = { λ x y. y ≡ fault_of x };
+
+    fn from(fault: lin_bench::MakeFault) -> Fault {
+        match fault {
+            lin_bench::MakeFault::LogFull => Fault::LogFull,
+            lin_bench::MakeFault::OutOfMemory => Fault::OutOfMemory,
+        }
     }
 }

@@ -2,7 +2,9 @@
 
 ghost use Rattle.std.specs.Prelude.{◌≡◌, ◌++◌, ℕ, List};
 ghost use Rattle.std.specs.List.{AllByRecursion, join_with_byte};
+ghost use Rattle.lin_live.specs.Answers.{AnswersAreTheLog, AnswersAreWritten};
 ghost use Rattle.lin_live.specs.Lines.{HasNoLf, pieces};
+ghost use Rattle.lin_live.specs.Play.{LiveIsPlay};
 ghost use Rattle.lin_live.specs.Transcript.{after, transcript};
 
 use crate::answering::Answering;
@@ -12,6 +14,19 @@ use crate::answering::Answering;
 pub fn transcripts_split<S: Answering>()
     ensures { (s : S.State) (xs ys : List (List ℕ)) → transcript S.reply s (xs ++ ys)
         ≡ transcript S.reply s xs ++ transcript S.reply (after S.reply s xs) ys }
+{}
+
+/// The entries that a bench in hand tells in its answers are those of its log, in order, and a
+/// transcript has nothing but their text and a last line for each line.
+pub fn answers_tell_the_log()
+    ensures entries { AnswersAreTheLog }
+    ensures text { AnswersAreWritten }
+{}
+
+/// Answered in hand, the lines of a bench script that `lin_bench::play` plays to its end come to the
+/// same bench, with the same log, and an expectation isn't met where one isn't met there.
+pub fn live_is_play()
+    ensures { LiveIsPlay }
 {}
 
 /// The pieces of an input have no LF in them, and with one between each two they are the input.

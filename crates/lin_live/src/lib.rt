@@ -1,18 +1,30 @@
-//! A loop that answers each line of a reader on a writer before it reads on.
+//! A bench in hand, and a loop that answers each line of a reader on a writer before it reads on.
 //!
 //! ```
+//! let mut hand = Hand::new(alloc, core);
 //! // answers each line of standard input, until it ends
-//! live(alloc, &mut state, &mut reader, &mut writer)?;
+//! live(alloc, &mut hand, &mut reader, &mut writer)?;
 //! ```
 #![tactic(auto)]
 
 mod answering;
+mod asking;
 mod begun;
 mod fault;
+mod hand;
+mod heard;
 mod law;
+mod question;
+mod reason;
 mod serving;
+mod telling;
+mod value;
 
 pub use answering::Answering;
 pub use fault::Fault;
-pub use law::{pieces_come_back, transcripts_split};
+pub use hand::Hand;
+pub use heard::{Heard, hear};
+pub use law::{answers_tell_the_log, live_is_play, pieces_come_back, transcripts_split};
+pub use question::Question;
+pub use reason::{LineFault, Reason};
 pub use serving::live;

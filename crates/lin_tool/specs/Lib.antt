@@ -2,6 +2,7 @@ pub mod Clusters
 pub mod Comparing
 pub mod Formats
 pub mod Listing
+pub mod Living
 pub mod Opening
 pub mod Playing
 pub mod Reading

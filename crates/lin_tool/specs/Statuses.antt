@@ -6,7 +6,7 @@ use Rattle.lin_tool.specs.declared.fault.Fault.TheVariants.{ScriptTooLong, NotHo
 use Rattle.lin_tool.specs.declared.fault.Fault.TheVariants.{OutOfMemory, ReadFailed, WriteFailed}
 use Rattle.lin_tool.specs.declared.fault.Fault.TheVariants.{TaskLimit, NoThread, LogFull}
 use Rattle.lin_tool.specs.declared.fault.Fault.TheVariants.{LogDiffers, BadBenchLine, SlotLimit}
-use Rattle.lin_tool.specs.declared.fault.Fault.TheVariants.{Unmet}
+use Rattle.lin_tool.specs.declared.fault.Fault.TheVariants.{BadLines, Unmet}
 
 -- 1 for a fault of the input, 3 for lack of memory, 4 where standard input, a file or standard
 -- output failed, 5 where a run met a limit, 6 where a log isn't the text of its own history or
@@ -20,6 +20,7 @@ status_of ScriptTooLong = 1
 status_of (NotHostStep n) = 1
 status_of NoSuchTable = 1
 status_of (BadBenchLine n told) = 1
+status_of BadLines = 1
 status_of (SlotLimit n) = 1
 status_of OutOfMemory = 3
 status_of ReadFailed = 4

@@ -13,7 +13,7 @@ use Rattle.lin_tool.specs.declared.fault.Fault.TheVariants.{ScriptTooLong, NotHo
 use Rattle.lin_tool.specs.declared.fault.Fault.TheVariants.{OutOfMemory, ReadFailed, WriteFailed}
 use Rattle.lin_tool.specs.declared.fault.Fault.TheVariants.{TaskLimit, NoThread, LogFull}
 use Rattle.lin_tool.specs.declared.fault.Fault.TheVariants.{LogDiffers, SlotLimit, BadBenchLine}
-use Rattle.lin_tool.specs.declared.fault.Fault.TheVariants.{Unmet}
+use Rattle.lin_tool.specs.declared.fault.Fault.TheVariants.{BadLines, Unmet}
 
 -- a line and a column
 abbrev pub place_word : ℕ → ℕ → List ℕ
@@ -44,8 +44,8 @@ ldf_text (ldf.SectionTwice place) = ldf_line place (codes "6 SectionTwice")
 ldf_text (ldf.NameTwice place) = ldf_line place (codes "7 NameTwice")
 ldf_text ldf.OutOfMemory = line (codes "ldf out of memory" ∷ [])
 
--- the line of a fault, and the lines of findings; of a bench script's bad line and of what it expects
--- all was told while it was played
+-- the line of a fault, and the lines of findings; of bad lines of bench scripts and of what they
+-- expect all was told while they were played or answered
 abbrev pub fault_text : Fault → List ℕ
 fault_text (BadLine n) = line (codes "script" ∷ decimal n ∷ codes "bad line" ∷ [])
 fault_text (Ldf fault) = ldf_text fault
@@ -64,4 +64,5 @@ fault_text LogFull = line (codes "log full" ∷ [])
 fault_text (LogDiffers n) = line (codes "log" ∷ decimal n ∷ codes "differs" ∷ [])
 fault_text (SlotLimit n) = line (codes "script" ∷ decimal n ∷ codes "slot limit" ∷ [])
 fault_text (BadBenchLine n told) = []
+fault_text BadLines = []
 fault_text (Unmet told) = []

@@ -7,9 +7,9 @@ ghost use Rattle.lin_tool.specs.Comparing.{Compares, PartInLine};
 use crate::fault::Fault;
 use crate::notes::Notes;
 use crate::opening::{Opened, Settings, begin, within_limits};
-use crate::scripts::{noted_bytes, noted_run};
+use crate::scripts::noted_run;
 use lin_cluster_parts::Cluster;
-use lin_log::write_log;
+use lin_log::{read_bytes, write_log};
 use std::alloc::Global;
 use std::fs::Files;
 use std::io::Read;
@@ -61,7 +61,7 @@ pub fn compare_script<R: Read>(
     requires capacity { (1 ≤ capacity) × (capacity ≤ 1024) }
     ensures { IfSome (R.remaining reader.old) (Compares cluster table capacity result) }
 {
-    let bytes = noted_bytes(alloc, reader, notes)?;
+    let bytes = read_bytes(alloc, reader)?;
     let core = noted_run(alloc, cluster, table, capacity, bytes.as_slice(), notes)?;
     let mut text = Vec::new(alloc);
     let written = write_log(core.log(), &mut text);
@@ -86,12 +86,14 @@ pub fn compare<R: AllocGlobal + Files + Input>(
     notes: &mut Notes<'_>,
 ) -> Result<(), Fault> {
     let Opened { cluster, table } = begin(rt, settings, notes)?;
-    compare_script(
+    let answer = compare_script(
         rt.alloc(),
         cluster,
         table,
         within_limits(settings.capacity),
         &mut rt.reader(),
         notes,
-    )
+    );
+    notes.add_unread(&answer, None);
+    answer
 }

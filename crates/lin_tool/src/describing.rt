@@ -161,9 +161,7 @@ pub fn cluster_of_input<R: AllocGlobal + Input>(
     ensures { AnswersLdf result None }
 {
     let answer = cluster_of_reader(rt.alloc(), &mut rt.reader(), notes);
-    if let Err(Fault::ReadFailed) = &answer {
-        notes.add_file(None);
-    }
+    notes.add_unread(&answer, None);
     answer
 }
 
@@ -187,9 +185,7 @@ pub fn cluster_of_file<R: AllocGlobal + Files>(
                 Ok(mut file) => cluster_of_reader(rt.alloc(), &mut file, notes),
                 Err(_) => Err(Fault::ReadFailed),
             };
-            if let Err(Fault::ReadFailed) = &answer {
-                notes.add_file(Some(path));
-            }
+            notes.add_unread(&answer, Some(path));
             answer
         }
     }

@@ -2,6 +2,7 @@
 
 ghost use Rattle.std.specs.Prelude.{◌≡◌};
 ghost use Rattle.lin_tool.specs.Formats.{export_fault};
+ghost use Rattle.lin_tool.specs.Living.{live_fault};
 ghost use Rattle.lin_tool.specs.Playing.{play_fault};
 ghost use Rattle.lin_tool.specs.Replaying.{replay_fault, script_fault};
 ghost use Rattle.lin_tool.specs.Running.{run_fault, split_fault};
@@ -61,6 +62,8 @@ pub enum Fault {
         line: u64,
         told: Result<(), WriteFailed>,
     },
+    /// Lines that were answered were bad, or made more than 1,000,000 slots, as their answers say.
+    BadLines,
     /// By this line, counted from 1, a bench script makes more than 1,000,000 slots.
     SlotLimit {
         line: u64,
@@ -89,6 +92,7 @@ impl Fault {
             | Fault::NotHostStep { .. }
             | Fault::NoSuchTable
             | Fault::BadBenchLine { .. }
+            | Fault::BadLines
             | Fault::SlotLimit { .. } => 1,
             Fault::OutOfMemory => 3,
             Fault::ReadFailed | Fault::WriteFailed => 4,
@@ -199,5 +203,18 @@ impl<T: Drop> From<AllocFailed<T>> for Fault {
 
     fn from(_error: AllocFailed<T>) -> Fault {
         Fault::OutOfMemory
+    }
+}
+
+impl From<lin_live::Fault> for Fault {
+    ghost from_gives = { λ x y. y ≡ live_fault x };
+
+    fn from(fault: lin_live::Fault) -> Fault {
+        match fault {
+            lin_live::Fault::ReadFailed => Fault::ReadFailed,
+            lin_live::Fault::WriteFailed => Fault::WriteFailed,
+            lin_live::Fault::OutOfMemory => Fault::OutOfMemory,
+            lin_live::Fault::LogFull => Fault::LogFull,
+        }
     }
 }

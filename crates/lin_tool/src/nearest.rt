@@ -12,16 +12,15 @@ use strsim::generic_levenshtein;
 const COMPARED: usize = 64;
 
 /// The words that a line begins with.
-static WORDS: [&str; 16] = [
+static WORDS: [&str; 17] = [
     "send", "write", "open", "answer", "leave", "hurt", "finish", "timeout", "switch", "sleep",
-    "wake", "close", "slot", "slots", "expect", "bus",
+    "wake", "close", "slot", "slots", "expect", "forget", "bus",
 ];
 
-/// What `expect` takes.
-const EXPECTATIONS: &str = "signal NODE SIGNAL VALUE, waiting NODE K, message FROM TO BYTES, \
-                            sent NODE, lost NODE damaged (timedout, slept), seen silent (none, \
-                            good, damaged, collided), slot TABLE ENTRY, done, refused NAME, \
-                            asleep, awake";
+/// What `expect` and `until` take.
+const FORMS: &str = "signal NODE SIGNAL VALUE (LOW..HIGH), waiting NODE K, message FROM TO BYTES, \
+                     sent NODE, lost NODE damaged (timedout, slept), seen silent (none, good, \
+                     damaged, collided), slot TABLE ENTRY, asleep, awake";
 
 /// The beginning of a name.
 fn beginning(name: &[u8]) -> &[u8] {
@@ -125,8 +124,12 @@ pub(crate) fn put_bad_bench_line(
         Reason::NoRefusal(name) => put_refusals(alloc, out, name.as_slice()),
         Reason::Step(StepReason::UnknownStep(word)) => put_words(alloc, out, word.as_slice()),
         Reason::ExpectForm | Reason::UnknownExpectation(_) => {
-            writeln!(out, "  expect takes {EXPECTATIONS}")
+            writeln!(
+                out,
+                "  expect takes {FORMS}, done, refused NAME, no message FROM TO"
+            )
         }
+        Reason::UntilForm | Reason::UnknownUntil(_) => writeln!(out, "  until takes {FORMS}"),
         _ => Ok(()),
     }
 }

@@ -84,9 +84,11 @@ impl<'a> Notes<'a> {
         }
     }
 
-    /// Adds the file that couldn't be read, by its path; without one standard input.
-    pub(crate) fn add_file(&mut self, path: Option<&str>) {
-        if self.wanted.explained {
+    /// Where what was to be read couldn't be, adds the file, by its path; without one standard input.
+    pub(crate) fn add_unread<T>(&mut self, answer: &Result<T, Fault>, path: Option<&str>) {
+        if let Err(Fault::ReadFailed) = answer
+            && self.wanted.explained
+        {
             let put = match path {
                 Some(path) => writeln!(self.text, "  the file is {path}"),
                 None => writeln!(self.text, "  it is standard input"),

@@ -12,14 +12,14 @@ use crate::fault::Fault;
 use crate::formats::{Format, write_shown};
 use crate::notes::Notes;
 use crate::opening::{Opened, Settings, begin, within_limits};
-use crate::scripts::noted_bytes;
 use lin_bench::{
     Line, Played, ReadFault, Unmet, play as play_lines, read, write_bad_line, write_unmet,
 };
 use lin_cluster_parts::Cluster;
 use lin_core::Core;
+use lin_log::read_bytes;
 use std::alloc::Global;
-use std::fs::Files;
+use std::fs::{self, Files};
 use std::io::{self, Read, Write};
 use std::mem;
 
@@ -123,7 +123,7 @@ pub fn play_script<R: Read, W: Write, E: Write>(
         (W.contents writer.old) (W.contents writer.new)
         (E.contents errors.old) (E.contents errors.new) }
 {
-    let bytes = noted_bytes(alloc, reader, notes)?;
+    let bytes = read_bytes(alloc, reader)?;
     let lines = bench_lines(alloc, &cluster, bytes.as_slice(), errors, notes)?;
     let Played { core, unmet } = play_lines(alloc, cluster, table, capacity, lines)?;
     let judged = put_played(alloc, format, &core, unmet.as_slice(), writer, errors);
@@ -132,9 +132,34 @@ pub fn play_script<R: Read, W: Write, E: Write>(
     judged
 }
 
-/// Reads the bench script on standard input, plays it over the cluster of the settings, and writes
-/// the log on standard output in their format. What is said of a bad line and of expectations that
-/// aren't met goes to `errors`.
+/// Plays the bench script that a reader gives over a cluster, and writes the log on standard output
+/// in the format of the settings, as of `play_script`.
+fn play_read<R: AllocGlobal + Print, S: Read, E: Write>(
+    rt: &R,
+    opened: Opened,
+    settings: &Settings<'_>,
+    script: &mut S,
+    errors: &mut E,
+    notes: &mut Notes<'_>,
+) -> Result<(), Fault>
+    requires { opened.table < length opened.cluster.tables }
+{
+    play_script(
+        rt.alloc(),
+        opened.cluster,
+        opened.table,
+        within_limits(settings.capacity),
+        settings.format,
+        script,
+        &mut io::writer(rt),
+        errors,
+        notes,
+    )
+}
+
+/// Reads the bench script in the file at the path `script`, or without one that on standard input,
+/// plays it over the cluster of the settings, and writes the log on standard output in their format.
+/// What is said of a bad line and of expectations that aren't met goes to `errors`.
 ///
 /// # Errors
 /// Those of `cluster_of_file`, and `NoSuchTable`, after which nothing was written; those of
@@ -142,19 +167,18 @@ pub fn play_script<R: Read, W: Write, E: Write>(
 pub fn play<R: AllocGlobal + Files + Input + Print, E: Write>(
     rt: &R,
     settings: &Settings<'_>,
+    script: Option<&str>,
     errors: &mut E,
     notes: &mut Notes<'_>,
 ) -> Result<(), Fault> {
-    let Opened { cluster, table } = begin(rt, settings, notes)?;
-    play_script(
-        rt.alloc(),
-        cluster,
-        table,
-        within_limits(settings.capacity),
-        settings.format,
-        &mut rt.reader(),
-        &mut io::writer(rt),
-        errors,
-        notes,
-    )
+    let opened = begin(rt, settings, notes)?;
+    let answer = match script {
+        None => play_read(rt, opened, settings, &mut rt.reader(), errors, notes),
+        Some(path) => match fs::open(rt, path) {
+            Ok(mut file) => play_read(rt, opened, settings, &mut file, errors, notes),
+            Err(_) => Err(Fault::ReadFailed),
+        },
+    };
+    notes.add_unread(&answer, script);
+    answer
 }

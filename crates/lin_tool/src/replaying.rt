@@ -9,8 +9,9 @@ use crate::fault::Fault;
 use crate::formats::{Format, write_shown};
 use crate::notes::Notes;
 use crate::opening::{Opened, Settings, begin, within_limits};
-use crate::scripts::{noted_bytes, noted_run};
+use crate::scripts::noted_run;
 use lin_cluster_parts::Cluster;
+use lin_log::read_bytes;
 use std::alloc::Global;
 use std::fs::Files;
 use std::io::{self, Read, Write};
@@ -66,7 +67,7 @@ pub fn replay_script<R: Read, W: Write>(
     if format == Format::Log && !notes.is_explained() {
         return replay_log(alloc, cluster, table, capacity, reader, writer);
     }
-    let bytes = noted_bytes(alloc, reader, notes)?;
+    let bytes = read_bytes(alloc, reader)?;
     let core = noted_run(alloc, cluster, table, capacity, bytes.as_slice(), notes)?;
     let written = write_shown(alloc, format, &core, &[], writer);
     notes.add_refusals(core.log());
@@ -89,7 +90,7 @@ pub fn replay<R: AllocGlobal + Files + Input + Print>(
     notes: &mut Notes<'_>,
 ) -> Result<(), Fault> {
     let Opened { cluster, table } = begin(rt, settings, notes)?;
-    replay_script(
+    let answer = replay_script(
         rt.alloc(),
         cluster,
         table,
@@ -98,5 +99,7 @@ pub fn replay<R: AllocGlobal + Files + Input + Print>(
         &mut rt.reader(),
         &mut io::writer(rt),
         notes,
-    )
+    );
+    notes.add_unread(&answer, None);
+    answer
 }

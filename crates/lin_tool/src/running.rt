@@ -192,5 +192,7 @@ pub fn run<R: AllocGlobal + Files + Input + Print + Eprint + Threads + Wait>(
     notes: &mut Notes<'_>,
 ) -> Result<(), Fault> {
     let opened = begin(rt, settings, notes)?;
-    run_over(rt, opened, settings, slots, is_watched, notes)
+    let answer = run_over(rt, opened, settings, slots, is_watched, notes);
+    notes.add_unread(&answer, None);
+    answer
 }

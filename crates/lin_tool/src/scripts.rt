@@ -1,7 +1,7 @@
-//! Scripts that are read and made. Where that fails, the notes tell which file or which line.
+//! Scripts that are read and made. Where a line is bad, the notes tell which one.
 
 ghost use Rattle.std.specs.Prelude.{◌≡◌, ◌≤◌, ◌<◌, length, IfOk, IfSome};
-ghost use Rattle.lin_log.specs.Replay.{ReadsBytes, ReadsScript, RunsScript};
+ghost use Rattle.lin_log.specs.Replay.{ReadsScript, RunsScript};
 
 use crate::notes::Notes;
 use lin_cluster_parts::Cluster;
@@ -9,21 +9,6 @@ use lin_core::{Core, PortId, Step};
 use lin_log::{ScriptFault, read_bytes, read_script, run_script};
 use std::alloc::Global;
 use std::io::Read;
-
-/// The bytes of a script that is read from standard input, as of `read_bytes`.
-pub(crate) fn noted_bytes<R: Read>(
-    alloc: Global,
-    reader: &mut R,
-    notes: &mut Notes<'_>,
-) -> Result<Vec<u8>, ScriptFault>
-    ensures { ReadsBytes (λ v. v.items) result (R.remaining reader.old) }
-{
-    let bytes = read_bytes(alloc, reader);
-    if let Err(ScriptFault::ReadFailed) = &bytes {
-        notes.add_file(None);
-    }
-    bytes
-}
 
 /// Makes the steps of a script of these bytes on a new core, as of `run_script`.
 pub(crate) fn noted_run(
@@ -58,7 +43,7 @@ pub(crate) fn noted_script<R: Read>(
         (λ bytes. ReadsScript (λ v. v.items) result bytes) }
     ensures few { IfOk result (λ v. length v.items ≤ 16777217) }
 {
-    let bytes = noted_bytes(alloc, reader, notes)?;
+    let bytes = read_bytes(alloc, reader)?;
     let steps = read_script(alloc, &mut bytes.as_slice());
     if let Err(ScriptFault::BadLine { line }) = &steps {
         notes.add_line(bytes.as_slice(), *line);

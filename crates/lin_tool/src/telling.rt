@@ -69,7 +69,7 @@ pub(crate) fn put_fault<W: Write>(out: &mut TextWriter<'_, W>, fault: &Fault)
         Fault::LogFull => out.put_text("log full\n"),
         Fault::LogDiffers { line } => put_numbered(out, "log ", *line, " differs\n"),
         Fault::SlotLimit { line } => put_numbered(out, "script ", *line, " slot limit\n"),
-        Fault::BadBenchLine { .. } | Fault::Unmet { .. } => {}
+        Fault::BadBenchLine { .. } | Fault::BadLines | Fault::Unmet { .. } => {}
     }
 }
 

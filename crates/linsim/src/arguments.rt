@@ -5,7 +5,7 @@ use lin_tool::{Format, Lists, Settings, Wanted};
 use std::alloc::{AllocError, Global};
 
 const STATUS_NOTE: &str =
-    "Exit status: 0 done; 1 a fault of the input; 2 a wrong command line; 3 out of memory;\n4 a read or a write failed; 5 the run met a limit; 6 the log isn't that of its own steps (replay --same),\nor an expectation isn't met (play).\nA fault is one line on standard error; with --explain, lines below it say more.";
+    "Exit status: 0 done; 1 a fault of the input; 2 a wrong command line; 3 out of memory;\n4 a read or a write failed; 5 the run met a limit; 6 the log isn't that of its own steps (replay --same),\nor an expectation isn't met (play, live).\nA fault is one line on standard error; with --explain, lines below it say more.";
 
 const REPLAY_NOTE: &str =
     "Without FILE the cluster is the built-in one: the commander cem, the responder door with the diagnostic\naddress 1, and the schedule table diag with a master request and a slave response, 10 ms each.\n\nExample: linsim replay door.ldf --to csv < door.script > door.csv";
@@ -14,7 +14,10 @@ const RUN_NOTE: &str =
     "The script's steps are the hosts' own: sends, writes and closes, each by its host's port. They are put while the slots run,\nso where a step stands among the slots isn't fixed; the log, read by replay, is written again.";
 
 const PLAY_NOTE: &str =
-    "A bench script has the steps of replay's scripts, and lines of its own: slot, slots N, slots N ms, slots idle, slot hurt BYTES,\nslot leave NODE.., expect WHAT. Nodes, signals and schedule tables stand by their names or numbers. A bad line, and each\nexpectation that isn't met, is a line on standard error; the log is written before expectations are told.\n\nExample: linsim play door.ldf < door.bench > door.log";
+    "A bench script has the steps of replay's scripts, and lines of its own: slot, slots N, slots N ms, slots N until WHAT,\nslots idle, slot hurt BYTES, slot leave NODE.., expect WHAT, forget. Nodes, signals and schedule tables stand by their names\nor numbers. A bad line, and each expectation that isn't met, is a line on standard error; the log is written before\nexpectations are told.\n\nExample: linsim play door.ldf door.bench > door.log";
+
+const LIVE_NOTE: &str =
+    "Lines are those of bench scripts, and questions: ? signal NODE SIGNAL, ? waiting NODE, ? idle, ? time, ? asleep, ? next.\nEach is answered before the next is read: the log of its entries, and a line that begins with #.\n\nExample: linsim live door.ldf < door.bench";
 
 const CHECK_NOTE: &str =
     "On standard output: node NUMBER NAME NAD (- for none), signal NUMBER NAME, table NUMBER NAME ENTRIES, one a line.\nOn standard error: ldf LINE:COLUMN fault NUMBER NAME for the first fault of the text, or ldf too long above 4,194,304 bytes;\notherwise a line LINE:COLUMN finding NUMBER NAME for each reason why it describes no cluster.";
@@ -23,6 +26,12 @@ fn file<'a>(alloc: Global) -> Arg<'a> {
     Arg::new(alloc, "file")
         .value_name("FILE")
         .help("The LDF file of the cluster")
+}
+
+fn script<'a>(alloc: Global) -> Arg<'a> {
+    Arg::new(alloc, "script").value_name("SCRIPT").help(
+        "The file of the bench script; without it, or as -, standard input",
+    )
 }
 
 fn table<'a>(alloc: Global) -> Arg<'a> {
@@ -139,13 +148,26 @@ fn run<'a>(alloc: Global) -> Result<Command<'a>, AllocError> {
 fn play<'a>(alloc: Global) -> Result<Command<'a>, AllocError> {
     Command::new(alloc, "play")
         .about(
-            "Makes the slots and steps of a bench script from standard input, writes the log, and judges what is expected",
+            "Makes the slots and steps of a bench script, writes the log, and judges what is expected",
         )
         .after_help(PLAY_NOTE)
         .arg(file(alloc).required(true))?
+        .arg(script(alloc))?
         .arg(table(alloc))?
         .arg(capacity(alloc))?
         .arg(format(alloc))?
+        .arg(explain(alloc))
+}
+
+fn live<'a>(alloc: Global) -> Result<Command<'a>, AllocError> {
+    Command::new(alloc, "live")
+        .about(
+            "Answers each line of a bench script, and questions, on standard output before it reads the next one",
+        )
+        .after_help(LIVE_NOTE)
+        .arg(file(alloc).required(true))?
+        .arg(table(alloc))?
+        .arg(capacity(alloc))?
         .arg(explain(alloc))
 }
 
@@ -157,6 +179,7 @@ fn command<'a>(alloc: Global) -> Result<Command<'a>, AllocError> {
         .after_help(STATUS_NOTE)
         .subcommand_required(true)
         .subcommand(check(alloc)?)?
+        .subcommand(live(alloc)?)?
         .subcommand(play(alloc)?)?
         .subcommand(replay(alloc)?)?
         .subcommand(run(alloc)?)
@@ -173,15 +196,27 @@ pub(crate) struct Asked<'a> {
 #[derive(Clone, Copy)]
 pub(crate) enum Request<'a> {
     /// `linsim check FILE [--frames] [--slots]`
-    Check { file: &'a str, lists: Lists },
-    /// `linsim play FILE [--table T] [--capacity N] [--to FORMAT]`
-    Play(Settings<'a>),
+    Check {
+        file: &'a str,
+        lists: Lists,
+    },
+    /// `linsim live FILE [--table T] [--capacity N]`
+    Live(Settings<'a>),
+    /// `linsim play FILE [SCRIPT] [--table T] [--capacity N] [--to FORMAT]`; without a script's file
+    /// it is read from standard input.
+    Play {
+        settings: Settings<'a>,
+        script: Option<&'a str>,
+    },
     /// `linsim replay [FILE] [--table T] [--capacity N] [--to FORMAT]`
     Replay(Settings<'a>),
     /// `linsim replay [FILE] [--table T] [--capacity N] --same`
     Compare(Settings<'a>),
     /// `linsim run FILE --slots N [--table T] [--capacity N] [--to FORMAT]`
-    Run { settings: Settings<'a>, slots: u32 },
+    Run {
+        settings: Settings<'a>,
+        slots: u32,
+    },
 }
 
 /// The format of this word; the log's own text for any other. A picture tells the LDF by the name
@@ -232,7 +267,11 @@ fn request_of<'a>(matches: &ArgMatches<'a>) -> Option<Request<'a>> {
                 slots: found.get_flag("slots"),
             },
         }),
-        Some(("play", found)) => Some(Request::Play(settings_of(found))),
+        Some(("live", found)) => Some(Request::Live(settings_of(found))),
+        Some(("play", found)) => Some(Request::Play {
+            settings: settings_of(found),
+            script: found.get_str("script").filter(|path| *path != "-"),
+        }),
         Some(("replay", found)) if found.get_flag("same") => {
             Some(Request::Compare(settings_of(found)))
         }

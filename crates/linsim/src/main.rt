@@ -35,7 +35,10 @@ fn perform<R: AllocGlobal + Files + Input + Print + Eprint + Threads + Wait, W: 
 ) -> Result<(), Fault> {
     match request {
         Request::Check { file, lists } => lin_tool::check(rt, file, lists, notes),
-        Request::Play(settings) => lin_tool::play(rt, &settings, errors, notes),
+        Request::Live(settings) => lin_tool::live(rt, &settings, notes),
+        Request::Play { settings, script } => {
+            lin_tool::play(rt, &settings, script, errors, notes)
+        }
         Request::Replay(settings) => lin_tool::replay(rt, &settings, notes),
         Request::Compare(settings) => lin_tool::compare(rt, &settings, notes),
         Request::Run { settings, slots } => {
@@ -48,7 +51,8 @@ fn perform<R: AllocGlobal + Files + Input + Print + Eprint + Threads + Wait, W: 
 fn is_read(request: Request<'_>) -> bool {
     match request {
         Request::Check { file, .. } => file == "-",
-        Request::Play(_) | Request::Replay(_) | Request::Compare(_) | Request::Run { .. } => true,
+        Request::Play { script, .. } => script.is_none(),
+        Request::Live(_) | Request::Replay(_) | Request::Compare(_) | Request::Run { .. } => true,
     }
 }
 

@@ -1,0 +1,89 @@
+-- The entries of answers are the log.
+use Rattle.std.proofs.Common.{◌≡◌, ◌∙◌, ℕ, ◌-◌, List, [], ◌∷◌, ◌++◌, Bool, true, false, Option, Some, None, Result, Ok, Err, refl, sym, ap, append_assoc, append-nil, drop, flat_map, length, reverse, if◌then◌else◌, nat_lt}
+use Rattle.std.proofs.Math.Seq.{drop-append_seam}
+use Rattle.std.proofs.lemmas.List.{length-reverse, reverse-append}
+use Rattle.lin_cluster_parts.specs.declared.parts.Parts.{Parts}
+use Rattle.lin_core.specs.Runs.{entry_of}
+use Rattle.lin_core.specs.declared.log.LogEntry.{LogEntry}
+use Rattle.lin_core.specs.declared.port.PortId.{PortId}
+use Rattle.lin_core.specs.declared.step.Step.{Step}
+use Rattle.lin_bench.specs.Made.{BenchState, expects, judged, made, made_within, said, slots_made, stepped}
+use Rattle.lin_bench.specs.Slots.{after as after_steps, most}
+use Rattle.lin_bench.specs.declared.expected.Expected.{Expected}
+use Rattle.lin_bench.specs.declared.got.Verdict.TheVariants.{SlotLimit}
+use Rattle.lin_bench.specs.declared.line.Line.{Line}
+use Rattle.lin_bench.specs.declared.line.Line.TheVariants as line
+use Rattle.lin_log.specs.Words.{text}
+use Rattle.lin_live.specs.Answers.{AnswersAreTheLog, AnswersAreWritten, answers}
+use Rattle.lin_live.specs.Told.{HandData, answered, entries_since, heard_as, reply, told, unmarked}
+use Rattle.lin_live.specs.Transcript.{after, short, transcript}
+use Rattle.lin_live.specs.declared.heard.Heard.{Heard}
+use Rattle.lin_live.specs.declared.heard.Heard.TheVariants.{Ask, Make}
+use Rattle.lin_live.specs.declared.reason.Reason.{Reason}
+
+-- a history that others lead to
+abbrev Grown : List LogEntry → List LogEntry → Type 0
+Grown past later = (more : List LogEntry) × (reverse later ≡ reverse past ++ more)
+
+grown-after : (c : Parts) (opening capacity : ℕ) (past : List LogEntry) (ss : List (PortId × Step)) → Grown past (after_steps c opening capacity past ss)
+grown-after c opening capacity past [] = ([], sym (append-nil (reverse past)))
+grown-after c opening capacity past (s ∷ ss) =
+    let e = entry_of c opening capacity past s in
+    let g = grown-after c opening capacity (e ∷ past) ss in
+    (e ∷ g.0, g.1 ∙ ap (λ l. l ++ g.0) (reverse-append (e ∷ []) past) ∙ append_assoc (reverse past) (e ∷ []) g.0)
+
+grown-judged : (c : Parts) (b : BenchState) (what : Option Expected) (past : List LogEntry) → Grown past b.past → Grown past (judged c b what).0.past
+grown-judged c b None past g = g
+grown-judged c b (Some what) past g = g
+
+grown-within : (c : Parts) (opening capacity : ℕ) (b : BenchState) (count : ℕ) (steps first : List (PortId × Step)) (what : Option Expected)
+    → Grown b.past (made_within c opening capacity b count steps first what).0.past
+grown-within c opening capacity b count steps first what =
+    elim (nat_lt b.left count) as (λ t. Grown b.past (if t then (stepped c opening capacity b b.left first, SlotLimit) else judged c (stepped c opening capacity b count steps) what).0.past) [
+      | true ↦ grown-after c opening capacity b.past first
+      | false ↦ grown-judged c (stepped c opening capacity b count steps) what b.past (grown-after c opening capacity b.past steps)
+    ]
+
+grown-line : (c : Parts) (opening capacity : ℕ) (b : BenchState) (l : Line)
+    → Grown b.past (made_within c opening capacity b (slots_made l (said c opening capacity most b l)) (said c opening capacity most b l)
+    (said c opening capacity (λ extent. b.left) b l) (expects l)).0.past
+grown-line c opening capacity b l =
+    let steps = said c opening capacity most b l in
+    grown-within c opening capacity b (slots_made l steps) steps (said c opening capacity (λ extent. b.left) b l) (expects l)
+
+grown-made : (c : Parts) (opening capacity : ℕ) (b : BenchState) (l : Line) → Grown b.past (made c opening capacity b l).0.past
+unfolding made
+grown-made c opening capacity b (line.Step by step) = grown-line c opening capacity b (line.Step by step)
+grown-made c opening capacity b (line.Slot how) = grown-line c opening capacity b (line.Slot how)
+grown-made c opening capacity b (line.Slots extent) = grown-line c opening capacity b (line.Slots extent)
+grown-made c opening capacity b (line.Until extent what) = grown-line c opening capacity b (line.Until extent what)
+grown-made c opening capacity b (line.Expect what) = grown-line c opening capacity b (line.Expect what)
+grown-made c opening capacity b line.Forget = ([], sym (append-nil (reverse b.past)))
+
+-- the entries by which a history grew
+since : (past later : List LogEntry) → Grown past later → reverse later ≡ reverse past ++ entries_since past later
+since past later g =
+    g.1 ∙ ap (λ l. reverse past ++ l)
+    (sym (drop-append_seam (reverse past) g.0) ∙ ap (λ n. drop n (reverse past ++ g.0)) (length-reverse past) ∙ ap (drop (length past)) (sym g.1))
+
+told-grown : (h : HandData) (said : Result (Option Heard) Reason) → reverse (told h said).0.bench.past ≡ reverse h.bench.past ++ (told h said).1.entries
+told-grown h (Err why) = sym (append-nil (reverse h.bench.past))
+told-grown h (Ok None) = sym (append-nil (reverse h.bench.past))
+told-grown h (Ok (Some (Ask asked))) = sym (append-nil (reverse h.bench.past))
+told-grown h (Ok (Some (Make line))) =
+    since h.bench.past (made h.cluster h.opening h.capacity h.bench line).0.past (grown-made h.cluster h.opening h.capacity h.bench line)
+
+pub answers-are-the-log : AnswersAreTheLog
+answers-are-the-log h [] = sym (append-nil (reverse h.bench.past))
+answers-are-the-log h (line ∷ more) =
+    let a = answered h (short line) in
+    let rest = flat_map (λ b. b.entries) (answers a.0 more) in
+    answers-are-the-log a.0 more
+    ∙ ap (λ l. l ++ rest) (told-grown (record h { begun = true }) (heard_as h.cluster (unmarked h (short line))))
+    ∙ append_assoc (reverse h.bench.past) a.1.entries rest
+
+pub answers-are-written : AnswersAreWritten
+answers-are-written h [] = refl
+answers-are-written h (line ∷ more) =
+    let a = answered h (short line) in
+    ap (λ l. (text a.1.entries ++ a.1.last_line) ++ l) (answers-are-written a.0 more)

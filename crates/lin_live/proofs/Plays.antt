@@ -1,0 +1,241 @@
+-- Lines in hand come to what a play of them comes to.
+use Rattle.std.proofs.Common.{◌≡◌, ◌∙◌, ℕ, ◌≤◌, ◌<◌, ◌+◌, ◌-◌, Bool, true, false, ◌||◌, nat_le, nat_lt, List, [], ◌∷◌, ◌++◌, Option, Some, None, Result, Ok, Err, refl, sym, ap, subst, arith, length, map, if◌then◌else◌}
+use Rattle.std.proofs.lemmas.Grind.{common_steps}
+use Rattle.std.specs.List.{AllByRecursion}
+use Rattle.std.specs.Str.Lines.{strip_carriage_return}
+use Rattle.lin_cluster_parts.specs.declared.parts.Parts.{Parts}
+use Rattle.lin_core.specs.declared.port.PortId.{PortId}
+use Rattle.lin_core.specs.declared.step.Step.{Step}
+use Rattle.lin_bench.specs.Fields.{fields}
+use Rattle.lin_bench.specs.Lines.{Script, read_line, read_lines, with_line, with_said}
+use Rattle.lin_bench.specs.Made.{BenchState, expects, judged, made, made_within, said as steps_said, slots_made, stepped}
+use Rattle.lin_bench.specs.Played.{Run, first, in_turn, next, played, told as run_told}
+use Rattle.lin_bench.specs.Slots.{most, slot_limit}
+use Rattle.lin_bench.specs.declared.expected.Expected.{Expected}
+use Rattle.lin_bench.specs.declared.got.Unmet.{Unmet as Missed}
+use Rattle.lin_bench.specs.declared.got.Verdict.{Verdict}
+use Rattle.lin_bench.specs.declared.got.Verdict.TheVariants.{Nothing, Met, Unmet, SlotLimit}
+use Rattle.lin_bench.specs.declared.line.Line.{Line}
+use Rattle.lin_bench.specs.declared.line.Line.TheVariants as line
+use Rattle.lin_bench.specs.declared.reason.Reason.{Reason}
+use Rattle.lin_live.specs.Heard.{heard, heard_in, of_script}
+use Rattle.lin_live.specs.Told.{HandData, after_line, answered, is_limit, is_unmet, reply, told}
+use Rattle.lin_live.specs.Transcript.{after, most_bytes, short}
+use Rattle.lin_live.specs.Play.{IsPlain, LiveIsPlay, asks, in_hand_of, is_missed}
+
+-- ---- a bench with room for more slots
+abbrev pub Alike : BenchState × Verdict → BenchState × Verdict → Type 0
+Alike m k = (k.0.past ≡ m.0.past) × (k.0.taken ≡ m.0.taken) × (k.1 ≡ m.1)
+
+alike-by : (t s : Bool) (a b : BenchState) (x y : BenchState × Verdict) → is_limit (if t then (a, SlotLimit) else x).1 ≡ false → (t ≡ false → s ≡ false) → Alike x y
+    → Alike (if t then (a, SlotLimit) else x) (if s then (b, SlotLimit) else y)
+alike-by true s a b x y h g k = absurd (cc)
+alike-by false true a b x y h g k = let e = g refl in absurd (cc)
+alike-by false false a b x y h g k = k
+
+alike-judged : (c : Parts) (b d : BenchState) (what : Option Expected) → d.past ≡ b.past → d.taken ≡ b.taken → Alike (judged c b what) (judged c d what)
+alike-judged c b d None e f = (e, f, refl)
+alike-judged c b d (Some what) e f = (e, rw (e, f) refl, rw (e, f) refl)
+
+alike-within : (c : Parts) (opening capacity : ℕ) (b : BenchState) (more count : ℕ) (steps few many : List (PortId × Step)) (what : Option Expected)
+    → b.left ≤ more → is_limit (made_within c opening capacity b count steps few what).1 ≡ false
+    → Alike (made_within c opening capacity b count steps few what) (made_within c opening capacity (record b { left = more }) count steps many what)
+alike-within c opening capacity b more count steps few many what le h =
+    let d = record b { left = more } in
+    alike-by (nat_lt b.left count) (nat_lt more count) (stepped c opening capacity b b.left few) (stepped c opening capacity d more many)
+    (judged c (stepped c opening capacity b count steps) what) (judged c (stepped c opening capacity d count steps) what) h
+    (λ e. grind (arith, common_steps))
+    (alike-judged c (stepped c opening capacity b count steps) (stepped c opening capacity d count steps) what refl refl)
+
+abbrev pub AlikeLine : Parts → ℕ → ℕ → BenchState → ℕ → Line → Type 0
+AlikeLine c opening capacity b more l =
+    is_limit (made c opening capacity b l).1 ≡ false → Alike (made c opening capacity b l) (made c opening capacity (record b { left = more }) l)
+
+alike-line : (c : Parts) (opening capacity : ℕ) (b : BenchState) (more : ℕ) (l : Line) → b.left ≤ more
+    → let steps = steps_said c opening capacity most b l in
+    let few = steps_said c opening capacity (λ extent. b.left) b l in
+    let many = steps_said c opening capacity (λ extent. more) b l in
+    is_limit (made_within c opening capacity b (slots_made l steps) steps few (expects l)).1 ≡ false
+    → Alike (made_within c opening capacity b (slots_made l steps) steps few (expects l))
+    (made_within c opening capacity (record b { left = more }) (slots_made l steps) steps many (expects l))
+alike-line c opening capacity b more l le =
+    alike-within c opening capacity b more (slots_made l (steps_said c opening capacity most b l)) (steps_said c opening capacity most b l)
+    (steps_said c opening capacity (λ extent. b.left) b l) (steps_said c opening capacity (λ extent. more) b l) (expects l) le
+
+alike-made : (c : Parts) (opening capacity : ℕ) (b : BenchState) (more : ℕ) (l : Line) → b.left ≤ more → AlikeLine c opening capacity b more l
+unfolding made steps_said
+alike-made c opening capacity b more (line.Step by step) le = alike-line c opening capacity b more (line.Step by step) le
+alike-made c opening capacity b more (line.Slot how) le = alike-line c opening capacity b more (line.Slot how) le
+alike-made c opening capacity b more (line.Slots extent) le = alike-line c opening capacity b more (line.Slots extent) le
+alike-made c opening capacity b more (line.Until extent what) le = alike-line c opening capacity b more (line.Until extent what) le
+alike-made c opening capacity b more (line.Expect what) le = alike-line c opening capacity b more (line.Expect what) le
+alike-made c opening capacity b more line.Forget le = λ h. (refl, refl, refl)
+
+-- ---- slots that are left
+less-within : (c : Parts) (opening capacity : ℕ) (b : BenchState) (count : ℕ) (steps few : List (PortId × Step)) (what : Option Expected)
+    → (made_within c opening capacity b count steps few what).0.left ≤ b.left
+less-within c opening capacity b count steps few None =
+    elim (nat_lt b.left count) as (λ t. (if t then (stepped c opening capacity b b.left few, SlotLimit) else judged c (stepped c opening capacity b count steps) None).0.left ≤ b.left) [
+      | true ↦ omega arith
+      | false ↦ omega arith
+    ]
+less-within c opening capacity b count steps few (Some what) =
+    elim (nat_lt b.left count) as (λ t. (if t then (stepped c opening capacity b b.left few, SlotLimit) else judged c (stepped c opening capacity b count steps) (Some what)).0.left ≤ b.left) [
+      | true ↦ omega arith
+      | false ↦ omega arith
+    ]
+
+less-line : (c : Parts) (opening capacity : ℕ) (b : BenchState) (l : Line)
+    → let steps = steps_said c opening capacity most b l in
+    (made_within c opening capacity b (slots_made l steps) steps (steps_said c opening capacity (λ extent. b.left) b l) (expects l)).0.left ≤ b.left
+less-line c opening capacity b l =
+    less-within c opening capacity b (slots_made l (steps_said c opening capacity most b l)) (steps_said c opening capacity most b l)
+    (steps_said c opening capacity (λ extent. b.left) b l) (expects l)
+
+less-made : (c : Parts) (opening capacity : ℕ) (b : BenchState) (l : Line) → (made c opening capacity b l).0.left ≤ b.left
+unfolding made
+less-made c opening capacity b (line.Step by step) = less-line c opening capacity b (line.Step by step)
+less-made c opening capacity b (line.Slot how) = less-line c opening capacity b (line.Slot how)
+less-made c opening capacity b (line.Slots extent) = less-line c opening capacity b (line.Slots extent)
+less-made c opening capacity b (line.Until extent what) = less-line c opening capacity b (line.Until extent what)
+less-made c opening capacity b (line.Expect what) = less-line c opening capacity b (line.Expect what)
+less-made c opening capacity b line.Forget = omega arith
+
+-- ---- one line
+abbrev unmet_of : Result Run ℕ → List Missed
+unmet_of (Ok r) = r.unmet
+unmet_of (Err n) = []
+
+missed-more : (ms : List Missed) (m : Missed) → is_missed (ms ++ m ∷ []) ≡ true
+missed-more [] m = refl
+missed-more (x ∷ ms) m = refl
+
+or-more : (x : Bool) → (x || true) ≡ true
+or-more true = refl
+or-more false = refl
+
+or-none : (x : Bool) → (x || false) ≡ x
+or-none true = refl
+or-none false = refl
+
+not-limit : (n : ℕ) (missed : List Missed) (b : BenchState) (v : Verdict) (r : Run) → run_told n missed b v ≡ Ok r → is_limit v ≡ false
+not-limit n missed b SlotLimit r h = absurd (cc)
+not-limit n missed b (Unmet what got) r h = refl
+not-limit n missed b Nothing r h = refl
+not-limit n missed b (Met what) r h = refl
+
+-- what a play has come to after a line
+abbrev pub CameTo : List Missed → BenchState → Verdict → Run → Type 0
+CameTo missed b v r = (r.bench ≡ b) × ((is_missed missed || is_unmet v) ≡ is_missed r.unmet)
+
+pub came-to : (n : ℕ) (missed : List Missed) (b : BenchState) (v : Verdict) (r : Run) → run_told n missed b v ≡ Ok r → CameTo missed b v r
+came-to n missed b SlotLimit r h = absurd (cc)
+came-to n missed b (Unmet what got) r h = (cc, or-more (is_missed missed) ∙ sym (missed-more missed _) ∙ ap (λ (e : Result Run ℕ). is_missed (unmet_of e)) h)
+came-to n missed b Nothing r h = (cc, or-none (is_missed missed) ∙ ap (λ (e : Result Run ℕ). is_missed (unmet_of e)) h)
+came-to n missed b (Met what) r h = (cc, or-none (is_missed missed) ∙ ap (λ (e : Result Run ℕ). is_missed (unmet_of e)) h)
+
+abbrev hand_with : Parts → ℕ → ℕ → BenchState → Bool → Bool → HandData
+hand_with c opening capacity b bad unmet = record {
+  cluster = c;
+  opening = opening;
+  capacity = capacity;
+  bench = record b { left = slot_limit };
+  begun = true;
+  was_bad = bad;
+  was_unmet = unmet;
+}
+
+same-hand : (c : Parts) (opening capacity : ℕ) (p q : BenchState) (bad unmet wanted : Bool) → p.past ≡ q.past → p.taken ≡ q.taken → bad ≡ false → unmet ≡ wanted
+    → hand_with c opening capacity p bad unmet ≡ hand_with c opening capacity q false wanted
+same-hand c opening capacity p q bad unmet wanted e f g h = cc
+
+line-same : (c : Parts) (opening capacity : ℕ) (r s : Run) (l : ℕ × Line) → r.bench.left ≤ slot_limit → next c opening capacity r l ≡ Ok s
+    → (after_line (in_hand_of c opening capacity r) (made c opening capacity (in_hand_of c opening capacity r).bench l.1)).0 ≡ in_hand_of c opening capacity s
+line-same c opening capacity r s l le h =
+    let m = made c opening capacity r.bench l.1 in
+    let k = made c opening capacity (record r.bench { left = slot_limit }) l.1 in
+    let limit = not-limit l.0 r.unmet m.0 m.1 s h in
+    let alike = alike-made c opening capacity r.bench slot_limit l.1 le limit in
+    let came = came-to l.0 r.unmet m.0 m.1 s h in
+    same-hand c opening capacity k.0 s.bench (is_limit k.1) (is_missed r.unmet || is_unmet k.1) (is_missed s.unmet)
+    (alike.0 ∙ ap (λ (b : BenchState). b.past) (sym came.0)) (alike.1 ∙ ap (λ (b : BenchState). b.taken) (sym came.0))
+    (ap is_limit alike.2 ∙ limit) (ap (λ v. is_missed r.unmet || is_unmet v) alike.2 ∙ came.1)
+
+line-less : (c : Parts) (opening capacity : ℕ) (r s : Run) (l : ℕ × Line) → r.bench.left ≤ slot_limit → next c opening capacity r l ≡ Ok s → s.bench.left ≤ slot_limit
+line-less c opening capacity r s l le h =
+    let m = made c opening capacity r.bench l.1 in
+    let came = came-to l.0 r.unmet m.0 m.1 s h in
+    let less = less-made c opening capacity r.bench l.1 in
+    let same : s.bench.left ≡ m.0.left = ap (λ (b : BenchState). b.left) came.0 in
+    omega (arith, le, less, same)
+
+-- ---- what a line says
+short-line : (line : List ℕ) → length line ≤ most_bytes → short line ≡ Some line
+short-line line h = let e : nat_le (length line) most_bytes ≡ true = grind (arith, common_steps) in rw e refl
+
+heard-plain : (c : Parts) (line : List ℕ) (fs : List (List ℕ)) → asks fs ≡ false → heard_in c line fs ≡ of_script (read_line c line)
+heard-plain c line [] h = refl
+heard-plain c line (w ∷ fs) h = rw h refl
+
+answer-of : (c : Parts) (opening capacity : ℕ) (r : Run) (line : List ℕ) (said : Result (Option Line) Reason)
+    → (length line ≤ most_bytes) × (asks (fields line) ≡ false) → read_line c line ≡ said
+    → (reply (in_hand_of c opening capacity r) (short line)).0 ≡ (told (in_hand_of c opening capacity r) (of_script said)).0
+answer-of c opening capacity r line said plain e =
+    let h = in_hand_of c opening capacity r in
+    ap (λ o. (reply h o).0) (short-line line plain.0)
+    ∙ ap (λ s. (told h s).0) (heard-plain c line (fields line) plain.1 ∙ ap of_script e)
+
+-- ---- all lines
+abbrev lines_or : Script → List (ℕ × Line)
+lines_or (Ok ls) = ls
+lines_or (Err bad) = []
+
+abbrev run_or : Run → Result Run ℕ → Run
+run_or r (Ok s) = s
+run_or r (Err n) = r
+
+abbrev pub Same : Parts → ℕ → ℕ → List (List ℕ) → Run → Run → Type 0
+Same c opening capacity ls r run =
+    after reply (in_hand_of c opening capacity r) (map strip_carriage_return ls) ≡ in_hand_of c opening capacity run
+
+abbrev pub Goes : Parts → ℕ → ℕ → List (List ℕ) → Type 0
+Goes c opening capacity ls = (n : ℕ) (r run : Run) (said : List (ℕ × Line)) → r.bench.left ≤ slot_limit
+    → read_lines c n ls ≡ Ok said → in_turn c opening capacity (Ok r) said ≡ Ok run → Same c opening capacity ls r run
+
+nothing-goes : (c : Parts) (opening capacity : ℕ) → Goes c opening capacity []
+nothing-goes c opening capacity n r run [] le e h = ap (λ o. in_hand_of c opening capacity (run_or r o)) h
+nothing-goes c opening capacity n r run (x ∷ xs) le e h = absurd (cc)
+
+-- after a line that was made
+next-goes : (c : Parts) (opening capacity : ℕ) (r run : Run) (l : ℕ × Line) (line : List ℕ) (ls : List (List ℕ)) (rest : List (ℕ × Line)) (o : Result Run ℕ)
+    → r.bench.left ≤ slot_limit → Goes c opening capacity ls → (n : ℕ) → read_lines c n ls ≡ Ok rest
+    → (reply (in_hand_of c opening capacity r) (short (strip_carriage_return line))).0
+    ≡ (after_line (in_hand_of c opening capacity r) (made c opening capacity (in_hand_of c opening capacity r).bench l.1)).0
+    → next c opening capacity r l ≡ o → in_turn c opening capacity o rest ≡ Ok run → Same c opening capacity (line ∷ ls) r run
+next-goes c opening capacity r run l line ls rest (Err k) le goes n e a is h = absurd (cc)
+next-goes c opening capacity r run l line ls rest (Ok s) le goes n e a is h =
+    ap (λ t. after reply t (map strip_carriage_return ls)) (a ∙ line-same c opening capacity r s l le is)
+    ∙ goes n s run rest (line-less c opening capacity r s l le is) e h
+
+-- a line that says this, with those after it
+line-goes : (c : Parts) (opening capacity n : ℕ) (r run : Run) (line : List ℕ) (ls : List (List ℕ)) (said : List (ℕ × Line)) (this : Result (Option Line) Reason) (more : Script)
+    → r.bench.left ≤ slot_limit → IsPlain line → Goes c opening capacity ls → read_line c (strip_carriage_return line) ≡ this
+    → read_lines c (n + 1) ls ≡ more → with_said n this more ≡ Ok said → in_turn c opening capacity (Ok r) said ≡ Ok run → Same c opening capacity (line ∷ ls) r run
+line-goes c opening capacity n r run line ls said (Err why) more le plain goes is rest e h = absurd (cc)
+line-goes c opening capacity n r run line ls said (Ok None) more le plain goes is rest e h =
+    ap (λ t. after reply t (map strip_carriage_return ls)) (answer-of c opening capacity r (strip_carriage_return line) (Ok None) plain is)
+    ∙ goes (n + 1) r run said le (rest ∙ e) h
+line-goes c opening capacity n r run line ls said (Ok (Some l)) (Err bad) le plain goes is rest e h = absurd (cc)
+line-goes c opening capacity n r run line ls [] (Ok (Some l)) (Ok tail) le plain goes is rest e h = absurd (cc)
+line-goes c opening capacity n r run line ls (x ∷ said) (Ok (Some l)) (Ok tail) le plain goes is rest e h =
+    next-goes c opening capacity r run (n, l) line ls tail (next c opening capacity r (n, l)) le goes (n + 1) rest
+    (answer-of c opening capacity r (strip_carriage_return line) (Ok (Some l)) plain is) refl
+    (ap (λ (s : Script). in_turn c opening capacity (Ok r) (lines_or s)) e ∙ h)
+
+all-go : (c : Parts) (opening capacity : ℕ) (ls : List (List ℕ)) → AllByRecursion IsPlain ls → Goes c opening capacity ls
+all-go c opening capacity [] p = nothing-goes c opening capacity
+all-go c opening capacity (line ∷ ls) p = λ n r run said le e h.
+    line-goes c opening capacity n r run line ls said (read_line c (strip_carriage_return line)) (read_lines c (n + 1) ls) le p.0 (all-go c opening capacity ls p.1) refl refl e h
+
+pub live-is-play : LiveIsPlay
+live-is-play c opening capacity ls said run plain e h = all-go c opening capacity ls plain 1 first run said (omega arith) e h

@@ -1,0 +1,36 @@
+-- The reply to a line, by what it says.
+use Rattle.std.proofs.Common.{◌≡◌, ◌∙◌, ◌<◌, ◌-◌, ◌^◌, ℕ, Bool, true, List, Option, Result, Ok, Err, ap, length, subst, sym}
+use Rattle.lin_live.specs.Hand.{hand_data}
+use Rattle.lin_live.specs.Serving.{Replies, Tells}
+use Rattle.lin_live.specs.Told.{HandData, IsFull, answered, heard_as, reply, told, unmarked, written}
+use Rattle.lin_live.specs.declared.fault.Fault.{Fault}
+use Rattle.lin_live.specs.declared.fault.Fault.TheVariants.{LogFull, OutOfMemory, ReadFailed, WriteFailed}
+use Rattle.lin_live.specs.declared.hand.Hand.TheInside.{Inside}
+use Rattle.lin_live.specs.declared.heard.Heard.{Heard}
+use Rattle.lin_live.specs.declared.reason.Reason.{Reason}
+
+-- where there is always a place
+pub tells-anyway : {S : Type 0} (p : S × List ℕ) (full : Type 0) (t : S) (old new : Option (List ℕ)) (result : Result Unit Fault)
+    → Tells p ⊥ t old new result → Tells p full t old new result
+tells-anyway p full t old new (Ok done) h = h
+tells-anyway p full t old new (Err WriteFailed) h = h
+tells-anyway p full t old new (Err OutOfMemory) h = h
+tells-anyway p full t old new (Err LogFull) h = absurd h.1
+tells-anyway p full t old new (Err ReadFailed) h = h
+
+-- a bench in hand to which there was a line
+abbrev pub begun_data : Inside → HandData
+begun_data a = record (hand_data a) { begun = true }
+
+-- telling what a line says, which is this
+pub replies-so : (a : Inside) (s : HandData) (line heard : Option (List ℕ)) (said : Result (Option Heard) Reason)
+    (t : HandData) (old new : Option (List ℕ)) (result : Result Unit Fault)
+    → hand_data a ≡ s → heard ≡ unmarked s line → heard_as a.bench.core.cluster heard ≡ said
+    → Tells (written (told (begun_data a) said)) (2 ^ 32 - 1 < length (told (begun_data a) said).0.bench.past) t old new result
+    → Replies reply IsFull s t old new line result
+replies-so a s line heard said t old new result is_a is_heard is_said h =
+    let here : heard ≡ unmarked (hand_data a) line = is_heard ∙ ap (λ v. unmarked v line) (sym is_a) in
+    let says : reply (hand_data a) line ≡ written (told (begun_data a) said) =
+    ap (λ r. written (told (begun_data a) r)) (ap (heard_as a.bench.core.cluster) (sym here) ∙ is_said) in
+    subst (λ v. Replies reply IsFull v t old new line result) is_a
+    (subst (λ (p : HandData × List ℕ). Tells p (2 ^ 32 - 1 < length p.0.bench.past) t old new result) (sym says) h)

@@ -1,0 +1,21 @@
+-- The answers to lines: what they tell, together, and how they are written.
+use Rattle.std.specs.Prelude.{◌≡◌, ℕ, List, [], ◌∷◌, ◌++◌, flat_map, reverse}
+use Rattle.lin_log.specs.Words.{text}
+use Rattle.lin_live.specs.Told.{Answer, HandData, answered, reply}
+use Rattle.lin_live.specs.Transcript.{after, short, transcript}
+
+-- what is answered to lines, each after those before it
+abbrev pub answers : HandData → List (List ℕ) → List Answer
+answers h [] = []
+answers h (line ∷ more) = (answered h (short line)).1 ∷ answers (answered h (short line)).0 more
+
+-- the entries that the answers tell are those by which the log has grown, in order
+abbrev pub AnswersAreTheLog : Type 0
+AnswersAreTheLog = (h : HandData) (ls : List (List ℕ))
+    → reverse (after reply h ls).bench.past
+    ≡ reverse h.bench.past ++ flat_map (λ a. a.entries) (answers h ls)
+
+-- a transcript has nothing but the texts of entries, and a last line for each line
+abbrev pub AnswersAreWritten : Type 0
+AnswersAreWritten = (h : HandData) (ls : List (List ℕ))
+    → transcript reply h ls ≡ flat_map (λ a. text a.entries ++ a.last_line) (answers h ls)

@@ -1,0 +1,98 @@
+-- Questions: what is asked by the fields after `?`.
+use Rattle.std.specs.Prelude.{◌≡◌, ℕ, ◌<◌, ◌&&◌, nat_lt, if◌then◌else◌, List, [], ◌∷◌, length}
+use Rattle.std.specs.Prelude.{Result, Ok, Err, codes}
+use Rattle.std.specs.Str.{bytes_eq}
+use Rattle.lin_cluster_parts.specs.Cluster.{nodes}
+use Rattle.lin_cluster_parts.specs.declared.parts.Parts.{Parts}
+use Rattle.lin_log.specs.Language.{named}
+use Rattle.lin_log.specs.Said.{node_field, signal_field}
+use Rattle.lin_log.specs.declared.reason.LineFault.{LineFault as StepFault}
+use Rattle.lin_log.specs.declared.reason.LineFault.TheVariants as faults
+use Rattle.lin_log.specs.declared.reason.Reason.{Reason as StepReason}
+use Rattle.lin_bench.specs.declared.reason.Reason.TheVariants.{Step}
+use Rattle.lin_bench.specs.declared.fault.LineFault.{LineFault as ScriptFault}
+use Rattle.lin_bench.specs.declared.fault.LineFault.TheVariants as scripts
+use Rattle.lin_live.specs.declared.question.Question.{Question}
+use Rattle.lin_live.specs.declared.question.Question.TheVariants.{Signal, Waiting, Idle, Time}
+use Rattle.lin_live.specs.declared.question.Question.TheVariants.{Asleep, Next}
+use Rattle.lin_live.specs.declared.reason.LineFault.{LineFault}
+use Rattle.lin_live.specs.declared.reason.LineFault.TheVariants.{Bad, OutOfMemory}
+use Rattle.lin_live.specs.declared.reason.Reason.{Reason}
+use Rattle.lin_live.specs.declared.reason.Reason.TheVariants.{Script, AskForm, UnknownQuestion}
+use Rattle.lin_live.specs.declared.reason.Reason.TheVariants.{NoNode, NoNodeOrSignal}
+
+-- what is said in turn: the first bad part says why
+infixl 10 ◌>>=◌
+abbrev pub ◌>>=◌ : {A B : Type 0} → Result A Reason → (A → Result B Reason) → Result B Reason
+Ok x >>= f = f x
+Err why >>= f = Err why
+
+-- a field, as lines of steps have it
+abbrev pub of_step : {A : Type 0} → Result A StepReason → Result A Reason
+of_step (Ok x) = Ok x
+of_step (Err why) = Err (Script (Step why))
+
+abbrev pub signal_asked : Parts → List ℕ → List ℕ → Result Question Reason
+signal_asked c n s =
+    of_step (node_field (named c) n)
+    >>= (λ node. of_step (signal_field (named c) s)
+    >>= (λ signal. if nat_lt node (nodes c) && nat_lt signal (length c.signals)
+    then Ok (Signal node signal) else Err NoNodeOrSignal))
+
+abbrev pub node_question : Parts → List ℕ → Result Question Reason
+node_question c n =
+    of_step (node_field (named c) n)
+    >>= (λ host. if nat_lt host (nodes c) then Ok (Waiting host) else Err NoNode)
+
+-- the forms of questions: all fields after `?`, which are shown where there is no form of them, and
+-- those after the first word. A wrong number of fields is no form
+abbrev pub signal_question : Parts → List (List ℕ) → List (List ℕ) → Result Question Reason
+signal_question c all (n ∷ s ∷ []) = signal_asked c n s
+signal_question c all fs = Err (UnknownQuestion all)
+
+abbrev pub waiting_question : Parts → List (List ℕ) → List (List ℕ) → Result Question Reason
+waiting_question c all (n ∷ []) = node_question c n
+waiting_question c all fs = Err (UnknownQuestion all)
+
+abbrev pub lone_question : List (List ℕ) → Question → List (List ℕ) → Result Question Reason
+lone_question all what [] = Ok what
+lone_question all what (f ∷ fs) = Err (UnknownQuestion all)
+
+-- the question that a word names, with the fields after it
+abbrev pub word_question : Parts → List (List ℕ) → List ℕ → List (List ℕ) → Result Question Reason
+word_question c all word fs =
+    if bytes_eq word (codes "signal") then signal_question c all fs
+    else if bytes_eq word (codes "waiting") then waiting_question c all fs
+    else if bytes_eq word (codes "idle") then lone_question all Idle fs
+    else if bytes_eq word (codes "time") then lone_question all Time fs
+    else if bytes_eq word (codes "asleep") then lone_question all Asleep fs
+    else if bytes_eq word (codes "next") then lone_question all Next fs
+    else Err (UnknownQuestion all)
+
+-- what is asked, by the fields after `?`
+unfoldable pub question : Parts → List (List ℕ) → Result Question Reason
+question c [] = Err AskForm
+question c (word ∷ fs) = word_question c (word ∷ fs) word fs
+
+-- what is asked for is there
+abbrev pub IsAskable : Parts → Question → Type 0
+IsAskable c (Signal node signal) = (node < nodes c) × (signal < length c.signals)
+IsAskable c (Waiting host) = host < nodes c
+IsAskable c asked = Unit {0}
+
+-- ---- what reading a question answers, beside what the definition reads
+abbrev pub step_fault : StepFault → LineFault
+step_fault (faults.Bad why) = Bad (Script (Step why))
+step_fault faults.OutOfMemory = OutOfMemory
+
+abbrev pub script_fault : ScriptFault → LineFault
+script_fault (scripts.Bad why) = Bad (Script why)
+script_fault scripts.OutOfMemory = OutOfMemory
+
+abbrev pub Fails : {Y : Type 0} → LineFault → Result Y Reason → Type 0
+Fails (Bad why) read = read ≡ Err why
+Fails OutOfMemory read = Unit {0}
+
+abbrev pub Gives : {Y : Type 0} → Result Y LineFault → Result Y Reason → Type 0
+Gives (Ok x) read = read ≡ Ok x
+Gives (Err e) read = Fails e read

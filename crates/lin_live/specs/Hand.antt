@@ -1,0 +1,37 @@
+-- What contracts see of a bench in hand.
+use Rattle.std.specs.Prelude.{[], false}
+use Rattle.lin_core.specs.Core.{CoreData, past_of}
+use Rattle.lin_bench.specs.Bench.{fresh, renewed, state_of}
+use Rattle.lin_bench.specs.declared.fault.MakeFault.{MakeFault}
+use Rattle.lin_bench.specs.declared.fault.MakeFault.TheVariants as makes
+use Rattle.lin_live.specs.Told.{HandData}
+use Rattle.lin_live.specs.declared.fault.Fault.{Fault}
+use Rattle.lin_live.specs.declared.fault.Fault.TheVariants.{LogFull, OutOfMemory}
+use Rattle.lin_live.specs.declared.hand.Hand.TheInside.{Inside}
+
+abbrev pub hand_data : Inside → HandData
+hand_data a = record {
+  cluster = a.bench.core.cluster;
+  opening = a.bench.core.opening;
+  capacity = a.bench.core.capacity;
+  bench = state_of (renewed a.bench);
+  begun = a.begun;
+  was_bad = a.was_bad;
+  was_unmet = a.was_unmet;
+}
+
+-- a bench in hand on which no line was made
+abbrev pub begins : CoreData → HandData
+begins core = record {
+  cluster = core.cluster;
+  opening = core.opening;
+  capacity = core.capacity;
+  bench = state_of (fresh core);
+  begun = false;
+  was_bad = false;
+  was_unmet = false;
+}
+
+abbrev pub fault_of : MakeFault → Fault
+fault_of makes.LogFull = LogFull
+fault_of makes.OutOfMemory = OutOfMemory

@@ -1,0 +1,35 @@
+-- What a line says to a bench in hand: a question, or what a line of a bench script does.
+use Rattle.std.specs.Prelude.{ℕ, if◌then◌else◌, List, [], ◌∷◌, Option, Some, None, Result, Ok, Err}
+use Rattle.std.specs.Prelude.{codes}
+use Rattle.std.specs.Str.{bytes_eq}
+use Rattle.lin_cluster_parts.specs.declared.parts.Parts.{Parts}
+use Rattle.lin_bench.specs.Fields.{fields}
+use Rattle.lin_bench.specs.Lines.{read_line}
+use Rattle.lin_bench.specs.declared.line.Line.{Line}
+use Rattle.lin_bench.specs.declared.reason.Reason.{Reason as ScriptReason}
+use Rattle.lin_live.specs.Asked.{◌>>=◌, IsAskable, question}
+use Rattle.lin_live.specs.declared.heard.Heard.{Heard}
+use Rattle.lin_live.specs.declared.heard.Heard.TheVariants.{Ask, Make}
+use Rattle.lin_live.specs.declared.reason.Reason.{Reason}
+use Rattle.lin_live.specs.declared.reason.Reason.TheVariants.{Script}
+
+abbrev pub of_script : Result (Option Line) ScriptReason → Result (Option Heard) Reason
+of_script (Ok None) = Ok None
+of_script (Ok (Some line)) = Ok (Some (Make line))
+of_script (Err why) = Err (Script why)
+
+-- by the first field, what is asked by those after a `?`, or what a bench script says
+abbrev pub heard_in : Parts → List ℕ → List (List ℕ) → Result (Option Heard) Reason
+heard_in c line [] = of_script (read_line c line)
+heard_in c line (word ∷ fs) =
+    if bytes_eq word (codes "?") then question c fs >>= (λ asked. Ok (Some (Ask asked)))
+    else of_script (read_line c line)
+
+-- what a line says, nothing where it has no field or begins with `>`
+abbrev pub heard : Parts → List ℕ → Result (Option Heard) Reason
+heard c line = heard_in c line (fields line)
+
+-- a question is for what is there
+abbrev pub IsHeard : Parts → Heard → Type 0
+IsHeard c (Ask asked) = IsAskable c asked
+IsHeard c (Make line) = Unit {0}

@@ -1,0 +1,184 @@
+-- What a bench in hand answers to a line: the text of the entries that the line makes, and then one
+-- line that begins with `#`.
+use Rattle.std.specs.Prelude.{ℕ, ◌-◌, ◌^◌, ◌<◌, Bool, true, false, ◌||◌, if◌then◌else◌, List, []}
+use Rattle.std.specs.Prelude.{◌∷◌, ◌++◌, flat_map, length, reverse, drop, Option, Some, None}
+use Rattle.std.specs.Prelude.{option_map}
+use Rattle.std.specs.Prelude.{Result, Ok, Err, codes}
+use Rattle.std.specs.Option.{option_map_or, option_or}
+use Rattle.std.specs.Fmt.{decimal}
+use Rattle.lin_cluster_parts.specs.declared.parts.Parts.{Parts}
+use Rattle.lin_core.specs.History.{asleep, time}
+use Rattle.lin_core.specs.Links.{waiting}
+use Rattle.lin_core.specs.Next.{next_slot}
+use Rattle.lin_core.specs.Signals.{value_at}
+use Rattle.lin_core.specs.Tables.{refusal_number, refusal_word}
+use Rattle.lin_core.specs.declared.event.Event.TheVariants.{Slot}
+use Rattle.lin_core.specs.declared.log.LogEntry.{LogEntry}
+use Rattle.lin_core.specs.declared.reply.Refusal.{Refusal}
+use Rattle.lin_core.specs.declared.reply.Reply.{Reply}
+use Rattle.lin_core.specs.declared.reply.Reply.TheVariants.{Done, Refused}
+use Rattle.lin_log.specs.Words.{spaced_word, text, value_word}
+use Rattle.lin_export.specs.Named.{slot_names}
+use Rattle.lin_bench.specs.Lines.{without_mark}
+use Rattle.lin_bench.specs.Made.{BenchState, made}
+use Rattle.lin_bench.specs.Slots.{hosts_waiting, slot_limit}
+use Rattle.lin_bench.specs.Texts.{expected_text, fields_text, got_text, hosts_text}
+use Rattle.lin_bench.specs.Texts.{reason_text as script_text, table_word, verdict_text}
+use Rattle.lin_bench.specs.declared.got.Verdict.{Verdict}
+use Rattle.lin_bench.specs.declared.got.Verdict.TheVariants.{Nothing, Met, Unmet, SlotLimit}
+use Rattle.lin_live.specs.Heard.{heard}
+use Rattle.lin_live.specs.declared.heard.Heard.{Heard}
+use Rattle.lin_live.specs.declared.heard.Heard.TheVariants.{Ask, Make}
+use Rattle.lin_live.specs.declared.question.Question.{Question}
+use Rattle.lin_live.specs.declared.question.Question.TheVariants.{Signal, Waiting, Idle, Time}
+use Rattle.lin_live.specs.declared.question.Question.TheVariants.{Asleep, Next}
+use Rattle.lin_live.specs.declared.value.Value.{Value}
+use Rattle.lin_live.specs.declared.value.Value.TheVariants as shown
+use Rattle.lin_live.specs.declared.reason.Reason.{Reason}
+use Rattle.lin_live.specs.declared.reason.Reason.TheVariants.{Script, AskForm, UnknownQuestion}
+use Rattle.lin_live.specs.declared.reason.Reason.TheVariants.{NoNode, NoNodeOrSignal, TooLong}
+
+-- ---- the last lines of answers
+abbrev pub ending : List ℕ → List ℕ
+ending words = codes "# " ++ (words ++ 10 ∷ [])
+
+abbrev pub reason_text : Reason → List ℕ
+reason_text (Script why) = script_text why
+reason_text AskForm = codes "? takes what is asked"
+reason_text (UnknownQuestion fields) = codes "? has no form " ++ fields_text fields
+reason_text NoNode = codes "no such node"
+reason_text NoNodeOrSignal = codes "no such node or signal"
+reason_text TooLong = codes "line too long"
+
+abbrev pub refusal_in : Reply → Option Refusal
+refusal_in (Done events) = None
+refusal_in (Refused why) = Some why
+
+-- the first refusal among entries
+abbrev pub first_refusal : List LogEntry → Option Refusal
+first_refusal [] = None
+first_refusal (e ∷ es) = option_or (refusal_in e.reply) (first_refusal es)
+
+abbrev pub steps_ending : Option Refusal → List ℕ
+steps_ending None = ending (codes "ok")
+steps_ending (Some why) =
+    ending (codes "refused " ++ (decimal (refusal_number why) ++ spaced_word (refusal_word why)))
+
+-- the limit of slots goes before what isn't met, and this before what was refused
+abbrev pub verdict_ending : Parts → Verdict → List LogEntry → List ℕ
+verdict_ending c SlotLimit es = ending (codes "slot limit")
+verdict_ending c (Unmet what got) es = 35 ∷ verdict_text (expected_text c what) (got_text c got)
+verdict_ending c verdict es = steps_ending (first_refusal es)
+
+-- what is said to a question on a history
+abbrev pub idle_text : Parts → List (ℕ × ℕ) → List ℕ
+idle_text c [] = codes "idle"
+idle_text c (h ∷ hs) = hosts_text c (h ∷ hs)
+
+abbrev pub slot_text : Parts → ℕ × ℕ → Option ℕ → List ℕ
+slot_text c at header =
+    table_word c at.0
+    ++ (spaced_word (decimal at.1)
+    ++ flat_map spaced_word (slot_names c (Slot at.0 at.1 header)))
+
+-- the table, the entry and the frame of the slot that an open would begin, as after `> slot`
+abbrev pub next_text : Parts → ℕ → List LogEntry → List ℕ
+next_text c opening past =
+    if asleep past then codes "asleep"
+    else option_map_or
+    (λ (s : ℕ × ℕ × Option ℕ). slot_text c (s.0, s.1) s.2)
+    (next_slot c opening past) (codes "open")
+
+abbrev pub value_text : Parts → ℕ → List LogEntry → Question → List ℕ
+value_text c opening past (Signal node signal) = value_word (value_at c past node signal)
+value_text c opening past (Waiting host) = decimal (length (waiting c past host))
+value_text c opening past Idle = idle_text c (hosts_waiting c past)
+value_text c opening past Time = decimal (time c past)
+value_text c opening past Asleep = if asleep past then codes "asleep" else codes "awake"
+value_text c opening past Next = next_text c opening past
+
+-- a value as it is said
+abbrev pub value_shown : Parts → Value → List ℕ
+value_shown c (shown.Signal value) = value_word value
+value_shown c (shown.Number n) = decimal n
+value_shown c (shown.Waiting hosts) = idle_text c hosts
+value_shown c (shown.Asleep is) = if is then codes "asleep" else codes "awake"
+value_shown c shown.Open = codes "open"
+value_shown c (shown.Slot table entry header) = slot_text c (table, entry) header
+
+-- ---- what is kept: a bench whose next line may make 1,000,000 slots, whether there was a line,
+-- whether one was bad or met that limit, and whether an expectation wasn't met
+pub record HandData : Type 0 where
+  pub cluster : Parts
+  pub opening : ℕ
+  pub capacity : ℕ
+  pub bench : BenchState
+  pub begun : Bool
+  pub was_bad : Bool
+  pub was_unmet : Bool
+
+abbrev pub is_limit : Verdict → Bool
+is_limit SlotLimit = true
+is_limit verdict = false
+
+abbrev pub is_unmet : Verdict → Bool
+is_unmet (Unmet what got) = true
+is_unmet verdict = false
+
+-- the entries by which a history grew, the oldest first
+abbrev pub entries_since : List LogEntry → List LogEntry → List LogEntry
+entries_since past later = drop (length past) (reverse later)
+
+-- an answer: the entries that the line made, and its last line
+pub record Answer : Type 0 where
+  pub entries : List LogEntry
+  pub last_line : List ℕ
+
+-- no step was made
+abbrev pub says : List ℕ → Answer
+says words = record { entries = []; last_line = ending words }
+
+-- a line was made
+abbrev pub after_line : HandData → BenchState × Verdict → HandData × Answer
+after_line h m =
+    let es = entries_since h.bench.past m.0.past
+    in (
+      record h {
+        bench = record m.0 { left = slot_limit };
+        was_bad = h.was_bad || is_limit m.1;
+        was_unmet = h.was_unmet || is_unmet m.1;
+      },
+      record { entries = es; last_line = verdict_ending h.cluster m.1 es },
+    )
+
+-- what something that was heard makes of what is kept, and the answer
+abbrev pub told : HandData → Result (Option Heard) Reason → HandData × Answer
+told h (Err why) =
+    (record h { was_bad = true }, says (codes "bad line: " ++ reason_text why))
+told h (Ok None) = (h, says (codes "ok"))
+told h (Ok (Some (Ask asked))) =
+    (h, says (codes "is " ++ value_text h.cluster h.opening h.bench.past asked))
+told h (Ok (Some (Make line))) = after_line h (made h.cluster h.opening h.capacity h.bench line)
+
+-- what a line says, and none that is too long
+abbrev pub heard_as : Parts → Option (List ℕ) → Result (Option Heard) Reason
+heard_as c None = Err TooLong
+heard_as c (Some line) = heard c line
+
+-- the first line may begin with a byte order mark, which belongs to no line
+abbrev pub unmarked : HandData → Option (List ℕ) → Option (List ℕ)
+unmarked h line = if h.begun then line else option_map without_mark line
+
+abbrev pub answered : HandData → Option (List ℕ) → HandData × Answer
+answered h line = told (record h { begun = true }) (heard_as h.cluster (unmarked h line))
+
+-- an answer is written as the text of its entries, and then its last line
+abbrev pub written : HandData × Answer → HandData × List ℕ
+written a = (a.0, text a.1.entries ++ a.1.last_line)
+
+abbrev pub reply : HandData → Option (List ℕ) → HandData × List ℕ
+reply h line = written (answered h line)
+
+-- the log would have more entries than it takes
+abbrev pub IsFull : HandData → Option (List ℕ) → Type 0
+IsFull h line = 2 ^ 32 - 1 < length (reply h line).0.bench.past

@@ -1,0 +1,205 @@
+//! A bench in hand.
+
+ghost use Rattle.std.specs.Prelude.{◌≡◌, ◌<◌, ◌-◌, ◌^◌, IfOk, IfSome, length, option_map, reverse};
+ghost use Rattle.lin_bench.specs.Lines.{without_mark};
+ghost use Rattle.lin_live.specs.Asked.{Gives, IsAskable};
+ghost use Rattle.lin_live.specs.Serving.{Tells};
+ghost use Rattle.lin_live.specs.Heard.{IsHeard};
+ghost use Rattle.lin_live.specs.Told.{HandData, IsFull, heard_as, is_limit, is_unmet};
+ghost use Rattle.lin_live.specs.Told.{reply, told, unmarked, written};
+ghost use Rattle.lin_live.specs.declared.heard.Heard.TheVariants.{Ask, Make};
+
+use crate::answering::Answering;
+use crate::fault::Fault;
+use crate::heard::{Heard, hear};
+use crate::question::Question;
+use crate::reason::{LineFault, Reason};
+use crate::telling::{write_bad, write_line, write_ok, write_value};
+use crate::value::value_of;
+use lin_bench::{Bench, Line, Verdict, without_mark};
+use lin_core::{Core, Log};
+use std::alloc::Global;
+use std::io::Write;
+use std::marker::Model;
+
+/// A bench that answers lines: those of bench scripts, each by the entries that it makes and by what
+/// it came to, and questions. Contracts see the cluster, what the core was opened with, the log, what
+/// expectations took, whether there was a line, and whether one was bad or an expectation not met.
+#[derive(Drop)]
+pub struct Hand {
+    bench: Bench,
+    /// Whether there was a line.
+    begun: bool,
+    was_bad: bool,
+    was_unmet: bool,
+}
+
+impl Model for Hand {
+    ghost use Rattle.lin_live.specs.Told.{HandData};
+
+    ghost Value = { HandData };
+
+    ghost use Rattle.lin_live.specs.Hand.{hand_data};
+
+    ghost view = { hand_data };
+}
+
+/// Whether a line made more slots than a line may.
+fn is_limit(verdict: &Verdict) -> bool
+    ensures { result ≡ is_limit verdict.now }
+{
+    match verdict {
+        Verdict::SlotLimit => true,
+        Verdict::Nothing | Verdict::Met(_) | Verdict::Unmet(_, _) => false,
+    }
+}
+
+/// Whether what a line expects isn't so.
+fn is_unmet(verdict: &Verdict) -> bool
+    ensures { result ≡ is_unmet verdict.now }
+{
+    match verdict {
+        Verdict::Unmet(_, _) => true,
+        Verdict::Nothing | Verdict::Met(_) | Verdict::SlotLimit => false,
+    }
+}
+
+/// A line without the byte order mark at its beginning.
+fn without_its_mark(line: Option<&[u8]>) -> Option<&[u8]>
+    ensures { option_map (λ l. l.now) result
+        ≡ option_map without_mark (option_map (λ l. l.now) line.entry) }
+{
+    Some(without_mark(line?))
+}
+
+impl Hand {
+    ghost use Rattle.lin_live.specs.Hand.{begins};
+
+    /// A bench over a core, on which no line was made.
+    pub fn new(alloc: Global, core: Core) -> Hand
+        ensures { result ≡ begins core }
+    {
+        Hand {
+            bench: Bench::new(alloc, core),
+            begun: false,
+            was_bad: false,
+            was_unmet: false,
+        }
+    }
+
+    /// The log of all steps that were made.
+    pub fn log(&self) -> &Log
+        ensures { reverse result.now.entries ≡ self.now.bench.past }
+    {
+        self.bench.core().log()
+    }
+
+    /// Whether a line was bad, or made more slots than a line may.
+    pub fn was_bad(&self) -> bool
+        ensures { result ≡ self.now.was_bad }
+    {
+        self.was_bad
+    }
+
+    /// Whether an expectation wasn't met.
+    pub fn was_unmet(&self) -> bool
+        ensures { result ≡ self.now.was_unmet }
+    {
+        self.was_unmet
+    }
+
+    /// A line, of which the first one has no byte order mark.
+    fn unmarked<'l>(&self, line: Option<&'l [u8]>) -> Option<&'l [u8]>
+        ensures { option_map (λ l. l.now) result
+            ≡ unmarked self.now (option_map (λ l. l.now) line.entry) }
+    {
+        if self.begun {
+            line
+        } else {
+            without_its_mark(line)
+        }
+    }
+
+    /// What a line says; none stands for one that is too long.
+    fn hear(&self, alloc: Global, line: Option<&[u8]>) -> Result<Option<Heard>, LineFault>
+        ensures heard { Gives result (heard_as self.now.cluster (option_map (λ l. l.now) line.entry)) }
+        ensures askable { IfOk result (λ said. IfSome said (IsHeard self.now.cluster)) }
+    {
+        match line {
+            None => Err(LineFault::Bad(Reason::TooLong)),
+            Some(line) => hear(alloc, self.bench.core().cluster(), line),
+        }
+    }
+
+    /// Tells that a line says nothing.
+    fn pass<W: Write>(&self, writer: &mut W) -> Result<(), Fault>
+        ensures { Tells (written (told self.now (Ok None))) ⊥ self.now (W.contents writer.old) (W.contents writer.new) result }
+    {
+        write_ok(writer)?;
+        Ok(())
+    }
+
+    /// Tells that a line is bad.
+    fn refuse<W: Write>(&mut self, reason: &Reason, writer: &mut W) -> Result<(), Fault>
+        ensures { Tells (written (told self.old (Err reason.now))) ⊥ self.new (W.contents writer.old) (W.contents writer.new) result }
+    {
+        self.was_bad = true;
+        write_bad(writer, reason)?;
+        Ok(())
+    }
+
+    /// Answers a question.
+    fn ask<W: Write>(&self, alloc: Global, question: Question, writer: &mut W) -> Result<(), Fault>
+        requires { IsAskable self.now.cluster question }
+        ensures { Tells (written (told self.now (Ok (Some (Ask question))))) ⊥ self.now (W.contents writer.old) (W.contents writer.new) result }
+    {
+        let core = self.bench.core();
+        let value = value_of(alloc, core, question)?;
+        write_value(writer, core.cluster(), &value)?;
+        Ok(())
+    }
+
+    /// Makes a line, and tells its entries and what it came to.
+    fn make<W: Write>(&mut self, alloc: Global, line: Line, writer: &mut W) -> Result<(), Fault>
+        ensures { Tells (written (told self.old (Ok (Some (Make line)))))
+            (2 ^ 32 - 1 < length (told self.old (Ok (Some (Make line)))).0.bench.past) self.new
+            (W.contents writer.old) (W.contents writer.new) result }
+    {
+        let from = self.bench.core().log().len();
+        self.bench.renew_slots();
+        let verdict = self.bench.make(alloc, line)?;
+        self.was_bad = self.was_bad || is_limit(&verdict);
+        self.was_unmet = self.was_unmet || is_unmet(&verdict);
+        match write_line(writer, self.bench.core(), from, &verdict) {
+            Ok(()) => Ok(()),
+            Err(_) => Err(Fault::WriteFailed),
+        }
+    }
+}
+
+impl Answering for Hand {
+    ghost State = { HandData };
+
+    ghost state = { λ hand. hand };
+
+    ghost reply = { reply };
+
+    ghost is_full = { IsFull };
+
+    fn answer<W: Write>(
+        &mut self,
+        alloc: Global,
+        line: Option<&[u8]>,
+        writer: &mut W,
+    ) -> Result<(), Fault> {
+        let line = self.unmarked(line);
+        self.begun = true;
+        match self.hear(alloc, line) {
+            Err(LineFault::OutOfMemory) => Err(Fault::OutOfMemory),
+            Err(LineFault::Bad(reason)) => self.refuse(&reason, writer),
+            Ok(None) => self.pass(writer),
+            Ok(Some(Heard::Ask(question))) => self.ask(alloc, question, writer),
+            Ok(Some(Heard::Make(line))) => self.make(alloc, line, writer),
+        }
+    }
+}

@@ -1,0 +1,64 @@
+//! Why a line is bad.
+
+ghost use Rattle.std.specs.Prelude.{◌≡◌};
+ghost use Rattle.lin_live.specs.Asked.{script_fault, step_fault};
+ghost use Rattle.lin_live.specs.declared.reason.LineFault.TheVariants.{OutOfMemory};
+
+use lin_lists::{Many, Text};
+use std::alloc::AllocError;
+
+/// Why a line isn't one to answer. The fields are as they stand in the line.
+#[derive(Debug, Drop)]
+pub enum Reason {
+    /// It is bad as a line of a bench script.
+    Script(lin_bench::Reason),
+    /// `?` takes what is asked.
+    AskForm,
+    /// `?` has no form of these fields.
+    UnknownQuestion(Many<Text>),
+    /// No node has the number that is asked for.
+    NoNode,
+    /// No node, or no signal, has the number that is asked for.
+    NoNodeOrSignal,
+    /// It has more than 16,777,216 bytes.
+    TooLong,
+}
+
+/// A line is bad, or there was no memory for what it says.
+#[derive(Debug, Drop)]
+pub enum LineFault {
+    Bad(Reason),
+    OutOfMemory,
+}
+
+impl From<lin_log::LineFault> for LineFault {
+    ghost from_gives = { λ fault e. e ≡ step_fault fault };
+
+    fn from(fault: lin_log::LineFault) -> LineFault {
+        match fault {
+            lin_log::LineFault::Bad(reason) => {
+                LineFault::Bad(Reason::Script(lin_bench::Reason::Step(reason)))
+            }
+            lin_log::LineFault::OutOfMemory => LineFault::OutOfMemory,
+        }
+    }
+}
+
+impl From<lin_bench::LineFault> for LineFault {
+    ghost from_gives = { λ fault e. e ≡ script_fault fault };
+
+    fn from(fault: lin_bench::LineFault) -> LineFault {
+        match fault {
+            lin_bench::LineFault::Bad(reason) => LineFault::Bad(Reason::Script(reason)),
+            lin_bench::LineFault::OutOfMemory => LineFault::OutOfMemory,
+        }
+    }
+}
+
+impl From<AllocError> for LineFault {
+    ghost from_gives = { λ _ e. e ≡ OutOfMemory };
+
+    fn from(_: AllocError) -> LineFault {
+        LineFault::OutOfMemory
+    }
+}

@@ -1,0 +1,213 @@
+//! The answers to lines.
+
+ghost use Rattle.std.specs.Prelude.{◌≡◌, ◌++◌, codes, drop, flat_map};
+ghost use Rattle.lin_log.specs.Words.{spaced_word, text};
+ghost use Rattle.lin_text.specs.Written.{Grows, WritesText};
+ghost use Rattle.lin_live.specs.Told.{ending, first_refusal, idle_text, reason_text, refusal_in};
+ghost use Rattle.lin_live.specs.Told.{slot_text, steps_ending, value_shown, verdict_ending};
+
+use crate::reason::Reason;
+use crate::value::Value;
+use lin_bench::{Verdict, put_fields, put_hosts, put_reason, put_verdict};
+use lin_cluster_parts::Cluster;
+use lin_core::{Core, Event, Listed, Log, Refusal, Reply};
+use lin_export::put_slot_names;
+use lin_log::{put_entries, put_number, put_table, put_value, put_word};
+use lin_text::{TextWriter, WriteFailed};
+use std::io::Write;
+
+/// A last line that is always the same.
+fn put_ending<W: Write>(out: &mut TextWriter<'_, W>, words: &str)
+    ensures { Grows W.contents out.old out.new (ending words.now) }
+{
+    out.put_text("# ");
+    out.put_text(words);
+    out.put_byte(b'\n');
+}
+
+/// Writes that nothing was refused.
+pub(crate) fn write_ok<W: Write>(writer: &mut W) -> Result<(), WriteFailed>
+    ensures { WritesText (W.contents writer.old) (W.contents writer.new) result
+        (ending (codes "ok")) }
+{
+    let mut out = TextWriter::new(writer);
+    put_ending(&mut out, "ok");
+    out.finish()
+}
+
+/// Why a line is bad.
+fn put_why<W: Write>(out: &mut TextWriter<'_, W>, reason: &Reason)
+    ensures { Grows W.contents out.old out.new (reason_text reason.now) }
+{
+    match reason {
+        Reason::Script(reason) => put_reason(out, reason),
+        Reason::AskForm => out.put_text("? takes what is asked"),
+        Reason::UnknownQuestion(fields) => {
+            out.put_text("? has no form ");
+            put_fields(out, fields.as_slice());
+        }
+        Reason::NoNode => out.put_text("no such node"),
+        Reason::NoNodeOrSignal => out.put_text("no such node or signal"),
+        Reason::TooLong => out.put_text("line too long"),
+    }
+}
+
+/// Writes that a line is bad, and why.
+pub(crate) fn write_bad<W: Write>(writer: &mut W, reason: &Reason) -> Result<(), WriteFailed>
+    ensures { WritesText (W.contents writer.old) (W.contents writer.new) result
+        (ending (codes "bad line: " ++ reason_text reason.now)) }
+{
+    let mut out = TextWriter::new(writer);
+    out.put_text("# ");
+    out.put_text("bad line: ");
+    put_why(&mut out, reason);
+    out.put_byte(b'\n');
+    out.finish()
+}
+
+/// The hosts of which messages wait.
+fn put_idle<W: Write>(out: &mut TextWriter<'_, W>, cluster: &Cluster, hosts: &[(u8, usize)])
+    ensures { Grows W.contents out.old out.new (idle_text cluster.now hosts.now) }
+{
+    if hosts.is_empty() {
+        out.put_text("idle");
+    } else {
+        put_hosts(out, cluster, hosts);
+    }
+}
+
+/// The table, the entry and the frame of a slot.
+fn put_slot<W: Write>(
+    out: &mut TextWriter<'_, W>,
+    cluster: &Cluster,
+    table: u16,
+    entry: u16,
+    header: Option<u8>,
+)
+    ensures { Grows W.contents out.old out.new
+        (spaced_word (slot_text cluster.now (table, entry) header)) }
+{
+    put_table(out, cluster, table);
+    put_number(out, entry);
+    let slot = Event::Slot {
+        table,
+        entry,
+        header,
+    };
+    put_slot_names(out, cluster, &slot);
+}
+
+/// What is said to a question, with a space before it.
+fn put_answer<W: Write>(out: &mut TextWriter<'_, W>, cluster: &Cluster, value: &Value)
+    ensures { Grows W.contents out.old out.new
+        (spaced_word (value_shown cluster.now value.now)) }
+{
+    match value {
+        Value::Signal(value) => put_value(out, value),
+        Value::Number(number) => put_number(out, *number),
+        Value::Waiting(hosts) => {
+            out.put_byte(b' ');
+            put_idle(out, cluster, hosts.as_slice());
+        }
+        Value::Asleep(true) => out.put_text(" asleep"),
+        Value::Asleep(false) => out.put_text(" awake"),
+        Value::Open => out.put_text(" open"),
+        Value::Slot {
+            table,
+            entry,
+            header,
+        } => put_slot(out, cluster, *table, *entry, *header),
+    }
+}
+
+/// Writes what is said to a question.
+pub(crate) fn write_value<W: Write>(
+    writer: &mut W,
+    cluster: &Cluster,
+    value: &Value,
+) -> Result<(), WriteFailed>
+    ensures { WritesText (W.contents writer.old) (W.contents writer.new) result
+        (ending (codes "is " ++ value_shown cluster.now value.now)) }
+{
+    let mut out = TextWriter::new(writer);
+    out.put_text("# is");
+    put_answer(&mut out, cluster, value);
+    out.put_byte(b'\n');
+    out.finish()
+}
+
+/// Why the reply refuses, if it does.
+fn refusal_in(reply: &Reply) -> Option<Refusal>
+    ensures { result ≡ refusal_in reply.now }
+{
+    match reply {
+        Reply::Done(_) => None,
+        Reply::Refused(refusal) => Some(*refusal),
+    }
+}
+
+/// The first refusal among the entries of a log from one on.
+fn first_refusal(log: &Log, from: usize) -> Option<Refusal>
+    ensures { result ≡ first_refusal (drop from log.now.entries) }
+{
+    for index in from..log.len() {
+        if let Some(refusal) = refusal_in(&log.entry(index).reply) {
+            return Some(refusal);
+        }
+    }
+    None
+}
+
+/// That the steps of a line were done, or the first that was refused.
+fn put_steps_ending<W: Write>(out: &mut TextWriter<'_, W>, refusal: Option<Refusal>)
+    ensures { Grows W.contents out.old out.new (steps_ending refusal) }
+{
+    match refusal {
+        None => put_ending(out, "ok"),
+        Some(refusal) => {
+            out.put_text("# refused");
+            put_number(out, refusal.number());
+            put_word(out, refusal.word());
+            out.put_byte(b'\n');
+        }
+    }
+}
+
+/// What a line came to, whose entries are those of the log from one on.
+fn put_verdict_ending<W: Write>(
+    out: &mut TextWriter<'_, W>,
+    core: &Core,
+    from: usize,
+    verdict: &Verdict,
+)
+    ensures { Grows W.contents out.old out.new
+        (verdict_ending core.now.cluster verdict.now (drop from core.now.log)) }
+{
+    match verdict {
+        Verdict::SlotLimit => put_ending(out, "slot limit"),
+        Verdict::Unmet(expected, got) => {
+            out.put_byte(b'#');
+            put_verdict(out, core.cluster(), expected, got);
+        }
+        Verdict::Nothing | Verdict::Met(_) => {
+            put_steps_ending(out, first_refusal(core.log(), from));
+        }
+    }
+}
+
+/// Writes the entries of a line, which are those of the log from one on, and what it came to.
+pub(crate) fn write_line<W: Write>(
+    writer: &mut W,
+    core: &Core,
+    from: usize,
+    verdict: &Verdict,
+) -> Result<(), WriteFailed>
+    ensures { WritesText (W.contents writer.old) (W.contents writer.new) result
+        (text (drop from core.now.log)
+        ++ verdict_ending core.now.cluster verdict.now (drop from core.now.log)) }
+{
+    let mut out = TextWriter::new(writer);
+    put_entries(&mut out, core.log(), from);
+    put_verdict_ending(&mut out, core, from, verdict);
+    out.finish()
+}

@@ -1,0 +1,49 @@
+-- What the program's live answers.
+use Rattle.std.specs.Prelude.{◌≡◌, ℕ, false, if◌then◌else◌, List, [], Option, Result, Ok, Err}
+use Rattle.lin_cluster_parts.specs.declared.parts.Parts.{Parts}
+use Rattle.lin_bench.specs.Slots.{slot_limit}
+use Rattle.lin_live.specs.Serving.{IsLive}
+use Rattle.lin_live.specs.Told.{HandData, IsFull, reply}
+use Rattle.lin_live.specs.declared.fault.Fault.{Fault as LiveFault}
+use Rattle.lin_live.specs.declared.fault.Fault.TheVariants as live
+use Rattle.lin_tool.specs.declared.fault.Fault.{Fault}
+use Rattle.lin_tool.specs.declared.fault.Fault.TheVariants.{BadLines, Unmet, OutOfMemory}
+use Rattle.lin_tool.specs.declared.fault.Fault.TheVariants.{ReadFailed, WriteFailed, LogFull}
+
+-- the program's fault for one of answering lines
+abbrev pub live_fault : LiveFault → Fault
+live_fault live.ReadFailed = ReadFailed
+live_fault live.WriteFailed = WriteFailed
+live_fault live.OutOfMemory = OutOfMemory
+live_fault live.LogFull = LogFull
+
+-- a bench in hand over a cluster, on which no line was made
+abbrev pub in_hand : Parts → ℕ → ℕ → HandData
+in_hand c opening capacity = record {
+  cluster = c;
+  opening = opening;
+  capacity = capacity;
+  bench = record { past = []; taken = []; left = slot_limit };
+  begun = false;
+  was_bad = false;
+  was_unmet = false;
+}
+
+-- how a bench ends on which all lines were answered: its answers have told which lines were bad, and
+-- which expectations weren't met
+abbrev pub ended : HandData → Result Unit Fault
+ended t =
+    if t.was_bad then Err BadLines else (if t.was_unmet then Err (Unmet (Ok tt)) else Ok tt)
+
+abbrev pub ends : HandData → Result Unit LiveFault → Result Unit Fault
+ends t (Ok done) = ended t
+ends t (Err fault) = Err (live_fault fault)
+
+-- What live answers, what it read, and what the writer took: the answers to the lines, each on the
+-- bench of those before it.
+abbrev pub Lives : Parts → ℕ → ℕ → Result Unit Fault → Option (List ℕ) → Option (List ℕ)
+    → Option (List ℕ) → Option (List ℕ) → Type 0
+Lives c opening capacity result told left old new =
+    (t : HandData) × (done : Result Unit LiveFault)
+    × IsLive reply IsFull (in_hand c opening capacity) t told left old new done
+    × (result ≡ ends t done)
