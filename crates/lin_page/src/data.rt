@@ -13,17 +13,6 @@ use lin_log::{put_number, put_value};
 use lin_text::{TextWriter, WriteFailed};
 use std::io::Write;
 
-fn put_head<W: Write>(out: &mut TextWriter<'_, W>, cluster: &Cluster, file: &[u8])
-    ensures { Grows W.contents out.old out.new (page_head cluster.now file.now) }
-{
-    out.put_text(HEAD);
-    out.put_text("page 1\nfile ");
-    put_field(out, file);
-    out.put_text("\nspeed ");
-    out.put_number(cluster.speed());
-    out.put_byte(b'\n');
-}
-
 /// Writes what stands before the listing of the cluster.
 ///
 /// # Errors
@@ -37,7 +26,12 @@ pub(crate) fn write_head<W: Write>(
         (page_head cluster.now file.now) }
 {
     let mut out = TextWriter::new(writer);
-    put_head(&mut out, cluster, file);
+    out.put_text(HEAD);
+    out.put_text("page 1\nfile ");
+    put_field(&mut out, file);
+    out.put_text("\nspeed ");
+    out.put_number(cluster.speed());
+    out.put_byte(b'\n');
     out.finish()
 }
 

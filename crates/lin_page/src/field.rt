@@ -25,19 +25,13 @@ fn put_escaped<W: Write>(out: &mut TextWriter<'_, W>, byte: u8)
     }
 }
 
-fn put_all_escaped<W: Write>(out: &mut TextWriter<'_, W>, text: &[u8])
-    ensures { Grows W.contents out.old out.new (flat_map escaped text.now) }
-{
-    for byte in text {
-        put_escaped(out, *byte);
-    }
-}
-
 /// A text as a field: `"`, and the bytes, of which all but printable ones and `%`, `&` and `<` are
 /// `%` and two digits.
 pub(crate) fn put_field<W: Write>(out: &mut TextWriter<'_, W>, text: &[u8])
     ensures { Grows W.contents out.old out.new (field text.now) }
 {
     out.put_byte(b'"');
-    put_all_escaped(out, text);
+    for byte in text {
+        put_escaped(out, *byte);
+    }
 }

@@ -66,7 +66,8 @@ td,th{text-align:left;padding:0 10px 0 0;font-size:12px}
 @media(max-width:760px){body{padding:10px}main{grid-template-columns:1fr}.r{grid-template-columns:1fr}#probs ol{max-height:150px}
 .t br{display:none}.g{grid-template-columns:repeat(auto-fill,minmax(156px,1fr))}}
 @page{size:A4 landscape;margin:10mm}
-@media print{body{width:1040px;padding:0}#find,#zoom,#hair,#tip,.more{display:none!important}
+@media print{body{width:1040px;padding:0}#find,#zoom,#hair,#tip,.keys,[data-k=more]{display:none!important}
+h2{break-after:avoid}
 #lanes,#probs ol{max-height:none}main{display:block}#probs ol{columns:3}}
 </style></head><body>
 <p id=\"ask\" hidden><button></button></p>
@@ -76,7 +77,7 @@ td,th{text-align:left;padding:0 10px 0 0;font-size:12px}
 <span id=\"found\" role=\"status\"></span><span id=\"kinds\"></span></div>
 <div id=\"time\" tabindex=\"0\" role=\"application\" aria-label=\"The run over time: arrow keys go from slot to slot\" aria-describedby=\"line\">
 <canvas id=\"over\"></canvas><canvas id=\"bus\"></canvas><div id=\"lanes\"><canvas id=\"plot\"></canvas><div id=\"tall\"></div></div><div id=\"hair\"></div></div>
-<p id=\"line\" role=\"status\">← → slot · shift ← → move · + − zoom · 0 whole run · n p problem · / filter, Enter next, Esc clears · drag moves, wheel zooms; in the strip on top drag selects</p><p id=\"rest\"></p>
+<p id=\"line\" role=\"status\"><span class=\"keys\">← → slot · shift ← → move · + − zoom · 0 whole run · n p problem · / filter, Enter next, Esc clears · drag moves, wheel zooms; in the strip on top drag selects</span></p><p id=\"rest\"></p>
 <main><aside id=\"probs\"></aside><section id=\"rows\" aria-label=\"Slots\"></section></main>
 <div id=\"tip\"></div>
 </div>

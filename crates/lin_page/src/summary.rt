@@ -33,28 +33,20 @@ fn is_told(told: Told, event: &Event) -> bool
     }
 }
 
-/// How many events of a step are counted.
-fn events_told(told: Told, events: &[Event]) -> usize
-    ensures count { result ≡ count_by (is_told told) events.now }
-    ensures few { result ≤ length events.now }
+/// How many events of an entry are counted.
+fn entry_told(told: Told, reply: &Reply) -> usize
+    ensures { result ≡ count_by (is_told told) (reply_events reply.now) }
 {
+    let Reply::Done(events) = reply else {
+        return 0;
+    };
     let mut count = 0;
-    for event in events {
+    for event in events.as_slice() {
         if is_told(told, event) {
             count += 1;
         }
     }
     count
-}
-
-/// How many events of an entry are counted.
-fn entry_told(told: Told, reply: &Reply) -> usize
-    ensures { result ≡ count_by (is_told told) (reply_events reply.now) }
-{
-    match reply {
-        Reply::Done(events) => events_told(told, events.as_slice()),
-        Reply::Refused(_) => 0,
-    }
 }
 
 /// How many events of a log are counted.
@@ -68,19 +60,13 @@ fn count(told: Told, log: &Log) -> u128
     count
 }
 
-fn is_refused(reply: &Reply) -> bool
-    ensures { result ≡ is_refusal reply.now }
-{
-    matches!(reply, Reply::Refused(_))
-}
-
 /// How many steps of a log were refused.
 fn refused(log: &Log) -> usize
     ensures { result ≡ count_by (λ e. is_refusal e.reply) log.now.entries }
 {
     let mut count = 0;
     for index in 0..log.len() {
-        if is_refused(&log.entry(index).reply) {
+        if let Reply::Refused(_) = &log.entry(index).reply {
             count += 1;
         }
     }
@@ -95,19 +81,13 @@ fn put_count<W: Write, I: Integer>(out: &mut TextWriter<'_, W>, word: &str, coun
     out.put_number(count);
 }
 
-/// How many slots were seen so.
-fn put_look<W: Write>(out: &mut TextWriter<'_, W>, log: &Log, look: Look)
-    ensures { Grows W.contents out.old out.new (look_count log.now.entries look) }
-{
-    out.put_text(", ");
-    put_count(out, look.word(), count(Told::Seen(look), log));
-}
-
+/// How many slots were seen how.
 fn put_looks<W: Write>(out: &mut TextWriter<'_, W>, log: &Log)
     ensures { Grows W.contents out.old out.new (flat_map (look_count log.now.entries) looks) }
 {
     for look in Look::all() {
-        put_look(out, log, *look);
+        out.put_text(", ");
+        put_count(out, look.word(), count(Told::Seen(*look), log));
     }
 }
 
