@@ -102,7 +102,8 @@ impl Core {
     ghost use Rattle.lin_core.specs.Promises.{CarriesFrames, DeliversExactly, FatesAreFinal};
     ghost use Rattle.lin_core.specs.Promises.{LosesNothing, PutsInOrder, StaysClosed};
     ghost use Rattle.lin_cluster_parts.specs.Cluster.{nodes};
-    ghost use Rattle.lin_core.specs.History.{asleep, time, undecided_count};
+    ghost use Rattle.lin_core.specs.History.{asleep, header_and_first, open_slot, time, undecided_count};
+    ghost use Rattle.std.specs.Prelude.{option_map};
     ghost use Rattle.lin_core.specs.Signals.{value_at};
     ghost use Rattle.lin_core.specs.Links.{waiting};
     ghost use Rattle.lin_core.specs.Core.{past_of, IsAlike, IsHistory, IsLogFull, IsOutOfMemory};
@@ -224,6 +225,19 @@ impl Core {
             return slot.open().undecided();
         }
         0
+    }
+
+    /// The header of the open slot, where it has one, and the first node that has answered in it,
+    /// where one has; none where no slot is open (ISO 17987-3, frame slots).
+    pub fn open_slot(&self) -> Option<(Option<u8>, Option<u8>)>
+        ensures { result ≡ option_map header_and_first (open_slot (past_of self.now)) }
+    {
+        let slot = &self.state.slot;
+        if slot.is_open() {
+            let open = slot.open();
+            return Some((open.header, open.first_node()));
+        }
+        None
     }
 
     /// Makes room, so that the next step isn't held because of memory, unless it is an open or a

@@ -5,7 +5,7 @@ ghost use Rattle.std.specs.Prelude.{length, filter};
 ghost use Rattle.std.specs.Prelude.{IfOk, Some, None, is_some, map, take};
 ghost use Rattle.std.specs.List.{list_any};
 ghost use Rattle.lin_schedule.specs.Walker.{HasEntry};
-ghost use Rattle.lin_core.specs.History.{good, has_decided, is_clash_seen, is_in, seen_of};
+ghost use Rattle.lin_core.specs.History.{first_node, good, has_decided, is_clash_seen, is_in, seen_of};
 ghost use Rattle.lin_core.specs.kept.Slots.{opening_slot_kept, slot_in};
 ghost use Rattle.lin_core.specs.declared.slot.OpenSlot.{OpenSlot};
 ghost use Rattle.lin_core.specs.declared.slot.Put.{Put};
@@ -156,6 +156,16 @@ impl OpenSlot {
         match self.puts.as_slice() {
             [put] => put.answer.data(),
             _ => [0; 8],
+        }
+    }
+
+    /// The first node that has answered in it.
+    pub(crate) fn first_node(&self) -> Option<u8>
+        ensures { result ≡ first_node (slot_in self.now) }
+    {
+        match self.puts.as_slice() {
+            [] => None,
+            [put, ..] => Some(put.node),
         }
     }
 

@@ -1,6 +1,6 @@
 //! Texts and lists as fields of public types: contracts see them as lists.
 
-ghost use Rattle.std.specs.Prelude.{◌≡◌, ◌≤◌, ◌∷◌, length, IfOk, IsOk};
+ghost use Rattle.std.specs.Prelude.{◌≡◌, ◌≤◌, ◌<◌, ◌∷◌, ◌++◌, [], drop, length, set, take, IfOk, IsOk, OnOk};
 
 use std::alloc::{AllocError, Global};
 use std::marker::Model;
@@ -94,6 +94,45 @@ impl<T> Many<T> {
         ensures { result.now ≡ self.now }
     {
         self.items.as_slice()
+    }
+
+    /// The items, in order.
+    pub fn into_vec(self) -> Vec<T>
+        ensures { result.items ≡ self }
+    {
+        self.items
+    }
+
+    /// Adds an item behind the others. An error means out of memory, and nothing is changed.
+    pub fn push(&mut self, item: T) -> Result<(), AllocError>
+    where
+        T: Drop,
+        ensures { OnOk result (self.new ≡ self.old ++ item ∷ []) }
+    {
+        self.items.push(item)?;
+        Ok(())
+    }
+
+    /// Puts an item in front of the one with this number, or behind all. An error means out of
+    /// memory, and nothing is changed.
+    pub fn insert(&mut self, index: usize, item: T) -> Result<(), AllocError>
+    where
+        T: Drop,
+        requires { index ≤ length self.old }
+        ensures { OnOk result (self.new ≡ take index self.old ++ item ∷ drop index self.old) }
+    {
+        self.items.insert(index, item)?;
+        Ok(())
+    }
+
+    /// Puts an item in the place of the one with this number.
+    pub fn set(&mut self, index: usize, item: T)
+    where
+        T: Drop,
+        requires { index < length self.old }
+        ensures { self.new ≡ set self.old index item }
+    {
+        self.items[index] = item;
     }
 
     /// These items after a first one; an error means out of memory.
