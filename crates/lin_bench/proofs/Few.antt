@@ -1,9 +1,10 @@
--- How many steps slots and lines come to at most.
-use Rattle.std.proofs.Common.{◌≡◌, ◌∙◌, ℕ, suc, zero, ◌+◌, ◌*◌, ◌≤◌, nat_lt, ltb-false, Bool, true, false, not, cond, List, [], ◌∷◌, ◌++◌, map, refl, ap, arith, length, length-append, Option, Some, None}
+-- How many steps slots and lines come to at most, and plays without rules.
+use Rattle.std.proofs.Common.{◌≡◌, ◌∙◌, ℕ, suc, zero, ◌+◌, ◌*◌, ◌≤◌, nat_lt, ltb-false, Bool, true, false, not, cond, ◌||◌, sym, subst, List, [], ◌∷◌, ◌++◌, map, refl, ap, arith, length, length-append, Option, Some, None, Result, Ok, Err}
 use Rattle.std.specs.Prelude.{filter}
 use Rattle.std.specs.Option.{option_map_or}
 use Rattle.std.specs.List.{filter_map}
 use Rattle.std.proofs.lemmas.List.{length-map}
+use Rattle.std.proofs.lemmas.List.Folds.{list_any-append}
 use Rattle.std.proofs.lemmas.List.Filters.{length-filter_both}
 use Rattle.lin_frame.specs.Words.{numbers}
 use Rattle.lin_cluster_parts.specs.Cluster.{nodes, line_of}
@@ -18,17 +19,31 @@ use Rattle.lin_core.specs.declared.reply.Refusal.{Refusal}
 use Rattle.lin_core.specs.declared.reply.Reply.TheVariants.{Done, Refused}
 use Rattle.lin_core.specs.declared.step.Step.{Step}
 use Rattle.lin_core.specs.declared.step.Step.TheVariants.{Open, Finish}
-use Rattle.lin_bench.specs.Made.{BenchState, expects, judged, made, made_within, said, slots_made, stepped}
-use Rattle.lin_bench.specs.Making.{most_steps}
-use Rattle.lin_bench.specs.Slots.{after, decision, due_in, due_node, due_now, extent_steps, hurt_steps, is_opened, most, slot_rest, slot_steps, slots_in, slots_steps}
+use Rattle.lin_bench.specs.Made.{BenchState, course_of, expects, judged, made, made_within, said, slots_made, stepped}
+use Rattle.lin_bench.specs.Played.{Run, first, in_turn, next, told}
+use Rattle.lin_bench.specs.Plays.{IsLogFull, Overfills, PlayFails, has_rule, is_rule}
+use Rattle.lin_bench.specs.Rules.{no_rules}
+use Rattle.lin_bench.specs.Slots.{Course, after, decision, due_in, due_node, due_now, extent_steps, hurt_steps, is_opened, most, past_after, slot_limit, slot_rest, slot_steps, slots_in, slots_steps}
+use Rattle.lin_bench.specs.declared.fault.PlayFault.{PlayFault}
+use Rattle.lin_bench.specs.declared.fault.PlayFault.TheVariants.{SlotLimit, LogFull, OutOfMemory}
 use Rattle.lin_bench.specs.declared.line.Disturbance.{Disturbance}
 use Rattle.lin_bench.specs.declared.line.Disturbance.TheVariants as slot
 use Rattle.lin_bench.specs.declared.expected.Expected.{Expected}
 use Rattle.lin_bench.specs.declared.line.Extent.{Extent}
 use Rattle.lin_bench.specs.declared.line.Line.{Line}
 use Rattle.lin_bench.specs.declared.line.Line.TheVariants as line
-use Rattle.lin_bench.proofs.Makes.{after-length, length-last}
+use Rattle.lin_bench.specs.declared.got.Unmet.{Unmet}
+use Rattle.lin_bench.specs.declared.got.Verdict.{Verdict}
+use Rattle.lin_bench.specs.declared.got.Verdict.TheVariants as verdict
+use Rattle.lin_bench.specs.declared.rules.Rules.{Rules}
+use Rattle.lin_bench.proofs.Makes.{length-last, past-longer}
+use Rattle.lin_bench.proofs.RuleLaws.{unchanged}
+use Rattle.lin_bench.proofs.Runs.{turns-failed}
 use Rattle.lin_bench.proofs.SlotSteps.{no-slot, one-slot, slots_in-append}
+
+-- the most steps of a slot: its open, what each of 16 nodes decides, a damage and its finish
+abbrev most_steps : ℕ
+most_steps = 19
 
 -- ---- at most each node is due
 length-numbers : (n : ℕ) → length (numbers n) ≡ n
@@ -114,86 +129,155 @@ turn-at-most true true one rest n ends shut more = omega (arith, slots_in-append
 turn-at-most true false one rest n ends shut more =
     let none : List (PortId × Step) = [] in omega (arith, slots_in-append one none, shut refl)
 
-slots-few : (c : Parts) (o cap : ℕ) (how : Disturbance) (goes : List LogEntry → Bool) (n : ℕ)
-    (past : List LogEntry) → nodes c ≤ 16
-    → length (slots_steps c o cap how goes n past)
-    ≤ most_steps * slots_in (slots_steps c o cap how goes n past) + 1
+slots-few : (c : Parts) (o cap : ℕ) (how : Disturbance) (goes : Course → Bool) (n : ℕ)
+    (at : Course) → nodes c ≤ 16
+    → length (slots_steps c o cap how goes n at)
+    ≤ most_steps * slots_in (slots_steps c o cap how goes n at) + 1
 unfolding slots_steps
-slots-few c o cap how goes zero past few = omega arith
-slots-few c o cap how goes (suc n) past few =
-    let one = slot_steps c o cap how past in
-    turn-few (goes past) (is_opened (due_now c o cap past)) one
-    (slots_steps c o cap how goes n (after c o cap past one)) (slot-few c o cap how past few)
-    (λ h. one-slot c o cap how past h) (λ h. slot-refused c o cap how past h)
-    (slots-few c o cap how goes n (after c o cap past one) few)
+slots-few c o cap how goes zero at few = omega arith
+slots-few c o cap how goes (suc n) at few =
+    let one = slot_steps c o cap how at.past in
+    turn-few (goes at) (is_opened (due_now c o cap at.past)) one
+    (slots_steps c o cap how goes n (after c o cap at one)) (slot-few c o cap how at.past few)
+    (λ h. one-slot c o cap how at.past h) (λ h. slot-refused c o cap how at.past h)
+    (slots-few c o cap how goes n (after c o cap at one) few)
 
 -- at most n slots are made of n
-slots-at-most : (c : Parts) (o cap : ℕ) (how : Disturbance) (goes : List LogEntry → Bool) (n : ℕ) (past : List LogEntry)
-    → slots_in (slots_steps c o cap how goes n past) ≤ n
+slots-at-most : (c : Parts) (o cap : ℕ) (how : Disturbance) (goes : Course → Bool) (n : ℕ) (at : Course)
+    → slots_in (slots_steps c o cap how goes n at) ≤ n
 unfolding slots_steps
-slots-at-most c o cap how goes zero past = omega arith
-slots-at-most c o cap how goes (suc n) past =
-    let one = slot_steps c o cap how past in
-    turn-at-most (goes past) (is_opened (due_now c o cap past)) one (slots_steps c o cap how goes n (after c o cap past one)) n
-    (λ h. one-slot c o cap how past h) (λ h. no-slot c o cap how past h) (slots-at-most c o cap how goes n (after c o cap past one))
+slots-at-most c o cap how goes zero at = omega arith
+slots-at-most c o cap how goes (suc n) at =
+    let one = slot_steps c o cap how at.past in
+    turn-at-most (goes at) (is_opened (due_now c o cap at.past)) one (slots_steps c o cap how goes n (after c o cap at one)) n
+    (λ h. one-slot c o cap how at.past h) (λ h. no-slot c o cap how at.past h) (slots-at-most c o cap how goes n (after c o cap at one))
 
 said-few : (c : Parts) (o cap : ℕ) (limit : Extent → ℕ) (b : BenchState) (l : Line) → nodes c ≤ 16
     → length (said c o cap limit b l) ≤ most_steps * slots_made l (said c o cap limit b l) + 1
 unfolding said extent_steps
 said-few c o cap limit b (line.Step by step) few = omega arith
-said-few c o cap limit b (line.Slot how) few = slots-few c o cap how _ _ b.past few
-said-few c o cap limit b (line.Slots extent) few = slots-few c o cap slot.Undisturbed _ _ b.past few
-said-few c o cap limit b (line.Until extent what) few = slots-few c o cap slot.Undisturbed _ _ b.past few
+said-few c o cap limit b (line.Slot how) few = slots-few c o cap how _ _ (course_of b) few
+said-few c o cap limit b (line.Slots extent) few = slots-few c o cap slot.Undisturbed _ _ (course_of b) few
+said-few c o cap limit b (line.Until extent what) few = slots-few c o cap slot.Undisturbed _ _ (course_of b) few
 said-few c o cap limit b (line.Expect what) few = omega arith
 said-few c o cap limit b line.Forget few = omega arith
+said-few c o cap limit b (line.Rule rule) few = omega arith
 
 first-few : (c : Parts) (o cap n : ℕ) (b : BenchState) (l : Line) → slots_made l (said c o cap (λ e. n) b l) ≤ n
 unfolding said extent_steps
 first-few c o cap n b (line.Step by step) = omega arith
-first-few c o cap n b (line.Slot how) = slots-at-most c o cap how _ n b.past
-first-few c o cap n b (line.Slots extent) = slots-at-most c o cap slot.Undisturbed _ n b.past
-first-few c o cap n b (line.Until extent what) = slots-at-most c o cap slot.Undisturbed _ n b.past
+first-few c o cap n b (line.Slot how) = slots-at-most c o cap how _ n (course_of b)
+first-few c o cap n b (line.Slots extent) = slots-at-most c o cap slot.Undisturbed _ n (course_of b)
+first-few c o cap n b (line.Until extent what) = slots-at-most c o cap slot.Undisturbed _ n (course_of b)
 first-few c o cap n b (line.Expect what) = omega arith
 first-few c o cap n b line.Forget = omega arith
+first-few c o cap n b (line.Rule rule) = omega arith
 
 -- what a log and the slots that are left may still come to
 abbrev pub still_to_come : BenchState → ℕ
 still_to_come b = length b.past + most_steps * b.left
 
-judged-few : (c : Parts) (b : BenchState) (what : Option Expected) → still_to_come (judged c b what).0 ≡ still_to_come b
-judged-few c b None = refl
-judged-few c b (Some what) = refl
+-- no rule is in force, and at most so many entries are still to come
+record IsFew (b : BenchState) (most : ℕ) : Type 0 where
+  rules : b.rules ≡ no_rules
+  few : still_to_come b ≤ most
 
-stepped-few : (c : Parts) (o cap : ℕ) (b : BenchState) (count : ℕ) (steps : List (PortId × Step)) → count ≤ b.left
-    → length steps ≤ most_steps * count + 1 → still_to_come (stepped c o cap b count steps) ≤ still_to_come b + 1
-stepped-few c o cap b count steps few short = omega (arith, few, short, after-length c o cap b.past steps)
+judged-few : (c : Parts) (b : BenchState) (what : Option Expected) (n : ℕ) → IsFew b n → IsFew (judged c b what).0 n
+judged-few c b None n h = record { rules = h.rules; few = h.few }
+judged-few c b (Some what) n h = record { rules = h.rules; few = h.few }
 
-within-few : (c : Parts) (o cap : ℕ) (b : BenchState) (count : ℕ) (steps first : List (PortId × Step)) (what : Option Expected) (t : Bool)
+stepped-few : (c : Parts) (o cap : ℕ) (b : BenchState) (count : ℕ) (steps : List (PortId × Step)) → b.rules ≡ no_rules → count ≤ b.left
+    → length steps ≤ most_steps * count + 1 → IsFew (stepped c o cap b count steps) (still_to_come b + 1)
+stepped-few c o cap b count steps none few short =
+    let is : after c o cap (course_of b) steps ≡ record { past = past_after c o cap b.past steps; rules = no_rules } =
+    ap (λ (r : Rules). after c o cap (record { past = b.past; rules = r }) steps) none ∙ unchanged c o cap b.past steps in
+    let longer = ap (λ (k : Course). length k.past) is ∙ past-longer c o cap b.past steps in
+    record { rules = ap (λ (k : Course). k.rules) is; few = omega (arith, few, short, longer) }
+
+within-few : (c : Parts) (o cap : ℕ) (b : BenchState) (count : ℕ) (steps first : List (PortId × Step)) (what : Option Expected) (t : Bool) → b.rules ≡ no_rules
     → nat_lt b.left count ≡ t → length steps ≤ most_steps * count + 1 → length first ≤ most_steps * b.left + 1
-    → still_to_come (made_within c o cap b count steps first what).0 ≤ still_to_come b + 1
-within-few c o cap b count steps first what true h all some =
-    rw h (stepped-few c o cap b b.left first (omega arith) some)
-within-few c o cap b count steps first what false h all some =
+    → IsFew (made_within c o cap b count steps first what).0 (still_to_come b + 1)
+within-few c o cap b count steps first what true none h all some =
+    rw h (stepped-few c o cap b b.left first none (omega arith) some)
+within-few c o cap b count steps first what false none h all some =
     let few : count ≤ b.left = ltb-false b.left count h in
-    rw h (rw (judged-few c (stepped c o cap b count steps) what) (stepped-few c o cap b count steps few all))
+    rw h (judged-few c (stepped c o cap b count steps) what (still_to_come b + 1) (stepped-few c o cap b count steps none few all))
 
-steps-few : (c : Parts) (o cap : ℕ) (b : BenchState) (l : Line) → nodes c ≤ 16
-    → still_to_come (made_within c o cap b (slots_made l (said c o cap most b l)) (said c o cap most b l) (said c o cap (λ e. b.left) b l) (expects l)).0
-    ≤ still_to_come b + 1
-steps-few c o cap b l few =
+steps-few : (c : Parts) (o cap : ℕ) (b : BenchState) (l : Line) → nodes c ≤ 16 → b.rules ≡ no_rules
+    → IsFew (made_within c o cap b (slots_made l (said c o cap most b l)) (said c o cap most b l) (said c o cap (λ e. b.left) b l) (expects l)).0 (still_to_come b + 1)
+steps-few c o cap b l few none =
     let all = said c o cap most b l in
     let some = said c o cap (λ e. b.left) b l in
-    within-few c o cap b (slots_made l all) all some (expects l) (nat_lt b.left (slots_made l all)) refl
+    within-few c o cap b (slots_made l all) all some (expects l) (nat_lt b.left (slots_made l all)) none refl
     (said-few c o cap most b l few)
     (let e = said-few c o cap (λ e. b.left) b l few in omega (arith, e, first-few c o cap b.left b l))
 
 -- it grows by one at a line
-pub made-few : (c : Parts) (o cap : ℕ) (b : BenchState) (l : Line) → nodes c ≤ 16
-    → still_to_come (made c o cap b l).0 ≤ still_to_come b + 1
+made-few : (c : Parts) (o cap : ℕ) (b : BenchState) (l : Line) → nodes c ≤ 16 → b.rules ≡ no_rules → is_rule l ≡ false
+    → IsFew (made c o cap b l).0 (still_to_come b + 1)
 unfolding made
-made-few c o cap b line.Forget few = omega arith
-made-few c o cap b (line.Step by step) few = steps-few c o cap b (line.Step by step) few
-made-few c o cap b (line.Slot how) few = steps-few c o cap b (line.Slot how) few
-made-few c o cap b (line.Slots extent) few = steps-few c o cap b (line.Slots extent) few
-made-few c o cap b (line.Until extent what) few = steps-few c o cap b (line.Until extent what) few
-made-few c o cap b (line.Expect what) few = steps-few c o cap b (line.Expect what) few
+made-few c o cap b line.Forget few none h = record { rules = none; few = omega arith }
+made-few c o cap b (line.Step by step) few none h = steps-few c o cap b (line.Step by step) few none
+made-few c o cap b (line.Slot how) few none h = steps-few c o cap b (line.Slot how) few none
+made-few c o cap b (line.Slots extent) few none h = steps-few c o cap b (line.Slots extent) few none
+made-few c o cap b (line.Until extent what) few none h = steps-few c o cap b (line.Until extent what) few none
+made-few c o cap b (line.Expect what) few none h = steps-few c o cap b (line.Expect what) few none
+made-few c o cap b (line.Rule rule) few none h = cc
+
+-- ---- the lines of a play
+neither : (a b : Bool) → (a || b) ≡ false → (a ≡ false) × (b ≡ false)
+neither true b h = absurd (cc)
+neither false b h = (refl, h)
+
+told-few : (n m : ℕ) (unmet : List Unmet) (b : BenchState) (v : Verdict) (run : Run) → told n unmet b v ≡ Ok run → IsFew b m → IsFew run.bench m
+told-few n m unmet b verdict.Nothing run e h = let same : record { bench = b; unmet = unmet } ≡ run = cc in subst (λ (r : Run). IsFew r.bench m) same h
+told-few n m unmet b (verdict.Met what) run e h = let same : record { bench = b; unmet = unmet } ≡ run = cc in subst (λ (r : Run). IsFew r.bench m) same h
+told-few n m unmet b (verdict.Unmet what got) run e h =
+    let missed : Unmet = record { line = n; entries = length b.past; expected = what; got = got } in
+    let same : record { bench = b; unmet = unmet ++ missed ∷ [] } ≡ run = cc in
+    subst (λ (r : Run). IsFew r.bench m) same h
+told-few n m unmet b verdict.SlotLimit run e h = absurd (cc)
+
+turn-few-by : (c : Parts) (o cap : ℕ) (run end : Run) (m : ℕ) (l : ℕ × Line) (ls : List (ℕ × Line)) (r : Result Run ℕ)
+    → ((mid : Run) → IsFew mid.bench m → in_turn c o cap (Ok mid) ls ≡ Ok end → IsFew end.bench (m + length ls))
+    → IsFew (made c o cap run.bench l.1).0 m → next c o cap run l ≡ r → in_turn c o cap r ls ≡ Ok end → IsFew end.bench (m + length ls)
+turn-few-by c o cap run end m l ls (Ok mid) more h is e =
+    more mid (told-few l.0 m run.unmet (made c o cap run.bench l.1).0 (made c o cap run.bench l.1).1 mid is h) e
+turn-few-by c o cap run end m l ls (Err n) more h is e = let no : Err n ≡ Ok end = turns-failed c o cap n ls ∙ e in absurd (cc)
+
+more-few : (b : BenchState) (m n : ℕ) → IsFew b m → m ≤ n → IsFew b n
+more-few b m n h le = record { rules = h.rules; few = omega (arith, h.few, le) }
+
+turns-few : (c : Parts) (o cap : ℕ) (run end : Run) (m : ℕ) (ls : List (ℕ × Line)) → nodes c ≤ 16 → has_rule ls ≡ false → IsFew run.bench m
+    → in_turn c o cap (Ok run) ls ≡ Ok end → IsFew end.bench (m + length ls)
+turns-few c o cap run end m [] few none h e =
+    let same : run ≡ end = cc in
+    subst (λ (r : Run). IsFew r.bench (m + 0)) same (more-few run.bench m (m + 0) h (omega arith))
+turns-few c o cap run end m (l ∷ ls) few none h e =
+    let p = neither (is_rule l.1) (has_rule ls) none in
+    let one = more-few (made c o cap run.bench l.1).0 (still_to_come run.bench + 1) (m + 1) (made-few c o cap run.bench l.1 few h.rules p.0) (omega (arith, h.few)) in
+    let all = turn-few-by c o cap run end (m + 1) l ls (next c o cap run l) (λ mid k d. turns-few c o cap mid end (m + 1) ls few p.1 k d) one refl e in
+    more-few end.bench (m + 1 + length ls) (m + length (l ∷ ls)) all (omega arith)
+
+-- lines without a rule never fill a log
+never-full : (c : Parts) (o cap : ℕ) (ls : List (ℕ × Line)) → nodes c ≤ 16 → length ls ≤ 16777217 → has_rule ls ≡ false → Overfills c o cap ls → ⊥
+never-full c o cap ls few short none f =
+    let parts =
+    neither (has_rule f.before) (has_rule (f.line ∷ f.behind))
+    (sym (list_any-append (λ (l : ℕ × Line). is_rule l.1) f.before (f.line ∷ f.behind)) ∙ ap has_rule (sym f.all) ∙ none) in
+    let at = neither (is_rule f.line.1) (has_rule f.behind) parts.1 in
+    let begun : IsFew first.bench (most_steps * slot_limit) = record { rules = refl; few = omega arith } in
+    let so_far = turns-few c o cap first f.run (most_steps * slot_limit) f.before few parts.0 begun f.so_far in
+    let line = made-few c o cap f.run.bench f.line.1 few so_far.rules at.0 in
+    let all = ap length f.all ∙ length-append f.before (f.line ∷ f.behind) in
+    omega (arith, so_far.few, line.few, all, short, f.full)
+
+full-by : (c : Parts) (o cap : ℕ) (ls : List (ℕ × Line)) (t : Bool) → has_rule ls ≡ t → nodes c ≤ 16 → length ls ≤ 16777217 → Overfills c o cap ls → has_rule ls ≡ true
+full-by c o cap ls true h few short f = h
+full-by c o cap ls false h few short f = absurd (never-full c o cap ls few short h f)
+
+pub full-by-rule : (c : Parts) (o cap : ℕ) (ls : List (ℕ × Line)) (fault : PlayFault) → nodes c ≤ 16 → PlayFails c o cap ls fault → length ls ≤ 16777217
+    → IsLogFull (Err fault) → has_rule ls ≡ true
+full-by-rule c o cap ls (SlotLimit n) few fails short full = absurd full
+full-by-rule c o cap ls LogFull few fails short full = full-by c o cap ls (has_rule ls) refl few short fails
+full-by-rule c o cap ls OutOfMemory few fails short full = absurd full

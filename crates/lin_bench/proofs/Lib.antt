@@ -4,7 +4,15 @@ pub mod SlotSteps
 pub mod Events
 pub mod Searches
 pub mod Hosts
-pub mod Few
 pub mod Runs
 pub mod Steps
+pub mod RuleLaws
+pub mod Few
 pub mod Benches
+pub mod Rows
+pub mod Places
+pub mod HeardLinks
+pub mod AddedSteps
+pub mod GivenUp
+pub mod NotedAnswers
+pub mod RuledFinish

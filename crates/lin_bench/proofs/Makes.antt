@@ -1,21 +1,26 @@
--- Steps that are made on a core.
-use Rattle.std.proofs.Common.{◌≡◌, ◌∙◌, ℕ, suc, ◌+◌, ◌-◌, ◌<◌, ◌≤◌, List, [], ◌∷◌, ◌++◌, reverse, length, length-append, get_or, refl, sym, ap, arith, append_assoc, Result, Ok, Err}
-use Rattle.std.proofs.lemmas.List.{length-reverse, reverse-append, reverse-reverse}
+-- Steps that are made on a core, with those that rules add.
+use Rattle.std.proofs.Common.{◌≡◌, ◌∙◌, ℕ, suc, ◌+◌, ◌-◌, ◌<◌, ◌≤◌, false, List, [], ◌∷◌, ◌++◌, reverse, length, get_or, refl, sym, ap, arith, append_assoc, is_some, Result, Ok, Err}
+use Rattle.std.proofs.lemmas.List.{reverse-append, reverse-reverse}
 use Rattle.lin_cluster_parts.specs.declared.parts.Parts.{Parts}
 use Rattle.lin_core.specs.Core.{CoreData, IsAlike, answered, past_of}
+use Rattle.lin_core.specs.History.{finished_slot, is_finish}
 use Rattle.lin_core.specs.Runs.{entry_of, history}
 use Rattle.lin_core.specs.declared.log.LogEntry.{LogEntry}
 use Rattle.lin_core.specs.declared.port.PortId.{PortId}
+use Rattle.lin_core.specs.declared.reply.Reply.{Reply}
+use Rattle.lin_core.specs.declared.reply.Reply.TheVariants.{Done, Refused}
 use Rattle.lin_core.specs.declared.step.Step.{Step}
-use Rattle.lin_bench.specs.Making.{IsGrown, IsMade, MakesSteps, StepsFail}
-use Rattle.lin_bench.specs.Slots.{after}
+use Rattle.lin_bench.specs.Added.{added}
+use Rattle.lin_bench.specs.Making.{IsGrown, IsMade, MakesSteps, RuledData, StepsFail, course_on}
+use Rattle.lin_bench.specs.Slots.{Course, after, past_after, with_entry}
 use Rattle.lin_bench.specs.declared.fault.MakeFault.{MakeFault}
 use Rattle.lin_bench.specs.declared.fault.MakeFault.TheVariants.{LogFull, OutOfMemory}
+use Rattle.lin_bench.specs.declared.rules.Rules.{Rules}
 
-pub after-append : (c : Parts) (o cap : ℕ) (past : List LogEntry) (ss ts : List (PortId × Step))
-    → after c o cap past (ss ++ ts) ≡ after c o cap (after c o cap past ss) ts
-after-append c o cap past [] ts = refl
-after-append c o cap past (s ∷ ss) ts = after-append c o cap (entry_of c o cap past s ∷ past) ss ts
+pub after-append : (c : Parts) (o cap : ℕ) (at : Course) (ss ts : List (PortId × Step))
+    → after c o cap at (ss ++ ts) ≡ after c o cap (after c o cap at ss) ts
+after-append c o cap at [] ts = refl
+after-append c o cap at (s ∷ ss) ts = after-append c o cap (with_entry c o cap at (entry_of c o cap at.past s)) ss ts
 
 pub append-nothing : {A : Type 0} (xs : List A) → xs ++ [] ≡ xs
 append-nothing [] = refl
@@ -23,86 +28,116 @@ append-nothing (x ∷ xs) = ap (λ l. x ∷ l) (append-nothing xs)
 
 -- what steps make of a history is the history of those before and these
 pub after-history : (c : Parts) (o cap : ℕ) (ss ts : List (PortId × Step))
-    → after c o cap (history c o cap (reverse ss)) ts ≡ history c o cap (reverse (ss ++ ts))
+    → past_after c o cap (history c o cap (reverse ss)) ts ≡ history c o cap (reverse (ss ++ ts))
 after-history c o cap ss [] = ap (λ l. history c o cap (reverse l)) (sym (append-nothing ss))
 after-history c o cap ss (t ∷ ts) =
-    ap (λ l. after c o cap l ts) (sym (ap (history c o cap) (reverse-append ss (t ∷ []))))
+    ap (λ l. past_after c o cap l ts) (sym (ap (history c o cap) (reverse-append ss (t ∷ []))))
     ∙ after-history c o cap (ss ++ t ∷ []) ts
     ∙ ap (λ l. history c o cap (reverse l)) (append_assoc ss (t ∷ []) ts)
 
-pub made-nothing : (a : CoreData) → IsMade a [] a
-made-nothing a = record { past = refl; alike = (refl, refl, refl) }
+-- an entry that is no finish that was done adds nothing
+pub adds-nothing : (c : Parts) (o cap : ℕ) (past : List LogEntry) (rules : Rules) (e : LogEntry) → is_some (finished_slot e past) ≡ false
+    → with_entry c o cap (record { past = past; rules = rules }) e ≡ record { past = e ∷ past; rules = rules }
+adds-nothing c o cap past rules e h = rw h refl
 
-pub made-one : (a b : CoreData) (by : PortId) (step : Step) → b.log ≡ a.log ++ answered a by step ∷ [] → IsAlike a b
-    → IsMade a ((by, step) ∷ []) b
-made-one a b by step e alike =
-    record { past = ap reverse e ∙ reverse-append a.log (answered a by step ∷ []); alike = alike }
+pub made-nothing : (a : RuledData) → IsMade a [] a
+made-nothing a = record { course = refl; alike = (refl, refl, refl) }
 
-pub made-more : (a b d : CoreData) (ss ts : List (PortId × Step)) → IsMade a ss b → IsMade b ts d → IsMade a (ss ++ ts) d
+-- a step to which no rule adds
+pub made-one : (a b : RuledData) (by : PortId) (step : Step) → b.core.log ≡ a.core.log ++ answered a.core by step ∷ [] → IsAlike a.core b.core → b.rules ≡ a.rules
+    → is_some (finished_slot (answered a.core by step) (past_of a.core)) ≡ false → IsMade a ((by, step) ∷ []) b
+made-one a b by step e alike same none =
+    record {
+      course =
+          (let past = ap reverse e ∙ reverse-append a.core.log (answered a.core by step ∷ []) in rw (past, same) refl)
+          ∙ sym (adds-nothing a.core.cluster a.core.opening a.core.capacity (past_of a.core) a.rules (answered a.core by step) none);
+      alike = alike;
+    }
+
+-- a step that is no finish ends no slot
+pub no-finish : (by : PortId) (step : Step) (r : Reply) (past : List LogEntry) → is_finish step ≡ false
+    → is_some (finished_slot (record { port = by; step = step; reply = r }) past) ≡ false
+no-finish by step (Done es) past h = rw h refl
+no-finish by step (Refused why) past h = refl
+
+-- so it is an entry and no more
+pub made-past : (a b : RuledData) (by : PortId) (step : Step) → is_finish step ≡ false → IsMade a ((by, step) ∷ []) b
+    → past_of b.core ≡ answered a.core by step ∷ past_of a.core
+made-past a b by step h made =
+    let none = no-finish by step (answered a.core by step).reply (past_of a.core) h in
+    ap (λ (k : Course). k.past) made.course
+    ∙ ap (λ (k : Course). k.past) (adds-nothing a.core.cluster a.core.opening a.core.capacity (past_of a.core) a.rules (answered a.core by step) none)
+
+pub made-more : (a b d : RuledData) (ss ts : List (PortId × Step)) → IsMade a ss b → IsMade b ts d → IsMade a (ss ++ ts) d
 made-more a b d ss ts p q =
     record {
-      past =
-          (rw (p.alike.0, p.alike.1, p.alike.2, p.past) at q.past)
-          ∙ sym (after-append a.cluster a.opening a.capacity (past_of a) ss ts);
+      course =
+          (rw (p.alike.0, p.alike.1, p.alike.2, p.course) at q.course)
+          ∙ sym (after-append a.core.cluster a.core.opening a.core.capacity (course_on a) ss ts);
       alike = (q.alike.0 ∙ p.alike.0, q.alike.1 ∙ p.alike.1, q.alike.2 ∙ p.alike.2);
     }
+
+pub length-last : {A : Type 0} (xs : List A) (e : A) → length (xs ++ e ∷ []) ≡ suc (length xs)
+length-last [] e = refl
+length-last (x ∷ xs) e = ap suc (length-last xs e)
 
 -- the last item of a list that ends so
 last-item : {A : Type 0} (xs : List A) (e d : A) → get_or (xs ++ e ∷ []) (length xs) d ≡ e
 last-item [] e d = refl
 last-item (x ∷ xs) e d = last-item xs e d
 
-pub length-last : {A : Type 0} (xs : List A) (e : A) → length (xs ++ e ∷ []) ≡ suc (length xs)
-length-last [] e = refl
-length-last (x ∷ xs) e = ap suc (length-last xs e)
-
 ends-so : {A : Type 0} (xs ys : List A) (e : A) → reverse xs ≡ e ∷ ys → xs ≡ reverse ys ++ e ∷ []
 ends-so xs ys e h = sym (reverse-reverse xs) ∙ ap reverse h ∙ reverse-append (e ∷ []) ys
 
--- a core has a newest entry after a step
-pub made-some : (a b : CoreData) (by : PortId) (step : Step) → IsMade a ((by, step) ∷ []) b → 0 < length b.log
-made-some a b by step p =
-    let e = ap length (ends-so b.log _ _ p.past) ∙ length-last _ _ in
-    omega (arith, e)
+pub some-past : (core : CoreData) (e : LogEntry) (past : List LogEntry) → past_of core ≡ e ∷ past → 0 < length core.log
+some-past core e past h = let k = ap length (ends-so core.log past e h) ∙ length-last (reverse past) e in omega (arith, k)
 
 last-of : {A : Type 0} (xs ys : List A) (e x : A) → xs ≡ ys ++ e ∷ [] → x ≡ get_or xs (length xs - 1) x → x ≡ e
 last-of xs ys e x h is =
     let n : length xs - 1 ≡ length ys = let l = ap length h ∙ length-last ys e in omega (arith, l) in
     is ∙ ap (λ i. get_or xs i x) n ∙ ap (λ l. get_or l (length ys) x) h ∙ last-item ys e x
 
--- and that is the step's
-pub made-newest : (a b : CoreData) (by : PortId) (step : Step) (e : LogEntry) → IsMade a ((by, step) ∷ []) b
-    → e ≡ get_or b.log (length b.log - 1) e → e ≡ answered a by step
-made-newest a b by step e p is = last-of b.log (reverse (past_of a)) (answered a by step) e (ends-so b.log _ _ p.past) is
+-- the newest entry of a log
+pub newest-past : (core : CoreData) (e x : LogEntry) (past : List LogEntry) → past_of core ≡ e ∷ past → x ≡ get_or core.log (length core.log - 1) x → x ≡ e
+newest-past core e x past h is = last-of core.log (reverse past) e x (ends-so core.log past e h) is
 
--- ---- a log has an entry more for each step
-pub after-length : (c : Parts) (o cap : ℕ) (past : List LogEntry) (ss : List (PortId × Step))
-    → length (after c o cap past ss) ≡ length past + length ss
-after-length c o cap past [] = omega arith
-after-length c o cap past (s ∷ ss) =
-    let e = after-length c o cap (entry_of c o cap past s ∷ past) ss in omega (arith, e)
+-- ---- a history has an entry more for each step, and for each that is added
+pub past-longer : (c : Parts) (o cap : ℕ) (past : List LogEntry) (ss : List (PortId × Step)) → length (past_after c o cap past ss) ≡ length past + length ss
+past-longer c o cap past [] = omega arith
+past-longer c o cap past (s ∷ ss) =
+    let e = past-longer c o cap (entry_of c o cap past s ∷ past) ss in omega (arith, e)
 
-pub made-length : (a b : CoreData) (ss : List (PortId × Step)) → IsMade a ss b
-    → length b.log ≡ length a.log + length ss
-made-length a b ss p =
-    let made = ap length p.past ∙ after-length a.cluster a.opening a.capacity (past_of a) ss in
-    omega (arith, made, length-reverse a.log, length-reverse b.log)
+pub after-longer : (c : Parts) (o cap : ℕ) (at : Course) (ss : List (PortId × Step)) → length at.past + length ss ≤ length (after c o cap at ss).past
+after-longer c o cap at [] = omega arith
+after-longer c o cap at (s ∷ ss) =
+    let e : LogEntry = entry_of c o cap at.past s in
+    let one = past-longer c o cap (e ∷ at.past) (added c e at.past at.rules) in
+    let more = after-longer c o cap (with_entry c o cap at e) ss in
+    omega (arith, one, more)
 
-after-adds : (c : Parts) (o cap : ℕ) (past : List LogEntry) (ss : List (PortId × Step)) → (more : List LogEntry) × (after c o cap past ss ≡ more ++ past)
-after-adds c o cap past [] = ([], refl)
-after-adds c o cap past (s ∷ ss) =
+pub past-adds : (c : Parts) (o cap : ℕ) (past : List LogEntry) (ss : List (PortId × Step)) → (more : List LogEntry) × (past_after c o cap past ss ≡ more ++ past)
+past-adds c o cap past [] = ([], refl)
+past-adds c o cap past (s ∷ ss) =
     let e = entry_of c o cap past s in
-    let r = after-adds c o cap (e ∷ past) ss in
+    let r = past-adds c o cap (e ∷ past) ss in
     (r.0 ++ e ∷ [], r.1 ∙ sym (append_assoc r.0 (e ∷ []) past))
 
-pub grown-made : (a b : CoreData) (ss : List (PortId × Step)) → IsMade a ss b → IsGrown a b
+after-adds : (c : Parts) (o cap : ℕ) (at : Course) (ss : List (PortId × Step)) → (more : List LogEntry) × ((after c o cap at ss).past ≡ more ++ at.past)
+after-adds c o cap at [] = ([], refl)
+after-adds c o cap at (s ∷ ss) =
+    let e : LogEntry = entry_of c o cap at.past s in
+    let one = past-adds c o cap (e ∷ at.past) (added c e at.past at.rules) in
+    let rest = after-adds c o cap (with_entry c o cap at e) ss in
+    (rest.0 ++ (one.0 ++ e ∷ []), rest.1 ∙ ap (λ l. rest.0 ++ l) (one.1 ∙ sym (append_assoc one.0 (e ∷ []) at.past)) ∙ sym (append_assoc rest.0 (one.0 ++ e ∷ []) at.past))
+
+pub grown-made : (a b : RuledData) (ss : List (PortId × Step)) → IsMade a ss b → IsGrown a.core b.core
 grown-made a b ss p =
-    let r = after-adds a.cluster a.opening a.capacity (past_of a) ss in
+    let r = after-adds a.core.cluster a.core.opening a.core.capacity (course_on a) ss in
     record {
       more = reverse r.0;
       log =
-          sym (reverse-reverse b.log) ∙ ap reverse (p.past ∙ r.1) ∙ reverse-append r.0 (past_of a)
-          ∙ ap (λ l. l ++ reverse r.0) (reverse-reverse a.log);
+          sym (reverse-reverse b.core.log) ∙ ap reverse (ap (λ (k : Course). k.past) p.course ∙ r.1) ∙ reverse-append r.0 (past_of a.core)
+          ∙ ap (λ l. l ++ reverse r.0) (reverse-reverse a.core.log);
     }
 
 pub grown-nothing : (a b : CoreData) → b.log ≡ a.log → IsGrown a b
@@ -113,20 +148,23 @@ grown-more a b d p q =
     record { more = p.more ++ q.more; log = q.log ∙ ap (λ l. l ++ q.more) p.log ∙ append_assoc a.log p.more q.more }
 
 -- ---- steps that aren't made, among others
-pub fails-among : (fault : MakeFault) (a b : CoreData) (ss ts : List (PortId × Step)) → length b.log + length ts ≤ length a.log + length ss
-    → StepsFail fault b ts → StepsFail fault a ss
-fails-among LogFull a b ss ts few full = omega (arith, few, full)
-fails-among OutOfMemory a b ss ts few none = tt
+pub fails-before : (fault : MakeFault) (a : RuledData) (ss ts : List (PortId × Step)) → StepsFail fault a ss → StepsFail fault a (ss ++ ts)
+fails-before LogFull a ss ts full =
+    let e = ap (λ (k : Course). length k.past) (after-append a.core.cluster a.core.opening a.core.capacity (course_on a) ss ts) in
+    let more = after-longer a.core.cluster a.core.opening a.core.capacity (after a.core.cluster a.core.opening a.core.capacity (course_on a) ss) ts in
+    omega (arith, e, more, full)
+fails-before OutOfMemory a ss ts none = tt
 
-pub fails-before : (fault : MakeFault) (a : CoreData) (ss ts : List (PortId × Step)) → StepsFail fault a ss → StepsFail fault a (ss ++ ts)
-fails-before fault a ss ts = fails-among fault a a (ss ++ ts) ss (omega (arith, length-append ss ts))
-
-pub fails-after : (fault : MakeFault) (a b : CoreData) (ss ts : List (PortId × Step)) → IsMade a ss b → StepsFail fault b ts → StepsFail fault a (ss ++ ts)
-fails-after fault a b ss ts p = fails-among fault a b (ss ++ ts) ts (omega (arith, made-length a b ss p, length-append ss ts))
+pub fails-after : (fault : MakeFault) (a b : RuledData) (ss ts : List (PortId × Step)) → IsMade a ss b → StepsFail fault b ts → StepsFail fault a (ss ++ ts)
+fails-after LogFull a b ss ts p full =
+    let e = ap (λ (k : Course). length k.past) (after-append a.core.cluster a.core.opening a.core.capacity (course_on a) ss ts) in
+    let there = rw (p.alike.0, p.alike.1, p.alike.2, p.course) at full in
+    omega (arith, e, there)
+fails-after OutOfMemory a b ss ts p none = tt
 
 -- what making steps after others answers
-pub makes-more : {X : Type 0} (a b d : CoreData) (ss ts : List (PortId × Step)) (r : Result X MakeFault) → IsMade a ss b → MakesSteps b ts r d
+pub makes-more : {X : Type 0} (a b d : RuledData) (ss ts : List (PortId × Step)) (r : Result X MakeFault) → IsMade a ss b → MakesSteps b ts r d
     → MakesSteps a (ss ++ ts) r d
 makes-more a b d ss ts (Ok x) p q = made-more a b d ss ts p q
 makes-more a b d ss ts (Err fault) p (fails, grown) =
-    (fails-after fault a b ss ts p fails, grown-more a b d (grown-made a b ss p) grown)
+    (fails-after fault a b ss ts p fails, grown-more a.core b.core d.core (grown-made a b ss p) grown)

@@ -5,14 +5,14 @@ use Rattle.lin_cluster_parts.specs.declared.parts.Parts.{Parts}
 use Rattle.lin_core.specs.Core.{CoreData, IsAlike}
 use Rattle.lin_bench.specs.Bench.{BenchData, fresh}
 use Rattle.lin_bench.specs.Played.{Run, first, in_turn, next, played}
-use Rattle.lin_bench.specs.Plays.{Comes, PlayFails, next_on, run_of}
+use Rattle.lin_bench.specs.Plays.{Comes, PlayFails, PlaysLine, next_on, run_of}
 use Rattle.lin_bench.specs.declared.line.Line.{Line}
 use Rattle.lin_bench.specs.declared.fault.PlayFault.{PlayFault}
-use Rattle.lin_bench.specs.declared.fault.PlayFault.TheVariants.{SlotLimit, OutOfMemory}
+use Rattle.lin_bench.specs.declared.fault.PlayFault.TheVariants.{SlotLimit, LogFull, OutOfMemory}
 use Rattle.lin_bench.specs.declared.playing.Played.{Played}
 use Rattle.lin_bench.specs.declared.got.Unmet.{Unmet}
 
-turns-failed : (c : Parts) (o cap n : ℕ) (ys : List (ℕ × Line)) → Err n ≡ in_turn c o cap (Err n) ys
+pub turns-failed : (c : Parts) (o cap n : ℕ) (ys : List (ℕ × Line)) → Err n ≡ in_turn c o cap (Err n) ys
 turns-failed c o cap n [] = refl
 turns-failed c o cap n (y ∷ ys) = refl
 
@@ -51,12 +51,22 @@ come-more c o cap ls p q old new n l h (is, alike) =
       capacity = alike.2 ∙ h.capacity;
     }
 
--- a line makes more slots than are left, whatever follows, or there is no memory
-pub line-fails : (c : Parts) (o cap : ℕ) (ls rest all : List (ℕ × Line)) (b : BenchData) (unmet : List Unmet) (n : ℕ) (l : Line) (fault : PlayFault)
-    → ls ++ (n, l) ∷ rest ≡ all → HasCome c o cap ls b unmet → PlayFails fault (next_on b unmet n l) → PlayFails fault (played c o cap all)
-line-fails c o cap ls rest all b unmet n l (SlotLimit m) e h f =
+-- a line makes more slots than are left, or more steps than there is room for, whatever follows; or there is no memory
+pub line-fails : (c : Parts) (o cap : ℕ) (ls rest all : List (ℕ × Line)) (b new : BenchData) (unmet more : List Unmet) (n : ℕ) (l : Line) (fault : PlayFault)
+    → ls ++ (n, l) ∷ rest ≡ all → HasCome c o cap ls b unmet → PlaysLine b unmet n l (Err fault) new more → PlayFails c o cap all fault
+line-fails c o cap ls rest all b new unmet more n l (SlotLimit m) e h f =
     ap (played c o cap) (sym e) ∙ after-one c o cap ls b unmet n l rest h ∙ ap (λ r. in_turn c o cap r rest) f ∙ sym (turns-failed c o cap m rest)
-line-fails c o cap ls rest all b unmet n l OutOfMemory e h f = tt
+line-fails c o cap ls rest all b new unmet more n l LogFull e h f =
+    record {
+      before = ls;
+      line = (n, l);
+      behind = rest;
+      all = sym e;
+      run = run_of b unmet;
+      so_far = h.lines;
+      full = rw (h.cluster, h.opening, h.capacity) at f;
+    }
+line-fails c o cap ls rest all b new unmet more n l OutOfMemory e h f = tt
 
 -- all lines were played
 pub all-come : (c : Parts) (o cap : ℕ) (ls all : List (ℕ × Line)) (b : BenchData) (unmet : List Unmet) (it : Played) → ls ≡ all → HasCome c o cap ls b unmet

@@ -1,11 +1,13 @@
 -- The steps of slots.
-use Rattle.std.proofs.Common.{◌≡◌, ◌∙◌, ℕ, suc, zero, ◌+◌, ◌<◌, eqb-true, Bool, true, false, not, List, [], ◌∷◌, ◌++◌, map, refl, sym, ap, arith, append_assoc, add-one, subst, cond, length, length-append, Option, Some, None}
+use Rattle.std.proofs.Common.{◌≡◌, ◌∙◌, ℕ, suc, zero, ◌+◌, ◌<◌, eqb-true, Bool, true, false, not, List, [], ◌∷◌, ◌++◌, map, refl, sym, ap, arith, append_assoc, add-one, subst, cond, drop, get_or, length, length-append, take, Option, Some, None}
 use Rattle.std.specs.Prelude.{◌==◌, ◌&&◌, filter, if◌then◌else◌, is_some}
 use Rattle.std.specs.Option.{option_map_or}
 use Rattle.std.proofs.lemmas.Bool.{and_parts}
+use Rattle.std.proofs.Math.Seq.{drop-cons}
+use Rattle.std.proofs.lemmas.List.{map-append, take-append-drop}
 use Rattle.std.proofs.lemmas.List.Elements.{filter-append}
 use Rattle.lin_cluster_parts.specs.declared.parts.Parts.{Parts}
-use Rattle.lin_core.specs.Core.{CoreData, past_of}
+use Rattle.lin_core.specs.Core.{past_of}
 use Rattle.lin_core.specs.History.{is_finish, is_in, time}
 use Rattle.lin_core.specs.Replies.{done_events, refusal, reply}
 use Rattle.lin_core.specs.declared.event.Event.{Event}
@@ -16,8 +18,8 @@ use Rattle.lin_core.specs.declared.reply.Refusal.{Refusal}
 use Rattle.lin_core.specs.declared.reply.Reply.TheVariants.{Done, Refused}
 use Rattle.lin_core.specs.declared.step.Step.{Step}
 use Rattle.lin_core.specs.declared.step.Step.TheVariants.{Open, Answer, Leave, Finish}
-use Rattle.lin_bench.specs.Making.{IsGrown, IsMade, NoRoom, SlotsFail, StepsFail, ends_at, extent_on, first_on}
-use Rattle.lin_bench.specs.Slots.{after, decision, due_in, due_now, extent_steps, hurt_steps, is_opened, leave_nodes, most, one_more, slot_rest, slot_steps, slots_in, slots_steps}
+use Rattle.lin_bench.specs.Making.{IsGrown, IsMade, NoRoom, RuledData, SlotsFail, StepsFail, course_on, ends_at, extent_on, first_on}
+use Rattle.lin_bench.specs.Slots.{Course, after, decision, due_in, due_now, extent_steps, hurt_steps, is_opened, leave_nodes, most, one_more, slot_rest, slot_steps, slots_in, slots_steps}
 use Rattle.lin_bench.specs.declared.expected.Expected.{Expected}
 use Rattle.lin_bench.specs.declared.taken.EventKind.{EventKind}
 use Rattle.lin_bench.specs.declared.line.Disturbance.{Disturbance}
@@ -26,6 +28,23 @@ use Rattle.lin_bench.specs.declared.line.Extent.{Extent}
 use Rattle.lin_bench.specs.declared.fault.MakeFault.{MakeFault}
 use Rattle.lin_bench.specs.declared.fault.MakeFault.TheVariants.{LogFull, OutOfMemory}
 use Rattle.lin_bench.proofs.Makes.{append-nothing, fails-after, fails-before, grown-made, grown-more, made-more, made-nothing}
+
+-- ---- the steps of nodes that are due
+pub map-split : {X : Type 0} (f : ℕ → X) (xs : List ℕ) (i : ℕ) → i < length xs → map f xs ≡ map f (take i xs) ++ f (get_or xs i 0) ∷ map f (drop (suc i) xs)
+map-split f xs i h =
+    sym (ap (map f) (take-append-drop i xs)) ∙ map-append f (take i xs) (drop i xs)
+    ∙ ap (λ l. map f (take i xs) ++ map f l) (drop-cons xs i 0 h)
+
+-- one of them fails
+pub one-fails : (fault : MakeFault) (a now new : RuledData) (how : Disturbance) (due : List ℕ) (i : ℕ) → i < length due → IsMade a (map (decision how) (take i due)) now
+    → StepsFail fault now (decision how (get_or due i 0) ∷ []) × IsGrown now.core new.core → StepsFail fault a (map (decision how) due) × IsGrown a.core new.core
+one-fails fault a now new how due i small made (fails, grown) =
+    let one : List (PortId × Step) = decision how (get_or due i 0) ∷ [] in
+    let rest = map (decision how) (drop (suc i) due) in (
+      rw (map-split (decision how) due i small)
+          (fails-after fault a now (map (decision how) (take i due)) (one ++ rest) made (fails-before fault now one rest fails)),
+      grown-more a.core now.core new.core (grown-made a now (map (decision how) (take i due)) made) grown,
+    )
 
 -- ---- how many slots end by steps
 pub slots_in-append : (ss ts : List (PortId × Step)) → slots_in (ss ++ ts) ≡ slots_in ss + slots_in ts
@@ -76,6 +95,12 @@ pub steps-opened : (c : Parts) (o cap : ℕ) (how : Disturbance) (past : List Lo
 unfolding slot_steps
 steps-opened c o cap how past due h = rw h refl
 
+pub open-fails : (fault : MakeFault) (a : RuledData) (how : Disturbance) → StepsFail fault a ((Bus, Open) ∷ [])
+    → StepsFail fault a (slot_steps a.core.cluster a.core.opening a.core.capacity how (past_of a.core))
+unfolding slot_steps
+open-fails fault a how fails =
+    fails-before fault a ((Bus, Open) ∷ []) (slot_rest how (due_now a.core.cluster a.core.opening a.core.capacity (past_of a.core))) fails
+
 -- whether a slot can be opened, by the refusal of its open
 opened-by : (why : Option Refusal) (es : List Event) (b : Bool) → is_some why ≡ not b → b ≡ is_opened (due_in (option_map_or Refused why (Done es)))
 opened-by None es true h = refl
@@ -96,80 +121,80 @@ pub none-left : (n : ℕ) (b : Bool) → (n == 0 && b) ≡ true → (n ≡ 0) ×
 none-left n b h = let p = and_parts (n == 0) b h in (eqb-true n 0 p.0, p.1)
 
 -- ---- one more slot of those of a line
-turn-stops : (c : Parts) (o cap : ℕ) (how : Disturbance) (goes : List LogEntry → Bool) (n : ℕ) (past : List LogEntry)
-    → goes past ≡ false → slots_steps c o cap how goes n past ≡ []
+turn-stops : (c : Parts) (o cap : ℕ) (how : Disturbance) (goes : Course → Bool) (n : ℕ) (at : Course)
+    → goes at ≡ false → slots_steps c o cap how goes n at ≡ []
 unfolding slots_steps
-turn-stops c o cap how goes zero past h = refl
-turn-stops c o cap how goes (suc n) past h = rw h refl
+turn-stops c o cap how goes zero at h = refl
+turn-stops c o cap how goes (suc n) at h = rw h refl
 
-turn-refused : (c : Parts) (o cap : ℕ) (how : Disturbance) (goes : List LogEntry → Bool) (n : ℕ) (past : List LogEntry)
-    → goes past ≡ true → is_opened (due_now c o cap past) ≡ false
-    → slots_steps c o cap how goes (suc n) past ≡ slot_steps c o cap how past ++ []
+turn-refused : (c : Parts) (o cap : ℕ) (how : Disturbance) (goes : Course → Bool) (n : ℕ) (at : Course)
+    → goes at ≡ true → is_opened (due_now c o cap at.past) ≡ false
+    → slots_steps c o cap how goes (suc n) at ≡ slot_steps c o cap how at.past ++ []
 unfolding slots_steps
-turn-refused c o cap how goes n past h g = rw (h, g) refl
+turn-refused c o cap how goes n at h g = rw (h, g) refl
 
-turn-opened : (c : Parts) (o cap : ℕ) (how : Disturbance) (goes : List LogEntry → Bool) (n : ℕ) (past : List LogEntry)
-    → goes past ≡ true → is_opened (due_now c o cap past) ≡ true
-    → slots_steps c o cap how goes (suc n) past
-    ≡ slot_steps c o cap how past ++ slots_steps c o cap how goes n (after c o cap past (slot_steps c o cap how past))
+turn-opened : (c : Parts) (o cap : ℕ) (how : Disturbance) (goes : Course → Bool) (n : ℕ) (at : Course)
+    → goes at ≡ true → is_opened (due_now c o cap at.past) ≡ true
+    → slots_steps c o cap how goes (suc n) at
+    ≡ slot_steps c o cap how at.past ++ slots_steps c o cap how goes n (after c o cap at (slot_steps c o cap how at.past))
 unfolding slots_steps
-turn-opened c o cap how goes n past h g = rw (h, g) refl
+turn-opened c o cap how goes n at h g = rw (h, g) refl
 
 -- the steps of at most n more slots of a line that began on a core
-abbrev pub turns : CoreData → Disturbance → Extent → (List LogEntry → Bool) → ℕ → List LogEntry → List (PortId × Step)
-turns a how extent ends n past =
-    slots_steps a.cluster a.opening a.capacity how (one_more a.cluster extent ends (time a.cluster (past_of a))) n past
+abbrev pub turns : RuledData → Disturbance → Extent → (Course → Bool) → ℕ → Course → List (PortId × Step)
+turns a how extent ends n at =
+    slots_steps a.core.cluster a.core.opening a.core.capacity how (one_more a.core.cluster extent ends (time a.core.cluster (past_of a.core))) n at
 
 -- slots of a line that began on a core were made, at most n more follow, and so many are left
-pub record AreBegun (a : CoreData) (how : Disturbance) (extent : Extent) (ends : List LogEntry → Bool) (left : ℕ) (now : CoreData) (n : ℕ) (rest : ℕ) : Type 0 where
+pub record AreBegun (a : RuledData) (how : Disturbance) (extent : Extent) (ends : Course → Bool) (left : ℕ) (now : RuledData) (n : ℕ) (rest : ℕ) : Type 0 where
   pub steps : List (PortId × Step)
   pub made : IsMade a steps now
-  pub whole : extent_on a how extent ends ≡ steps ++ turns a how extent ends n (past_of now)
-  pub first : first_on a how extent ends left ≡ steps ++ turns a how extent ends rest (past_of now)
+  pub whole : extent_on a how extent ends ≡ steps ++ turns a how extent ends n (course_on now)
+  pub first : first_on a how extent ends left ≡ steps ++ turns a how extent ends rest (course_on now)
   pub count : slots_in steps + rest ≡ left
 
-begin-all : (a : CoreData) (how : Disturbance) (extent : Extent) (ends : List LogEntry → Bool) (left : ℕ) → AreBegun a how extent ends left a (most extent) left
+begin-all : (a : RuledData) (how : Disturbance) (extent : Extent) (ends : Course → Bool) (left : ℕ) → AreBegun a how extent ends left a (most extent) left
 unfolding extent_steps
 begin-all a how extent ends left = record { steps = []; made = made-nothing a; whole = refl; first = refl; count = omega arith }
 
-pub begin : (a : CoreData) (how : Disturbance) (extent : Extent) (ends : List LogEntry → Bool) (left n : ℕ) → n ≡ most extent → AreBegun a how extent ends left a n left
+pub begin : (a : RuledData) (how : Disturbance) (extent : Extent) (ends : Course → Bool) (left n : ℕ) → n ≡ most extent → AreBegun a how extent ends left a n left
 begin a how extent ends left n e = subst (λ k. AreBegun a how extent ends left a k left) (sym e) (begin-all a how extent ends left)
 
 -- whether one more is to be made, by the time at the line's beginning
-same-goes : (a now : CoreData) (ss : List (PortId × Step)) (extent : Extent) (ends : List LogEntry → Bool) (t : ℕ) (b : Bool) → IsMade a ss now
-    → t ≡ time a.cluster (past_of a) → one_more now.cluster extent ends t (past_of now) ≡ b
-    → one_more a.cluster extent ends (time a.cluster (past_of a)) (past_of now) ≡ b
+same-goes : (a now : RuledData) (ss : List (PortId × Step)) (extent : Extent) (ends : Course → Bool) (t : ℕ) (b : Bool) → IsMade a ss now
+    → t ≡ time a.core.cluster (past_of a.core) → one_more now.core.cluster extent ends t (course_on now) ≡ b
+    → one_more a.core.cluster extent ends (time a.core.cluster (past_of a.core)) (course_on now) ≡ b
 same-goes a now ss extent ends t b p e h =
-    ap (λ c. one_more c extent ends (time a.cluster (past_of a)) (past_of now)) (sym p.alike.0)
-    ∙ ap (λ k. one_more now.cluster extent ends k (past_of now)) (sym e) ∙ h
+    ap (λ c. one_more c extent ends (time a.core.cluster (past_of a.core)) (course_on now)) (sym p.alike.0)
+    ∙ ap (λ k. one_more now.core.cluster extent ends k (course_on now)) (sym e) ∙ h
 
 -- and with what is taken at the line's beginning
-pub same-ends : (a now : CoreData) (ss : List (PortId × Step)) (js ks : List EventKind) (what : Option Expected) (extent : Extent) (t : ℕ) (b : Bool)
-    → IsMade a ss now → js ≡ ks → b ≡ one_more now.cluster extent (ends_at now.cluster js what) t (past_of now)
-    → one_more now.cluster extent (ends_at a.cluster ks what) t (past_of now) ≡ b
+pub same-ends : (a now : RuledData) (ss : List (PortId × Step)) (js ks : List EventKind) (what : Option Expected) (extent : Extent) (t : ℕ) (b : Bool)
+    → IsMade a ss now → js ≡ ks → b ≡ one_more now.core.cluster extent (ends_at now.core.cluster js what) t (course_on now)
+    → one_more now.core.cluster extent (ends_at a.core.cluster ks what) t (course_on now) ≡ b
 same-ends a now ss js ks what extent t b p same h =
-    ap (λ c. one_more now.cluster extent (ends_at c ks what) t (past_of now)) (sym p.alike.0)
-    ∙ ap (λ l. one_more now.cluster extent (ends_at now.cluster l what) t (past_of now)) (sym same) ∙ sym h
+    ap (λ c. one_more now.core.cluster extent (ends_at c ks what) t (course_on now)) (sym p.alike.0)
+    ∙ ap (λ l. one_more now.core.cluster extent (ends_at now.core.cluster l what) t (course_on now)) (sym same) ∙ sym h
 
 -- what a slot of a core says by the core that the line began on
-same-slot : (a now : CoreData) (how : Disturbance) (ss : List (PortId × Step)) → IsMade a ss now
-    → slot_steps now.cluster now.opening now.capacity how (past_of now) ≡ slot_steps a.cluster a.opening a.capacity how (past_of now)
+same-slot : (a now : RuledData) (how : Disturbance) (ss : List (PortId × Step)) → IsMade a ss now
+    → slot_steps now.core.cluster now.core.opening now.core.capacity how (past_of now.core) ≡ slot_steps a.core.cluster a.core.opening a.core.capacity how (past_of now.core)
 same-slot a now how ss p = rw (p.alike.0, p.alike.1, p.alike.2) refl
 
-same-due : (a now : CoreData) (ss : List (PortId × Step)) → IsMade a ss now
-    → due_now now.cluster now.opening now.capacity (past_of now) ≡ due_now a.cluster a.opening a.capacity (past_of now)
+same-due : (a now : RuledData) (ss : List (PortId × Step)) → IsMade a ss now
+    → due_now now.core.cluster now.core.opening now.core.capacity (past_of now.core) ≡ due_now a.core.cluster a.core.opening a.core.capacity (past_of now.core)
 same-due a now ss p = rw (p.alike.0, p.alike.1, p.alike.2) refl
 
 -- no more is to be made
-pub stopped : (a now : CoreData) (how : Disturbance) (extent : Extent) (ends : List LogEntry → Bool) (left n rest : ℕ) → AreBegun a how extent ends left now n rest
-    → one_more a.cluster extent ends (time a.cluster (past_of a)) (past_of now) ≡ false
+pub stopped : (a now : RuledData) (how : Disturbance) (extent : Extent) (ends : Course → Bool) (left n rest : ℕ) → AreBegun a how extent ends left now n rest
+    → one_more a.core.cluster extent ends (time a.core.cluster (past_of a.core)) (course_on now) ≡ false
     → IsMade a (extent_on a how extent ends) now × (slots_in (extent_on a how extent ends) + rest ≡ left)
 stopped a now how extent ends left n rest b h =
-    let all : extent_on a how extent ends ≡ b.steps = b.whole ∙ ap (λ l. b.steps ++ l) (turn-stops _ _ _ how _ n (past_of now) h) ∙ append-nothing b.steps in
+    let all : extent_on a how extent ends ≡ b.steps = b.whole ∙ ap (λ l. b.steps ++ l) (turn-stops _ _ _ how _ n (course_on now) h) ∙ append-nothing b.steps in
     (rw all b.made, rw all b.count)
 
 -- all were made
-pub ended : (a now : CoreData) (how : Disturbance) (extent : Extent) (ends : List LogEntry → Bool) (left rest : ℕ) → AreBegun a how extent ends left now 0 rest
+pub ended : (a now : RuledData) (how : Disturbance) (extent : Extent) (ends : Course → Bool) (left rest : ℕ) → AreBegun a how extent ends left now 0 rest
     → IsMade a (extent_on a how extent ends) now × (slots_in (extent_on a how extent ends) + rest ≡ left)
 unfolding slots_steps
 ended a now how extent ends left rest b =
@@ -177,52 +202,52 @@ ended a now how extent ends left rest b =
     (rw all b.made, rw all b.count)
 
 -- the next one can't be opened
-refused-whole : (a now : CoreData) (how : Disturbance) (extent : Extent) (ends : List LogEntry → Bool) (left n rest : ℕ) (b : AreBegun a how extent ends left now (suc n) rest)
-    → one_more a.cluster extent ends (time a.cluster (past_of a)) (past_of now) ≡ true
-    → is_opened (due_now now.cluster now.opening now.capacity (past_of now)) ≡ false
-    → extent_on a how extent ends ≡ b.steps ++ slot_steps now.cluster now.opening now.capacity how (past_of now)
+refused-whole : (a now : RuledData) (how : Disturbance) (extent : Extent) (ends : Course → Bool) (left n rest : ℕ) (b : AreBegun a how extent ends left now (suc n) rest)
+    → one_more a.core.cluster extent ends (time a.core.cluster (past_of a.core)) (course_on now) ≡ true
+    → is_opened (due_now now.core.cluster now.core.opening now.core.capacity (past_of now.core)) ≡ false
+    → extent_on a how extent ends ≡ b.steps ++ slot_steps now.core.cluster now.core.opening now.core.capacity how (past_of now.core)
 refused-whole a now how extent ends left n rest b goes shut =
     let closed = ap is_opened (sym (same-due a now b.steps b.made)) ∙ shut in
-    b.whole ∙ ap (λ l. b.steps ++ l) (turn-refused _ _ _ how _ n (past_of now) goes closed ∙ append-nothing _ ∙ sym (same-slot a now how b.steps b.made))
+    b.whole ∙ ap (λ l. b.steps ++ l) (turn-refused _ _ _ how _ n (course_on now) goes closed ∙ append-nothing _ ∙ sym (same-slot a now how b.steps b.made))
 
-pub refused : (a now new : CoreData) (how : Disturbance) (extent : Extent) (ends : List LogEntry → Bool) (left n rest : ℕ) → AreBegun a how extent ends left now (suc n) rest
-    → one_more a.cluster extent ends (time a.cluster (past_of a)) (past_of now) ≡ true
-    → IsMade now (slot_steps now.cluster now.opening now.capacity how (past_of now)) new
-    → is_opened (due_now now.cluster now.opening now.capacity (past_of now)) ≡ false
+pub refused : (a now new : RuledData) (how : Disturbance) (extent : Extent) (ends : Course → Bool) (left n rest : ℕ) → AreBegun a how extent ends left now (suc n) rest
+    → one_more a.core.cluster extent ends (time a.core.cluster (past_of a.core)) (course_on now) ≡ true
+    → IsMade now (slot_steps now.core.cluster now.core.opening now.core.capacity how (past_of now.core)) new
+    → is_opened (due_now now.core.cluster now.core.opening now.core.capacity (past_of now.core)) ≡ false
     → IsMade a (extent_on a how extent ends) new × (slots_in (extent_on a how extent ends) + rest ≡ left)
 refused a now new how extent ends left n rest b goes made shut =
-    let one = slot_steps now.cluster now.opening now.capacity how (past_of now) in
+    let one = slot_steps now.core.cluster now.core.opening now.core.capacity how (past_of now.core) in
     let all = refused-whole a now how extent ends left n rest b goes shut in
-    let none : slots_in one ≡ 0 = no-slot _ _ _ how (past_of now) shut in
+    let none : slots_in one ≡ 0 = no-slot _ _ _ how (past_of now.core) shut in
     let count : slots_in (b.steps ++ one) + rest ≡ left = let e = slots_in-append b.steps one in omega (arith, e, none, b.count) in
     (rw all (made-more a now new b.steps one b.made made), rw all count)
 
 -- the next one was opened
-turned : (a now new : CoreData) (how : Disturbance) (extent : Extent) (ends : List LogEntry → Bool) (n : ℕ) (xs steps : List (PortId × Step))
-    → xs ≡ steps ++ turns a how extent ends (suc n) (past_of now) → IsMade a steps now
-    → one_more a.cluster extent ends (time a.cluster (past_of a)) (past_of now) ≡ true
-    → IsMade now (slot_steps now.cluster now.opening now.capacity how (past_of now)) new
-    → is_opened (due_now now.cluster now.opening now.capacity (past_of now)) ≡ true
-    → xs ≡ (steps ++ slot_steps now.cluster now.opening now.capacity how (past_of now)) ++ turns a how extent ends n (past_of new)
+turned : (a now new : RuledData) (how : Disturbance) (extent : Extent) (ends : Course → Bool) (n : ℕ) (xs steps : List (PortId × Step))
+    → xs ≡ steps ++ turns a how extent ends (suc n) (course_on now) → IsMade a steps now
+    → one_more a.core.cluster extent ends (time a.core.cluster (past_of a.core)) (course_on now) ≡ true
+    → IsMade now (slot_steps now.core.cluster now.core.opening now.core.capacity how (past_of now.core)) new
+    → is_opened (due_now now.core.cluster now.core.opening now.core.capacity (past_of now.core)) ≡ true
+    → xs ≡ (steps ++ slot_steps now.core.cluster now.core.opening now.core.capacity how (past_of now.core)) ++ turns a how extent ends n (course_on new)
 turned a now new how extent ends n xs steps whole so_far goes made is_open =
-    let one = slot_steps now.cluster now.opening now.capacity how (past_of now) in
+    let one = slot_steps now.core.cluster now.core.opening now.core.capacity how (past_of now.core) in
     let same = same-slot a now how steps so_far in
     let is = ap is_opened (sym (same-due a now steps so_far)) ∙ is_open in
-    let later : past_of new ≡ after a.cluster a.opening a.capacity (past_of now) (slot_steps a.cluster a.opening a.capacity how (past_of now)) =
-    rw (so_far.alike.0, so_far.alike.1, so_far.alike.2) at made.past in
-    whole ∙ ap (λ l. steps ++ l) (turn-opened _ _ _ how _ n (past_of now) goes is)
-    ∙ ap (λ l. steps ++ (l ++ turns a how extent ends n (after a.cluster a.opening a.capacity (past_of now) (slot_steps a.cluster a.opening a.capacity how (past_of now))))) (sym same)
+    let later : course_on new ≡ after a.core.cluster a.core.opening a.core.capacity (course_on now) (slot_steps a.core.cluster a.core.opening a.core.capacity how (past_of now.core)) =
+    rw (so_far.alike.0, so_far.alike.1, so_far.alike.2) at made.course in
+    whole ∙ ap (λ l. steps ++ l) (turn-opened _ _ _ how _ n (course_on now) goes is)
+    ∙ ap (λ l. steps ++ (l ++ turns a how extent ends n (after a.core.cluster a.core.opening a.core.capacity (course_on now) (slot_steps a.core.cluster a.core.opening a.core.capacity how (past_of now.core))))) (sym same)
     ∙ ap (λ l. steps ++ (one ++ turns a how extent ends n l)) (sym later)
-    ∙ sym (append_assoc steps one (turns a how extent ends n (past_of new)))
+    ∙ sym (append_assoc steps one (turns a how extent ends n (course_on new)))
 
-pub opened : (a now new : CoreData) (how : Disturbance) (extent : Extent) (ends : List LogEntry → Bool) (left n rest : ℕ) → AreBegun a how extent ends left now (suc n) (suc rest)
-    → one_more a.cluster extent ends (time a.cluster (past_of a)) (past_of now) ≡ true
-    → IsMade now (slot_steps now.cluster now.opening now.capacity how (past_of now)) new
-    → is_opened (due_now now.cluster now.opening now.capacity (past_of now)) ≡ true
+pub opened : (a now new : RuledData) (how : Disturbance) (extent : Extent) (ends : Course → Bool) (left n rest : ℕ) → AreBegun a how extent ends left now (suc n) (suc rest)
+    → one_more a.core.cluster extent ends (time a.core.cluster (past_of a.core)) (course_on now) ≡ true
+    → IsMade now (slot_steps now.core.cluster now.core.opening now.core.capacity how (past_of now.core)) new
+    → is_opened (due_now now.core.cluster now.core.opening now.core.capacity (past_of now.core)) ≡ true
     → AreBegun a how extent ends left new n rest
 opened a now new how extent ends left n rest b goes made is_open =
-    let one = slot_steps now.cluster now.opening now.capacity how (past_of now) in
-    let one_ends : slots_in one ≡ 1 = one-slot _ _ _ how (past_of now) is_open in
+    let one = slot_steps now.core.cluster now.core.opening now.core.capacity how (past_of now.core) in
+    let one_ends : slots_in one ≡ 1 = one-slot _ _ _ how (past_of now.core) is_open in
     record {
       steps = b.steps ++ one;
       made = made-more a now new b.steps one b.made made;
@@ -232,111 +257,111 @@ opened a now new how extent ends left n rest b goes made is_open =
     }
 
 -- the steps of a slot that is opened, among those of a line
-slot-among : (a now : CoreData) (how : Disturbance) (extent : Extent) (ends : List LogEntry → Bool) (n : ℕ) (xs steps : List (PortId × Step))
-    → xs ≡ steps ++ turns a how extent ends (suc n) (past_of now) → IsMade a steps now
-    → one_more a.cluster extent ends (time a.cluster (past_of a)) (past_of now) ≡ true
-    → is_opened (due_now now.cluster now.opening now.capacity (past_of now)) ≡ true
-    → (more : List (PortId × Step)) × (xs ≡ steps ++ (slot_steps now.cluster now.opening now.capacity how (past_of now) ++ more))
+slot-among : (a now : RuledData) (how : Disturbance) (extent : Extent) (ends : Course → Bool) (n : ℕ) (xs steps : List (PortId × Step))
+    → xs ≡ steps ++ turns a how extent ends (suc n) (course_on now) → IsMade a steps now
+    → one_more a.core.cluster extent ends (time a.core.cluster (past_of a.core)) (course_on now) ≡ true
+    → is_opened (due_now now.core.cluster now.core.opening now.core.capacity (past_of now.core)) ≡ true
+    → (more : List (PortId × Step)) × (xs ≡ steps ++ (slot_steps now.core.cluster now.core.opening now.core.capacity how (past_of now.core) ++ more))
 slot-among a now how extent ends n xs steps whole so_far goes is_open =
-    let one = slot_steps a.cluster a.opening a.capacity how (past_of now) in
+    let one = slot_steps a.core.cluster a.core.opening a.core.capacity how (past_of now.core) in
     let is = ap is_opened (sym (same-due a now steps so_far)) ∙ is_open in
-    let more = turns a how extent ends n (after a.cluster a.opening a.capacity (past_of now) one) in (
+    let more = turns a how extent ends n (after a.core.cluster a.core.opening a.core.capacity (course_on now) one) in (
       more,
-      whole ∙ ap (λ l. steps ++ l) (turn-opened _ _ _ how _ n (past_of now) goes is ∙ ap (λ l. l ++ more) (sym (same-slot a now how steps so_far))),
+      whole ∙ ap (λ l. steps ++ l) (turn-opened _ _ _ how _ n (course_on now) goes is ∙ ap (λ l. l ++ more) (sym (same-slot a now how steps so_far))),
     )
 
 -- it could be opened, and none was left
-pub over : (a now : CoreData) (how : Disturbance) (extent : Extent) (ends : List LogEntry → Bool) (left n : ℕ) → AreBegun a how extent ends left now (suc n) 0
-    → one_more a.cluster extent ends (time a.cluster (past_of a)) (past_of now) ≡ true
-    → is_opened (due_now now.cluster now.opening now.capacity (past_of now)) ≡ true
+pub over : (a now : RuledData) (how : Disturbance) (extent : Extent) (ends : Course → Bool) (left n : ℕ) → AreBegun a how extent ends left now (suc n) 0
+    → one_more a.core.cluster extent ends (time a.core.cluster (past_of a.core)) (course_on now) ≡ true
+    → is_opened (due_now now.core.cluster now.core.opening now.core.capacity (past_of now.core)) ≡ true
     → IsMade a (first_on a how extent ends left) now × (left < slots_in (extent_on a how extent ends))
 unfolding slots_steps
 over a now how extent ends left n b goes is_open =
-    let one = slot_steps now.cluster now.opening now.capacity how (past_of now) in
+    let one = slot_steps now.core.cluster now.core.opening now.core.capacity how (past_of now.core) in
     let more = slot-among a now how extent ends n _ b.steps b.whole b.made goes is_open in
-    let one_ends : slots_in one ≡ 1 = one-slot _ _ _ how (past_of now) is_open in
+    let one_ends : slots_in one ≡ 1 = one-slot _ _ _ how (past_of now.core) is_open in
     let all = ap slots_in more.1 ∙ slots_in-append b.steps (one ++ more.0) in
     let two = slots_in-append one more.0 in
     let some : first_on a how extent ends left ≡ b.steps = b.first ∙ append-nothing b.steps in
     (rw some b.made, omega (arith, all, two, one_ends, b.count))
 
 -- it couldn't be made
-slot-fails : (fault : MakeFault) (a now : CoreData) (xs steps one more : List (PortId × Step)) → xs ≡ steps ++ (one ++ more) → IsMade a steps now
+slot-fails : (fault : MakeFault) (a now : RuledData) (xs steps one more : List (PortId × Step)) → xs ≡ steps ++ (one ++ more) → IsMade a steps now
     → StepsFail fault now one → StepsFail fault a xs
 slot-fails fault a now xs steps one more e made fails =
     subst (StepsFail fault a) (sym e) (fails-after fault a now steps (one ++ more) made (fails-before fault now one more fails))
 
-no-room : (a now : CoreData) (how : Disturbance) (extent : Extent) (ends : List LogEntry → Bool) (left n rest : ℕ) (t : Bool) → AreBegun a how extent ends left now (suc n) rest
-    → one_more a.cluster extent ends (time a.cluster (past_of a)) (past_of now) ≡ true
-    → is_opened (due_now now.cluster now.opening now.capacity (past_of now)) ≡ t → (t ≡ true → 0 < rest)
-    → NoRoom now (slot_steps now.cluster now.opening now.capacity how (past_of now)) → SlotsFail LogFull a how extent ends left
+no-room : (a now : RuledData) (how : Disturbance) (extent : Extent) (ends : Course → Bool) (left n rest : ℕ) (t : Bool) → AreBegun a how extent ends left now (suc n) rest
+    → one_more a.core.cluster extent ends (time a.core.cluster (past_of a.core)) (course_on now) ≡ true
+    → is_opened (due_now now.core.cluster now.core.opening now.core.capacity (past_of now.core)) ≡ t → (t ≡ true → 0 < rest)
+    → NoRoom now (slot_steps now.core.cluster now.core.opening now.core.capacity how (past_of now.core)) → SlotsFail LogFull a how extent ends left
 no-room a now how extent ends left n zero true b goes is some full = absurd (let none = some refl in omega (arith, none))
 no-room a now how extent ends left n (suc rest) true b goes is some full =
-    let one = slot_steps now.cluster now.opening now.capacity how (past_of now) in
+    let one = slot_steps now.core.cluster now.core.opening now.core.capacity how (past_of now.core) in
     let all = slot-among a now how extent ends n _ b.steps b.whole b.made goes is in
     let few = slot-among a now how extent ends rest _ b.steps b.first b.made goes is in
     (λ h. slot-fails LogFull a now _ b.steps one all.0 all.1 b.made full, λ h. slot-fails LogFull a now _ b.steps one few.0 few.1 b.made full)
 no-room a now how extent ends left n rest false b goes is some full =
-    let one = slot_steps now.cluster now.opening now.capacity how (past_of now) in
+    let one = slot_steps now.core.cluster now.core.opening now.core.capacity how (past_of now.core) in
     let all = refused-whole a now how extent ends left n rest b goes is in
-    let none : slots_in one ≡ 0 = no-slot _ _ _ how (past_of now) is in (
+    let none : slots_in one ≡ 0 = no-slot _ _ _ how (past_of now.core) is in (
       λ h. slot-fails LogFull a now _ b.steps one [] (all ∙ ap (λ l. b.steps ++ l) (sym (append-nothing one))) b.made full,
       λ h. absurd (let k = ap slots_in all ∙ slots_in-append b.steps one in omega (arith, k, none, b.count, h)),
     )
 
 -- ---- the same, as the code has it
-pub next-stops : (a now : CoreData) (how : Disturbance) (extent : Extent) (ends : List LogEntry → Bool) (left n rest t : ℕ) → AreBegun a how extent ends left now n rest
-    → t ≡ time a.cluster (past_of a) → one_more now.cluster extent ends t (past_of now) ≡ false
+pub next-stops : (a now : RuledData) (how : Disturbance) (extent : Extent) (ends : Course → Bool) (left n rest t : ℕ) → AreBegun a how extent ends left now n rest
+    → t ≡ time a.core.cluster (past_of a.core) → one_more now.core.cluster extent ends t (course_on now) ≡ false
     → IsMade a (extent_on a how extent ends) now × (slots_in (extent_on a how extent ends) + rest ≡ left)
 next-stops a now how extent ends left n rest t b e h = stopped a now how extent ends left n rest b (same-goes a now b.steps extent ends t false b.made e h)
 
-one-left : (a now : CoreData) (how : Disturbance) (extent : Extent) (ends : List LogEntry → Bool) (left m n rest : ℕ) → AreBegun a how extent ends left now m rest → m ≡ n + 1
+one-left : (a now : RuledData) (how : Disturbance) (extent : Extent) (ends : Course → Bool) (left m n rest : ℕ) → AreBegun a how extent ends left now m rest → m ≡ n + 1
     → AreBegun a how extent ends left now (suc n) rest
 one-left a now how extent ends left m n rest b e = subst (λ k. AreBegun a how extent ends left now k rest) (e ∙ add-one n) b
 
-pub next-refused : (a now new : CoreData) (how : Disturbance) (extent : Extent) (ends : List LogEntry → Bool) (left m n rest t : ℕ) → AreBegun a how extent ends left now m rest
-    → m ≡ n + 1 → t ≡ time a.cluster (past_of a) → one_more now.cluster extent ends t (past_of now) ≡ true
-    → IsMade now (slot_steps now.cluster now.opening now.capacity how (past_of now)) new
-    → is_opened (due_now now.cluster now.opening now.capacity (past_of now)) ≡ false
+pub next-refused : (a now new : RuledData) (how : Disturbance) (extent : Extent) (ends : Course → Bool) (left m n rest t : ℕ) → AreBegun a how extent ends left now m rest
+    → m ≡ n + 1 → t ≡ time a.core.cluster (past_of a.core) → one_more now.core.cluster extent ends t (course_on now) ≡ true
+    → IsMade now (slot_steps now.core.cluster now.core.opening now.core.capacity how (past_of now.core)) new
+    → is_opened (due_now now.core.cluster now.core.opening now.core.capacity (past_of now.core)) ≡ false
     → IsMade a (extent_on a how extent ends) new × (slots_in (extent_on a how extent ends) + rest ≡ left)
 next-refused a now new how extent ends left m n rest t b em e h made shut =
     refused a now new how extent ends left n rest (one-left a now how extent ends left m n rest b em) (same-goes a now b.steps extent ends t true b.made e h) made shut
 
-one-more : (a now : CoreData) (how : Disturbance) (extent : Extent) (ends : List LogEntry → Bool) (left n many rest : ℕ) → AreBegun a how extent ends left now n many → many ≡ rest + 1
+one-more : (a now : RuledData) (how : Disturbance) (extent : Extent) (ends : Course → Bool) (left n many rest : ℕ) → AreBegun a how extent ends left now n many → many ≡ rest + 1
     → AreBegun a how extent ends left now n (suc rest)
 one-more a now how extent ends left n many rest b e = subst (λ k. AreBegun a how extent ends left now n k) (e ∙ add-one rest) b
 
-pub next-opened : (a now new : CoreData) (how : Disturbance) (extent : Extent) (ends : List LogEntry → Bool) (left m n many rest t : ℕ) → AreBegun a how extent ends left now m many
-    → m ≡ n + 1 → many ≡ rest + 1 → t ≡ time a.cluster (past_of a) → one_more now.cluster extent ends t (past_of now) ≡ true
-    → IsMade now (slot_steps now.cluster now.opening now.capacity how (past_of now)) new
-    → is_opened (due_now now.cluster now.opening now.capacity (past_of now)) ≡ true
+pub next-opened : (a now new : RuledData) (how : Disturbance) (extent : Extent) (ends : Course → Bool) (left m n many rest t : ℕ) → AreBegun a how extent ends left now m many
+    → m ≡ n + 1 → many ≡ rest + 1 → t ≡ time a.core.cluster (past_of a.core) → one_more now.core.cluster extent ends t (course_on now) ≡ true
+    → IsMade now (slot_steps now.core.cluster now.core.opening now.core.capacity how (past_of now.core)) new
+    → is_opened (due_now now.core.cluster now.core.opening now.core.capacity (past_of now.core)) ≡ true
     → AreBegun a how extent ends left new n rest
 next-opened a now new how extent ends left m n many rest t b em er e h made is_open =
     opened a now new how extent ends left n rest
     (one-more a now how extent ends left (suc n) many rest (one-left a now how extent ends left m n many b em) er)
     (same-goes a now b.steps extent ends t true b.made e h) made is_open
 
-pub next-over : (a now : CoreData) (how : Disturbance) (extent : Extent) (ends : List LogEntry → Bool) (left m n none t : ℕ) → AreBegun a how extent ends left now m none
-    → m ≡ n + 1 → none ≡ 0 → t ≡ time a.cluster (past_of a) → one_more now.cluster extent ends t (past_of now) ≡ true
-    → is_opened (due_now now.cluster now.opening now.capacity (past_of now)) ≡ true
+pub next-over : (a now : RuledData) (how : Disturbance) (extent : Extent) (ends : Course → Bool) (left m n none t : ℕ) → AreBegun a how extent ends left now m none
+    → m ≡ n + 1 → none ≡ 0 → t ≡ time a.core.cluster (past_of a.core) → one_more now.core.cluster extent ends t (course_on now) ≡ true
+    → is_opened (due_now now.core.cluster now.core.opening now.core.capacity (past_of now.core)) ≡ true
     → IsMade a (first_on a how extent ends left) now × (left < slots_in (extent_on a how extent ends))
 next-over a now how extent ends left m n none t b em er e h is_open =
     over a now how extent ends left n
     (subst (λ r. AreBegun a how extent ends left now (suc n) r) er (one-left a now how extent ends left m n none b em))
     (same-goes a now b.steps extent ends t true b.made e h) is_open
 
-pub next-fails : (fault : MakeFault) (a now new : CoreData) (how : Disturbance) (extent : Extent) (ends : List LogEntry → Bool) (left m n rest t : ℕ) → AreBegun a how extent ends left now m rest
-    → m ≡ n + 1 → t ≡ time a.cluster (past_of a) → one_more now.cluster extent ends t (past_of now) ≡ true
-    → (is_opened (due_now now.cluster now.opening now.capacity (past_of now)) ≡ true → 0 < rest)
-    → StepsFail fault now (slot_steps now.cluster now.opening now.capacity how (past_of now)) × IsGrown now new
-    → SlotsFail fault a how extent ends left × IsGrown a new
+pub next-fails : (fault : MakeFault) (a now new : RuledData) (how : Disturbance) (extent : Extent) (ends : Course → Bool) (left m n rest t : ℕ) → AreBegun a how extent ends left now m rest
+    → m ≡ n + 1 → t ≡ time a.core.cluster (past_of a.core) → one_more now.core.cluster extent ends t (course_on now) ≡ true
+    → (is_opened (due_now now.core.cluster now.core.opening now.core.capacity (past_of now.core)) ≡ true → 0 < rest)
+    → StepsFail fault now (slot_steps now.core.cluster now.core.opening now.core.capacity how (past_of now.core)) × IsGrown now.core new.core
+    → SlotsFail fault a how extent ends left × IsGrown a.core new.core
 next-fails LogFull a now new how extent ends left m n rest t b em e h some (full, grown) = (
   no-room a now how extent ends left n rest _ (one-left a now how extent ends left m n rest b em) (same-goes a now b.steps extent ends t true b.made e h) refl some full,
-  grown-more a now new (grown-made a now b.steps b.made) grown,
+  grown-more a.core now.core new.core (grown-made a now b.steps b.made) grown,
 )
 next-fails OutOfMemory a now new how extent ends left m n rest t b em e h some (none, grown) =
-    (tt, grown-more a now new (grown-made a now b.steps b.made) grown)
+    (tt, grown-more a.core now.core new.core (grown-made a now b.steps b.made) grown)
 
-pub all-made : (a now : CoreData) (how : Disturbance) (extent : Extent) (ends : List LogEntry → Bool) (left n rest : ℕ) → AreBegun a how extent ends left now n rest → n ≡ 0
+pub all-made : (a now : RuledData) (how : Disturbance) (extent : Extent) (ends : Course → Bool) (left n rest : ℕ) → AreBegun a how extent ends left now n rest → n ≡ 0
     → IsMade a (extent_on a how extent ends) now × (slots_in (extent_on a how extent ends) + rest ≡ left)
 all-made a now how extent ends left n rest b e = ended a now how extent ends left rest (subst (λ k. AreBegun a how extent ends left now k rest) e b)

@@ -18,9 +18,12 @@ use Rattle.lin_bench.proofs.Makes.{after-history}
 use Rattle.lin_bench.specs.Fields.{fields}
 use Rattle.lin_bench.specs.Lines.{line_form, of_fields, read, read_line, read_lines, without_mark}
 use Rattle.lin_bench.specs.Plain.{NamedTexts, PlainScripts}
-use Rattle.lin_bench.specs.Made.{made, said}
+use Rattle.lin_bench.specs.Made.{BenchState, course_of, made, said, stepped}
 use Rattle.lin_bench.specs.Played.{Run, first, in_turn, next}
-use Rattle.lin_bench.specs.Slots.{after}
+use Rattle.lin_bench.proofs.RuleLaws.{unchanged}
+use Rattle.lin_bench.specs.Rules.{no_rules}
+use Rattle.lin_bench.specs.Slots.{Course, after, past_after}
+use Rattle.lin_bench.specs.declared.rules.Rules.{Rules}
 use Rattle.lin_bench.specs.declared.line.Line.{Line}
 use Rattle.lin_bench.specs.declared.reason.Reason.{Reason as BenchReason}
 use Rattle.lin_bench.specs.declared.line.Line.TheVariants as line
@@ -131,20 +134,30 @@ lines-say c n (l ∷ ls) steps e =
     lines-by c n l ls steps (line_says (named c) (strip_carriage_return l)) (λ ys k. lines-say c (n + 1) ls ys k) refl e
 
 -- ---- what they come to
-one-turn : (c : Parts) (o room : ℕ) (run : Run) (n : ℕ) (by : PortId) (step : Step)
+one-step : (c : Parts) (o room : ℕ) (b : BenchState) (s : PortId × Step) → b.rules ≡ no_rules
+    → stepped c o room b 0 (s ∷ []) ≡ record b { past = entry_of c o room b.past s ∷ b.past }
+one-step c o room b s h =
+    let left : b.left - 0 ≡ b.left = omega arith in
+    let past = entry_of c o room b.past s ∷ b.past in
+    let is : after c o room (course_of b) (s ∷ []) ≡ record { past = past; rules = no_rules } =
+    ap (λ (r : Rules). after c o room (record { past = b.past; rules = r }) (s ∷ [])) h ∙ unchanged c o room b.past (s ∷ []) in
+    ap (λ (k : Course). record b { past = k.past; rules = k.rules; left = b.left - 0 }) is
+    ∙ ap (λ (k : ℕ). record b { past = past; rules = no_rules; left = k }) left
+    ∙ ap (λ (r : Rules). record b { past = past; rules = r }) (sym h)
+
+one-turn : (c : Parts) (o room : ℕ) (run : Run) (n : ℕ) (by : PortId) (step : Step) → run.bench.rules ≡ no_rules
     → next c o room run (n, line.Step by step) ≡ Ok (record run { bench = record run.bench { past = entry_of c o room run.bench.past (by, step) ∷ run.bench.past } })
 unfolding made said
-one-turn c o room run n by step =
+one-turn c o room run n by step h =
     let few : nat_lt run.bench.left 0 ≡ false = grind (arith, common_steps) in
-    let left : run.bench.left - 0 ≡ run.bench.left = omega arith in
-    rw (few, left) refl
+    rw few (ap (λ (b : BenchState). Ok (record run { bench = b })) (one-step c o room run.bench (by, step) h))
 
-turns : (c : Parts) (o room : ℕ) (run : Run) (ts : List (ℕ × (PortId × Step)))
-    → in_turn c o room (Ok run) (lines_of ts) ≡ Ok (record run { bench = record run.bench { past = after c o room run.bench.past (steps_of ts) } })
-turns c o room run [] = refl
-turns c o room run (t ∷ ts) =
-    ap (λ r. in_turn c o room r (lines_of ts)) (one-turn c o room run t.0 t.1.0 t.1.1)
-    ∙ turns c o room (record run { bench = record run.bench { past = entry_of c o room run.bench.past t.1 ∷ run.bench.past } }) ts
+turns : (c : Parts) (o room : ℕ) (run : Run) (ts : List (ℕ × (PortId × Step))) → run.bench.rules ≡ no_rules
+    → in_turn c o room (Ok run) (lines_of ts) ≡ Ok (record run { bench = record run.bench { past = past_after c o room run.bench.past (steps_of ts) } })
+turns c o room run [] h = refl
+turns c o room run (t ∷ ts) h =
+    ap (λ r. in_turn c o room r (lines_of ts)) (one-turn c o room run t.0 t.1.0 t.1.1 h)
+    ∙ turns c o room (record run { bench = record run.bench { past = entry_of c o room run.bench.past t.1 ∷ run.bench.past } }) ts h
 
 -- ---- no text that says steps begins with the mark EF BB BF
 first-word : (x : ℕ) (ps : List (List ℕ)) → (x == 35) ≡ false
@@ -215,7 +228,7 @@ named-texts c opening capacity text steps e =
       lines = lines_of q.numbered;
       reading = rw (no-mark c text steps e) q.reading;
       steps_alone =
-          turns c opening capacity first q.numbered
+          turns c opening capacity first q.numbered refl
           ∙ ap (λ past. Ok (record first { bench = record first.bench { past = past } }))
           (after-history c opening capacity [] (steps_of q.numbered) ∙ ap (λ ss. history c opening capacity (reverse ss)) (sym q.steps_are));
     }

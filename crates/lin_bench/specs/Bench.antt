@@ -1,11 +1,11 @@
 -- What contracts see of a bench, and what making a line on it answers.
 use Rattle.std.specs.Prelude.{◌≡◌, Bool, if◌then◌else◌, None, ℕ, ◌-◌, ◌<◌, ◌^◌, List, [], length, Option, Result, Ok, Err}
 use Rattle.lin_core.specs.Core.{CoreData, IsAlike, past_of}
-use Rattle.lin_core.specs.declared.log.LogEntry.{LogEntry}
 use Rattle.lin_bench.specs.Made.{BenchState, judged, made, made_within}
-use Rattle.lin_bench.specs.Making.{IsGrown, ends_at, extent_on, first_on}
+use Rattle.lin_bench.specs.Making.{IsGrown, RuledData, ends_at, extent_on, first_on}
+use Rattle.lin_bench.specs.Rules.{no_rules}
 use Rattle.lin_bench.specs.Searches.{IsKnown, taken_by}
-use Rattle.lin_bench.specs.Slots.{slot_limit, slots_in}
+use Rattle.lin_bench.specs.Slots.{Course, slot_limit, slots_in}
 use Rattle.lin_bench.specs.Verdicts.{all_taken}
 use Rattle.lin_bench.specs.declared.bench.Bench.TheInside.{Inside}
 use Rattle.lin_bench.specs.declared.expected.Expected.{Expected}
@@ -15,22 +15,29 @@ use Rattle.lin_bench.specs.declared.got.Verdict.{Verdict}
 use Rattle.lin_bench.specs.declared.line.Disturbance.{Disturbance}
 use Rattle.lin_bench.specs.declared.line.Extent.{Extent}
 use Rattle.lin_bench.specs.declared.line.Line.{Line}
+use Rattle.lin_bench.specs.declared.rules.Rules.{Rules}
 use Rattle.lin_bench.specs.declared.taken.EventKind.{EventKind}
 
 pub record BenchData : Type 0 where
   pub core : CoreData
+  pub rules : Rules
   pub taken : List EventKind
   pub left : ℕ
 
 abbrev pub bench_data : Inside → BenchData
-bench_data a = record { core = a.core; taken = taken_by a.core.log a.taken; left = a.left }
+bench_data a = record {
+  core = a.ruled.core;
+  rules = a.ruled.rules;
+  taken = taken_by a.ruled.core.log a.taken;
+  left = a.left;
+}
 
 abbrev pub AreKnown : Inside → Type 0
-AreKnown a = IsKnown a.core.log a.taken
+AreKnown a = IsKnown a.ruled.core.log a.taken
 
 -- a bench on which no line was made
 abbrev pub fresh : CoreData → BenchData
-fresh core = record { core = core; taken = []; left = slot_limit }
+fresh core = record { core = core; rules = no_rules; taken = []; left = slot_limit }
 
 abbrev pub renewed : BenchData → BenchData
 renewed b = record b { left = slot_limit }
@@ -41,7 +48,10 @@ forgotten b = record b { taken = all_taken (past_of b.core) }
 
 -- the bench of the definitions
 abbrev pub state_of : BenchData → BenchState
-state_of b = record { past = past_of b.core; taken = b.taken; left = b.left }
+state_of b = record { past = past_of b.core; rules = b.rules; taken = b.taken; left = b.left }
+
+abbrev pub ruled_of : BenchData → RuledData
+ruled_of b = record { core = b.core; rules = b.rules }
 
 -- a line on a bench
 abbrev pub made_on : BenchData → Line → BenchState × Verdict
@@ -51,12 +61,12 @@ abbrev pub awaited : Bool → Option Expected → Option Expected
 awaited is what = if is then what else None
 
 -- slots on a bench, and what is expected after them
-abbrev pub made_slots : BenchData → Disturbance → Extent → (List LogEntry → Bool) → Option Expected
+abbrev pub made_slots : BenchData → Disturbance → Extent → (Course → Bool) → Option Expected
     → BenchState × Verdict
 made_slots b how extent ends what =
     made_within b.core.cluster b.core.opening b.core.capacity (state_of b)
-    (slots_in (extent_on b.core how extent ends)) (extent_on b.core how extent ends)
-    (first_on b.core how extent ends b.left) what
+    (slots_in (extent_on (ruled_of b) how extent ends)) (extent_on (ruled_of b) how extent ends)
+    (first_on (ruled_of b) how extent ends b.left) what
 
 -- likewise, where they may end as soon as that comes
 abbrev pub made_until : BenchData → Disturbance → Extent → Bool → Option Expected

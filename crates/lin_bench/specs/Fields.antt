@@ -10,7 +10,7 @@ use Rattle.lin_log.specs.Language.{named}
 use Rattle.lin_log.specs.Said as log
 use Rattle.lin_log.specs.declared.reason.Reason.{Reason as StepReason}
 use Rattle.lin_bench.specs.declared.reason.Reason.{Reason}
-use Rattle.lin_bench.specs.declared.reason.Reason.TheVariants.{Step, NoRange}
+use Rattle.lin_bench.specs.declared.reason.Reason.TheVariants.{Step, NoRange, TooSmall}
 
 -- what is said in turn: the first bad part says why
 infixl 10 ◌>>=◌
@@ -37,6 +37,10 @@ words fs = map (λ f. f.now) fs
 
 abbrev pub number_field : ℕ → List ℕ → Result ℕ Reason
 number_field most f = of_step (log.number_field most f)
+
+-- 1 to 1,000,000
+abbrev pub count_field : List ℕ → Result ℕ Reason
+count_field f = number_field 1000000 f >>= (λ n. if n == 0 then Err TooSmall else Ok n)
 
 abbrev pub node_field : Parts → List ℕ → Result ℕ Reason
 node_field c f = of_step (log.node_field (named c) f)

@@ -1,12 +1,17 @@
 pub mod Fields
 pub mod Expectations
+pub mod Rules
+pub mod RuleLines
 pub mod Lines
 pub mod Read
+pub mod Added
 pub mod Slots
 pub mod Verdicts
 pub mod Searches
 pub mod Made
 pub mod Making
+pub mod Adding
+pub mod RuleLaws
 pub mod Bench
 pub mod Played
 pub mod Plays

@@ -9,10 +9,11 @@ use Rattle.lin_core.specs.declared.port.PortId.TheVariants.{Bus}
 use Rattle.lin_log.specs.Language.{named}
 use Rattle.lin_log.specs.Said.{is_port, port_step, step_form}
 use Rattle.lin_log.specs.declared.reason.Reason.TheVariants.{Takes}
-use Rattle.lin_bench.specs.Fields.{◌>>=◌, bytes_fields, fields, node_field, number_field, of_step}
+use Rattle.lin_bench.specs.Fields.{◌>>=◌, bytes_fields, count_field, fields, node_field, of_step}
 use Rattle.lin_bench.specs.Expectations.{expectation, until_form}
+use Rattle.lin_bench.specs.RuleLines.{every_form, timeouts_form, when_form}
 use Rattle.lin_bench.specs.declared.reason.Reason.{Reason}
-use Rattle.lin_bench.specs.declared.reason.Reason.TheVariants.{Step, TooSmall, SlotsForm, SlotForm}
+use Rattle.lin_bench.specs.declared.reason.Reason.TheVariants.{Step, SlotsForm, SlotForm}
 use Rattle.lin_bench.specs.declared.reason.Reason.TheVariants.{LeaveForm}
 use Rattle.lin_bench.specs.declared.line.Disturbance.{Disturbance}
 use Rattle.lin_bench.specs.declared.line.Disturbance.TheVariants as slot
@@ -20,10 +21,6 @@ use Rattle.lin_bench.specs.declared.line.Extent.{Extent}
 use Rattle.lin_bench.specs.declared.line.Extent.TheVariants as slots
 use Rattle.lin_bench.specs.declared.line.Line.{Line}
 use Rattle.lin_bench.specs.declared.line.Line.TheVariants as line
-
--- 1 to 1,000,000
-abbrev pub count_field : List ℕ → Result ℕ Reason
-count_field f = number_field 1000000 f >>= (λ n. if n == 0 then Err TooSmall else Ok n)
 
 -- until no message waits, at most 10,000 slots where no number says how many
 abbrev pub idle_form : List (List ℕ) → Result Line Reason
@@ -88,6 +85,10 @@ line_form c word fs =
     else if bytes_eq word (codes "slot") then slot_form c fs >>= (λ how. Ok (line.Slot how))
     else if bytes_eq word (codes "expect") then expectation c fs >>= (λ what. Ok (line.Expect what))
     else if bytes_eq word (codes "forget") then forget_form fs
+    else if bytes_eq word (codes "when") then when_form c fs >>= (λ rule. Ok (line.Rule rule))
+    else if bytes_eq word (codes "timeouts")
+    then timeouts_form fs >>= (λ rule. Ok (line.Rule rule))
+    else if bytes_eq word (codes "every") then every_form c fs >>= (λ rule. Ok (line.Rule rule))
     else of_step (step_form (named c) word fs) >>= (λ step. Ok (line.Step Bus step))
 
 abbrev pub of_fields : Parts → List (List ℕ) → Result (Option Line) Reason

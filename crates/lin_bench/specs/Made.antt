@@ -3,10 +3,12 @@ use Rattle.std.specs.Prelude.{ℕ, ◌-◌, Bool, false, nat_lt, if◌then◌els
 use Rattle.std.specs.Prelude.{Some, None, is_none, is_some}
 use Rattle.std.specs.Option.{option_map_or}
 use Rattle.lin_cluster_parts.specs.declared.parts.Parts.{Parts}
+use Rattle.lin_core.specs.History.{time}
 use Rattle.lin_core.specs.declared.log.LogEntry.{LogEntry}
 use Rattle.lin_core.specs.declared.port.PortId.{PortId}
 use Rattle.lin_core.specs.declared.step.Step.{Step}
-use Rattle.lin_bench.specs.Slots.{after, extent_steps, most, slots_in}
+use Rattle.lin_bench.specs.Rules.{ruled}
+use Rattle.lin_bench.specs.Slots.{Course, after, extent_steps, most, slots_in}
 use Rattle.lin_bench.specs.Verdicts.{all_taken, kind_taken, next_event, taking, verdict}
 use Rattle.lin_bench.specs.declared.expected.Expected.{Expected}
 use Rattle.lin_bench.specs.declared.expected.Expected.TheVariants.{Idle as IsIdle}
@@ -18,37 +20,45 @@ use Rattle.lin_bench.specs.declared.line.Extent.{Extent}
 use Rattle.lin_bench.specs.declared.line.Extent.TheVariants.{Count, Idle}
 use Rattle.lin_bench.specs.declared.line.Line.{Line}
 use Rattle.lin_bench.specs.declared.line.Line.TheVariants as line
+use Rattle.lin_bench.specs.declared.rules.Rule.{Rule}
+use Rattle.lin_bench.specs.declared.rules.Rules.{Rules}
 use Rattle.lin_bench.specs.declared.taken.EventKind.{EventKind}
 
--- a bench: the entries of its log, the newest first, of which kinds expectations took events, in
--- order, and how many slots lines of slots may still make
+-- a bench: the entries of its log, the newest first, the rules in force, of which kinds expectations
+-- took events, in order, and how many slots lines of slots may still make
 pub record BenchState : Type 0 where
   pub past : List LogEntry
+  pub rules : Rules
   pub taken : List EventKind
   pub left : ℕ
 
+abbrev pub course_of : BenchState → Course
+course_of b = record { past = b.past; rules = b.rules }
+
 -- what is waited for comes: where it speaks of messages or of what became of them, there is one that
 -- isn't taken, right or wrong; and otherwise it is so
-abbrev pub comes : Parts → List EventKind → Expected → List LogEntry → Bool
-comes c taken what past =
-    option_map_or (λ kind. is_some (next_event past taken kind))
-    (kind_taken what) (is_none (verdict c past taken what))
+abbrev pub comes : Parts → List EventKind → Expected → Course → Bool
+comes c taken what at =
+    option_map_or (λ kind. is_some (next_event at.past taken kind))
+    (kind_taken what) (is_none (verdict c at.past at.rules.noted taken what))
 
-abbrev pub never : List LogEntry → Bool
-never past = false
+abbrev pub never : Course → Bool
+never at = false
 
--- the steps that a line says on a bench; where they are slots, at most as many as a limit of their
--- extent allows
+-- the steps that a line says on a bench, without those that the rules add; where they are slots, at
+-- most as many as a limit of their extent allows
 unfoldable pub said : Parts → ℕ → ℕ → (Extent → ℕ) → BenchState → Line → List (PortId × Step)
 said c opening capacity limit b (line.Step by step) = (by, step) ∷ []
 said c opening capacity limit b (line.Slot how) =
-    extent_steps c opening capacity how (Count 1) never (limit (Count 1)) b.past
+    extent_steps c opening capacity how (Count 1) never (limit (Count 1)) (course_of b)
 said c opening capacity limit b (line.Slots extent) =
-    extent_steps c opening capacity Undisturbed extent never (limit extent) b.past
+    extent_steps c opening capacity Undisturbed extent never (limit extent) (course_of b)
 said c opening capacity limit b (line.Until extent what) =
-    extent_steps c opening capacity Undisturbed extent (comes c b.taken what) (limit extent) b.past
+    extent_steps c opening capacity Undisturbed extent (comes c b.taken what) (limit extent)
+    (course_of b)
 said c opening capacity limit b (line.Expect what) = []
 said c opening capacity limit b line.Forget = []
+said c opening capacity limit b (line.Rule rule) = []
 
 -- how many slots a line of slots made by these steps; no other line makes any
 abbrev pub slots_made : Line → List (PortId × Step) → ℕ
@@ -58,6 +68,7 @@ slots_made (line.Slots extent) steps = slots_in steps
 slots_made (line.Until extent what) steps = slots_in steps
 slots_made (line.Expect what) steps = 0
 slots_made line.Forget steps = 0
+slots_made (line.Rule rule) steps = 0
 
 -- what a line expects, of the history after its steps
 abbrev pub expects : Line → Option Expected
@@ -75,13 +86,14 @@ abbrev pub judged : Parts → BenchState → Option Expected → BenchState × V
 judged c b None = (b, Nothing)
 judged c b (Some what) = (
   record b { taken = taking b.past b.taken (kind_taken what) },
-  met_or what (verdict c b.past b.taken what),
+  met_or what (verdict c b.past b.rules.noted b.taken what),
 )
 
--- a bench after these steps, by which so many slots were made
+-- a bench after these steps and those that the rules add, by which so many slots were made
 abbrev pub stepped : Parts → ℕ → ℕ → BenchState → ℕ → List (PortId × Step) → BenchState
 stepped c opening capacity b count steps =
-    record b { past = after c opening capacity b.past steps; left = b.left - count }
+    let at = after c opening capacity (course_of b) steps
+    in record b { past = at.past; rules = at.rules; left = b.left - count }
 
 -- What steps that make so many slots come to, and what is expected after them; where these are more
 -- slots than are left, the steps of those that are left are made, and nothing is judged.
@@ -95,9 +107,14 @@ made_within c opening capacity b count steps first what =
 abbrev pub forgotten : BenchState → BenchState
 forgotten b = record b { taken = all_taken b.past }
 
+-- a bench with one more rule, which is in force for the lines after it
+abbrev pub with_rule : Parts → BenchState → Rule → BenchState
+with_rule c b rule = record b { rules = ruled (time c b.past) b.rules rule }
+
 -- a bench after a line, and the line's verdict
 unfoldable pub made : Parts → ℕ → ℕ → BenchState → Line → BenchState × Verdict
 made c opening capacity b line.Forget = (forgotten b, Nothing)
+made c opening capacity b (line.Rule rule) = (with_rule c b rule, Nothing)
 made c opening capacity b line =
     let steps = said c opening capacity most b line
     in made_within c opening capacity b (slots_made line steps) steps

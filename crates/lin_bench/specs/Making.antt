@@ -7,18 +7,31 @@ use Rattle.lin_core.specs.declared.log.LogEntry.{LogEntry}
 use Rattle.lin_core.specs.declared.port.PortId.{PortId}
 use Rattle.lin_core.specs.declared.step.Step.{Step}
 use Rattle.lin_bench.specs.Made.{comes, never}
-use Rattle.lin_bench.specs.Slots.{after, extent_steps, most, slots_in}
+use Rattle.lin_bench.specs.Slots.{Course, after, extent_steps, most, slots_in}
 use Rattle.lin_bench.specs.declared.expected.Expected.{Expected}
 use Rattle.lin_bench.specs.declared.taken.EventKind.{EventKind}
+use Rattle.lin_bench.specs.declared.rules.Rules.{Rules}
 use Rattle.lin_bench.specs.declared.line.Disturbance.{Disturbance}
 use Rattle.lin_bench.specs.declared.line.Extent.{Extent}
 use Rattle.lin_bench.specs.declared.fault.MakeFault.{MakeFault}
 use Rattle.lin_bench.specs.declared.fault.MakeFault.TheVariants.{LogFull, OutOfMemory}
 
--- the steps were made, in order, and nothing else
-pub record IsMade (old : CoreData) (steps : List (PortId × Step)) (new : CoreData) : Type 0 where
-  pub past : past_of new ≡ after old.cluster old.opening old.capacity (past_of old) steps
-  pub alike : IsAlike old new
+-- a core, and the rules in force
+pub record RuledData : Type 0 where
+  pub core : CoreData
+  pub rules : Rules
+
+abbrev pub course_on : RuledData → Course
+course_on a = record { past = past_of a.core; rules = a.rules }
+
+-- what steps come to on a core
+abbrev pub after_on : RuledData → List (PortId × Step) → Course
+after_on a steps = after a.core.cluster a.core.opening a.core.capacity (course_on a) steps
+
+-- the steps were made, in order, with those that the rules add, and nothing else
+pub record IsMade (old : RuledData) (steps : List (PortId × Step)) (new : RuledData) : Type 0 where
+  pub course : course_on new ≡ after_on old steps
+  pub alike : IsAlike old.core new.core
 
 -- the log stands as it was, with more entries behind
 pub record IsGrown (old new : CoreData) : Type 0 where
@@ -26,52 +39,53 @@ pub record IsGrown (old new : CoreData) : Type 0 where
   pub log : new.log ≡ old.log ++ more
 
 -- the log would have more entries than it takes
-abbrev pub NoRoom : CoreData → List (PortId × Step) → Type 0
-NoRoom core steps = 2 ^ 32 - 1 < length core.log + length steps
+abbrev pub NoRoom : RuledData → List (PortId × Step) → Type 0
+NoRoom a steps = 2 ^ 32 - 1 < length (after_on a steps).past
 
 -- why steps aren't made
-abbrev pub StepsFail : MakeFault → CoreData → List (PortId × Step) → Type 0
-StepsFail LogFull core steps = NoRoom core steps
-StepsFail OutOfMemory core steps = Unit {0}
+abbrev pub StepsFail : MakeFault → RuledData → List (PortId × Step) → Type 0
+StepsFail LogFull a steps = NoRoom a steps
+StepsFail OutOfMemory a steps = Unit {0}
 
 -- what making steps answers
-abbrev pub MakesSteps : {X : Type 0} → CoreData → List (PortId × Step) → Result X MakeFault → CoreData
+abbrev pub MakesSteps : {X : Type 0} → RuledData → List (PortId × Step) → Result X MakeFault
+    → RuledData
     → Type 0
 MakesSteps old steps (Ok x) new = IsMade old steps new
-MakesSteps old steps (Err fault) new = StepsFail fault old steps × IsGrown old new
-
--- the most steps of a slot: its open, what each of 16 nodes decides, a damage and its finish
-abbrev pub most_steps : ℕ
-most_steps = 19
+MakesSteps old steps (Err fault) new = StepsFail fault old steps × IsGrown old.core new.core
 
 -- how slots end where they are made until what is expected comes, with what is taken
-abbrev pub ends_at : Parts → List EventKind → Option Expected → List LogEntry → Bool
+abbrev pub ends_at : Parts → List EventKind → Option Expected → Course → Bool
 ends_at c taken None = never
 ends_at c taken (Some what) = comes c taken what
 
--- the steps of at most n slots of a line on a core
-abbrev pub first_on : CoreData → Disturbance → Extent → (List LogEntry → Bool) → ℕ → List (PortId × Step)
-first_on core how extent ends n =
-    extent_steps core.cluster core.opening core.capacity how extent ends n (past_of core)
+-- the steps of at most n slots of a line on a core, without those that the rules add
+abbrev pub first_on : RuledData → Disturbance → Extent → (Course → Bool) → ℕ
+    → List (PortId × Step)
+first_on a how extent ends n =
+    extent_steps a.core.cluster a.core.opening a.core.capacity how extent ends n (course_on a)
 
 -- the steps of a line of slots on a core
-abbrev pub extent_on : CoreData → Disturbance → Extent → (List LogEntry → Bool) → List (PortId × Step)
-extent_on core how extent ends = first_on core how extent ends (most extent)
+abbrev pub extent_on : RuledData → Disturbance → Extent → (Course → Bool) → List (PortId × Step)
+extent_on a how extent ends = first_on a how extent ends (most extent)
 
 -- why slots aren't made: there is no room for those of the line, or for those that are left
-abbrev pub SlotsFail : MakeFault → CoreData → Disturbance → Extent → (List LogEntry → Bool) → ℕ → Type 0
-SlotsFail LogFull core how extent ends left =
-    (slots_in (extent_on core how extent ends) ≤ left → NoRoom core (extent_on core how extent ends))
-    × (left < slots_in (extent_on core how extent ends) → NoRoom core (first_on core how extent ends left))
-SlotsFail OutOfMemory core how extent ends left = Unit {0}
+abbrev pub SlotsFail : MakeFault → RuledData → Disturbance → Extent → (Course → Bool) → ℕ → Type 0
+SlotsFail LogFull a how extent ends left =
+    (slots_in (extent_on a how extent ends) ≤ left → NoRoom a (extent_on a how extent ends))
+    × (left < slots_in (extent_on a how extent ends) → NoRoom a (first_on a how extent ends left))
+SlotsFail OutOfMemory a how extent ends left = Unit {0}
 
 -- the slots of a line were made, and so many are left; or they are more than were left, and those
 -- were made
-abbrev pub MakesSlots : CoreData → Disturbance → Extent → (List LogEntry → Bool) → ℕ → Result (Option ℕ) MakeFault → CoreData
+abbrev pub MakesSlots : RuledData → Disturbance → Extent → (Course → Bool) → ℕ
+    → Result (Option ℕ) MakeFault → RuledData
     → Type 0
 MakesSlots old how extent ends left (Ok (Some rest)) new =
-    IsMade old (extent_on old how extent ends) new × (slots_in (extent_on old how extent ends) + rest ≡ left)
+    IsMade old (extent_on old how extent ends) new
+    × (slots_in (extent_on old how extent ends) + rest ≡ left)
 MakesSlots old how extent ends left (Ok None) new =
-    IsMade old (first_on old how extent ends left) new × (left < slots_in (extent_on old how extent ends))
+    IsMade old (first_on old how extent ends left) new
+    × (left < slots_in (extent_on old how extent ends))
 MakesSlots old how extent ends left (Err fault) new =
-    SlotsFail fault old how extent ends left × IsGrown old new
+    SlotsFail fault old how extent ends left × IsGrown old.core new.core

@@ -2,6 +2,7 @@
 use Rattle.std.specs.Prelude.{ℕ, length, List, [], ◌∷◌, ◌++◌, Result, Ok, Err}
 use Rattle.lin_cluster_parts.specs.declared.parts.Parts.{Parts}
 use Rattle.lin_bench.specs.Made.{BenchState, made}
+use Rattle.lin_bench.specs.Rules.{no_rules}
 use Rattle.lin_bench.specs.Slots.{slot_limit}
 use Rattle.lin_bench.specs.declared.got.Unmet.{Unmet as Missed}
 use Rattle.lin_bench.specs.declared.got.Verdict.{Verdict}
@@ -14,7 +15,10 @@ pub record Run : Type 0 where
   pub unmet : List Missed
 
 abbrev pub first : Run
-first = record { bench = record { past = []; taken = []; left = slot_limit }; unmet = [] }
+first = record {
+  bench = record { past = []; rules = no_rules; taken = []; left = slot_limit };
+  unmet = [];
+}
 
 -- what line n came to; its number alone where it makes more slots than are left
 abbrev pub told : ℕ → List Missed → BenchState → Verdict → Result Run ℕ

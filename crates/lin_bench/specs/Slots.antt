@@ -1,7 +1,8 @@
--- What lines of slots stand for, given the history before them: the entries of a log, the newest
--- first.
-use Rattle.std.specs.Prelude.{ℕ, suc, zero, ◌+◌, ◌-◌, ◌*◌, Bool, true, false, not, ◌&&◌, nat_lt, if◌then◌else◌}
-use Rattle.std.specs.Prelude.{List, [], ◌∷◌, ◌++◌, map, filter, length, Option, Some, None}
+-- What steps come to where rules are in force, and what lines of slots stand for, given the history
+-- before them: the entries of a log, the newest first.
+use Rattle.std.specs.Prelude.{ℕ, suc, zero, ◌+◌, ◌-◌, ◌*◌, ◌==◌, Bool, true, false, not, ◌&&◌, ◌||◌}
+use Rattle.std.specs.Prelude.{nat_lt, if◌then◌else◌, List, [], ◌∷◌, ◌++◌, map, filter, length}
+use Rattle.std.specs.Prelude.{count_by, Option, Some, None}
 use Rattle.std.specs.List.{list_any, filter_map}
 use Rattle.lin_frame.specs.Words.{numbers}
 use Rattle.lin_cluster_parts.specs.Cluster.{nodes}
@@ -19,16 +20,40 @@ use Rattle.lin_core.specs.declared.reply.Reply.{Reply}
 use Rattle.lin_core.specs.declared.reply.Reply.TheVariants.{Done, Refused}
 use Rattle.lin_core.specs.declared.step.Step.{Step}
 use Rattle.lin_core.specs.declared.step.Step.TheVariants.{Open, Answer, Leave, Hurt, Finish}
+use Rattle.lin_bench.specs.Added.{added, rules_after}
+use Rattle.lin_bench.specs.declared.got.Pending.{Pending}
+use Rattle.lin_bench.specs.declared.got.Pending.TheVariants.{MessagesWait, AnswersNoted}
 use Rattle.lin_bench.specs.declared.line.Disturbance.{Disturbance}
 use Rattle.lin_bench.specs.declared.line.Disturbance.TheVariants as slot
 use Rattle.lin_bench.specs.declared.line.Extent.{Extent}
 use Rattle.lin_bench.specs.declared.line.Extent.TheVariants as slots
+use Rattle.lin_bench.specs.declared.rules.Noted.{Noted}
+use Rattle.lin_bench.specs.declared.rules.Rules.{Rules}
 
 -- the history after more steps
-abbrev pub after : Parts → ℕ → ℕ → List LogEntry → List (PortId × Step) → List LogEntry
-after c opening capacity past [] = past
-after c opening capacity past (s ∷ ss) =
-    after c opening capacity (entry_of c opening capacity past s ∷ past) ss
+abbrev pub past_after : Parts → ℕ → ℕ → List LogEntry → List (PortId × Step) → List LogEntry
+past_after c opening capacity past [] = past
+past_after c opening capacity past (s ∷ ss) =
+    past_after c opening capacity (entry_of c opening capacity past s ∷ past) ss
+
+-- a history, and the rules in force with the answers that are noted
+pub record Course : Type 0 where
+  pub past : List LogEntry
+  pub rules : Rules
+
+-- an entry, and after it the steps that the rules add, which add nothing themselves
+abbrev pub with_entry : Parts → ℕ → ℕ → Course → LogEntry → Course
+with_entry c opening capacity at e = record {
+  past = past_after c opening capacity (e ∷ at.past) (added c e at.past at.rules);
+  rules = rules_after c e at.past at.rules;
+}
+
+-- what more steps come to, each with those that the rules add after it
+abbrev pub after : Parts → ℕ → ℕ → Course → List (PortId × Step) → Course
+after c opening capacity at [] = at
+after c opening capacity at (s ∷ ss) =
+    after c opening capacity
+    (with_entry c opening capacity at (entry_of c opening capacity at.past s)) ss
 
 abbrev pub due_node : Event → Option ℕ
 due_node (Due node) = Some node
@@ -70,17 +95,16 @@ abbrev pub is_opened : Option (List ℕ) → Bool
 is_opened None = false
 is_opened (Some due) = true
 
--- the steps of slots: at most n, while a test of the history holds, ended at the first open that is
--- refused
-unfoldable pub slots_steps : Parts → ℕ → ℕ → Disturbance → (List LogEntry → Bool) → ℕ
-    → List LogEntry
+-- the steps of slots, without those that the rules add: at most n slots, while a test holds, ended
+-- at the first open that is refused
+unfoldable pub slots_steps : Parts → ℕ → ℕ → Disturbance → (Course → Bool) → ℕ → Course
     → List (PortId × Step)
-slots_steps c opening capacity how goes zero past = []
-slots_steps c opening capacity how goes (suc n) past =
-    let steps = slot_steps c opening capacity how past
-    in if goes past
-    then steps ++ (if is_opened (due_now c opening capacity past)
-    then slots_steps c opening capacity how goes n (after c opening capacity past steps)
+slots_steps c opening capacity how goes zero at = []
+slots_steps c opening capacity how goes (suc n) at =
+    let steps = slot_steps c opening capacity how at.past
+    in if goes at
+    then steps ++ (if is_opened (due_now c opening capacity at.past)
+    then slots_steps c opening capacity how goes n (after c opening capacity at steps)
     else [])
     else []
 
@@ -93,11 +117,23 @@ hosts_waiting c past =
 abbrev pub some_wait : Parts → List LogEntry → Bool
 some_wait c past = list_any (λ h. nat_lt 0 (length (waiting c past h))) (numbers (nodes c))
 
+-- the nodes of which answers are noted, and how many
+abbrev pub nodes_noted : Parts → List Noted → List (ℕ × ℕ)
+nodes_noted c noted =
+    filter (λ (n : ℕ × ℕ). nat_lt 0 n.1)
+    (map (λ n. (n, count_by (λ m. m.node == n) noted)) (numbers (nodes c)))
+
+-- the hosts of which messages wait, and then the nodes of which answers are noted
+abbrev pub pending : Parts → List LogEntry → List Noted → List Pending
+pending c past noted =
+    map (λ (h : ℕ × ℕ). MessagesWait h.0 h.1) (hosts_waiting c past)
+    ++ map (λ (n : ℕ × ℕ). AnswersNoted n.0 n.1) (nodes_noted c noted)
+
 -- whether one more slot is to be made, by the time in microseconds at the line's beginning
-abbrev pub goes_on : Parts → Extent → ℕ → List LogEntry → Bool
-goes_on c (slots.Count n) began past = true
-goes_on c (slots.Milliseconds n) began past = nat_lt (time c past - began) (1000 * n)
-goes_on c (slots.Idle n) began past = some_wait c past
+abbrev pub goes_on : Parts → Extent → ℕ → Course → Bool
+goes_on c (slots.Count n) began at = true
+goes_on c (slots.Milliseconds n) began at = nat_lt (time c at.past - began) (1000 * n)
+goes_on c (slots.Idle n) began at = some_wait c at.past || nat_lt 0 (length at.rules.noted)
 
 -- how many slots lines of slots may make in a run
 abbrev pub slot_limit : ℕ
@@ -109,16 +145,15 @@ most (slots.Count n) = n
 most (slots.Milliseconds n) = slot_limit + 1
 most (slots.Idle n) = n
 
--- likewise, where slots also end as soon as a test of the history holds
-abbrev pub one_more : Parts → Extent → (List LogEntry → Bool) → ℕ → List LogEntry → Bool
-one_more c extent ends began past = goes_on c extent began past && not (ends past)
+-- likewise, where slots also end as soon as a test holds
+abbrev pub one_more : Parts → Extent → (Course → Bool) → ℕ → Course → Bool
+one_more c extent ends began at = goes_on c extent began at && not (ends at)
 
 -- the steps of a line of slots, of at most n
-unfoldable pub extent_steps : Parts → ℕ → ℕ → Disturbance → Extent → (List LogEntry → Bool) → ℕ
-    → List LogEntry
+unfoldable pub extent_steps : Parts → ℕ → ℕ → Disturbance → Extent → (Course → Bool) → ℕ → Course
     → List (PortId × Step)
-extent_steps c opening capacity how extent ends n past =
-    slots_steps c opening capacity how (one_more c extent ends (time c past)) n past
+extent_steps c opening capacity how extent ends n at =
+    slots_steps c opening capacity how (one_more c extent ends (time c at.past)) n at
 
 -- how many slots end by these steps
 abbrev pub slots_in : List (PortId × Step) → ℕ

@@ -14,6 +14,8 @@ use Rattle.lin_bench.specs.declared.expected.Expected.{Expected}
 use Rattle.lin_bench.specs.declared.expected.Expected.TheVariants as expected
 use Rattle.lin_bench.specs.declared.got.Got.{Got}
 use Rattle.lin_bench.specs.declared.got.Got.TheVariants as got
+use Rattle.lin_bench.specs.declared.got.Pending.{Pending}
+use Rattle.lin_bench.specs.declared.got.Pending.TheVariants.{MessagesWait, AnswersNoted}
 use Rattle.lin_bench.specs.declared.got.Unmet.{Unmet}
 
 -- fields with one space between two
@@ -56,6 +58,12 @@ reason_text reason.ExpectForm = codes "expect takes what is expected"
 reason_text (reason.UnknownExpectation fields) = codes "expect has no form " ++ fields_text fields
 reason_text reason.UntilForm = codes "until takes what is expected"
 reason_text (reason.UnknownUntil fields) = codes "until has no form " ++ fields_text fields
+reason_text reason.WhenForm = codes "when takes a node, a pattern and answers"
+reason_text (reason.NoResponder field) = field ++ codes " is no responder with an address"
+reason_text (reason.NoPattern fields) = fields_text fields ++ codes " is no pattern"
+reason_text reason.TimeoutsForm = codes "timeouts takes a time and ms, or off"
+reason_text reason.EveryForm = codes "every takes a time and a step, or off"
+reason_text reason.EveryStep = codes "every takes a send or a write"
 
 -- the line of a bad line
 abbrev pub bad_line_text : ℕ → Reason → List ℕ
@@ -101,16 +109,19 @@ expected_text c expected.Asleep = codes "asleep"
 expected_text c expected.Awake = codes "awake"
 expected_text c expected.Idle = codes "idle"
 
--- how many messages of a host wait
-abbrev pub waiting_text : Parts → ℕ × ℕ → List ℕ
-waiting_text c h = decimal h.1 ++ (codes " of " ++ (node_word c h.0 ++ codes " waiting"))
+-- how many messages of a host wait, or answers of a node are noted
+abbrev pub pending_word : Parts → Pending → List ℕ
+pending_word c (MessagesWait host count) =
+    decimal count ++ (codes " of " ++ (node_word c host ++ codes " waiting"))
+pending_word c (AnswersNoted node count) =
+    decimal count ++ (codes " of " ++ (node_word c node ++ codes " noted"))
 
-abbrev pub other_host_text : Parts → ℕ × ℕ → List ℕ
-other_host_text c h = codes ", " ++ waiting_text c h
+abbrev pub other_pending_text : Parts → Pending → List ℕ
+other_pending_text c p = codes ", " ++ pending_word c p
 
-abbrev pub hosts_text : Parts → List (ℕ × ℕ) → List ℕ
-hosts_text c [] = []
-hosts_text c (h ∷ hs) = waiting_text c h ++ flat_map (other_host_text c) hs
+abbrev pub pending_text : Parts → List Pending → List ℕ
+pending_text c [] = []
+pending_text c (p ∷ ps) = pending_word c p ++ flat_map (other_pending_text c) ps
 
 -- what is so in its place
 abbrev pub got_text : Parts → Got → List ℕ
@@ -129,7 +140,7 @@ got_text c (got.Refused why) = codes "refused " ++ refusal_word why
 got_text c got.NoStep = codes "no step"
 got_text c got.Asleep = codes "asleep"
 got_text c got.Awake = codes "awake"
-got_text c (got.StillWaiting hosts) = hosts_text c hosts
+got_text c (got.StillPending all) = pending_text c all
 got_text c got.NoNode = codes "no such node"
 got_text c got.NoNodeOrSignal = codes "no such node or signal"
 

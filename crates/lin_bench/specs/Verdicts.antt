@@ -22,11 +22,13 @@ use Rattle.lin_core.specs.declared.log.LogEntry.{LogEntry}
 use Rattle.lin_core.specs.declared.reply.Refusal.{Refusal}
 use Rattle.lin_core.specs.declared.reply.Reply.{Reply}
 use Rattle.lin_core.specs.declared.reply.Reply.TheVariants.{Done, Refused}
-use Rattle.lin_bench.specs.Slots.{hosts_waiting}
+use Rattle.lin_bench.specs.Slots.{pending}
 use Rattle.lin_bench.specs.declared.expected.Expected.{Expected}
 use Rattle.lin_bench.specs.declared.expected.Expected.TheVariants as expected
 use Rattle.lin_bench.specs.declared.got.Got.{Got}
 use Rattle.lin_bench.specs.declared.got.Got.TheVariants as got
+use Rattle.lin_bench.specs.declared.got.Pending.{Pending}
+use Rattle.lin_bench.specs.declared.rules.Noted.{Noted}
 use Rattle.lin_bench.specs.declared.taken.EventKind.{EventKind}
 use Rattle.lin_bench.specs.declared.taken.EventKind.TheVariants.{Messages, Fates, Ends, Begins}
 
@@ -161,27 +163,29 @@ refused_verdict why (Some (Done es)) = Some got.Done
 refused_verdict why (Some (Refused r)) =
     unless (refusal_number r == refusal_number why) (got.Refused r)
 
--- no host has a message that waits
-abbrev pub idle_verdict : List (ℕ × ℕ) → Option Got
-idle_verdict hosts = unless (length hosts == 0) (got.StillWaiting hosts)
+-- no host has a message that waits, and no node an answer that is noted
+abbrev pub idle_verdict : List Pending → Option Got
+idle_verdict all = unless (length all == 0) (got.StillPending all)
 
-unfoldable pub verdict : Parts → List LogEntry → List EventKind → Expected → Option Got
-verdict c past taken (expected.Signal node signal value) =
+-- given also the answers that are noted
+unfoldable pub verdict : Parts → List LogEntry → List Noted → List EventKind → Expected
+    → Option Got
+verdict c past noted taken (expected.Signal node signal value) =
     value_verdict (λ v. same_value v value) (value_seen c past node signal)
-verdict c past taken (expected.SignalWithin node signal low high) =
+verdict c past noted taken (expected.SignalWithin node signal low high) =
     value_verdict (is_within low high) (value_seen c past node signal)
-verdict c past taken (expected.Waiting host count) = waiting_verdict c past host count
-verdict c past taken (expected.Message from to bytes) =
+verdict c past noted taken (expected.Waiting host count) = waiting_verdict c past host count
+verdict c past noted taken (expected.Message from to bytes) =
     message_verdict bytes (next_event past taken (Messages from to))
-verdict c past taken (expected.NoMessage from to) =
+verdict c past noted taken (expected.NoMessage from to) =
     no_message_verdict (next_event past taken (Messages from to))
-verdict c past taken (expected.Sent host) = sent_verdict (next_event past taken (Fates host))
-verdict c past taken (expected.Lost host cause) =
+verdict c past noted taken (expected.Sent host) = sent_verdict (next_event past taken (Fates host))
+verdict c past noted taken (expected.Lost host cause) =
     lost_verdict cause (next_event past taken (Fates host))
-verdict c past taken (expected.Seen how) = seen_verdict how (last_event past Ends)
-verdict c past taken (expected.Slot table entry) = slot_verdict table entry (last_event past Begins)
-verdict c past taken expected.Done = done_verdict (newest_reply past)
-verdict c past taken (expected.Refused why) = refused_verdict why (newest_reply past)
-verdict c past taken expected.Asleep = unless (asleep past) got.Awake
-verdict c past taken expected.Awake = if asleep past then Some got.Asleep else None
-verdict c past taken expected.Idle = idle_verdict (hosts_waiting c past)
+verdict c past noted taken (expected.Seen how) = seen_verdict how (last_event past Ends)
+verdict c past noted taken (expected.Slot table entry) = slot_verdict table entry (last_event past Begins)
+verdict c past noted taken expected.Done = done_verdict (newest_reply past)
+verdict c past noted taken (expected.Refused why) = refused_verdict why (newest_reply past)
+verdict c past noted taken expected.Asleep = unless (asleep past) got.Awake
+verdict c past noted taken expected.Awake = if asleep past then Some got.Asleep else None
+verdict c past noted taken expected.Idle = idle_verdict (pending c past noted)

@@ -1,18 +1,20 @@
 //! Benches in hand.
 
-ghost use Rattle.std.specs.Prelude.{◌≡◌, IfOk, OnOk, option_map};
+ghost use Rattle.std.specs.Prelude.{◌≡◌, [], IfOk, OnOk, option_map};
 ghost use Rattle.lin_bench.specs.Bench.{awaited};
 ghost use Rattle.lin_core.specs.Core.{past_of};
 ghost use Rattle.lin_bench.specs.Made.{expects, met_or};
 ghost use Rattle.lin_bench.specs.Searches.{IsKnown, taken_by};
+ghost use Rattle.lin_bench.specs.Slots.{pending};
 ghost use Rattle.lin_bench.specs.Verdicts.{kind_taken, taking, verdict};
 ghost use Rattle.lin_bench.specs.declared.line.Line.{Line};
 
 use crate::expected::Expected;
 use crate::fault::MakeFault;
-use crate::got::Verdict;
+use crate::got::{Pending, Verdict};
 use crate::line::{Disturbance, Extent, Line};
-use crate::slots::{SLOT_LIMIT, make, slots};
+use crate::ruled::{RuledCore, pending};
+use crate::slots::{SLOT_LIMIT, slots};
 use crate::taken::Taken;
 use crate::verdicts::verdict;
 use lin_core::Core;
@@ -20,11 +22,11 @@ use std::alloc::{AllocError, Global};
 use std::marker::Model;
 
 /// A core in hand, on which lines of bench scripts are made, each after those before it. Contracts
-/// see the core, of which kinds expectations took events, in order, and how many slots lines of
-/// slots may still make.
+/// see the core, the rules in force, of which kinds expectations took events, in order, and how many
+/// slots lines of slots may still make.
 #[derive(Drop)]
 pub struct Bench {
-    core: Core,
+    ruled: RuledCore,
     taken: Taken,
     left: u32,
 }
@@ -42,18 +44,19 @@ impl Model for Bench {
 /// Judges what is expected.
 fn judge(
     alloc: Global,
-    core: &Core,
+    ruled: &RuledCore,
     taken: &mut Taken,
     expected: Expected,
 ) -> Result<Verdict, AllocError>
-    requires { IsKnown core.now.log taken.old }
+    requires { IsKnown ruled.now.core.log taken.old }
     ensures verdict { IfOk result (λ v. v ≡ met_or expected
-        (verdict core.now.cluster (past_of core.now) (taken_by core.now.log taken.old) expected)) }
-    ensures taken { OnOk result (taken_by core.now.log taken.new
-        ≡ taking (past_of core.now) (taken_by core.now.log taken.old) (kind_taken expected)) }
-    ensures known { IsKnown core.now.log taken.new }
+        (verdict ruled.now.core.cluster (past_of ruled.now.core) ruled.now.rules.noted
+        (taken_by ruled.now.core.log taken.old) expected)) }
+    ensures taken { OnOk result (taken_by ruled.now.core.log taken.new ≡ taking
+        (past_of ruled.now.core) (taken_by ruled.now.core.log taken.old) (kind_taken expected)) }
+    ensures known { IsKnown ruled.now.core.log taken.new }
 {
-    match verdict(alloc, core, taken, &expected)? {
+    match verdict(alloc, ruled, taken, &expected)? {
         None => Ok(Verdict::Met(expected)),
         Some(got) => Ok(Verdict::Unmet(expected, got)),
     }
@@ -80,12 +83,14 @@ impl Bench {
     ghost use Rattle.lin_bench.specs.Bench.{Judges, Makes, MakesLine, forgotten, fresh, made_until};
     ghost use Rattle.lin_bench.specs.Bench.{renewed};
 
-    /// A bench over a core, on which no line was made. Its lines of slots may make 1,000,000 slots.
+    /// A bench over a core with an empty log, on which no rule is in force. Its lines of slots may
+    /// make 1,000,000 slots.
     pub fn new(alloc: Global, core: Core) -> Bench
+        requires { core.log ≡ [] }
         ensures { result ≡ fresh core }
     {
         Bench {
-            core,
+            ruled: RuledCore::new(alloc, core),
             taken: Taken {
                 forgotten: 0,
                 searches: Vec::new(alloc),
@@ -98,15 +103,24 @@ impl Bench {
     pub fn core(&self) -> &Core
         ensures { result.now ≡ self.now.core }
     {
-        &self.core
+        self.ruled.core()
     }
 
     /// The core, with the log of all steps that were made.
     pub fn into_core(self) -> Core
         ensures { result ≡ self.core }
     {
-        let Bench { core, .. } = self;
-        core
+        let Bench { ruled, .. } = self;
+        ruled.into_core()
+    }
+
+    /// The hosts of which messages wait, and then the nodes of which answers are noted, and how
+    /// many. An error means out of memory.
+    pub fn pending(&self, alloc: Global) -> Result<Vec<Pending>, AllocError>
+        ensures { IfOk result (λ v. v.items
+            ≡ pending self.now.core.cluster (past_of self.now.core) self.now.rules.noted) }
+    {
+        pending(alloc, &self.ruled)
     }
 
     /// Lets the lines from now on make 1,000,000 slots, whatever those before made.
@@ -122,7 +136,7 @@ impl Bench {
     {
         match expected {
             None => Ok(Verdict::Nothing),
-            Some(expected) => Ok(judge(alloc, &self.core, &mut self.taken, expected)?),
+            Some(expected) => Ok(judge(alloc, &self.ruled, &mut self.taken, expected)?),
         }
     }
 
@@ -131,7 +145,7 @@ impl Bench {
         ensures { self.new ≡ forgotten self.old }
     {
         self.taken = Taken {
-            forgotten: self.core.log().len(),
+            forgotten: self.core().log().len(),
             searches: Vec::new(alloc),
         };
     }
@@ -151,7 +165,7 @@ impl Bench {
         let until = awaited(&expected, is_awaited);
         match slots(
             alloc,
-            &mut self.core,
+            &mut self.ruled,
             how,
             extent,
             until,
@@ -184,7 +198,7 @@ impl Bench {
     {
         match line {
             Line::Step(by, step) => {
-                make(&mut self.core, by, step)?;
+                self.ruled.make(alloc, by, step)?;
                 Ok(Verdict::Nothing)
             }
             Line::Slot(how) => self.slots(alloc, &how, Extent::Count(1), None, false),
@@ -204,6 +218,10 @@ impl Bench {
             Line::Expect(expected) => self.judge(alloc, Some(expected)),
             Line::Forget => {
                 self.forget(alloc);
+                Ok(Verdict::Nothing)
+            }
+            Line::Rule(rule) => {
+                self.ruled.rule(alloc, rule)?;
                 Ok(Verdict::Nothing)
             }
         }

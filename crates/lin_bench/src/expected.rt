@@ -57,6 +57,6 @@ pub enum Expected {
     Refused(Refusal),
     Asleep,
     Awake,
-    /// No message of any host waits: `slots idle` expects it after its slots.
+    /// No message of any host waits, and no answer is noted: `slots idle` expects it after its slots.
     Idle,
 }

@@ -64,6 +64,8 @@ impl From<AllocError> for MakeFault {
 pub enum PlayFault {
     /// By this line, counted from 1, the lines of slots make more than 1,000,000 of them.
     SlotLimit { line: u64 },
+    /// The steps of the lines are more than the log has room for, which takes 4,294,967,295 entries.
+    LogFull,
     OutOfMemory,
 }
 

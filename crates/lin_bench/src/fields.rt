@@ -1,7 +1,7 @@
 //! The fields of a line, as the language of a cluster's names has them.
 
 ghost use Rattle.std.specs.Prelude.{◌≡◌, IfOk, option_map};
-ghost use Rattle.lin_bench.specs.Fields.{bytes_fields, fields, node_field, number_field};
+ghost use Rattle.lin_bench.specs.Fields.{bytes_fields, count_field, fields, node_field, number_field};
 ghost use Rattle.lin_bench.specs.Fields.{after_dots, range_ends, range_field};
 ghost use Rattle.lin_bench.specs.Fields.{signal_field, table_field, value_field, words};
 ghost use Rattle.lin_bench.specs.Read.{Gives};
@@ -11,7 +11,7 @@ use crate::reason::Reason;
 use lin_cluster_parts::Cluster;
 use lin_core::Payload;
 use lin_frame::Value;
-use lin_lists::Text;
+use lin_lists::{Many, Text};
 use lin_log::first_field;
 use std::alloc::{AllocError, Global};
 
@@ -37,6 +37,27 @@ pub(crate) fn number_field(alloc: Global, field: &[u8], most: u32) -> Result<u32
     ensures { Gives (λ n. n) result (number_field most field.now) }
 {
     Ok(lin_log::number_field(alloc, field, most)?)
+}
+
+/// A number from 1 to 1,000,000.
+pub(crate) fn count_field(alloc: Global, field: &[u8]) -> Result<u32, LineFault>
+    ensures { Gives (λ n. n) result (count_field field.now) }
+{
+    match number_field(alloc, field, 1_000_000)? {
+        0 => Err(LineFault::Bad(Reason::TooSmall)),
+        count => Ok(count),
+    }
+}
+
+/// Copies of fields.
+pub(crate) fn copied_fields(alloc: Global, fields: &[&[u8]]) -> Result<Many<Text>, AllocError>
+    ensures { IfOk result (λ all. all ≡ words fields.now) }
+{
+    let mut all = Vec::new(alloc);
+    for field in fields {
+        all.push(Text::copied(alloc, *field)?)?;
+    }
+    Ok(Many::new(all))
 }
 
 /// A node or its host, by its name or its number.

@@ -5,6 +5,15 @@ use lin_core::{Cause, Look, Payload, Refusal};
 use lin_frame::Value;
 use lin_lists::Many;
 
+/// What keeps a cluster from being idle.
+#[derive(Clone, Copy, Debug)]
+pub enum Pending {
+    /// So many messages of a host wait.
+    MessagesWait(u8, usize),
+    /// So many answers of a node are noted.
+    AnswersNoted(u8, usize),
+}
+
 /// What is so in place of what a bench script expects.
 #[derive(Drop)]
 pub enum Got {
@@ -34,8 +43,8 @@ pub enum Got {
     NoStep,
     Asleep,
     Awake,
-    /// Messages of these hosts wait still, so many of each.
-    StillWaiting(Many<(u8, usize)>),
+    /// Messages of hosts wait still, or answers of nodes are noted.
+    StillPending(Many<Pending>),
     /// No node has this number.
     NoNode,
     /// No node, or no signal, has this number.

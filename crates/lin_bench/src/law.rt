@@ -1,10 +1,21 @@
 //! What bench scripts say that are scripts of steps alone.
 
 ghost use Rattle.lin_bench.specs.Plain.{NamedTexts, PlainScripts};
+ghost use Rattle.lin_bench.specs.RuleLaws.{AddedByAnyFinish, AddedByHistoryAndRules, NoRuleAddsNothing};
+ghost use Rattle.lin_bench.specs.RuleLaws.{NoRuleChangesNothing};
 
 /// A script that `replay` reads says the same steps as a bench script, and makes and expects
 /// nothing else; and so does a text of steps with the cluster's names.
 pub fn plain_scripts_say_the_same()
     ensures plain { PlainScripts }
     ensures named { NamedTexts }
+{}
+
+/// Where no rule is in force, nothing is added to the steps of lines. What rules add after a finish
+/// is told by the history and the rules alone, whoever gives the finish.
+pub fn rules_alone_add_steps()
+    ensures nothing { NoRuleAddsNothing }
+    ensures unchanged { NoRuleChangesNothing }
+    ensures any_finish { AddedByAnyFinish }
+    ensures alone { AddedByHistoryAndRules }
 {}

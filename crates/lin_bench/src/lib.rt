@@ -18,7 +18,9 @@
 //! ```
 #![tactic(auto)]
 
+mod answers;
 mod bench;
+mod ends;
 mod expectations;
 mod expected;
 mod fault;
@@ -29,6 +31,10 @@ mod line;
 mod lines;
 mod playing;
 mod reason;
+mod replies;
+mod rule_lines;
+mod ruled;
+mod rules;
 mod script;
 mod slots;
 mod taken;
@@ -38,15 +44,15 @@ mod verdicts;
 pub use bench::Bench;
 pub use expected::Expected;
 pub use fault::{LineFault, MakeFault, PlayFault, ReadFault};
-pub use got::{Got, Unmet, Verdict};
-pub use law::plain_scripts_say_the_same;
+pub use got::{Got, Pending, Unmet, Verdict};
+pub use law::{plain_scripts_say_the_same, rules_alone_add_steps};
 pub use lin_core::Look;
 pub use line::{Disturbance, Extent, Line};
 pub use lines::read_line;
 pub use playing::{Played, play};
 pub use reason::Reason;
+pub use rules::{Answer, Every, Part, Pattern, Rule, When};
 pub use script::{read, without_mark};
-pub use slots::hosts_waiting;
 pub use texts::{
-    put_fields, put_hosts, put_reason, put_unmet, put_verdict, write_bad_line, write_unmet,
+    put_fields, put_pending, put_reason, put_unmet, put_verdict, write_bad_line, write_unmet,
 };

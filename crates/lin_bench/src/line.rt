@@ -1,6 +1,7 @@
 //! What a line says.
 
 use crate::expected::Expected;
+use crate::rules::Rule;
 use lin_core::{Payload, PortId, Step};
 use lin_lists::Many;
 
@@ -39,4 +40,6 @@ pub enum Line {
     Expect(Expected),
     /// Of all messages that arrived, and of all that were sent or lost, expectations speak no more.
     Forget,
+    /// A rule is in force for the lines after it, or no longer.
+    Rule(Rule),
 }

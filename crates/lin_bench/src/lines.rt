@@ -2,16 +2,17 @@
 
 ghost use Rattle.std.specs.Prelude.{◌≡◌};
 ghost use Rattle.lin_bench.specs.Fields.{fields};
-ghost use Rattle.lin_bench.specs.Lines.{count_field, count_form, forget_form, idle_form, leave_form};
+ghost use Rattle.lin_bench.specs.Lines.{count_form, forget_form, idle_form, leave_form};
 ghost use Rattle.lin_bench.specs.Lines.{line_form, node_fields, read_line, slot_form, slots_form};
 ghost use Rattle.lin_bench.specs.Lines.{time_form};
 ghost use Rattle.lin_bench.specs.Read.{Gives};
 
 use crate::expectations::{expectation, until};
 use crate::fault::LineFault;
-use crate::fields::{bytes_fields, node_field, number_field};
+use crate::fields::{bytes_fields, count_field, node_field};
 use crate::line::{Disturbance, Extent, Line};
 use crate::reason::Reason;
+use crate::rule_lines::{every, timeouts, when};
 use lin_cluster_parts::Cluster;
 use lin_core::PortId;
 use lin_lists::{Many, Text};
@@ -20,16 +21,6 @@ use std::alloc::Global;
 
 /// How many slots are made where no message waits any more, and no number says how many at most.
 const IDLE: u32 = 10_000;
-
-/// A number from 1 to 1,000,000.
-fn count_field(alloc: Global, field: &[u8]) -> Result<u32, LineFault>
-    ensures { Gives (λ n. n) result (count_field field.now) }
-{
-    match number_field(alloc, field, 1_000_000)? {
-        0 => Err(LineFault::Bad(Reason::TooSmall)),
-        count => Ok(count),
-    }
-}
 
 /// Slots until no message waits, by the fields after `idle`.
 fn idle(alloc: Global, cluster: &Cluster, line: &[u8]) -> Result<Line, LineFault>
@@ -167,6 +158,12 @@ fn of_word(alloc: Global, cluster: &Cluster, word: &[u8], rest: &[u8]) -> Result
         Ok(Line::Expect(expectation(alloc, cluster, rest)?))
     } else if word == b"forget".as_slice() {
         forget(alloc, cluster, rest)
+    } else if word == b"when".as_slice() {
+        Ok(Line::Rule(when(alloc, cluster, rest)?))
+    } else if word == b"timeouts".as_slice() {
+        Ok(Line::Rule(timeouts(alloc, cluster, rest)?))
+    } else if word == b"every".as_slice() {
+        Ok(Line::Rule(every(alloc, cluster, rest)?))
     } else {
         Ok(Line::Step(PortId::Bus, step(alloc, cluster, word, rest)?))
     }

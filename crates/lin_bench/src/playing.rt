@@ -1,8 +1,7 @@
 //! Bench scripts, played.
 
-ghost use Rattle.std.specs.Prelude.{◌<◌, ◌≤◌, ◌+◌, ◌*◌, ◌^◌, length, OnOk};
-ghost use Rattle.lin_bench.specs.Making.{most_steps};
-ghost use Rattle.lin_bench.specs.Plays.{Plays, PlaysLine};
+ghost use Rattle.std.specs.Prelude.{◌≡◌, ◌<◌, ◌≤◌, length, true};
+ghost use Rattle.lin_bench.specs.Plays.{IsLogFull, Plays, PlaysLine, has_rule};
 
 use crate::bench::Bench;
 use crate::fault::{MakeFault, PlayFault};
@@ -30,13 +29,9 @@ fn play_line(
     line: Line,
     unmet: &mut Vec<Unmet>,
 ) -> Result<(), PlayFault>
-    requires room { length bench.old.core.log + most_steps * bench.old.left + 1 < 2 ^ 32 }
-    ensures plays { PlaysLine bench.old unmet.old.items number line result
+    ensures { PlaysLine bench.old unmet.old.items number line result
         bench.new unmet.new.items }
-    ensures few { OnOk result (length bench.new.core.log + most_steps * bench.new.left
-        ≤ length bench.old.core.log + most_steps * bench.old.left + 1) }
 {
-    bench.core().cluster().sound();
     match bench.make(alloc, line) {
         Ok(Verdict::Nothing | Verdict::Met(_)) => Ok(()),
         Ok(Verdict::Unmet(expected, got)) => {
@@ -53,7 +48,7 @@ fn play_line(
         }
         Ok(Verdict::SlotLimit) => Err(PlayFault::SlotLimit { line: number }),
         Err(MakeFault::OutOfMemory) => Err(PlayFault::OutOfMemory),
-        Err(MakeFault::LogFull) => unreachable!(),
+        Err(MakeFault::LogFull) => Err(PlayFault::LogFull),
     }
 }
 
@@ -61,12 +56,13 @@ fn play_line(
 /// the steps that each line says after those before it, and judges what is expected at its line.
 ///
 /// The core begins with schedule table `table` of the cluster; each host may have `capacity`
-/// messages waiting, 1 to 1,024. Its log is the history of these steps, and never full: there are at
-/// most 16,777,217 lines, and a slot has 19 steps at most.
+/// messages waiting, 1 to 1,024. Its log is the history of these steps, and of those that the rules of
+/// the lines add. Without a rule 16,777,217 lines don't fill it: a slot has 19 steps at most.
 ///
 /// # Errors
 /// The cluster is dropped after each of them.
 /// - `SlotLimit` with the first line by which lines of slots make more than 1,000,000;
+/// - `LogFull`: the steps, with those that rules add, are more than fit;
 /// - `OutOfMemory`.
 pub fn play(
     alloc: Global,
@@ -77,9 +73,10 @@ pub fn play(
 ) -> Result<Played, PlayFault>
     requires table { table < length cluster.tables }
     requires capacity { (1 ≤ capacity) × (capacity ≤ 1024) }
-    requires few { length lines.items ≤ 16777217 }
-    ensures { Plays cluster table capacity lines.items result }
+    ensures plays { Plays cluster table capacity lines.items result }
+    ensures few { length lines.items ≤ 16777217 → IsLogFull result → has_rule lines.items ≡ true }
 {
+    cluster.sound();
     let mut bench = Bench::new(alloc, Core::new(alloc, cluster, table, capacity)?);
     let mut unmet = Vec::new(alloc);
     for (number, line) in lines {

@@ -27,4 +27,16 @@ pub enum Reason {
     UntilForm,
     /// `until` has no form of these fields.
     UnknownUntil(Many<Text>),
+    /// `when` takes a node, a pattern and answers.
+    WhenForm,
+    /// No responder with an address has this name or number.
+    NoResponder(Text),
+    /// These fields are no pattern.
+    NoPattern(Many<Text>),
+    /// `timeouts` takes a time and `ms`, or `off`.
+    TimeoutsForm,
+    /// `every` takes a time and a step, or `off`.
+    EveryForm,
+    /// `every` takes a send or a write.
+    EveryStep,
 }

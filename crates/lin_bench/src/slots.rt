@@ -6,7 +6,7 @@ ghost use Rattle.lin_core.specs.History.{is_in};
 ghost use Rattle.lin_core.specs.declared.step.Step.TheVariants.{Open};
 ghost use Rattle.lin_core.specs.Core.{past_of};
 ghost use Rattle.lin_core.specs.declared.port.PortId.TheVariants.{Bus};
-ghost use Rattle.lin_bench.specs.Making.{MakesSlots, MakesSteps, ends_at};
+ghost use Rattle.lin_bench.specs.Making.{MakesSlots, MakesSteps, course_on, ends_at};
 ghost use Rattle.lin_bench.specs.Searches.{IsKnown, taken_by};
 ghost use Rattle.lin_bench.specs.Slots.{decision, due_in, due_now, goes_on, hosts_waiting};
 ghost use Rattle.lin_bench.specs.Slots.{due_node, hurt_steps, is_opened, leave_nodes, most, one_more};
@@ -15,24 +15,14 @@ ghost use Rattle.lin_bench.specs.Slots.{slot_rest, slot_steps, some_wait};
 use crate::expected::Expected;
 use crate::fault::MakeFault;
 use crate::line::{Disturbance, Extent};
+use crate::ruled::RuledCore;
 use crate::taken::Taken;
 use crate::verdicts::comes;
-use lin_core::{Core, Event, Hold, Payload, PortId, Reply, Step};
+use lin_core::{Core, Event, Payload, PortId, Reply, Step};
 use std::alloc::{AllocError, Global};
 
 /// How many slots lines of slots may make in a run.
 pub(crate) const SLOT_LIMIT: u32 = 1_000_000;
-
-/// Makes a step by a port.
-pub(crate) fn make(core: &mut Core, by: PortId, step: Step) -> Result<(), MakeFault>
-    ensures { MakesSteps core.old ((by, step) ∷ []) result core.new }
-{
-    match core.step(by, step) {
-        Ok(()) => Ok(()),
-        Err(Hold::LogFull(_)) => Err(MakeFault::LogFull),
-        Err(Hold::OutOfMemory(_)) => Err(MakeFault::OutOfMemory),
-    }
-}
 
 fn due_node(event: &Event) -> Option<u8>
     ensures { result ≡ due_node event.now }
@@ -84,23 +74,28 @@ fn decision(how: &Disturbance, node: u8) -> Step
 }
 
 /// The nodes that are due answer, or leave their responses out.
-fn decide(core: &mut Core, how: &Disturbance, due: &[u8]) -> Result<(), MakeFault>
-    ensures { MakesSteps core.old (map (decision how.now) due.now) result core.new }
+fn decide(
+    alloc: Global,
+    ruled: &mut RuledCore,
+    how: &Disturbance,
+    due: &[u8],
+) -> Result<(), MakeFault>
+    ensures { MakesSteps ruled.old (map (decision how.now) due.now) result ruled.new }
 {
     for node in due {
-        make(core, PortId::Bus, decision(how, *node))?;
+        ruled.make(alloc, PortId::Bus, decision(how, *node))?;
     }
     Ok(())
 }
 
 /// Disturbs the response of the open slot, where it is to be.
-fn hurt(alloc: Global, core: &mut Core, how: &Disturbance) -> Result<(), MakeFault>
-    ensures { MakesSteps core.old (hurt_steps how.now) result core.new }
+fn hurt(alloc: Global, ruled: &mut RuledCore, how: &Disturbance) -> Result<(), MakeFault>
+    ensures { MakesSteps ruled.old (hurt_steps how.now) result ruled.new }
 {
     match how {
         Disturbance::Hurt(bytes) => {
             let bytes = Payload::new(Vec::from_slice(alloc, bytes.as_slice())?);
-            make(core, PortId::Bus, Step::Hurt { bytes })
+            ruled.make(alloc, PortId::Bus, Step::Hurt { bytes })
         }
         Disturbance::Undisturbed | Disturbance::Leave(_) => Ok(()),
     }
@@ -115,47 +110,49 @@ fn is_at_limit(core: &Core, left: u32) -> bool
 }
 
 /// Opens a slot, and answers which nodes are due in it; none where it couldn't be opened.
-fn open(alloc: Global, core: &mut Core) -> Result<Option<Vec<u8>>, MakeFault>
-    ensures made { MakesSteps core.old ((Bus, Open) ∷ []) result core.new }
+fn open(alloc: Global, ruled: &mut RuledCore) -> Result<Option<Vec<u8>>, MakeFault>
+    ensures made { MakesSteps ruled.old ((Bus, Open) ∷ []) result ruled.new }
     ensures due { IfOk result (λ due. option_map (λ v. v.items) due
-        ≡ due_now core.old.cluster core.old.opening core.old.capacity (past_of core.old)) }
+        ≡ due_now ruled.old.core.cluster ruled.old.core.opening ruled.old.core.capacity
+        (past_of ruled.old.core)) }
 {
-    make(core, PortId::Bus, Step::Open)?;
-    Ok(due_in(alloc, &core.newest().reply)?)
+    ruled.make(alloc, PortId::Bus, Step::Open)?;
+    Ok(due_in(alloc, &ruled.core().newest().reply)?)
 }
 
 /// Makes the steps of a slot in which these nodes are due, after its open.
 fn rest_of_slot(
     alloc: Global,
-    core: &mut Core,
+    ruled: &mut RuledCore,
     how: &Disturbance,
     due: &[u8],
 ) -> Result<(), MakeFault>
-    ensures { MakesSteps core.old (slot_rest how.now (Some due.now)) result core.new }
+    ensures { MakesSteps ruled.old (slot_rest how.now (Some due.now)) result ruled.new }
 {
-    decide(core, how, due)?;
-    hurt(alloc, core, how)?;
-    make(core, PortId::Bus, Step::Finish)
+    decide(alloc, ruled, how, due)?;
+    hurt(alloc, ruled, how)?;
+    ruled.make(alloc, PortId::Bus, Step::Finish)
 }
 
 /// Makes a slot, and answers whether it could be opened.
 #[tactic(auto, unfolding(crate::specs::Slots::slot_steps))]
-fn slot(alloc: Global, core: &mut Core, how: &Disturbance) -> Result<bool, MakeFault>
-    ensures steps { MakesSteps core.old
-        (slot_steps core.old.cluster core.old.opening core.old.capacity how.now (past_of core.old))
-        result core.new }
+fn slot(alloc: Global, ruled: &mut RuledCore, how: &Disturbance) -> Result<bool, MakeFault>
+    ensures steps { MakesSteps ruled.old
+        (slot_steps ruled.old.core.cluster ruled.old.core.opening ruled.old.core.capacity how.now
+        (past_of ruled.old.core)) result ruled.new }
     ensures opened { IfOk result (λ is. is ≡ is_opened
-        (due_now core.old.cluster core.old.opening core.old.capacity (past_of core.old))) }
+        (due_now ruled.old.core.cluster ruled.old.core.opening ruled.old.core.capacity
+        (past_of ruled.old.core))) }
 {
-    let Some(due) = open(alloc, core)? else {
+    let Some(due) = open(alloc, ruled)? else {
         return Ok(false);
     };
-    rest_of_slot(alloc, core, how, due.as_slice())?;
+    rest_of_slot(alloc, ruled, how, due.as_slice())?;
     Ok(true)
 }
 
 /// Whether a message of some host waits.
-fn some_wait(core: &Core) -> bool
+pub(crate) fn some_wait(core: &Core) -> bool
     ensures { result ≡ some_wait core.now.cluster (past_of core.now) }
 {
     for host in 0..core.cluster().nodes() as u8 {
@@ -167,7 +164,7 @@ fn some_wait(core: &Core) -> bool
 }
 
 /// The hosts of which messages wait, and how many. An error means out of memory.
-pub fn hosts_waiting(alloc: Global, core: &Core) -> Result<Vec<(u8, usize)>, AllocError>
+pub(crate) fn hosts_waiting(alloc: Global, core: &Core) -> Result<Vec<(u8, usize)>, AllocError>
     ensures { IfOk result (λ v. v.items ≡ hosts_waiting core.now.cluster (past_of core.now)) }
 {
     let mut hosts = Vec::new(alloc);
@@ -181,13 +178,15 @@ pub fn hosts_waiting(alloc: Global, core: &Core) -> Result<Vec<(u8, usize)>, All
 }
 
 /// Whether one more slot is to be made, by the time in microseconds at the line's beginning.
-fn goes_on(core: &Core, extent: Extent, began: u64) -> bool
-    ensures { result ≡ goes_on core.now.cluster extent began (past_of core.now) }
+fn goes_on(ruled: &RuledCore, extent: Extent, began: u64) -> bool
+    ensures { result ≡ goes_on ruled.now.core.cluster extent began (course_on ruled.now) }
 {
     match extent {
         Extent::Count(_) => true,
-        Extent::Milliseconds(ms) => core.time().saturating_sub(began) < 1000 * u64::from(ms),
-        Extent::Idle(_) => some_wait(core),
+        Extent::Milliseconds(ms) => {
+            ruled.core().time().saturating_sub(began) < 1000 * u64::from(ms)
+        }
+        Extent::Idle(_) => some_wait(ruled.core()) || !ruled.noted().is_empty(),
     }
 }
 
@@ -205,26 +204,26 @@ fn most(extent: Extent) -> u32
 /// does, hasn't come. That takes nothing.
 fn is_going(
     alloc: Global,
-    core: &Core,
+    ruled: &RuledCore,
     extent: Extent,
     began: u64,
     until: Option<&Expected>,
     taken: &mut Taken,
 ) -> Result<bool, AllocError>
-    requires { IsKnown core.now.log taken.old }
-    ensures going { IfOk result (λ is. is ≡ one_more core.now.cluster extent
-        (ends_at core.now.cluster (taken_by core.now.log taken.old) (option_map (λ e. e.now) until.entry))
-        began (past_of core.now)) }
+    requires { IsKnown ruled.now.core.log taken.old }
+    ensures going { IfOk result (λ is. is ≡ one_more ruled.now.core.cluster extent
+        (ends_at ruled.now.core.cluster (taken_by ruled.now.core.log taken.old)
+        (option_map (λ e. e.now) until.entry)) began (course_on ruled.now)) }
     ensures taken { OnOk result
-        (taken_by core.now.log taken.new ≡ taken_by core.now.log taken.old) }
-    ensures known { IsKnown core.now.log taken.new }
+        (taken_by ruled.now.core.log taken.new ≡ taken_by ruled.now.core.log taken.old) }
+    ensures known { IsKnown ruled.now.core.log taken.new }
 {
-    if !goes_on(core, extent, began) {
+    if !goes_on(ruled, extent, began) {
         return Ok(false);
     }
     match until {
         None => Ok(true),
-        Some(expected) => Ok(!comes(alloc, core, taken, expected)?),
+        Some(expected) => Ok(!comes(alloc, ruled, taken, expected)?),
     }
 }
 
@@ -233,32 +232,32 @@ fn is_going(
 #[tactic(auto, unfolding(crate::specs::Slots::extent_steps))]
 pub(crate) fn slots(
     alloc: Global,
-    core: &mut Core,
+    ruled: &mut RuledCore,
     how: &Disturbance,
     extent: Extent,
     until: Option<&Expected>,
     taken: &mut Taken,
     left: u32,
 ) -> Result<Option<u32>, MakeFault>
-    requires { IsKnown core.old.log taken.old }
-    ensures made { MakesSlots core.old how.now extent
-        (ends_at core.old.cluster (taken_by core.old.log taken.old) (option_map (λ e. e.now) until.entry))
-        left result core.new }
+    requires { IsKnown ruled.old.core.log taken.old }
+    ensures made { MakesSlots ruled.old how.now extent
+        (ends_at ruled.old.core.cluster (taken_by ruled.old.core.log taken.old)
+        (option_map (λ e. e.now) until.entry)) left result ruled.new }
     ensures taken { OnOk result
-        (taken_by core.new.log taken.new ≡ taken_by core.old.log taken.old) }
-    ensures known { IsKnown core.new.log taken.new }
+        (taken_by ruled.new.core.log taken.new ≡ taken_by ruled.old.core.log taken.old) }
+    ensures known { IsKnown ruled.new.core.log taken.new }
 {
-    let began = core.time();
+    let began = ruled.core().time();
     let mut left = left;
     for _ in 0..most(extent) {
-        let goes = is_going(alloc, core, extent, began, until, taken)?;
+        let goes = is_going(alloc, ruled, extent, began, until, taken)?;
         if !goes {
             return Ok(Some(left));
         }
-        if is_at_limit(core, left) {
+        if is_at_limit(ruled.core(), left) {
             return Ok(None);
         }
-        if !slot(alloc, core, how)? {
+        if !slot(alloc, ruled, how)? {
             return Ok(Some(left));
         }
         left -= 1;

@@ -5,11 +5,11 @@ ghost use Rattle.std.specs.Fmt.{decimal};
 ghost use Rattle.lin_log.specs.Words.{spaced_word};
 ghost use Rattle.lin_text.specs.Written.{Grows, WritesText};
 ghost use Rattle.lin_bench.specs.Texts.{bad_line_text, expected_text, fields_text, fields_word};
-ghost use Rattle.lin_bench.specs.Texts.{got_text, hosts_text, other_host_text, reason_text};
-ghost use Rattle.lin_bench.specs.Texts.{step_reason_text, unmet_text, verdict_text, waiting_text};
+ghost use Rattle.lin_bench.specs.Texts.{got_text, node_word, other_pending_text, pending_text};
+ghost use Rattle.lin_bench.specs.Texts.{pending_word, reason_text, step_reason_text, unmet_text, verdict_text};
 
 use crate::expected::Expected;
-use crate::got::{Got, Unmet};
+use crate::got::{Got, Pending, Unmet};
 use crate::reason::Reason;
 use lin_cluster_parts::Cluster;
 use lin_core::Listed;
@@ -137,6 +137,18 @@ pub fn put_reason<W: Write>(out: &mut TextWriter<'_, W>, reason: &Reason)
             out.put_text("until has no form ");
             put_fields(out, fields.as_slice());
         }
+        Reason::WhenForm => out.put_text("when takes a node, a pattern and answers"),
+        Reason::NoResponder(field) => {
+            out.put(field.as_slice());
+            out.put_text(" is no responder with an address");
+        }
+        Reason::NoPattern(fields) => {
+            put_fields(out, fields.as_slice());
+            out.put_text(" is no pattern");
+        }
+        Reason::TimeoutsForm => out.put_text("timeouts takes a time and ms, or off"),
+        Reason::EveryForm => out.put_text("every takes a time and a step, or off"),
+        Reason::EveryStep => out.put_text("every takes a send or a write"),
     }
 }
 
@@ -242,33 +254,51 @@ fn put_expected<W: Write>(out: &mut TextWriter<'_, W>, cluster: &Cluster, expect
     }
 }
 
-/// How many messages of a host wait.
-fn put_waiting<W: Write>(out: &mut TextWriter<'_, W>, cluster: &Cluster, host: &(u8, usize))
-    ensures { Grows W.contents out.old out.new (waiting_text cluster.now host.now) }
+/// So many of a node, and what is so of them.
+fn put_counted<W: Write>(
+    out: &mut TextWriter<'_, W>,
+    cluster: &Cluster,
+    node: u8,
+    count: usize,
+    text: &str,
+)
+    ensures { Grows W.contents out.old out.new
+        (decimal count ++ (codes " of " ++ (node_word cluster.now node ++ text.now))) }
 {
-    out.put_number(host.1);
+    out.put_number(count);
     out.put_text(" of");
-    put_node(out, cluster, host.0);
-    out.put_text(" waiting");
+    put_node(out, cluster, node);
+    out.put_text(text);
 }
 
-fn put_others<W: Write>(out: &mut TextWriter<'_, W>, cluster: &Cluster, hosts: &[(u8, usize)])
-    ensures { Grows W.contents out.old out.new (flat_map (other_host_text cluster.now) hosts.now) }
+/// How many messages of a host wait, or answers of a node are noted.
+fn put_one_pending<W: Write>(out: &mut TextWriter<'_, W>, cluster: &Cluster, pending: &Pending)
+    ensures { Grows W.contents out.old out.new (pending_word cluster.now pending.now) }
 {
-    for host in hosts {
-        out.put_text(", ");
-        put_waiting(out, cluster, host);
+    match pending {
+        Pending::MessagesWait(host, count) => put_counted(out, cluster, *host, *count, " waiting"),
+        Pending::AnswersNoted(node, count) => put_counted(out, cluster, *node, *count, " noted"),
     }
 }
 
-/// How many messages of each of these hosts wait: `1 of door waiting, 2 of cem waiting`.
-pub fn put_hosts<W: Write>(out: &mut TextWriter<'_, W>, cluster: &Cluster, hosts: &[(u8, usize)])
-    ensures { Grows W.contents out.old out.new (hosts_text cluster.now hosts.now) }
+fn put_others<W: Write>(out: &mut TextWriter<'_, W>, cluster: &Cluster, pending: &[Pending])
+    ensures { Grows W.contents out.old out.new
+        (flat_map (other_pending_text cluster.now) pending.now) }
 {
-    match hosts {
+    for one in pending {
+        out.put_text(", ");
+        put_one_pending(out, cluster, one);
+    }
+}
+
+/// What waits, and what is noted: `1 of door waiting, 2 of cem waiting, 1 of door noted`.
+pub fn put_pending<W: Write>(out: &mut TextWriter<'_, W>, cluster: &Cluster, pending: &[Pending])
+    ensures { Grows W.contents out.old out.new (pending_text cluster.now pending.now) }
+{
+    match pending {
         [] => {}
         [first, rest @ ..] => {
-            put_waiting(out, cluster, first);
+            put_one_pending(out, cluster, first);
             put_others(out, cluster, rest);
         }
     }
@@ -308,9 +338,9 @@ fn put_got<W: Write>(out: &mut TextWriter<'_, W>, cluster: &Cluster, got: &Got)
         Got::NoStep => out.put_text(" no step"),
         Got::Asleep => out.put_text(" asleep"),
         Got::Awake => out.put_text(" awake"),
-        Got::StillWaiting(hosts) => {
+        Got::StillPending(pending) => {
             out.put_byte(b' ');
-            put_hosts(out, cluster, hosts.as_slice());
+            put_pending(out, cluster, pending.as_slice());
         }
         Got::NoNode => out.put_text(" no such node"),
         Got::NoNodeOrSignal => out.put_text(" no such node or signal"),

@@ -4,7 +4,8 @@ ghost use Rattle.std.specs.Prelude.{◌≡◌, ◌==◌, ◌<◌, ◌≤◌, ◌
 ghost use Rattle.lin_core.specs.Core.{past_of};
 ghost use Rattle.lin_bench.specs.Made.{comes};
 ghost use Rattle.lin_bench.specs.Searches.{IsKnown, last_end, last_search, taken_by};
-ghost use Rattle.lin_bench.specs.Slots.{hosts_waiting};
+ghost use Rattle.lin_bench.specs.Making.{course_on};
+ghost use Rattle.lin_bench.specs.Slots.{pending};
 ghost use Rattle.lin_bench.specs.Verdicts.{same_kind, done_verdict, idle_verdict, kind_taken, last_event};
 ghost use Rattle.lin_bench.specs.Verdicts.{lost_verdict, message_verdict, newest_reply};
 ghost use Rattle.lin_bench.specs.Verdicts.{next_event, refused_verdict};
@@ -14,7 +15,7 @@ ghost use Rattle.lin_bench.specs.Verdicts.{with_taken};
 
 use crate::expected::Expected;
 use crate::got::Got;
-use crate::slots::hosts_waiting;
+use crate::ruled::{RuledCore, pending};
 use crate::taken::{EventKind, Place, Search, Taken, event_from, last_event};
 use lin_core::{Cause, Core, Event, Look, Payload, Refusal, Reply};
 use lin_frame::Value;
@@ -230,15 +231,16 @@ fn refused(reply: Option<&Reply>, why: Refusal) -> Option<Got>
     }
 }
 
-/// Whether no message waits.
-fn idle(alloc: Global, core: &Core) -> Result<Option<Got>, AllocError>
-    ensures { IfOk result (λ v. v ≡ idle_verdict (hosts_waiting core.now.cluster (past_of core.now))) }
+/// Whether no message waits, and no answer is noted.
+fn idle(alloc: Global, ruled: &RuledCore) -> Result<Option<Got>, AllocError>
+    ensures { IfOk result (λ v. v ≡ idle_verdict
+        (pending ruled.now.core.cluster (past_of ruled.now.core) ruled.now.rules.noted)) }
 {
-    let hosts = hosts_waiting(alloc, core)?;
-    if hosts.is_empty() {
+    let all = pending(alloc, ruled)?;
+    if all.is_empty() {
         return Ok(None);
     }
-    Ok(Some(Got::StillWaiting(Many::new(hosts))))
+    Ok(Some(Got::StillPending(Many::new(all))))
 }
 
 /// The last search for a kind.
@@ -332,20 +334,20 @@ fn kind_taken(expected: &Expected) -> Option<EventKind>
 /// Whether what is waited for comes. It takes nothing.
 pub(crate) fn comes(
     alloc: Global,
-    core: &Core,
+    ruled: &RuledCore,
     taken: &mut Taken,
     expected: &Expected,
 ) -> Result<bool, AllocError>
-    requires { IsKnown core.now.log taken.old }
-    ensures comes { IfOk result (λ is. is ≡ comes core.now.cluster
-        (taken_by core.now.log taken.old) expected.now (past_of core.now)) }
+    requires { IsKnown ruled.now.core.log taken.old }
+    ensures comes { IfOk result (λ is. is ≡ comes ruled.now.core.cluster
+        (taken_by ruled.now.core.log taken.old) expected.now (course_on ruled.now)) }
     ensures taken { OnOk result
-        (taken_by core.now.log taken.new ≡ taken_by core.now.log taken.old) }
-    ensures known { IsKnown core.now.log taken.new }
+        (taken_by ruled.now.core.log taken.new ≡ taken_by ruled.now.core.log taken.old) }
+    ensures known { IsKnown ruled.now.core.log taken.new }
 {
     match kind_taken(expected) {
-        Some(kind) => Ok(look_for(core, taken, kind)?.is_some()),
-        None => Ok(verdict(alloc, core, taken, expected)?.is_none()),
+        Some(kind) => Ok(look_for(ruled.core(), taken, kind)?.is_some()),
+        None => Ok(verdict(alloc, ruled, taken, expected)?.is_none()),
     }
 }
 
@@ -354,17 +356,19 @@ pub(crate) fn comes(
 #[tactic(auto, unfolding(crate::specs::Verdicts::verdict))]
 pub(crate) fn verdict(
     alloc: Global,
-    core: &Core,
+    ruled: &RuledCore,
     taken: &mut Taken,
     expected: &Expected,
 ) -> Result<Option<Got>, AllocError>
-    requires { IsKnown core.now.log taken.old }
+    requires { IsKnown ruled.now.core.log taken.old }
     ensures verdict { IfOk result
-        (λ v. v ≡ verdict core.now.cluster (past_of core.now) (taken_by core.now.log taken.old) expected.now) }
-    ensures taken { OnOk result (taken_by core.now.log taken.new
-        ≡ taking (past_of core.now) (taken_by core.now.log taken.old) (kind_taken expected.now)) }
-    ensures known { IsKnown core.now.log taken.new }
+        (λ v. v ≡ verdict ruled.now.core.cluster (past_of ruled.now.core) ruled.now.rules.noted
+        (taken_by ruled.now.core.log taken.old) expected.now) }
+    ensures taken { OnOk result (taken_by ruled.now.core.log taken.new
+        ≡ taking (past_of ruled.now.core) (taken_by ruled.now.core.log taken.old) (kind_taken expected.now)) }
+    ensures known { IsKnown ruled.now.core.log taken.new }
 {
+    let core = ruled.core();
     match expected {
         Expected::Signal {
             node,
@@ -418,6 +422,6 @@ pub(crate) fn verdict(
         } else {
             None
         }),
-        Expected::Idle => idle(alloc, core),
+        Expected::Idle => idle(alloc, ruled),
     }
 }

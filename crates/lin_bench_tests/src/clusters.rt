@@ -47,6 +47,7 @@ pub fn played(alloc: Global, ldf: &[u8], text: &[u8]) -> Result<Played, Fail> {
     match play(alloc, cluster, 0, 16, lines) {
         Ok(played) => Ok(played),
         Err(PlayFault::SlotLimit { .. }) => Err(Fail::from("slot limit")),
+        Err(PlayFault::LogFull) => Err(Fail::from("log full")),
         Err(PlayFault::OutOfMemory) => Err(Fail::from("OutOfMemory")),
     }
 }

@@ -30,6 +30,7 @@ fn runs(rt: HostRuntime) -> Result<(), Fail> {
         (samples::BUILT_IN, samples::WAKE, samples::WAKE_LOG),
         (samples::LIGHTS, samples::KEYS, samples::KEYS_LOG),
         (samples::DOOR_ZONE, samples::WINDOW, samples::WINDOW_LOG),
+        (samples::DOOR_ZONE, samples::RULES, samples::RULES_LOG),
     ] {
         expect_log(&rt, rt.alloc(), ldf, text, log)?;
     }

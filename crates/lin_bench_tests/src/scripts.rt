@@ -2,7 +2,9 @@
 
 use crate::clusters::{cluster_of, read_text};
 use crate::samples::{BUILT_IN, DOOR_ZONE, WINDOW};
-use lin_bench::{Disturbance, Expected, Extent, Line, Look, read};
+use lin_bench::{
+    Answer, Disturbance, Every, Expected, Extent, Line, Look, Part, Pattern, Rule, When, read,
+};
 use lin_core::{Cause, Direction, PortId, Refusal, Step};
 use lin_frame::Value;
 use std::alloc::Global;
@@ -40,6 +42,57 @@ fn window(rt: HostRuntime) -> Result<(), Fail> {
 }
 
 /// The name of what a line says below.
+/// Whether a rule has a pattern of two bytes, and two answers, one at once and one 200 ms later.
+fn has_two_answers(when: &When) -> bool {
+    let answers = when.answers.as_slice();
+    when.pattern.bytes.as_slice().len() == 2
+        && answers.len() == 2
+        && answers[0].parts.as_slice().len() == 2
+        && answers[0].wait_ms == 0
+        && answers[1].wait_ms == 200
+}
+
+fn is_silent_to_all(when: &When) -> bool {
+    when.pattern.more
+        && when.pattern.bytes.as_slice().is_empty()
+        && when.answers.as_slice().is_empty()
+}
+
+fn is_send(step: &Step) -> bool {
+    match step {
+        Step::Send { .. } => true,
+        _ => false,
+    }
+}
+
+fn name_of_when(when: &When) -> &'static str {
+    if has_two_answers(when) {
+        "two answers"
+    } else if is_silent_to_all(when) {
+        "silent to all"
+    } else {
+        "another rule"
+    }
+}
+
+fn name_of_every(every: &Every) -> &'static str {
+    if every.period_ms == 10 && is_send(&every.step) {
+        "a repeated send"
+    } else {
+        "another rule"
+    }
+}
+
+fn name_of_rule(rule: &Rule) -> &'static str {
+    match rule {
+        Rule::When(when) => name_of_when(when),
+        Rule::Timeouts(_) => "timeouts",
+        Rule::TimeoutsOff => "no timeouts",
+        Rule::Every(every) => name_of_every(every),
+        Rule::WhenOff | Rule::EveryOff => "another rule",
+    }
+}
+
 fn name_of(line: &Line) -> &'static str {
     match line {
         Line::Step(
@@ -97,6 +150,7 @@ fn name_of(line: &Line) -> &'static str {
         ) => "signal in a range",
         Line::Expect(Expected::NoMessage { from: 0, to: 1 }) => "no message",
         Line::Forget => "forget",
+        Line::Rule(rule) => name_of_rule(rule),
         Line::Until(
             Extent::Count(20),
             Expected::Message {
@@ -129,6 +183,14 @@ const ON_BUILT_IN: Lines<'static> = &[
         "slots until a message",
     ),
     (b"slots 200 ms until asleep", "slots of 200 ms until asleep"),
+    (
+        b"when door 22..* answer 62 $1 then 7F after 200 ms",
+        "two answers",
+    ),
+    (b"when door * silent", "silent to all"),
+    (b"timeouts 1000 ms", "timeouts"),
+    (b"timeouts off", "no timeouts"),
+    (b"every 10 ms h1 send 1 0 3E", "a repeated send"),
 ];
 
 const ON_DOOR_ZONE: Lines<'static> = &[

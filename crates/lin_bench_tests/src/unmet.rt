@@ -43,6 +43,14 @@ const ON_BUILT_IN: Rows<'static> = &[
     ),
 ];
 
+const WITH_RULES: Rows<'static> = &[
+    // What is noted waits too, until its time or what is sent at once.
+    (
+        b"when door 3E answer 7E after 15 ms then 7F after 15 ms\nsend cem door 3E\nslots idle 1\nslots idle 1\nslots idle 1\nslots idle\nexpect message door cem 7E\nexpect message door cem 7F\n",
+        b"script 3 expected idle: 2 of door noted\nscript 4 expected idle: 2 of door noted\nscript 5 expected idle: 1 of door waiting, 1 of door noted\n",
+    ),
+];
+
 const ON_LIGHTS: Rows<'static> = &[
     // What no step, no slot and no event was before.
     (
@@ -83,6 +91,7 @@ fn expect_unmet(rt: &impl Abort, alloc: Global, ldf: &[u8], rows: Rows) -> Resul
 #[test]
 fn unmet_expectations(rt: HostRuntime) -> Result<(), Fail> {
     expect_unmet(&rt, rt.alloc(), BUILT_IN, ON_BUILT_IN)?;
+    expect_unmet(&rt, rt.alloc(), BUILT_IN, WITH_RULES)?;
     expect_unmet(&rt, rt.alloc(), LIGHTS, ON_LIGHTS)?;
     expect_unmet(&rt, rt.alloc(), DOOR_ZONE, ON_DOOR_ZONE)
 }

@@ -1,5 +1,5 @@
 -- The entries of answers are the log.
-use Rattle.std.proofs.Common.{◌≡◌, ◌∙◌, ℕ, ◌-◌, List, [], ◌∷◌, ◌++◌, Bool, true, false, Option, Some, None, Result, Ok, Err, refl, sym, ap, append_assoc, append-nil, drop, flat_map, length, reverse, if◌then◌else◌, nat_lt}
+use Rattle.std.proofs.Common.{◌≡◌, ◌∙◌, ℕ, List, [], ◌∷◌, ◌++◌, true, false, Option, Some, None, Result, Ok, Err, refl, sym, ap, append_assoc, append-nil, drop, flat_map, length, reverse, if◌then◌else◌, nat_lt}
 use Rattle.std.proofs.Math.Seq.{drop-append_seam}
 use Rattle.std.proofs.lemmas.List.{length-reverse, reverse-append}
 use Rattle.lin_cluster_parts.specs.declared.parts.Parts.{Parts}
@@ -7,16 +7,17 @@ use Rattle.lin_core.specs.Runs.{entry_of}
 use Rattle.lin_core.specs.declared.log.LogEntry.{LogEntry}
 use Rattle.lin_core.specs.declared.port.PortId.{PortId}
 use Rattle.lin_core.specs.declared.step.Step.{Step}
-use Rattle.lin_bench.specs.Made.{BenchState, expects, judged, made, made_within, said, slots_made, stepped}
-use Rattle.lin_bench.specs.Slots.{after as after_steps, most}
+use Rattle.lin_bench.specs.Made.{BenchState, course_of, expects, judged, made, made_within, said, slots_made, stepped}
+use Rattle.lin_bench.specs.Added.{added}
+use Rattle.lin_bench.specs.Slots.{Course, after as after_steps, most, past_after, with_entry}
 use Rattle.lin_bench.specs.declared.expected.Expected.{Expected}
 use Rattle.lin_bench.specs.declared.got.Verdict.TheVariants.{SlotLimit}
 use Rattle.lin_bench.specs.declared.line.Line.{Line}
 use Rattle.lin_bench.specs.declared.line.Line.TheVariants as line
 use Rattle.lin_log.specs.Words.{text}
 use Rattle.lin_live.specs.Answers.{AnswersAreTheLog, AnswersAreWritten, answers}
-use Rattle.lin_live.specs.Told.{HandData, answered, entries_since, heard_as, reply, told, unmarked}
-use Rattle.lin_live.specs.Transcript.{after, short, transcript}
+use Rattle.lin_live.specs.Told.{HandData, answered, entries_since, heard_as, told, unmarked}
+use Rattle.lin_live.specs.Transcript.{short}
 use Rattle.lin_live.specs.declared.heard.Heard.{Heard}
 use Rattle.lin_live.specs.declared.heard.Heard.TheVariants.{Ask, Make}
 use Rattle.lin_live.specs.declared.reason.Reason.{Reason}
@@ -25,12 +26,30 @@ use Rattle.lin_live.specs.declared.reason.Reason.{Reason}
 abbrev Grown : List LogEntry → List LogEntry → Type 0
 Grown past later = (more : List LogEntry) × (reverse later ≡ reverse past ++ more)
 
-grown-after : (c : Parts) (opening capacity : ℕ) (past : List LogEntry) (ss : List (PortId × Step)) → Grown past (after_steps c opening capacity past ss)
-grown-after c opening capacity past [] = ([], sym (append-nil (reverse past)))
-grown-after c opening capacity past (s ∷ ss) =
+grown-nothing : (past : List LogEntry) → Grown past past
+grown-nothing past = ([], sym (append-nil (reverse past)))
+
+grown-more : (past mid later : List LogEntry) → Grown past mid → Grown mid later → Grown past later
+grown-more past mid later g k = (g.0 ++ k.0, k.1 ∙ ap (λ l. l ++ k.0) g.1 ∙ append_assoc (reverse past) g.0 k.0)
+
+grown-by : (past : List LogEntry) (e : LogEntry) → Grown past (e ∷ past)
+grown-by past e = (e ∷ [], reverse-append (e ∷ []) past)
+
+grown-past : (c : Parts) (opening capacity : ℕ) (past : List LogEntry) (ss : List (PortId × Step)) → Grown past (past_after c opening capacity past ss)
+grown-past c opening capacity past [] = grown-nothing past
+grown-past c opening capacity past (s ∷ ss) =
     let e = entry_of c opening capacity past s in
-    let g = grown-after c opening capacity (e ∷ past) ss in
-    (e ∷ g.0, g.1 ∙ ap (λ l. l ++ g.0) (reverse-append (e ∷ []) past) ∙ append_assoc (reverse past) (e ∷ []) g.0)
+    grown-more past (e ∷ past) (past_after c opening capacity (e ∷ past) ss) (grown-by past e) (grown-past c opening capacity (e ∷ past) ss)
+
+-- also by the steps that rules add
+grown-after : (c : Parts) (opening capacity : ℕ) (at : Course) (ss : List (PortId × Step)) → Grown at.past (after_steps c opening capacity at ss).past
+grown-after c opening capacity at [] = grown-nothing at.past
+grown-after c opening capacity at (s ∷ ss) =
+    let e = entry_of c opening capacity at.past s in
+    let next = with_entry c opening capacity at e in
+    grown-more at.past next.past (after_steps c opening capacity next ss).past
+    (grown-more at.past (e ∷ at.past) next.past (grown-by at.past e) (grown-past c opening capacity (e ∷ at.past) (added c e at.past at.rules)))
+    (grown-after c opening capacity next ss)
 
 grown-judged : (c : Parts) (b : BenchState) (what : Option Expected) (past : List LogEntry) → Grown past b.past → Grown past (judged c b what).0.past
 grown-judged c b None past g = g
@@ -40,8 +59,8 @@ grown-within : (c : Parts) (opening capacity : ℕ) (b : BenchState) (count : �
     → Grown b.past (made_within c opening capacity b count steps first what).0.past
 grown-within c opening capacity b count steps first what =
     elim (nat_lt b.left count) as (λ t. Grown b.past (if t then (stepped c opening capacity b b.left first, SlotLimit) else judged c (stepped c opening capacity b count steps) what).0.past) [
-      | true ↦ grown-after c opening capacity b.past first
-      | false ↦ grown-judged c (stepped c opening capacity b count steps) what b.past (grown-after c opening capacity b.past steps)
+      | true ↦ grown-after c opening capacity (course_of b) first
+      | false ↦ grown-judged c (stepped c opening capacity b count steps) what b.past (grown-after c opening capacity (course_of b) steps)
     ]
 
 grown-line : (c : Parts) (opening capacity : ℕ) (b : BenchState) (l : Line)
@@ -58,7 +77,8 @@ grown-made c opening capacity b (line.Slot how) = grown-line c opening capacity 
 grown-made c opening capacity b (line.Slots extent) = grown-line c opening capacity b (line.Slots extent)
 grown-made c opening capacity b (line.Until extent what) = grown-line c opening capacity b (line.Until extent what)
 grown-made c opening capacity b (line.Expect what) = grown-line c opening capacity b (line.Expect what)
-grown-made c opening capacity b line.Forget = ([], sym (append-nil (reverse b.past)))
+grown-made c opening capacity b line.Forget = grown-nothing b.past
+grown-made c opening capacity b (line.Rule rule) = grown-nothing b.past
 
 -- the entries by which a history grew
 since : (past later : List LogEntry) → Grown past later → reverse later ≡ reverse past ++ entries_since past later

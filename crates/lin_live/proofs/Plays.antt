@@ -1,5 +1,5 @@
 -- Lines in hand come to what a play of them comes to.
-use Rattle.std.proofs.Common.{◌≡◌, ◌∙◌, ℕ, ◌≤◌, ◌<◌, ◌+◌, ◌-◌, Bool, true, false, ◌||◌, nat_le, nat_lt, List, [], ◌∷◌, ◌++◌, Option, Some, None, Result, Ok, Err, refl, sym, ap, subst, arith, length, map, if◌then◌else◌}
+use Rattle.std.proofs.Common.{◌≡◌, ◌∙◌, ℕ, ◌≤◌, ◌+◌, Bool, true, false, ◌||◌, nat_le, nat_lt, List, [], ◌∷◌, ◌++◌, Option, Some, None, Result, Ok, Err, refl, sym, ap, arith, length, map, if◌then◌else◌}
 use Rattle.std.proofs.lemmas.Grind.{common_steps}
 use Rattle.std.specs.List.{AllByRecursion}
 use Rattle.std.specs.Str.Lines.{strip_carriage_return}
@@ -7,9 +7,9 @@ use Rattle.lin_cluster_parts.specs.declared.parts.Parts.{Parts}
 use Rattle.lin_core.specs.declared.port.PortId.{PortId}
 use Rattle.lin_core.specs.declared.step.Step.{Step}
 use Rattle.lin_bench.specs.Fields.{fields}
-use Rattle.lin_bench.specs.Lines.{Script, read_line, read_lines, with_line, with_said}
+use Rattle.lin_bench.specs.Lines.{Script, read_line, read_lines, with_said}
 use Rattle.lin_bench.specs.Made.{BenchState, expects, judged, made, made_within, said as steps_said, slots_made, stepped}
-use Rattle.lin_bench.specs.Played.{Run, first, in_turn, next, played, told as run_told}
+use Rattle.lin_bench.specs.Played.{Run, first, in_turn, next, told as run_told}
 use Rattle.lin_bench.specs.Slots.{most, slot_limit}
 use Rattle.lin_bench.specs.declared.expected.Expected.{Expected}
 use Rattle.lin_bench.specs.declared.got.Unmet.{Unmet as Missed}
@@ -18,14 +18,14 @@ use Rattle.lin_bench.specs.declared.got.Verdict.TheVariants.{Nothing, Met, Unmet
 use Rattle.lin_bench.specs.declared.line.Line.{Line}
 use Rattle.lin_bench.specs.declared.line.Line.TheVariants as line
 use Rattle.lin_bench.specs.declared.reason.Reason.{Reason}
-use Rattle.lin_live.specs.Heard.{heard, heard_in, of_script}
-use Rattle.lin_live.specs.Told.{HandData, after_line, answered, is_limit, is_unmet, reply, told}
+use Rattle.lin_live.specs.Heard.{heard_in, of_script}
+use Rattle.lin_live.specs.Told.{HandData, after_line, is_limit, is_unmet, reply, told}
 use Rattle.lin_live.specs.Transcript.{after, most_bytes, short}
 use Rattle.lin_live.specs.Play.{IsPlain, LiveIsPlay, asks, in_hand_of, is_missed}
 
 -- ---- a bench with room for more slots
 abbrev pub Alike : BenchState × Verdict → BenchState × Verdict → Type 0
-Alike m k = (k.0.past ≡ m.0.past) × (k.0.taken ≡ m.0.taken) × (k.1 ≡ m.1)
+Alike m k = (k.0.past ≡ m.0.past) × (k.0.rules ≡ m.0.rules) × (k.0.taken ≡ m.0.taken) × (k.1 ≡ m.1)
 
 alike-by : (t s : Bool) (a b : BenchState) (x y : BenchState × Verdict) → is_limit (if t then (a, SlotLimit) else x).1 ≡ false → (t ≡ false → s ≡ false) → Alike x y
     → Alike (if t then (a, SlotLimit) else x) (if s then (b, SlotLimit) else y)
@@ -33,9 +33,10 @@ alike-by true s a b x y h g k = absurd (cc)
 alike-by false true a b x y h g k = let e = g refl in absurd (cc)
 alike-by false false a b x y h g k = k
 
-alike-judged : (c : Parts) (b d : BenchState) (what : Option Expected) → d.past ≡ b.past → d.taken ≡ b.taken → Alike (judged c b what) (judged c d what)
-alike-judged c b d None e f = (e, f, refl)
-alike-judged c b d (Some what) e f = (e, rw (e, f) refl, rw (e, f) refl)
+alike-judged : (c : Parts) (b d : BenchState) (what : Option Expected) → d.past ≡ b.past → d.rules ≡ b.rules → d.taken ≡ b.taken
+    → Alike (judged c b what) (judged c d what)
+alike-judged c b d None e f g = (e, f, g, refl)
+alike-judged c b d (Some what) e f g = (e, f, rw (e, g) refl, rw (e, f, g) refl)
 
 alike-within : (c : Parts) (opening capacity : ℕ) (b : BenchState) (more count : ℕ) (steps few many : List (PortId × Step)) (what : Option Expected)
     → b.left ≤ more → is_limit (made_within c opening capacity b count steps few what).1 ≡ false
@@ -45,7 +46,7 @@ alike-within c opening capacity b more count steps few many what le h =
     alike-by (nat_lt b.left count) (nat_lt more count) (stepped c opening capacity b b.left few) (stepped c opening capacity d more many)
     (judged c (stepped c opening capacity b count steps) what) (judged c (stepped c opening capacity d count steps) what) h
     (λ e. grind (arith, common_steps))
-    (alike-judged c (stepped c opening capacity b count steps) (stepped c opening capacity d count steps) what refl refl)
+    (alike-judged c (stepped c opening capacity b count steps) (stepped c opening capacity d count steps) what refl refl refl)
 
 abbrev pub AlikeLine : Parts → ℕ → ℕ → BenchState → ℕ → Line → Type 0
 AlikeLine c opening capacity b more l =
@@ -69,7 +70,8 @@ alike-made c opening capacity b more (line.Slot how) le = alike-line c opening c
 alike-made c opening capacity b more (line.Slots extent) le = alike-line c opening capacity b more (line.Slots extent) le
 alike-made c opening capacity b more (line.Until extent what) le = alike-line c opening capacity b more (line.Until extent what) le
 alike-made c opening capacity b more (line.Expect what) le = alike-line c opening capacity b more (line.Expect what) le
-alike-made c opening capacity b more line.Forget le = λ h. (refl, refl, refl)
+alike-made c opening capacity b more line.Forget le = λ h. (refl, refl, refl, refl)
+alike-made c opening capacity b more (line.Rule rule) le = λ h. (refl, refl, refl, refl)
 
 -- ---- slots that are left
 less-within : (c : Parts) (opening capacity : ℕ) (b : BenchState) (count : ℕ) (steps few : List (PortId × Step)) (what : Option Expected)
@@ -100,6 +102,7 @@ less-made c opening capacity b (line.Slots extent) = less-line c opening capacit
 less-made c opening capacity b (line.Until extent what) = less-line c opening capacity b (line.Until extent what)
 less-made c opening capacity b (line.Expect what) = less-line c opening capacity b (line.Expect what)
 less-made c opening capacity b line.Forget = omega arith
+less-made c opening capacity b (line.Rule rule) = omega arith
 
 -- ---- one line
 abbrev unmet_of : Result Run ℕ → List Missed
@@ -145,9 +148,10 @@ hand_with c opening capacity b bad unmet = record {
   was_unmet = unmet;
 }
 
-same-hand : (c : Parts) (opening capacity : ℕ) (p q : BenchState) (bad unmet wanted : Bool) → p.past ≡ q.past → p.taken ≡ q.taken → bad ≡ false → unmet ≡ wanted
+same-hand : (c : Parts) (opening capacity : ℕ) (p q : BenchState) (bad unmet wanted : Bool) → p.past ≡ q.past → p.rules ≡ q.rules → p.taken ≡ q.taken → bad ≡ false
+    → unmet ≡ wanted
     → hand_with c opening capacity p bad unmet ≡ hand_with c opening capacity q false wanted
-same-hand c opening capacity p q bad unmet wanted e f g h = cc
+same-hand c opening capacity p q bad unmet wanted e f g h k = cc
 
 line-same : (c : Parts) (opening capacity : ℕ) (r s : Run) (l : ℕ × Line) → r.bench.left ≤ slot_limit → next c opening capacity r l ≡ Ok s
     → (after_line (in_hand_of c opening capacity r) (made c opening capacity (in_hand_of c opening capacity r).bench l.1)).0 ≡ in_hand_of c opening capacity s
@@ -158,8 +162,9 @@ line-same c opening capacity r s l le h =
     let alike = alike-made c opening capacity r.bench slot_limit l.1 le limit in
     let came = came-to l.0 r.unmet m.0 m.1 s h in
     same-hand c opening capacity k.0 s.bench (is_limit k.1) (is_missed r.unmet || is_unmet k.1) (is_missed s.unmet)
-    (alike.0 ∙ ap (λ (b : BenchState). b.past) (sym came.0)) (alike.1 ∙ ap (λ (b : BenchState). b.taken) (sym came.0))
-    (ap is_limit alike.2 ∙ limit) (ap (λ v. is_missed r.unmet || is_unmet v) alike.2 ∙ came.1)
+    (alike.0 ∙ ap (λ (b : BenchState). b.past) (sym came.0)) (alike.1 ∙ ap (λ (b : BenchState). b.rules) (sym came.0))
+    (alike.2 ∙ ap (λ (b : BenchState). b.taken) (sym came.0))
+    (ap is_limit alike.3 ∙ limit) (ap (λ v. is_missed r.unmet || is_unmet v) alike.3 ∙ came.1)
 
 line-less : (c : Parts) (opening capacity : ℕ) (r s : Run) (l : ℕ × Line) → r.bench.left ≤ slot_limit → next c opening capacity r l ≡ Ok s → s.bench.left ≤ slot_limit
 line-less c opening capacity r s l le h =

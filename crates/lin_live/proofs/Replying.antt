@@ -1,8 +1,8 @@
 -- The reply to a line, by what it says.
-use Rattle.std.proofs.Common.{◌≡◌, ◌∙◌, ◌<◌, ◌-◌, ◌^◌, ℕ, Bool, true, List, Option, Result, Ok, Err, ap, length, subst, sym}
+use Rattle.std.proofs.Common.{◌≡◌, ◌∙◌, ◌<◌, ◌-◌, ◌^◌, ℕ, true, List, Option, Result, Ok, Err, ap, length, subst, sym}
 use Rattle.lin_live.specs.Hand.{hand_data}
 use Rattle.lin_live.specs.Serving.{Replies, Tells}
-use Rattle.lin_live.specs.Told.{HandData, IsFull, answered, heard_as, reply, told, unmarked, written}
+use Rattle.lin_live.specs.Told.{HandData, IsFull, heard_as, reply, told, unmarked, written}
 use Rattle.lin_live.specs.declared.fault.Fault.{Fault}
 use Rattle.lin_live.specs.declared.fault.Fault.TheVariants.{LogFull, OutOfMemory, ReadFailed, WriteFailed}
 use Rattle.lin_live.specs.declared.hand.Hand.TheInside.{Inside}

@@ -1,6 +1,6 @@
 -- What contracts see of a bench in hand.
-use Rattle.std.specs.Prelude.{[], false}
-use Rattle.lin_core.specs.Core.{CoreData, past_of}
+use Rattle.std.specs.Prelude.{false}
+use Rattle.lin_core.specs.Core.{CoreData}
 use Rattle.lin_bench.specs.Bench.{fresh, renewed, state_of}
 use Rattle.lin_bench.specs.declared.fault.MakeFault.{MakeFault}
 use Rattle.lin_bench.specs.declared.fault.MakeFault.TheVariants as makes

@@ -21,11 +21,13 @@ use Rattle.lin_log.specs.Words.{spaced_word, text, value_word}
 use Rattle.lin_export.specs.Named.{slot_names}
 use Rattle.lin_bench.specs.Lines.{without_mark}
 use Rattle.lin_bench.specs.Made.{BenchState, made}
-use Rattle.lin_bench.specs.Slots.{hosts_waiting, slot_limit}
-use Rattle.lin_bench.specs.Texts.{expected_text, fields_text, got_text, hosts_text}
+use Rattle.lin_bench.specs.Slots.{pending, slot_limit}
+use Rattle.lin_bench.specs.declared.got.Pending.{Pending}
+use Rattle.lin_bench.specs.declared.rules.Noted.{Noted}
+use Rattle.lin_bench.specs.Texts.{expected_text, fields_text, got_text, pending_text}
 use Rattle.lin_bench.specs.Texts.{reason_text as script_text, table_word, verdict_text}
 use Rattle.lin_bench.specs.declared.got.Verdict.{Verdict}
-use Rattle.lin_bench.specs.declared.got.Verdict.TheVariants.{Nothing, Met, Unmet, SlotLimit}
+use Rattle.lin_bench.specs.declared.got.Verdict.TheVariants.{Unmet, SlotLimit}
 use Rattle.lin_live.specs.Heard.{heard}
 use Rattle.lin_live.specs.declared.heard.Heard.{Heard}
 use Rattle.lin_live.specs.declared.heard.Heard.TheVariants.{Ask, Make}
@@ -71,9 +73,9 @@ verdict_ending c (Unmet what got) es = 35 ∷ verdict_text (expected_text c what
 verdict_ending c verdict es = steps_ending (first_refusal es)
 
 -- what is said to a question on a history
-abbrev pub idle_text : Parts → List (ℕ × ℕ) → List ℕ
+abbrev pub idle_text : Parts → List Pending → List ℕ
 idle_text c [] = codes "idle"
-idle_text c (h ∷ hs) = hosts_text c (h ∷ hs)
+idle_text c (p ∷ ps) = pending_text c (p ∷ ps)
 
 abbrev pub slot_text : Parts → ℕ × ℕ → Option ℕ → List ℕ
 slot_text c at header =
@@ -89,19 +91,20 @@ next_text c opening past =
     (λ (s : ℕ × ℕ × Option ℕ). slot_text c (s.0, s.1) s.2)
     (next_slot c opening past) (codes "open")
 
-abbrev pub value_text : Parts → ℕ → List LogEntry → Question → List ℕ
-value_text c opening past (Signal node signal) = value_word (value_at c past node signal)
-value_text c opening past (Waiting host) = decimal (length (waiting c past host))
-value_text c opening past Idle = idle_text c (hosts_waiting c past)
-value_text c opening past Time = decimal (time c past)
-value_text c opening past Asleep = if asleep past then codes "asleep" else codes "awake"
-value_text c opening past Next = next_text c opening past
+-- given also the answers that are noted
+abbrev pub value_text : Parts → ℕ → List LogEntry → List Noted → Question → List ℕ
+value_text c opening past noted (Signal node signal) = value_word (value_at c past node signal)
+value_text c opening past noted (Waiting host) = decimal (length (waiting c past host))
+value_text c opening past noted Idle = idle_text c (pending c past noted)
+value_text c opening past noted Time = decimal (time c past)
+value_text c opening past noted Asleep = if asleep past then codes "asleep" else codes "awake"
+value_text c opening past noted Next = next_text c opening past
 
 -- a value as it is said
 abbrev pub value_shown : Parts → Value → List ℕ
 value_shown c (shown.Signal value) = value_word value
 value_shown c (shown.Number n) = decimal n
-value_shown c (shown.Waiting hosts) = idle_text c hosts
+value_shown c (shown.Pending all) = idle_text c all
 value_shown c (shown.Asleep is) = if is then codes "asleep" else codes "awake"
 value_shown c shown.Open = codes "open"
 value_shown c (shown.Slot table entry header) = slot_text c (table, entry) header
@@ -157,7 +160,7 @@ told h (Err why) =
     (record h { was_bad = true }, says (codes "bad line: " ++ reason_text why))
 told h (Ok None) = (h, says (codes "ok"))
 told h (Ok (Some (Ask asked))) =
-    (h, says (codes "is " ++ value_text h.cluster h.opening h.bench.past asked))
+    (h, says (codes "is " ++ value_text h.cluster h.opening h.bench.past h.bench.rules.noted asked))
 told h (Ok (Some (Make line))) = after_line h (made h.cluster h.opening h.capacity h.bench line)
 
 -- what a line says, and none that is too long

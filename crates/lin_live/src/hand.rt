@@ -1,6 +1,6 @@
 //! A bench in hand.
 
-ghost use Rattle.std.specs.Prelude.{◌≡◌, ◌<◌, ◌-◌, ◌^◌, IfOk, IfSome, length, option_map, reverse};
+ghost use Rattle.std.specs.Prelude.{◌≡◌, ◌<◌, ◌-◌, ◌^◌, [], IfOk, IfSome, length, option_map, reverse};
 ghost use Rattle.lin_bench.specs.Lines.{without_mark};
 ghost use Rattle.lin_live.specs.Asked.{Gives, IsAskable};
 ghost use Rattle.lin_live.specs.Serving.{Tells};
@@ -75,8 +75,9 @@ fn without_its_mark(line: Option<&[u8]>) -> Option<&[u8]>
 impl Hand {
     ghost use Rattle.lin_live.specs.Hand.{begins};
 
-    /// A bench over a core, on which no line was made.
+    /// A bench over a core with an empty log, on which no line was made.
     pub fn new(alloc: Global, core: Core) -> Hand
+        requires { core.log ≡ [] }
         ensures { result ≡ begins core }
     {
         Hand {
@@ -153,9 +154,8 @@ impl Hand {
         requires { IsAskable self.now.cluster question }
         ensures { Tells (written (told self.now (Ok (Some (Ask question))))) ⊥ self.now (W.contents writer.old) (W.contents writer.new) result }
     {
-        let core = self.bench.core();
-        let value = value_of(alloc, core, question)?;
-        write_value(writer, core.cluster(), &value)?;
+        let value = value_of(alloc, &self.bench, question)?;
+        write_value(writer, self.bench.core().cluster(), &value)?;
         Ok(())
     }
 

@@ -8,7 +8,7 @@ ghost use Rattle.lin_live.specs.Told.{slot_text, steps_ending, value_shown, verd
 
 use crate::reason::Reason;
 use crate::value::Value;
-use lin_bench::{Verdict, put_fields, put_hosts, put_reason, put_verdict};
+use lin_bench::{Pending, Verdict, put_fields, put_pending, put_reason, put_verdict};
 use lin_cluster_parts::Cluster;
 use lin_core::{Core, Event, Listed, Log, Refusal, Reply};
 use lin_export::put_slot_names;
@@ -65,14 +65,14 @@ pub(crate) fn write_bad<W: Write>(writer: &mut W, reason: &Reason) -> Result<(),
     out.finish()
 }
 
-/// The hosts of which messages wait.
-fn put_idle<W: Write>(out: &mut TextWriter<'_, W>, cluster: &Cluster, hosts: &[(u8, usize)])
-    ensures { Grows W.contents out.old out.new (idle_text cluster.now hosts.now) }
+/// What waits, and what is noted.
+fn put_idle<W: Write>(out: &mut TextWriter<'_, W>, cluster: &Cluster, pending: &[Pending])
+    ensures { Grows W.contents out.old out.new (idle_text cluster.now pending.now) }
 {
-    if hosts.is_empty() {
+    if pending.is_empty() {
         out.put_text("idle");
     } else {
-        put_hosts(out, cluster, hosts);
+        put_pending(out, cluster, pending);
     }
 }
 
@@ -105,9 +105,9 @@ fn put_answer<W: Write>(out: &mut TextWriter<'_, W>, cluster: &Cluster, value: &
     match value {
         Value::Signal(value) => put_value(out, value),
         Value::Number(number) => put_number(out, *number),
-        Value::Waiting(hosts) => {
+        Value::Pending(pending) => {
             out.put_byte(b' ');
-            put_idle(out, cluster, hosts.as_slice());
+            put_idle(out, cluster, pending.as_slice());
         }
         Value::Asleep(true) => out.put_text(" asleep"),
         Value::Asleep(false) => out.put_text(" awake"),

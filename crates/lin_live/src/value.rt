@@ -6,7 +6,7 @@ ghost use Rattle.lin_live.specs.Asked.{IsAskable};
 ghost use Rattle.lin_live.specs.Told.{next_text, value_shown, value_text};
 
 use crate::question::Question;
-use lin_bench::hosts_waiting;
+use lin_bench::{Bench, Pending};
 use lin_core::Core;
 use lin_lists::Many;
 use std::alloc::{AllocError, Global};
@@ -18,8 +18,8 @@ pub(crate) enum Value {
     Signal(lin_frame::Value),
     /// So many messages wait, or so many microseconds have passed.
     Number(u64),
-    /// Messages of these hosts wait, so many of each.
-    Waiting(Many<(u8, usize)>),
+    /// What waits, and what is noted.
+    Pending(Many<Pending>),
     Asleep(bool),
     /// A slot is open.
     Open,
@@ -49,16 +49,22 @@ fn next(core: &Core) -> Value
     }
 }
 
-/// What is said to a question on a core.
-pub(crate) fn value_of(alloc: Global, core: &Core, question: Question) -> Result<Value, AllocError>
-    requires { IsAskable core.now.cluster question }
-    ensures { IfOk result (λ value. value_shown core.now.cluster value
-        ≡ value_text core.now.cluster core.now.opening (past_of core.now) question) }
+/// What is said to a question on a bench.
+pub(crate) fn value_of(
+    alloc: Global,
+    bench: &Bench,
+    question: Question,
+) -> Result<Value, AllocError>
+    requires { IsAskable bench.now.core.cluster question }
+    ensures { IfOk result (λ value. value_shown bench.now.core.cluster value
+        ≡ value_text bench.now.core.cluster bench.now.core.opening (past_of bench.now.core)
+        bench.now.rules.noted question) }
 {
+    let core = bench.core();
     match question {
         Question::Signal { node, signal } => Ok(Value::Signal(core.signal(node, signal))),
         Question::Waiting { host } => Ok(Value::Number(core.waiting(host) as u64)),
-        Question::Idle => Ok(Value::Waiting(Many::new(hosts_waiting(alloc, core)?))),
+        Question::Idle => Ok(Value::Pending(Many::new(bench.pending(alloc)?))),
         Question::Time => Ok(Value::Number(core.time())),
         Question::Asleep => Ok(Value::Asleep(core.asleep())),
         Question::Next => Ok(next(core)),

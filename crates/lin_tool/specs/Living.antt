@@ -1,6 +1,7 @@
 -- What the program's live answers.
 use Rattle.std.specs.Prelude.{◌≡◌, ℕ, false, if◌then◌else◌, List, [], Option, Result, Ok, Err}
 use Rattle.lin_cluster_parts.specs.declared.parts.Parts.{Parts}
+use Rattle.lin_bench.specs.Rules.{no_rules}
 use Rattle.lin_bench.specs.Slots.{slot_limit}
 use Rattle.lin_live.specs.Serving.{IsLive}
 use Rattle.lin_live.specs.Told.{HandData, IsFull, reply}
@@ -23,7 +24,7 @@ in_hand c opening capacity = record {
   cluster = c;
   opening = opening;
   capacity = capacity;
-  bench = record { past = []; taken = []; left = slot_limit };
+  bench = record { past = []; rules = no_rules; taken = []; left = slot_limit };
   begun = false;
   was_bad = false;
   was_unmet = false;

@@ -1,5 +1,5 @@
 -- What the program's play answers.
-use Rattle.std.specs.Prelude.{◌≡◌, ◌≢◌, ◌⊎◌, ℕ, ◌≤◌, List, [], length, reverse, flat_map, Option, IfSome}
+use Rattle.std.specs.Prelude.{◌≡◌, ◌≢◌, ◌⊎◌, ℕ, ◌≤◌, true, List, [], length, reverse, flat_map, Option, IfSome}
 use Rattle.std.specs.Prelude.{Result, Ok, Err}
 use Rattle.std.specs.Io.KnownBytes.{Appends, Keeps}
 use Rattle.lin_text.specs.Written.{WritesText}
@@ -7,6 +7,7 @@ use Rattle.lin_cluster_parts.specs.declared.parts.Parts.{Parts}
 use Rattle.lin_log.specs.declared.fault.ScriptFault.TheVariants as script
 use Rattle.lin_bench.specs.Lines.{Script, read}
 use Rattle.lin_bench.specs.Played.{Run, played}
+use Rattle.lin_bench.specs.Plays.{Overfills, has_rule}
 use Rattle.lin_bench.specs.Texts.{bad_line_text, unmet_text}
 use Rattle.lin_bench.specs.declared.fault.PlayFault.{PlayFault}
 use Rattle.lin_bench.specs.declared.fault.PlayFault.TheVariants as play
@@ -16,7 +17,7 @@ use Rattle.lin_bench.specs.declared.reason.Reason.{Reason}
 use Rattle.lin_tool.specs.Formats.{Begins, log_as}
 use Rattle.lin_tool.specs.Replaying.{IsRefused}
 use Rattle.lin_tool.specs.declared.fault.Fault.{Fault}
-use Rattle.lin_tool.specs.declared.fault.Fault.TheVariants.{BadBenchLine, SlotLimit, Unmet}
+use Rattle.lin_tool.specs.declared.fault.Fault.TheVariants.{BadBenchLine, SlotLimit, LogFull, Unmet}
 use Rattle.lin_tool.specs.declared.fault.Fault.TheVariants.{ScriptTooLong, OutOfMemory}
 use Rattle.lin_tool.specs.declared.fault.Fault.TheVariants.{ReadFailed, WriteFailed}
 use Rattle.lin_tool.specs.declared.formats.Format.{Format}
@@ -25,6 +26,7 @@ use Rattle.lin_tool.specs.declared.formats.Format.TheVariants.{Log}
 -- the program's fault for one of playing
 abbrev pub play_fault : PlayFault → Fault
 play_fault (play.SlotLimit n) = SlotLimit n
+play_fault play.LogFull = LogFull
 play_fault play.OutOfMemory = OutOfMemory
 
 -- A bench script of some bytes says this; where the reader tells bytes, they are those.
@@ -80,6 +82,9 @@ PlaysScript format c opening capacity (Err (BadBenchLine n outcome)) told old ne
     × WritesText silent heard outcome (bad_line_text n why)
 PlaysScript format c opening capacity (Err (SlotLimit n)) told old new silent heard =
     ComesTo c opening capacity told (Err n) × Keeps old new × Keeps silent heard
+PlaysScript format c opening capacity (Err LogFull) told old new silent heard =
+    (ls : List (ℕ × Line)) × Says c told (Ok ls) × Overfills c opening capacity ls
+    × (has_rule ls ≡ true) × Keeps old new × Keeps silent heard
 PlaysScript format c opening capacity (Err ScriptTooLong) told old new silent heard =
     IsRefused script.TooLong told old new × Keeps silent heard
 PlaysScript format c opening capacity (Err ReadFailed) told old new silent heard =

@@ -166,6 +166,7 @@ impl From<PlayFault> for Fault {
     fn from(fault: PlayFault) -> Fault {
         match fault {
             PlayFault::SlotLimit { line } => Fault::SlotLimit { line },
+            PlayFault::LogFull => Fault::LogFull,
             PlayFault::OutOfMemory => Fault::OutOfMemory,
         }
     }

@@ -12,9 +12,9 @@ use strsim::generic_levenshtein;
 const COMPARED: usize = 64;
 
 /// The words that a line begins with.
-static WORDS: [&str; 17] = [
+static WORDS: [&str; 20] = [
     "send", "write", "open", "answer", "leave", "hurt", "finish", "timeout", "switch", "sleep",
-    "wake", "close", "slot", "slots", "expect", "forget", "bus",
+    "wake", "close", "slot", "slots", "expect", "forget", "when", "timeouts", "every", "bus",
 ];
 
 /// What `expect` and `until` take.

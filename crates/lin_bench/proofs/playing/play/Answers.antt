@@ -1,5 +1,6 @@
-use Rattle.std.proofs.Common.{◌≡◌, ◌∙◌, [], ◌∷◌, ◌++◌, length, ap, arith, sym, append_assoc, rules}
-use Rattle.lin_bench.proofs.Makes.{append-nothing, length-last}
+use Rattle.std.proofs.Common.{◌≡◌, ◌∙◌, [], ◌∷◌, ◌++◌, ap, sym, append_assoc, rules}
+use Rattle.lin_bench.proofs.Few.{full-by-rule}
+use Rattle.lin_bench.proofs.Makes.{append-nothing}
 use Rattle.lin_bench.proofs.Runs.{all-come, come-first, come-more, line-fails, nothing-left}
 use Rattle.lin_bench.proofs.playing.play.Goals as goal
 
@@ -9,8 +10,6 @@ loop-number-init c =
     record {
       come = rw c.new-bench.ensures (come-first c.args.cluster c.args.table c.args.capacity _ _ e.0 e.1 e.2 e.3 (search rules));
       whole = search rules;
-      few = rw c.new-bench.ensures (omega (arith, ap length e.0));
-      lines = c.requires.few;
     }
 
 pub loop-number-preserved : goal.loop-number-preserved
@@ -19,9 +18,7 @@ loop-number-preserved c =
     let next : at.number-iterator.rest.items ≡ (c.in-Some.number, c.in-Some.line) ∷ c.next.new.self.rest.items = search rules in
     record {
       come = come-more c.args.cluster c.args.table c.args.capacity at.yielded at.bench c.play_line.new.bench at.unmet.items c.play_line.new.unmet.items c.in-Some.number c.in-Some.line
-          at.invariant.come c.in-Ok.ensures.plays;
-      few = omega (arith, c.in-Ok.ensures.few, at.invariant.few, length-last at.yielded (c.in-Some.number, c.in-Some.line));
-      lines = at.invariant.lines;
+          at.invariant.come c.in-Ok.ensures;
       whole = append_assoc at.yielded ((c.in-Some.number, c.in-Some.line) ∷ []) c.next.new.self.rest.items ∙ ap (λ r. at.yielded ++ r) (sym next) ∙ at.invariant.whole;
     }
 
@@ -29,11 +26,14 @@ pub returns-in-Err : goal.returns-in-Err
 returns-in-Err c =
     let at = c.loop-number in
     let next : at.number-iterator.rest.items ≡ (c.in-Some.number, c.in-Some.line) ∷ c.next.new.self.rest.items = search rules in
-    line-fails c.args.cluster c.args.table c.args.capacity at.yielded c.next.new.self.rest.items c.args.lines.items at.bench at.unmet.items c.in-Some.number c.in-Some.line c.in-Err.fault
-    (ap (λ r. at.yielded ++ r) (sym next) ∙ at.invariant.whole) at.invariant.come c.in-Err.ensures.plays
+    let fails =
+    line-fails c.args.cluster c.args.table c.args.capacity at.yielded c.next.new.self.rest.items c.args.lines.items at.bench c.play_line.new.bench at.unmet.items c.play_line.new.unmet.items
+    c.in-Some.number c.in-Some.line c.in-Err.fault
+    (ap (λ r. at.yielded ++ r) (sym next) ∙ at.invariant.whole) at.invariant.come c.in-Err.ensures in
+    record { plays = fails; few = full-by-rule c.args.cluster c.args.table c.args.capacity c.args.lines.items c.in-Err.fault c.sound.ensures.rules.nodes.number.1 fails }
 
-pub returns : goal.returns
-returns c =
+pub returns-clause-plays : goal.returns-clause-plays
+returns-clause-plays c =
     let at = c.loop-number in
     let rest : at.number-iterator.rest.items ≡ [] = nothing-left _ (sym at.number-iterator.rest.ok.0 ∙ c.in-None.ensures.steps.0) in
     all-come c.args.cluster c.args.table c.args.capacity at.yielded c.args.lines.items at.bench at.unmet.items _

@@ -11,9 +11,9 @@ use Rattle.lin_bench.proofs.slots.slots.Given as goal
 abbrev pub invariant-loop : goal.invariant-loop
 invariant-loop l = record {
   begun :
-      AreBegun l.fn.core l.how l.extent (ends_at l.fn.core.cluster (taken_by l.fn.core.log l.fn.taken) (option_map (λ e. e.now) l.until)) l.fn.left l.core
+      AreBegun l.fn.ruled l.how l.extent (ends_at l.fn.ruled.core.cluster (taken_by l.fn.ruled.core.log l.fn.taken) (option_map (λ e. e.now) l.until)) l.fn.left l.ruled
       (most l.extent - l.counter) l.left;
-  began : l.began ≡ time l.fn.core.cluster (past_of l.fn.core);
-  taken : taken_by l.core.log l.taken ≡ taken_by l.fn.core.log l.fn.taken;
-  known : IsKnown l.core.log l.taken;
+  began : l.began ≡ time l.fn.ruled.core.cluster (past_of l.fn.ruled.core);
+  taken : taken_by l.ruled.core.log l.taken ≡ taken_by l.fn.ruled.core.log l.fn.taken;
+  known : IsKnown l.ruled.core.log l.taken;
 }

@@ -20,5 +20,5 @@ returns-in-NoNode g c = rw c.in-NoNode.is c.put_text-in-NoNode.ensures
 pub returns-in-NoNodeOrSignal : goal.returns-in-NoNodeOrSignal
 returns-in-NoNodeOrSignal g c = rw c.in-NoNodeOrSignal.is c.put_text-in-NoNodeOrSignal.ensures
 
-pub returns-in-StillWaiting : goal.returns-in-StillWaiting
-returns-in-StillWaiting g c = rw c.in-StillWaiting.is (grows-more c.put_byte.ensures (rw c.as_slice-in-StillWaiting.ensures at c.put_hosts.ensures))
+pub returns-in-StillPending : goal.returns-in-StillPending
+returns-in-StillPending g c = rw c.in-StillPending.is (grows-more c.put_byte.ensures (rw c.as_slice-in-StillPending.ensures at c.put_pending.ensures))

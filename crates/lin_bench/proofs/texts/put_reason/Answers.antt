@@ -15,3 +15,20 @@ returns-in-NoRange g c = rw c.in-NoRange.is
 
 pub returns-in-TooSmall : goal.returns-in-TooSmall
 returns-in-TooSmall g c = rw c.in-TooSmall.is c.put_text-in-TooSmall.ensures
+
+pub returns-in-NoResponder : goal.returns-in-NoResponder
+returns-in-NoResponder g c = rw c.in-NoResponder.is
+    (grows-more (rw c.as_slice-in-NoResponder.ensures at c.put-in-NoResponder.ensures) c.put_text-in-NoResponder.ensures)
+
+pub returns-in-NoPattern : goal.returns-in-NoPattern
+returns-in-NoPattern g c = rw c.in-NoPattern.is
+    (grows-more (rw c.as_slice-in-NoPattern.ensures at c.put_fields-in-NoPattern.ensures) c.put_text-in-NoPattern.ensures)
+
+pub returns-in-TimeoutsForm : goal.returns-in-TimeoutsForm
+returns-in-TimeoutsForm g c = rw c.in-TimeoutsForm.is c.put_text-in-TimeoutsForm.ensures
+
+pub returns-in-EveryForm : goal.returns-in-EveryForm
+returns-in-EveryForm g c = rw c.in-EveryForm.is c.put_text-in-EveryForm.ensures
+
+pub returns-in-EveryStep : goal.returns-in-EveryStep
+returns-in-EveryStep g c = rw c.in-EveryStep.is c.put_text-in-EveryStep.ensures

@@ -1,5 +1,5 @@
 use Rattle.lin_text.proofs.Growing.{grows-more}
 use Rattle.lin_live.proofs.telling.put_answer.Goals as goal
 
-pub returns-in-Waiting : goal.returns-in-Waiting
-returns-in-Waiting g c = rw c.in-Waiting.is (grows-more c.put_byte.ensures (rw c.as_slice.ensures at c.put_idle.ensures))
+pub returns-in-Pending : goal.returns-in-Pending
+returns-in-Pending g c = rw c.in-Pending.is (grows-more c.put_byte.ensures (rw c.as_slice.ensures at c.put_idle.ensures))

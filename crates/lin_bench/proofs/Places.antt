@@ -1,0 +1,70 @@
+-- The first item of a list that passes a test.
+use Rattle.std.proofs.Common.{◌≡◌, ◌∙◌, ℕ, suc, zero, ◌+◌, ◌<◌, ◌≤◌, Bool, true, false, cond, ltb, ltb-false, List, [], ◌∷◌, Some, None, refl, sym, ap, arith, add-one, drop, get_or, length, take}
+use Rattle.std.specs.Borrow.{Bor}
+use Rattle.std.specs.List.{onto_first, position, position_or_len, slice_split}
+use Rattle.std.specs.Prelude.{codes}
+use Rattle.std.specs.Str.{bytes_eq}
+use Rattle.std.proofs.lemmas.List.Quantifiers.{position-Some}
+use Rattle.std.proofs.lemmas.List.Sums.{fails_before_first}
+use Rattle.lin_bench.specs.Fields.{words}
+use Rattle.lin_bench.specs.RuleLines.{cut}
+
+not-so : (b : Bool) (n : ℕ) → cond b (Some n) None ≡ None → b ≡ false
+not-so true n h = cc
+not-so false n h = refl
+
+-- where none is found, none passes
+pub none-at : {A : Type 0} (p : A → Bool) (xs : List A) (d : A) → position p xs ≡ None → (k : ℕ) → k < length xs → p (get_or xs k d) ≡ false
+none-at p xs d h k small =
+    let n = position_or_len p xs in
+    let all : length xs ≤ n = ltb-false n (length xs) (not-so (ltb n (length xs)) n h) in
+    fails_before_first p xs k d (omega arith)
+
+-- ---- fields before and after `answer`
+abbrev pub is-answer : Bor (List ℕ) → Bool
+is-answer f = bytes_eq f.now (codes "answer")
+
+cut-within : (fs : List (Bor (List ℕ))) (i : ℕ) (d : Bor (List ℕ)) → i < length fs → is-answer (get_or fs i d) ≡ true
+    → ((k : ℕ) → k < i → is-answer (get_or fs k d) ≡ false)
+    → cut (words fs) ≡ Some (words (take i fs), words (drop (suc i) fs))
+cut-within [] i d h this before = absurd (omega arith)
+cut-within (f ∷ fs) zero d h this before = rw this refl
+cut-within (f ∷ fs) (suc i) d h this before =
+    rw (before 0 (omega arith), cut-within fs i d (omega arith) this (λ k q. before (suc k) (omega arith))) refl
+
+pub cut-at : (fs : List (Bor (List ℕ))) (d : Bor (List ℕ)) (i : ℕ) → Some i ≡ position is-answer fs
+    → cut (words fs) ≡ Some (words (take i fs), words (drop (i + 1) fs))
+cut-at fs d i e =
+    let at = position-Some is-answer fs i d (sym e) in
+    cut-within fs i d at.0 at.1 at.2 ∙ ap (λ j. Some (words (take i fs), words (drop j fs))) (sym (add-one i))
+
+uncut : (fs : List (Bor (List ℕ))) (d : Bor (List ℕ)) → ((k : ℕ) → k < length fs → is-answer (get_or fs k d) ≡ false) → cut (words fs) ≡ None
+uncut [] d others = refl
+uncut (f ∷ fs) d others = rw (others 0 (omega arith), uncut fs d (λ k q. others (suc k) (omega arith))) refl
+
+pub cut-nowhere : (fs : List (Bor (List ℕ))) (d : Bor (List ℕ)) → None ≡ position is-answer fs → cut (words fs) ≡ None
+cut-nowhere fs d e = uncut fs d (none-at is-answer fs d (sym e))
+
+-- ---- lists that are split at a word
+split-within : (p : List ℕ → Bool) (fs : List (Bor (List ℕ))) (i : ℕ) (d : Bor (List ℕ)) → i < length fs → p (get_or fs i d).now ≡ true
+    → ((k : ℕ) → k < i → p (get_or fs k d).now ≡ false)
+    → slice_split p (words fs) ≡ words (take i fs) ∷ slice_split p (words (drop (suc i) fs))
+split-within p [] i d h this before = absurd (omega arith)
+split-within p (f ∷ fs) zero d h this before = rw this refl
+split-within p (f ∷ fs) (suc i) d h this before =
+    rw (before 0 (omega arith)) (ap (onto_first f.now) (split-within p fs i d (omega arith) this (λ k q. before (suc k) (omega arith))))
+
+pub split-at : (p : List ℕ → Bool) (fs : List (Bor (List ℕ))) (d : Bor (List ℕ)) (i : ℕ) → Some i ≡ position (λ f. p f.now) fs
+    → slice_split p (words fs) ≡ words (take i fs) ∷ slice_split p (words (drop (i + 1) fs))
+split-at p fs d i e =
+    let at = position-Some (λ f. p f.now) fs i d (sym e) in
+    split-within p fs i d at.0 at.1 at.2 ∙ ap (λ j. words (take i fs) ∷ slice_split p (words (drop j fs))) (sym (add-one i))
+
+unsplit : (p : List ℕ → Bool) (fs : List (Bor (List ℕ))) (d : Bor (List ℕ)) → ((k : ℕ) → k < length fs → p (get_or fs k d).now ≡ false)
+    → slice_split p (words fs) ≡ words fs ∷ []
+unsplit p [] d others = refl
+unsplit p (f ∷ fs) d others = rw (others 0 (omega arith)) (ap (onto_first f.now) (unsplit p fs d (λ k q. others (suc k) (omega arith))))
+
+pub split-nowhere : (p : List ℕ → Bool) (fs : List (Bor (List ℕ))) (d : Bor (List ℕ)) → None ≡ position (λ f. p f.now) fs
+    → slice_split p (words fs) ≡ words fs ∷ []
+split-nowhere p fs d e = unsplit p fs d (none-at (λ f. p f.now) fs d (sym e))

@@ -1,0 +1,142 @@
+-- Rows of which each adds what it stands for to what stood there.
+use Rattle.std.proofs.Common.{◌≡◌, ◌∙◌, ℕ, suc, zero, ◌-◌, ◌==◌, ◌+◌, ◌<◌, ◌≤◌, Bool, true, false, List, [], ◌∷◌, ◌++◌, Option, Some, None, option_map, refl, sym, ap, add-one, append_assoc, append-nil, arith, drop, drop-cons, get_or, length, take}
+use Rattle.std.specs.Option.{option_map_or}
+use Rattle.std.proofs.lemmas.Grind.{common_steps}
+use Rattle.std.specs.Borrow.{Bor}
+use Rattle.lin_bench.specs.Fields.{words}
+use Rattle.lin_bench.specs.RuleLines.{AddsRow, fields_before, joined, last_field, row}
+
+abbrev pub behind : {A : Type 0} → List A → Option (List A) → Option (List A)
+behind xs o = option_map (λ more. xs ++ more) o
+
+pub behind-one : {A : Type 0} (xs : List A) (x : A) (o : Option (List A)) → behind xs (option_map (λ more. x ∷ more) o) ≡ behind (xs ++ x ∷ []) o
+behind-one xs x None = refl
+behind-one xs x (Some more) = ap Some (sym (append_assoc xs (x ∷ []) more))
+
+pub behind-append : {A : Type 0} (xs ys : List A) (o : Option (List A)) → behind xs (behind ys o) ≡ behind (xs ++ ys) o
+behind-append xs ys None = refl
+behind-append xs ys (Some more) = ap Some (sym (append_assoc xs ys more))
+
+pub is-added : {A : Type 0} (r : Option (List A)) (old new : List A) → behind old r ≡ Some new → AddsRow r old true new
+is-added None old new h = cc
+is-added (Some more) old new h = (refl, cc)
+
+pub is-not-added : {A : Type 0} (r : Option (List A)) (old new : List A) → behind old r ≡ None → AddsRow r old false new
+is-not-added None old new h = refl
+is-not-added (Some more) old new h = cc
+
+pub added : {A : Type 0} (r : Option (List A)) (old new : List A) → AddsRow r old true new → behind old r ≡ Some new
+added None old new h = cc
+added (Some more) old new h = ap Some (sym h.1)
+
+pub not-added : {A : Type 0} (r : Option (List A)) (old new : List A) → AddsRow r old false new → r ≡ None
+not-added None old new h = refl
+not-added (Some more) old new h = let e = h.0 in cc
+
+pub is-whole : {A : Type 0} (r : Option (List A)) (new : List A) → AddsRow r [] true new → r ≡ Some new
+is-whole None new h = cc
+is-whole (Some more) new h = ap Some (sym h.1)
+
+-- ---- rows of signs, two and two
+two-left : (x y : ℕ) (zs : List ℕ) → take (length (x ∷ y ∷ zs) - 2) zs ≡ zs
+two-left x y zs = grind (arith, common_steps)
+
+pub row-next : {A : Type 0} (pair : ℕ → ℕ → Option A) (xs : List ℕ) (one : A) → 2 ≤ length xs → pair (get_or xs 0 0) (get_or xs 1 0) ≡ Some one
+    → row pair xs ≡ option_map (λ others. one ∷ others) (row pair (take (length xs - 2) (drop 2 xs)))
+row-next pair [] one h e = absurd (omega arith)
+row-next pair (x ∷ []) one h e = absurd (omega arith)
+row-next pair (x ∷ y ∷ zs) one h e = rw (e, two-left x y zs) refl
+
+pub row-ends : {A : Type 0} (pair : ℕ → ℕ → Option A) (xs : List ℕ) → 2 ≤ length xs → pair (get_or xs 0 0) (get_or xs 1 0) ≡ None → row pair xs ≡ None
+row-ends pair [] h e = absurd (omega arith)
+row-ends pair (x ∷ []) h e = absurd (omega arith)
+row-ends pair (x ∷ y ∷ zs) h e = rw e refl
+
+pub row-is-over : {A : Type 0} (pair : ℕ → ℕ → Option A) (xs : List ℕ) (is : Bool) (r : Option (List A)) (old new : List A) → length xs < 2
+    → is ≡ (length xs == 0) → behind old r ≡ behind new (row pair xs) → AddsRow r old is new
+row-is-over pair [] is r old new h e same = rw e (is-added r old new (same ∙ ap Some (append-nil new)))
+row-is-over pair (x ∷ []) is r old new h e same = rw e (is-not-added r old new same)
+row-is-over pair (x ∷ y ∷ zs) is r old new h e same = absurd (omega arith)
+
+-- ---- rows in turn
+pub words-at : (fs : List (Bor (List ℕ))) (i : ℕ) (d : Bor (List ℕ)) → i < length fs → words (drop i fs) ≡ (get_or fs i d).now ∷ words (drop (i + 1) fs)
+words-at fs i d h = ap words (drop-cons fs i d h) ∙ ap (λ j. (get_or fs i d).now ∷ words (drop j fs)) (sym (add-one i))
+
+step-adds : {A : Type 0} (o others : Option (List A)) (before new : List A) → AddsRow o before true new
+    → behind before (option_map_or (λ some. behind some others) o None) ≡ behind new others
+step-adds None others before new h = cc
+step-adds (Some some) others before new h = behind-append before some others ∙ ap (λ l. behind l others) (sym h.1)
+
+pub next-adds : {A : Type 0} (read : List ℕ → Option (List A)) (fs : List (Bor (List ℕ))) (i : ℕ) (d : Bor (List ℕ)) (is : Bool) (r : Option (List A)) (old before new : List A)
+    → i < length fs → is ≡ true → AddsRow (read (get_or fs i d).now) before is new
+    → behind old r ≡ behind before (joined read (words (drop i fs))) → behind old r ≡ behind new (joined read (words (drop (i + 1) fs)))
+next-adds read fs i d is r old before new h was adds e =
+    let f = (get_or fs i d).now in
+    let others = joined read (words (drop (i + 1) fs)) in
+    e ∙ ap (λ l. behind before (joined read l)) (words-at fs i d h) ∙ step-adds (read f) others before new (rw was at adds)
+
+pub next-fails : {A : Type 0} (read : List ℕ → Option (List A)) (fs : List (Bor (List ℕ))) (i : ℕ) (d : Bor (List ℕ)) (is : Bool) (r : Option (List A)) (old before new : List A)
+    → i < length fs → is ≡ false → AddsRow (read (get_or fs i d).now) before is new
+    → behind old r ≡ behind before (joined read (words (drop i fs))) → AddsRow r old false new
+next-fails read fs i d is r old before new h was adds e =
+    let none : read (get_or fs i d).now ≡ None = not-added (read (get_or fs i d).now) before new (rw was at adds) in
+    is-not-added r old new (e ∙ ap (λ l. behind before (joined read l)) (words-at fs i d h) ∙ rw none refl)
+
+pub dropped : {A : Type 0} (xs : List A) (i : ℕ) → length xs ≤ i → drop i xs ≡ []
+dropped [] zero h = refl
+dropped [] (suc i) h = refl
+dropped (x ∷ xs) zero h = absurd (omega arith)
+dropped (x ∷ xs) (suc i) h = dropped xs i (omega arith)
+
+pub all-added : {A : Type 0} (read : List ℕ → Option (List A)) (fs : List (Bor (List ℕ))) (i : ℕ) (r : Option (List A)) (old new : List A) → length fs ≤ i
+    → behind old r ≡ behind new (joined read (words (drop i fs))) → AddsRow r old true new
+all-added read fs i r old new h e =
+    is-added r old new (e ∙ ap (λ l. behind new (joined read (words l))) (dropped fs i h) ∙ ap Some (append-nil new))
+
+one-more : {A : Type 0} (o : Option (List A)) → option_map_or (λ some. behind some (Some [])) o None ≡ behind [] o
+one-more None = refl
+one-more (Some some) = ap Some (append-nil some)
+
+in-turn : {A : Type 0} (o j last : Option (List A))
+    → option_map_or (λ some. behind some (option_map_or (λ some. behind some last) j None)) o None
+    ≡ option_map_or (λ some. behind some last) (option_map_or (λ some. behind some j) o None) None
+in-turn None j last = refl
+in-turn (Some a) None last = refl
+in-turn (Some a) (Some b) last = behind-append a b last
+
+joined-append : {A : Type 0} (read : List ℕ → Option (List A)) (fs : List (List ℕ)) (f : List ℕ)
+    → joined read (fs ++ f ∷ []) ≡ option_map_or (λ some. behind some (read f)) (joined read fs) None
+joined-append read [] f = one-more (read f)
+joined-append read (g ∷ fs) f =
+    ap (λ o. option_map_or (λ some. behind some o) (read g) None) (joined-append read fs f) ∙ in-turn (read g) (joined read fs) (read f)
+
+last-step : {A : Type 0} (o last : Option (List A)) (is : Bool) (old mid new : List A) → AddsRow o old true mid → AddsRow last mid is new
+    → AddsRow (option_map_or (λ some. behind some last) o None) old is new
+last-step None last is old mid new h k = cc
+last-step (Some a) None is old mid new h k = k
+last-step (Some a) (Some b) is old mid new h k = (k.0, k.1 ∙ ap (λ l. l ++ b) h.1 ∙ append_assoc old a b)
+
+pub last-adds : {A : Type 0} (read : List ℕ → Option (List A)) (fs : List (List ℕ)) (f : List ℕ) (was is : Bool) (old mid new : List A) → was ≡ true
+    → AddsRow (joined read fs) old was mid → AddsRow (read f) mid is new → AddsRow (joined read (fs ++ f ∷ [])) old is new
+last-adds read fs f was is old mid new e h k =
+    rw (joined-append read fs f) (last-step (joined read fs) (read f) is old mid new (rw e at h) k)
+
+pub first-fails : {A : Type 0} (read : List ℕ → Option (List A)) (fs : List (List ℕ)) (f : List ℕ) (was : Bool) (old mid new : List A) → was ≡ false
+    → AddsRow (joined read fs) old was mid → AddsRow (joined read (fs ++ f ∷ [])) old false new
+first-fails read fs f was old mid new e h =
+    rw (joined-append read fs f, not-added (joined read fs) old mid (rw e at h)) refl
+
+-- ---- the last field, and those before it
+pub words-before : (fs : List (Bor (List ℕ))) → 1 ≤ length fs → words (take (length fs - 1) fs) ≡ fields_before (words fs)
+words-before [] h = absurd (omega arith)
+words-before (f ∷ []) h = refl
+words-before (f ∷ g ∷ fs) h =
+    let e : length (f ∷ g ∷ fs) - 1 ≡ suc (length (g ∷ fs) - 1) = omega arith in
+    ap (λ n. words (take n (f ∷ g ∷ fs))) e ∙ ap (λ l. f.now ∷ l) (words-before (g ∷ fs) (omega arith))
+
+pub words-last : (fs : List (Bor (List ℕ))) (d : Bor (List ℕ)) → 1 ≤ length fs → (get_or fs (length fs - 1) d).now ≡ last_field (words fs)
+words-last [] d h = absurd (omega arith)
+words-last (f ∷ []) d h = refl
+words-last (f ∷ g ∷ fs) d h =
+    let e : length (f ∷ g ∷ fs) - 1 ≡ suc (length (g ∷ fs) - 1) = omega arith in
+    ap (λ n. (get_or (f ∷ g ∷ fs) n d).now) e ∙ words-last (g ∷ fs) d (omega arith)

@@ -1,0 +1,70 @@
+-- What rules add, and what they leave alone.
+use Rattle.std.proofs.Common.{◌≡◌, ℕ, nat_lt, Bool, true, false, List, [], ◌∷◌, flat_map, refl, arith, is_some, cond}
+use Rattle.std.proofs.lemmas.Grind.{common_steps}
+use Rattle.std.specs.Option.{option_map_or}
+use Rattle.lin_cluster_parts.specs.declared.parts.Parts.{Parts}
+use Rattle.lin_core.specs.History.{events, finished_slot, time}
+use Rattle.lin_core.specs.Runs.{entry_of}
+use Rattle.lin_core.specs.declared.event.Event.{Event}
+use Rattle.lin_core.specs.declared.event.Event.TheVariants as event
+use Rattle.lin_core.specs.declared.log.LogEntry.{LogEntry}
+use Rattle.lin_bench.specs.Added.{added, added_after, noted_now, rules_after, went_to_all}
+use Rattle.lin_bench.specs.Made.{made, said}
+use Rattle.lin_bench.specs.RuleLaws.{AddedByAnyFinish, AddedByHistoryAndRules, NoRuleAddsNothing, NoRuleChangesNothing}
+use Rattle.lin_bench.specs.Rules.{no_rules, notes_for}
+use Rattle.lin_bench.specs.declared.rules.Noted.{Noted}
+
+either-nothing : {A : Type 0} (b : Bool) (xs : List A) → xs ≡ [] → cond b [] xs ≡ []
+either-nothing true xs e = refl
+either-nothing false xs e = e
+
+nothing-or : {A : Type 0} (b : Bool) (xs : List A) → xs ≡ [] → cond b xs [] ≡ []
+nothing-or true xs e = e
+nothing-or false xs e = refl
+
+notes-nothing : (t : ℕ) (e : Event) → notes_for [] t e ≡ []
+notes-nothing t (event.Accepted host number) = refl
+notes-nothing t (event.Slot table entry header) = refl
+notes-nothing t (event.Due node) = refl
+notes-nothing t (event.Put node answer) = refl
+notes-nothing t (event.Seen how) = refl
+notes-nothing t (event.Message from to bytes) = nothing-or {A = Noted} _ [] refl
+notes-nothing t (event.Sent host number) = refl
+notes-nothing t (event.Lost host number cause) = refl
+notes-nothing t event.Asleep = refl
+
+all-nothing : (t : ℕ) (es : List Event) → flat_map (notes_for [] t) es ≡ []
+all-nothing t [] = refl
+all-nothing t (e ∷ es) = rw (notes-nothing t e) (all-nothing t es)
+
+noted-nothing : (c : Parts) (e : LogEntry) (past : List LogEntry) → noted_now c [] e past ≡ []
+noted-nothing c e past = either-nothing (option_map_or went_to_all (finished_slot e past) false) _ (all-nothing (time c (e ∷ past)) (events e))
+
+after-nothing : (c : Parts) (e : LogEntry) (past : List LogEntry) → added_after c e past no_rules ≡ []
+after-nothing c e past = rw (noted-nothing c e past) refl
+
+added-nothing : (c : Parts) (e : LogEntry) (past : List LogEntry) → added c e past no_rules ≡ []
+added-nothing c e past = nothing-or (is_some (finished_slot e past)) (added_after c e past no_rules) (after-nothing c e past)
+
+same-rules : (c : Parts) (e : LogEntry) (past : List LogEntry) (b : Bool) → is_some (finished_slot e past) ≡ b → rules_after c e past no_rules ≡ no_rules
+same-rules c e past true h = rw (h, noted-nothing c e past) refl
+same-rules c e past false h = rw h refl
+
+pub no-rule : NoRuleAddsNothing
+no-rule c e past = (added-nothing c e past, same-rules c e past (is_some (finished_slot e past)) refl)
+
+pub unchanged : NoRuleChangesNothing
+unchanged c o cap past [] = refl
+unchanged c o cap past (s ∷ ss) =
+    let e : LogEntry = entry_of c o cap past s in
+    rw (added-nothing c e past, same-rules c e past (is_some (finished_slot e past)) refl) (unchanged c o cap (e ∷ past) ss)
+
+pub any-finish : AddedByAnyFinish
+any-finish c by other step reply past rules = refl
+
+pub by-history : AddedByHistoryAndRules
+unfolding made said
+by-history c o cap a b by step p r =
+    let x : nat_lt a.left 0 ≡ false = grind (arith, common_steps) in
+    let y : nat_lt b.left 0 ≡ false = grind (arith, common_steps) in
+    rw (x, y, p, r) (refl, refl)

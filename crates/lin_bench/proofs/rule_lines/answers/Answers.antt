@@ -1,0 +1,87 @@
+use Rattle.std.proofs.Common.{◌≡◌, ◌∙◌, ℕ, Bool, ◌+◌, ◌-◌, List, [], ◌∷◌, ◌++◌, Some, None, Result, Ok, Err, refl, sym, ap, append_assoc, arith, drop, length, take}
+use Rattle.std.specs.Borrow.{Bor}
+use Rattle.std.specs.Prelude.{codes}
+use Rattle.std.specs.List.{position, slice_split}
+use Rattle.std.specs.Str.{bytes_eq}
+use Rattle.std.proofs.lemmas.List.{length-drop, take_all}
+use Rattle.std.proofs.lemmas.Result.{err_from_is_err_and}
+use Rattle.lin_bench.specs.Fields.{◌>>=◌, words}
+use Rattle.lin_bench.specs.Read.{Fails}
+use Rattle.lin_bench.specs.RuleLines.{answer_form, answers_form, answers_in_turn, is_word}
+use Rattle.lin_bench.specs.declared.fault.LineFault.{LineFault}
+use Rattle.lin_bench.specs.declared.fault.LineFault.TheVariants.{Bad, OutOfMemory}
+use Rattle.lin_bench.specs.declared.reason.Reason.{Reason}
+use Rattle.lin_bench.specs.declared.rules.Answer.{Answer}
+use Rattle.lin_bench.proofs.Places.{split-at, split-nowhere}
+use Rattle.lin_bench.proofs.rule_lines.answers.Goals as goal
+
+abbrev then-is : List ℕ → Bor (List ℕ) → Bool
+then-is word f = bytes_eq f.now word
+
+-- an answer before `then`, and those after it
+first-of : (word : List ℕ) (fs : List (Bor (List ℕ))) (i : ℕ) → word ≡ codes "then" → Some i ≡ position (then-is word) fs
+    → answers_form (words fs) ≡ (answer_form (words (take i fs)) >>= (λ a. answers_form (words (drop (i + 1) fs)) >>= (λ more. Ok (a ∷ more))))
+first-of word fs i same e =
+    ap (λ w. answers_in_turn (slice_split (is_word w) (words fs))) (sym same)
+    ∙ ap answers_in_turn (split-at (is_word word) fs (record { ref_ptr = (0, 0); now = [] }) i e)
+    ∙ ap (λ w. answer_form (words (take i fs)) >>= (λ a. answers_in_turn (slice_split (is_word w) (words (drop (i + 1) fs))) >>= (λ more. Ok (a ∷ more)))) same
+
+last-of : (word : List ℕ) (fs : List (Bor (List ℕ))) → word ≡ codes "then" → None ≡ position (then-is word) fs
+    → answers_form (words fs) ≡ (answer_form (words fs) >>= (λ a. Ok (a ∷ [])))
+last-of word fs same e =
+    ap (λ w. answers_in_turn (slice_split (is_word w) (words fs))) (sym same)
+    ∙ ap answers_in_turn (split-nowhere (is_word word) fs (record { ref_ptr = (0, 0); now = [] }) e)
+
+abbrev with : List Answer → Result (List Answer) Reason → Result (List Answer) Reason
+with answers r = r >>= (λ more. Ok (answers ++ more))
+
+with-one : (answers : List Answer) (a : Answer) (r : Result (List Answer) Reason)
+    → with answers (r >>= (λ more. Ok (a ∷ more))) ≡ with (answers ++ a ∷ []) r
+with-one answers a (Ok more) = ap Ok (sym (append_assoc answers (a ∷ []) more))
+with-one answers a (Err why) = refl
+
+fails : (e : LineFault) (r : Result Answer Reason) (rest : Answer → Result (List Answer) Reason) (answers : List Answer) → Fails e r
+    → Fails e (with answers (r >>= rest))
+fails (Bad why) r rest answers h = rw h refl
+fails OutOfMemory r rest answers h = tt
+
+pub returns-in_err-one : goal.returns-in_err-one
+returns-in_err-one c =
+    let p = err_from_is_err_and c.from_residual.result c.from_residual.ensures.1 in
+    let fs = c.loop-end.left.now in
+    let i = c.in-Some.end in
+    let first = first-of c.as_slice.result.now fs i c.as_slice.ensures c.in-Some.ensures.first in
+    rw (p.1, p.2, c.loop-end.invariant.same, first)
+    (fails c.in_err-one.field-0.0 (answer_form (words (take i fs))) (λ a. answers_form (words (drop (i + 1) fs)) >>= (λ more. Ok (a ∷ more))) c.loop-end.answers
+    c.in_err-one.ensures)
+
+pub loop-end-preserved : goal.loop-end-preserved
+loop-end-preserved c =
+    let fs = c.loop-end.left.now in
+    let i = c.in-Some.end in
+    let first = first-of c.as_slice.result.now fs i c.as_slice.ensures c.in-Some.ensures.first in
+    let whole = take_all (length fs - (i + 1)) (drop (i + 1) fs) (omega (arith, length-drop (i + 1) fs)) in
+    record {
+      within = rw whole (omega (arith, length-drop (i + 1) fs, c.loop-end.invariant.within));
+      same =
+          c.loop-end.invariant.same ∙ ap (with c.loop-end.answers) first
+          ∙ ap (λ r. with c.loop-end.answers (r >>= (λ a. answers_form (words (drop (i + 1) fs)) >>= (λ more. Ok (a ∷ more))))) c.in_ok-one.ensures
+          ∙ with-one c.loop-end.answers c.in_ok-one.one (answers_form (words (drop (i + 1) fs)))
+          ∙ ap (λ l. with l (answers_form (words (drop (i + 1) fs)))) (sym c.in_ok-push.ensures)
+          ∙ ap (λ l. with c.push.new.self (answers_form (words l))) (sym whole);
+    }
+
+pub returns-in_err-last : goal.returns-in_err-last
+returns-in_err-last c =
+    let p = err_from_is_err_and c.from_residual-in_err-last.result c.from_residual-in_err-last.ensures.1 in
+    let fs = c.loop-end.left.now in
+    let last = last-of c.as_slice.result.now fs c.as_slice.ensures (sym c.in_default.is ∙ c.word_at.ensures.first) in
+    rw (p.1, p.2, c.loop-end.invariant.same, last)
+    (fails c.in_err-last.field-0.0 (answer_form (words fs)) (λ a. Ok (a ∷ [])) c.loop-end.answers c.in_err-last.ensures)
+
+pub returns : goal.returns
+returns c =
+    let fs = c.loop-end.left.now in
+    let last = last-of c.as_slice.result.now fs c.as_slice.ensures (sym c.in_default.is ∙ c.word_at.ensures.first) in
+    c.loop-end.invariant.same ∙ ap (with c.loop-end.answers) last ∙ ap (λ r. with c.loop-end.answers (r >>= (λ a. Ok (a ∷ [])))) c.in_ok-last.ensures
+    ∙ ap Ok (sym c.in_ok-push-2.ensures)

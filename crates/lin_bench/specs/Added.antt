@@ -1,0 +1,109 @@
+-- The steps that rules add after a finish that is done. They are told by the history with that
+-- finish and by the rules, and by nothing else.
+use Rattle.std.specs.Prelude.{ℕ, ◌==◌, ◌-◌, ◌*◌, ◌/◌, ◌&&◌, Bool, false, nat_le, nat_lt}
+use Rattle.std.specs.Prelude.{if◌then◌else◌, List, [], ◌∷◌, ◌++◌, filter, flat_map, length, map}
+use Rattle.std.specs.Prelude.{slice_index, Option, Some, None, is_some}
+use Rattle.std.specs.Option.{option_map_or}
+use Rattle.lin_frame.specs.Words.{numbers}
+use Rattle.lin_transport.specs.Transport.{functional}
+use Rattle.lin_cluster_parts.specs.Cluster.{nad, nodes}
+use Rattle.lin_cluster_parts.specs.declared.parts.Parts.{Parts}
+use Rattle.lin_core.specs.History.{Slot, events, finished_slot, good, time}
+use Rattle.lin_core.specs.Links.{Link, put_on}
+use Rattle.lin_core.specs.Replies.{begun_on, link_at}
+use Rattle.lin_core.specs.declared.link.Direction.TheVariants.{Down, Up}
+use Rattle.lin_core.specs.declared.log.LogEntry.{LogEntry}
+use Rattle.lin_core.specs.declared.port.PortId.{PortId}
+use Rattle.lin_core.specs.declared.port.PortId.TheVariants.{Bus, Host}
+use Rattle.lin_core.specs.declared.step.Step.{Step}
+use Rattle.lin_core.specs.declared.step.Step.TheVariants.{Send, Timeout}
+use Rattle.lin_bench.specs.Rules.{all_noted, kept_at, notes_for, sent_at}
+use Rattle.lin_bench.specs.declared.rules.Noted.{Noted}
+use Rattle.lin_bench.specs.declared.rules.Repeated.{Repeated}
+use Rattle.lin_bench.specs.declared.rules.Rules.{Rules}
+use Rattle.lin_bench.specs.declared.rules.When.{When}
+
+-- ---- transfers that are given up (ISO 17987-2, N_As and N_Cr)
+-- a slot was seen good and put a frame on a link
+abbrev pub is_good_on : Parts → Link → Slot → Bool
+is_good_on c l s = is_some (good s) && nat_lt 0 (length (put_on c l s))
+
+-- the end of the slot of a link's last good frame, in microseconds; 0 where it had none
+abbrev pub last_good : Parts → List LogEntry → Link → ℕ
+last_good c [] l = 0
+last_good c (e ∷ past) l =
+    if option_map_or (is_good_on c l) (finished_slot e past) false then time c (e ∷ past)
+    else last_good c past l
+
+-- the links by rising node, down before up
+abbrev pub links_at : ℕ → List Link
+links_at n = link_at n Down ∷ link_at n Up ∷ []
+
+abbrev pub links_in_turn : Parts → List Link
+links_in_turn c = flat_map links_at (filter (λ n. is_some (nad c n)) (numbers (nodes c)))
+
+-- a message is begun on a link, and the last good frame there is so many milliseconds ago
+abbrev pub is_given_up : Parts → List LogEntry → ℕ → Link → Bool
+is_given_up c past ms l =
+    is_some (begun_on c past l.node l.dir)
+    && nat_le (1000 * ms) (time c past - last_good c past l)
+
+abbrev pub timeout_of : Link → PortId × Step
+timeout_of l = (Bus, Timeout l.node l.dir)
+
+abbrev pub timeouts : Parts → List LogEntry → Option ℕ → List (PortId × Step)
+timeouts c past None = []
+timeouts c past (Some ms) = map timeout_of (filter (is_given_up c past ms) (links_in_turn c))
+
+-- ---- answers (what goes to all isn't answered)
+abbrev pub went_to_all : Slot → Bool
+went_to_all s = option_map_or (λ bytes. slice_index bytes 0 == functional) (good s) false
+
+abbrev pub noted_now : Parts → List When → LogEntry → List LogEntry → List Noted
+noted_now c whens e past =
+    if option_map_or went_to_all (finished_slot e past) false then []
+    else flat_map (notes_for whens (time c (e ∷ past))) (events e)
+
+-- all answers that are noted, with those to the messages of a finish
+abbrev pub noted_by : Parts → LogEntry → List LogEntry → Rules → List Noted
+noted_by c e past rules = all_noted rules.noted (noted_now c rules.whens e past)
+
+abbrev pub send_of : Noted → PortId × Step
+send_of n = (Host n.node, Send n.node 0 n.bytes)
+
+-- ---- what is repeated: at its line's time and one, two, three periods, and so on
+abbrev pub times_until : Repeated → ℕ → ℕ
+times_until r time = (time - r.began) / (1000 * r.every.period_ms)
+
+-- one of these times is after a time and not after another
+abbrev pub has_time : ℕ → ℕ → Repeated → Bool
+has_time from to r = nat_lt (times_until r from) (times_until r to)
+
+abbrev pub step_of : Repeated → PortId × Step
+step_of r = (r.every.by, r.every.step)
+
+-- what has a time that isn't after a finish, and is after the one before it
+abbrev pub repeated : Parts → LogEntry → List LogEntry → Rules → List (PortId × Step)
+repeated c e past rules =
+    map step_of (filter (has_time (time c past) (time c (e ∷ past))) rules.everies)
+
+-- ---- the steps after a finish, in their order: what takes too long, the answers whose time has
+-- come, and what is repeated
+abbrev pub added_after : Parts → LogEntry → List LogEntry → Rules → List (PortId × Step)
+added_after c e past rules =
+    timeouts c (e ∷ past) rules.limit_ms
+    ++ (map send_of (sent_at (time c (e ∷ past)) (noted_by c e past rules))
+    ++ repeated c e past rules)
+
+-- and after any other entry none
+abbrev pub added : Parts → LogEntry → List LogEntry → Rules → List (PortId × Step)
+added c e past rules =
+    if is_some (finished_slot e past) then added_after c e past rules else []
+
+-- the answers that are still to come after an entry; those that are sent are noted no longer,
+-- whatever their sending is answered
+abbrev pub rules_after : Parts → LogEntry → List LogEntry → Rules → Rules
+rules_after c e past rules =
+    if is_some (finished_slot e past)
+    then record rules { noted = kept_at (time c (e ∷ past)) (noted_by c e past rules) }
+    else rules

@@ -1,0 +1,105 @@
+-- What a core keeps for its rules, and what making the steps that they add answers.
+use Rattle.std.specs.Prelude.{◌≡◌, true, ℕ, ◌<◌, ◌-◌, ◌^◌, List, [], ◌∷◌, ◌++◌, length, Option}
+use Rattle.std.specs.Prelude.{if◌then◌else◌, slice_index, Some, None, Result, Ok, Err}
+use Rattle.lin_cluster_parts.specs.Cluster.{nodes}
+use Rattle.lin_cluster_parts.specs.declared.parts.Parts.{Parts}
+use Rattle.lin_core.specs.Core.{CoreData, IsAlike, answered, past_of}
+use Rattle.lin_core.specs.History.{Slot, good_bytes, open_slot}
+use Rattle.lin_core.specs.Replies.{link_at, may}
+use Rattle.lin_core.specs.Runs.{entry_of}
+use Rattle.lin_core.specs.declared.event.Event.{Event}
+use Rattle.lin_core.specs.declared.event.Event.TheVariants.{Seen}
+use Rattle.lin_core.specs.declared.link.Direction.{Direction}
+use Rattle.lin_core.specs.declared.link.Direction.TheVariants.{Down, Up}
+use Rattle.lin_core.specs.declared.log.LogEntry.{LogEntry}
+use Rattle.lin_core.specs.declared.port.PortId.{PortId}
+use Rattle.lin_core.specs.declared.step.Step.{Step}
+use Rattle.lin_core.specs.declared.step.Step.TheVariants.{Finish}
+use Rattle.lin_bench.specs.Added.{added_after, is_good_on, last_good, rules_after}
+pub use Rattle.lin_bench.specs.Making.{RuledData}
+use Rattle.lin_bench.specs.Making.{IsGrown}
+use Rattle.lin_bench.specs.Slots.{past_after}
+use Rattle.lin_bench.specs.declared.ends.Ends.{Ends}
+use Rattle.lin_bench.specs.declared.fault.MakeFault.{MakeFault}
+use Rattle.lin_bench.specs.declared.fault.MakeFault.TheVariants.{LogFull, OutOfMemory}
+use Rattle.lin_bench.specs.declared.ruled.RuledCore.TheInside.{Inside}
+
+abbrev pub ruled_data : Inside → RuledData
+ruled_data a = record { core = a.core; rules = a.rules }
+
+-- when the last good frames of the links one way ended
+abbrev pub AreEnds : CoreData → Direction → List ℕ → Type 0
+AreEnds core dir ends =
+    (n : ℕ) → n < nodes core.cluster
+    → slice_index ends n ≡ last_good core.cluster (past_of core) (link_at n dir)
+
+abbrev pub IsTimed : Inside → Type 0
+IsTimed a = AreEnds a.core Down a.ends.downs × AreEnds a.core Up a.ends.ups
+
+abbrev pub end_of : Ends → ℕ → Direction → ℕ
+end_of ends n Down = slice_index ends.downs n
+end_of ends n Up = slice_index ends.ups n
+
+-- the bytes of the slot that these events of a finish tell of, where it was seen good
+abbrev pub good_in : List Event → Option (List ℕ)
+good_in (Seen how ∷ es) = good_bytes how
+good_in es = None
+
+-- of each node's link one way it is kept when its last good frame ended, which that of a slot may be
+-- that ended now
+abbrev pub IsHeard : Parts → ℕ → Slot → Direction → List ℕ → List ℕ → Type 0
+IsHeard c now s dir old new =
+    (n : ℕ) → n < nodes c
+    → slice_index new n
+    ≡ (if is_good_on c (link_at n dir) s then now else slice_index old n)
+
+-- a finish was made on a core where this slot was open
+pub record IsAfterFinish (old : CoreData) (by : PortId) (s : Slot) (new : CoreData) : Type 0 where
+  pub log : new.log ≡ old.log ++ answered old by Finish ∷ []
+  pub alike : IsAlike old new
+  pub slot : open_slot (past_of old) ≡ Some s
+
+-- the newest entry of a core finishes this slot, on the history before it
+pub record HasFinished (core : CoreData) (by : PortId) (past : List LogEntry) (s : Slot) : Type 0 where
+  pub newest :
+      past_of core ≡ entry_of core.cluster core.opening core.capacity past (by, Finish) ∷ past
+  pub slot : open_slot past ≡ Some s
+  pub may : may by Finish ≡ true
+
+-- what making a step answers to which no rule adds
+abbrev pub IsFull : MakeFault → CoreData → Type 0
+IsFull LogFull core = length core.log ≡ 2 ^ 32 - 1
+IsFull OutOfMemory core = Unit {0}
+
+abbrev pub MakesOne : {X : Type 0} → CoreData → PortId → Step → Result X MakeFault → CoreData
+    → Type 0
+MakesOne old by step (Ok x) new = (new.log ≡ old.log ++ answered old by step ∷ []) × IsAlike old new
+MakesOne old by step (Err fault) new = IsFull fault old × (new.log ≡ old.log) × IsAlike old new
+
+-- what making the steps that rules add answers: no rule adds to them
+abbrev pub AddedFail : MakeFault → CoreData → List (PortId × Step) → Type 0
+AddedFail LogFull core steps =
+    2 ^ 32 - 1
+    < length (past_after core.cluster core.opening core.capacity (past_of core) steps)
+AddedFail OutOfMemory core steps = Unit {0}
+
+pub record AreAdded (old : CoreData) (steps : List (PortId × Step)) (new : CoreData) : Type 0 where
+  pub past : past_of new ≡ past_after old.cluster old.opening old.capacity (past_of old) steps
+  pub alike : IsAlike old new
+
+abbrev pub MakesAdded : {X : Type 0} → CoreData → List (PortId × Step) → Result X MakeFault
+    → CoreData
+    → Type 0
+MakesAdded old steps (Ok x) new = AreAdded old steps new
+MakesAdded old steps (Err fault) new = AddedFail fault old steps × IsGrown old new
+
+-- what is added after a finish was made, and the answers that are noted are those that are left
+abbrev pub Adds : {X : Type 0} → RuledData → LogEntry → List LogEntry → Result X MakeFault
+    → RuledData
+    → Type 0
+Adds old e past (Ok x) new =
+    AreAdded old.core (added_after old.core.cluster e past old.rules) new.core
+    × (new.rules ≡ rules_after old.core.cluster e past old.rules)
+Adds old e past (Err fault) new =
+    AddedFail fault old.core (added_after old.core.cluster e past old.rules)
+    × IsGrown old.core new.core

@@ -1,0 +1,220 @@
+-- What the lines of rules say.
+use Rattle.std.specs.Prelude.{◌≡◌, ℕ, ◌==◌, ◌+◌, ◌-◌, ◌*◌, ◌&&◌, ◌||◌, nat_le, if◌then◌else◌, true, false, Bool}
+use Rattle.std.specs.Prelude.{List, [], ◌∷◌, ◌++◌, drop, length, reverse, slice_index, take}
+use Rattle.std.specs.Prelude.{Option, Some, None, is_some, option_map, Result, Ok, Err, codes}
+use Rattle.std.specs.List.{slice_split}
+use Rattle.std.specs.Option.{option_map_or}
+use Rattle.std.specs.Str.{bytes_eq}
+use Rattle.hex.specs.Hex.{hex_digit_value}
+use Rattle.lin_cluster_parts.specs.Cluster.{nad}
+use Rattle.lin_cluster_parts.specs.declared.parts.Parts.{Parts}
+use Rattle.lin_core.specs.declared.port.PortId.{PortId}
+use Rattle.lin_core.specs.declared.port.PortId.TheVariants.{Bus}
+use Rattle.lin_core.specs.declared.step.Step.{Step}
+use Rattle.lin_core.specs.declared.step.Step.TheVariants.{Send, Write}
+use Rattle.lin_log.specs.Language.{named}
+use Rattle.lin_log.specs.Said.{is_port, number, port_step, step_form}
+use Rattle.lin_log.specs.declared.reason.Reason.TheVariants.{NoBytes, NotBytes}
+use Rattle.lin_bench.specs.Fields.{◌>>=◌, count_field, node_field, number_field, of_step, or_bad}
+use Rattle.lin_bench.specs.declared.reason.Reason.{Reason}
+use Rattle.lin_bench.specs.declared.reason.Reason.TheVariants.{Step as BadStep, WhenForm, NoResponder}
+use Rattle.lin_bench.specs.declared.reason.Reason.TheVariants.{NoPattern, TimeoutsForm, EveryForm}
+use Rattle.lin_bench.specs.declared.reason.Reason.TheVariants.{EveryStep}
+use Rattle.lin_bench.specs.declared.rules.Answer.{Answer}
+use Rattle.lin_bench.specs.declared.rules.Part.{Part}
+use Rattle.lin_bench.specs.declared.rules.Part.TheVariants.{Byte, Copied}
+use Rattle.lin_bench.specs.declared.rules.Pattern.{Pattern}
+use Rattle.lin_bench.specs.declared.rules.Rule.{Rule}
+use Rattle.lin_bench.specs.declared.rules.Rule.TheVariants as rule
+
+abbrev pub is_word : List ℕ → List ℕ → Bool
+is_word word f = bytes_eq f word
+
+abbrev pub is_only : List ℕ → List (List ℕ) → Bool
+is_only word (f ∷ []) = bytes_eq f word
+is_only word fs = false
+
+-- the byte of two hexadecimal digits
+abbrev pub hex_byte : ℕ → ℕ → Option ℕ
+hex_byte x y =
+    option_map_or
+    (λ high. option_map (λ low. 16 * high + low) (hex_digit_value y)) (hex_digit_value x) None
+
+-- what the signs of a row stand for, two and two
+abbrev pub row : {A : Type 0} → (ℕ → ℕ → Option A) → List ℕ → Option (List A)
+row pair [] = Some []
+row pair (x ∷ []) = None
+row pair (x ∷ y ∷ more) =
+    option_map_or (λ one. option_map (λ others. one ∷ others) (row pair more)) (pair x y) None
+
+-- what adding what a row stands for to others answers: whether it is one
+abbrev pub AddsRow : {A : Type 0} → Option (List A) → List A → Bool → List A → Type 0
+AddsRow None old is new = is ≡ false
+AddsRow (Some more) old is new = (is ≡ true) × (new ≡ old ++ more)
+
+-- what several fields spell together
+abbrev pub joined : {A : Type 0} → (List ℕ → Option (List A)) → List (List ℕ) → Option (List A)
+joined read [] = Some []
+joined read (f ∷ fs) =
+    option_map_or (λ some. option_map (λ others. some ++ others) (joined read fs)) (read f) None
+
+-- ---- patterns
+-- `..` stands for any byte
+abbrev pub pattern_byte : ℕ → ℕ → Option (Option ℕ)
+pattern_byte x y = if x == 46 && y == 46 then Some None else option_map Some (hex_byte x y)
+
+-- whether a field ends with `*`, and what stands before it
+abbrev pub has_star : List ℕ → Bool
+has_star f = slice_index f (length f - 1) == 42
+
+abbrev pub without_star : List ℕ → List ℕ
+without_star f = if has_star f then take (length f - 1) f else f
+
+abbrev pub last_field : List (List ℕ) → List ℕ
+last_field [] = []
+last_field (f ∷ []) = f
+last_field (f ∷ g ∷ fs) = last_field (g ∷ fs)
+
+abbrev pub fields_before : List (List ℕ) → List (List ℕ)
+fields_before [] = []
+fields_before (f ∷ []) = []
+fields_before (f ∷ g ∷ fs) = f ∷ fields_before (g ∷ fs)
+
+-- rows of one or more fields, of which the last one may end with `*`
+abbrev pub pattern_of : List (List ℕ) → Option Pattern
+pattern_of [] = None
+pattern_of (f ∷ fs) =
+    option_map
+    (λ bytes. record { bytes = bytes; more = has_star (last_field (f ∷ fs)) })
+    (joined (row pattern_byte) (fields_before (f ∷ fs) ++ without_star (last_field (f ∷ fs)) ∷ []))
+
+abbrev pub pattern_fields : List (List ℕ) → Result Pattern Reason
+pattern_fields fs = or_bad (pattern_of fs) (NoPattern fs)
+
+-- ---- answers
+abbrev pub hex_part : ℕ → ℕ → Option Part
+hex_part x y = option_map Byte (hex_byte x y)
+
+-- `$` and 1 to 4 digits, at most 4,094, or a row of hexadecimal digits
+abbrev pub copied : List ℕ → Option (List Part)
+copied f =
+    if nat_le (length f) 5 then option_map (λ k. Copied k ∷ []) (number 4094 (drop 1 f)) else None
+
+abbrev pub parts_field : List ℕ → Option (List Part)
+parts_field f = if slice_index f 0 == 36 then copied f else row hex_part f
+
+unfoldable pub parts_fields : List (List ℕ) → Result (List Part) Reason
+parts_fields [] = Err (BadStep NoBytes)
+parts_fields (f ∷ fs) = or_bad (joined parts_field (f ∷ fs)) (BadStep (NotBytes (f ∷ fs)))
+
+-- the rows of an answer, and its wait where it ends with `after`, a number and `ms`
+abbrev pub wait_from : List (List ℕ) → List (List ℕ) → List (List ℕ) × Option (List ℕ)
+wait_from fs (unit ∷ n ∷ word ∷ rows) =
+    if bytes_eq unit (codes "ms") && bytes_eq word (codes "after") then (reverse rows, Some n)
+    else (fs, None)
+wait_from fs backwards = (fs, None)
+
+abbrev pub rows_and_wait : List (List ℕ) → List (List ℕ) × Option (List ℕ)
+rows_and_wait fs = wait_from fs (reverse fs)
+
+abbrev pub wait_field : Option (List ℕ) → Result ℕ Reason
+wait_field None = Ok 0
+wait_field (Some n) = number_field 1000000 n
+
+abbrev pub answer_form : List (List ℕ) → Result Answer Reason
+answer_form fs = do
+  parts ← parts_fields (rows_and_wait fs).0
+  wait ← wait_field (rows_and_wait fs).1
+  Ok (record { parts = parts; wait_ms = wait })
+
+abbrev pub answers_in_turn : List (List (List ℕ)) → Result (List Answer) Reason
+answers_in_turn [] = Ok []
+answers_in_turn (fs ∷ more) = do
+  answer ← answer_form fs
+  answers ← answers_in_turn more
+  Ok (answer ∷ answers)
+
+-- an answer, and each further one after `then`
+abbrev pub answers_form : List (List ℕ) → Result (List Answer) Reason
+answers_form fs = answers_in_turn (slice_split (is_word (codes "then")) fs)
+
+abbrev pub answers_of : Option (List (List ℕ)) → Result (List Answer) Reason
+answers_of None = Ok []
+answers_of (Some fs) = answers_form fs
+
+-- ---- `when`
+-- a responder that has an address
+abbrev pub responder_field : Parts → List ℕ → Result ℕ Reason
+responder_field c f =
+    node_field c f >>= (λ node. if is_some (nad c node) then Ok node else Err (NoResponder f))
+
+abbrev pub when_of : Parts → List ℕ → List (List ℕ) → Result (List Answer) Reason
+    → Result Rule Reason
+when_of c n pattern answers = do
+  node ← responder_field c n
+  fitting ← pattern_fields pattern
+  all ← answers
+  Ok (rule.When (record { node = node; pattern = fitting; answers = all }))
+
+-- the fields before and after the first `answer`
+abbrev pub cut : List (List ℕ) → Option (List (List ℕ) × List (List ℕ))
+cut [] = None
+cut (f ∷ fs) =
+    if bytes_eq f (codes "answer") then Some ([], fs)
+    else option_map (λ (p : List (List ℕ) × List (List ℕ)). (f ∷ p.0, p.1)) (cut fs)
+
+-- a node, a pattern of one field at least, and answers or `silent`
+abbrev pub when_by : Parts → List ℕ → List ℕ → List (List ℕ)
+    → Option (List (List ℕ) × List (List ℕ))
+    → Result Rule Reason
+when_by c n f fs (Some p) = when_of c n (f ∷ p.0) (answers_of (Some p.1))
+when_by c n f fs None =
+    if bytes_eq (last_field fs) (codes "silent")
+    then when_of c n (f ∷ fields_before fs) (answers_of None)
+    else Err WhenForm
+
+abbrev pub when_fields : Parts → List (List ℕ) → Result Rule Reason
+when_fields c [] = Err WhenForm
+when_fields c (n ∷ []) = Err WhenForm
+when_fields c (n ∷ f ∷ fs) = when_by c n f fs (cut fs)
+
+unfoldable pub when_form : Parts → List (List ℕ) → Result Rule Reason
+when_form c fs = if is_only (codes "off") fs then Ok rule.WhenOff else when_fields c fs
+
+-- ---- `timeouts`
+abbrev pub timeouts_fields : List (List ℕ) → Result Rule Reason
+timeouts_fields (f ∷ unit ∷ []) =
+    if bytes_eq unit (codes "ms") then count_field f >>= (λ n. Ok (rule.Timeouts n))
+    else Err TimeoutsForm
+timeouts_fields fs = Err TimeoutsForm
+
+unfoldable pub timeouts_form : List (List ℕ) → Result Rule Reason
+timeouts_form fs = if is_only (codes "off") fs then Ok rule.TimeoutsOff else timeouts_fields fs
+
+-- ---- `every`
+abbrev pub sends_or_writes : PortId × Step → Result (PortId × Step) Reason
+sends_or_writes (by, Send from to message) = Ok (by, Send from to message)
+sends_or_writes (by, Write node signal value) = Ok (by, Write node signal value)
+sends_or_writes (by, step) = Err EveryStep
+
+-- a send or a write, which the bus gives where no port stands before it
+abbrev pub repeated_step : Parts → List ℕ → List (List ℕ) → Result (PortId × Step) Reason
+repeated_step c word fs =
+    if is_port word then of_step (port_step (named c) word fs) >>= sends_or_writes
+    else if bytes_eq word (codes "send") || bytes_eq word (codes "write")
+    then of_step (step_form (named c) word fs) >>= (λ step. Ok (Bus, step))
+    else Err EveryStep
+
+abbrev pub every_of : Parts → List ℕ → List ℕ → List (List ℕ) → Result Rule Reason
+every_of c n word fs = do
+  period ← count_field n
+  step ← repeated_step c word fs
+  Ok (rule.Every (record { period_ms = period; by = step.0; step = step.1 }))
+
+abbrev pub every_fields : Parts → List (List ℕ) → Result Rule Reason
+every_fields c (n ∷ unit ∷ word ∷ fs) =
+    if bytes_eq unit (codes "ms") then every_of c n word fs else Err EveryForm
+every_fields c fs = Err EveryForm
+
+unfoldable pub every_form : Parts → List (List ℕ) → Result Rule Reason
+every_form c fs = if is_only (codes "off") fs then Ok rule.EveryOff else every_fields c fs

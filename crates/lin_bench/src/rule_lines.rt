@@ -1,0 +1,436 @@
+//! The forms of lines of rules.
+
+ghost use Rattle.std.specs.Prelude.{◌≡◌, ◌<◌, ◌&&◌, ◌∷◌, [], ◌++◌, codes, length, option_map, position};
+ghost use Rattle.std.specs.Prelude.{IfOk, IfSome};
+ghost use Rattle.std.specs.Str.{bytes_eq};
+ghost use Rattle.hex.specs.Hex.{hex_digit_value};
+ghost use Rattle.lin_bench.specs.Fields.{fields, words};
+ghost use Rattle.lin_bench.specs.Read.{Gives};
+ghost use Rattle.lin_bench.specs.RuleLines.{AddsRow, answer_form, answers_form, answers_of, copied};
+ghost use Rattle.lin_bench.specs.RuleLines.{every_fields, every_form, has_star, hex_byte, hex_part};
+ghost use Rattle.lin_bench.specs.RuleLines.{joined, last_field, parts_field, parts_fields, pattern_byte};
+ghost use Rattle.lin_bench.specs.RuleLines.{pattern_fields, pattern_of, repeated_step, responder_field};
+ghost use Rattle.lin_bench.specs.RuleLines.{row, rows_and_wait, sends_or_writes, timeouts_form};
+ghost use Rattle.lin_bench.specs.RuleLines.{wait_field, when_fields, when_form, when_of, without_star};
+ghost use Rattle.lin_bench.specs.declared.rules.Part.{Part};
+
+use crate::fault::LineFault;
+use crate::fields::{copied_fields, count_field, fields, node_field, number_field};
+use crate::reason::Reason;
+use crate::rules::{Answer, Every, Part, Pattern, Rule, When};
+use lin_cluster_parts::Cluster;
+use lin_core::{PortId, Step};
+use lin_lists::{Many, Text};
+use lin_log::{Reason as StepReason, first_field, is_port, number, port_step, step};
+use std::alloc::{AllocError, Global};
+
+/// The most that a wait may be, in milliseconds.
+const LONGEST_WAIT: u32 = 1_000_000;
+
+/// The last byte of a message that may be copied into an answer.
+const LAST_BYTE: u32 = 4_094;
+
+fn digit(sign: u8) -> Option<u8>
+    ensures value { result ≡ hex_digit_value sign }
+    ensures small { IfSome result (λ v. v < 16) }
+{
+    match sign {
+        b'0'..=b'9' => Some(sign - b'0'),
+        b'a'..=b'f' => Some(sign - b'a' + 10),
+        b'A'..=b'F' => Some(sign - b'A' + 10),
+        _ => None,
+    }
+}
+
+/// The byte of two hexadecimal digits.
+fn hex_byte(x: u8, y: u8) -> Option<u8>
+    ensures { result ≡ hex_byte x y }
+{
+    Some(16 * digit(x)? + digit(y)?)
+}
+
+/// What two signs of a pattern stand for: any byte, or this one.
+fn pattern_byte(x: u8, y: u8) -> Option<Option<u8>>
+    ensures { result ≡ pattern_byte x y }
+{
+    if x == b'.' && y == b'.' {
+        return Some(None);
+    }
+    Some(Some(hex_byte(x, y)?))
+}
+
+/// Adds what a row of a pattern stands for, and answers whether it is one.
+fn add_row(bytes: &mut Vec<Option<u8>>, signs: &[u8]) -> Result<bool, AllocError>
+    ensures { IfOk result
+        (λ is. AddsRow (row pattern_byte signs.now) bytes.old.items is bytes.new.items) }
+{
+    let mut left = signs;
+    while let [x, y, rest @ ..] = left {
+        match pattern_byte(*x, *y) {
+            Some(byte) => bytes.push(byte)?,
+            None => return Ok(false),
+        }
+        left = rest;
+    }
+    Ok(left.is_empty())
+}
+
+/// Adds what rows of a pattern stand for, and answers whether they are rows.
+fn add_rows(bytes: &mut Vec<Option<u8>>, rows: &[&[u8]]) -> Result<bool, AllocError>
+    ensures { IfOk result
+        (λ is. AddsRow (joined (row pattern_byte) (words rows.now)) bytes.old.items is
+        bytes.new.items) }
+{
+    for row in rows {
+        if !add_row(bytes, *row)? {
+            return Ok(false);
+        }
+    }
+    Ok(true)
+}
+
+/// Adds what rows and a last one stand for, and answers whether they are rows.
+fn add_fields(
+    bytes: &mut Vec<Option<u8>>,
+    before: &[&[u8]],
+    last: &[u8],
+) -> Result<bool, AllocError>
+    ensures { IfOk result
+        (λ is. AddsRow (joined (row pattern_byte) (words before.now ++ last.now ∷ []))
+        bytes.old.items is bytes.new.items) }
+{
+    if !add_rows(bytes, before)? {
+        return Ok(false);
+    }
+    add_row(bytes, last)
+}
+
+/// A field without `*` at its end, and whether it has one there.
+fn without_star(field: &[u8]) -> (&[u8], bool)
+    ensures before { result.0.now ≡ without_star field.now }
+    ensures more { result.1 ≡ has_star field.now }
+{
+    match field {
+        [before @ .., b'*'] => (before, true),
+        field => (field, false),
+    }
+}
+
+/// The pattern of one or more fields, of which the last one may end with `*`; none where they are no
+/// pattern.
+fn pattern_of(alloc: Global, fields: &[&[u8]]) -> Result<Option<Pattern>, AllocError>
+    ensures { IfOk result (λ p. p ≡ pattern_of (words fields.now)) }
+{
+    let [before @ .., last] = fields else {
+        return Ok(None);
+    };
+    let (row, more) = without_star(*last);
+    let mut bytes = Vec::new(alloc);
+    if !add_fields(&mut bytes, before, row)? {
+        return Ok(None);
+    }
+    Ok(Some(Pattern {
+        bytes: Many::new(bytes),
+        more,
+    }))
+}
+
+fn pattern(alloc: Global, all: &[&[u8]]) -> Result<Pattern, LineFault>
+    ensures { Gives (λ p. p) result (pattern_fields (words all.now)) }
+{
+    match pattern_of(alloc, all)? {
+        Some(pattern) => Ok(pattern),
+        None => Err(LineFault::Bad(Reason::NoPattern(copied_fields(alloc, all)?))),
+    }
+}
+
+/// Adds what a row of an answer stands for, and answers whether it is one.
+fn add_hex(parts: &mut Vec<Part>, signs: &[u8]) -> Result<bool, AllocError>
+    ensures { IfOk result
+        (λ is. AddsRow (row hex_part signs.now) parts.old.items is parts.new.items) }
+{
+    let mut left = signs;
+    while let [x, y, rest @ ..] = left {
+        match hex_byte(*x, *y) {
+            Some(byte) => parts.push(Part::Byte(byte))?,
+            None => return Ok(false),
+        }
+        left = rest;
+    }
+    Ok(left.is_empty())
+}
+
+/// The number of the byte that is copied, by the digits after `$`.
+fn copied(digits: &[u8]) -> Option<u16>
+    ensures { option_map (λ k. Part.Copied k ∷ []) result ≡ copied (36 ∷ digits.now) }
+{
+    if digits.len() > 4 {
+        return None;
+    }
+    match number(digits, LAST_BYTE) {
+        Some(number) => Some(number as u16),
+        None => None,
+    }
+}
+
+/// Adds what a field of an answer stands for, and answers whether it is a row or a byte that is
+/// copied.
+fn add_part(parts: &mut Vec<Part>, field: &[u8]) -> Result<bool, AllocError>
+    ensures { IfOk result
+        (λ is. AddsRow (parts_field field.now) parts.old.items is parts.new.items) }
+{
+    match field {
+        [b'$', digits @ ..] => match copied(digits) {
+            Some(k) => {
+                parts.push(Part::Copied(k))?;
+                Ok(true)
+            }
+            None => Ok(false),
+        },
+        row => add_hex(parts, row),
+    }
+}
+
+/// The bytes of an answer.
+#[tactic(auto, unfolding(crate::specs::RuleLines::parts_fields))]
+fn parts(alloc: Global, all: &[&[u8]]) -> Result<Many<Part>, LineFault>
+    ensures { Gives (λ p. p) result (parts_fields (words all.now)) }
+{
+    if all.is_empty() {
+        return Err(LineFault::Bad(Reason::Step(StepReason::NoBytes)));
+    }
+    let mut parts = Vec::new(alloc);
+    for field in all {
+        if !add_part(&mut parts, *field)? {
+            let fields = copied_fields(alloc, all)?;
+            return Err(LineFault::Bad(Reason::Step(StepReason::NotBytes(fields))));
+        }
+    }
+    Ok(Many::new(parts))
+}
+
+fn begins_wait(word: &[u8], unit: &[u8]) -> bool
+    ensures { result ≡ (bytes_eq unit.now (codes "ms") && bytes_eq word.now (codes "after")) }
+{
+    unit == b"ms".as_slice() && word == b"after".as_slice()
+}
+
+/// The rows of an answer, and the number of its wait where it ends with `after`, a number and `ms`.
+fn rows_and_wait<'a>(all: &'a [&'a [u8]]) -> (&'a [&'a [u8]], Option<&'a [u8]>)
+    ensures { (words result.0.now, option_map (λ n. n.now) result.1)
+        ≡ rows_and_wait (words all.now) }
+{
+    let [rows @ .., word, number, unit] = all else {
+        return (all, None);
+    };
+    if begins_wait(*word, *unit) {
+        (rows, Some(*number))
+    } else {
+        (all, None)
+    }
+}
+
+fn wait(alloc: Global, number: Option<&[u8]>) -> Result<u32, LineFault>
+    ensures { Gives (λ n. n) result (wait_field (option_map (λ n. n.now) number.entry)) }
+{
+    match number {
+        Some(number) => number_field(alloc, number, LONGEST_WAIT),
+        None => Ok(0),
+    }
+}
+
+/// An answer: its rows, and its wait.
+fn answer(alloc: Global, all: &[&[u8]]) -> Result<Answer, LineFault>
+    ensures { Gives (λ a. a) result (answer_form (words all.now)) }
+{
+    let (rows, number) = rows_and_wait(all);
+    let parts = parts(alloc, rows)?;
+    let wait_ms = wait(alloc, number)?;
+    Ok(Answer { parts, wait_ms })
+}
+
+/// The number of the first field that is a word.
+fn word_at(fields: &[&[u8]], word: &[u8]) -> Option<usize>
+    ensures first { result ≡ position (λ f. bytes_eq f.now word.now) fields.now }
+    ensures within { IfSome result (λ i. i < length fields.now) }
+{
+    fields.iter().position(|field| *field == word)
+}
+
+/// An answer, and each further one after `then`.
+fn answers(alloc: Global, all: &[&[u8]]) -> Result<Many<Answer>, LineFault>
+    ensures { Gives (λ a. a) result (answers_form (words all.now)) }
+{
+    let mut answers = Many::new(Vec::new(alloc));
+    let mut left = all;
+    while let Some(end) = word_at(left, b"then".as_slice()) {
+        let one = answer(alloc, &left[..end])?;
+        answers.push(one)?;
+        left = &left[end + 1..];
+    }
+    let last = answer(alloc, left)?;
+    answers.push(last)?;
+    Ok(answers)
+}
+
+/// A responder that has an address, by its name or its number.
+fn responder(alloc: Global, cluster: &Cluster, field: &[u8]) -> Result<u8, LineFault>
+    ensures { Gives (λ n. n) result (responder_field cluster.now field.now) }
+{
+    let node = node_field(alloc, cluster, field)?;
+    if (node as usize) < cluster.nodes() && cluster.nad(node).is_some() {
+        Ok(node)
+    } else {
+        Err(LineFault::Bad(Reason::NoResponder(Text::copied(alloc, field)?)))
+    }
+}
+
+/// That a node answers messages of a pattern, by the fields of these and the answers.
+fn when_with(
+    alloc: Global,
+    cluster: &Cluster,
+    node: &[u8],
+    fields: &[&[u8]],
+    answers_in: Option<&[&[u8]]>,
+) -> Result<Rule, LineFault>
+    ensures { Gives (λ r. r) result (when_of cluster.now node.now (words fields.now)
+        (answers_of (option_map (λ fs. words fs.now) answers_in.entry))) }
+{
+    let node = responder(alloc, cluster, node)?;
+    let pattern = pattern(alloc, fields)?;
+    let answers = match answers_in {
+        Some(fields) => answers(alloc, fields)?,
+        None => Many::new(Vec::new(alloc)),
+    };
+    Ok(Rule::When(When {
+        node,
+        pattern,
+        answers,
+    }))
+}
+
+fn is_silent(rest: &[&[u8]]) -> bool
+    ensures { result ≡ bytes_eq (last_field (words rest.now)) (codes "silent") }
+{
+    match rest {
+        [.., last] => *last == b"silent".as_slice(),
+        [] => false,
+    }
+}
+
+/// A node, a pattern of a field at least, and answers or `silent`.
+fn when_by(alloc: Global, cluster: &Cluster, all: &[&[u8]]) -> Result<Rule, LineFault>
+    ensures { Gives (λ r. r) result (when_fields cluster.now (words all.now)) }
+{
+    let [node, fields @ ..] = all else {
+        return Err(LineFault::Bad(Reason::WhenForm));
+    };
+    let [_, rest @ ..] = fields else {
+        return Err(LineFault::Bad(Reason::WhenForm));
+    };
+    if let Some(end) = word_at(rest, b"answer".as_slice()) {
+        let pattern = &fields[..end + 1];
+        return when_with(alloc, cluster, *node, pattern, Some(&rest[end + 1..]));
+    }
+    if is_silent(rest) {
+        return when_with(alloc, cluster, *node, &fields[..rest.len()], None);
+    }
+    Err(LineFault::Bad(Reason::WhenForm))
+}
+
+/// What a node answers, by the fields after `when`.
+#[tactic(auto, unfolding(crate::specs::RuleLines::when_form))]
+pub(crate) fn when(alloc: Global, cluster: &Cluster, line: &[u8]) -> Result<Rule, LineFault>
+    ensures { Gives (λ r. r) result (when_form cluster.now (fields line.now)) }
+{
+    let all = fields(alloc, cluster, line)?;
+    match all.as_slice() {
+        [word] if *word == b"off".as_slice() => Ok(Rule::WhenOff),
+        fields => when_by(alloc, cluster, fields),
+    }
+}
+
+/// When transfers are given up, by the fields after `timeouts`.
+#[tactic(auto, unfolding(crate::specs::RuleLines::timeouts_form))]
+pub(crate) fn timeouts(alloc: Global, cluster: &Cluster, line: &[u8]) -> Result<Rule, LineFault>
+    ensures { Gives (λ r. r) result (timeouts_form (fields line.now)) }
+{
+    let all = fields(alloc, cluster, line)?;
+    match all.as_slice() {
+        [word] if *word == b"off".as_slice() => Ok(Rule::TimeoutsOff),
+        [number, unit] if *unit == b"ms".as_slice() => {
+            Ok(Rule::Timeouts(count_field(alloc, *number)?))
+        }
+        _ => Err(LineFault::Bad(Reason::TimeoutsForm)),
+    }
+}
+
+/// A step that is a send or a write.
+fn send_or_write(by: PortId, step: Step) -> Result<(PortId, Step), LineFault>
+    ensures { Gives (λ s. s) result (sends_or_writes (by, step)) }
+{
+    match step {
+        Step::Send { .. } | Step::Write { .. } => Ok((by, step)),
+        _ => Err(LineFault::Bad(Reason::EveryStep)),
+    }
+}
+
+/// A send or a write, which the bus gives where no port stands before it.
+fn repeated_step(
+    alloc: Global,
+    cluster: &Cluster,
+    word: &[u8],
+    rest: &[u8],
+) -> Result<(PortId, Step), LineFault>
+    ensures { Gives (λ s. s) result (repeated_step cluster.now word.now (fields rest.now)) }
+{
+    if is_port(word) {
+        let (by, step) = port_step(alloc, cluster, word, rest)?;
+        return send_or_write(by, step);
+    }
+    if word == b"send".as_slice() || word == b"write".as_slice() {
+        return Ok((PortId::Bus, step(alloc, cluster, word, rest)?));
+    }
+    Err(LineFault::Bad(Reason::EveryStep))
+}
+
+/// A step that is repeated, by the fields after its period.
+fn every_of(
+    alloc: Global,
+    cluster: &Cluster,
+    number: &[u8],
+    unit: &[u8],
+    rest: &[u8],
+) -> Result<Rule, LineFault>
+    ensures { Gives (λ r. r) result
+        (every_fields cluster.now (number.now ∷ unit.now ∷ fields rest.now)) }
+{
+    let Some((word, rest)) = first_field(cluster, rest) else {
+        return Err(LineFault::Bad(Reason::EveryForm));
+    };
+    if unit != b"ms".as_slice() {
+        return Err(LineFault::Bad(Reason::EveryForm));
+    }
+    let period_ms = count_field(alloc, number)?;
+    let (by, step) = repeated_step(alloc, cluster, word, rest)?;
+    Ok(Rule::Every(Every {
+        period_ms,
+        by,
+        step,
+    }))
+}
+
+/// What is repeated, by the fields after `every`.
+#[tactic(auto, unfolding(crate::specs::RuleLines::every_form))]
+pub(crate) fn every(alloc: Global, cluster: &Cluster, line: &[u8]) -> Result<Rule, LineFault>
+    ensures { Gives (λ r. r) result (every_form cluster.now (fields line.now)) }
+{
+    let Some((number, rest)) = first_field(cluster, line) else {
+        return Err(LineFault::Bad(Reason::EveryForm));
+    };
+    match first_field(cluster, rest) {
+        Some((unit, rest)) => every_of(alloc, cluster, number, unit, rest),
+        None if number == b"off".as_slice() => Ok(Rule::EveryOff),
+        None => Err(LineFault::Bad(Reason::EveryForm)),
+    }
+}

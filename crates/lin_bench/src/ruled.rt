@@ -1,0 +1,389 @@
+//! Cores on which rules are in force.
+
+ghost use Rattle.std.specs.Prelude.{◌≡◌, ◌<◌, ◌==◌, ◌++◌, ◌∷◌, [], count_by, false, filter, if◌then◌else◌, is_some, length, map, true, IfOk, List, None, OnOk};
+ghost use Rattle.std.specs.List.{list_any};
+ghost use Rattle.lin_cluster_parts.specs.Cluster.{nad, nodes};
+ghost use Rattle.lin_core.specs.Core.{past_of};
+ghost use Rattle.lin_core.specs.History.{Slot, open_slot, time};
+ghost use Rattle.lin_core.specs.Replies.{link_at};
+ghost use Rattle.lin_core.specs.Runs.{entry_of};
+ghost use Rattle.lin_core.specs.declared.log.LogEntry.{LogEntry};
+ghost use Rattle.lin_core.specs.declared.port.PortId.{PortId};
+ghost use Rattle.lin_core.specs.declared.step.Step.TheVariants.{Finish};
+ghost use Rattle.lin_bench.specs.Added.{has_time, is_given_up, links_at, noted_by, send_of, step_of};
+ghost use Rattle.lin_bench.specs.Added.{timeout_of, timeouts, times_until};
+ghost use Rattle.lin_bench.specs.Adding.{Adds, HasFinished, MakesAdded, MakesOne};
+ghost use Rattle.lin_bench.specs.Making.{MakesSteps};
+ghost use Rattle.lin_bench.specs.Rules.{is_due_at, kept_at, no_rules, ruled, sent_at};
+ghost use Rattle.lin_bench.specs.Slots.{nodes_noted, pending};
+ghost use Rattle.lin_bench.specs.declared.got.Pending.TheVariants.{AnswersNoted};
+
+use crate::answers::{add_when, note_events};
+use crate::ends::Ends;
+use crate::fault::MakeFault;
+use crate::got::Pending;
+use crate::replies::{is_done, is_finish, went_to_all};
+use crate::rules::{Noted, Repeated, Rule, Rules};
+use crate::slots::hosts_waiting;
+use lin_core::{Core, Direction, Hold, PortId, Reply, Step};
+use lin_lists::Many;
+use std::alloc::{AllocError, Global};
+use std::marker::Model;
+use std::mem;
+
+/// A core, and the rules in force. Contracts see both.
+#[derive(Drop)]
+pub(crate) struct RuledCore {
+    core: Core,
+    rules: Rules,
+    ends: Ends,
+}
+
+impl Model for RuledCore {
+    ghost use Rattle.lin_bench.specs.Adding.{IsTimed, RuledData, ruled_data};
+
+    ghost Value = { RuledData };
+
+    ghost view = { ruled_data };
+
+    ghost invariant = { IsTimed };
+}
+
+/// Makes a step by a port, to which no rule adds.
+fn step_alone(core: &mut Core, by: PortId, step: Step) -> Result<(), MakeFault>
+    ensures { MakesOne core.old by step result core.new }
+{
+    match core.step(by, step) {
+        Ok(()) => Ok(()),
+        Err(Hold::LogFull(_)) => Err(MakeFault::LogFull),
+        Err(Hold::OutOfMemory(_)) => Err(MakeFault::OutOfMemory),
+    }
+}
+
+/// How many times of what is repeated there are up to a time.
+fn times_until(repeated: &Repeated, time: u64) -> u64
+    ensures { result ≡ times_until repeated.now time }
+{
+    let period = 1000 * u64::from(repeated.every.period_ms);
+    time.saturating_sub(repeated.began)
+        .checked_div(period)
+        .unwrap_or(0)
+}
+
+/// The sending of an answer.
+fn send_of(noted: Noted) -> (PortId, Step)
+    ensures { result ≡ send_of noted }
+{
+    let Noted { node, bytes, .. } = noted;
+    let step = Step::Send {
+        from: node,
+        to: 0,
+        message: bytes,
+    };
+    (PortId::Host(node), step)
+}
+
+/// Whether the time of some answer has come.
+fn some_due(noted: &[Noted], time: u64) -> bool
+    ensures { result ≡ list_any (is_due_at time) noted.now }
+{
+    noted.iter().any(|one| one.time <= u128::from(time))
+}
+
+/// Adds the sending of the noted answers whose time has come, which are noted no longer.
+fn take_noted(
+    alloc: Global,
+    noted: &mut Many<Noted>,
+    time: u64,
+    steps: &mut Vec<(PortId, Step)>,
+) -> Result<(), AllocError>
+    ensures steps { OnOk result
+        (steps.new.items ≡ steps.old.items ++ map send_of (sent_at time noted.old)) }
+    ensures noted { OnOk result (noted.new ≡ kept_at time noted.old) }
+{
+    if !some_due(noted.as_slice(), time) {
+        return Ok(());
+    }
+    let time = u128::from(time);
+    let all = mem::replace(noted, Many::new(Vec::new(alloc)));
+    for one in all.into_vec() {
+        if one.time <= time {
+            steps.push(send_of(one))?;
+        } else {
+            noted.push(one)?;
+        }
+    }
+    Ok(())
+}
+
+/// How many answers of a node are noted.
+fn count_noted(noted: &[Noted], node: u8) -> usize
+    ensures { result ≡ count_by (λ m. m.node == node) noted.now }
+{
+    noted.iter().filter(|one| one.node == node).count()
+}
+
+impl RuledCore {
+    /// A core on which no rule is in force, and whose log is empty.
+    pub(crate) fn new(alloc: Global, core: Core) -> RuledCore
+        requires { core.log ≡ [] }
+        ensures { result ≡ record { core = core; rules = no_rules } }
+    {
+        RuledCore {
+            core,
+            rules: Rules {
+                whens: Many::new(Vec::new(alloc)),
+                limit_ms: None,
+                everies: Many::new(Vec::new(alloc)),
+                noted: Many::new(Vec::new(alloc)),
+            },
+            ends: Ends::new(),
+        }
+    }
+
+    pub(crate) fn core(&self) -> &Core
+        ensures { result.now ≡ self.now.core }
+    {
+        &self.core
+    }
+
+    pub(crate) fn into_core(self) -> Core
+        ensures { result ≡ self.core }
+    {
+        let RuledCore { core, .. } = self;
+        core
+    }
+
+    /// The answers that are noted.
+    pub(crate) fn noted(&self) -> &[Noted]
+        ensures { result.now ≡ self.now.rules.noted }
+    {
+        self.rules.noted.as_slice()
+    }
+
+    /// Puts a rule in force, or out of it. An error means out of memory.
+    #[tactic(auto, unfolding(crate::specs::Rules::ruled))]
+    pub(crate) fn rule(&mut self, alloc: Global, rule: Rule) -> Result<(), AllocError>
+        ensures rules { OnOk result (self.new.rules
+            ≡ ruled (time self.old.core.cluster (past_of self.old.core)) self.old.rules rule) }
+        ensures core { self.new.core ≡ self.old.core }
+    {
+        let rules = &mut self.rules;
+        match rule {
+            Rule::When(when) => add_when(&mut rules.whens, when)?,
+            Rule::WhenOff => rules.whens = Many::new(Vec::new(alloc)),
+            Rule::Timeouts(ms) => rules.limit_ms = Some(ms),
+            Rule::TimeoutsOff => rules.limit_ms = None,
+            Rule::Every(every) => {
+                let began = self.core.time();
+                rules.everies.push(Repeated { began, every })?;
+            }
+            Rule::EveryOff => rules.everies = Many::new(Vec::new(alloc)),
+        }
+        Ok(())
+    }
+
+    /// Makes a step by a port, to which no rule adds.
+    fn alone(&mut self, by: PortId, step: Step) -> Result<(), MakeFault>
+        ensures added { MakesAdded self.old.core ((by, step) ∷ []) result self.new.core }
+        ensures rules { self.new.rules ≡ self.old.rules }
+    {
+        let slot = if is_finish(&step) {
+            self.core.open_slot()
+        } else {
+            None
+        };
+        step_alone(&mut self.core, by, step)?;
+        if let Some((header, node)) = slot {
+            self.ends.hear(&self.core, header, node);
+        }
+        Ok(())
+    }
+
+    /// Whether rules may add a step; where they can't, none is in force and no answer is noted.
+    fn may_add(&self) -> bool
+        ensures { result ≡ false → self.now.rules ≡ no_rules }
+    {
+        let rules = &self.rules;
+        rules.limit_ms.is_some()
+            || !rules.whens.as_slice().is_empty()
+            || !rules.everies.as_slice().is_empty()
+            || !rules.noted.as_slice().is_empty()
+    }
+
+    /// Makes a step by a port, and what the rules add after it.
+    pub(crate) fn make(&mut self, alloc: Global, by: PortId, step: Step) -> Result<(), MakeFault>
+        ensures { MakesSteps self.old ((by, step) ∷ []) result self.new }
+    {
+        let began = self.core.time();
+        let finishes = is_finish(&step);
+        self.alone(by, step)?;
+        if finishes && self.may_add() && is_done(self.core.newest()) {
+            return self.add(alloc, began);
+        }
+        Ok(())
+    }
+
+    /// Notes what is answered to the messages of the finish.
+    fn note(&mut self, alloc: Global) -> Result<(), AllocError>
+        requires { 0 < length self.old.core.log }
+        ensures core { self.new.core ≡ self.old.core }
+        ensures noted { OnOk result ((by : PortId) → (past : List LogEntry) → (s : Slot)
+            → HasFinished self.old.core by past s
+            → self.new.rules ≡ record self.old.rules {
+              noted = noted_by self.old.core.cluster
+                  (entry_of self.old.core.cluster self.old.core.opening self.old.core.capacity past
+                  (by, Finish)) past self.old.rules;
+            }) }
+    {
+        let time = self.core.time();
+        let entry = self.core.newest();
+        if went_to_all(entry) {
+            return Ok(());
+        }
+        match &entry.reply {
+            Reply::Refused(_) => Ok(()),
+            Reply::Done(events) => note_events(
+                alloc,
+                &mut self.rules.noted,
+                self.rules.whens.as_slice(),
+                time,
+                events.as_slice(),
+            ),
+        }
+    }
+
+    /// Whether a message is begun on a link whose last good frame is too long ago.
+    fn is_given_up(&self, ms: u32, node: u8, dir: Direction) -> bool
+        requires node { node < nodes self.now.core.cluster }
+        requires closed { open_slot (past_of self.now.core) ≡ None }
+        ensures { result ≡ is_given_up self.now.core.cluster (past_of self.now.core) ms
+            (link_at node dir) }
+    {
+        self.core.time().saturating_sub(self.ends.of(node, dir)) >= 1000 * u64::from(ms)
+            && self
+                .core
+                .refusal_of(PortId::Bus, &Step::Timeout { node, dir })
+                .is_none()
+    }
+
+    /// Adds the timeouts of a node's links whose messages are given up, where it has an address.
+    fn give_up_at(
+        &self,
+        ms: u32,
+        node: u8,
+        steps: &mut Vec<(PortId, Step)>,
+    ) -> Result<(), AllocError>
+        requires node { node < nodes self.now.core.cluster }
+        requires closed { open_slot (past_of self.now.core) ≡ None }
+        ensures { OnOk result (steps.new.items ≡ steps.old.items ++ map timeout_of (filter
+            (is_given_up self.now.core.cluster (past_of self.now.core) ms)
+            (if is_some (nad self.now.core.cluster node) then links_at node else []))) }
+    {
+        if self.core.cluster().nad(node).is_none() {
+            return Ok(());
+        }
+        if self.is_given_up(ms, node, Direction::Down) {
+            let dir = Direction::Down;
+            steps.push((PortId::Bus, Step::Timeout { node, dir }))?;
+        }
+        if self.is_given_up(ms, node, Direction::Up) {
+            let dir = Direction::Up;
+            steps.push((PortId::Bus, Step::Timeout { node, dir }))?;
+        }
+        Ok(())
+    }
+
+    /// Adds the timeouts of messages that take too long.
+    fn give_up(&self, steps: &mut Vec<(PortId, Step)>) -> Result<(), AllocError>
+        requires { open_slot (past_of self.now.core) ≡ None }
+        ensures { OnOk result (steps.new.items ≡ steps.old.items
+            ++ timeouts self.now.core.cluster (past_of self.now.core) self.now.rules.limit_ms) }
+    {
+        let Some(ms) = self.rules.limit_ms else {
+            return Ok(());
+        };
+        for node in 0..self.core.cluster().nodes() as u8 {
+            self.give_up_at(ms, node, steps)?;
+        }
+        Ok(())
+    }
+
+    /// Adds what is repeated and whose time has come since a time.
+    fn repeat(
+        &self,
+        alloc: Global,
+        began: u64,
+        time: u64,
+        steps: &mut Vec<(PortId, Step)>,
+    ) -> Result<(), AllocError>
+        ensures { OnOk result (steps.new.items ≡ steps.old.items
+            ++ map step_of (filter (has_time began time) self.now.rules.everies)) }
+    {
+        for repeated in self.rules.everies.as_slice() {
+            if times_until(repeated, began) < times_until(repeated, time) {
+                let every = &repeated.every;
+                steps.push((every.by, every.step.copy(alloc)?))?;
+            }
+        }
+        Ok(())
+    }
+
+    /// Makes steps to which no rule adds.
+    fn make_all(&mut self, steps: Vec<(PortId, Step)>) -> Result<(), MakeFault>
+        ensures added { MakesAdded self.old.core steps.items result self.new.core }
+        ensures rules { self.new.rules ≡ self.old.rules }
+    {
+        for (by, step) in steps {
+            self.alone(by, step)?;
+        }
+        Ok(())
+    }
+
+    /// Makes the steps that the rules add after the finish of a slot that began at a time.
+    fn add(&mut self, alloc: Global, began: u64) -> Result<(), MakeFault>
+        requires logged { 0 < length self.old.core.log }
+        requires closed { open_slot (past_of self.old.core) ≡ None }
+        ensures { (by : PortId) → (past : List LogEntry) → (s : Slot)
+            → HasFinished self.old.core by past s
+            → began ≡ time self.old.core.cluster past
+            → Adds self.old (entry_of self.old.core.cluster self.old.core.opening
+            self.old.core.capacity past (by, Finish)) past result self.new }
+    {
+        self.note(alloc)?;
+        let time = self.core.time();
+        let mut steps = Vec::new(alloc);
+        self.give_up(&mut steps)?;
+        take_noted(alloc, &mut self.rules.noted, time, &mut steps)?;
+        self.repeat(alloc, began, time, &mut steps)?;
+        self.make_all(steps)
+    }
+}
+
+/// The nodes of which answers are noted, and how many.
+fn add_noted(all: &mut Vec<Pending>, ruled: &RuledCore) -> Result<(), AllocError>
+    ensures { OnOk result (all.new.items ≡ all.old.items ++ map (λ n. AnswersNoted n.0 n.1)
+        (nodes_noted ruled.now.core.cluster ruled.now.rules.noted)) }
+{
+    for node in 0..ruled.core().cluster().nodes() as u8 {
+        let count = count_noted(ruled.noted(), node);
+        if count > 0 {
+            all.push(Pending::AnswersNoted(node, count))?;
+        }
+    }
+    Ok(())
+}
+
+/// The hosts of which messages wait, and then the nodes of which answers are noted, and how many. An
+/// error means out of memory.
+pub(crate) fn pending(alloc: Global, ruled: &RuledCore) -> Result<Vec<Pending>, AllocError>
+    ensures { IfOk result (λ v. v.items
+        ≡ pending ruled.now.core.cluster (past_of ruled.now.core) ruled.now.rules.noted) }
+{
+    let mut all = Vec::new(alloc);
+    for (host, count) in hosts_waiting(alloc, ruled.core())? {
+        all.push(Pending::MessagesWait(host, count))?;
+    }
+    add_noted(&mut all, ruled)?;
+    Ok(all)
+}

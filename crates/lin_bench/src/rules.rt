@@ -1,0 +1,84 @@
+//! Rules, which lines say and which are in force for the lines after them.
+
+use lin_core::{Payload, PortId, Step};
+use lin_lists::Many;
+
+/// Which messages a rule is for: those of these bytes, none of which stands for any byte.
+#[derive(Drop)]
+pub struct Pattern {
+    pub bytes: Many<Option<u8>>,
+    /// Whether more bytes may follow.
+    pub more: bool,
+}
+
+/// A byte of an answer.
+#[derive(Clone, Copy, Debug)]
+pub enum Part {
+    Byte(u8),
+    /// The byte with this number, from 0, of the message that is answered.
+    Copied(u16),
+}
+
+/// An answer of a responder, so many milliseconds (at most 1,000,000) after the one before it, or
+/// after the slot by which the message arrived.
+#[derive(Drop)]
+pub struct Answer {
+    pub parts: Many<Part>,
+    pub wait_ms: u32,
+}
+
+/// What a responder answers to messages from host 0.
+#[derive(Drop)]
+pub struct When {
+    pub node: u8,
+    pub pattern: Pattern,
+    pub answers: Many<Answer>,
+}
+
+/// A send or a write that is made again and again.
+#[derive(Drop)]
+pub struct Every {
+    /// Milliseconds, 1 to 1,000,000.
+    pub period_ms: u32,
+    pub by: PortId,
+    pub step: Step,
+}
+
+/// What a line of a rule says.
+#[derive(Drop)]
+pub enum Rule {
+    When(When),
+    /// No rule says any more what responders answer.
+    WhenOff,
+    /// Transfers are given up whose last good frame is so many milliseconds ago, 1 to 1,000,000.
+    Timeouts(u32),
+    TimeoutsOff,
+    Every(Every),
+    EveryOff,
+}
+
+/// A step that is made again and again since a time in microseconds.
+#[derive(Drop)]
+pub struct Repeated {
+    pub began: u64,
+    pub every: Every,
+}
+
+/// An answer that is to be sent at a time in microseconds, which is more than a cluster's time can be
+/// where waits are long.
+#[derive(Drop)]
+pub struct Noted {
+    pub time: u128,
+    pub node: u8,
+    pub bytes: Payload,
+}
+
+/// The rules in force, each kind in the order of their lines, and the answers that are noted, in the
+/// order in which they are sent.
+#[derive(Drop)]
+pub struct Rules {
+    pub whens: Many<When>,
+    pub limit_ms: Option<u32>,
+    pub everies: Many<Repeated>,
+    pub noted: Many<Noted>,
+}
