@@ -3,6 +3,8 @@ pub mod Makes
 pub mod SlotSteps
 pub mod Events
 pub mod Searches
+pub mod Walks
+pub mod LossSearches
 pub mod Hosts
 pub mod Runs
 pub mod Steps

@@ -29,7 +29,7 @@ one-kind kind None ks = zero-add (count_by (same_kind kind) ks)
 one-kind kind (Some k) ks = sym (sum_by-cons (λ x. cond (same_kind kind x) 1 0) k ks)
 
 -- the events of a kind are as many as the kinds of all events have it
-count-kinds : (kind : EventKind) (es : List Event) → count_by (is_of kind) es ≡ count_by (same_kind kind) (filter_map kind_of es)
+pub count-kinds : (kind : EventKind) (es : List Event) → count_by (is_of kind) es ≡ count_by (same_kind kind) (filter_map kind_of es)
 count-kinds kind [] = refl
 count-kinds kind (e ∷ es) =
     sum_by-cons (λ x. cond (is_of kind x) 1 0) e es ∙ ap (λ n. cond (is_of kind e) 1 0 + n) (count-kinds kind es) ∙ one-kind kind (kind_of e) (filter_map kind_of es)

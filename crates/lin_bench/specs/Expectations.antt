@@ -9,7 +9,8 @@ use Rattle.lin_core.specs.Tables.{refusal_number, refusal_word, refusals}
 use Rattle.lin_core.specs.declared.reply.Refusal.{Refusal}
 use Rattle.lin_log.specs.Said.{is_number}
 use Rattle.lin_bench.specs.Fields.{◌>>=◌, bytes_fields, node_field, number_field, or_bad}
-use Rattle.lin_bench.specs.Fields.{range_ends, range_field, signal_field, table_field, value_field}
+use Rattle.lin_bench.specs.Fields.{count_field, range_ends, range_field, rows_and_time, signal_field}
+use Rattle.lin_bench.specs.Fields.{table_field, value_field}
 use Rattle.lin_bench.specs.declared.reason.Reason.{Reason}
 use Rattle.lin_bench.specs.declared.reason.Reason.TheVariants.{NoRefusal, TooSmall, ExpectForm}
 use Rattle.lin_bench.specs.declared.reason.Reason.TheVariants.{UnknownExpectation, UntilForm, UnknownUntil}
@@ -45,12 +46,20 @@ waiting_form c all (n ∷ k ∷ []) = do
   Ok (expected.Waiting host count)
 waiting_form c all fs = Err (UnknownExpectation all)
 
+-- bytes, and in how many milliseconds they are to arrive, where that is said
+abbrev pub bytes_form : Parts → ℕ → ℕ → List (List ℕ) × Option (List ℕ) → Result Expected Reason
+bytes_form c from to (rows, None) =
+    bytes_fields c rows >>= (λ bytes. Ok (expected.Message from to bytes))
+bytes_form c from to (rows, Some n) = do
+  bytes ← bytes_fields c rows
+  most ← count_field n
+  Ok (expected.MessageWithin from to bytes most)
+
 abbrev pub message_form : Parts → List (List ℕ) → List (List ℕ) → Result Expected Reason
 message_form c all (from ∷ to ∷ f ∷ fs) = do
   sender ← node_field c from
   receiver ← node_field c to
-  bytes ← bytes_fields c (f ∷ fs)
-  Ok (expected.Message sender receiver bytes)
+  bytes_form c sender receiver (rows_and_time (codes "within") (f ∷ fs))
 message_form c all fs = Err (UnknownExpectation all)
 
 abbrev pub sent_form : Parts → List (List ℕ) → List (List ℕ) → Result Expected Reason
@@ -95,11 +104,17 @@ no_message_form c all (from ∷ to ∷ []) = do
   Ok (expected.NoMessage sender receiver)
 no_message_form c all fs = Err (UnknownExpectation all)
 
+abbrev pub no_lost_form : Parts → List (List ℕ) → List (List ℕ) → Result Expected Reason
+no_lost_form c all [] = Ok (expected.NoLost None)
+no_lost_form c all (n ∷ []) = node_field c n >>= (λ host. Ok (expected.NoLost (Some host)))
+no_lost_form c all fs = Err (UnknownExpectation all)
+
 -- what isn't to be
 abbrev pub no_form : Parts → List (List ℕ) → List (List ℕ) → Result Expected Reason
 no_form c all [] = Err (UnknownExpectation all)
 no_form c all (word ∷ fs) =
     if bytes_eq word (codes "message") then no_message_form c all fs
+    else if bytes_eq word (codes "lost") then no_lost_form c all fs
     else Err (UnknownExpectation all)
 
 -- the expectation that a word names, with the fields after it

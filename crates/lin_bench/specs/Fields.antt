@@ -2,7 +2,9 @@
 -- said of one that is bad.
 use Rattle.std.specs.Prelude.{ℕ, ◌==◌, ◌&&◌, nat_lt, if◌then◌else◌, true, List, [], ◌∷◌, map}
 use Rattle.std.specs.Prelude.{drop, slice_index, Option, Some, None, option_map, Result, Ok, Err}
+use Rattle.std.specs.Prelude.{codes, reverse}
 use Rattle.std.specs.Borrow.{Bor}
+use Rattle.std.specs.Str.{bytes_eq}
 use Rattle.lin_frame.specs.declared.value.Value.{Value}
 use Rattle.lin_frame.specs.declared.value.Value.TheVariants.{Scalar}
 use Rattle.lin_cluster_parts.specs.declared.parts.Parts.{Parts}
@@ -53,6 +55,15 @@ table_field c f = of_step (log.table_field (named c) f)
 
 abbrev pub bytes_fields : Parts → List (List ℕ) → Result (List ℕ) Reason
 bytes_fields c fs = of_step (log.bytes_fields (named c) fs)
+
+-- rows, and the number after them where they end with this word, a number and `ms`
+abbrev pub time_from : List ℕ → List (List ℕ) → List (List ℕ) → List (List ℕ) × Option (List ℕ)
+time_from word fs (unit ∷ n ∷ w ∷ rows) =
+    if bytes_eq unit (codes "ms") && bytes_eq w word then (reverse rows, Some n) else (fs, None)
+time_from word fs backwards = (fs, None)
+
+abbrev pub rows_and_time : List ℕ → List (List ℕ) → List (List ℕ) × Option (List ℕ)
+rows_and_time word fs = time_from word fs (reverse fs)
 
 -- what stands after `..` at the beginning of a text
 abbrev pub after_dots : List ℕ → Option (List ℕ)

@@ -8,6 +8,8 @@ pub mod Added
 pub mod Slots
 pub mod Verdicts
 pub mod Searches
+pub mod Arrivals
+pub mod Losses
 pub mod Made
 pub mod Making
 pub mod Adding

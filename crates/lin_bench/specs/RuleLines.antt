@@ -16,6 +16,7 @@ use Rattle.lin_log.specs.Language.{named}
 use Rattle.lin_log.specs.Said.{is_port, number, port_step, step_form}
 use Rattle.lin_log.specs.declared.reason.Reason.TheVariants.{NoBytes, NotBytes}
 use Rattle.lin_bench.specs.Fields.{◌>>=◌, count_field, node_field, number_field, of_step, or_bad}
+use Rattle.lin_bench.specs.Fields.{rows_and_time}
 use Rattle.lin_bench.specs.declared.reason.Reason.{Reason}
 use Rattle.lin_bench.specs.declared.reason.Reason.TheVariants.{Step as BadStep, WhenForm, NoResponder}
 use Rattle.lin_bench.specs.declared.reason.Reason.TheVariants.{NoPattern, TimeoutsForm, EveryForm}
@@ -108,14 +109,8 @@ parts_fields [] = Err (BadStep NoBytes)
 parts_fields (f ∷ fs) = or_bad (joined parts_field (f ∷ fs)) (BadStep (NotBytes (f ∷ fs)))
 
 -- the rows of an answer, and its wait where it ends with `after`, a number and `ms`
-abbrev pub wait_from : List (List ℕ) → List (List ℕ) → List (List ℕ) × Option (List ℕ)
-wait_from fs (unit ∷ n ∷ word ∷ rows) =
-    if bytes_eq unit (codes "ms") && bytes_eq word (codes "after") then (reverse rows, Some n)
-    else (fs, None)
-wait_from fs backwards = (fs, None)
-
 abbrev pub rows_and_wait : List (List ℕ) → List (List ℕ) × Option (List ℕ)
-rows_and_wait fs = wait_from fs (reverse fs)
+rows_and_wait fs = rows_and_time (codes "after") fs
 
 abbrev pub wait_field : Option (List ℕ) → Result ℕ Reason
 wait_field None = Ok 0

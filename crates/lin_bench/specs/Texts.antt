@@ -1,6 +1,6 @@
 -- What is said of bad lines and of expectations that aren't met.
 use Rattle.std.specs.Prelude.{ℕ, ◌==◌, if◌then◌else◌, List, [], ◌∷◌, ◌++◌, flat_map}
-use Rattle.std.specs.Prelude.{codes}
+use Rattle.std.specs.Prelude.{codes, Some, None}
 use Rattle.std.specs.Fmt.{decimal}
 use Rattle.lin_cluster_parts.specs.declared.parts.Parts.{Parts}
 use Rattle.lin_core.specs.Tables.{cause_word, look_word, refusal_word}
@@ -95,8 +95,15 @@ expected_text c (expected.Waiting host count) =
 expected_text c (expected.Message from to bytes) =
     codes "message "
     ++ (node_word c from ++ (spaced_word (node_word c to) ++ spaced_word (hex_word bytes)))
+expected_text c (expected.MessageWithin from to bytes most) =
+    codes "message "
+    ++ (node_word c from
+    ++ (spaced_word (node_word c to)
+    ++ (spaced_word (hex_word bytes) ++ (codes " within " ++ (decimal most ++ codes " ms")))))
 expected_text c (expected.NoMessage from to) =
     codes "no message " ++ (node_word c from ++ spaced_word (node_word c to))
+expected_text c (expected.NoLost None) = codes "no lost"
+expected_text c (expected.NoLost (Some host)) = codes "no lost " ++ node_word c host
 expected_text c (expected.Sent host) = codes "sent " ++ node_word c host
 expected_text c (expected.Lost host cause) =
     codes "lost " ++ (node_word c host ++ spaced_word (cause_word cause))
@@ -128,9 +135,14 @@ abbrev pub got_text : Parts → Got → List ℕ
 got_text c (got.Value value) = value_word value
 got_text c (got.Waiting count) = decimal count
 got_text c (got.Message bytes) = hex_word bytes
+got_text c (got.Took time) = decimal time ++ codes " us"
 got_text c (got.Sent number) = codes "message " ++ (decimal number ++ codes " sent")
 got_text c (got.Lost number cause) =
     codes "message " ++ (decimal number ++ (codes " lost " ++ cause_word cause))
+got_text c (got.LostOf host number cause) =
+    codes "message "
+    ++ (decimal number
+    ++ (codes " of " ++ (node_word c host ++ (codes " lost " ++ cause_word cause))))
 got_text c got.NoEvent = codes "none"
 got_text c (got.Seen how) = look_word how
 got_text c (got.Slot table entry) = table_word c table ++ spaced_word (decimal entry)

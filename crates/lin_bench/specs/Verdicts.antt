@@ -2,15 +2,15 @@
 -- newest first.
 use Rattle.std.specs.Prelude.{ℕ, ◌==◌, ◌&&◌, Bool, true, false, nat_le, nat_lt, if◌then◌else◌, List, []}
 use Rattle.std.specs.Prelude.{◌∷◌, ◌++◌, filter, length, slice_get, Option, Some, None, count_by}
-use Rattle.std.specs.Prelude.{find, reverse}
-use Rattle.std.specs.List.{filter_map}
+use Rattle.std.specs.Prelude.{find, map, reverse, slice_index, ◌*◌, ◌-◌}
+use Rattle.std.specs.List.{filter_map, list_any}
 use Rattle.std.specs.Option.{option_map_or}
 use Rattle.std.specs.Str.{bytes_eq}
 use Rattle.lin_frame.specs.declared.value.Value.{Value}
 use Rattle.lin_frame.specs.declared.value.Value.TheVariants.{Scalar, Bytes}
 use Rattle.lin_cluster_parts.specs.Cluster.{nodes}
 use Rattle.lin_cluster_parts.specs.declared.parts.Parts.{Parts}
-use Rattle.lin_core.specs.History.{asleep, events}
+use Rattle.lin_core.specs.History.{asleep, events, time}
 use Rattle.lin_core.specs.Links.{waiting}
 use Rattle.lin_core.specs.Signals.{value_at}
 use Rattle.lin_core.specs.Tables.{cause_number, look_number, look_of, refusal_number}
@@ -80,9 +80,31 @@ with_taken (Some e) kind taken = taken ++ kind ∷ []
 -- the kind of event that an expectation takes, if it takes one
 abbrev pub kind_taken : Expected → Option EventKind
 kind_taken (expected.Message from to bytes) = Some (Messages from to)
+kind_taken (expected.MessageWithin from to bytes most) = Some (Messages from to)
 kind_taken (expected.Sent host) = Some (Fates host)
 kind_taken (expected.Lost host cause) = Some (Fates host)
 kind_taken what = None
+
+-- the time of the last step with an event of a kind, and 0 where there was none
+abbrev pub last_time : Parts → EventKind → List LogEntry → ℕ
+last_time c kind [] = 0
+last_time c kind (e ∷ past) =
+    if list_any (is_of kind) (events e) then time c (e ∷ past) else last_time c kind past
+
+-- how long each answer, an event of one kind, came after the last request, one of another kind, in a
+-- step before its own, in microseconds, the oldest first
+abbrev pub times_taken : Parts → EventKind → EventKind → List LogEntry → List ℕ
+times_taken c request answer [] = []
+times_taken c request answer (e ∷ past) =
+    times_taken c request answer past
+    ++ map (λ event. time c (e ∷ past) - last_time c request past)
+    (filter (is_of answer) (events e))
+
+-- how long the next message took from the last one the other way
+abbrev pub time_taken : Parts → List LogEntry → List EventKind → ℕ → ℕ → ℕ
+time_taken c past taken from to =
+    slice_index (times_taken c (Messages to from) (Messages from to) past)
+    (count_by (same_kind (Messages from to)) taken)
 
 -- all events so far are taken
 abbrev pub all_taken : List LogEntry → List EventKind
@@ -92,6 +114,34 @@ all_taken past = filter_map kind_of (all_events past)
 abbrev pub taking : List LogEntry → List EventKind → Option EventKind → List EventKind
 taking past taken None = taken
 taking past taken (Some kind) = with_taken (next_event past taken kind) kind taken
+
+-- ---- losses that aren't taken
+abbrev pub host_lost : Event → Option ℕ
+host_lost (event.Lost host number cause) = Some host
+host_lost event = None
+
+-- whether it is this host, where there is one
+abbrev pub is_host : Option ℕ → ℕ → Bool
+is_host which host = option_map_or (λ h. h == host) which true
+
+-- whether an event, of which these stand before it, is a loss (of a message of this host), and isn't
+-- taken: as many fates of its host as were taken stand before it
+abbrev pub is_loss_left : Option ℕ → List EventKind → List Event → Event → Bool
+is_loss_left which taken before e =
+    option_map_or
+    (λ host. is_host which host
+    && nat_le (count_by (same_kind (Fates host)) taken) (count_by (is_of (Fates host)) before))
+    (host_lost e) false
+
+-- the first such, of the events after these
+abbrev pub loss_after : Option ℕ → List EventKind → List Event → List Event → Option Event
+loss_after which taken before [] = None
+loss_after which taken before (e ∷ es) =
+    if is_loss_left which taken before e then Some e
+    else loss_after which taken (before ++ e ∷ []) es
+
+abbrev pub first_loss : List LogEntry → List EventKind → Option ℕ → Option Event
+first_loss past taken which = loss_after which taken [] (all_events past)
 
 -- ---- verdicts: none where the expectation is met, otherwise what is so
 abbrev pub unless : Bool → Got → Option Got
@@ -123,9 +173,18 @@ abbrev pub message_verdict : List ℕ → Option Event → Option Got
 message_verdict bytes (Some (event.Message from to b)) = unless (bytes_eq b bytes) (got.Message b)
 message_verdict bytes other = Some got.NoEvent
 
+-- a message that is right may be late
+abbrev pub within_verdict : ℕ → ℕ → Option Got → Option Got
+within_verdict most took None = unless (nat_le took (1000 * most)) (got.Took took)
+within_verdict most took (Some what) = Some what
+
 abbrev pub no_message_verdict : Option Event → Option Got
 no_message_verdict (Some (event.Message from to b)) = Some (got.Message b)
 no_message_verdict other = None
+
+abbrev pub no_lost_verdict : Option Event → Option Got
+no_lost_verdict (Some (event.Lost host number cause)) = Some (got.LostOf host number cause)
+no_lost_verdict other = None
 
 abbrev pub sent_verdict : Option Event → Option Got
 sent_verdict (Some (event.Sent host number)) = None
@@ -177,8 +236,13 @@ verdict c past noted taken (expected.SignalWithin node signal low high) =
 verdict c past noted taken (expected.Waiting host count) = waiting_verdict c past host count
 verdict c past noted taken (expected.Message from to bytes) =
     message_verdict bytes (next_event past taken (Messages from to))
+verdict c past noted taken (expected.MessageWithin from to bytes most) =
+    within_verdict most (time_taken c past taken from to)
+    (message_verdict bytes (next_event past taken (Messages from to)))
 verdict c past noted taken (expected.NoMessage from to) =
     no_message_verdict (next_event past taken (Messages from to))
+verdict c past noted taken (expected.NoLost host) =
+    no_lost_verdict (first_loss past taken host)
 verdict c past noted taken (expected.Sent host) = sent_verdict (next_event past taken (Fates host))
 verdict c past noted taken (expected.Lost host cause) =
     lost_verdict cause (next_event past taken (Fates host))

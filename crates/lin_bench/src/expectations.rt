@@ -1,12 +1,12 @@
 //! The forms of expectations.
 
-ghost use Rattle.std.specs.Prelude.{◌≡◌, IfOk};
-ghost use Rattle.lin_bench.specs.Expectations.{expectation, lone_form, loss_of, lost_form};
-ghost use Rattle.lin_bench.specs.Expectations.{message_form, no_form, no_message_form, signal_value};
+ghost use Rattle.std.specs.Prelude.{◌≡◌, IfOk, codes};
+ghost use Rattle.lin_bench.specs.Expectations.{bytes_form, expectation, lone_form, loss_of, lost_form};
+ghost use Rattle.lin_bench.specs.Expectations.{message_form, no_form, no_lost_form, no_message_form, signal_value};
 ghost use Rattle.lin_bench.specs.Expectations.{refusal_field, refused_form, seen_form, sent_form};
 ghost use Rattle.lin_bench.specs.Expectations.{signal_form, slot_form, until_form, waiting_form};
 ghost use Rattle.lin_bench.specs.Expectations.{word_expectation};
-ghost use Rattle.lin_bench.specs.Fields.{fields, range_ends, words};
+ghost use Rattle.lin_bench.specs.Fields.{fields, range_ends, rows_and_time, words};
 ghost use Rattle.lin_bench.specs.Read.{Gives};
 ghost use Rattle.lin_bench.specs.declared.fault.LineFault.{LineFault};
 ghost use Rattle.lin_bench.specs.declared.reason.Reason.{Reason};
@@ -14,8 +14,8 @@ ghost use Rattle.lin_bench.specs.declared.reason.Reason.{Reason};
 use crate::expected::Expected;
 use crate::fault::LineFault;
 use crate::fields::{
-    bytes_fields, fields, node_field, number_field, range_ends, range_field, signal_field,
-    table_field, value_field,
+    count_field, fields, node_field, number_field, range_ends, range_field, rows_and_time,
+    rows_bytes, signal_field, table_field, value_field,
 };
 use crate::reason::Reason;
 use lin_cluster_parts::Cluster;
@@ -113,6 +113,30 @@ fn waiting(
     }
 }
 
+/// A message's bytes, and in how many milliseconds it is to arrive, where that is said.
+fn message_bytes(
+    alloc: Global,
+    cluster: &Cluster,
+    from: u8,
+    to: u8,
+    all: &[&[u8]],
+) -> Result<Expected, LineFault>
+    ensures { Gives (λ e. e) result
+        (bytes_form cluster.now from to (rows_and_time (codes "within") (words all.now))) }
+{
+    let (rows, most) = rows_and_time(b"within".as_slice(), all);
+    let bytes = rows_bytes(alloc, cluster, rows)?;
+    match most {
+        None => Ok(Expected::Message { from, to, bytes }),
+        Some(most) => Ok(Expected::MessageWithin {
+            from,
+            to,
+            bytes,
+            most_ms: count_field(alloc, most)?,
+        }),
+    }
+}
+
 fn message(alloc: Global, cluster: &Cluster, all: &[u8], line: &[u8]) -> Result<Expected, LineFault>
     ensures { Gives (λ e. e) result (message_form cluster.now (fields all.now) (fields line.now)) }
 {
@@ -127,11 +151,8 @@ fn message(alloc: Global, cluster: &Cluster, all: &[u8], line: &[u8]) -> Result<
     }
     let from = node_field(alloc, cluster, from)?;
     let to = node_field(alloc, cluster, to)?;
-    Ok(Expected::Message {
-        from,
-        to,
-        bytes: bytes_fields(alloc, cluster, bytes)?,
-    })
+    let rows = fields(alloc, cluster, bytes)?;
+    message_bytes(alloc, cluster, from, to, rows.as_slice())
 }
 
 fn sent(
@@ -248,6 +269,23 @@ fn no_message(
     }
 }
 
+fn no_lost(
+    alloc: Global,
+    cluster: &Cluster,
+    all: &[u8],
+    parts: &[&[u8]],
+) -> Result<Expected, LineFault>
+    ensures { Gives (λ e. e) result (no_lost_form cluster.now (fields all.now) (words parts.now)) }
+{
+    match parts {
+        [] => Ok(Expected::NoLost { host: None }),
+        [host] => Ok(Expected::NoLost {
+            host: Some(node_field(alloc, cluster, host)?),
+        }),
+        _ => Err(no_form(alloc, cluster, all)?),
+    }
+}
+
 /// What isn't to be, by the fields after `no`.
 fn nothing(alloc: Global, cluster: &Cluster, all: &[u8], line: &[u8]) -> Result<Expected, LineFault>
     ensures { Gives (λ e. e) result (no_form cluster.now (fields all.now) (fields line.now)) }
@@ -258,6 +296,8 @@ fn nothing(alloc: Global, cluster: &Cluster, all: &[u8], line: &[u8]) -> Result<
     let parts = fields(alloc, cluster, rest)?;
     if word == b"message".as_slice() {
         no_message(alloc, cluster, all, parts.as_slice())
+    } else if word == b"lost".as_slice() {
+        no_lost(alloc, cluster, all, parts.as_slice())
     } else {
         Err(no_form(alloc, cluster, all)?)
     }

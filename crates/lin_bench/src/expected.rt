@@ -30,10 +30,22 @@ pub enum Expected {
         to: u8,
         bytes: Payload,
     },
+    /// The next message from one host to another has these bytes, and arrived at most so many
+    /// milliseconds, 1 to 1,000,000, after the last one the other way before it.
+    MessageWithin {
+        from: u8,
+        to: u8,
+        bytes: Payload,
+        most_ms: u32,
+    },
     /// No message from one host to another has arrived that isn't taken.
     NoMessage {
         from: u8,
         to: u8,
+    },
+    /// No message of a host, or of any, was lost that isn't taken.
+    NoLost {
+        host: Option<u8>,
     },
     /// The next message of a host that waits no longer was sent.
     Sent {

@@ -1,18 +1,23 @@
 //! The fields of a line, as the language of a cluster's names has them.
 
-ghost use Rattle.std.specs.Prelude.{◌≡◌, IfOk, option_map};
+ghost use Rattle.std.specs.Prelude.{◌≡◌, ◌∷◌, ◌&&◌, codes, true, IfOk, option_map};
+ghost use Rattle.std.specs.Result.{result_ok};
+ghost use Rattle.std.specs.Str.{bytes_eq};
+ghost use Rattle.hex.specs.Hex.{decode_of};
+ghost use Rattle.lin_log.specs.Said.{bytes_of, hex_bytes, row};
 ghost use Rattle.lin_bench.specs.Fields.{bytes_fields, count_field, fields, node_field, number_field};
-ghost use Rattle.lin_bench.specs.Fields.{after_dots, range_ends, range_field};
+ghost use Rattle.lin_bench.specs.Fields.{after_dots, range_ends, range_field, rows_and_time};
 ghost use Rattle.lin_bench.specs.Fields.{signal_field, table_field, value_field, words};
 ghost use Rattle.lin_bench.specs.Read.{Gives};
 
 use crate::fault::LineFault;
 use crate::reason::Reason;
+use hex::FromHexError;
 use lin_cluster_parts::Cluster;
 use lin_core::Payload;
 use lin_frame::Value;
 use lin_lists::{Many, Text};
-use lin_log::first_field;
+use lin_log::{Reason as StepReason, first_field};
 use std::alloc::{AllocError, Global};
 
 /// The fields of a line.
@@ -90,6 +95,107 @@ pub(crate) fn bytes_fields(
     ensures { Gives (λ p. p) result (bytes_fields cluster.now (fields line.now)) }
 {
     Ok(lin_log::bytes_fields(alloc, cluster, line)?)
+}
+
+fn begins_time(before: &[u8], word: &[u8], unit: &[u8]) -> bool
+    ensures { result ≡ (bytes_eq unit.now (codes "ms") && bytes_eq word.now before.now) }
+{
+    unit == b"ms".as_slice() && word == before
+}
+
+/// Rows, and the field of the number after them where they end with this word, a number and `ms`.
+pub(crate) fn rows_and_time<'a>(
+    before: &[u8],
+    all: &'a [&'a [u8]],
+) -> (&'a [&'a [u8]], Option<&'a [u8]>)
+    ensures { (words result.0.now, option_map (λ n. n.now) result.1)
+        ≡ rows_and_time before.now (words all.now) }
+{
+    let [rows @ .., word, number, unit] = all else {
+        return (all, None);
+    };
+    if begins_time(before, *word, *unit) {
+        (rows, Some(*number))
+    } else {
+        (all, None)
+    }
+}
+
+/// The bytes of hexadecimal digits, two for each, if they are such.
+fn decoded(alloc: Global, digits: &[u8]) -> Result<Option<Vec<u8>>, AllocError>
+    ensures { IfOk result
+        (λ bytes. option_map (λ v. v.items) bytes ≡ result_ok (decode_of digits.now)) }
+{
+    match hex::decode(alloc, digits) {
+        Ok(bytes) => Ok(Some(bytes)),
+        Err(FromHexError::OutOfMemory) => Err(AllocError),
+        Err(_) => Ok(None),
+    }
+}
+
+/// The bytes of one field: `-` for none, or hexadecimal digits, two for each byte.
+fn hex_bytes(alloc: Global, digits: &[u8]) -> Result<Option<Vec<u8>>, AllocError>
+    ensures { IfOk result (λ bytes. option_map (λ v. v.items) bytes ≡ hex_bytes digits.now) }
+{
+    match digits {
+        [] => Ok(None),
+        b"-" => Ok(Some(Vec::new(alloc))),
+        _ => decoded(alloc, digits),
+    }
+}
+
+/// The bytes of several rows, if each is of hexadecimal digits.
+fn row(alloc: Global, rows: &[&[u8]]) -> Result<Option<Vec<u8>>, AllocError>
+    ensures { IfOk result
+        (λ bytes. option_map (λ v. v.items) bytes ≡ row (words rows.now)) }
+{
+    let mut row = Vec::new(alloc);
+    for field in rows {
+        let Some(bytes) = decoded(alloc, *field)? else {
+            return Ok(None);
+        };
+        row.extend_from_slice(bytes.as_slice())?;
+    }
+    Ok(Some(row))
+}
+
+/// The bytes of a row and those after it, of which a single one may be `-`; `rows` are all.
+fn bytes_of(
+    alloc: Global,
+    rows: &[&[u8]],
+    first: &[u8],
+    rest: &[&[u8]],
+) -> Result<Option<Vec<u8>>, AllocError>
+    requires { words rows.now ≡ first.now ∷ words rest.now }
+    ensures { IfOk result (λ bytes. option_map (λ v. v.items) bytes
+        ≡ bytes_of true first.now (words rest.now)) }
+{
+    if rest.is_empty() {
+        hex_bytes(alloc, first)
+    } else {
+        row(alloc, rows)
+    }
+}
+
+/// The bytes that rows spell.
+#[tactic(auto, unfolding(lin_log::specs::Said::bytes_fields))]
+pub(crate) fn rows_bytes(
+    alloc: Global,
+    cluster: &Cluster,
+    rows: &[&[u8]],
+) -> Result<Payload, LineFault>
+    ensures { Gives (λ p. p) result (bytes_fields cluster.now (words rows.now)) }
+{
+    let [first, rest @ ..] = rows else {
+        return Err(LineFault::Bad(Reason::Step(StepReason::NoBytes)));
+    };
+    match bytes_of(alloc, rows, *first, rest)? {
+        Some(bytes) => Ok(Payload::new(bytes)),
+        None => {
+            let fields = copied_fields(alloc, rows)?;
+            Err(LineFault::Bad(Reason::Step(StepReason::NotBytes(fields))))
+        }
+    }
 }
 
 /// What stands after `..` at the beginning of a text.

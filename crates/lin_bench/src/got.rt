@@ -23,10 +23,14 @@ pub enum Got {
     Waiting(usize),
     /// The next message has these bytes.
     Message(Payload),
+    /// The next message came so many microseconds after the last one the other way before it.
+    Took(u64),
     /// The host's message with this number was sent.
     Sent { number: u32 },
     /// The host's message with this number was lost.
     Lost { number: u32, cause: Cause },
+    /// This host's message with this number was lost.
+    LostOf { host: u8, number: u32, cause: Cause },
     /// No event is left that no expectation has taken.
     NoEvent,
     /// The last slot that ended was seen so.

@@ -19,6 +19,7 @@
 #![tactic(auto)]
 
 mod answers;
+mod arrivals;
 mod bench;
 mod ends;
 mod expectations;
@@ -29,6 +30,7 @@ mod got;
 mod law;
 mod line;
 mod lines;
+mod losses;
 mod playing;
 mod reason;
 mod replies;

@@ -10,12 +10,12 @@ ghost use Rattle.lin_bench.specs.RuleLines.{AddsRow, answer_form, answers_form, 
 ghost use Rattle.lin_bench.specs.RuleLines.{every_fields, every_form, has_star, hex_byte, hex_part};
 ghost use Rattle.lin_bench.specs.RuleLines.{joined, last_field, parts_field, parts_fields, pattern_byte};
 ghost use Rattle.lin_bench.specs.RuleLines.{pattern_fields, pattern_of, repeated_step, responder_field};
-ghost use Rattle.lin_bench.specs.RuleLines.{row, rows_and_wait, sends_or_writes, timeouts_form};
+ghost use Rattle.lin_bench.specs.RuleLines.{row, sends_or_writes, timeouts_form};
 ghost use Rattle.lin_bench.specs.RuleLines.{wait_field, when_fields, when_form, when_of, without_star};
 ghost use Rattle.lin_bench.specs.declared.rules.Part.{Part};
 
 use crate::fault::LineFault;
-use crate::fields::{copied_fields, count_field, fields, node_field, number_field};
+use crate::fields::{copied_fields, count_field, fields, node_field, number_field, rows_and_time};
 use crate::reason::Reason;
 use crate::rules::{Answer, Every, Part, Pattern, Rule, When};
 use lin_cluster_parts::Cluster;
@@ -209,27 +209,6 @@ fn parts(alloc: Global, all: &[&[u8]]) -> Result<Many<Part>, LineFault>
     Ok(Many::new(parts))
 }
 
-fn begins_wait(word: &[u8], unit: &[u8]) -> bool
-    ensures { result ≡ (bytes_eq unit.now (codes "ms") && bytes_eq word.now (codes "after")) }
-{
-    unit == b"ms".as_slice() && word == b"after".as_slice()
-}
-
-/// The rows of an answer, and the number of its wait where it ends with `after`, a number and `ms`.
-fn rows_and_wait<'a>(all: &'a [&'a [u8]]) -> (&'a [&'a [u8]], Option<&'a [u8]>)
-    ensures { (words result.0.now, option_map (λ n. n.now) result.1)
-        ≡ rows_and_wait (words all.now) }
-{
-    let [rows @ .., word, number, unit] = all else {
-        return (all, None);
-    };
-    if begins_wait(*word, *unit) {
-        (rows, Some(*number))
-    } else {
-        (all, None)
-    }
-}
-
 fn wait(alloc: Global, number: Option<&[u8]>) -> Result<u32, LineFault>
     ensures { Gives (λ n. n) result (wait_field (option_map (λ n. n.now) number.entry)) }
 {
@@ -243,7 +222,7 @@ fn wait(alloc: Global, number: Option<&[u8]>) -> Result<u32, LineFault>
 fn answer(alloc: Global, all: &[&[u8]]) -> Result<Answer, LineFault>
     ensures { Gives (λ a. a) result (answer_form (words all.now)) }
 {
-    let (rows, number) = rows_and_wait(all);
+    let (rows, number) = rows_and_time(b"after".as_slice(), all);
     let parts = parts(alloc, rows)?;
     let wait_ms = wait(alloc, number)?;
     Ok(Answer { parts, wait_ms })

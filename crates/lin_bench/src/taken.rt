@@ -37,7 +37,7 @@ impl EventKind {
     }
 
     /// Whether an event is of this kind.
-    fn has(self, event: &Event) -> bool
+    pub(crate) fn has(self, event: &Event) -> bool
         ensures { result ≡ is_of self event.now }
     {
         match (self, event) {
@@ -83,7 +83,7 @@ pub(crate) struct Taken {
 }
 
 /// The events of an entry.
-fn events_of(entry: &LogEntry) -> &[Event]
+pub(crate) fn events_of(entry: &LogEntry) -> &[Event]
     ensures { result.now ≡ events entry.now }
 {
     match &entry.reply {
@@ -94,7 +94,11 @@ fn events_of(entry: &LogEntry) -> &[Event]
 
 /// The event of a kind after so many others of it, and how many there are up to it; or how many of
 /// the others are left to skip.
-fn skipped(events: &[Event], kind: EventKind, skip: usize) -> Result<(&Event, usize), usize>
+pub(crate) fn skipped(
+    events: &[Event],
+    kind: EventKind,
+    skip: usize,
+) -> Result<(&Event, usize), usize>
     ensures { Skips (λ e. e.now) events.now kind skip result }
 {
     let mut left = skip;

@@ -220,10 +220,30 @@ fn put_expected<W: Write>(out: &mut TextWriter<'_, W>, cluster: &Cluster, expect
             put_node(out, cluster, *to);
             put_bytes(out, bytes.as_slice());
         }
+        Expected::MessageWithin {
+            from,
+            to,
+            bytes,
+            most_ms,
+        } => {
+            out.put_text(" message");
+            put_node(out, cluster, *from);
+            put_node(out, cluster, *to);
+            put_bytes(out, bytes.as_slice());
+            out.put_text(" within ");
+            out.put_number(*most_ms);
+            out.put_text(" ms");
+        }
         Expected::NoMessage { from, to } => {
             out.put_text(" no message");
             put_node(out, cluster, *from);
             put_node(out, cluster, *to);
+        }
+        Expected::NoLost { host } => {
+            out.put_text(" no lost");
+            if let Some(host) = host {
+                put_node(out, cluster, *host);
+            }
         }
         Expected::Sent { host } => {
             out.put_text(" sent");
@@ -312,6 +332,10 @@ fn put_got<W: Write>(out: &mut TextWriter<'_, W>, cluster: &Cluster, got: &Got)
         Got::Value(value) => put_value(out, value),
         Got::Waiting(count) => put_number(out, *count),
         Got::Message(bytes) => put_bytes(out, bytes.as_slice()),
+        Got::Took(time) => {
+            put_number(out, *time);
+            out.put_text(" us");
+        }
         Got::Sent { number } => {
             out.put_text(" message");
             put_number(out, *number);
@@ -320,6 +344,18 @@ fn put_got<W: Write>(out: &mut TextWriter<'_, W>, cluster: &Cluster, got: &Got)
         Got::Lost { number, cause } => {
             out.put_text(" message");
             put_number(out, *number);
+            out.put_text(" lost");
+            put_word(out, cause.word());
+        }
+        Got::LostOf {
+            host,
+            number,
+            cause,
+        } => {
+            out.put_text(" message");
+            put_number(out, *number);
+            out.put_text(" of");
+            put_node(out, cluster, *host);
             out.put_text(" lost");
             put_word(out, cause.word());
         }

@@ -9,12 +9,14 @@ ghost use Rattle.lin_bench.specs.Slots.{pending};
 ghost use Rattle.lin_bench.specs.Verdicts.{same_kind, done_verdict, idle_verdict, kind_taken, last_event};
 ghost use Rattle.lin_bench.specs.Verdicts.{lost_verdict, message_verdict, newest_reply};
 ghost use Rattle.lin_bench.specs.Verdicts.{next_event, refused_verdict};
-ghost use Rattle.lin_bench.specs.Verdicts.{is_within, no_message_verdict, same_value, seen_verdict, sent_verdict};
-ghost use Rattle.lin_bench.specs.Verdicts.{slot_verdict, taking, value_seen, value_verdict, verdict, waiting_verdict};
+ghost use Rattle.lin_bench.specs.Verdicts.{is_within, no_lost_verdict, no_message_verdict, same_value, seen_verdict, sent_verdict};
+ghost use Rattle.lin_bench.specs.Verdicts.{slot_verdict, taking, time_taken, value_seen, value_verdict, verdict, waiting_verdict, within_verdict};
 ghost use Rattle.lin_bench.specs.Verdicts.{with_taken};
 
+use crate::arrivals;
 use crate::expected::Expected;
 use crate::got::Got;
+use crate::losses::first_loss;
 use crate::ruled::{RuledCore, pending};
 use crate::taken::{EventKind, Place, Search, Taken, event_from, last_event};
 use lin_core::{Cause, Core, Event, Look, Payload, Refusal, Reply};
@@ -111,6 +113,32 @@ fn message(alloc: Global, event: Option<&Event>, bytes: &[u8]) -> Result<Option<
     }
 }
 
+/// Whether a message that is right came in so many milliseconds; it took this time in microseconds.
+fn within(first: Option<Got>, most_ms: u32, took: u64) -> Option<Got>
+    ensures { result ≡ within_verdict most_ms took first }
+{
+    match first {
+        None => if took <= 1000 * u64::from(most_ms) {
+            None
+        } else {
+            Some(Got::Took(took))
+        },
+        Some(got) => Some(got),
+    }
+}
+
+/// How long the next message took from the last one the other way, in microseconds.
+fn time_taken(core: &Core, taken: &Taken, from: u8, to: u8) -> u64
+    requires { IsKnown core.now.log taken.now }
+    ensures { result ≡ time_taken core.now.cluster (past_of core.now)
+        (taken_by core.now.log taken.now) from to }
+{
+    let answer = EventKind::Messages { from, to };
+    let request = EventKind::Messages { from: to, to: from };
+    let place = last_end(taken, answer);
+    arrivals::time_taken(core.cluster(), core.log(), request, answer, place)
+}
+
 fn no_message(alloc: Global, event: Option<&Event>) -> Result<Option<Got>, AllocError>
     ensures { IfOk result (λ v. v ≡ no_message_verdict (option_map (λ e. e.now) event.entry)) }
 {
@@ -119,6 +147,25 @@ fn no_message(alloc: Global, event: Option<&Event>) -> Result<Option<Got>, Alloc
             Ok(Some(Got::Message(Payload::new(Vec::from_slice(alloc, bytes.as_slice())?))))
         }
         _ => Ok(None),
+    }
+}
+
+fn no_lost(event: Option<&Event>) -> Option<Got>
+    ensures { result ≡ no_lost_verdict (option_map (λ e. e.now) event.entry) }
+{
+    match event {
+        Some(
+            Event::Lost {
+                host,
+                number,
+                cause,
+            },
+        ) => Some(Got::LostOf {
+            host: *host,
+            number: *number,
+            cause: *cause,
+        }),
+        _ => None,
     }
 }
 
@@ -320,10 +367,12 @@ fn kind_taken(expected: &Expected) -> Option<EventKind>
     ensures { result ≡ kind_taken expected.now }
 {
     match expected {
-        Expected::Message { from, to, .. } => Some(EventKind::Messages {
-            from: *from,
-            to: *to,
-        }),
+        Expected::Message { from, to, .. } | Expected::MessageWithin { from, to, .. } => Some(
+            EventKind::Messages {
+                from: *from,
+                to: *to,
+            },
+        ),
         Expected::Sent { host } | Expected::Lost { host, .. } => {
             Some(EventKind::Fates { host: *host })
         }
@@ -390,6 +439,20 @@ pub(crate) fn verdict(
             let event = take_next(core, taken, kind)?;
             message(alloc, event, bytes.as_slice())
         }
+        Expected::MessageWithin {
+            from,
+            to,
+            bytes,
+            most_ms,
+        } => {
+            let took = time_taken(core, taken, *from, *to);
+            let kind = EventKind::Messages {
+                from: *from,
+                to: *to,
+            };
+            let event = take_next(core, taken, kind)?;
+            Ok(within(message(alloc, event, bytes.as_slice())?, *most_ms, took))
+        }
         Expected::NoMessage { from, to } => {
             let kind = EventKind::Messages {
                 from: *from,
@@ -397,6 +460,7 @@ pub(crate) fn verdict(
             };
             no_message(alloc, look_for(core, taken, kind)?)
         }
+        Expected::NoLost { host } => Ok(no_lost(first_loss(core.log(), taken, *host))),
         Expected::Sent { host } => {
             let event = take_next(core, taken, EventKind::Fates { host: *host })?;
             Ok(sent(event))

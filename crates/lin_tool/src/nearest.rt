@@ -18,8 +18,8 @@ static WORDS: [&str; 20] = [
 ];
 
 /// What `expect` and `until` take.
-const FORMS: &str = "signal NODE SIGNAL VALUE (LOW..HIGH), waiting NODE K, message FROM TO BYTES, \
-                     sent NODE, lost NODE damaged (timedout, slept), seen silent (none, good, \
+const FORMS: &str = "signal NODE SIGNAL VALUE (LOW..HIGH), waiting NODE K, message FROM TO BYTES \
+                     (within N ms), sent NODE, lost NODE damaged (timedout, slept), seen silent (none, good, \
                      damaged, collided), slot TABLE ENTRY, asleep, awake";
 
 /// The beginning of a name.
@@ -126,7 +126,7 @@ pub(crate) fn put_bad_bench_line(
         Reason::ExpectForm | Reason::UnknownExpectation(_) => {
             writeln!(
                 out,
-                "  expect takes {FORMS}, done, refused NAME, no message FROM TO"
+                "  expect takes {FORMS}, done, refused NAME, no message FROM TO, no lost (NODE)"
             )
         }
         Reason::UntilForm | Reason::UnknownUntil(_) => writeln!(out, "  until takes {FORMS}"),

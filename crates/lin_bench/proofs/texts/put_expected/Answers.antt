@@ -35,3 +35,12 @@ returns-in-SignalWithin g c = rw c.in-SignalWithin.is
 pub returns-in-NoMessage : goal.returns-in-NoMessage
 returns-in-NoMessage g c = rw c.in-NoMessage.is
     (grows-more c.put_text-in-NoMessage.ensures (grows-more c.put_node-in-NoMessage.ensures c.put_node-in-NoMessage-2.ensures))
+
+pub returns-in-MessageWithin : goal.returns-in-MessageWithin
+returns-in-MessageWithin g c = rw c.in-MessageWithin.is
+    (grows-more c.put_text-in-MessageWithin.ensures (grows-more c.put_node-in-MessageWithin.ensures (grows-more c.put_node-in-MessageWithin-2.ensures
+    (grows-more (rw c.as_slice-in-MessageWithin.ensures at c.put_bytes-in-MessageWithin.ensures)
+    (grows-more c.put_text-in-MessageWithin-2.ensures (grows-more c.put_number-in-MessageWithin.ensures c.put_text-in-MessageWithin-3.ensures))))))
+
+pub returns-in-Some : goal.returns-in-Some
+returns-in-Some g c = rw (c.in-NoLost.is, c.in-Some.is) (grows-more c.put_text-in-NoLost.ensures c.put_node-in-Some.ensures)

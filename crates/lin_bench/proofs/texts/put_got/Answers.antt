@@ -2,7 +2,7 @@ use Rattle.lin_text.proofs.Growing.{grows-more}
 use Rattle.lin_bench.proofs.texts.put_got.Goals as goal
 
 pub returns-in-Sent : goal.returns-in-Sent
-returns-in-Sent g c = rw c.in-Sent.is (grows-more c.put_text.ensures (grows-more c.put_number-in-Sent.ensures c.put_text-in-Sent.ensures))
+returns-in-Sent g c = rw c.in-Sent.is (grows-more c.put_text-in-Sent.ensures (grows-more c.put_number-in-Sent.ensures c.put_text-in-Sent-2.ensures))
 
 pub returns-in-Lost : goal.returns-in-Lost
 returns-in-Lost g c = rw c.in-Lost.is
@@ -22,3 +22,11 @@ returns-in-NoNodeOrSignal g c = rw c.in-NoNodeOrSignal.is c.put_text-in-NoNodeOr
 
 pub returns-in-StillPending : goal.returns-in-StillPending
 returns-in-StillPending g c = rw c.in-StillPending.is (grows-more c.put_byte.ensures (rw c.as_slice-in-StillPending.ensures at c.put_pending.ensures))
+
+pub returns-in-Took : goal.returns-in-Took
+returns-in-Took g c = rw c.in-Took.is (grows-more c.put_number-in-Took.ensures c.put_text.ensures)
+
+pub returns-in-LostOf : goal.returns-in-LostOf
+returns-in-LostOf g c = rw c.in-LostOf.is
+    (grows-more c.put_text-in-LostOf.ensures (grows-more c.put_number-in-LostOf.ensures (grows-more c.put_text-in-LostOf-2.ensures
+    (grows-more c.put_node.ensures (grows-more c.put_text-in-LostOf-3.ensures (rw c.word-in-LostOf.ensures at c.put_word-in-LostOf.ensures))))))

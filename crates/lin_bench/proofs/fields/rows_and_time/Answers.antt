@@ -3,10 +3,9 @@ use Rattle.std.specs.Borrow.{Bor}
 use Rattle.std.specs.Prelude.{codes}
 use Rattle.std.specs.Str.{bytes_eq}
 use Rattle.std.proofs.lemmas.List.{map-append, reverse-append, reverse-reverse, take-append-drop}
-use Rattle.lin_bench.specs.Fields.{words}
-use Rattle.lin_bench.specs.RuleLines.{rows_and_wait, wait_from}
+use Rattle.lin_bench.specs.Fields.{rows_and_time, time_from, words}
 use Rattle.lin_bench.proofs.Rows.{dropped}
-use Rattle.lin_bench.proofs.rule_lines.rows_and_wait.Goals as goal
+use Rattle.lin_bench.proofs.fields.rows_and_time.Goals as goal
 
 -- a list by its last three items
 by-three : (fs : List (Bor (List ℕ))) (d : Bor (List ℕ)) (n : ℕ) → length fs ≡ suc (suc (suc n))
@@ -26,41 +25,41 @@ backwards fs d n e =
     ap (λ l. reverse (words l)) (by-three fs d n e) ∙ ap reverse (map-append (λ f. f.now) (take n fs) last)
     ∙ reverse-append (words (take n fs)) (words last)
 
-abbrev begins : List ℕ → List ℕ → Bool
-begins word unit = bytes_eq unit (codes "ms") && bytes_eq word (codes "after")
+abbrev begins : List ℕ → List ℕ → List ℕ → Bool
+begins before word unit = bytes_eq unit (codes "ms") && bytes_eq word before
 
-at-end : (fs : List (Bor (List ℕ))) (d : Bor (List ℕ)) (n : ℕ) → length fs ≡ suc (suc (suc n))
-    → true ≡ begins (get_or fs n d).now (get_or fs (suc (suc n)) d).now
-    → (words (take n fs), Some (get_or fs (suc n) d).now) ≡ rows_and_wait (words fs)
-at-end fs d n e h =
-    sym (ap (wait_from (words fs)) (backwards fs d n e)
+at-end : (before : List ℕ) (fs : List (Bor (List ℕ))) (d : Bor (List ℕ)) (n : ℕ) → length fs ≡ suc (suc (suc n))
+    → true ≡ begins before (get_or fs n d).now (get_or fs (suc (suc n)) d).now
+    → (words (take n fs), Some (get_or fs (suc n) d).now) ≡ rows_and_time before (words fs)
+at-end before fs d n e h =
+    sym (ap (time_from before (words fs)) (backwards fs d n e)
     ∙ rw (← h) (ap (λ l. (l, Some (get_or fs (suc n) d).now)) (reverse-reverse (words (take n fs)))))
 
-not-at-end : (fs : List (Bor (List ℕ))) (d : Bor (List ℕ)) (n : ℕ) → length fs ≡ suc (suc (suc n))
-    → false ≡ begins (get_or fs n d).now (get_or fs (suc (suc n)) d).now
-    → (words fs, None) ≡ rows_and_wait (words fs)
-not-at-end fs d n e h = sym (ap (wait_from (words fs)) (backwards fs d n e) ∙ rw (← h) refl)
+not-at-end : (before : List ℕ) (fs : List (Bor (List ℕ))) (d : Bor (List ℕ)) (n : ℕ) → length fs ≡ suc (suc (suc n))
+    → false ≡ begins before (get_or fs n d).now (get_or fs (suc (suc n)) d).now
+    → (words fs, None) ≡ rows_and_time before (words fs)
+not-at-end before fs d n e h = sym (ap (time_from before (words fs)) (backwards fs d n e) ∙ rw (← h) refl)
 
-too-short : (fs : List (Bor (List ℕ))) → length fs < 3 → (words fs, None) ≡ rows_and_wait (words fs)
-too-short [] h = refl
-too-short (f ∷ []) h = refl
-too-short (f ∷ g ∷ []) h = refl
-too-short (f ∷ g ∷ k ∷ fs) h = absurd (omega arith)
+too-short : (before : List ℕ) (fs : List (Bor (List ℕ))) → length fs < 3 → (words fs, None) ≡ rows_and_time before (words fs)
+too-short before [] h = refl
+too-short before (f ∷ []) h = refl
+too-short before (f ∷ g ∷ []) h = refl
+too-short before (f ∷ g ∷ k ∷ fs) h = absurd (omega arith)
 
-pub returns-then-begins_wait : goal.returns-then-begins_wait
-returns-then-begins_wait c =
+pub returns-then-begins_time : goal.returns-then-begins_time
+returns-then-begins_time c =
     let fs = c.args.all.now in
     let n = length fs - 3 in
     let two : length fs - 2 ≡ suc n = omega arith in
     let one : length fs - 1 ≡ suc (suc n) = omega arith in
-    rw two (at-end fs _ n (omega arith) (rw one at c.if-begins_wait.ensures))
+    rw two (at-end c.args.before.now fs _ n (omega arith) (rw one at c.if-begins_time.ensures))
 
-pub returns-else-begins_wait : goal.returns-else-begins_wait
-returns-else-begins_wait c =
+pub returns-else-begins_time : goal.returns-else-begins_time
+returns-else-begins_time c =
     let fs = c.args.all.now in
     let n = length fs - 3 in
     let one : length fs - 1 ≡ suc (suc n) = omega arith in
-    not-at-end fs _ n (omega arith) (rw one at c.if-begins_wait.ensures)
+    not-at-end c.args.before.now fs _ n (omega arith) (rw one at c.if-begins_time.ensures)
 
 pub returns-in_default : goal.returns-in_default
-returns-in_default c = too-short c.args.all.now (omega arith)
+returns-in_default c = too-short c.args.before.now c.args.all.now (omega arith)
