@@ -1,4 +1,5 @@
 pub mod Appending
+pub mod BadLines
 pub mod Makes
 pub mod SlotSteps
 pub mod Events

@@ -118,6 +118,16 @@ read_lines c n [] = Ok []
 read_lines c n (l ∷ ls) =
     with_said n (read_line c (strip_carriage_return l)) (read_lines c (n + 1) ls)
 
+-- the bad lines from number n on, with their numbers
+abbrev pub with_bad : ℕ → Result (Option Line) Reason → List (ℕ × Reason) → List (ℕ × Reason)
+with_bad n (Err why) more = (n, why) ∷ more
+with_bad n (Ok said) more = more
+
+abbrev pub bad_from : Parts → ℕ → List (List ℕ) → List (ℕ × Reason)
+bad_from c n [] = []
+bad_from c n (l ∷ ls) =
+    with_bad n (read_line c (strip_carriage_return l)) (bad_from c (n + 1) ls)
+
 -- a text without the mark EF BB BF at its start
 abbrev pub without_mark : List ℕ → List ℕ
 without_mark text =
@@ -127,3 +137,7 @@ without_mark text =
 -- what a bench script says, or its first bad line, counted from 1 over all lines
 unfoldable pub read : Parts → List ℕ → Script
 read c text = read_lines c 1 (slice_split (λ b. b == 10) (without_mark text))
+
+-- all bad lines of a bench script, counted from 1 over all lines
+unfoldable pub bad_lines : Parts → List ℕ → List (ℕ × Reason)
+bad_lines c text = bad_from c 1 (slice_split (λ b. b == 10) (without_mark text))

@@ -1,5 +1,5 @@
 -- What reading a part of a line answers, beside what the definition reads.
-use Rattle.std.specs.Prelude.{◌≡◌, ℕ, List, [], Option, Some, None, Result, Ok, Err}
+use Rattle.std.specs.Prelude.{◌≡◌, ℕ, List, [], ◌∷◌, Option, Some, None, Result, Ok, Err}
 use Rattle.lin_log.specs.declared.reason.LineFault.{LineFault as StepFault}
 use Rattle.lin_log.specs.declared.reason.LineFault.TheVariants as faults
 use Rattle.lin_bench.specs.declared.fault.LineFault.{LineFault}
@@ -45,3 +45,13 @@ abbrev pub NextLine : Result (Option (ℕ × Line)) ReadFault → Script → Scr
 NextLine (Ok None) old new = old ≡ Ok []
 NextLine (Ok (Some l)) old new = old ≡ with_line l new
 NextLine (Err e) old new = ReadFails e old
+
+-- a script that is read has no bad line, and otherwise the first of them is why it isn't read
+abbrev pub AreBadOf : Script → List (ℕ × Reason) → Type 0
+AreBadOf (Ok ls) bad = bad ≡ []
+AreBadOf (Err first) bad = (rest : List (ℕ × Reason)) × (bad ≡ first ∷ rest)
+
+-- why a line is bad, if it is
+abbrev pub IsWhy : Result (Option Line) Reason → Option Reason → Type 0
+IsWhy read None = (said : Option Line) × (read ≡ Ok said)
+IsWhy read (Some why) = read ≡ Err why

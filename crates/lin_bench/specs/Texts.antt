@@ -156,6 +156,10 @@ got_text c (got.StillPending all) = pending_text c all
 got_text c got.NoNode = codes "no such node"
 got_text c got.NoNodeOrSignal = codes "no such node or signal"
 
+-- what is expected and what is so, without the line's end
+abbrev pub judged_text : List ℕ → List ℕ → List ℕ
+judged_text what is = codes " expected " ++ (what ++ (codes ": " ++ is))
+
 -- what is expected and what is so
 abbrev pub verdict_text : List ℕ → List ℕ → List ℕ
 verdict_text what is = codes " expected " ++ (what ++ (codes ": " ++ (is ++ 10 ∷ [])))

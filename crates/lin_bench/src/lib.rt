@@ -54,7 +54,8 @@ pub use lines::read_line;
 pub use playing::{Played, play};
 pub use reason::Reason;
 pub use rules::{Answer, Every, Part, Pattern, Rule, When};
-pub use script::{read, without_mark};
+pub use script::{bad_lines, read, without_mark};
 pub use texts::{
-    put_fields, put_pending, put_reason, put_unmet, put_verdict, write_bad_line, write_unmet,
+    put_fields, put_judged, put_pending, put_reason, put_unmet, put_verdict, write_bad_line,
+    write_unmet,
 };

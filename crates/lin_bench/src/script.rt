@@ -1,17 +1,19 @@
 //! Bench scripts.
 
 ghost use Rattle.std.specs.Prelude.{◌≡◌, ◌≤◌, ◌+◌, length, IfOk, IfSome};
+ghost use Rattle.std.specs.Str.Lines.{strip_carriage_return};
 ghost use Rattle.lin_log.specs.Judged.{left_of};
 ghost use Rattle.lin_cluster_parts.specs.declared.parts.Parts.{Parts};
-ghost use Rattle.lin_bench.specs.Lines.{read, without_mark};
-ghost use Rattle.lin_bench.specs.Read.{NextLine, Reads, said};
+ghost use Rattle.lin_bench.specs.Lines.{bad_lines, read, read_line, without_mark};
+ghost use Rattle.lin_bench.specs.Read.{AreBadOf, IsWhy, NextLine, Reads, said};
 
 use crate::fault::{LineFault, ReadFault};
 use crate::line::Line;
 use crate::lines::read_line;
+use crate::reason::Reason;
 use lin_cluster_parts::Cluster;
 use lin_log::{first_line, without_return};
-use std::alloc::Global;
+use std::alloc::{AllocError, Global};
 
 /// A text without the mark EF BB BF at its start.
 pub fn without_mark(text: &[u8]) -> &[u8]
@@ -98,4 +100,42 @@ pub fn read(alloc: Global, cluster: &Cluster, text: &[u8]) -> Result<Vec<(u64, L
         }
     }
     Ok(lines)
+}
+
+/// Why a line is bad; none where it isn't. An error means out of memory.
+fn why_bad(alloc: Global, cluster: &Cluster, line: &[u8]) -> Result<Option<Reason>, AllocError>
+    ensures { IfOk result (IsWhy (read_line cluster.now (strip_carriage_return line.now))) }
+{
+    match read_line(alloc, cluster, without_return(line)) {
+        Ok(_) => Ok(None),
+        Err(LineFault::Bad(reason)) => Ok(Some(reason)),
+        Err(LineFault::OutOfMemory) => Err(AllocError),
+    }
+}
+
+/// The lines of a bench script that are bad, each with its number, counted from 1 over all lines,
+/// and why it is. Nodes, signals and schedule tables are those of the cluster. The text has at most
+/// 16,777,216 bytes. An error means out of memory.
+#[tactic(auto, unfolding(crate::specs::Lines::bad_lines))]
+pub fn bad_lines(
+    alloc: Global,
+    cluster: &Cluster,
+    text: &[u8],
+) -> Result<Vec<(u64, Reason)>, AllocError>
+    requires { length text.now ≤ 16777216 }
+    ensures lines { IfOk result (λ v. v.items ≡ bad_lines cluster.now text.now) }
+    ensures first { IfOk result (λ v. AreBadOf (read cluster.now text.now) v.items) }
+{
+    let mut left = Some(without_mark(text));
+    let mut number: u64 = 1;
+    let mut bad = Vec::new(alloc);
+    while let Some(text) = left {
+        let (line, rest) = first_line(text);
+        if let Some(reason) = why_bad(alloc, cluster, line)? {
+            bad.push((number, reason))?;
+        }
+        left = rest;
+        number += 1;
+    }
+    Ok(bad)
 }

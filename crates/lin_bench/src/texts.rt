@@ -5,7 +5,7 @@ ghost use Rattle.std.specs.Fmt.{decimal};
 ghost use Rattle.lin_log.specs.Words.{spaced_word};
 ghost use Rattle.lin_text.specs.Written.{Grows, WritesText};
 ghost use Rattle.lin_bench.specs.Texts.{bad_line_text, expected_text, fields_text, fields_word};
-ghost use Rattle.lin_bench.specs.Texts.{got_text, node_word, other_pending_text, pending_text};
+ghost use Rattle.lin_bench.specs.Texts.{got_text, judged_text, node_word, other_pending_text, pending_text};
 ghost use Rattle.lin_bench.specs.Texts.{pending_word, reason_text, step_reason_text, unmet_text, verdict_text};
 
 use crate::expected::Expected;
@@ -383,6 +383,22 @@ fn put_got<W: Write>(out: &mut TextWriter<'_, W>, cluster: &Cluster, got: &Got)
     }
 }
 
+/// That what is expected isn't so, and what is: ` expected WHAT: GOT`.
+pub fn put_judged<W: Write>(
+    out: &mut TextWriter<'_, W>,
+    cluster: &Cluster,
+    expected: &Expected,
+    got: &Got,
+)
+    ensures { Grows W.contents out.old out.new
+        (judged_text (expected_text cluster.now expected.now) (got_text cluster.now got.now)) }
+{
+    out.put_text(" expected");
+    put_expected(out, cluster, expected);
+    out.put_byte(b':');
+    put_got(out, cluster, got);
+}
+
 /// That what is expected isn't so, and what is: ` expected WHAT: GOT` and the line's end.
 pub fn put_verdict<W: Write>(
     out: &mut TextWriter<'_, W>,
@@ -393,10 +409,7 @@ pub fn put_verdict<W: Write>(
     ensures { Grows W.contents out.old out.new
         (verdict_text (expected_text cluster.now expected.now) (got_text cluster.now got.now)) }
 {
-    out.put_text(" expected");
-    put_expected(out, cluster, expected);
-    out.put_byte(b':');
-    put_got(out, cluster, got);
+    put_judged(out, cluster, expected, got);
     out.put_byte(b'\n');
 }
 

@@ -4,6 +4,7 @@ pub mod Formats
 pub mod Listing
 pub mod Living
 pub mod Opening
+pub mod Placing
 pub mod Playing
 pub mod Reading
 pub mod Replaying

@@ -1,6 +1,7 @@
 -- What the program's play answers.
-use Rattle.std.specs.Prelude.{◌≡◌, ◌≢◌, ◌⊎◌, ℕ, ◌≤◌, true, List, [], length, reverse, flat_map, Option, IfSome}
+use Rattle.std.specs.Prelude.{◌≡◌, ◌≢◌, ◌⊎◌, ℕ, ◌≤◌, true, List, [], length, reverse, Option, IfSome}
 use Rattle.std.specs.Prelude.{Result, Ok, Err}
+use Rattle.std.specs.Borrow.{Bor}
 use Rattle.std.specs.Io.KnownBytes.{Appends, Keeps}
 use Rattle.lin_text.specs.Written.{WritesText}
 use Rattle.lin_cluster_parts.specs.declared.parts.Parts.{Parts}
@@ -8,13 +9,13 @@ use Rattle.lin_log.specs.declared.fault.ScriptFault.TheVariants as script
 use Rattle.lin_bench.specs.Lines.{Script, read}
 use Rattle.lin_bench.specs.Played.{Run, played}
 use Rattle.lin_bench.specs.Plays.{Overfills, has_rule}
-use Rattle.lin_bench.specs.Texts.{bad_line_text, unmet_text}
 use Rattle.lin_bench.specs.declared.fault.PlayFault.{PlayFault}
 use Rattle.lin_bench.specs.declared.fault.PlayFault.TheVariants as play
 use Rattle.lin_bench.specs.declared.got.Unmet.{Unmet as Missed}
 use Rattle.lin_bench.specs.declared.line.Line.{Line}
 use Rattle.lin_bench.specs.declared.reason.Reason.{Reason}
 use Rattle.lin_tool.specs.Formats.{Begins, log_as}
+use Rattle.lin_tool.specs.Placing.{bad_text, missed_text}
 use Rattle.lin_tool.specs.Replaying.{IsRefused}
 use Rattle.lin_tool.specs.declared.fault.Fault.{Fault}
 use Rattle.lin_tool.specs.declared.fault.Fault.TheVariants.{BadBenchLine, SlotLimit, LogFull, Unmet}
@@ -61,49 +62,62 @@ WritesPlayed format whole missed text (Err OutOfMemory) old new silent heard =
 WritesPlayed format whole missed text (Err _) old new silent heard = ⊥
 
 -- the lines of a bench script came to a run, and this was written of it
-abbrev pub WritesRunOf : Format → Parts → ℕ → ℕ → Result Unit Fault → Option (List ℕ)
+abbrev pub WritesRunOf : Format → Option (Bor (List ℕ)) → Parts → ℕ → ℕ → Result Unit Fault → Option (List ℕ)
     → Option (List ℕ) → Option (List ℕ) → Option (List ℕ) → Option (List ℕ) → Type 0
-WritesRunOf format c opening capacity result told old new silent heard =
+WritesRunOf format named c opening capacity result told old new silent heard =
     (run : Run) × ComesTo c opening capacity told (Ok run)
     × WritesPlayed format (run_as format c run) run.unmet
-    (flat_map (unmet_text c) run.unmet) result old new silent heard
+    (missed_text named c (reverse run.bench.past) run.unmet) result old new silent heard
 
 -- What a play in this format answers, what the writer took (from old to new), and what the writer
 -- of errors took (from silent to heard). Of a log that was written, all expectations are met exactly
 -- where the answer is Ok.
-abbrev pub PlaysScript : Format → Parts → ℕ → ℕ → Result Unit Fault → Option (List ℕ)
+abbrev pub PlaysScript : Format → Option (Bor (List ℕ)) → Parts → ℕ → ℕ → Result Unit Fault → Option (List ℕ)
     → Option (List ℕ) → Option (List ℕ) → Option (List ℕ) → Option (List ℕ) → Type 0
-PlaysScript format c opening capacity (Ok done) told old new silent heard =
-    WritesRunOf format c opening capacity (Ok done) told old new silent heard
-PlaysScript format c opening capacity (Err (Unmet outcome)) told old new silent heard =
-    WritesRunOf format c opening capacity (Err (Unmet outcome)) told old new silent heard
-PlaysScript format c opening capacity (Err (BadBenchLine n outcome)) told old new silent heard =
-    (why : Reason) × Says c told (Err (n, why)) × Keeps old new
-    × WritesText silent heard outcome (bad_line_text n why)
-PlaysScript format c opening capacity (Err (SlotLimit n)) told old new silent heard =
+PlaysScript format named c opening capacity (Ok done) told old new silent heard =
+    WritesRunOf format named c opening capacity (Ok done) told old new silent heard
+PlaysScript format named c opening capacity (Err (Unmet outcome)) told old new silent heard =
+    WritesRunOf format named c opening capacity (Err (Unmet outcome)) told old new silent heard
+PlaysScript format named c opening capacity (Err (BadBenchLine n outcome)) told old new silent heard =
+    (why : Reason) × (it : Says c told (Err (n, why))) × Keeps old new
+    × WritesText silent heard outcome (bad_text named c it.bytes n why)
+PlaysScript format named c opening capacity (Err (SlotLimit n)) told old new silent heard =
     ComesTo c opening capacity told (Err n) × Keeps old new × Keeps silent heard
-PlaysScript format c opening capacity (Err LogFull) told old new silent heard =
+PlaysScript format named c opening capacity (Err LogFull) told old new silent heard =
     (ls : List (ℕ × Line)) × Says c told (Ok ls) × Overfills c opening capacity ls
     × (has_rule ls ≡ true) × Keeps old new × Keeps silent heard
-PlaysScript format c opening capacity (Err ScriptTooLong) told old new silent heard =
+PlaysScript format named c opening capacity (Err ScriptTooLong) told old new silent heard =
     IsRefused script.TooLong told old new × Keeps silent heard
-PlaysScript format c opening capacity (Err ReadFailed) told old new silent heard =
+PlaysScript format named c opening capacity (Err ReadFailed) told old new silent heard =
     Keeps old new × Keeps silent heard
-PlaysScript format c opening capacity (Err OutOfMemory) told old new silent heard =
+PlaysScript format named c opening capacity (Err OutOfMemory) told old new silent heard =
     (Keeps old new × Keeps silent heard)
-    ⊎ WritesRunOf format c opening capacity (Err OutOfMemory) told old new silent heard
-PlaysScript format c opening capacity (Err WriteFailed) told old new silent heard =
-    WritesRunOf format c opening capacity (Err WriteFailed) told old new silent heard
-PlaysScript format c opening capacity (Err _) told old new silent heard = ⊥
+    ⊎ WritesRunOf format named c opening capacity (Err OutOfMemory) told old new silent heard
+PlaysScript format named c opening capacity (Err WriteFailed) told old new silent heard =
+    WritesRunOf format named c opening capacity (Err WriteFailed) told old new silent heard
+PlaysScript format named c opening capacity (Err _) told old new silent heard = ⊥
+
+-- what telling bad lines by this text answers
+abbrev pub TellsBad : {E F : Type 0} → Result (Result Unit F) E → List ℕ → Option (List ℕ)
+    → Option (List ℕ) → Type 0
+TellsBad (Ok outcome) text silent heard = WritesText silent heard outcome text
+TellsBad (Err fault) text silent heard = Keeps silent heard
+
+-- what the writer of errors took where the lines of a bench script aren't read
+abbrev pub IsUnread : Option (Bor (List ℕ)) → Parts → List ℕ → Fault → Option (List ℕ)
+    → Option (List ℕ) → Type 0
+IsUnread named c text (BadBenchLine n outcome) silent heard =
+    (why : Reason) × (read c text ≡ Err (n, why))
+    × WritesText silent heard outcome (bad_text named c text n why)
+IsUnread named c text OutOfMemory silent heard = Keeps silent heard
+IsUnread named c text _ silent heard = ⊥
 
 -- what reading the lines of a bench script answers, and what the writer of errors took
-abbrev pub ReadsLines : {X : Type 0} → (X → List (ℕ × Line)) → Result X Fault → Script
-    → Option (List ℕ) → Option (List ℕ) → Type 0
-ReadsLines view (Ok x) said silent heard = (said ≡ Ok (view x)) × Keeps silent heard
-ReadsLines view (Err (BadBenchLine n outcome)) said silent heard =
-    (why : Reason) × (said ≡ Err (n, why)) × WritesText silent heard outcome (bad_line_text n why)
-ReadsLines view (Err OutOfMemory) said silent heard = Keeps silent heard
-ReadsLines view (Err _) said silent heard = ⊥
+abbrev pub ReadsLines : {X : Type 0} → Option (Bor (List ℕ)) → Parts → List ℕ
+    → (X → List (ℕ × Line)) → Result X Fault → Option (List ℕ) → Option (List ℕ) → Type 0
+ReadsLines named c text view (Ok x) silent heard =
+    (read c text ≡ Ok (view x)) × Keeps silent heard
+ReadsLines named c text view (Err fault) silent heard = IsUnread named c text fault silent heard
 
 -- what judging these expectations answers, of which this is told
 abbrev pub Judges : Result Unit Fault → List Missed → List ℕ

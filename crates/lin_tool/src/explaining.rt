@@ -15,8 +15,8 @@ const WIDTH: usize = 96;
 /// How many bytes of a line are shown at most before a place in it.
 const BEFORE: usize = 64;
 
-/// How many findings are explained at most.
-const MOST: usize = 10;
+/// How many findings, or bad lines of a bench script, are explained at most.
+pub(crate) const MOST: usize = 10;
 
 /// A byte in one column, and never as a part of a terminal's command.
 pub(crate) fn shown(byte: u8) -> char {

@@ -23,6 +23,7 @@ mod meanings;
 mod nearest;
 mod notes;
 mod opening;
+mod placing;
 mod playing;
 mod replaying;
 mod running;

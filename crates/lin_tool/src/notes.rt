@@ -1,7 +1,7 @@
 //! What is said on standard error of how a subcommand ended: the lines of its fault, with
 //! `--where` in the form of compilers, and with `--explain` more below them.
 
-use crate::explaining::{put_bad_line, put_refusals, put_tables, put_text};
+use crate::explaining::{MOST, put_bad_line, put_refusals, put_tables, put_text};
 use crate::fault::Fault;
 use crate::locating::put_places;
 use crate::nearest::put_bad_bench_line;
@@ -18,8 +18,10 @@ use std::io::Write;
 pub struct Wanted<'a> {
     /// Lines that explain.
     pub explained: bool,
-    /// Places in the form of compilers, after the name of this file.
+    /// Places in the form of compilers, after the name of this LDF file.
     pub file: Option<&'a str>,
+    /// Places of a bench script, after the name of this file.
+    pub script: Option<&'a str>,
 }
 
 /// What was met that is said on standard error. Where memory for what explains runs out, the rest
@@ -27,6 +29,7 @@ pub struct Wanted<'a> {
 #[derive(Drop)]
 pub struct Notes<'a> {
     wanted: Wanted<'a>,
+    is_script_read: bool,
     places: String,
     text: String,
     is_cut: bool,
@@ -37,9 +40,29 @@ impl<'a> Notes<'a> {
     pub fn new(alloc: Global, wanted: Wanted<'a>) -> Notes<'a> {
         Notes {
             wanted,
+            is_script_read: false,
             places: String::new(alloc),
             text: String::new(alloc),
             is_cut: false,
+        }
+    }
+
+    /// What is at fault from now on is the bench script.
+    pub(crate) fn begin_script(&mut self) {
+        self.is_script_read = true;
+    }
+
+    /// The name of the bench script, where places in it are wanted.
+    pub(crate) fn script(&self) -> Option<&'a str> {
+        self.wanted.script
+    }
+
+    /// The name of the file that is read, where places are wanted.
+    fn named(&self) -> Option<&'a str> {
+        if self.is_script_read {
+            self.wanted.script
+        } else {
+            self.wanted.file
         }
     }
 
@@ -69,15 +92,23 @@ impl<'a> Notes<'a> {
     }
 
     fn write_lines<W: Write>(&self, fault: &Fault, writer: &mut W) -> Result<(), WriteFailed> {
-        match (self.wanted.file, fault) {
+        match (self.named(), fault) {
             (Some(_), Fault::Ldf(_) | Fault::Findings(_)) => {
                 write_out(writer, self.places.as_bytes())
             }
-            (Some(file), Fault::LdfTooLong | Fault::ReadFailed) => {
+            (Some(file), Fault::LdfTooLong | Fault::ScriptTooLong | Fault::ReadFailed) => {
                 let mut lines = TextWriter::new(writer);
                 lines.put_text(file);
                 lines.put_text(": ");
                 put_fault(&mut lines, fault);
+                lines.finish()
+            }
+            (Some(file), Fault::SlotLimit { line }) => {
+                let mut lines = TextWriter::new(writer);
+                lines.put_text(file);
+                lines.put_text(":");
+                lines.put_number(*line);
+                lines.put_text(": slot limit\n");
                 lines.finish()
             }
             _ => write_fault(fault, writer),
@@ -132,6 +163,19 @@ impl<'a> Notes<'a> {
     pub(crate) fn add_line(&mut self, script: &[u8], line: u64) {
         if self.wanted.explained {
             self.is_cut |= put_bad_line(&mut self.text, script, line).is_err();
+        }
+    }
+
+    /// Adds the first bad lines of a bench script, and names that there are.
+    pub(crate) fn add_bench_lines(
+        &mut self,
+        alloc: Global,
+        script: &[u8],
+        cluster: &Cluster,
+        bad: &[(u64, Reason)],
+    ) {
+        for (line, reason) in bad.iter().take(MOST) {
+            self.add_bench_line(alloc, script, *line, cluster, reason);
         }
     }
 

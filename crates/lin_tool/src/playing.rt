@@ -1,69 +1,133 @@
 //! `linsim play`: makes the slots and steps that a bench script says, writes their log, and judges
 //! what the script expects.
 
-ghost use Rattle.std.specs.Prelude.{◌≡◌, ◌≢◌, ◌≤◌, ◌<◌, [], length, flat_map, IfOk};
+ghost use Rattle.std.specs.Prelude.{◌≡◌, ◌≢◌, ◌≤◌, ◌<◌, [], length, IfOk};
 ghost use Rattle.std.specs.Io.KnownBytes.{Keeps};
-ghost use Rattle.lin_bench.specs.Lines.{read};
-ghost use Rattle.lin_bench.specs.Texts.{unmet_text};
+ghost use Rattle.lin_text.specs.Written.{WritesText};
 ghost use Rattle.lin_tool.specs.Formats.{log_as};
-ghost use Rattle.lin_tool.specs.Playing.{Judges, PlaysScript, ReadsLines, WritesPlayed};
+ghost use Rattle.lin_tool.specs.Placing.{bad_text, missed_text};
+ghost use Rattle.lin_tool.specs.Playing.{Judges, PlaysScript, ReadsLines, TellsBad, WritesPlayed};
 
 use crate::fault::Fault;
 use crate::formats::{Format, write_shown};
 use crate::notes::Notes;
 use crate::opening::{Opened, Settings, begin, within_limits};
+use crate::placing::{write_bad_lines, write_placed_unmet};
 use lin_bench::{
-    Line, Played, ReadFault, Unmet, play as play_lines, read, write_bad_line, write_unmet,
+    Line, Played, ReadFault, Reason, Unmet, bad_lines, play as play_lines, read, write_bad_line,
+    write_unmet,
 };
 use lin_cluster_parts::Cluster;
 use lin_core::Core;
 use lin_log::read_bytes;
-use std::alloc::Global;
+use lin_text::WriteFailed;
+use std::alloc::{AllocError, Global};
 use std::fs::{self, Files};
 use std::io::{self, Read, Write};
 use std::mem;
 
+/// Writes to `errors` what is wrong with a bench script of these bytes, of which this line is the
+/// first bad one: where the script has a name, a line for each bad one.
+///
+/// # Errors
+/// `OutOfMemory`, after which nothing was written.
+fn tell_bad<E: Write>(
+    alloc: Global,
+    cluster: &Cluster,
+    bytes: &[u8],
+    named: Option<&str>,
+    first: (u64, Reason),
+    errors: &mut E,
+    notes: &mut Notes<'_>,
+) -> Result<Result<(), WriteFailed>, AllocError>
+    requires { length bytes.now ≤ 16777216 }
+    ensures { TellsBad result (bad_text named.entry cluster.now bytes.now first.0 first.1)
+        (E.contents errors.old) (E.contents errors.new) }
+{
+    match named {
+        None => {
+            let (line, reason) = first;
+            let told = write_bad_line(line, &reason, errors);
+            notes.add_bench_line(alloc, bytes, line, cluster, &reason);
+            Ok(told)
+        }
+        Some(file) => {
+            let bad = bad_lines(alloc, cluster, bytes)?;
+            let told = write_bad_lines(file, bad.as_slice(), errors);
+            notes.add_bench_lines(alloc, bytes, cluster, bad.as_slice());
+            Ok(told)
+        }
+    }
+}
+
 /// What the lines of a bench script of these bytes say, each with its number.
 ///
 /// # Errors
-/// `BadBenchLine` for the first line that is bad, after its line was written to `errors`;
-/// `OutOfMemory`.
+/// `BadBenchLine` for the first line that is bad, after its line, or where the script has a name
+/// those of all bad lines, was written to `errors`; `OutOfMemory`.
 fn bench_lines<E: Write>(
     alloc: Global,
     cluster: &Cluster,
     bytes: &[u8],
+    named: Option<&str>,
     errors: &mut E,
     notes: &mut Notes<'_>,
 ) -> Result<Vec<(u64, Line)>, Fault>
     requires { length bytes.now ≤ 16777216 }
-    ensures lines { ReadsLines (λ v. v.items) result (read cluster.now bytes.now)
+    ensures lines { ReadsLines named.entry cluster.now bytes.now (λ v. v.items) result
         (E.contents errors.old) (E.contents errors.new) }
     ensures few { IfOk result (λ v. length v.items ≤ 16777217) }
 {
     match read(alloc, cluster, bytes) {
         Ok(lines) => Ok(lines),
         Err(ReadFault::BadLine { line, reason }) => {
-            let told = write_bad_line(line, &reason, errors);
-            notes.add_bench_line(alloc, bytes, line, cluster, &reason);
+            let first = (line, reason);
+            let told = tell_bad(alloc, cluster, bytes, named, first, errors, notes)?;
             Err(Fault::BadBenchLine { line, told })
         }
         Err(ReadFault::OutOfMemory) => Err(Fault::OutOfMemory),
     }
 }
 
-/// Writes to `errors` a line for each expectation that isn't met.
+/// Writes a line for each expectation that isn't met; where the script has a name, with the place.
+///
+/// # Errors
+/// `WriteFailed`, where what was written is the beginning of the lines.
+fn tell_unmet<E: Write>(
+    core: &Core,
+    named: Option<&str>,
+    unmet: &[Unmet],
+    errors: &mut E,
+) -> Result<(), WriteFailed>
+    ensures { WritesText (E.contents errors.old) (E.contents errors.new) result
+        (missed_text named.entry core.now.cluster core.now.log unmet.now) }
+{
+    match named {
+        None => write_unmet(core.cluster(), unmet, errors),
+        Some(file) => write_placed_unmet(file, core.cluster(), core.log(), unmet, errors),
+    }
+}
+
+/// Writes to `errors` a line for each expectation that isn't met; where the script has a name, with
+/// the place.
 ///
 /// # Errors
 /// `Unmet` where there is one.
-fn judge<E: Write>(cluster: &Cluster, unmet: &[Unmet], errors: &mut E) -> Result<(), Fault>
-    ensures { Judges result unmet.now (flat_map (unmet_text cluster.now) unmet.now)
+fn judge<E: Write>(
+    core: &Core,
+    named: Option<&str>,
+    unmet: &[Unmet],
+    errors: &mut E,
+) -> Result<(), Fault>
+    ensures { Judges result unmet.now
+        (missed_text named.entry core.now.cluster core.now.log unmet.now)
         (E.contents errors.old) (E.contents errors.new) }
 {
     if unmet.is_empty() {
         return Ok(());
     }
     Err(Fault::Unmet {
-        told: write_unmet(cluster, unmet, errors),
+        told: tell_unmet(core, named, unmet, errors),
     })
 }
 
@@ -78,23 +142,26 @@ fn put_played<W: Write, E: Write>(
     alloc: Global,
     format: Format<'_>,
     core: &Core,
+    named: Option<&str>,
     unmet: &[Unmet],
     writer: &mut W,
     errors: &mut E,
 ) -> Result<(), Fault>
     ensures { WritesPlayed format.entry
         (log_as format.entry core.now.cluster core.now.log unmet.now) unmet.now
-        (flat_map (unmet_text core.now.cluster) unmet.now) result
+        (missed_text named.entry core.now.cluster core.now.log unmet.now) result
         (W.contents writer.old) (W.contents writer.new)
         (E.contents errors.old) (E.contents errors.new) }
 {
     write_shown(alloc, format, core, unmet, writer)?;
-    judge(core.cluster(), unmet, errors)
+    judge(core, named, unmet, errors)
 }
 
 /// Reads a bench script, makes the steps that its lines say over a cluster, and writes their log in
 /// a format; for each expectation that isn't met, and for a bad line, a line goes to `errors`.
-/// The notes tell which steps were refused.
+/// Where the script has a name, these lines begin with it, each bad line has one, and an
+/// expectation that isn't met ends with the last slot that was finished, and the time. The notes
+/// tell which steps were refused.
 ///
 /// It begins with the schedule table `table`; each host may have `capacity` messages waiting, 1 to
 /// 1,024. (The core's memory is left to the end of the program: it would be let go of entry by
@@ -112,6 +179,7 @@ pub fn play_script<R: Read, W: Write, E: Write>(
     table: u16,
     capacity: usize,
     format: Format<'_>,
+    named: Option<&str>,
     reader: &mut R,
     writer: &mut W,
     errors: &mut E,
@@ -119,14 +187,22 @@ pub fn play_script<R: Read, W: Write, E: Write>(
 ) -> Result<(), Fault>
     requires table { table < length cluster.tables }
     requires capacity { (1 ≤ capacity) × (capacity ≤ 1024) }
-    ensures { PlaysScript format.entry cluster table capacity result (R.remaining reader.old)
+    ensures { PlaysScript format.entry named.entry cluster table capacity result (R.remaining reader.old)
         (W.contents writer.old) (W.contents writer.new)
         (E.contents errors.old) (E.contents errors.new) }
 {
     let bytes = read_bytes(alloc, reader)?;
-    let lines = bench_lines(alloc, &cluster, bytes.as_slice(), errors, notes)?;
+    let lines = bench_lines(alloc, &cluster, bytes.as_slice(), named, errors, notes)?;
     let Played { core, unmet } = play_lines(alloc, cluster, table, capacity, lines)?;
-    let judged = put_played(alloc, format, &core, unmet.as_slice(), writer, errors);
+    let judged = put_played(
+        alloc,
+        format,
+        &core,
+        named,
+        unmet.as_slice(),
+        writer,
+        errors,
+    );
     notes.add_refusals(core.log());
     mem::forget(core);
     judged
@@ -150,6 +226,7 @@ fn play_read<R: AllocGlobal + Print, S: Read, E: Write>(
         opened.table,
         within_limits(settings.capacity),
         settings.format,
+        notes.script(),
         script,
         &mut io::writer(rt),
         errors,
@@ -172,6 +249,7 @@ pub fn play<R: AllocGlobal + Files + Input + Print, E: Write>(
     notes: &mut Notes<'_>,
 ) -> Result<(), Fault> {
     let opened = begin(rt, settings, notes)?;
+    notes.begin_script();
     let answer = match script {
         None => play_read(rt, opened, settings, &mut rt.reader(), errors, notes),
         Some(path) => match fs::open(rt, path) {

@@ -90,6 +90,12 @@ fn places<'a>(alloc: Global) -> Arg<'a> {
     flag(alloc, "where", help)
 }
 
+fn script_places<'a>(alloc: Global) -> Arg<'a> {
+    let help =
+        "Begins the lines of faults and expectations with FILE:LINE, reports all bad lines, and tells the slot and the time of each expectation";
+    flag(alloc, "where", help)
+}
+
 fn explain<'a>(alloc: Global) -> Arg<'a> {
     let help = "Says more of faults, findings and refused steps, on standard error";
     flag(alloc, "explain", help)
@@ -156,6 +162,7 @@ fn play<'a>(alloc: Global) -> Result<Command<'a>, AllocError> {
         .arg(table(alloc))?
         .arg(capacity(alloc))?
         .arg(format(alloc))?
+        .arg(script_places(alloc))?
         .arg(explain(alloc))
 }
 
@@ -202,8 +209,8 @@ pub(crate) enum Request<'a> {
     },
     /// `linsim live FILE [--table T] [--capacity N]`
     Live(Settings<'a>),
-    /// `linsim play FILE [SCRIPT] [--table T] [--capacity N] [--to FORMAT]`; without a script's file
-    /// it is read from standard input.
+    /// `linsim play FILE [SCRIPT] [--table T] [--capacity N] [--to FORMAT] [--where]`; without a
+    /// script's file it is read from standard input.
     Play {
         settings: Settings<'a>,
         script: Option<&'a str>,
@@ -232,18 +239,29 @@ fn format_of<'a>(word: Option<&str>, file: Option<&'a str>) -> Format<'a> {
     }
 }
 
-/// What is wanted on standard error: `[--explain]` of each subcommand, `[--where]` of `check`.
+/// What is wanted on standard error: `[--explain]` of each subcommand, `[--where]` of `check` and
+/// `play`.
 fn wanted_of<'a>(matches: &ArgMatches<'a>) -> Wanted<'a> {
-    match matches.subcommand() {
-        Some((name, found)) => Wanted {
-            explained: found.get_flag("explain"),
-            file: if name == "check" && found.get_flag("where") {
-                found.get_str("file")
-            } else {
-                None
-            },
+    let Some((name, found)) = matches.subcommand() else {
+        return Wanted::default();
+    };
+    let explained = found.get_flag("explain");
+    match name {
+        "check" if found.get_flag("where") => Wanted {
+            explained,
+            file: found.get_str("file"),
+            script: None,
         },
-        None => Wanted::default(),
+        "play" if found.get_flag("where") => Wanted {
+            explained,
+            file: found.get_str("file"),
+            script: Some(found.get_str("script").unwrap_or("-")),
+        },
+        _ => Wanted {
+            explained,
+            file: None,
+            script: None,
+        },
     }
 }
 

@@ -1,0 +1,13 @@
+use Rattle.std.proofs.Common.{◌≡◌, ◌+◌, ◌≤◌, ◌++◌, length}
+use Rattle.lin_log.specs.Judged.{left_of, lines_left}
+use Rattle.lin_bench.specs.Lines.{bad_from, bad_lines}
+use Rattle.lin_bench.proofs.script.bad_lines.Given as goal
+
+abbrev pub invariant-loop-left : goal.invariant-loop-left
+invariant-loop-left l = record {
+  same : l.bad.items ++ bad_from l.cluster l.number (lines_left l.left) ≡ bad_lines l.cluster l.text;
+  few : l.number + left_of l.left ≤ 16777218;
+}
+
+abbrev pub decreases-loop-left : goal.decreases-loop-left
+decreases-loop-left l = left_of l.left

@@ -1,0 +1,5 @@
+use Rattle.lin_text.proofs.Growing.{grows-more}
+use Rattle.lin_tool.proofs.placing.put_moment.Goals as goal
+
+pub returns : goal.returns
+returns g c = grows-more c.put_text.ensures (grows-more c.put_last.ensures (grows-more c.put_text-2.ensures (grows-more c.put_number.ensures c.put_text-3.ensures)))

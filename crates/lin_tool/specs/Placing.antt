@@ -1,0 +1,79 @@
+-- What `play --where` says of a bench script, after its file's name.
+use Rattle.std.specs.Prelude.{ℕ, zero, suc, ◌+◌, List, [], ◌∷◌, ◌++◌, flat_map, take, reverse, codes}
+use Rattle.std.specs.Prelude.{Option, Some, None, option_map}
+use Rattle.std.specs.Borrow.{Bor}
+use Rattle.std.specs.Fmt.{decimal}
+use Rattle.std.specs.Option.{option_map_or}
+use Rattle.lin_cluster_parts.specs.Cluster.{line_of}
+use Rattle.lin_cluster_parts.specs.declared.parts.Parts.{Parts}
+use Rattle.lin_core.specs.History.{Slot, open_slot, time}
+use Rattle.lin_core.specs.declared.log.LogEntry.{LogEntry}
+use Rattle.lin_export.specs.Track.{slots_in}
+use Rattle.lin_bench.specs.Lines.{bad_lines}
+use Rattle.lin_bench.specs.Texts.{bad_line_text, expected_text, got_text, judged_text, reason_text}
+use Rattle.lin_bench.specs.Texts.{unmet_text}
+use Rattle.lin_bench.specs.declared.got.Unmet.{Unmet}
+use Rattle.lin_bench.specs.declared.reason.Reason.{Reason}
+use Rattle.lin_tool.specs.declared.placing.Moment.{Moment}
+
+-- a line's number after the file's name
+abbrev pub placed : List ℕ → ℕ → List ℕ
+placed file n = file ++ (codes ":" ++ (decimal n ++ codes ":"))
+
+-- the line of a bad line
+abbrev pub placed_bad : List ℕ → ℕ × Reason → List ℕ
+placed_bad file bad = placed file bad.0 ++ (codes " bad line: " ++ (reason_text bad.1 ++ 10 ∷ []))
+
+-- the history of a log's first entries
+abbrev pub past_at : List LogEntry → ℕ → List LogEntry
+past_at log n = reverse (take n log)
+
+-- the last of so many slots, which are counted from 0
+abbrev pub last_slot : ℕ → List ℕ
+last_slot zero = codes "no slot"
+last_slot (suc n) = codes "slot " ++ decimal n
+
+-- the last slot that was finished, by its number in a table of slots, the time, and the line's end
+abbrev pub moment_text : ℕ → ℕ → List ℕ
+moment_text slots at =
+    codes " (" ++ (last_slot slots ++ (codes ", " ++ (decimal at ++ codes " us)\n")))
+
+-- the line of an expectation that isn't met
+abbrev pub placed_unmet : List ℕ → Parts → List LogEntry → Unmet → List ℕ
+placed_unmet file c log u =
+    placed file u.line
+    ++ (judged_text (expected_text c u.expected) (got_text c u.got)
+    ++ moment_text (slots_in (past_at log u.entries)) (time c (past_at log u.entries)))
+
+-- what is said of a script's bad lines: all of them after the file's name, or without a name the
+-- first one
+abbrev pub bad_text : Option (Bor (List ℕ)) → Parts → List ℕ → ℕ → Reason → List ℕ
+bad_text None c text n why = bad_line_text n why
+bad_text (Some file) c text n why = flat_map (placed_bad file.now) (bad_lines c text)
+
+-- what is said of the expectations that a log doesn't meet
+abbrev pub missed_text : Option (Bor (List ℕ)) → Parts → List LogEntry → List Unmet → List ℕ
+missed_text None c log unmet = flat_map (unmet_text c) unmet
+missed_text (Some file) c log unmet = flat_map (placed_unmet file.now c log) unmet
+
+-- the entry of a slot
+abbrev pub entry_in : Slot → ℕ × ℕ
+entry_in s = (s.table, s.entry)
+
+-- what of a history is told
+abbrev pub moment_of : Parts → List LogEntry → Moment
+moment_of c past = record {
+  slot = option_map entry_in (open_slot past);
+  slots = slots_in past;
+  time_us = time c past;
+}
+
+-- what a finish that is done makes of it
+abbrev pub finished_on : Parts → Moment → Moment
+finished_on c m =
+    option_map_or
+    (λ (e : ℕ × ℕ). record {
+      slot = None;
+      slots = m.slots + 1;
+      time_us = m.time_us + (line_of c e.0 e.1).delay_us;
+    }) m.slot m

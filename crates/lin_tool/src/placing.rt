@@ -1,0 +1,288 @@
+//! `play --where`: bad lines of a bench script, and expectations that aren't met, after the name of
+//! its file.
+
+ghost use Rattle.std.specs.Prelude.{◌≡◌, ◌≤◌, ◌+◌, ◌*◌, ◌<◌, ◌^◌, ◌∷◌, ◌++◌, ℕ, [], List};
+ghost use Rattle.std.specs.Prelude.{codes, flat_map, length};
+ghost use Rattle.std.specs.Fmt.{decimal};
+ghost use Rattle.lin_cluster_parts.specs.Cluster.{line_of};
+ghost use Rattle.lin_cluster_parts.specs.declared.parts.Parts.{Parts};
+ghost use Rattle.lin_core.specs.History.{Slot, slot_after_event, slot_after_events};
+ghost use Rattle.lin_core.specs.declared.log.LogEntry.{LogEntry};
+ghost use Rattle.lin_text.specs.Written.{Grows, WritesText};
+ghost use Rattle.lin_tool.specs.Placing.{entry_in, finished_on, last_slot, moment_of, moment_text, past_at};
+ghost use Rattle.lin_tool.specs.Placing.{placed, placed_bad, placed_unmet};
+
+use lin_bench::{Reason, Unmet, put_judged, put_reason};
+use lin_cluster_parts::Cluster;
+use lin_core::{Event, Log, LogEntry, Reply, Step};
+use lin_text::{TextWriter, WriteFailed};
+use std::io::Write;
+
+/// What of a log is told: the table and the entry of the slot that is open, how many slots are
+/// finished, and their delays, in microseconds.
+#[derive(Clone, Copy)]
+pub(crate) struct Moment {
+    slot: Option<(u16, u16)>,
+    slots: u64,
+    time_us: u64,
+}
+
+/// The delay of an entry, in microseconds; 1 where the cluster has none there.
+fn delay_us(cluster: &Cluster, table: u16, entry: u16) -> u32
+    ensures delay { result ≡ (line_of cluster.now table entry).delay_us }
+    ensures limit { result ≤ 1000000000 }
+{
+    cluster.sound();
+    if (table as usize) < cluster.tables() && (entry as usize) < cluster.entries(table) {
+        cluster.delay_us(table, entry)
+    } else {
+        1
+    }
+}
+
+/// The entry of a slot after an event.
+fn told_by(event: &Event, entry: (u16, u16)) -> (u16, u16)
+    ensures { (s : Slot) → entry ≡ entry_in s → result ≡ entry_in (slot_after_event event.now s) }
+{
+    match event {
+        Event::Slot { table, entry, .. } => (*table, *entry),
+        _ => entry,
+    }
+}
+
+/// The entry of a slot after events.
+fn told_by_all(events: &[Event], entry: (u16, u16)) -> (u16, u16)
+    ensures { (s : Slot) → entry ≡ entry_in s
+        → result ≡ entry_in (slot_after_events events.now s) }
+{
+    let mut told = entry;
+    for event in events {
+        told = told_by(event, told);
+    }
+    told
+}
+
+impl Moment {
+    /// That of an empty log.
+    fn new() -> Moment
+        ensures { (c : Parts) → result ≡ moment_of c [] }
+    {
+        Moment {
+            slot: None,
+            slots: 0,
+            time_us: 0,
+        }
+    }
+
+    /// That after a finish.
+    fn finished(self, cluster: &Cluster) -> Moment
+        requires time { self.time_us < 2 ^ 63 }
+        requires slots { self.slots < 2 ^ 63 }
+        ensures told { result ≡ finished_on cluster.now self }
+        ensures time { result.time_us ≤ self.time_us + 1000000000 }
+        ensures count { result.slots ≤ self.slots + 1 }
+    {
+        match self.slot {
+            Some((table, entry)) => Moment {
+                slot: None,
+                slots: self.slots + 1,
+                time_us: self.time_us + u64::from(delay_us(cluster, table, entry)),
+            },
+            None => self,
+        }
+    }
+
+    /// That after one entry more.
+    fn after(self, cluster: &Cluster, entry: &LogEntry) -> Moment
+        requires time { self.time_us < 2 ^ 63 }
+        requires slots { self.slots < 2 ^ 63 }
+        ensures told { (past : List LogEntry) → self ≡ moment_of cluster.now past
+            → result ≡ moment_of cluster.now (entry.now ∷ past) }
+        ensures time { result.time_us ≤ self.time_us + 1000000000 }
+        ensures count { result.slots ≤ self.slots + 1 }
+    {
+        let Reply::Done(events) = &entry.reply else {
+            return self;
+        };
+        let slot = match (&entry.step, self.slot) {
+            (Step::Open, _) => Some(told_by_all(events.as_slice(), (0, 0))),
+            (Step::Answer { .. }, Some(slot)) => Some(told_by_all(events.as_slice(), slot)),
+            (Step::Finish, _) => return self.finished(cluster),
+            (_, slot) => slot,
+        };
+        Moment { slot, ..self }
+    }
+
+    /// That after so many entries of a log, of which some were read.
+    fn on_to(self, cluster: &Cluster, log: &Log, read: usize, entries: usize) -> Moment
+        requires told { self ≡ moment_of cluster.now (past_at log.now.entries read) }
+        requires order { read ≤ entries }
+        requires there { entries ≤ length log.now.entries }
+        requires few { entries < 2 ^ 32 }
+        requires time { self.time_us ≤ 1000000000 * read }
+        requires slots { self.slots ≤ read }
+        ensures told { result ≡ moment_of cluster.now (past_at log.now.entries entries) }
+        ensures time { result.time_us ≤ 1000000000 * entries }
+        ensures count { result.slots ≤ entries }
+    {
+        let mut moment = self;
+        for index in read..entries {
+            moment = moment.after(cluster, log.entry(index));
+        }
+        moment
+    }
+
+    /// That after so many entries of a log, by the one after some that were read. (A play's log only
+    /// grows; where fewer entries are asked for than were read, it is read again.)
+    fn at(self, cluster: &Cluster, log: &Log, read: usize, entries: usize) -> Moment
+        requires told { self ≡ moment_of cluster.now (past_at log.now.entries read) }
+        requires there { entries ≤ length log.now.entries }
+        requires few { entries < 2 ^ 32 }
+        requires time { self.time_us ≤ 1000000000 * read }
+        requires slots { self.slots ≤ read }
+        ensures told { result ≡ moment_of cluster.now (past_at log.now.entries entries) }
+        ensures time { result.time_us ≤ 1000000000 * entries }
+        ensures count { result.slots ≤ entries }
+    {
+        if read <= entries {
+            self.on_to(cluster, log, read, entries)
+        } else {
+            Moment::new().on_to(cluster, log, 0, entries)
+        }
+    }
+}
+
+/// A line's number after a file's name.
+fn put_placed<W: Write>(out: &mut TextWriter<'_, W>, file: &str, line: u64)
+    ensures { Grows W.contents out.old out.new (placed file.now line) }
+{
+    out.put_text(file);
+    out.put_text(":");
+    out.put_number(line);
+    out.put_text(":");
+}
+
+fn put_bad<W: Write>(out: &mut TextWriter<'_, W>, file: &str, bad: &(u64, Reason))
+    ensures { Grows W.contents out.old out.new (placed_bad file.now bad.now) }
+{
+    put_placed(out, file, bad.0);
+    out.put_text(" bad line: ");
+    put_reason(out, &bad.1);
+    out.put_byte(b'\n');
+}
+
+fn put_all_bad<W: Write>(out: &mut TextWriter<'_, W>, file: &str, bad: &[(u64, Reason)])
+    ensures { Grows W.contents out.old out.new (flat_map (placed_bad file.now) bad.now) }
+{
+    for one in bad {
+        put_bad(out, file, one);
+    }
+}
+
+/// Writes a line for each bad line of a bench script: `FILE:LINE: bad line: REASON`.
+///
+/// # Errors
+/// `WriteFailed` at the first error of the writer; what was written then is the beginning of the
+/// lines.
+pub(crate) fn write_bad_lines<W: Write>(
+    file: &str,
+    bad: &[(u64, Reason)],
+    writer: &mut W,
+) -> Result<(), WriteFailed>
+    ensures { WritesText (W.contents writer.old) (W.contents writer.new) result
+        (flat_map (placed_bad file.now) bad.now) }
+{
+    let mut out = TextWriter::new(writer);
+    put_all_bad(&mut out, file, bad);
+    out.finish()
+}
+
+/// The last of so many slots, which are counted from 0.
+fn put_last<W: Write>(out: &mut TextWriter<'_, W>, slots: u64)
+    ensures { Grows W.contents out.old out.new (last_slot slots) }
+{
+    if slots == 0 {
+        out.put_text("no slot");
+    } else {
+        out.put_text("slot ");
+        out.put_number(slots - 1);
+    }
+}
+
+/// The last slot that was finished, the time, and the line's end.
+fn put_moment<W: Write>(out: &mut TextWriter<'_, W>, moment: Moment)
+    ensures { Grows W.contents out.old out.new (moment_text moment.slots moment.time_us) }
+{
+    out.put_text(" (");
+    put_last(out, moment.slots);
+    out.put_text(", ");
+    out.put_number(moment.time_us);
+    out.put_text(" us)\n");
+}
+
+/// The line of an expectation that isn't met, which was judged at this moment of a log.
+fn put_unmet<W: Write>(
+    out: &mut TextWriter<'_, W>,
+    file: &str,
+    cluster: &Cluster,
+    moment: Moment,
+    unmet: &Unmet,
+)
+    ensures { (log : List LogEntry) → moment ≡ moment_of cluster.now (past_at log unmet.now.entries)
+        → Grows W.contents out.old out.new (placed_unmet file.now cluster.now log unmet.now) }
+{
+    put_placed(out, file, unmet.line);
+    put_judged(out, cluster, &unmet.expected, &unmet.got);
+    put_moment(out, moment);
+}
+
+/// As many entries as a log has at most.
+fn within(log: &Log, entries: usize) -> usize
+    ensures there { result ≤ length log.now.entries }
+    ensures few { result < 2 ^ 32 }
+    ensures same { past_at log.now.entries result ≡ past_at log.now.entries entries }
+{
+    entries.min(log.len())
+}
+
+fn put_all_unmet<W: Write>(
+    out: &mut TextWriter<'_, W>,
+    file: &str,
+    cluster: &Cluster,
+    log: &Log,
+    unmet: &[Unmet],
+)
+    ensures { Grows W.contents out.old out.new
+        (flat_map (placed_unmet file.now cluster.now log.now.entries) unmet.now) }
+{
+    let mut read = 0;
+    let mut moment = Moment::new();
+    for one in unmet {
+        let entries = within(log, one.entries);
+        moment = moment.at(cluster, log, read, entries);
+        read = entries;
+        put_unmet(out, file, cluster, moment, one);
+    }
+}
+
+/// Writes a line for each expectation that a log doesn't meet, in order:
+/// `FILE:LINE: expected WHAT: GOT (slot N, T us)`, with the number, from 0, of the last slot that
+/// was finished when it was judged, and the time in microseconds.
+///
+/// # Errors
+/// `WriteFailed` at the first error of the writer; what was written then is the beginning of the
+/// lines.
+pub(crate) fn write_placed_unmet<W: Write>(
+    file: &str,
+    cluster: &Cluster,
+    log: &Log,
+    unmet: &[Unmet],
+    writer: &mut W,
+) -> Result<(), WriteFailed>
+    ensures { WritesText (W.contents writer.old) (W.contents writer.new) result
+        (flat_map (placed_unmet file.now cluster.now log.now.entries) unmet.now) }
+{
+    let mut out = TextWriter::new(writer);
+    put_all_unmet(&mut out, file, cluster, log, unmet);
+    out.finish()
+}
