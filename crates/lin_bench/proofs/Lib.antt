@@ -5,6 +5,7 @@ pub mod SlotSteps
 pub mod Events
 pub mod Searches
 pub mod Walks
+pub mod CarriedFrames
 pub mod LossSearches
 pub mod Hosts
 pub mod Runs

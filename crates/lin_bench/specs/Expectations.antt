@@ -8,6 +8,7 @@ use Rattle.lin_core.specs.Tables.{cause_word, causes, look_word, looks, named, n
 use Rattle.lin_core.specs.Tables.{refusal_number, refusal_word, refusals}
 use Rattle.lin_core.specs.declared.reply.Refusal.{Refusal}
 use Rattle.lin_log.specs.Said.{is_number}
+use Rattle.lin_bench.specs.Fields.{frame_field}
 use Rattle.lin_bench.specs.Fields.{◌>>=◌, bytes_fields, node_field, number_field, or_bad}
 use Rattle.lin_bench.specs.Fields.{count_field, range_ends, range_field, rows_and_time, signal_field}
 use Rattle.lin_bench.specs.Fields.{table_field, value_field}
@@ -76,6 +77,15 @@ abbrev pub lost_form : Parts → List (List ℕ) → List (List ℕ) → Result 
 lost_form c all (n ∷ why ∷ []) = loss_of c all n why
 lost_form c all fs = Err (UnknownExpectation all)
 
+-- a frame, and its data bytes, where they are said
+abbrev pub frame_form : Parts → List (List ℕ) → List (List ℕ) → Result Expected Reason
+frame_form c all [] = Err (UnknownExpectation all)
+frame_form c all (f ∷ []) = frame_field c f >>= (λ frame. Ok (expected.Frame frame None))
+frame_form c all (f ∷ g ∷ fs) = do
+  frame ← frame_field c f
+  bytes ← bytes_fields c (g ∷ fs)
+  Ok (expected.Frame frame (Some bytes))
+
 abbrev pub seen_form : List (List ℕ) → List (List ℕ) → Result Expected Reason
 seen_form all (word ∷ []) =
     or_bad (named look_word looks word) (UnknownExpectation all)
@@ -128,6 +138,7 @@ word_expectation c all word fs =
     else if bytes_eq word (codes "sent") then sent_form c all fs
     else if bytes_eq word (codes "lost") then lost_form c all fs
     else if bytes_eq word (codes "seen") then seen_form all fs
+    else if bytes_eq word (codes "frame") then frame_form c all fs
     else if bytes_eq word (codes "slot") then slot_form c all fs
     else if bytes_eq word (codes "done") then lone_form all expected.Done fs
     else if bytes_eq word (codes "refused") then refused_form all fs

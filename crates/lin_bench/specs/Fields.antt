@@ -2,17 +2,21 @@
 -- said of one that is bad.
 use Rattle.std.specs.Prelude.{ℕ, ◌==◌, ◌&&◌, nat_lt, if◌then◌else◌, true, List, [], ◌∷◌, map}
 use Rattle.std.specs.Prelude.{drop, slice_index, Option, Some, None, option_map, Result, Ok, Err}
-use Rattle.std.specs.Prelude.{codes, reverse}
+use Rattle.std.specs.Prelude.{codes, length, reverse}
 use Rattle.std.specs.Borrow.{Bor}
 use Rattle.std.specs.Str.{bytes_eq}
 use Rattle.lin_frame.specs.declared.value.Value.{Value}
 use Rattle.lin_frame.specs.declared.value.Value.TheVariants.{Scalar}
 use Rattle.lin_cluster_parts.specs.declared.parts.Parts.{Parts}
-use Rattle.lin_log.specs.Language.{named}
+use Rattle.lin_cluster_parts.specs.Cluster.{frame_name}
+use Rattle.lin_log.specs.Language.{Called, named, number_named}
+use Rattle.lin_log.specs.Said.{is_number}
 use Rattle.lin_log.specs.Said as log
 use Rattle.lin_log.specs.declared.reason.Reason.{Reason as StepReason}
 use Rattle.lin_bench.specs.declared.reason.Reason.{Reason}
-use Rattle.lin_bench.specs.declared.reason.Reason.TheVariants.{Step, NoRange, TooSmall}
+use Rattle.lin_bench.specs.declared.reason.Reason.TheVariants.{Step, NoFrame, NoRange, TooSmall}
+use Rattle.lin_bench.specs.declared.expected.Carried.{Carried}
+use Rattle.lin_bench.specs.declared.expected.Carried.TheVariants.{Signals, Request, Response}
 
 -- what is said in turn: the first bad part says why
 infixl 10 ◌>>=◌
@@ -39,6 +43,25 @@ words fs = map (λ f. f.now) fs
 
 abbrev pub number_field : ℕ → List ℕ → Result ℕ Reason
 number_field most f = of_step (log.number_field most f)
+
+-- the unconditional frames of a cluster, and a frame by its name: theirs go before those of messages
+abbrev pub frames_called : Parts → Called
+frames_called c = record { count = length c.frames; name = frame_name c }
+
+abbrev pub message_frame : List ℕ → Option Carried
+message_frame name =
+    if bytes_eq name (codes "MasterReq") then Some Request
+    else if bytes_eq name (codes "SlaveResp") then Some Response
+    else None
+
+abbrev pub frame_called : List ℕ → Option ℕ → Option Carried
+frame_called name (Some f) = Some (Signals f)
+frame_called name None = message_frame name
+
+abbrev pub frame_field : Parts → List ℕ → Result Carried Reason
+frame_field c f =
+    if is_number f then number_field 65535 f >>= (λ n. Ok (Signals n))
+    else or_bad (frame_called f (number_named (frames_called c) f)) (NoFrame f)
 
 -- 1 to 1,000,000
 abbrev pub count_field : List ℕ → Result ℕ Reason

@@ -10,6 +10,7 @@ pub mod Verdicts
 pub mod Searches
 pub mod Arrivals
 pub mod Losses
+pub mod Carried
 pub mod Made
 pub mod Making
 pub mod Adding

@@ -1,6 +1,6 @@
 -- What is said of bad lines and of expectations that aren't met.
 use Rattle.std.specs.Prelude.{ℕ, ◌==◌, if◌then◌else◌, List, [], ◌∷◌, ◌++◌, flat_map}
-use Rattle.std.specs.Prelude.{codes, Some, None}
+use Rattle.std.specs.Prelude.{codes, Option, Some, None}
 use Rattle.std.specs.Fmt.{decimal}
 use Rattle.lin_cluster_parts.specs.declared.parts.Parts.{Parts}
 use Rattle.lin_core.specs.Tables.{cause_word, look_word, refusal_word}
@@ -8,6 +8,9 @@ use Rattle.lin_log.specs.Language.{named, word_of}
 use Rattle.lin_log.specs.Words.{hex_word, spaced_word, value_word}
 use Rattle.lin_log.specs.declared.reason.Reason.{Reason as StepReason}
 use Rattle.lin_log.specs.declared.reason.Reason.TheVariants as step
+use Rattle.lin_bench.specs.Fields.{frames_called}
+use Rattle.lin_bench.specs.declared.expected.Carried.{Carried}
+use Rattle.lin_bench.specs.declared.expected.Carried.TheVariants.{Signals, Request, Response}
 use Rattle.lin_bench.specs.declared.reason.Reason.{Reason}
 use Rattle.lin_bench.specs.declared.reason.Reason.TheVariants as reason
 use Rattle.lin_bench.specs.declared.expected.Expected.{Expected}
@@ -49,6 +52,7 @@ step_reason_text step.TimeoutForm = codes "timeout takes down or up"
 abbrev pub reason_text : Reason → List ℕ
 reason_text (reason.Step why) = step_reason_text why
 reason_text (reason.NoRefusal name) = codes "no refusal " ++ name
+reason_text (reason.NoFrame name) = codes "no frame " ++ name
 reason_text (reason.NoRange field) = field ++ codes " is no range"
 reason_text reason.TooSmall = codes "0 is too small"
 reason_text reason.SlotsForm = codes "slots takes a number, a number and ms, or idle"
@@ -80,6 +84,16 @@ signal_word c s = word_of (named c).signals s
 abbrev pub table_word : Parts → ℕ → List ℕ
 table_word c t = word_of (named c).tables t
 
+abbrev pub frame_word : Parts → Carried → List ℕ
+frame_word c (Signals f) = word_of (frames_called c) f
+frame_word c Request = codes "MasterReq"
+frame_word c Response = codes "SlaveResp"
+
+-- bytes, where they are said
+abbrev pub said_word : Option (List ℕ) → List ℕ
+said_word None = []
+said_word (Some bytes) = spaced_word (hex_word bytes)
+
 -- what is expected
 abbrev pub expected_text : Parts → Expected → List ℕ
 expected_text c (expected.Signal node signal value) =
@@ -108,6 +122,8 @@ expected_text c (expected.Sent host) = codes "sent " ++ node_word c host
 expected_text c (expected.Lost host cause) =
     codes "lost " ++ (node_word c host ++ spaced_word (cause_word cause))
 expected_text c (expected.Seen how) = codes "seen " ++ look_word how
+expected_text c (expected.Frame frame bytes) =
+    codes "frame " ++ (frame_word c frame ++ said_word bytes)
 expected_text c (expected.Slot table entry) =
     codes "slot " ++ (table_word c table ++ spaced_word (decimal entry))
 expected_text c expected.Done = codes "done"
@@ -145,6 +161,7 @@ got_text c (got.LostOf host number cause) =
     ++ (codes " of " ++ (node_word c host ++ (codes " lost " ++ cause_word cause))))
 got_text c got.NoEvent = codes "none"
 got_text c (got.Seen how) = look_word how
+got_text c (got.Frame frame bytes) = frame_word c frame ++ spaced_word (hex_word bytes)
 got_text c (got.Slot table entry) = table_word c table ++ spaced_word (decimal entry)
 got_text c got.NoSlot = codes "no slot"
 got_text c got.Done = codes "done"

@@ -2,27 +2,34 @@
 -- newest first.
 use Rattle.std.specs.Prelude.{ℕ, ◌==◌, ◌&&◌, Bool, true, false, nat_le, nat_lt, if◌then◌else◌, List, []}
 use Rattle.std.specs.Prelude.{◌∷◌, ◌++◌, filter, length, slice_get, Option, Some, None, count_by}
-use Rattle.std.specs.Prelude.{find, map, reverse, slice_index, ◌*◌, ◌-◌}
+use Rattle.std.specs.Prelude.{find, map, option_map, reverse, take, slice_index, ◌*◌, ◌-◌}
 use Rattle.std.specs.List.{filter_map, list_any}
 use Rattle.std.specs.Option.{option_map_or}
 use Rattle.std.specs.Str.{bytes_eq}
 use Rattle.lin_frame.specs.declared.value.Value.{Value}
 use Rattle.lin_frame.specs.declared.value.Value.TheVariants.{Scalar, Bytes}
-use Rattle.lin_cluster_parts.specs.Cluster.{nodes}
+use Rattle.lin_cluster_parts.specs.Cluster.{line_of, nodes}
+use Rattle.lin_cluster_parts.specs.declared.parts.Entry.{Entry}
+use Rattle.lin_cluster_parts.specs.declared.parts.Entry.TheVariants.{MasterReq, SlaveResp}
 use Rattle.lin_cluster_parts.specs.declared.parts.Parts.{Parts}
-use Rattle.lin_core.specs.History.{asleep, events, time}
+use Rattle.lin_core.specs.History.{Slot, asleep, did, events, is_finish, open_slot, time}
 use Rattle.lin_core.specs.Links.{waiting}
-use Rattle.lin_core.specs.Signals.{value_at}
+use Rattle.lin_core.specs.Signals.{carried_by, value_at}
 use Rattle.lin_core.specs.Tables.{cause_number, look_number, look_of, refusal_number}
 use Rattle.lin_core.specs.declared.event.Event.{Event}
 use Rattle.lin_core.specs.declared.event.Event.TheVariants as event
 use Rattle.lin_core.specs.declared.event.Look.{Look}
+use Rattle.lin_core.specs.declared.event.Look.TheVariants as look
+use Rattle.lin_core.specs.declared.event.Seen.{Seen}
+use Rattle.lin_core.specs.declared.event.Seen.TheVariants.{Good}
 use Rattle.lin_core.specs.declared.link.Cause.{Cause}
 use Rattle.lin_core.specs.declared.log.LogEntry.{LogEntry}
 use Rattle.lin_core.specs.declared.reply.Refusal.{Refusal}
 use Rattle.lin_core.specs.declared.reply.Reply.{Reply}
 use Rattle.lin_core.specs.declared.reply.Reply.TheVariants.{Done, Refused}
 use Rattle.lin_bench.specs.Slots.{pending}
+use Rattle.lin_bench.specs.declared.expected.Carried.{Carried}
+use Rattle.lin_bench.specs.declared.expected.Carried.TheVariants.{Signals, Request, Response}
 use Rattle.lin_bench.specs.declared.expected.Expected.{Expected}
 use Rattle.lin_bench.specs.declared.expected.Expected.TheVariants as expected
 use Rattle.lin_bench.specs.declared.got.Got.{Got}
@@ -143,6 +150,35 @@ loss_after which taken before (e ∷ es) =
 abbrev pub first_loss : List LogEntry → List EventKind → Option ℕ → Option Event
 first_loss past taken which = loss_after which taken [] (all_events past)
 
+-- ---- what the last slot that ended carried
+abbrev pub last_slot : List LogEntry → Option Slot
+last_slot [] = None
+last_slot (e ∷ past) = if did is_finish e then open_slot past else last_slot past
+
+abbrev pub carried_for : Parts → Entry → Slot → Option Carried
+carried_for c MasterReq s = Some Request
+carried_for c SlaveResp s = Some Response
+carried_for c entry s = option_map Signals (carried_by c entry s)
+
+abbrev pub carried : Parts → Slot → Option Carried
+carried c s = carried_for c (line_of c s.table s.entry).entry s
+
+abbrev pub last_carried : Parts → List LogEntry → Option Carried
+last_carried c past = option_map_or (carried c) (last_slot past) None
+
+abbrev pub same_frame : Carried → Carried → Bool
+same_frame (Signals f) (Signals g) = f == g
+same_frame Request Request = true
+same_frame Response Response = true
+same_frame frame other = false
+
+-- the data bytes of a response: all but its checksum
+abbrev pub data_of : List ℕ → List ℕ
+data_of answer = take (length answer - 1) answer
+
+abbrev pub same_data : Option (List ℕ) → List ℕ → Bool
+same_data bytes row = option_map_or (λ b. bytes_eq row b) bytes true
+
 -- ---- verdicts: none where the expectation is met, otherwise what is so
 abbrev pub unless : Bool → Got → Option Got
 unless met what = if met then None else Some what
@@ -202,6 +238,20 @@ seen_verdict how (Some (event.Seen s)) =
     unless (look_number (look_of s) == look_number how) (got.Seen (look_of s))
 seen_verdict how other = Some got.NoSlot
 
+-- how the last slot that ended was seen, and what it carried
+abbrev pub good_verdict : Carried → Option (List ℕ) → List ℕ → Option Carried → Option Got
+good_verdict frame bytes row None = Some (got.Seen look.Good)
+good_verdict frame bytes row (Some f) =
+    unless (same_frame f frame && same_data bytes row) (got.Frame f row)
+
+abbrev pub carried_verdict : Carried → Option (List ℕ) → Option Carried → Seen → Option Got
+carried_verdict frame bytes last (Good answer) = good_verdict frame bytes (data_of answer) last
+carried_verdict frame bytes last how = Some (got.Seen (look_of how))
+
+abbrev pub frame_verdict : Carried → Option (List ℕ) → Option Carried → Option Event → Option Got
+frame_verdict frame bytes last (Some (event.Seen how)) = carried_verdict frame bytes last how
+frame_verdict frame bytes last other = Some got.NoSlot
+
 abbrev pub slot_verdict : ℕ → ℕ → Option Event → Option Got
 slot_verdict table entry (Some (event.Slot t e header)) =
     unless (t == table && e == entry) (got.Slot t e)
@@ -247,6 +297,8 @@ verdict c past noted taken (expected.Sent host) = sent_verdict (next_event past 
 verdict c past noted taken (expected.Lost host cause) =
     lost_verdict cause (next_event past taken (Fates host))
 verdict c past noted taken (expected.Seen how) = seen_verdict how (last_event past Ends)
+verdict c past noted taken (expected.Frame frame bytes) =
+    frame_verdict frame bytes (last_carried c past) (last_event past Ends)
 verdict c past noted taken (expected.Slot table entry) = slot_verdict table entry (last_event past Begins)
 verdict c past noted taken expected.Done = done_verdict (newest_reply past)
 verdict c past noted taken (expected.Refused why) = refused_verdict why (newest_reply past)

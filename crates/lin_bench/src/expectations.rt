@@ -1,7 +1,7 @@
 //! The forms of expectations.
 
 ghost use Rattle.std.specs.Prelude.{◌≡◌, IfOk, codes};
-ghost use Rattle.lin_bench.specs.Expectations.{bytes_form, expectation, lone_form, loss_of, lost_form};
+ghost use Rattle.lin_bench.specs.Expectations.{bytes_form, expectation, frame_form, lone_form, loss_of, lost_form};
 ghost use Rattle.lin_bench.specs.Expectations.{message_form, no_form, no_lost_form, no_message_form, signal_value};
 ghost use Rattle.lin_bench.specs.Expectations.{refusal_field, refused_form, seen_form, sent_form};
 ghost use Rattle.lin_bench.specs.Expectations.{signal_form, slot_form, until_form, waiting_form};
@@ -14,8 +14,8 @@ ghost use Rattle.lin_bench.specs.declared.reason.Reason.{Reason};
 use crate::expected::Expected;
 use crate::fault::LineFault;
 use crate::fields::{
-    count_field, fields, node_field, number_field, range_ends, range_field, rows_and_time,
-    rows_bytes, signal_field, table_field, value_field,
+    count_field, fields, frame_field, node_field, number_field, range_ends, range_field,
+    rows_and_time, rows_bytes, signal_field, table_field, value_field,
 };
 use crate::reason::Reason;
 use lin_cluster_parts::Cluster;
@@ -203,6 +203,31 @@ fn lost(alloc: Global, cluster: &Cluster, all: &[u8], line: &[u8]) -> Result<Exp
     loss(alloc, cluster, all, host, why)
 }
 
+fn frame(
+    alloc: Global,
+    cluster: &Cluster,
+    all: &[u8],
+    parts: &[&[u8]],
+) -> Result<Expected, LineFault>
+    ensures { Gives (λ e. e) result (frame_form cluster.now (fields all.now) (words parts.now)) }
+{
+    match parts {
+        [] => Err(no_form(alloc, cluster, all)?),
+        [frame] => Ok(Expected::Frame {
+            frame: frame_field(alloc, cluster, frame)?,
+            bytes: None,
+        }),
+        [frame, rows @ ..] => {
+            let frame = frame_field(alloc, cluster, frame)?;
+            let bytes = rows_bytes(alloc, cluster, rows)?;
+            Ok(Expected::Frame {
+                frame,
+                bytes: Some(bytes),
+            })
+        }
+    }
+}
+
 fn seen(
     alloc: Global,
     cluster: &Cluster,
@@ -346,6 +371,8 @@ fn of_word(
         lost(alloc, cluster, all, line)
     } else if word == b"seen".as_slice() {
         seen(alloc, cluster, all, parts)
+    } else if word == b"frame".as_slice() {
+        frame(alloc, cluster, all, parts)
     } else if word == b"slot".as_slice() {
         slot(alloc, cluster, all, parts)
     } else if word == b"done".as_slice() {

@@ -3,6 +3,17 @@
 use lin_core::{Cause, Look, Payload, Refusal};
 use lin_frame::Value;
 
+/// A frame that slots carry.
+#[derive(Clone, Copy, Debug)]
+pub enum Carried {
+    /// The unconditional frame with this number.
+    Signals(u16),
+    /// A frame of a message from the commander (ISO 17987-2, master request frame).
+    Request,
+    /// A frame of a message to it (ISO 17987-2, slave response frame).
+    Response,
+}
+
 /// What a bench script expects of the steps before.
 #[derive(Drop)]
 pub enum Expected {
@@ -58,6 +69,12 @@ pub enum Expected {
     },
     /// The last slot that ended was seen so.
     Seen(Look),
+    /// The last slot that ended was seen good, and carried this frame, and these data bytes where they
+    /// are said.
+    Frame {
+        frame: Carried,
+        bytes: Option<Payload>,
+    },
     /// The last slot that began was for this entry of a schedule table.
     Slot {
         table: u16,

@@ -6,10 +6,13 @@ ghost use Rattle.std.specs.Str.{bytes_eq};
 ghost use Rattle.hex.specs.Hex.{decode_of};
 ghost use Rattle.lin_log.specs.Said.{bytes_of, hex_bytes, row};
 ghost use Rattle.lin_bench.specs.Fields.{bytes_fields, count_field, fields, node_field, number_field};
-ghost use Rattle.lin_bench.specs.Fields.{after_dots, range_ends, range_field, rows_and_time};
+ghost use Rattle.lin_bench.specs.Fields.{after_dots, frame_called, frame_field, frames_called, message_frame};
+ghost use Rattle.lin_log.specs.Language.{number_named};
+ghost use Rattle.lin_bench.specs.Fields.{range_ends, range_field, rows_and_time};
 ghost use Rattle.lin_bench.specs.Fields.{signal_field, table_field, value_field, words};
 ghost use Rattle.lin_bench.specs.Read.{Gives};
 
+use crate::expected::Carried;
 use crate::fault::LineFault;
 use crate::reason::Reason;
 use hex::FromHexError;
@@ -17,7 +20,7 @@ use lin_cluster_parts::Cluster;
 use lin_core::Payload;
 use lin_frame::Value;
 use lin_lists::{Many, Text};
-use lin_log::{Reason as StepReason, first_field};
+use lin_log::{Reason as StepReason, first_field, is_number};
 use std::alloc::{AllocError, Global};
 
 /// The fields of a line.
@@ -84,6 +87,54 @@ pub(crate) fn table_field(alloc: Global, cluster: &Cluster, field: &[u8]) -> Res
     ensures { Gives (λ n. n) result (table_field cluster.now field.now) }
 {
     Ok(lin_log::table_field(alloc, cluster, field)?)
+}
+
+/// The unconditional frame with a name.
+fn frame_named(cluster: &Cluster, name: &[u8]) -> Option<u16>
+    ensures { result ≡ number_named (frames_called cluster.now) name.now }
+{
+    cluster.sound();
+    (0..cluster.frames() as u16).find(|frame| cluster.frame_name(*frame) == name)
+}
+
+/// The frame of messages with a name.
+fn message_frame(name: &[u8]) -> Option<Carried>
+    ensures { result ≡ message_frame name.now }
+{
+    if name == b"MasterReq".as_slice() {
+        Some(Carried::Request)
+    } else if name == b"SlaveResp".as_slice() {
+        Some(Carried::Response)
+    } else {
+        None
+    }
+}
+
+/// The frame with a name.
+fn frame_called(cluster: &Cluster, name: &[u8]) -> Option<Carried>
+    ensures { result ≡ frame_called name.now (number_named (frames_called cluster.now) name.now) }
+{
+    match frame_named(cluster, name) {
+        Some(frame) => Some(Carried::Signals(frame)),
+        None => message_frame(name),
+    }
+}
+
+/// A frame, by its name or its number.
+pub(crate) fn frame_field(
+    alloc: Global,
+    cluster: &Cluster,
+    field: &[u8],
+) -> Result<Carried, LineFault>
+    ensures { Gives (λ f. f) result (frame_field cluster.now field.now) }
+{
+    if is_number(field) {
+        return Ok(Carried::Signals(number_field(alloc, field, 65_535)? as u16));
+    }
+    match frame_called(cluster, field) {
+        Some(frame) => Ok(frame),
+        None => Err(LineFault::Bad(Reason::NoFrame(Text::copied(alloc, field)?))),
+    }
 }
 
 /// The bytes that the fields of a line spell.

@@ -1,6 +1,6 @@
 //! Verdicts on lines, and expectations that aren't met.
 
-use crate::expected::Expected;
+use crate::expected::{Carried, Expected};
 use lin_core::{Cause, Look, Payload, Refusal};
 use lin_frame::Value;
 use lin_lists::Many;
@@ -35,6 +35,8 @@ pub enum Got {
     NoEvent,
     /// The last slot that ended was seen so.
     Seen(Look),
+    /// The last slot that ended carried this frame with these data bytes.
+    Frame { frame: Carried, bytes: Payload },
     /// The last slot that began was for this entry of a schedule table.
     Slot { table: u16, entry: u16 },
     /// No slot began, or none ended.

@@ -21,6 +21,7 @@
 mod answers;
 mod arrivals;
 mod bench;
+mod carried;
 mod ends;
 mod expectations;
 mod expected;
@@ -44,7 +45,7 @@ mod texts;
 mod verdicts;
 
 pub use bench::Bench;
-pub use expected::Expected;
+pub use expected::{Carried, Expected};
 pub use fault::{LineFault, MakeFault, PlayFault, ReadFault};
 pub use got::{Got, Pending, Unmet, Verdict};
 pub use law::{plain_scripts_say_the_same, rules_alone_add_steps};

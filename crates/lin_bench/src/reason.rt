@@ -9,6 +9,8 @@ pub enum Reason {
     Step(lin_log::Reason),
     /// No refusal has this name.
     NoRefusal(Text),
+    /// No frame has this name.
+    NoFrame(Text),
     /// A field of two numbers of which the first is above the second, or that aren't both numbers.
     NoRange(Text),
     /// A 0 where a number from 1 on is wanted.

@@ -5,14 +5,15 @@ ghost use Rattle.std.specs.Fmt.{decimal};
 ghost use Rattle.lin_log.specs.Words.{spaced_word};
 ghost use Rattle.lin_text.specs.Written.{Grows, WritesText};
 ghost use Rattle.lin_bench.specs.Texts.{bad_line_text, expected_text, fields_text, fields_word};
-ghost use Rattle.lin_bench.specs.Texts.{got_text, judged_text, node_word, other_pending_text, pending_text};
+ghost use Rattle.lin_bench.specs.Texts.{frame_word, got_text, judged_text, node_word};
+ghost use Rattle.lin_bench.specs.Texts.{other_pending_text, pending_text, said_word};
 ghost use Rattle.lin_bench.specs.Texts.{pending_word, reason_text, step_reason_text, unmet_text, verdict_text};
 
-use crate::expected::Expected;
+use crate::expected::{Carried, Expected};
 use crate::got::{Got, Pending, Unmet};
 use crate::reason::Reason;
 use lin_cluster_parts::Cluster;
-use lin_core::Listed;
+use lin_core::{Listed, Payload};
 use lin_lists::Text;
 use lin_log::{
     Reason as StepReason, put_bytes, put_node, put_number, put_signal, put_table, put_value,
@@ -117,6 +118,7 @@ pub fn put_reason<W: Write>(out: &mut TextWriter<'_, W>, reason: &Reason)
     match reason {
         Reason::Step(why) => put_step_reason(out, why),
         Reason::NoRefusal(name) => put_after(out, "no refusal ", name.as_slice()),
+        Reason::NoFrame(name) => put_after(out, "no frame ", name.as_slice()),
         Reason::NoRange(field) => {
             out.put(field.as_slice());
             out.put_text(" is no range");
@@ -178,6 +180,34 @@ pub fn write_bad_line<W: Write>(
     let mut out = TextWriter::new(writer);
     put_bad_line(&mut out, line, reason);
     out.finish()
+}
+
+/// A frame's name, or its number where it has none, with a space before it.
+fn put_frame<W: Write>(out: &mut TextWriter<'_, W>, cluster: &Cluster, frame: Carried)
+    ensures { Grows W.contents out.old out.new (spaced_word (frame_word cluster.now frame)) }
+{
+    match frame {
+        Carried::Signals(number) => {
+            if (number as usize) < cluster.frames() {
+                out.put_byte(b' ');
+                out.put(cluster.frame_name(number));
+            } else {
+                put_number(out, number);
+            }
+        }
+        Carried::Request => out.put_text(" MasterReq"),
+        Carried::Response => out.put_text(" SlaveResp"),
+    }
+}
+
+/// Bytes, where they are said.
+fn put_said<W: Write>(out: &mut TextWriter<'_, W>, bytes: &Option<Payload>)
+    ensures { Grows W.contents out.old out.new (said_word bytes.now) }
+{
+    match bytes {
+        Some(bytes) => put_bytes(out, bytes.as_slice()),
+        None => {}
+    }
 }
 
 /// What is expected, with a space before it.
@@ -257,6 +287,11 @@ fn put_expected<W: Write>(out: &mut TextWriter<'_, W>, cluster: &Cluster, expect
         Expected::Seen(how) => {
             out.put_text(" seen");
             put_word(out, how.word());
+        }
+        Expected::Frame { frame, bytes } => {
+            out.put_text(" frame");
+            put_frame(out, cluster, *frame);
+            put_said(out, bytes);
         }
         Expected::Slot { table, entry } => {
             out.put_text(" slot");
@@ -361,6 +396,10 @@ fn put_got<W: Write>(out: &mut TextWriter<'_, W>, cluster: &Cluster, got: &Got)
         }
         Got::NoEvent => out.put_text(" none"),
         Got::Seen(how) => put_word(out, how.word()),
+        Got::Frame { frame, bytes } => {
+            put_frame(out, cluster, *frame);
+            put_bytes(out, bytes.as_slice());
+        }
         Got::Slot { table, entry } => {
             put_table(out, cluster, *table);
             put_number(out, *entry);

@@ -11,15 +11,16 @@ ghost use Rattle.lin_bench.specs.Verdicts.{lost_verdict, message_verdict, newest
 ghost use Rattle.lin_bench.specs.Verdicts.{next_event, refused_verdict};
 ghost use Rattle.lin_bench.specs.Verdicts.{is_within, no_lost_verdict, no_message_verdict, same_value, seen_verdict, sent_verdict};
 ghost use Rattle.lin_bench.specs.Verdicts.{slot_verdict, taking, time_taken, value_seen, value_verdict, verdict, waiting_verdict, within_verdict};
-ghost use Rattle.lin_bench.specs.Verdicts.{with_taken};
+ghost use Rattle.lin_bench.specs.Verdicts.{with_taken, data_of, frame_verdict, good_verdict, same_data, same_frame};
 
 use crate::arrivals;
-use crate::expected::Expected;
+use crate::carried::last_carried;
+use crate::expected::{Carried, Expected};
 use crate::got::Got;
 use crate::losses::first_loss;
 use crate::ruled::{RuledCore, pending};
 use crate::taken::{EventKind, Place, Search, Taken, event_from, last_event};
-use lin_core::{Cause, Core, Event, Look, Payload, Refusal, Reply};
+use lin_core::{Cause, Core, Event, Look, Payload, Refusal, Reply, Seen};
 use lin_frame::Value;
 use lin_lists::Many;
 use std::alloc::{AllocError, Global};
@@ -214,6 +215,77 @@ fn seen(event: Option<&Event>, how: Look) -> Option<Got>
             }
         }
         _ => Some(Got::NoSlot),
+    }
+}
+
+fn same_frame(a: Carried, b: Carried) -> bool
+    ensures { result ≡ same_frame a b }
+{
+    match (a, b) {
+        (Carried::Signals(f), Carried::Signals(g)) => f == g,
+        (Carried::Request, Carried::Request) | (Carried::Response, Carried::Response) => true,
+        _ => false,
+    }
+}
+
+fn same_data(bytes: &Option<Payload>, row: &[u8]) -> bool
+    ensures { result ≡ same_data bytes.now row.now }
+{
+    match bytes {
+        Some(bytes) => row == bytes.as_slice(),
+        None => true,
+    }
+}
+
+/// The data bytes of a response: all but its checksum.
+fn data_of(answer: &[u8]) -> &[u8]
+    ensures { result.now ≡ data_of answer.now }
+{
+    match answer {
+        [] => answer,
+        [row @ .., _] => row,
+    }
+}
+
+/// What a slot that was seen good carried, with these data bytes.
+fn good(
+    alloc: Global,
+    frame: Carried,
+    bytes: &Option<Payload>,
+    row: &[u8],
+    last: Option<Carried>,
+) -> Result<Option<Got>, AllocError>
+    ensures { IfOk result (λ v. v ≡ good_verdict frame bytes.now row.now last) }
+{
+    match last {
+        None => Ok(Some(Got::Seen(Look::Good))),
+        Some(last) => if same_frame(last, frame) && same_data(bytes, row) {
+            Ok(None)
+        } else {
+            Ok(Some(Got::Frame {
+                frame: last,
+                bytes: Payload::new(Vec::from_slice(alloc, row)?),
+            }))
+        },
+    }
+}
+
+fn frame_seen(
+    alloc: Global,
+    event: Option<&Event>,
+    frame: Carried,
+    bytes: &Option<Payload>,
+    last: Option<Carried>,
+) -> Result<Option<Got>, AllocError>
+    ensures { IfOk result
+        (λ v. v ≡ frame_verdict frame bytes.now last (option_map (λ e. e.now) event.entry)) }
+{
+    match event {
+        Some(Event::Seen(Seen::Good(answer))) => {
+            good(alloc, frame, bytes, data_of(answer.as_slice()), last)
+        }
+        Some(Event::Seen(how)) => Ok(Some(Got::Seen(how.look()))),
+        _ => Ok(Some(Got::NoSlot)),
     }
 }
 
@@ -470,6 +542,11 @@ pub(crate) fn verdict(
             Ok(lost(event, *cause))
         }
         Expected::Seen(how) => Ok(seen(last_event(core.log(), EventKind::Ends), *how)),
+        Expected::Frame { frame, bytes } => {
+            let last = last_carried(alloc, core.cluster(), core.log())?;
+            let event = last_event(core.log(), EventKind::Ends);
+            frame_seen(alloc, event, *frame, bytes, last)
+        }
         Expected::Slot { table, entry } => {
             let event = last_event(core.log(), EventKind::Begins);
             Ok(slot(event, *table, *entry))

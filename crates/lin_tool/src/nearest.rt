@@ -20,7 +20,7 @@ static WORDS: [&str; 20] = [
 /// What `expect` and `until` take.
 const FORMS: &str = "signal NODE SIGNAL VALUE (LOW..HIGH), waiting NODE K, message FROM TO BYTES \
                      (within N ms), sent NODE, lost NODE damaged (timedout, slept), seen silent (none, good, \
-                     damaged, collided), slot TABLE ENTRY, asleep, awake";
+                     damaged, collided), frame NAME (BYTES), slot TABLE ENTRY, asleep, awake";
 
 /// The beginning of a name.
 fn beginning(name: &[u8]) -> &[u8] {

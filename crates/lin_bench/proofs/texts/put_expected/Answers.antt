@@ -44,3 +44,6 @@ returns-in-MessageWithin g c = rw c.in-MessageWithin.is
 
 pub returns-in-Some : goal.returns-in-Some
 returns-in-Some g c = rw (c.in-NoLost.is, c.in-Some.is) (grows-more c.put_text-in-NoLost.ensures c.put_node-in-Some.ensures)
+
+pub returns-in-Frame : goal.returns-in-Frame
+returns-in-Frame g c = rw c.in-Frame.is (grows-more c.put_text-in-Frame.ensures (grows-more c.put_frame.ensures c.put_said.ensures))

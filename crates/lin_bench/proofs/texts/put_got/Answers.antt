@@ -30,3 +30,6 @@ pub returns-in-LostOf : goal.returns-in-LostOf
 returns-in-LostOf g c = rw c.in-LostOf.is
     (grows-more c.put_text-in-LostOf.ensures (grows-more c.put_number-in-LostOf.ensures (grows-more c.put_text-in-LostOf-2.ensures
     (grows-more c.put_node.ensures (grows-more c.put_text-in-LostOf-3.ensures (rw c.word-in-LostOf.ensures at c.put_word-in-LostOf.ensures))))))
+
+pub returns-in-Frame : goal.returns-in-Frame
+returns-in-Frame g c = rw c.in-Frame.is (grows-more c.put_frame.ensures (rw c.as_slice-in-Frame.ensures at c.put_bytes-in-Frame.ensures))
