@@ -7,3 +7,4 @@ pub mod Rows
 pub mod Lines
 pub mod Groups
 pub mod Dumps
+pub mod Objects

@@ -58,7 +58,7 @@ answer-kept (Some s) es old new is e =
 
 pub track-answer : (c : Parts) (past : List LogEntry) (e : LogEntry) (events : List Event) (node : ℕ) (old new : Slot) (t : TrackData)
     → e.reply ≡ Done events → e.step ≡ Answer node → t ≡ track_of c past → Some old ≡ t.slot → new ≡ shown_slot (slot_after_events events old)
-    → record { slot = Some new; time = t.time; slots = t.slots } ≡ track_of c (e ∷ past)
+    → record { slot = Some new; time = t.time; slots = t.slots; hurt = t.hurt } ≡ track_of c (e ∷ past)
 track-answer c past e events node old new t reply step is held told =
     let same : Some new ≡ option_map shown_slot (option_map (slot_after_events events) (open_slot past)) = answer-kept (open_slot past) events old new (held ∙ ap (λ (x : TrackData). x.slot) is) told in
     rw (is, same, reply, step) refl

@@ -8,6 +8,9 @@ pub mod Pcap
 pub mod Captured
 pub mod Csv
 pub mod Cells
+pub mod Json
+pub mod Members
+pub mod Jsonl
 pub mod FirstSlots
 pub mod Named
 pub mod NamedWords

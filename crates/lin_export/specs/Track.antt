@@ -2,27 +2,41 @@
 use Rattle.std.specs.Prelude.{ℕ, ◌+◌, List, [], ◌∷◌, Option, option_map}
 use Rattle.std.specs.Option.{option_map_or}
 use Rattle.lin_cluster_parts.specs.declared.parts.Parts.{Parts}
-use Rattle.lin_core.specs.History.{Slot, finished_slot, open_slot, time}
+use Rattle.lin_core.specs.History.{Slot, done, finished_slot, open_slot, time}
 use Rattle.lin_core.specs.declared.log.LogEntry.{LogEntry}
+use Rattle.lin_core.specs.declared.step.Step.{Step}
+use Rattle.lin_core.specs.declared.step.Step.TheVariants.{Hurt}
 
--- a slot but for the nodes that were due in it, and those that left their responses out
+-- a slot but for the nodes that left their responses out
 abbrev pub shown_slot : Slot → Slot
-shown_slot s = record s { due = []; left = [] }
+shown_slot s = record s { left = [] }
 
 -- how many slots are finished
 abbrev pub slots_in : List LogEntry → ℕ
 slots_in [] = 0
 slots_in (e ∷ past) = option_map_or (λ s. slots_in past + 1) (finished_slot e past) (slots_in past)
 
--- the open slot, the time, and the number of the finished slots
+-- the bytes that stood last in place of a disturbed response; in a slot whose response was
+-- disturbed these are its own
+abbrev pub hurt_after : List ℕ → Step → List ℕ
+hurt_after bytes (Hurt new) = new
+hurt_after bytes step = bytes
+
+abbrev pub hurt_in : List LogEntry → List ℕ
+hurt_in [] = []
+hurt_in (e ∷ past) = option_map_or (hurt_after (hurt_in past)) (done e) (hurt_in past)
+
+-- the open slot, the time, the number of the finished slots, and the bytes of the last disturbance
 pub record TrackData : Type 0 where
   pub slot : Option Slot
   pub time : ℕ
   pub slots : ℕ
+  pub hurt : List ℕ
 
 abbrev pub track_of : Parts → List LogEntry → TrackData
 track_of c past = record {
   slot = option_map shown_slot (open_slot past);
   time = time c past;
   slots = slots_in past;
+  hurt = hurt_in past;
 }

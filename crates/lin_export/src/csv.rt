@@ -274,8 +274,8 @@ impl Format for Sheet {
 /// its number from 0, its times in microseconds, its entry, its response, and the values of all
 /// signals that are heard after it (RFC 4180, with LF alone).
 ///
-/// It goes through a buffer of fixed size, and takes memory for a value of each signal and for the
-/// responses of one slot. The writer isn't flushed.
+/// It goes through a buffer of fixed size, and takes memory for a value of each signal and for
+/// what is kept of one slot. The writer isn't flushed.
 ///
 /// # Errors
 /// What was written then is the beginning of the table.

@@ -100,7 +100,7 @@ impl Format for FirstSlots {
 /// response, as `write_csv` has them before the signals. Nothing of it needs an escape, since names
 /// of LDFs are words.
 ///
-/// It goes through a buffer of fixed size, and takes memory for the responses of one slot. The
+/// It goes through a buffer of fixed size, and takes memory for what is kept of one slot. The
 /// writer isn't flushed.
 ///
 /// # Errors

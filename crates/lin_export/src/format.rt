@@ -85,7 +85,7 @@ fn put_entries<F: Format, W: Write>(
 
 /// Writes a log in a format.
 ///
-/// It goes through a buffer of fixed size, and takes memory for the responses of one slot. The
+/// It goes through a buffer of fixed size, and takes memory for what is kept of one slot. The
 /// writer isn't flushed.
 ///
 /// # Errors

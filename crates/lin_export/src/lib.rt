@@ -1,4 +1,5 @@
-//! A run in the formats of other tools: its log with names, as a table and as a capture of packets.
+//! A run in the formats of other tools: its log with names, as a table, as objects of JSON, as a
+//! capture of packets and as a dump of changes.
 //!
 //! ```
 //! let mut capture = Vec::new(alloc);
@@ -13,11 +14,14 @@ mod fault;
 mod first_slots;
 mod format;
 mod hearing;
+mod json;
+mod jsonl;
 mod law;
 mod named;
 mod naming;
 mod pcap;
 mod slot;
+mod slot_object;
 mod track;
 mod variables;
 mod vcd;
@@ -25,6 +29,7 @@ mod vcd;
 pub use csv::write_csv;
 pub use fault::ExportFault;
 pub use first_slots::write_first_slots;
+pub use jsonl::write_jsonl;
 pub use law::{captures_what_was_seen, dumps_last_values};
 pub use named::{put_slot_names, write_named};
 pub use pcap::write_pcap;

@@ -317,7 +317,7 @@ impl Format for NamedLog {
 /// Writes the log with names: its text, in which numbers of nodes, signals and tables are names,
 /// and what frames and slots mean on lines of its own, so that it says the same steps.
 ///
-/// It goes through a buffer of fixed size, and takes memory for the responses of one slot. The
+/// It goes through a buffer of fixed size, and takes memory for what is kept of one slot. The
 /// writer isn't flushed.
 ///
 /// # Errors

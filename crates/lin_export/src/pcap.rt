@@ -204,7 +204,7 @@ impl Format for Capture {
 /// response where it was seen good; one at the end of a slot that puts the cluster to sleep; and
 /// one per wake-up (pcap, link type 212, LINKTYPE_LIN).
 ///
-/// It goes through a buffer of fixed size, and takes memory for the responses of one slot. The
+/// It goes through a buffer of fixed size, and takes memory for what is kept of one slot. The
 /// writer isn't flushed.
 ///
 /// # Errors

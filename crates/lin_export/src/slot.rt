@@ -18,13 +18,14 @@ use lin_core::{Event, frame_under};
 use lin_frame::Answer;
 use std::alloc::{AllocError, Global};
 
-/// What of a slot is shown: its entry, its header, the nodes that put responses with these, in
-/// order, and whether the response was disturbed.
+/// What of a slot is shown: its entry, its header, the nodes that are due, those that put responses
+/// with these, in order, and whether the response was disturbed.
 #[derive(Drop)]
 pub(crate) struct OpenSlot {
     table: u16,
     entry: u16,
     header: Option<u8>,
+    due: Vec<u8>,
     puts: Vec<(u8, Answer)>,
     hurt: bool,
 }
@@ -73,6 +74,7 @@ impl OpenSlot {
             table: 0,
             entry: 0,
             header: None,
+            due: Vec::new(alloc),
             puts: Vec::new(alloc),
             hurt: false,
         }
@@ -93,6 +95,7 @@ impl OpenSlot {
                 self.entry = *entry;
                 self.header = *header;
             }
+            Event::Due { node } => self.due.push(*node)?,
             Event::Put { node, answer } => self.puts.push((*node, *answer))?,
             _ => {}
         }
@@ -138,11 +141,25 @@ impl OpenSlot {
         self.entry
     }
 
+    /// The nodes that are due, in order.
+    pub(crate) fn due(&self) -> &[u8]
+        ensures { result.now ≡ (slot_in self.now).due }
+    {
+        self.due.as_slice()
+    }
+
     /// The nodes that put responses, with these, in order.
     pub(crate) fn puts(&self) -> &[(u8, Answer)]
         ensures { result.now ≡ (slot_in self.now).puts }
     {
         self.puts.as_slice()
+    }
+
+    /// Whether the response was disturbed.
+    pub(crate) fn is_hurt(&self) -> bool
+        ensures { result ≡ self.now.hurt }
+    {
+        self.hurt
     }
 
     /// What it is for, with its delay.

@@ -14,13 +14,14 @@ use std::alloc::{AllocError, Global};
 use std::marker::Model;
 
 /// The slot that is open after the entries that were read, the delays of the slots that are
-/// finished, in microseconds, and their number.
+/// finished, in microseconds, their number, and the bytes of the last disturbance.
 #[derive(Drop)]
 pub(crate) struct Track {
     alloc: Global,
     slot: Option<OpenSlot>,
     time: u64,
     slots: u64,
+    hurt: Vec<u8>,
 }
 
 impl Model for Track {
@@ -30,7 +31,12 @@ impl Model for Track {
 
     ghost Value = { TrackData };
 
-    ghost view = { λ t. record { slot = option_map slot_in t.slot; time = t.time; slots = t.slots } };
+    ghost view = { λ t. record {
+      slot = option_map slot_in t.slot;
+      time = t.time;
+      slots = t.slots;
+      hurt = t.hurt.items;
+    } };
 }
 
 impl Track {
@@ -43,6 +49,7 @@ impl Track {
             slot: None,
             time: 0,
             slots: 0,
+            hurt: Vec::new(alloc),
         }
     }
 
@@ -65,6 +72,13 @@ impl Track {
         ensures { result ≡ self.now.slots }
     {
         self.slots
+    }
+
+    /// The bytes that stood last in place of a disturbed response.
+    pub(crate) fn hurt(&self) -> &[u8]
+        ensures { result.now ≡ self.now.hurt }
+    {
+        self.hurt.as_slice()
     }
 
     /// The delays of all slots that are finished after the next entry, in microseconds.
@@ -106,7 +120,8 @@ impl Track {
                     slot.tell_all(events.as_slice())?;
                 }
             }
-            Step::Hurt { bytes: _ } => {
+            Step::Hurt { bytes } => {
+                self.hurt = Vec::from_slice(self.alloc, bytes.as_slice())?;
                 if let Some(slot) = &mut self.slot {
                     slot.hurt();
                 }

@@ -27,7 +27,7 @@ use std::alloc::Global;
 use std::io::Write;
 
 /// How many hosts a number may name.
-const HOSTS: usize = 256;
+pub(crate) const HOSTS: usize = 256;
 
 /// Puts a time, where it is later than the last one.
 fn put_time<W: Write>(out: &mut TextWriter<'_, W>, last: u64, at: u64)
@@ -333,7 +333,7 @@ impl Format for Dump {
 /// publishers write, and how many messages of each host wait (IEEE 1364-2005, section 18, value
 /// change dump).
 ///
-/// It goes through a buffer of fixed size, and takes memory for the responses of one slot. The
+/// It goes through a buffer of fixed size, and takes memory for what is kept of one slot. The
 /// writer isn't flushed.
 ///
 /// # Errors

@@ -6,7 +6,9 @@ ghost use Rattle.std.specs.Prelude.{Some};
 use crate::runs::{expect_bytes, run};
 use crate::samples;
 use lin_core::Core;
-use lin_export::{ExportFault, write_csv, write_first_slots, write_named, write_pcap, write_vcd};
+use lin_export::{
+    ExportFault, write_csv, write_first_slots, write_jsonl, write_named, write_pcap, write_vcd,
+};
 use std::alloc::{AllocError, Global};
 use std::io::{Error, ErrorKind, Write};
 use std::process::Abort;
@@ -53,14 +55,16 @@ impl Write for Refusing {
 enum Form {
     Named,
     Csv,
+    Jsonl,
     Pcap,
     Vcd,
     FirstSlots,
 }
 
-const FORMS: [Form; 5] = [
+const FORMS: [Form; 6] = [
     Form::Named,
     Form::Csv,
+    Form::Jsonl,
     Form::Pcap,
     Form::Vcd,
     Form::FirstSlots,
@@ -70,6 +74,7 @@ fn name_of(form: Form) -> &'static str {
     match form {
         Form::Named => "named",
         Form::Csv => "csv",
+        Form::Jsonl => "jsonl",
         Form::Pcap => "pcap",
         Form::Vcd => "vcd",
         Form::FirstSlots => "first slots",
@@ -87,6 +92,7 @@ fn write_form<W: Write>(
     match form {
         Form::Named => write_named(alloc, cluster, log, writer),
         Form::Csv => write_csv(alloc, cluster, log, writer),
+        Form::Jsonl => write_jsonl(alloc, cluster, 0, 16, log, writer),
         Form::Pcap => write_pcap(alloc, cluster, log, writer),
         Form::Vcd => write_vcd(alloc, cluster, log, writer),
         Form::FirstSlots => write_first_slots(alloc, cluster, log, writer),

@@ -57,7 +57,7 @@ fn write_middle<W: Write>(core: &Core, unmet: &[Unmet], writer: &mut W) -> Resul
 /// Names of LDFs are words and the rest are numbers and words, so that of all that is written only
 /// the LDF's name needs escapes.
 ///
-/// It goes through a buffer of fixed size, and takes memory for the responses of one slot. The
+/// It goes through a buffer of fixed size, and takes memory for what is kept of one slot. The
 /// writer isn't flushed.
 ///
 /// # Errors

@@ -123,19 +123,20 @@ fn formats_end_where_a_write_fails(rt: HostRuntime) -> Result<(), Fail> {
         Format::Log,
         Format::Named,
         Format::Csv,
+        Format::Jsonl,
         Format::Pcap,
         Format::Vcd,
         Format::Html(b"door.ldf"),
     ] {
         let mut whole = Vec::new(alloc);
-        write_shown(alloc, format, &core, &[], &mut whole)?;
+        write_shown(alloc, format, &core, table, 16, &[], &mut whole)?;
         // (a page is long: some of its beginnings)
         for good in (0..whole.len()).step_by(1 + whole.len() / 4096) {
             let mut writer = Refusing {
                 taken: Vec::new(alloc),
                 good,
             };
-            let written = write_shown(alloc, format, &core, &[], &mut writer);
+            let written = write_shown(alloc, format, &core, table, 16, &[], &mut writer);
             assert!(rt; written.is_err());
             expect_text(&rt, &writer.taken, &whole[..good], "a beginning");
         }

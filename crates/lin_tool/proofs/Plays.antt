@@ -62,7 +62,7 @@ unread format named c opening capacity fault told old silent heard bytes text sa
 pub plays : (format : Format) (named : Option (Bor (List ℕ))) (c : Parts) (opening capacity : ℕ) (result : Result Unit Fault)
     (told old new silent mid heard : Option (List ℕ)) (ls : List (ℕ × Line)) (run : Run) → Says c told (Ok ls) → played c opening capacity ls ≡ Ok run
     → Keeps silent mid
-    → WritesPlayed format (run_as format c run) run.unmet (missed_text named c (reverse run.bench.past) run.unmet) result old new mid heard
+    → WritesPlayed format (run_as format c opening capacity run) run.unmet (missed_text named c (reverse run.bench.past) run.unmet) result old new mid heard
     → PlaysScript format named c opening capacity result told old new silent heard
 plays format named c opening capacity (Ok done) told old new silent mid heard ls run says comes kept (shown, met, quiet) =
     (run, (ls, says, comes), (shown, met, keeps-more silent mid heard kept quiet))

@@ -30,9 +30,10 @@ begins old new whole fault h = (h.part, h.rest, h.whole, h.written)
 
 -- a dump of a log over the same cluster
 pub shows-dump : {E : Type 0} (old new : Option (List ℕ)) (result : Result Unit E)
-    (a b : Parts) (xs ys : List LogEntry) (unmet : List Unmet) → a ≡ b → xs ≡ ys
-    → WritesText old new result (vcd a xs) → WritesText old new result (log_as Vcd b ys unmet)
-shows-dump old new result a b xs ys unmet cluster log h =
+    (a b : Parts) (opening capacity : ℕ) (xs ys : List LogEntry) (unmet : List Unmet) → a ≡ b → xs ≡ ys
+    → WritesText old new result (vcd a xs)
+    → WritesText old new result (log_as Vcd b opening capacity ys unmet)
+shows-dump old new result a b opening capacity xs ys unmet cluster log h =
     let P : List LogEntry → Type 0 = λ l. WritesText old new result (vcd a l) in
     let Q : Parts → Type 0 = λ c. WritesText old new result (vcd c ys) in
     subst Q cluster (subst P log h)

@@ -43,8 +43,9 @@ ComesTo c opening capacity told end =
     (ls : List (ℕ × Line)) × Says c told (Ok ls) × (played c opening capacity ls ≡ end)
 
 -- the log of a run in a format
-abbrev pub run_as : Format → Parts → Run → List ℕ
-run_as format c run = log_as format c (reverse run.bench.past) run.unmet
+abbrev pub run_as : Format → Parts → ℕ → ℕ → Run → List ℕ
+run_as format c opening capacity run =
+    log_as format c opening capacity (reverse run.bench.past) run.unmet
 
 -- What is written of a run: its log (this is the whole of it), and then to errors this text of the
 -- expectations that it missed, if it missed any; or writing the log stopped at some place. (The
@@ -66,7 +67,7 @@ abbrev pub WritesRunOf : Format → Option (Bor (List ℕ)) → Parts → ℕ �
     → Option (List ℕ) → Option (List ℕ) → Option (List ℕ) → Option (List ℕ) → Type 0
 WritesRunOf format named c opening capacity result told old new silent heard =
     (run : Run) × ComesTo c opening capacity told (Ok run)
-    × WritesPlayed format (run_as format c run) run.unmet
+    × WritesPlayed format (run_as format c opening capacity run) run.unmet
     (missed_text named c (reverse run.bench.past) run.unmet) result old new silent heard
 
 -- What a play in this format answers, what the writer took (from old to new), and what the writer

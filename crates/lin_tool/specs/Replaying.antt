@@ -46,7 +46,7 @@ abbrev pub Stops : Format → Parts → ℕ → ℕ
     → Option (List ℕ) → Option (List ℕ) → Option (List ℕ) → Type 0
 Stops format c opening capacity told old new =
     (log : List LogEntry) × IsLogOf c opening capacity told log
-    × Begins old new (log_as format c log [])
+    × Begins old new (log_as format c opening capacity log [])
 
 -- What a replay in this format answers, and what the writer took. (The log's own text takes no
 -- memory: where there isn't enough, nothing of it was written.)
@@ -54,7 +54,7 @@ abbrev pub Replays : Format → Parts → ℕ → ℕ → Result Unit Fault
     → Option (List ℕ) → Option (List ℕ) → Option (List ℕ) → Type 0
 Replays format c opening capacity (Ok done) told old new =
     (log : List LogEntry) × IsLogOf c opening capacity told log
-    × Appends old new (log_as format c log [])
+    × Appends old new (log_as format c opening capacity log [])
 Replays format c opening capacity (Err (BadLine n)) told old new =
     IsRefused (script.BadLine n) told old new
 Replays format c opening capacity (Err ScriptTooLong) told old new =

@@ -8,7 +8,7 @@ ghost use Rattle.lin_tool.specs.declared.formats.Format.TheVariants.{Log};
 
 use lin_bench::Unmet;
 use lin_core::Core;
-use lin_export::{ExportFault, write_csv, write_named, write_pcap, write_vcd};
+use lin_export::{ExportFault, write_csv, write_jsonl, write_named, write_pcap, write_vcd};
 use lin_log::write_log;
 use lin_page::write_page;
 use std::alloc::Global;
@@ -23,6 +23,8 @@ pub enum Format<'a> {
     Named,
     /// A table of the slots (RFC 4180).
     Csv,
+    /// The run, its slots and what became of messages as objects (JSON, RFC 8259), one a line.
+    Jsonl,
     /// A capture of the frames (pcap, LINKTYPE_LIN).
     Pcap,
     /// A dump of changes over time (IEEE 1364-2005, section 18).
@@ -31,8 +33,9 @@ pub enum Format<'a> {
     Html(&'a [u8]),
 }
 
-/// Writes the log of a core in a format; a picture also has expectations that aren't met. A log's
-/// own text takes no memory, and the others take little.
+/// Writes the log of a core in a format; the core opened with the schedule table `table` and the
+/// capacity `capacity`, which objects tell, and a picture also has expectations that aren't met. A
+/// log's own text takes no memory, and the others take little.
 ///
 /// # Errors
 /// `OutOfMemory`, which a log's own text hasn't, and `WriteFailed`. What was written then is the
@@ -41,11 +44,13 @@ pub fn write_shown<W: Write>(
     alloc: Global,
     format: Format<'_>,
     core: &Core,
+    table: u16,
+    capacity: usize,
     unmet: &[Unmet],
     writer: &mut W,
 ) -> Result<(), ExportFault>
     ensures text { WritesText (W.contents writer.old) (W.contents writer.new) result
-        (log_as format.entry core.now.cluster core.now.log unmet.now) }
+        (log_as format.entry core.now.cluster table capacity core.now.log unmet.now) }
     ensures memory { format.entry ≡ Log → IfErr result (λ fault. fault ≡ WriteFailed) }
 {
     let cluster = core.cluster();
@@ -57,6 +62,7 @@ pub fn write_shown<W: Write>(
         },
         Format::Named => write_named(alloc, cluster, log, writer),
         Format::Csv => write_csv(alloc, cluster, log, writer),
+        Format::Jsonl => write_jsonl(alloc, cluster, table, capacity, log, writer),
         Format::Pcap => write_pcap(alloc, cluster, log, writer),
         Format::Vcd => write_vcd(alloc, cluster, log, writer),
         Format::Html(file) => write_page(alloc, core, file, unmet, writer),

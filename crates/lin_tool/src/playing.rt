@@ -131,8 +131,8 @@ fn judge<E: Write>(
     })
 }
 
-/// Writes the log of a run in a format, and then to `errors` a line for each expectation that isn't
-/// met.
+/// Writes the log of a run that opened with this table and capacity in a format, and then to
+/// `errors` a line for each expectation that isn't met.
 ///
 /// # Errors
 /// `WriteFailed`, and in a format other than the log's own text `OutOfMemory`, where what was
@@ -142,18 +142,20 @@ fn put_played<W: Write, E: Write>(
     alloc: Global,
     format: Format<'_>,
     core: &Core,
+    table: u16,
+    capacity: usize,
     named: Option<&str>,
     unmet: &[Unmet],
     writer: &mut W,
     errors: &mut E,
 ) -> Result<(), Fault>
     ensures { WritesPlayed format.entry
-        (log_as format.entry core.now.cluster core.now.log unmet.now) unmet.now
+        (log_as format.entry core.now.cluster table capacity core.now.log unmet.now) unmet.now
         (missed_text named.entry core.now.cluster core.now.log unmet.now) result
         (W.contents writer.old) (W.contents writer.new)
         (E.contents errors.old) (E.contents errors.new) }
 {
-    write_shown(alloc, format, core, unmet, writer)?;
+    write_shown(alloc, format, core, table, capacity, unmet, writer)?;
     judge(core, named, unmet, errors)
 }
 
@@ -198,6 +200,8 @@ pub fn play_script<R: Read, W: Write, E: Write>(
         alloc,
         format,
         &core,
+        table,
+        capacity,
         named,
         unmet.as_slice(),
         writer,

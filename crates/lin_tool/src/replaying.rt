@@ -69,7 +69,7 @@ pub fn replay_script<R: Read, W: Write>(
     }
     let bytes = read_bytes(alloc, reader)?;
     let core = noted_run(alloc, cluster, table, capacity, bytes.as_slice(), notes)?;
-    let written = write_shown(alloc, format, &core, &[], writer);
+    let written = write_shown(alloc, format, &core, table, capacity, &[], writer);
     notes.add_refusals(core.log());
     mem::forget(core);
     match written {

@@ -124,7 +124,7 @@ fn run_steps<R: AllocGlobal + Threads + Wait>(
     run_tasks(rt, cluster, table, capacity, tasks, plan)
 }
 
-/// Writes the log of a run in a format.
+/// Writes the log of a run, which opened with this table and capacity, in a format.
 ///
 /// # Errors
 /// `WriteFailed`, and in a format other than the log's own text `OutOfMemory`, where what was
@@ -134,12 +134,17 @@ fn put_report<W: Write>(
     alloc: Global,
     format: Format<'_>,
     report: &RunReport,
+    table: u16,
+    capacity: usize,
     writer: &mut W,
 ) -> Result<(), Fault>
+    requires table { report.now.core.opening ≡ table }
+    requires capacity { report.now.core.capacity ≡ capacity }
     ensures { WritesRun format.entry
-        (log_as format.entry report.now.core.cluster report.now.core.log []) report.now.ended.items (W.contents writer.old) (W.contents writer.new) result }
+        (log_as format.entry report.now.core.cluster table capacity report.now.core.log [])
+        report.now.ended.items (W.contents writer.old) (W.contents writer.new) result }
 {
-    write_shown(alloc, format, &report.core, &[], writer)?;
+    write_shown(alloc, format, &report.core, table, capacity, &[], writer)?;
     if report.ended.contains(&Ended::Limit) {
         return Err(Fault::TaskLimit);
     }
@@ -167,7 +172,9 @@ fn run_over<R: AllocGlobal + Input + Print + Eprint + Threads + Wait>(
     let capacity = within_limits(settings.capacity);
     let report = run_steps(rt, cluster, table, capacity, slots, lists)?;
     let mut writer = io::writer(rt);
-    let written = put_report(rt.alloc(), settings.format, &report, &mut writer);
+    let alloc = rt.alloc();
+    let format = settings.format;
+    let written = put_report(alloc, format, &report, table, capacity, &mut writer);
     notes.add_refusals(report.core.log());
     mem::forget(report);
     written

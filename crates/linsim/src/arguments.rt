@@ -50,7 +50,7 @@ fn capacity<'a>(alloc: Global) -> Arg<'a> {
 }
 
 /// The words for the formats.
-static FORMATS: [&str; 6] = ["log", "named", "csv", "pcap", "vcd", "html"];
+static FORMATS: [&str; 7] = ["log", "named", "csv", "jsonl", "pcap", "vcd", "html"];
 
 fn format<'a>(alloc: Global) -> Arg<'a> {
     Arg::new(alloc, "to")
@@ -232,6 +232,7 @@ fn format_of<'a>(word: Option<&str>, file: Option<&'a str>) -> Format<'a> {
     match word {
         Some("named") => Format::Named,
         Some("csv") => Format::Csv,
+        Some("jsonl") => Format::Jsonl,
         Some("pcap") => Format::Pcap,
         Some("vcd") => Format::Vcd,
         Some("html") => Format::Html(file.unwrap_or("built-in").as_bytes()),

@@ -1,0 +1,155 @@
+-- Texts of JSON, a part at a time.
+use Rattle.std.proofs.Common.{◌≡◌, ◌∙◌, ◌+◌, ◌==◌, ◌<◌, ℕ, zero, suc, List, [], ◌∷◌, ◌++◌, refl, sym, ap, append_assoc, append-nil, add-one, if◌then◌else◌, flat_map, get_or, length, map, take, codes, arith}
+use Rattle.std.specs.Prelude.{Bool, true, false, not, Option, Some, None, option_map}
+use Rattle.std.specs.Fmt.{decimal}
+use Rattle.std.specs.Option.{option_map_or}
+use Rattle.std.proofs.Math.Dec.{eqb-suc-zero}
+use Rattle.std.proofs.lemmas.List.{length-map, length-take-le, map-append, take_more}
+use Rattle.lin_frame.specs.Words.{numbers}
+use Rattle.lin_text.specs.Written.{Grows}
+use Rattle.lin_text.specs.declared.buffered.TextWriter.{TextWriter}
+use Rattle.lin_text.proofs.Growing.{grows-more, same-growth}
+use Rattle.lin_cluster_parts.specs.Cluster.{entry_kind, entry_name, frame_name, line_of, named_table}
+use Rattle.lin_cluster_parts.specs.declared.parts.Parts.{Parts}
+use Rattle.lin_core.specs.History.{Slot, good, open_slot, seen_of, reply_events, time}
+use Rattle.lin_core.specs.declared.event.Event.{Event}
+use Rattle.lin_core.specs.declared.log.LogEntry.{LogEntry}
+use Rattle.lin_core.specs.declared.reply.Refusal.{Refusal}
+use Rattle.lin_core.specs.declared.reply.Reply.{Reply}
+use Rattle.lin_core.specs.declared.reply.Reply.TheVariants.{Done, Refused}
+use Rattle.lin_core.specs.declared.step.Step.{Step}
+use Rattle.lin_core.specs.declared.step.Step.TheVariants.{Finish, Wake}
+use Rattle.lin_export.specs.Csv.{comma}
+use Rattle.lin_export.specs.Jsonl.{answers_member, due_member, frame_member, frame_signals, frame_value, header_member, host_member, hurt_member, is_message_frame, message_member, message_value, number_member, response_members, settled, settled_all, signals_member, slot_line, step_object, time_member}
+use Rattle.lin_export.specs.Track.{hurt_in, shown_slot, slots_in}
+use Rattle.lin_export.specs.Json.{joined, member, object, object_line, quoted}
+use Rattle.lin_export.proofs.Rows.{Shows, carried-shown, flat-append, frame-shown}
+
+-- a key, and a value after it
+pub keyed : (key value : List ℕ) → member key [] ++ value ≡ member key value
+keyed key value = append_assoc (quoted key) (58 ∷ []) value
+
+pub grows-member : {W : Type 0} {contents : W → Option (List ℕ)} {x y z : TextWriter W} {value : List ℕ} (key : List ℕ)
+    → Grows contents x y (comma (member key [])) → Grows contents y z value → Grows contents x z (comma (member key value))
+grows-member {value = value} key h k = same-growth (ap comma (keyed key value)) (grows-more h k)
+
+-- what stands before a value that isn't the first
+later-comma : (n : ℕ) → (if suc n == 0 then [] else comma []) ≡ comma []
+later-comma n = ap (λ b. if b then [] else comma []) (eqb-suc-zero n)
+
+-- a value more after those before it
+joined-one : (n : ℕ) (ts : List (List ℕ)) (t : List ℕ) → n ≡ length ts
+    → joined (ts ++ t ∷ []) ≡ joined ts ++ ((if n == 0 then [] else comma []) ++ t)
+joined-one n [] t e = rw e (append-nil t)
+joined-one n (s ∷ ss) t e =
+    ap (λ l. s ++ l) (flat-append comma ss (t ∷ []) ∙ ap (λ l. flat_map comma ss ++ l) (append-nil (comma t))) ∙ sym (append_assoc s (flat_map comma ss) (comma t))
+    ∙ ap (λ l. (s ++ flat_map comma ss) ++ (l ++ t)) (sym (ap (λ k. if k == 0 then [] else comma []) e ∙ later-comma (length ss)))
+
+pub joined-more : {X : Type 0} (f : X → List ℕ) (xs : List X) (i : ℕ) (d : X) → i < length xs
+    → joined (map f (take (i + 1) xs)) ≡ joined (map f (take i xs)) ++ ((if i == 0 then [] else comma []) ++ f (get_or xs i d))
+joined-more f xs i d h =
+    ap (λ l. joined (map f l)) (take_more xs i d h) ∙ ap joined (map-append f (take i xs) (get_or xs i d ∷ []))
+    ∙ joined-one i (map f (take i xs)) (f (get_or xs i d)) (sym (length-map (take i xs) f ∙ length-take-le i xs (omega arith)))
+
+length-end : {X : Type 0} (xs : List X) (x : X) → length (xs ++ x ∷ []) ≡ suc (length xs)
+length-end [] x = refl
+length-end (y ∷ ys) x = ap suc (length-end ys x)
+
+length-numbers : (n : ℕ) → length (numbers n) ≡ n
+length-numbers zero = refl
+length-numbers (suc n) = length-end (numbers n) n ∙ ap suc (length-numbers n)
+
+pub joined-numbers : (f : ℕ → List ℕ) (n : ℕ)
+    → joined (map f (numbers (n + 1))) ≡ joined (map f (numbers n)) ++ ((if n == 0 then [] else comma []) ++ f n)
+joined-numbers f n =
+    ap (λ k. joined (map f (numbers k))) (add-one n) ∙ ap joined (map-append f (numbers n) (n ∷ []))
+    ∙ joined-one n (map f (numbers n)) (f n) (sym (length-map (numbers n) f ∙ length-numbers n))
+
+-- members, each after a comma
+pub record PutsMembers {W : Type 0} (contents : W → Option (List ℕ)) (old new : TextWriter W) (members : List (List ℕ)) : Type 0 where
+  pub text : Grows contents old new (flat_map comma members)
+
+pub puts-one : {W : Type 0} {contents : W → Option (List ℕ)} {x y : TextWriter W} (m : List ℕ)
+    → Grows contents x y (comma m) → PutsMembers contents x y (m ∷ [])
+puts-one m h = record { text = same-growth (sym (append-nil (comma m))) h }
+
+pub puts-all : {W : Type 0} {contents : W → Option (List ℕ)} {x y : TextWriter W} (ms : List (List ℕ))
+    → Grows contents x y (flat_map comma ms) → PutsMembers contents x y ms
+puts-all ms h = record { text = h }
+
+pub puts-more : {W : Type 0} {contents : W → Option (List ℕ)} {x y z : TextWriter W} {ms ns : List (List ℕ)}
+    → PutsMembers contents x y ms → PutsMembers contents y z ns → PutsMembers contents x z (ms ++ ns)
+puts-more {ms = ms} {ns = ns} h k = record { text = same-growth (sym (flat-append comma ms ns)) (grows-more h.text k.text) }
+
+-- a line of members
+pub grows-object : {W : Type 0} {contents : W → Option (List ℕ)} {x y z w : TextWriter W} {ms : List (List ℕ)} (kind : List ℕ)
+    → Grows contents x y (123 ∷ member (codes "type") (quoted kind)) → PutsMembers contents y z ms → Grows contents z w (125 ∷ 10 ∷ [])
+    → Grows contents x w (object_line kind ms)
+grows-object kind h k l = grows-more h (grows-more k.text l)
+
+-- an object of two members
+pub grows-two : {W : Type 0} {contents : W → Option (List ℕ)} {x y z w : TextWriter W} {m n : List ℕ}
+    → Grows contents x y (123 ∷ m) → Grows contents y z (comma n) → Grows contents z w (125 ∷ []) → Grows contents x w (object (m ∷ n ∷ []))
+grows-two {m = m} {n = n} h k l =
+    same-growth
+    (ap (λ t. 123 ∷ t) (ap (λ t. m ++ (t ++ 125 ∷ [])) (sym (append-nil (comma n))) ∙ sym (append_assoc m (comma n ++ []) (125 ∷ []))))
+    (grows-more h (grows-more k l))
+
+-- the message of a response
+pub is-message : (c : Parts) (last : ℕ → ℕ) (header : Option ℕ) (put : ℕ × List ℕ) → is_message_frame header put.1 ≡ true
+    → message_value c last header put ≡ object (host_member c put.0 ∷ number_member (last put.0 + 1) ∷ [])
+is-message c last header put e = rw e refl
+
+pub not-false : (b : Bool) → not b ≡ false → b ≡ true
+not-false true h = refl
+not-false false h = cc
+
+-- the slot that is kept has the same object
+frame-member-shown : (c : Parts) (s : Slot) → frame_member c (shown_slot s) ≡ frame_member c s
+frame-member-shown c s =
+    let entry = (line_of c s.table s.entry).entry in
+    ap (λ (f : Option ℕ). member (codes "frame") (frame_value entry (option_map_or (frame_name c) f (entry_name c entry)))) (frame-shown c entry s)
+
+signals-member-shown : (c : Parts) (s : Slot) → signals_member c (shown_slot s) ≡ signals_member c s
+signals-member-shown c s =
+    ap (λ (f : Option ℕ). member (codes "signals") (object (option_map_or (λ answer. option_map_or (frame_signals c answer) f []) (good s) [])))
+    (carried-shown c (line_of c s.table s.entry).entry s)
+
+-- a slot's line, of which the frame and the signals are given
+abbrev line_with : Parts → ℕ → ℕ → List ℕ → (ℕ → ℕ) → Slot → List ℕ → List ℕ → List ℕ
+line_with c n at bytes last s frame signals =
+    object_line (codes "slot")
+    (member (codes "slot") (decimal n) ∷ time_member at ∷ member (codes "delay_us") (decimal (line_of c s.table s.entry).delay_us)
+    ∷ member (codes "table") (quoted (named_table c s.table).name) ∷ member (codes "entry") (decimal s.entry)
+    ∷ member (codes "kind") (quoted (entry_kind (line_of c s.table s.entry).entry)) ∷ frame ∷ header_member s.header
+    ∷ due_member c s.due ∷ answers_member c s.puts ∷ hurt_member s.hurt bytes ∷ (response_members (seen_of s) ++ signals ∷ message_member c last s ∷ []))
+
+pub object-shown : (c : Parts) (n at : ℕ) (bytes : List ℕ) (last : ℕ → ℕ) (s : Slot) → slot_line c n at bytes last (shown_slot s) ≡ slot_line c n at bytes last s
+object-shown c n at bytes last s =
+    ap (λ (f : List ℕ). line_with c n at bytes last s f (signals_member c (shown_slot s))) (frame-member-shown c s)
+    ∙ ap (λ (f : List ℕ). line_with c n at bytes last s (frame_member c s) f) (signals-member-shown c s)
+
+-- what a finish says
+pub finish-object : (c : Parts) (last : ℕ → ℕ) (past : List LogEntry) (step : Step) (t : Slot) → Shows (open_slot past) t → step ≡ Finish
+    → slot_line c (slots_in past) (time c past) (hurt_in past) last t ≡ step_object c last past step
+finish-object c last past step t o e =
+    rw (e, o.is_open) (ap (λ (s : Slot). slot_line c (slots_in past) (time c past) (hurt_in past) last s) o.same ∙ object-shown c (slots_in past) (time c past) (hurt_in past) last o.slot)
+
+none-open : (o : Option Slot) → None ≡ option_map shown_slot o → o ≡ None
+none-open None e = refl
+none-open (Some s) e = absurd (cc)
+
+pub finish-none : (c : Parts) (last : ℕ → ℕ) (past : List LogEntry) (step : Step) → None ≡ option_map shown_slot (open_slot past) → step ≡ Finish
+    → [] ≡ step_object c last past step
+finish-none c last past step o e = rw (e, none-open (open_slot past) o) refl
+
+-- the numbers of the last messages after an entry
+pub settled-done : (e : LogEntry) (past : List LogEntry) (es : List Event) (h : ℕ) → e.reply ≡ Done es → settled_all h es (settled past h) ≡ settled (e ∷ past) h
+settled-done e past es h r = ap (λ (reply : Reply). settled_all h (reply_events reply) (settled past h)) (sym r)
+
+pub settled-refused : (e : LogEntry) (past : List LogEntry) (why : Refusal) (h : ℕ) → e.reply ≡ Refused why → settled past h ≡ settled (e ∷ past) h
+settled-refused e past why h r = ap (λ (reply : Reply). settled_all h (reply_events reply) (settled past h)) (sym r)
+
+pub wake-object : (c : Parts) (last : ℕ → ℕ) (past : List LogEntry) (step : Step) (t : ℕ) → t ≡ time c past → step ≡ Wake
+    → object_line (codes "awake") (time_member t ∷ []) ≡ step_object c last past step
+wake-object c last past step t is e = rw (e, is) refl

@@ -1,0 +1,8 @@
+use Rattle.std.proofs.Common.{[], ◌∷◌, sym, ap, append_assoc}
+use Rattle.lin_text.proofs.Growing.{grows-more, same-growth}
+use Rattle.lin_export.proofs.json.put_key.Goals as goal
+
+pub returns : goal.returns
+returns g c =
+    same-growth (ap (λ l. 44 ∷ 34 ∷ l) (sym (append_assoc c.args.key.now (34 ∷ []) (58 ∷ []))))
+    (grows-more c.put.ensures (grows-more c.put_text.ensures c.put-2.ensures))

@@ -1,0 +1,14 @@
+use Rattle.lin_export.proofs.Objects.{grows-member}
+use Rattle.lin_export.proofs.json.put_member.Goals as goal
+
+pub returns-in-Null : goal.returns-in-Null
+returns-in-Null g c = rw c.in-Null.is (grows-member _ c.put_key.ensures c.put.ensures)
+
+pub returns-in-Number : goal.returns-in-Number
+returns-in-Number g c = rw c.in-Number.is (grows-member _ c.put_key-in-Number.ensures c.put_number.ensures)
+
+pub returns-in-Text : goal.returns-in-Text
+returns-in-Text g c = rw c.in-Text.is (grows-member _ c.put_key-in-Text.ensures c.put_quoted.ensures)
+
+pub returns-in-Hex : goal.returns-in-Hex
+returns-in-Hex g c = rw c.in-Hex.is (grows-member _ c.put_key-in-Hex.ensures c.put_hex_text.ensures)

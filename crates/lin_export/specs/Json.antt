@@ -1,0 +1,35 @@
+-- Words of JSON (RFC 8259), without spaces. No text needs an escape: names of LDFs are words, and
+-- what else stands in texts is letters, digits, `:`, `-` and spaces.
+use Rattle.std.specs.Prelude.{ℕ, List, [], ◌∷◌, ◌++◌, flat_map, codes}
+use Rattle.hex.specs.Hex.{encode_upper}
+use Rattle.lin_export.specs.Csv.{comma}
+
+abbrev pub null : List ℕ
+null = codes "null"
+
+-- a text between quotes, and bytes as one of upper-case digits
+abbrev pub quoted : List ℕ → List ℕ
+quoted text = 34 ∷ (text ++ 34 ∷ [])
+
+abbrev pub hex_text : List ℕ → List ℕ
+hex_text bytes = quoted (encode_upper bytes)
+
+-- a member of an object: its key, and its value after a colon
+abbrev pub member : List ℕ → List ℕ → List ℕ
+member key value = quoted key ++ 58 ∷ value
+
+-- values or members with a comma between two
+abbrev pub joined : List (List ℕ) → List ℕ
+joined [] = []
+joined (text ∷ texts) = text ++ flat_map comma texts
+
+abbrev pub array : List (List ℕ) → List ℕ
+array values = 91 ∷ (joined values ++ 93 ∷ [])
+
+abbrev pub object : List (List ℕ) → List ℕ
+object members = 123 ∷ (joined members ++ 125 ∷ [])
+
+-- a line: an object whose first member is its type, and LF
+abbrev pub object_line : List ℕ → List (List ℕ) → List ℕ
+object_line kind members =
+    123 ∷ (member (codes "type") (quoted kind) ++ (flat_map comma members ++ 125 ∷ 10 ∷ []))
