@@ -4,7 +4,6 @@ ghost use Rattle.std.specs.Prelude.{◌≡◌, ◌&&◌, ◌+◌, ◌-◌, ◌<�
 ghost use Rattle.std.specs.Prelude.{slice_index_or as get_or, take};
 ghost use Rattle.std.specs.List.{list_any};
 ghost use Rattle.std.specs.Option.{unwrap_or};
-ghost use Rattle.lin_cluster_parts.specs.Cluster.{line_of};
 ghost use Rattle.lin_cluster_parts.specs.declared.parts.Parts.{Parts};
 ghost use Rattle.lin_core.specs.History.{Slot, did, events, is_finish, slot_after_event, slot_after_events, time};
 ghost use Rattle.lin_core.specs.declared.log.LogEntry.{LogEntry};
@@ -26,18 +25,6 @@ struct Walk {
     finishes: bool,
     told: Option<(u16, u16)>,
     asked: bool,
-}
-
-/// The delay of an entry of a table; 1 microsecond where the cluster has none there.
-fn delay(cluster: &Cluster, table: u16, entry: u16) -> u64
-    ensures delay { result ≡ (line_of cluster.now table entry).delay_us }
-    ensures few { result ≤ 1000000000 }
-{
-    if (table as usize) < cluster.tables() && (entry as usize) < cluster.entries(table) {
-        u64::from(cluster.delay_us(table, entry))
-    } else {
-        1
-    }
 }
 
 /// The table and the entry that an event tells.
@@ -113,7 +100,7 @@ impl Walk {
             Step::Open => {
                 let (table, number) = told.unwrap_or((0, 0));
                 Walk {
-                    time: self.time + delay(cluster, table, number),
+                    time: self.time + u64::from(cluster.line_at(table, number).delay_us),
                     finishes: false,
                     ..self
                 }

@@ -12,15 +12,8 @@ ghost use Rattle.lin_bench.specs.Adding.{AreEnds, IsAfterFinish, IsHeard, end_of
 
 use crate::replies::{first_byte, good_bytes};
 use lin_cluster_parts::Cluster;
-use lin_core::{Core, Direction};
+use lin_core::{Core, Direction, MASTER_REQUEST, NODES, SLAVE_RESPONSE};
 use lin_transport::FUNCTIONAL;
-
-const MASTER_REQUEST: u8 = 0x3C;
-
-const SLAVE_RESPONSE: u8 = 0x7D;
-
-/// The most nodes of a cluster (ISO 17987-2, node addresses).
-const NODES: usize = 16;
 
 /// When the slots of the last good frames of the links to each node and from it ended, in
 /// microseconds; 0 where there was none.

@@ -1,10 +1,8 @@
 //! The fields of a line, as the language of a cluster's names has them.
 
 ghost use Rattle.std.specs.Prelude.{◌≡◌, ◌∷◌, ◌&&◌, codes, true, IfOk, option_map};
-ghost use Rattle.std.specs.Result.{result_ok};
 ghost use Rattle.std.specs.Str.{bytes_eq};
-ghost use Rattle.hex.specs.Hex.{decode_of};
-ghost use Rattle.lin_log.specs.Said.{bytes_of, hex_bytes, row};
+ghost use Rattle.lin_log.specs.Said.{bytes_of, row};
 ghost use Rattle.lin_bench.specs.Fields.{bytes_fields, count_field, fields, node_field, number_field};
 ghost use Rattle.lin_bench.specs.Fields.{after_dots, frame_called, frame_field, frames_called, message_frame};
 ghost use Rattle.lin_log.specs.Language.{number_named};
@@ -15,12 +13,11 @@ ghost use Rattle.lin_bench.specs.Read.{Gives};
 use crate::expected::Carried;
 use crate::fault::LineFault;
 use crate::reason::Reason;
-use hex::FromHexError;
 use lin_cluster_parts::Cluster;
 use lin_core::Payload;
 use lin_frame::Value;
 use lin_lists::{Many, Text};
-use lin_log::{Reason as StepReason, first_field, is_number};
+use lin_log::{Reason as StepReason, decoded, first_field, hex_bytes, is_number};
 use std::alloc::{AllocError, Global};
 
 /// The fields of a line.
@@ -169,29 +166,6 @@ pub(crate) fn rows_and_time<'a>(
         (rows, Some(*number))
     } else {
         (all, None)
-    }
-}
-
-/// The bytes of hexadecimal digits, two for each, if they are such.
-fn decoded(alloc: Global, digits: &[u8]) -> Result<Option<Vec<u8>>, AllocError>
-    ensures { IfOk result
-        (λ bytes. option_map (λ v. v.items) bytes ≡ result_ok (decode_of digits.now)) }
-{
-    match hex::decode(alloc, digits) {
-        Ok(bytes) => Ok(Some(bytes)),
-        Err(FromHexError::OutOfMemory) => Err(AllocError),
-        Err(_) => Ok(None),
-    }
-}
-
-/// The bytes of one field: `-` for none, or hexadecimal digits, two for each byte.
-fn hex_bytes(alloc: Global, digits: &[u8]) -> Result<Option<Vec<u8>>, AllocError>
-    ensures { IfOk result (λ bytes. option_map (λ v. v.items) bytes ≡ hex_bytes digits.now) }
-{
-    match digits {
-        [] => Ok(None),
-        b"-" => Ok(Some(Vec::new(alloc))),
-        _ => decoded(alloc, digits),
     }
 }
 

@@ -9,7 +9,7 @@ ghost use Rattle.lin_cluster_parts.specs.Cluster.{frame_of, named_sporadic, fram
 ghost use Rattle.lin_cluster_parts.specs.Cluster.{event_name, entry_name};
 ghost use Rattle.lin_cluster_parts.specs.Cluster.{frames_with, sporadic_of, event_of, named_table};
 ghost use Rattle.lin_cluster_parts.specs.Cluster.{table_of, line_of, first_table};
-ghost use Rattle.lin_cluster_parts.specs.Rules.{IsCluster, IsDelay};
+ghost use Rattle.lin_cluster_parts.specs.Rules.{IsCluster, IsDelay, IsEntry};
 ghost use Rattle.lin_cluster_parts.specs.Sound.{IsSound};
 
 use crate::carriers::all_carriers;
@@ -419,6 +419,24 @@ impl Cluster {
         ensures { result ≡ (line_of self.now table entry).entry }
     {
         self.line(table, entry).entry
+    }
+
+    /// What an entry of a schedule table is for, with its delay; a configuration entry of 1
+    /// microsecond where the cluster has no such entry.
+    pub fn line_at(&self, table: u16, entry: u16) -> Line
+        ensures line { result ≡ line_of self.now table entry }
+        ensures there { IsEntry self.now result.entry }
+        ensures delay { result.delay_us ≤ 1000000000 }
+    {
+        self.sound();
+        if (table as usize) < self.tables() && (entry as usize) < self.entries(table) {
+            *self.line(table, entry)
+        } else {
+            Line {
+                entry: Entry::Quiet,
+                delay_us: 1,
+            }
+        }
     }
 
     /// The name of what an entry of a schedule table is for (LIN 2.2A, section 9.2.5): a frame's,

@@ -18,14 +18,14 @@ use lin_frame::Answer;
 use std::alloc::{AllocError, Global};
 use std::marker::Model;
 
-/// The protected identifiers of the diagnostic frames (ISO 17987-3: 60, master request, and 61,
-/// slave response).
-pub(crate) const MASTER_REQUEST: u8 = 0x3C;
+/// The protected identifier of the master request frame (ISO 17987-3, frame identifier 60).
+pub const MASTER_REQUEST: u8 = 0x3C;
 
-pub(crate) const SLAVE_RESPONSE: u8 = 0x7D;
+/// The protected identifier of the slave response frame (ISO 17987-3, frame identifier 61).
+pub const SLAVE_RESPONSE: u8 = 0x7D;
 
 /// The most nodes of a cluster (ISO 17987-2, node addresses).
-pub(crate) const NODES: usize = 16;
+pub const NODES: usize = 16;
 
 /// A response, the node that put it, and the frame that was pending until then, if it carries one.
 #[derive(Drop)]

@@ -17,7 +17,6 @@ ghost use Rattle.lin_export.specs.Named.{who_word};
 ghost use Rattle.lin_export.specs.NamedWords.{event_text, line_or_none, named_entry};
 ghost use Rattle.lin_export.specs.Open.{slot_in};
 
-use crate::carried::line_at;
 use crate::fault::ExportFault;
 use crate::format::{Format, write_as};
 use crate::naming::node_name;
@@ -74,7 +73,7 @@ pub fn put_slot_names<W: Write>(out: &mut TextWriter<'_, W>, cluster: &Cluster, 
         header,
     } = event
     {
-        let entry = line_at(cluster, *table, *number).entry;
+        let entry = cluster.line_at(*table, *number).entry;
         put_words(out, &[Word::Name(cluster.entry_name(entry))]);
         put_member(out, cluster, sporadic_frame(cluster, entry, *header));
     }

@@ -12,7 +12,7 @@ ghost use Rattle.lin_export.specs.Open.{slot_in};
 ghost use Rattle.lin_export.specs.Shown.{slot_frame};
 ghost use Rattle.lin_export.specs.Track.{shown_slot};
 
-use crate::carried::{frame_put, line_at};
+use crate::carried::frame_put;
 use lin_cluster_parts::{Cluster, Entry, Line};
 use lin_core::{Event, frame_under};
 use lin_frame::Answer;
@@ -168,7 +168,7 @@ impl OpenSlot {
         ensures there { IsEntry cluster.now result.entry }
         ensures delay { result.delay_us ≤ 1000000000 }
     {
-        line_at(cluster, self.table, self.entry)
+        cluster.line_at(self.table, self.entry)
     }
 
     /// The frame that it carries (ISO 17987-3, unconditional, sporadic and event-triggered frames).

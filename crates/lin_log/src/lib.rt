@@ -33,7 +33,9 @@ pub use reason::{LineFault, Reason};
 pub use replaying::{make_step, replay, run_script};
 pub use script::{first_line, read_bytes, read_script, without_return};
 pub use steps::steps_of;
-pub use values::{bytes_fields, node_field, signal_field, table_field, value_field};
+pub use values::{
+    bytes_fields, decoded, hex_bytes, node_field, signal_field, table_field, value_field,
+};
 pub use writing::{
     put_bytes, put_event, put_hex, put_node, put_number, put_port, put_signal, put_step, put_table,
     put_value, put_word,

@@ -62,7 +62,7 @@ pub fn table_field<N: Naming>(alloc: Global, names: &N, field: &[u8]) -> Result<
 }
 
 /// The bytes of hexadecimal digits, two for each, if they are such.
-fn decoded(alloc: Global, digits: &[u8]) -> Result<Option<Vec<u8>>, AllocError>
+pub fn decoded(alloc: Global, digits: &[u8]) -> Result<Option<Vec<u8>>, AllocError>
     ensures { IfOk result
         (λ bytes. option_map (λ v. v.items) bytes ≡ result_ok (decode_of digits.now)) }
 {
@@ -74,7 +74,7 @@ fn decoded(alloc: Global, digits: &[u8]) -> Result<Option<Vec<u8>>, AllocError>
 }
 
 /// The bytes of one field: `-` for none, or hexadecimal digits, two for each byte.
-fn hex_bytes(alloc: Global, digits: &[u8]) -> Result<Option<Vec<u8>>, AllocError>
+pub fn hex_bytes(alloc: Global, digits: &[u8]) -> Result<Option<Vec<u8>>, AllocError>
     ensures { IfOk result (λ bytes. option_map (λ v. v.items) bytes ≡ hex_bytes digits.now) }
 {
     match digits {

@@ -4,7 +4,6 @@
 ghost use Rattle.std.specs.Prelude.{◌≡◌, ◌≤◌, ◌+◌, ◌*◌, ◌<◌, ◌^◌, ◌∷◌, ◌++◌, ℕ, [], List};
 ghost use Rattle.std.specs.Prelude.{codes, flat_map, length};
 ghost use Rattle.std.specs.Fmt.{decimal};
-ghost use Rattle.lin_cluster_parts.specs.Cluster.{line_of};
 ghost use Rattle.lin_cluster_parts.specs.declared.parts.Parts.{Parts};
 ghost use Rattle.lin_core.specs.History.{Slot, slot_after_event, slot_after_events};
 ghost use Rattle.lin_core.specs.declared.log.LogEntry.{LogEntry};
@@ -25,19 +24,6 @@ pub(crate) struct Moment {
     slot: Option<(u16, u16)>,
     slots: u64,
     time_us: u64,
-}
-
-/// The delay of an entry, in microseconds; 1 where the cluster has none there.
-fn delay_us(cluster: &Cluster, table: u16, entry: u16) -> u32
-    ensures delay { result ≡ (line_of cluster.now table entry).delay_us }
-    ensures limit { result ≤ 1000000000 }
-{
-    cluster.sound();
-    if (table as usize) < cluster.tables() && (entry as usize) < cluster.entries(table) {
-        cluster.delay_us(table, entry)
-    } else {
-        1
-    }
 }
 
 /// The entry of a slot after an event.
@@ -86,7 +72,7 @@ impl Moment {
             Some((table, entry)) => Moment {
                 slot: None,
                 slots: self.slots + 1,
-                time_us: self.time_us + u64::from(delay_us(cluster, table, entry)),
+                time_us: self.time_us + u64::from(cluster.line_at(table, entry).delay_us),
             },
             None => self,
         }
