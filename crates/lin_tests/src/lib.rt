@@ -1,5 +1,5 @@
-//! Tests of the public calls of the other crates, apart from them, so that a crate isn't proved a
-//! second time with its tests.
+//! Tests of the public calls of the crates up to `lin_log`, apart from them, so that a crate isn't
+//! proved a second time with its tests.
 #![tactic(auto)]
 
 #[cfg(test)]
@@ -12,8 +12,6 @@ mod held_steps;
 mod ldf;
 #[cfg(test)]
 mod log;
-#[cfg(test)]
-mod program;
 #[cfg(test)]
 mod runs;
 #[cfg(test)]

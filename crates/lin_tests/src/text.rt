@@ -1,11 +1,11 @@
-//! Texts that are read one byte at a time, and written in large pieces.
+//! Texts that are written in large pieces, and readers and writers that fail.
 
-use crate::log::fakes::{Pieces, Refusing, Slow};
-use crate::samples::{BODY_CLUSTER, DOOR_CLUSTER, cluster_of, expect_text, joined};
+use crate::log::fakes::{Broken, Pieces};
+use crate::samples::{DOOR_CLUSTER, cluster_of, joined};
 use lin_log::replay;
-use lin_text::TextWriter;
-use lin_tool::{Fault, read_text, write_list};
+use lin_text::{ReadFault, TextWriter, read_whole};
 use std::alloc::Global;
+use std::io::ErrorKind;
 use std::process::Abort;
 use std::test::Fail;
 
@@ -57,44 +57,23 @@ fn writes_large_pieces(rt: HostRuntime) -> Result<(), Fail> {
     Ok(())
 }
 
-/// What is read of an LDF text, one byte a read, where reads fail after so many.
-fn read_slowly(alloc: Global, good: usize) -> Result<Vec<u8>, Fault> {
-    let mut reader = Slow {
-        rest: BODY_CLUSTER,
-        good,
-    };
-    read_text(alloc, &mut reader)
-}
-
-/// The list of a cluster, one byte a write, where writes fail after so many: whether it was
-/// written, and what was.
-fn list_slowly(alloc: Global, good: usize) -> Result<(bool, Vec<u8>), Fail> {
-    let cluster = cluster_of(alloc, BODY_CLUSTER)?;
-    let mut writer = Refusing {
-        taken: Vec::new(alloc),
-        good,
-    };
-    let is_written = write_list(&cluster, &mut writer).is_ok();
-    Ok((is_written, writer.taken))
-}
-
+/// A reader and a writer that fail aren't asked again, however they fail.
 #[test]
-fn fails_at_each_read_and_write(rt: HostRuntime) -> Result<(), Fail> {
-    for good in 0..=BODY_CLUSTER.len() {
-        let text = read_slowly(rt.alloc(), good);
-        assert!(rt;
-            matches!(text, Err(Fault::ReadFailed)),
-            "after {good} reads"
-        );
+fn asked_once_where_that_fails(rt: HostRuntime) {
+    for kind in [ErrorKind::OutOfMemory, ErrorKind::Interrupted] {
+        let mut reader = Broken {
+            kind: Some(kind),
+            calls: 0,
+        };
+        let text = read_whole(rt.alloc(), &mut reader, 1000);
+        assert!(rt; matches!(text, Err(ReadFault::ReadFailed)));
+        assert!(rt; reader.calls == 1);
     }
-    let text = read_slowly(rt.alloc(), BODY_CLUSTER.len() + 1)?;
-    expect_text(&rt, text.as_slice(), BODY_CLUSTER, "the text");
-    let (is_written, list) = list_slowly(rt.alloc(), 1000)?;
-    assert!(rt; is_written);
-    for good in 0..list.len() {
-        let (is_written, taken) = list_slowly(rt.alloc(), good)?;
-        assert!(rt; !is_written);
-        assert!(rt; taken.as_slice() == &list.as_slice()[..good]);
+    for kind in [Some(ErrorKind::Interrupted), None] {
+        let mut writer = Broken { kind, calls: 0 };
+        let mut text = TextWriter::new(&mut writer);
+        text.put_text("> a");
+        assert!(rt; text.finish().is_err());
+        assert!(rt; writer.calls == 1);
     }
-    Ok(())
 }

@@ -1,7 +1,7 @@
 //! Lines, and the answers to them.
 
+use super::lengths::Lengths;
 use crate::fakes::{Narrow, Piecewise};
-use crate::lengths::Lengths;
 use lin_live::live;
 use std::alloc::Global;
 use std::test::Fail;

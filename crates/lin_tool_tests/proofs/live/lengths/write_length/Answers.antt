@@ -1,6 +1,6 @@
 use Rattle.std.proofs.Common.{◌∙◌, sym, rules}
 use Rattle.lin_text.proofs.Growing.{grows-more, text-written}
-use Rattle.lin_live_tests.proofs.lengths.write_length.Goals as goal
+use Rattle.lin_tool_tests.proofs.live.lengths.write_length.Goals as goal
 
 pub returns : goal.returns
 returns g c =

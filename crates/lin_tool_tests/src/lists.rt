@@ -1,18 +1,11 @@
 //! Each sample in both lists.
 
+use crate::clusters::{cluster_of, expect_bytes};
 use crate::samples;
-use lin_cluster::check;
-use lin_ldf::parse;
 use lin_listing::{write_frames, write_slots};
 use std::alloc::Global;
 use std::process::Abort;
 use std::test::Fail;
-
-/// Compares what was written.
-fn expect_bytes(rt: &impl Abort, found: &[u8], want: &[u8], case: &str) {
-    let text = std::str::from_utf8(found).unwrap_or("no text");
-    assert!(rt; found == want, "{case}: {text}");
-}
 
 fn expect_lists(
     rt: &impl Abort,
@@ -21,13 +14,13 @@ fn expect_lists(
     frames: &[u8],
     slots: &[u8],
 ) -> Result<(), Fail> {
-    let cluster = check(alloc, parse(alloc, ldf)?)?;
+    let cluster = cluster_of(alloc, ldf)?;
     let mut found = Vec::new(alloc);
     write_frames(&cluster, &mut found)?;
-    expect_bytes(rt, &found, frames, "frames");
+    expect_bytes(rt, &found, frames, "a cluster", "frames");
     let mut found = Vec::new(alloc);
     write_slots(&cluster, &mut found)?;
-    expect_bytes(rt, &found, slots, "slots");
+    expect_bytes(rt, &found, slots, "a cluster", "slots");
     Ok(())
 }
 

@@ -1,14 +1,14 @@
 //! What the program does with readers and writers that tell their bytes, and with such as fail.
 
-use crate::log::fakes::{Broken, Refusing};
-use crate::samples::{BODY_CLUSTER, DOOR_CLUSTER, cluster_of, expect_text};
+use crate::clusters::{cluster_of, expect_bytes};
+use crate::fakes::{Narrow, Piecewise};
+use crate::samples::{BUILT_IN, LIGHTS};
 use lin_log::run_script;
 use lin_tool::{
     Fault, Format, Lists, Notes, Wanted, cluster_of_reader, cluster_of_text, opening_table,
     read_text, replay_script, write_list, write_lists, write_shown,
 };
 use std::alloc::Global;
-use std::io::ErrorKind;
 use std::process::Abort;
 use std::test::Fail;
 
@@ -21,17 +21,18 @@ fn cluster_text(alloc: Global, mut rest: &[u8]) -> Result<Vec<u8>, Fault> {
 }
 
 #[test]
-fn body_cluster_is_listed(rt: HostRuntime) {
-    let listed = match cluster_text(rt.alloc(), BODY_CLUSTER) {
+fn cluster_is_listed(rt: HostRuntime) {
+    let listed = match cluster_text(rt.alloc(), LIGHTS) {
         Ok(text) => text,
         Err(_) => Vec::new(rt.alloc()),
     };
-    let wanted = b"node 0 cem -\nnode 1 door 1\nsignal 0 pos\ntable 0 T 2\n";
-    expect_text(&rt, &listed, wanted, "the list");
+    let wanted =
+        b"node 0 cem -\nnode 1 lsm 1\nnode 2 rsm 2\nsignal 0 level\nsignal 1 mode\nsignal 2 speed\nsignal 3 lkey\nsignal 4 rkey\ntable 0 Main 3\ntable 1 Resolve 2\ntable 2 Diag 2\n";
+    expect_bytes(&rt, &listed, wanted, "a cluster", "a list");
 }
 
 fn replayed(alloc: Global, script: &[u8]) -> Result<Vec<u8>, Fault> {
-    let mut rest = DOOR_CLUSTER;
+    let mut rest = BUILT_IN;
     let mut reader = script;
     let mut text = Vec::new(alloc);
     let mut notes = Notes::new(alloc, Wanted::default());
@@ -57,36 +58,40 @@ fn script_is_replayed(rt: HostRuntime) {
         Err(_) => Vec::new(rt.alloc()),
     };
     let wanted = b"bus open\n> slot 0 0 -\nbus finish\n> seen silent\n";
-    expect_text(&rt, &log, wanted, "the log");
+    expect_bytes(&rt, &log, wanted, "a script", "a log");
     let bad = replayed(rt.alloc(), b"bus open\nbus shut\n");
     assert!(rt; matches!(bad, Err(Fault::BadLine { line: 2 })));
 }
 
+/// What is read of an LDF text, one byte a read, where reads fail after so many bytes.
+fn read_slowly(alloc: Global, text: &[u8], fails: bool) -> Result<Vec<u8>, Fault> {
+    let mut reader = Piecewise {
+        rest: text,
+        most: 1,
+        interrupts: None,
+        fails,
+    };
+    read_text(alloc, &mut reader)
+}
+
 #[test]
-fn asked_once_where_that_fails(rt: HostRuntime) -> Result<(), Fail> {
-    for kind in [ErrorKind::OutOfMemory, ErrorKind::Interrupted] {
-        let mut reader = Broken {
-            kind: Some(kind),
-            calls: 0,
-        };
-        let text = read_text(rt.alloc(), &mut reader);
-        assert!(rt; matches!(text, Err(Fault::ReadFailed)));
-        assert!(rt; reader.calls == 1);
+fn reads_fail_at_each_byte(rt: HostRuntime) -> Result<(), Fail> {
+    for good in 0..=LIGHTS.len() {
+        let text = read_slowly(rt.alloc(), &LIGHTS[..good], true);
+        assert!(rt;
+            matches!(text, Err(Fault::ReadFailed)),
+            "after {good} reads"
+        );
     }
-    let cluster = cluster_of(rt.alloc(), BODY_CLUSTER)?;
-    for kind in [Some(ErrorKind::Interrupted), None] {
-        let mut writer = Broken { kind, calls: 0 };
-        let listed = write_list(&cluster, &mut writer);
-        assert!(rt; listed.is_err());
-        assert!(rt; writer.calls == 1);
-    }
+    let text = read_slowly(rt.alloc(), LIGHTS, false)?;
+    expect_bytes(&rt, text.as_slice(), LIGHTS, "a cluster", "its text");
     Ok(())
 }
 
 #[test]
 fn lists_end_where_a_write_fails(rt: HostRuntime) -> Result<(), Fail> {
     let alloc = rt.alloc();
-    let cluster = cluster_of_text(alloc, BODY_CLUSTER)?;
+    let cluster = cluster_of_text(alloc, LIGHTS)?;
     let all = Lists {
         frames: true,
         slots: true,
@@ -94,17 +99,13 @@ fn lists_end_where_a_write_fails(rt: HostRuntime) -> Result<(), Fail> {
     let mut whole = Vec::new(alloc);
     write_lists(&cluster, all, &mut whole)?;
     for good in 0..whole.len() {
-        let mut writer = Refusing {
+        let mut writer = Narrow {
             taken: Vec::new(alloc),
-            good,
+            left: good,
         };
         assert!(rt; write_lists(&cluster, all, &mut writer).is_err());
-        expect_text(
-            &rt,
-            &writer.taken,
-            &whole[..good],
-            "a beginning of the lists",
-        );
+        let wanted = &whole[..good];
+        expect_bytes(&rt, &writer.taken, wanted, "a beginning", "lists");
     }
     Ok(())
 }
@@ -116,7 +117,7 @@ const STEPS: &[u8] =
 #[test]
 fn formats_end_where_a_write_fails(rt: HostRuntime) -> Result<(), Fail> {
     let alloc = rt.alloc();
-    let cluster = cluster_of_text(alloc, DOOR_CLUSTER)?;
+    let cluster = cluster_of_text(alloc, BUILT_IN)?;
     let table = opening_table(&cluster, None)?;
     let core = run_script(alloc, cluster, table, 16, STEPS)?;
     for format in [
@@ -132,13 +133,14 @@ fn formats_end_where_a_write_fails(rt: HostRuntime) -> Result<(), Fail> {
         write_shown(alloc, format, &core, table, 16, &[], &mut whole)?;
         // (a page is long: some of its beginnings)
         for good in (0..whole.len()).step_by(1 + whole.len() / 4096) {
-            let mut writer = Refusing {
+            let mut writer = Narrow {
                 taken: Vec::new(alloc),
-                good,
+                left: good,
             };
             let written = write_shown(alloc, format, &core, table, 16, &[], &mut writer);
             assert!(rt; written.is_err());
-            expect_text(&rt, &writer.taken, &whole[..good], "a beginning");
+            let wanted = &whole[..good];
+            expect_bytes(&rt, &writer.taken, wanted, "a beginning", "a format");
         }
     }
     Ok(())

@@ -1,7 +1,7 @@
 //! Loops that end early, and what was answered by then.
 
+use super::lengths::Lengths;
 use crate::fakes::{Narrow, Piecewise};
-use crate::lengths::Lengths;
 use lin_live::{Fault, live};
 use std::alloc::Global;
 use std::test::Fail;

@@ -1,6 +1,6 @@
 //! Each sample in each format.
 
-use crate::runs::{expect_bytes, run};
+use crate::clusters::{expect_bytes, run};
 use crate::samples;
 use lin_export::{write_csv, write_first_slots, write_named, write_pcap, write_vcd};
 use std::alloc::Global;

@@ -1,16 +1,30 @@
-//! Clusters of LDF texts, and bench scripts played on them.
+//! Clusters of LDF texts, and logs and bench scripts run on them.
 
 use lin_bench::{Line, PlayFault, Played, ReadFault, play, read, write_unmet};
 use lin_cluster::check;
 use lin_cluster_parts::Cluster;
+use lin_core::Core;
 use lin_ldf::parse;
+use lin_log::replay;
 use std::alloc::Global;
+use std::process::Abort;
 use std::test::Fail;
 
 /// The cluster of an LDF text.
 pub fn cluster_of(alloc: Global, ldf: &[u8]) -> Result<Cluster, Fail> {
     let description = parse(alloc, ldf)?;
     Ok(check(alloc, description)?)
+}
+
+/// The core of the cluster of an LDF text after a log on its first table.
+pub fn run(alloc: Global, ldf: &[u8], log: &[u8]) -> Result<Core, Fail> {
+    let cluster = cluster_of(alloc, ldf)?;
+    if cluster.tables() == 0 {
+        return Err(Fail::from("no table"));
+    }
+    let mut rest = log;
+    let mut text = Vec::new(alloc);
+    Ok(replay(alloc, cluster, 0, 16, &mut rest, &mut text)?)
 }
 
 /// The lines of a text, or its fault.
@@ -58,4 +72,10 @@ pub fn unmet_of(alloc: Global, ldf: &[u8], text: &[u8]) -> Result<Vec<u8>, Fail>
     let mut written = Vec::new(alloc);
     write_unmet(played.core.cluster(), played.unmet.as_slice(), &mut written)?;
     Ok(written)
+}
+
+/// Compares what was written of a case in a format.
+pub fn expect_bytes(rt: &impl Abort, found: &[u8], want: &[u8], case: &str, format: &str) {
+    let text = std::str::from_utf8(found).unwrap_or("no text");
+    assert!(rt; found == want, "{case} as {format}: {text}");
 }

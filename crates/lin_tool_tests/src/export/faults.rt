@@ -3,7 +3,7 @@
 
 ghost use Rattle.std.specs.Prelude.{Some};
 
-use crate::runs::{expect_bytes, run};
+use crate::clusters::{expect_bytes, run};
 use crate::samples;
 use lin_core::Core;
 use lin_export::{

@@ -1,0 +1,7 @@
+//! Bench scripts: what is read of their texts, and what they come to.
+
+mod bad_lines;
+mod limits;
+mod runs;
+mod scripts;
+mod unmet;

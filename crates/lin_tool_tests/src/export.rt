@@ -1,0 +1,4 @@
+//! What runs are written as.
+
+mod faults;
+mod formats;

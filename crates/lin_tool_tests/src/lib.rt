@@ -1,0 +1,20 @@
+//! Tests of what stands on logs: formats, lists, bench scripts, lines in hand, and the program's
+//! calls; apart from their crates, so that these aren't proved a second time with them.
+#![tactic(auto)]
+
+#[cfg(test)]
+mod bench;
+#[cfg(test)]
+mod clusters;
+#[cfg(test)]
+mod export;
+#[cfg(test)]
+mod fakes;
+#[cfg(test)]
+mod lists;
+#[cfg(test)]
+mod live;
+#[cfg(test)]
+mod program;
+#[cfg(test)]
+mod samples;

@@ -1,0 +1,5 @@
+//! Lines that are answered as they come, over a state that says how long they are.
+
+mod ends;
+mod lengths;
+mod lines;
