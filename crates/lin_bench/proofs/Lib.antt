@@ -20,3 +20,4 @@ pub mod AddedSteps
 pub mod GivenUp
 pub mod NotedAnswers
 pub mod RuledFinish
+pub mod ToldErrors

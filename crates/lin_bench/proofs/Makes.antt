@@ -86,7 +86,7 @@ last-item : {A : Type 0} (xs : List A) (e d : A) → get_or (xs ++ e ∷ []) (le
 last-item [] e d = refl
 last-item (x ∷ xs) e d = last-item xs e d
 
-ends-so : {A : Type 0} (xs ys : List A) (e : A) → reverse xs ≡ e ∷ ys → xs ≡ reverse ys ++ e ∷ []
+pub ends-so : {A : Type 0} (xs ys : List A) (e : A) → reverse xs ≡ e ∷ ys → xs ≡ reverse ys ++ e ∷ []
 ends-so xs ys e h = sym (reverse-reverse xs) ∙ ap reverse h ∙ reverse-append (e ∷ []) ys
 
 pub some-past : (core : CoreData) (e : LogEntry) (past : List LogEntry) → past_of core ≡ e ∷ past → 0 < length core.log

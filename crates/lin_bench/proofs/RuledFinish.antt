@@ -1,5 +1,5 @@
 -- What rules add after a finish, on a core on which they are in force.
-use Rattle.std.proofs.Common.{◌≡◌, ◌∙◌, ℕ, List, [], ◌∷◌, ◌++◌, map, refl, sym, ap, append_assoc, cond, is_some, true, slice_index_or, length, ◌-◌, Result, Ok, Err}
+use Rattle.std.proofs.Common.{◌≡◌, ◌∙◌, ℕ, List, [], ◌∷◌, ◌++◌, map, refl, sym, subst, ap, append_assoc, cond, is_some, true, slice_index_or, length, ◌-◌, Result, Ok, Err}
 use Rattle.std.specs.Prelude.{filter}
 use Rattle.lin_core.specs.Core.{answered, past_of}
 use Rattle.lin_core.specs.History.{Slot, done, is_finish, open_slot, time}
@@ -9,6 +9,7 @@ use Rattle.lin_core.specs.declared.port.PortId.{PortId}
 use Rattle.lin_core.specs.declared.step.Step.{Step}
 use Rattle.lin_core.specs.declared.step.Step.TheVariants.{Send, Write, Open, Answer, Leave, Hurt, Finish, Timeout, Switch, AskSleep, Wake, Close}
 use Rattle.lin_bench.specs.Added.{added_after, has_time, noted_by, rules_after, send_of, step_of, timeouts}
+use Rattle.lin_bench.specs.Errors.{errors_told}
 use Rattle.lin_bench.specs.Adding.{Adds, AreAdded, HasFinished, MakesAdded}
 use Rattle.lin_bench.specs.Making.{IsMade, MakesSteps, RuledData}
 use Rattle.lin_bench.specs.Rules.{kept_at, no_rules, sent_at}
@@ -29,7 +30,8 @@ pub record IsReady (a i : RuledData) (by : PortId) (past : List LogEntry) (began
 
 all-steps : (a i : RuledData) (by : PortId) (past : List LogEntry) (s : Slot) (began now : ℕ) → HasFinished a.core by past s → IsReady a i by past began now
     → timeouts i.core.cluster (past_of i.core) i.rules.limit_ms
-    ++ (map send_of (sent_at now i.rules.noted) ++ map step_of (filter (has_time began now) i.rules.everies))
+    ++ (errors_told i.core.cluster (finish_of i.core past by) past i.rules.errors
+    ++ (map send_of (sent_at now i.rules.noted) ++ map step_of (filter (has_time began now) i.rules.everies)))
     ≡ added_after a.core.cluster (finish_of a.core past by) past a.rules
 all-steps a i by past s began now fin at = rw (at.now_is, at.rules, at.core, at.began_is, fin.newest) refl
 
@@ -49,19 +51,22 @@ in-turn : {X : Type 0} (a d : RuledData) (e : LogEntry) (past : List LogEntry) (
 in-turn a d e past steps (Ok x) is made rules = (rw is at made, rules)
 in-turn a d e past steps (Err fault) is made rules = rw is at made
 
-pub rules-add : {X : Type 0} (a i d : RuledData) (by : PortId) (past : List LogEntry) (s : Slot) (began now : ℕ) (s0 s1 s2 s3 : List (PortId × Step)) (noted : List Noted) (r : Result X MakeFault)
+pub rules-add : {X : Type 0} (a i d : RuledData) (by : PortId) (past : List LogEntry) (s : Slot) (began now : ℕ) (s0 s1 st s2 s3 : List (PortId × Step)) (noted : List Noted) (r : Result X MakeFault)
     → HasFinished a.core by past s → IsReady a i by past began now
     → s0 ≡ [] → s1 ≡ s0 ++ timeouts i.core.cluster (past_of i.core) i.rules.limit_ms
-    → s2 ≡ s1 ++ map send_of (sent_at now i.rules.noted) → noted ≡ kept_at now i.rules.noted
+    → (HasFinished i.core by past s → st ≡ s1 ++ errors_told i.core.cluster (finish_of i.core past by) past i.rules.errors)
+    → s2 ≡ st ++ map send_of (sent_at now i.rules.noted) → noted ≡ kept_at now i.rules.noted
     → s3 ≡ s2 ++ map step_of (filter (has_time began now) i.rules.everies)
     → MakesAdded i.core s3 r d.core → d.rules ≡ record i.rules { noted = noted }
     → Adds a (finish_of a.core past by) past r d
-rules-add a i d by past s began now s0 s1 s2 s3 noted r fin at e0 e1 e2 en e3 made rules =
+rules-add a i d by past s began now s0 s1 st s2 s3 noted r fin at e0 e1 et e2 en e3 made rules =
     let sent : List (PortId × Step) = map send_of (sent_at now i.rules.noted) in
     let given : List (PortId × Step) = timeouts i.core.cluster (past_of i.core) i.rules.limit_ms in
     let again : List (PortId × Step) = map step_of (filter (has_time began now) i.rules.everies) in
-    let steps : s3 ≡ given ++ (sent ++ again) =
-    e3 ∙ ap (λ l. l ++ again) (e2 ∙ ap (λ l. l ++ sent) (e1 ∙ ap (λ l. l ++ given) e0)) ∙ append_assoc given sent again in
+    let told : List (PortId × Step) = errors_told i.core.cluster (finish_of i.core past by) past i.rules.errors in
+    let steps : s3 ≡ given ++ (told ++ (sent ++ again)) =
+    e3 ∙ ap (λ l. l ++ again) (e2 ∙ ap (λ l. l ++ sent) (et (subst (λ k. HasFinished k by past s) (sym at.core) fin) ∙ ap (λ l. l ++ told) (e1 ∙ ap (λ l. l ++ given) e0)))
+    ∙ append_assoc (given ++ told) sent again ∙ append_assoc given told (sent ++ again) in
     in-turn a d (finish_of a.core past by) past s3 r (steps ∙ all-steps a i by past s began now fin at) (rw at.core at made)
     (rules ∙ ap (λ l. record i.rules { noted = l }) en ∙ all-rules a i by past s began now fin at)
 

@@ -17,6 +17,7 @@ use Rattle.lin_core.specs.declared.port.PortId.{PortId}
 use Rattle.lin_core.specs.declared.port.PortId.TheVariants.{Bus, Host}
 use Rattle.lin_core.specs.declared.step.Step.{Step}
 use Rattle.lin_core.specs.declared.step.Step.TheVariants.{Send, Timeout}
+use Rattle.lin_bench.specs.Errors.{errors_told}
 use Rattle.lin_bench.specs.Rules.{all_noted, kept_at, notes_for, sent_at}
 use Rattle.lin_bench.specs.declared.rules.Noted.{Noted}
 use Rattle.lin_bench.specs.declared.rules.Repeated.{Repeated}
@@ -87,13 +88,14 @@ abbrev pub repeated : Parts → LogEntry → List LogEntry → Rules → List (P
 repeated c e past rules =
     map step_of (filter (has_time (time c past) (time c (e ∷ past))) rules.everies)
 
--- ---- the steps after a finish, in their order: what takes too long, the answers whose time has
--- come, and what is repeated
+-- ---- the steps after a finish, in their order: what takes too long, the errors that are told, the
+-- answers whose time has come, and what is repeated
 abbrev pub added_after : Parts → LogEntry → List LogEntry → Rules → List (PortId × Step)
 added_after c e past rules =
     timeouts c (e ∷ past) rules.limit_ms
+    ++ (errors_told c e past rules.errors
     ++ (map send_of (sent_at (time c (e ∷ past)) (noted_by c e past rules))
-    ++ repeated c e past rules)
+    ++ repeated c e past rules))
 
 -- and after any other entry none
 abbrev pub added : Parts → LogEntry → List LogEntry → Rules → List (PortId × Step)

@@ -1,5 +1,5 @@
 -- What a core keeps for its rules, and what making the steps that they add answers.
-use Rattle.std.specs.Prelude.{◌≡◌, true, ℕ, ◌<◌, ◌-◌, ◌^◌, List, [], ◌∷◌, ◌++◌, length, Option}
+use Rattle.std.specs.Prelude.{◌≡◌, Bool, true, false, ℕ, ◌<◌, ◌-◌, ◌^◌, List, [], ◌∷◌, ◌++◌, length, Option}
 use Rattle.std.specs.Prelude.{if◌then◌else◌, slice_index, Some, None, Result, Ok, Err}
 use Rattle.lin_cluster_parts.specs.Cluster.{nodes}
 use Rattle.lin_cluster_parts.specs.declared.parts.Parts.{Parts}
@@ -16,6 +16,7 @@ use Rattle.lin_core.specs.declared.port.PortId.{PortId}
 use Rattle.lin_core.specs.declared.step.Step.{Step}
 use Rattle.lin_core.specs.declared.step.Step.TheVariants.{Finish}
 use Rattle.lin_bench.specs.Added.{added_after, is_good_on, last_good, rules_after}
+use Rattle.lin_bench.specs.Errors.{is_damaged_seen}
 pub use Rattle.lin_bench.specs.Making.{RuledData}
 use Rattle.lin_bench.specs.Making.{IsGrown}
 use Rattle.lin_bench.specs.Slots.{past_after}
@@ -44,6 +45,11 @@ end_of ends n Up = slice_index ends.ups n
 abbrev pub good_in : List Event → Option (List ℕ)
 good_in (Seen how ∷ es) = good_bytes how
 good_in es = None
+
+-- whether it was seen damaged
+abbrev pub damaged_in : List Event → Bool
+damaged_in (Seen how ∷ es) = is_damaged_seen how
+damaged_in es = false
 
 -- of each node's link one way it is kept when its last good frame ended, which that of a slot may be
 -- that ended now

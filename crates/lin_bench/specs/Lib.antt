@@ -1,4 +1,5 @@
 pub mod Fields
+pub mod Errors
 pub mod Expectations
 pub mod Rules
 pub mod RuleLines

@@ -11,7 +11,7 @@ use Rattle.lin_log.specs.Said.{is_port, port_step, step_form}
 use Rattle.lin_log.specs.declared.reason.Reason.TheVariants.{Takes}
 use Rattle.lin_bench.specs.Fields.{◌>>=◌, bytes_fields, count_field, fields, node_field, of_step}
 use Rattle.lin_bench.specs.Expectations.{expectation, until_form}
-use Rattle.lin_bench.specs.RuleLines.{every_form, timeouts_form, when_form}
+use Rattle.lin_bench.specs.RuleLines.{errors_form, every_form, timeouts_form, when_form}
 use Rattle.lin_bench.specs.declared.reason.Reason.{Reason}
 use Rattle.lin_bench.specs.declared.reason.Reason.TheVariants.{Step, SlotsForm, SlotForm}
 use Rattle.lin_bench.specs.declared.reason.Reason.TheVariants.{LeaveForm}
@@ -89,6 +89,8 @@ line_form c word fs =
     else if bytes_eq word (codes "timeouts")
     then timeouts_form fs >>= (λ rule. Ok (line.Rule rule))
     else if bytes_eq word (codes "every") then every_form c fs >>= (λ rule. Ok (line.Rule rule))
+    else if bytes_eq word (codes "response_errors")
+    then errors_form c fs >>= (λ rule. Ok (line.Rule rule))
     else of_step (step_form (named c) word fs) >>= (λ step. Ok (line.Step Bus step))
 
 abbrev pub of_fields : Parts → List (List ℕ) → Result (Option Line) Reason

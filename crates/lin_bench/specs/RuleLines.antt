@@ -7,6 +7,7 @@ use Rattle.std.specs.Option.{option_map_or}
 use Rattle.std.specs.Str.{bytes_eq}
 use Rattle.hex.specs.Hex.{hex_digit_value}
 use Rattle.lin_cluster_parts.specs.Cluster.{nad}
+use Rattle.lin_cluster_parts.specs.declared.parts.ErrorSignal.{ErrorSignal}
 use Rattle.lin_cluster_parts.specs.declared.parts.Parts.{Parts}
 use Rattle.lin_core.specs.declared.port.PortId.{PortId}
 use Rattle.lin_core.specs.declared.port.PortId.TheVariants.{Bus}
@@ -20,7 +21,7 @@ use Rattle.lin_bench.specs.Fields.{rows_and_time}
 use Rattle.lin_bench.specs.declared.reason.Reason.{Reason}
 use Rattle.lin_bench.specs.declared.reason.Reason.TheVariants.{Step as BadStep, WhenForm, NoResponder}
 use Rattle.lin_bench.specs.declared.reason.Reason.TheVariants.{NoPattern, TimeoutsForm, EveryForm}
-use Rattle.lin_bench.specs.declared.reason.Reason.TheVariants.{EveryStep}
+use Rattle.lin_bench.specs.declared.reason.Reason.TheVariants.{EveryStep, ErrorsForm, NoErrorSignal}
 use Rattle.lin_bench.specs.declared.rules.Answer.{Answer}
 use Rattle.lin_bench.specs.declared.rules.Part.{Part}
 use Rattle.lin_bench.specs.declared.rules.Part.TheVariants.{Byte, Copied}
@@ -213,3 +214,15 @@ every_fields c fs = Err EveryForm
 
 unfoldable pub every_form : Parts → List (List ℕ) → Result Rule Reason
 every_form c fs = if is_only (codes "off") fs then Ok rule.EveryOff else every_fields c fs
+
+-- ---- `response_errors`
+-- on, where a responder has a signal by which it tells errors
+abbrev pub errors_on : List ErrorSignal → Result Rule Reason
+errors_on [] = Err NoErrorSignal
+errors_on signals = Ok (rule.Errors true)
+
+unfoldable pub errors_form : Parts → List (List ℕ) → Result Rule Reason
+errors_form c fs =
+    if is_only (codes "on") fs then errors_on c.errors
+    else if is_only (codes "off") fs then Ok (rule.Errors false)
+    else Err ErrorsForm

@@ -19,7 +19,7 @@ use Rattle.lin_bench.specs.declared.rules.Rules.{Rules}
 use Rattle.lin_bench.specs.declared.rules.When.{When}
 
 abbrev pub no_rules : Rules
-no_rules = record { whens = []; limit_ms = None; everies = []; noted = [] }
+no_rules = record { whens = []; limit_ms = None; everies = []; errors = false; noted = [] }
 
 -- ---- patterns
 abbrev pub fits_byte : Option ℕ → ℕ → Bool
@@ -115,3 +115,4 @@ ruled time rules rule.TimeoutsOff = record rules { limit_ms = None }
 ruled time rules (rule.Every every) =
     record rules { everies = rules.everies ++ record { began = time; every = every } ∷ [] }
 ruled time rules rule.EveryOff = record rules { everies = [] }
+ruled time rules (rule.Errors on) = record rules { errors = on }

@@ -68,6 +68,8 @@ reason_text (reason.NoPattern fields) = fields_text fields ++ codes " is no patt
 reason_text reason.TimeoutsForm = codes "timeouts takes a time and ms, or off"
 reason_text reason.EveryForm = codes "every takes a time and a step, or off"
 reason_text reason.EveryStep = codes "every takes a send or a write"
+reason_text reason.ErrorsForm = codes "response_errors takes on or off"
+reason_text reason.NoErrorSignal = codes "no response_error signal"
 
 -- the line of a bad line
 abbrev pub bad_line_text : ℕ → Reason → List ℕ

@@ -19,11 +19,11 @@ use std::alloc::{AllocError, Global};
 
 /// A slot that is open at a place in a log: its entry, its header, and the nodes that put responses.
 #[derive(Drop)]
-struct OpenSlot {
-    table: u16,
-    entry: u16,
-    header: Option<u8>,
-    nodes: Vec<u8>,
+pub(crate) struct OpenSlot {
+    pub table: u16,
+    pub entry: u16,
+    pub header: Option<u8>,
+    pub nodes: Vec<u8>,
 }
 
 impl OpenSlot {
@@ -165,7 +165,7 @@ fn last_open(log: &Log, end: usize) -> Option<usize>
 }
 
 /// The slot that is open after so many entries.
-fn open_after(alloc: Global, log: &Log, end: usize) -> Result<Option<OpenSlot>, AllocError>
+pub(crate) fn open_after(alloc: Global, log: &Log, end: usize) -> Result<Option<OpenSlot>, AllocError>
     requires { end ≤ length log.now.entries }
     ensures { IfOk result (λ o. IsKept o (reverse (take end log.now.entries))) }
 {
@@ -193,7 +193,7 @@ fn last_finish(log: &Log) -> Option<usize>
 }
 
 /// What an entry of a table is for; a configuration entry where the cluster has none there.
-fn entry_at(cluster: &Cluster, table: u16, entry: u16) -> Entry
+pub(crate) fn entry_at(cluster: &Cluster, table: u16, entry: u16) -> Entry
     ensures entry { result ≡ (line_of cluster.now table entry).entry }
     ensures there { IsEntry cluster.now result }
 {
@@ -205,7 +205,7 @@ fn entry_at(cluster: &Cluster, table: u16, entry: u16) -> Entry
     }
 }
 
-fn has(nodes: &[u8], node: u8) -> bool
+pub(crate) fn has(nodes: &[u8], node: u8) -> bool
     ensures { result ≡ list_any (λ n. n == node) nodes.now }
 {
     nodes.iter().any(|n| *n == node)
@@ -224,7 +224,7 @@ fn frame_from(cluster: &Cluster, frames: &[u16], nodes: &[u8]) -> Option<u16>
 }
 
 /// The frame of signals that a slot carries.
-fn signals_in(cluster: &Cluster, slot: &OpenSlot, entry: Entry) -> Option<u16>
+pub(crate) fn signals_in(cluster: &Cluster, slot: &OpenSlot, entry: Entry) -> Option<u16>
     requires { IsEntry cluster.now entry }
     ensures { (s : Slot) → shape_in slot.now ≡ shape s → result ≡ carried_by cluster.now entry s }
 {

@@ -23,6 +23,7 @@ mod arrivals;
 mod bench;
 mod carried;
 mod ends;
+mod errors;
 mod expectations;
 mod expected;
 mod fault;

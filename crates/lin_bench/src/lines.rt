@@ -12,7 +12,7 @@ use crate::fault::LineFault;
 use crate::fields::{bytes_fields, count_field, node_field};
 use crate::line::{Disturbance, Extent, Line};
 use crate::reason::Reason;
-use crate::rule_lines::{every, timeouts, when};
+use crate::rule_lines::{every, response_errors, timeouts, when};
 use lin_cluster_parts::Cluster;
 use lin_core::PortId;
 use lin_lists::{Many, Text};
@@ -164,6 +164,8 @@ fn of_word(alloc: Global, cluster: &Cluster, word: &[u8], rest: &[u8]) -> Result
         Ok(Line::Rule(timeouts(alloc, cluster, rest)?))
     } else if word == b"every".as_slice() {
         Ok(Line::Rule(every(alloc, cluster, rest)?))
+    } else if word == b"response_errors".as_slice() {
+        Ok(Line::Rule(response_errors(alloc, cluster, rest)?))
     } else {
         Ok(Line::Step(PortId::Bus, step(alloc, cluster, word, rest)?))
     }

@@ -41,4 +41,8 @@ pub enum Reason {
     EveryForm,
     /// `every` takes a send or a write.
     EveryStep,
+    /// `response_errors` takes `on` or `off`.
+    ErrorsForm,
+    /// No responder has a signal by which it tells errors in responses.
+    NoErrorSignal,
 }

@@ -4,7 +4,7 @@ ghost use Rattle.std.specs.Prelude.{◌≡◌, ◌==◌, false, is_some, option_
 ghost use Rattle.std.specs.Option.{option_map_or};
 ghost use Rattle.lin_core.specs.History.{done, events, is_finish};
 ghost use Rattle.lin_transport.specs.Transport.{functional};
-ghost use Rattle.lin_bench.specs.Adding.{good_in};
+ghost use Rattle.lin_bench.specs.Adding.{damaged_in, good_in};
 
 use lin_core::{Event, LogEntry, Reply, Seen, Step};
 use lin_transport::FUNCTIONAL;
@@ -29,6 +29,19 @@ pub(crate) fn good_bytes(entry: &LogEntry) -> Option<&[u8]>
             _ => None,
         },
         Reply::Refused(_) => None,
+    }
+}
+
+/// Whether an entry finished a slot that was seen damaged.
+pub(crate) fn is_damaged(entry: &LogEntry) -> bool
+    ensures { result ≡ damaged_in (events entry.now) }
+{
+    match &entry.reply {
+        Reply::Done(events) => match events.as_slice() {
+            [Event::Seen(Seen::Damaged), ..] => true,
+            _ => false,
+        },
+        Reply::Refused(_) => false,
     }
 }
 

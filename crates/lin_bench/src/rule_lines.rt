@@ -7,7 +7,7 @@ ghost use Rattle.hex.specs.Hex.{hex_digit_value};
 ghost use Rattle.lin_bench.specs.Fields.{fields, words};
 ghost use Rattle.lin_bench.specs.Read.{Gives};
 ghost use Rattle.lin_bench.specs.RuleLines.{AddsRow, answer_form, answers_form, answers_of, copied};
-ghost use Rattle.lin_bench.specs.RuleLines.{every_fields, every_form, has_star, hex_byte, hex_part};
+ghost use Rattle.lin_bench.specs.RuleLines.{errors_form, every_fields, every_form, has_star, hex_byte, hex_part};
 ghost use Rattle.lin_bench.specs.RuleLines.{joined, last_field, parts_field, parts_fields, pattern_byte};
 ghost use Rattle.lin_bench.specs.RuleLines.{pattern_fields, pattern_of, repeated_step, responder_field};
 ghost use Rattle.lin_bench.specs.RuleLines.{row, sends_or_writes, timeouts_form};
@@ -411,5 +411,25 @@ pub(crate) fn every(alloc: Global, cluster: &Cluster, line: &[u8]) -> Result<Rul
         Some((unit, rest)) => every_of(alloc, cluster, number, unit, rest),
         None if number == b"off".as_slice() => Ok(Rule::EveryOff),
         None => Err(LineFault::Bad(Reason::EveryForm)),
+    }
+}
+
+/// Whether responders tell errors in responses, by the fields after `response_errors`.
+#[tactic(auto, unfolding(crate::specs::RuleLines::errors_form))]
+pub(crate) fn response_errors(
+    alloc: Global,
+    cluster: &Cluster,
+    line: &[u8],
+) -> Result<Rule, LineFault>
+    ensures { Gives (λ r. r) result (errors_form cluster.now (fields line.now)) }
+{
+    let all = fields(alloc, cluster, line)?;
+    match all.as_slice() {
+        [word] if *word == b"on".as_slice() => match cluster.error_signals() {
+            [] => Err(LineFault::Bad(Reason::NoErrorSignal)),
+            _ => Ok(Rule::Errors(true)),
+        },
+        [word] if *word == b"off".as_slice() => Ok(Rule::Errors(false)),
+        _ => Err(LineFault::Bad(Reason::ErrorsForm)),
     }
 }

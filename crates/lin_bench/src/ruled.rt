@@ -13,6 +13,7 @@ ghost use Rattle.lin_core.specs.declared.step.Step.TheVariants.{Finish};
 ghost use Rattle.lin_bench.specs.Added.{has_time, is_given_up, links_at, noted_by, send_of, step_of};
 ghost use Rattle.lin_bench.specs.Added.{timeout_of, timeouts, times_until};
 ghost use Rattle.lin_bench.specs.Adding.{Adds, HasFinished, MakesAdded, MakesOne};
+ghost use Rattle.lin_bench.specs.Errors.{errors_told};
 ghost use Rattle.lin_bench.specs.Making.{MakesSteps};
 ghost use Rattle.lin_bench.specs.Rules.{is_due_at, kept_at, no_rules, ruled, sent_at};
 ghost use Rattle.lin_bench.specs.Slots.{nodes_noted, pending};
@@ -20,6 +21,7 @@ ghost use Rattle.lin_bench.specs.declared.got.Pending.TheVariants.{AnswersNoted}
 
 use crate::answers::{add_when, note_events};
 use crate::ends::Ends;
+use crate::errors::tell_errors;
 use crate::fault::MakeFault;
 use crate::got::Pending;
 use crate::replies::{is_done, is_finish, went_to_all};
@@ -135,6 +137,7 @@ impl RuledCore {
                 whens: Many::new(Vec::new(alloc)),
                 limit_ms: None,
                 everies: Many::new(Vec::new(alloc)),
+                errors: false,
                 noted: Many::new(Vec::new(alloc)),
             },
             ends: Ends::new(),
@@ -179,6 +182,7 @@ impl RuledCore {
                 rules.everies.push(Repeated { began, every })?;
             }
             Rule::EveryOff => rules.everies = Many::new(Vec::new(alloc)),
+            Rule::Errors(on) => rules.errors = on,
         }
         Ok(())
     }
@@ -206,6 +210,7 @@ impl RuledCore {
     {
         let rules = &self.rules;
         rules.limit_ms.is_some()
+            || rules.errors
             || !rules.whens.as_slice().is_empty()
             || !rules.everies.as_slice().is_empty()
             || !rules.noted.as_slice().is_empty()
@@ -309,6 +314,21 @@ impl RuledCore {
         Ok(())
     }
 
+    /// Adds the steps by which errors are told, where they are.
+    fn tell_errors(&self, alloc: Global, steps: &mut Vec<(PortId, Step)>) -> Result<(), AllocError>
+        requires { 0 < length self.now.core.log }
+        ensures { OnOk result ((by : PortId) → (past : List LogEntry) → (s : Slot)
+            → HasFinished self.now.core by past s
+            → steps.new.items ≡ steps.old.items ++ errors_told self.now.core.cluster
+            (entry_of self.now.core.cluster self.now.core.opening self.now.core.capacity past
+            (by, Finish)) past self.now.rules.errors) }
+    {
+        if !self.rules.errors {
+            return Ok(());
+        }
+        tell_errors(alloc, &self.core, steps)
+    }
+
     /// Adds what is repeated and whose time has come since a time.
     fn repeat(
         &self,
@@ -354,6 +374,7 @@ impl RuledCore {
         let time = self.core.time();
         let mut steps = Vec::new(alloc);
         self.give_up(&mut steps)?;
+        self.tell_errors(alloc, &mut steps)?;
         take_noted(alloc, &mut self.rules.noted, time, &mut steps)?;
         self.repeat(alloc, began, time, &mut steps)?;
         self.make_all(steps)

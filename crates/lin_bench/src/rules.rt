@@ -55,6 +55,8 @@ pub enum Rule {
     TimeoutsOff,
     Every(Every),
     EveryOff,
+    /// Whether responders tell errors in responses by their signals.
+    Errors(bool),
 }
 
 /// A step that is made again and again since a time in microseconds.
@@ -80,5 +82,6 @@ pub struct Rules {
     pub whens: Many<When>,
     pub limit_ms: Option<u32>,
     pub everies: Many<Repeated>,
+    pub errors: bool,
     pub noted: Many<Noted>,
 }

@@ -151,6 +151,8 @@ pub fn put_reason<W: Write>(out: &mut TextWriter<'_, W>, reason: &Reason)
         Reason::TimeoutsForm => out.put_text("timeouts takes a time and ms, or off"),
         Reason::EveryForm => out.put_text("every takes a time and a step, or off"),
         Reason::EveryStep => out.put_text("every takes a send or a write"),
+        Reason::ErrorsForm => out.put_text("response_errors takes on or off"),
+        Reason::NoErrorSignal => out.put_text("no response_error signal"),
     }
 }
 

@@ -13,6 +13,7 @@ use Rattle.lin_cluster.specs.Findings.{IsFree}
 use Rattle.lin_cluster.specs.Sizes as sizes
 use Rattle.lin_cluster.specs.Fitting.{FitsInitial, FitsSignal, FitsFrame, FitsParts, HasMembers}
 use Rattle.lin_cluster_parts.specs.Rules.{AreTimes, IsCluster, IsAddress}
+use Rattle.lin_cluster.proofs.DescribedErrors.{described-errors}
 use Rattle.lin_cluster.proofs.DescribedEvents.{described-sporadic, described-events}
 use Rattle.lin_cluster.proofs.DescribedFrames.{described-frames}
 use Rattle.lin_cluster.proofs.DescribedIdentifiers.{described-identifiers}
@@ -108,4 +109,5 @@ described-cluster d free members =
       events = described-events d none members;
       tables = described-tables d none;
       times = described-times d none;
+      errors = described-errors d;
     }

@@ -52,7 +52,7 @@ mapped-pairs R h (x ∷ xs) all (suc i) (suc j) d y z lt in' here there =
 -- ---- the block of a responder
 
 abbrev no_block : Attributes
-no_block = record { node = no_name; protocol = None; configured_nad = None }
+no_block = record { node = no_name; protocol = None; configured_nad = None; response_error = None }
 
 abbrev block_at : Description → ℕ → Attributes
 block_at d p = get_or d.attributes p no_block

@@ -1,7 +1,7 @@
 -- Worked examples of the cluster that a description says: lights of the commander, and keys of two
 -- responders that share an event-triggered frame.
 use Rattle.std.proofs.Common.{◌≡◌, ℕ, List, [], ◌∷◌, ◌++◌, true, false, refl}
-use Rattle.std.specs.Prelude.{codes, Some, None, map, slice_index_or}
+use Rattle.std.specs.Prelude.{codes, drop, Some, None, map, slice_index_or}
 use Rattle.lin_frame.specs.declared.sums.SumKind.{SumKind}
 use Rattle.lin_frame.specs.declared.sums.SumKind.TheVariants.{Classic, Enhanced}
 use Rattle.lin_frame.specs.declared.value.Value.TheVariants as values
@@ -18,7 +18,7 @@ use Rattle.lin_description.specs.declared.description.Signal as declared_signal
 use Rattle.lin_description.specs.declared.description.Table as declared_table
 use Rattle.lin_description.specs.declared.description.TableEntry.{TableEntry}
 use Rattle.lin_cluster_parts.specs.Cluster.{frame_of, line_of}
-use Rattle.lin_cluster.specs.Described.{parts_of, nodes_of, signals_of, frames_of, sporadic_frames_of, events_of, frame_number, node_number}
+use Rattle.lin_cluster.specs.Described.{parts_of, nodes_of, signals_of, frames_of, sporadic_frames_of, events_of, error_signals, frame_number, node_number}
 use Rattle.lin_cluster.specs.Models.{is_version_1}
 use Rattle.lin_cluster_parts.specs.declared.parts.Entry.TheVariants.{Frame, Sporadic as SporadicEntry, Event, SlaveResp, Quiet}
 use Rattle.lin_cluster_parts.specs.declared.parts.SignalFrame.{SignalFrame}
@@ -39,7 +39,7 @@ abbrev frame : List ℕ → ℕ → List ℕ → List PlacedSignal → declared_
 frame text id publisher places = record { name = name text; id = number id; publisher = name publisher; size = number 2; placed = places }
 
 abbrev block : List ℕ → ℕ → Attributes
-block node nad = record { node = name node; protocol = None; configured_nad = Some (number nad) }
+block node nad = record { node = name node; protocol = None; configured_nad = Some (number nad); response_error = None }
 
 abbrev entry : List ℕ → ℕ → TableEntry
 entry text delay = record { name = name text; has_group = false; delay = number delay }
@@ -134,10 +134,28 @@ unknown-frame-row = refl
 unknown-node-row : node_number body (name (codes "ghost")) ≡ 3
 unknown-node-row = refl
 
+-- ---- signals that tell errors
+
+abbrev telling : List ℕ → List ℕ → Attributes
+telling node signal = record (block node 1) { response_error = Some (name signal) }
+
+-- a scalar signal of its own, of which an array, another's and a name of nothing are none
+abbrev tellers : Description
+tellers = record body {
+  signals = (record (signal (codes "level") 4 (inits.Scalar (number 2)) (codes "cem")) { subscribers = name (codes "lsm") ∷ name (codes "rsm") ∷ [] }) ∷ drop 1 body.signals;
+  attributes = telling (codes "cem") (codes "level") ∷ telling (codes "lsm") (codes "lkey") ∷ telling (codes "rsm") (codes "rkey") ∷ [];
+}
+
+error-signals-row : error_signals tellers ≡ record { node = 2; signal = 3; frames = 0 ∷ 2 ∷ [] } ∷ []
+error-signals-row = refl
+
+no-error-signals-row : error_signals (record tellers { attributes = telling (codes "rsm") (codes "level") ∷ telling (codes "lsm") (codes "ghost") ∷ [] }) ≡ []
+no-error-signals-row = refl
+
 -- ---- checksum models: those of the frames, and after them those of the event-triggered ones
 
 abbrev of_version : List ℕ → List ℕ → Attributes
-of_version node version = record { node = name node; protocol = Some version; configured_nad = None }
+of_version node version = record { node = name node; protocol = Some version; configured_nad = None; response_error = None }
 
 abbrev models : List Attributes → List declared_signal.Signal → List SumKind
 models blocks signals =

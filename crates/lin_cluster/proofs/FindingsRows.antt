@@ -69,7 +69,7 @@ abbrev spor : Sporadic
 spor = record { name = name (codes "Spor") 16 1; members = name (codes "Light") 16 10 ∷ [] }
 
 abbrev address_of : ℕ → List ℕ → ℕ → Attributes
-address_of line node nad = record { node = name node line 1; protocol = None; configured_nad = Some (number nad line 20) }
+address_of line node nad = record { node = name node line 1; protocol = None; configured_nad = Some (number nad line 20); response_error = None }
 
 abbrev main_table : List TableEntry → Table
 main_table entries = record { name = name (codes "Main") 31 1; entries = entries }
@@ -179,7 +179,7 @@ limit-passed = refl
 
 -- two responders of these versions, each with a frame, and an event-triggered frame that lists both
 abbrev of_version : ℕ → List ℕ → List ℕ → Attributes
-of_version line node version = record { node = name node line 1; protocol = Some version; configured_nad = None }
+of_version line node version = record { node = name node line 1; protocol = Some version; configured_nad = None; response_error = None }
 
 abbrev two_keys : List Attributes → Description
 two_keys blocks = record body {

@@ -1,5 +1,6 @@
 pub mod CheckedDescriptions
 pub mod DescribedClusters
+pub mod DescribedErrors
 pub mod DescribedEvents
 pub mod DescribedFrames
 pub mod DescribedIdentifiers

@@ -3,7 +3,8 @@
 -- after the last; such a description has a finding.
 use Rattle.std.specs.Prelude.{ℕ, Bool, List, [], ◌∷◌, length, map, find, slice_index_or, Option}
 use Rattle.std.specs.Prelude.{Some, None, option_and_then, ◌==◌, nat_lt, if◌then◌else◌, codes}
-use Rattle.std.specs.List.{list_any, enumerate_from, position_or_len}
+use Rattle.std.specs.Prelude.{◌&&◌, ◌||◌, false, filter, filter_map, not, slice_get}
+use Rattle.std.specs.List.{list_any, enumerate_from, position_or_len, range_with_len}
 use Rattle.std.specs.Option.{option_map, option_map_or}
 use Rattle.std.specs.Str.{bytes_eq}
 use Rattle.lin_frame.specs.Frame.{pid}
@@ -25,9 +26,11 @@ use Rattle.lin_description.specs.declared.description.Sporadic as declared_spora
 use Rattle.lin_description.specs.declared.description.Table as declared_table
 use Rattle.lin_description.specs.declared.description.TableEntry.{TableEntry}
 use Rattle.lin_cluster.specs.Models.{frame_model, first_model}
-use Rattle.lin_cluster_parts.specs.Rules.{place_at}
+use Rattle.lin_cluster.specs.FindingsNames.{same_name}
+use Rattle.lin_cluster_parts.specs.Rules.{is_array, place_at}
 use Rattle.lin_cluster_parts.specs.declared.parts.Entry.{Entry}
 use Rattle.lin_cluster_parts.specs.declared.parts.Entry.TheVariants as entries
+use Rattle.lin_cluster_parts.specs.declared.parts.ErrorSignal.{ErrorSignal}
 use Rattle.lin_cluster_parts.specs.declared.parts.EventFrame.{EventFrame}
 use Rattle.lin_cluster_parts.specs.declared.parts.Line.{Line}
 use Rattle.lin_cluster_parts.specs.declared.parts.Node.{Node}
@@ -186,6 +189,59 @@ described_table d t = record { name = t.name.text; lines = map (described_line d
 abbrev pub tables_of : Description → List Table
 tables_of d = map (described_table d) d.tables
 
+-- ---- signals that tell errors in responses (section 9.2.2.2)
+
+-- the response_error in the block of a responder's attributes
+abbrev pub response_error : Description → ℕ → Option Name
+response_error d n =
+    option_and_then (λ block. block.response_error) (find (is_block_of d n) d.attributes)
+
+-- whether it is a scalar signal that the node publishes
+abbrev pub is_error_signal : ℕ → Signal → Bool
+is_error_signal n s = s.publisher == n && not (is_array s.initial)
+
+-- the number of the signal with this name, where it is such a one
+abbrev pub error_named : Description → ℕ → Name → Option ℕ
+error_named d n name =
+    if option_map_or (is_error_signal n) (slice_get (signals_of d) (signal_number d name)) false
+    then Some (signal_number d name) else None
+
+abbrev pub error_number : Description → ℕ → Option ℕ
+error_number d n = option_and_then (error_named d n) (response_error d n)
+
+-- whether the node with this name subscribes the signal
+abbrev pub subscribes : Name → declared_signal.Signal → Bool
+subscribes node s = list_any (same_name node) s.subscribers
+
+-- whether the node publishes the frame, or subscribes a signal of it
+abbrev pub is_concerned : ℕ → List Bool → SignalFrame → Bool
+is_concerned n subscribed f =
+    f.publisher == n || list_any (λ s. slice_index_or subscribed s false) f.signals
+
+abbrev pub is_concerned_by : ℕ → List Bool → List SignalFrame → ℕ → Bool
+is_concerned_by n subscribed frames f =
+    option_map_or (is_concerned n subscribed) (slice_get frames f) false
+
+-- the numbers of the frames that concern the node
+abbrev pub frames_concerning : ℕ → List Bool → List SignalFrame → List ℕ
+frames_concerning n subscribed frames =
+    filter (is_concerned_by n subscribed frames) (range_with_len 0 (length frames))
+
+abbrev pub error_signal_at : Description → ℕ × Name → ℕ → ErrorSignal
+error_signal_at d slave signal = record {
+  node = slave.0;
+  signal = signal;
+  frames = frames_concerning slave.0 (map (subscribes slave.1) d.signals) (frames_of d);
+}
+
+-- the signal of a responder, with its number and its name
+abbrev pub error_signal : Description → ℕ × Name → Option ErrorSignal
+error_signal d slave = option_map (error_signal_at d slave) (error_number d slave.0)
+
+-- by rising responder
+abbrev pub error_signals : Description → List ErrorSignal
+error_signals d = filter_map (error_signal d) (enumerate_from 1 d.slaves)
+
 -- ---- the whole cluster, with its speed and times (sections 9.2.1 and 9.2.2)
 
 abbrev pub parts_of : Description → Parts
@@ -196,6 +252,7 @@ parts_of d = record {
   sporadic = sporadic_frames_of d;
   events = events_of d;
   tables = tables_of d;
+  errors = error_signals d;
   speed = d.speed.value;
   jitter_us = d.jitter.value;
   base_us = d.time_base.value;

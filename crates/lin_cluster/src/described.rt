@@ -12,6 +12,7 @@ use lin_description::Description;
 use lin_frame::SumKind;
 use std::alloc::{AllocError, Global};
 
+mod errors;
 mod frames;
 mod nodes;
 mod numbers;
@@ -32,6 +33,7 @@ pub(crate) fn parts_of(
 {
     let signals = signals::signals_of(alloc, d, d.signals())?;
     let frames = frames::frames_of(alloc, d, signals.as_slice(), models, d.frames())?;
+    let errors = errors::error_signals(alloc, d, signals.as_slice(), frames.as_slice())?;
     Ok(Parts {
         nodes: nodes::nodes_of(alloc, d, d.slaves())?,
         signals,
@@ -39,6 +41,7 @@ pub(crate) fn parts_of(
         sporadic: frames::sporadic_frames_of(alloc, d, d.sporadic())?,
         events: frames::events_of(alloc, d, models, d.events())?,
         tables: tables::tables_of(alloc, d, d.tables())?,
+        errors,
         speed: d.speed().value,
         jitter_us: d.jitter().value,
         base_us: d.time_base().value,

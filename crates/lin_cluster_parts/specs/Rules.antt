@@ -14,6 +14,7 @@ use Rattle.lin_cluster_parts.specs.declared.parts.Entry.{Entry}
 use Rattle.lin_cluster_parts.specs.declared.parts.Entry.TheVariants.{Frame, Sporadic, Event}
 use Rattle.lin_cluster_parts.specs.declared.parts.Entry.TheVariants.{MasterReq}
 use Rattle.lin_cluster_parts.specs.declared.parts.Entry.TheVariants.{SlaveResp, Quiet}
+use Rattle.lin_cluster_parts.specs.declared.parts.ErrorSignal.{ErrorSignal}
 use Rattle.lin_cluster_parts.specs.declared.parts.Node.{Node}
 use Rattle.lin_cluster_parts.specs.declared.parts.Parts.{Parts}
 use Rattle.lin_cluster_parts.specs.declared.parts.Signal.{Signal}
@@ -149,6 +150,14 @@ pub record AreTables (c : Parts) : Type 0 where
   pub delays : All (λ t. All (λ line. IsDelay line.delay_us) t.lines) c.tables
   pub entries : All (λ t. All (λ line. IsEntry c line.entry) t.lines) c.tables
 
+-- a scalar signal that the responder publishes, and frames that are there
+pub record IsErrorSignal (c : Parts) (e : ErrorSignal) : Type 0 where
+  pub responder : (1 ≤ e.node) × (e.node < nodes c)
+  pub declared : e.signal < length c.signals
+  pub published : (signal_of c e.signal).publisher ≡ e.node
+  pub scalar : is_array (signal_of c e.signal).initial ≡ false
+  pub frames : All (λ f. f < length c.frames) e.frames
+
 -- a speed of at most 20,000 bits per second, and times of at most 1,000 seconds
 pub record AreTimes (c : Parts) : Type 0 where
   pub speed : (1 ≤ c.speed) × (c.speed ≤ 20000)
@@ -164,4 +173,5 @@ pub record IsCluster (c : Parts) : Type 0 where
   pub sporadic : AreSporadic c
   pub events : AreEvents c
   pub tables : AreTables c
+  pub errors : All (IsErrorSignal c) c.errors
   pub times : AreTimes c

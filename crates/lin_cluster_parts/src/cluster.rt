@@ -14,7 +14,7 @@ ghost use Rattle.lin_cluster_parts.specs.Sound.{IsSound};
 
 use crate::carriers::all_carriers;
 use crate::parts::{
-    Entry, EventFrame, Line, Node, Parts, Signal, SignalFrame, SporadicFrame, Table,
+    Entry, ErrorSignal, EventFrame, Line, Node, Parts, Signal, SignalFrame, SporadicFrame, Table,
 };
 use lin_frame::{Layout, SumKind, Value};
 use lin_lists::Many;
@@ -452,6 +452,14 @@ impl Cluster {
             Entry::SlaveResp => b"SlaveResp",
             Entry::Quiet => b"-",
         }
+    }
+
+    /// The signals by which responders tell errors in responses (LIN 2.2A, section 9.2.2.2,
+    /// response_error).
+    pub fn error_signals(&self) -> &[ErrorSignal]
+        ensures { result.now ≡ self.now.errors }
+    {
+        self.parts.errors.as_slice()
     }
 
     /// The speed in bits per second (LIN 2.2A, section 9.2.1).

@@ -13,4 +13,6 @@ mod cluster;
 mod parts;
 
 pub use cluster::Cluster;
-pub use parts::{Entry, EventFrame, Line, Node, Parts, Signal, SignalFrame, SporadicFrame, Table};
+pub use parts::{
+    Entry, ErrorSignal, EventFrame, Line, Node, Parts, Signal, SignalFrame, SporadicFrame, Table,
+};

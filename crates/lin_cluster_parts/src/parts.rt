@@ -25,25 +25,25 @@ pub struct Signal {
     pub initial: Value,
 }
 
-fn is_array(value: &Value) -> bool
-    ensures { result ≡ is_array value.now }
-{
-    match value {
-        Value::Scalar(_) => false,
-        Value::Bytes(_) => true,
-    }
-}
-
 impl Signal {
-    /// The signal's place in a frame in which it begins at this bit: an array, where its initial
-    /// value is one (ISO 17987-3, signals).
+    /// Whether the signal is an array of bytes, as its initial value is (ISO 17987-3, signals).
+    pub fn is_array(&self) -> bool
+        ensures { result ≡ is_array self.now.initial }
+    {
+        match &self.initial {
+            Value::Scalar(_) => false,
+            Value::Bytes(_) => true,
+        }
+    }
+
+    /// The signal's place in a frame in which it begins at this bit (ISO 17987-3, signals).
     pub fn place_at(&self, offset: u8) -> Place
         ensures { result ≡ place_at offset self.now }
     {
         Place {
             offset,
             size: self.size,
-            array: is_array(&self.initial),
+            array: self.is_array(),
         }
     }
 }
@@ -128,6 +128,16 @@ pub struct Table {
     pub lines: Many<Line>,
 }
 
+/// A scalar signal by which the responder that publishes it tells an error in a response, and the
+/// unconditional frames that the responder publishes or of which it subscribes a signal, by rising
+/// numbers (LIN 2.2A, section 9.2.2.2, response_error).
+#[derive(Drop)]
+pub struct ErrorSignal {
+    pub node: u8,
+    pub signal: u16,
+    pub frames: Many<u16>,
+}
+
 /// All that a cluster is made of, with its speed in bits per second, and its jitter and time base in
 /// microseconds (LIN 2.2A, sections 9.2.1 and 9.2.2).
 #[derive(Drop)]
@@ -138,6 +148,7 @@ pub struct Parts {
     pub sporadic: Many<SporadicFrame>,
     pub events: Many<EventFrame>,
     pub tables: Many<Table>,
+    pub errors: Many<ErrorSignal>,
     pub speed: u32,
     pub jitter_us: u32,
     pub base_us: u32,

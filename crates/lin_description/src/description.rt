@@ -91,6 +91,8 @@ pub struct Attributes {
     /// `LIN_protocol`: a text without its quotes, or a number as it is spelled.
     pub protocol: Option<Text>,
     pub configured_nad: Option<Number>,
+    /// `response_error`: a signal's name.
+    pub response_error: Option<Name>,
 }
 
 /// An entry of a schedule table; its delay is in microseconds. With a group it is a configuration

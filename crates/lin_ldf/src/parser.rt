@@ -360,8 +360,8 @@ impl<'a> Parser<'a> {
 
 /// What an LDF text describes (LIN 2.2A, section 9).
 ///
-/// Extra lines of the header, sections that aren't used, and attributes but `LIN_protocol` and
-/// `configured_NAD` are read over. The tokens are read one at a time, so that what is read over
+/// Extra lines of the header, sections that aren't used, and attributes but `LIN_protocol`,
+/// `configured_NAD` and `response_error = NAME ;` are read over. The tokens are read one at a time, so that what is read over
 /// takes no memory.
 ///
 /// An error is the first fault of the tokens (`BadByte`, `OpenComment` or `OpenText`); where there

@@ -14,7 +14,7 @@ const RUN_NOTE: &str =
     "The script's steps are the hosts' own: sends, writes and closes, each by its host's port. They are put while the slots run,\nso where a step stands among the slots isn't fixed; the log, read by replay, is written again.";
 
 const PLAY_NOTE: &str =
-    "A bench script has the steps of replay's scripts, and lines of its own: slot, slots N, slots N ms, slots N until WHAT,\nslots idle, slot hurt BYTES, slot leave NODE.., expect WHAT, forget; and rules, which are in force from their line on:\nwhen NODE PATTERN answer BYTES (silent), timeouts N ms, every N ms STEP. Nodes, signals and schedule tables stand by their\nnames or numbers. A bad line, and each expectation that isn't met, is a line on standard error; the log is written before\nexpectations are told.\n\nExample: linsim play door.ldf door.bench > door.log";
+    "A bench script has the steps of replay's scripts, and lines of its own: slot, slots N, slots N ms, slots N until WHAT,\nslots idle, slot hurt BYTES, slot leave NODE.., expect WHAT, forget; and rules, which are in force from their line on:\nwhen NODE PATTERN answer BYTES (silent), timeouts N ms, every N ms STEP, response_errors on. Nodes, signals and schedule\ntables stand by their names or numbers. A bad line, and each expectation that isn't met, is a line on standard error; the\nlog is written before expectations are told.\n\nExample: linsim play door.ldf door.bench > door.log";
 
 const LIVE_NOTE: &str =
     "Lines are those of bench scripts, and questions: ? signal NODE SIGNAL, ? waiting NODE, ? idle, ? time, ? asleep, ? next.\nEach is answered before the next is read: the log of its entries, and a line that begins with #.\n\nExample: linsim live door.ldf < door.bench";

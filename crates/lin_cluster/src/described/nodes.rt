@@ -13,7 +13,7 @@ use lin_description::{Attributes, Description, Name};
 use lin_lists::{Many, Text};
 use std::alloc::{AllocError, Global};
 
-fn block_of<'a>(d: &'a Description, node: u8) -> Option<&'a Attributes>
+pub(super) fn block_of<'a>(d: &'a Description, node: u8) -> Option<&'a Attributes>
     requires { length d.now.slaves ≤ 15 }
     ensures { option_copied result ≡ find (is_block_of d.now node) d.now.attributes }
 {

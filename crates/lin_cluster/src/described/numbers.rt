@@ -9,7 +9,7 @@ ghost use Rattle.lin_cluster.specs.FindingsNames.{same_name};
 use crate::names::Named;
 use lin_description::{Description, Name};
 
-fn is_name(name: &Name, other: &Name) -> bool
+pub(super) fn is_name(name: &Name, other: &Name) -> bool
     ensures { result ≡ same_name name.now other.now }
 {
     name.text.as_slice() == other.text.as_slice()

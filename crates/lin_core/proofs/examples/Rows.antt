@@ -28,6 +28,7 @@ cluster_a =
       sporadic = [];
       events = [];
       tables = record { name = 84 ∷ []; lines = record { entry = MasterReq; delay_us = 10000 } ∷ record { entry = SlaveResp; delay_us = 10000 } ∷ [] } ∷ [];
+      errors = [];
       speed = 19200;
       jitter_us = 100;
       base_us = 5000;

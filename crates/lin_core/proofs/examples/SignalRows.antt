@@ -52,6 +52,7 @@ cluster_b =
           ∷ record { name = []; lines = record { entry = FrameEntry 2; delay_us = 10000 } ∷ record { entry = FrameEntry 3; delay_us = 10000 } ∷ [] }
           ∷ record { name = []; lines = record { entry = MasterReq; delay_us = 10000 } ∷ record { entry = SlaveResp; delay_us = 10000 } ∷ [] }
           ∷ [];
+      errors = [];
       speed = 19200;
       jitter_us = 100;
       base_us = 5000;

@@ -30,6 +30,7 @@ cluster =
       sporadic = [];
       events = [];
       tables = record { name = 84 ∷ []; lines = record { entry = MasterReq; delay_us = 10000 } ∷ [] } ∷ [];
+      errors = [];
       speed = 19200;
       jitter_us = 100;
       base_us = 5000;

@@ -32,3 +32,9 @@ returns-in-EveryForm g c = rw c.in-EveryForm.is c.put_text-in-EveryForm.ensures
 
 pub returns-in-EveryStep : goal.returns-in-EveryStep
 returns-in-EveryStep g c = rw c.in-EveryStep.is c.put_text-in-EveryStep.ensures
+
+pub returns-in-ErrorsForm : goal.returns-in-ErrorsForm
+returns-in-ErrorsForm g c = rw c.in-ErrorsForm.is c.put_text-in-ErrorsForm.ensures
+
+pub returns-in-NoErrorSignal : goal.returns-in-NoErrorSignal
+returns-in-NoErrorSignal g c = rw c.in-NoErrorSignal.is c.put_text-in-NoErrorSignal.ensures

@@ -1,15 +1,10 @@
 use Rattle.std.proofs.Common.{◌==◌, ◌≡◌, ◌∙◌, ◌<◌, ℕ, List, All, ap, arith, length, slice_index_or, subst, sym}
-use Rattle.std.specs.List.{list_any, range_with_len}
-use Rattle.std.proofs.lemmas.List.Elements.{All-filter}
-use Rattle.std.proofs.lemmas.List.FromFn.{get_or-map-range_with_len, get_or-range_with_len, length-map-range_with_len, length-range_with_len}
+use Rattle.std.specs.List.{list_any}
+use Rattle.std.proofs.lemmas.List.FromFn.{get_or-map-range_with_len, length-map-range_with_len}
 use Rattle.lin_cluster_parts.specs.Cluster.{frames_with, has_signal}
 use Rattle.lin_cluster_parts.specs.declared.parts.Parts.{Parts}
-use Rattle.lin_cluster_parts.proofs.Carrying.{is-found}
+use Rattle.lin_cluster_parts.proofs.Carrying.{is-found, kept_below}
 use Rattle.lin_cluster_parts.proofs.cluster.Cluster.frames_with.Goals as goal
-
--- the numbers below n are below n
-below : (n : ℕ) → All (λ f. f < n) (range_with_len 0 n)
-below n k d h = let h' = rw (length-range_with_len 0 n) at h in rw (get_or-range_with_len 0 n k d h') (omega arith)
 
 pub bounds-as_slice-signal : goal.bounds-as_slice-signal
 bounds-as_slice-signal c =
@@ -36,7 +31,7 @@ returns-clause-there c =
     let parts = c.args.self.now in
     let frames = length parts.frames in
     subst (λ (xs : List ℕ). All (λ f. f < frames) xs) (sym (returns-clause-frames c))
-    (All-filter (has_signal parts c.args.signal) (λ f. f < frames) (range_with_len 0 frames) (below frames))
+    (kept_below (has_signal parts c.args.signal) frames)
 
 pub returns-clause-each : goal.returns-clause-each
 returns-clause-each c f inside =
