@@ -20,7 +20,7 @@ use Rattle.lin_core.specs.declared.reply.Reply.TheVariants.{Done, Refused}
 use Rattle.lin_core.specs.declared.step.Step.{Step}
 use Rattle.lin_core.specs.declared.step.Step.TheVariants.{Open, Finish}
 use Rattle.lin_bench.specs.Made.{BenchState, course_of, expects, judged, made, made_within, said, slots_made, stepped}
-use Rattle.lin_bench.specs.Played.{Run, first, in_turn, next, told}
+use Rattle.lin_bench.specs.Played.{first, in_turn, next, told}
 use Rattle.lin_bench.specs.Plays.{IsLogFull, Overfills, PlayFails, has_rule, is_rule}
 use Rattle.lin_bench.specs.Rules.{no_rules}
 use Rattle.lin_bench.specs.Slots.{Course, after, decision, due_in, due_node, due_now, extent_steps, hurt_steps, is_opened, most, past_after, slot_limit, slot_rest, slot_steps, slots_in, slots_steps}
@@ -32,13 +32,11 @@ use Rattle.lin_bench.specs.declared.expected.Expected.{Expected}
 use Rattle.lin_bench.specs.declared.line.Extent.{Extent}
 use Rattle.lin_bench.specs.declared.line.Line.{Line}
 use Rattle.lin_bench.specs.declared.line.Line.TheVariants as line
-use Rattle.lin_bench.specs.declared.got.Unmet.{Unmet}
 use Rattle.lin_bench.specs.declared.got.Verdict.{Verdict}
-use Rattle.lin_bench.specs.declared.got.Verdict.TheVariants as verdict
 use Rattle.lin_bench.specs.declared.rules.Rules.{Rules}
 use Rattle.lin_bench.proofs.Makes.{length-last, past-longer}
 use Rattle.lin_bench.proofs.RuleLaws.{unchanged}
-use Rattle.lin_bench.proofs.Runs.{turns-failed}
+use Rattle.lin_bench.proofs.Runs.{told-bench, turns-failed}
 use Rattle.lin_bench.proofs.SlotSteps.{no-slot, one-slot, slots_in-append}
 
 -- the most steps of a slot: its open, what each of 16 nodes decides, a damage and its finish
@@ -229,35 +227,29 @@ neither : (a b : Bool) → (a || b) ≡ false → (a ≡ false) × (b ≡ false)
 neither true b h = absurd (cc)
 neither false b h = (refl, h)
 
-told-few : (n m : ℕ) (unmet : List Unmet) (b : BenchState) (v : Verdict) (run : Run) → told n unmet b v ≡ Ok run → IsFew b m → IsFew run.bench m
-told-few n m unmet b verdict.Nothing run e h = let same : record { bench = b; unmet = unmet } ≡ run = cc in subst (λ (r : Run). IsFew r.bench m) same h
-told-few n m unmet b (verdict.Met what) run e h = let same : record { bench = b; unmet = unmet } ≡ run = cc in subst (λ (r : Run). IsFew r.bench m) same h
-told-few n m unmet b (verdict.Unmet what got) run e h =
-    let missed : Unmet = record { line = n; entries = length b.past; expected = what; got = got } in
-    let same : record { bench = b; unmet = unmet ++ missed ∷ [] } ≡ run = cc in
-    subst (λ (r : Run). IsFew r.bench m) same h
-told-few n m unmet b verdict.SlotLimit run e h = absurd (cc)
+told-few : (n m : ℕ) (b end : BenchState) (v : Verdict) → told n b v ≡ Ok end → IsFew b m → IsFew end m
+told-few n m b end v e h = subst (λ (x : BenchState). IsFew x m) (told-bench n b end v e) h
 
-turn-few-by : (c : Parts) (o cap : ℕ) (run end : Run) (m : ℕ) (l : ℕ × Line) (ls : List (ℕ × Line)) (r : Result Run ℕ)
-    → ((mid : Run) → IsFew mid.bench m → in_turn c o cap (Ok mid) ls ≡ Ok end → IsFew end.bench (m + length ls))
-    → IsFew (made c o cap run.bench l.1).0 m → next c o cap run l ≡ r → in_turn c o cap r ls ≡ Ok end → IsFew end.bench (m + length ls)
-turn-few-by c o cap run end m l ls (Ok mid) more h is e =
-    more mid (told-few l.0 m run.unmet (made c o cap run.bench l.1).0 (made c o cap run.bench l.1).1 mid is h) e
-turn-few-by c o cap run end m l ls (Err n) more h is e = let no : Err n ≡ Ok end = turns-failed c o cap n ls ∙ e in absurd (cc)
+turn-few-by : (c : Parts) (o cap : ℕ) (b end : BenchState) (m : ℕ) (l : ℕ × Line) (ls : List (ℕ × Line)) (r : Result BenchState ℕ)
+    → ((mid : BenchState) → IsFew mid m → in_turn c o cap (Ok mid) ls ≡ Ok end → IsFew end (m + length ls))
+    → IsFew (made c o cap b l.1).0 m → next c o cap b l ≡ r → in_turn c o cap r ls ≡ Ok end → IsFew end (m + length ls)
+turn-few-by c o cap b end m l ls (Ok mid) more h is e =
+    more mid (told-few l.0 m (made c o cap b l.1).0 mid (made c o cap b l.1).1 is h) e
+turn-few-by c o cap b end m l ls (Err n) more h is e = let no : Err n ≡ Ok end = turns-failed c o cap n ls ∙ e in absurd (cc)
 
 more-few : (b : BenchState) (m n : ℕ) → IsFew b m → m ≤ n → IsFew b n
 more-few b m n h le = record { rules = h.rules; few = omega (arith, h.few, le) }
 
-turns-few : (c : Parts) (o cap : ℕ) (run end : Run) (m : ℕ) (ls : List (ℕ × Line)) → nodes c ≤ 16 → has_rule ls ≡ false → IsFew run.bench m
-    → in_turn c o cap (Ok run) ls ≡ Ok end → IsFew end.bench (m + length ls)
-turns-few c o cap run end m [] few none h e =
-    let same : run ≡ end = cc in
-    subst (λ (r : Run). IsFew r.bench (m + 0)) same (more-few run.bench m (m + 0) h (omega arith))
-turns-few c o cap run end m (l ∷ ls) few none h e =
+turns-few : (c : Parts) (o cap : ℕ) (b end : BenchState) (m : ℕ) (ls : List (ℕ × Line)) → nodes c ≤ 16 → has_rule ls ≡ false → IsFew b m
+    → in_turn c o cap (Ok b) ls ≡ Ok end → IsFew end (m + length ls)
+turns-few c o cap b end m [] few none h e =
+    let same : b ≡ end = cc in
+    subst (λ (x : BenchState). IsFew x (m + 0)) same (more-few b m (m + 0) h (omega arith))
+turns-few c o cap b end m (l ∷ ls) few none h e =
     let p = neither (is_rule l.1) (has_rule ls) none in
-    let one = more-few (made c o cap run.bench l.1).0 (still_to_come run.bench + 1) (m + 1) (made-few c o cap run.bench l.1 few h.rules p.0) (omega (arith, h.few)) in
-    let all = turn-few-by c o cap run end (m + 1) l ls (next c o cap run l) (λ mid k d. turns-few c o cap mid end (m + 1) ls few p.1 k d) one refl e in
-    more-few end.bench (m + 1 + length ls) (m + length (l ∷ ls)) all (omega arith)
+    let one = more-few (made c o cap b l.1).0 (still_to_come b + 1) (m + 1) (made-few c o cap b l.1 few h.rules p.0) (omega (arith, h.few)) in
+    let all = turn-few-by c o cap b end (m + 1) l ls (next c o cap b l) (λ mid k d. turns-few c o cap mid end (m + 1) ls few p.1 k d) one refl e in
+    more-few end (m + 1 + length ls) (m + length (l ∷ ls)) all (omega arith)
 
 -- lines without a rule never fill a log
 never-full : (c : Parts) (o cap : ℕ) (ls : List (ℕ × Line)) → nodes c ≤ 16 → length ls ≤ 16777217 → has_rule ls ≡ false → Overfills c o cap ls → ⊥
@@ -266,9 +258,9 @@ never-full c o cap ls few short none f =
     neither (has_rule f.before) (has_rule (f.line ∷ f.behind))
     (sym (list_any-append (λ (l : ℕ × Line). is_rule l.1) f.before (f.line ∷ f.behind)) ∙ ap has_rule (sym f.all) ∙ none) in
     let at = neither (is_rule f.line.1) (has_rule f.behind) parts.1 in
-    let begun : IsFew first.bench (most_steps * slot_limit) = record { rules = refl; few = omega arith } in
-    let so_far = turns-few c o cap first f.run (most_steps * slot_limit) f.before few parts.0 begun f.so_far in
-    let line = made-few c o cap f.run.bench f.line.1 few so_far.rules at.0 in
+    let begun : IsFew first (most_steps * slot_limit) = record { rules = refl; few = omega arith } in
+    let so_far = turns-few c o cap first f.bench (most_steps * slot_limit) f.before few parts.0 begun f.so_far in
+    let line = made-few c o cap f.bench f.line.1 few so_far.rules at.0 in
     let all = ap length f.all ∙ length-append f.before (f.line ∷ f.behind) in
     omega (arith, so_far.few, line.few, all, short, f.full)
 
@@ -276,8 +268,8 @@ full-by : (c : Parts) (o cap : ℕ) (ls : List (ℕ × Line)) (t : Bool) → has
 full-by c o cap ls true h few short f = h
 full-by c o cap ls false h few short f = absurd (never-full c o cap ls few short h f)
 
-pub full-by-rule : (c : Parts) (o cap : ℕ) (ls : List (ℕ × Line)) (fault : PlayFault) → nodes c ≤ 16 → PlayFails c o cap ls fault → length ls ≤ 16777217
+pub full-by-rule : (strict : Bool) (c : Parts) (o cap : ℕ) (ls : List (ℕ × Line)) (fault : PlayFault) → nodes c ≤ 16 → PlayFails strict c o cap ls fault → length ls ≤ 16777217
     → IsLogFull (Err fault) → has_rule ls ≡ true
-full-by-rule c o cap ls (SlotLimit n) few fails short full = absurd full
-full-by-rule c o cap ls LogFull few fails short full = full-by c o cap ls (has_rule ls) refl few short fails
-full-by-rule c o cap ls OutOfMemory few fails short full = absurd full
+full-by-rule strict c o cap ls (SlotLimit n) few fails short full = absurd full
+full-by-rule strict c o cap ls LogFull few fails short full = full-by c o cap ls (has_rule ls) refl few short fails
+full-by-rule strict c o cap ls OutOfMemory few fails short full = absurd full

@@ -9,6 +9,7 @@ pub mod CarriedFrames
 pub mod LossSearches
 pub mod Hosts
 pub mod Runs
+pub mod Stricts
 pub mod Steps
 pub mod RuleLaws
 pub mod Few

@@ -17,6 +17,7 @@ pub mod Making
 pub mod Adding
 pub mod RuleLaws
 pub mod Bench
+pub mod Strict
 pub mod Played
 pub mod Plays
 pub mod Texts

@@ -1,49 +1,106 @@
--- What a bench script comes to: its lines on a bench, and the expectations that aren't met.
-use Rattle.std.specs.Prelude.{ℕ, length, List, [], ◌∷◌, ◌++◌, Result, Ok, Err}
+-- What a bench script comes to: its lines on a bench, and the judgements on what is expected.
+use Rattle.std.specs.Prelude.{ℕ, Bool, false, true, not, ◌&&◌, if◌then◌else◌, length, List, [], ◌∷◌}
+use Rattle.std.specs.Prelude.{◌++◌, slice_get, Option, Some, None, Result, Ok, Err}
+use Rattle.std.specs.List.{list_any}
 use Rattle.lin_cluster_parts.specs.declared.parts.Parts.{Parts}
 use Rattle.lin_bench.specs.Made.{BenchState, made}
 use Rattle.lin_bench.specs.Rules.{no_rules}
 use Rattle.lin_bench.specs.Slots.{slot_limit}
-use Rattle.lin_bench.specs.declared.got.Unmet.{Unmet as Missed}
+use Rattle.lin_bench.specs.Strict.{entries_since, expects_something, left_out, speaks_of_last, strictly}
+use Rattle.lin_bench.specs.declared.got.Judged.{Judged}
+use Rattle.lin_bench.specs.declared.got.Judged.TheVariants as judged
+use Rattle.lin_bench.specs.declared.got.Judgement.{Judgement}
 use Rattle.lin_bench.specs.declared.got.Verdict.{Verdict}
-use Rattle.lin_bench.specs.declared.got.Verdict.TheVariants.{Unmet, SlotLimit}
+use Rattle.lin_bench.specs.declared.got.Verdict.TheVariants.{Met, Unmet, SlotLimit}
 use Rattle.lin_bench.specs.declared.line.Line.{Line}
 
--- a bench after some lines, and the expectations of these that aren't met, in order
-pub record Run : Type 0 where
-  pub bench : BenchState
-  pub unmet : List Missed
-
-abbrev pub first : Run
-first = record {
-  bench = record { past = []; rules = no_rules; taken = []; left = slot_limit };
-  unmet = [];
-}
+-- ---- the bench
+abbrev pub first : BenchState
+first = record { past = []; rules = no_rules; taken = []; left = slot_limit }
 
 -- what line n came to; its number alone where it makes more slots than are left
-abbrev pub told : ℕ → List Missed → BenchState → Verdict → Result Run ℕ
-told n unmet b SlotLimit = Err n
-told n unmet b (Unmet what got) =
-    Ok (record {
-      bench = b;
-      unmet =
-          unmet ++ (record { line = n; entries = length b.past; expected = what; got = got }) ∷ [];
-    })
-told n unmet b verdict = Ok (record { bench = b; unmet = unmet })
+abbrev pub told : ℕ → BenchState → Verdict → Result BenchState ℕ
+told n b SlotLimit = Err n
+told n b verdict = Ok b
 
 -- one more line with its number
-abbrev pub next : Parts → ℕ → ℕ → Run → ℕ × Line → Result Run ℕ
-next c opening capacity run l =
-    let all = made c opening capacity run.bench l.1 in told l.0 run.unmet all.0 all.1
+abbrev pub next : Parts → ℕ → ℕ → BenchState → ℕ × Line → Result BenchState ℕ
+next c opening capacity b l = let all = made c opening capacity b l.1 in told l.0 all.0 all.1
 
 -- lines in order, each after those before it
-abbrev pub in_turn : Parts → ℕ → ℕ → Result Run ℕ → List (ℕ × Line) → Result Run ℕ
+abbrev pub in_turn : Parts → ℕ → ℕ → Result BenchState ℕ → List (ℕ × Line) → Result BenchState ℕ
 in_turn c opening capacity (Err n) ls = Err n
-in_turn c opening capacity (Ok run) [] = Ok run
-in_turn c opening capacity (Ok run) (l ∷ ls) =
-    in_turn c opening capacity (next c opening capacity run l) ls
+in_turn c opening capacity (Ok b) [] = Ok b
+in_turn c opening capacity (Ok b) (l ∷ ls) =
+    in_turn c opening capacity (next c opening capacity b l) ls
+
+-- the bench to which these lines come, or the line that makes more slots than a run may have
+abbrev pub come_to : Parts → ℕ → ℕ → List (ℕ × Line) → Result BenchState ℕ
+come_to c opening capacity ls = in_turn c opening capacity (Ok first) ls
+
+-- ---- the judgements
+-- what a line expects came to
+abbrev pub own : Verdict → Option Judged
+own (Met what) = Some (judged.Met what)
+own (Unmet what got) = Some (judged.Unmet what got)
+own verdict = None
+
+-- a judgement on line n when the log had so many entries, if there is one
+abbrev pub on_line : ℕ → ℕ → Option Judged → List Judgement
+on_line n entries None = []
+on_line n entries (Some what) =
+    (record { line = n; entries = entries; judged = what }) ∷ []
+
+-- the judgements on a line, before which a bench was this and which came to that: what it expects,
+-- and, where the play is strict, what that judges beside it, by whether the next line speaks of the
+-- line's last step
+abbrev pub of_line : Bool → BenchState → ℕ × Line → BenchState × Verdict → Bool → List Judgement
+of_line strict b l m is_told =
+    on_line l.0 (length m.0.past) (own m.1)
+    ++ (if strict
+    then on_line l.0 (length m.0.past)
+    (strictly (left_out l.1) is_told (entries_since b.past m.0.past))
+    else [])
+
+-- the judgement on a script in which nothing is expected
+abbrev pub nothing_expected : Bool → Option Judged
+nothing_expected silent = if silent then Some judged.NothingExpected else None
+
+-- whether that is judged
+abbrev pub is_silent : Bool → List (ℕ × Line) → Bool
+is_silent strict ls = strict && not (expects_something ls)
+
+-- the judgements on lines on a bench, and then, at line 1, that on nothing expected
+abbrev pub judged_from : Bool → Bool → Parts → ℕ → ℕ → BenchState → List (ℕ × Line)
+    → List Judgement
+judged_from strict silent c opening capacity b [] =
+    on_line 1 (length b.past) (nothing_expected silent)
+judged_from strict silent c opening capacity b (l ∷ ls) =
+    of_line strict b l (made c opening capacity b l.1) (speaks_of_last (slice_get ls 0))
+    ++ judged_from strict silent c opening capacity (made c opening capacity b l.1).0 ls
+
+abbrev pub judgements : Bool → Parts → ℕ → ℕ → List (ℕ × Line) → List Judgement
+judgements strict c opening capacity ls =
+    judged_from strict (is_silent strict ls) c opening capacity first ls
+
+abbrev pub is_unmet : Judged → Bool
+is_unmet (judged.Met what) = false
+is_unmet what = true
+
+abbrev pub some_unmet : List Judgement → Bool
+some_unmet js = list_any (λ (j : Judgement). is_unmet j.judged) js
+
+-- ---- both: a bench after some lines, and the judgements on these, in order
+pub record Run : Type 0 where
+  pub bench : BenchState
+  pub judgements : List Judgement
+
+abbrev pub with_judgements : List Judgement → Result BenchState ℕ → Result Run ℕ
+with_judgements js (Ok b) = Ok (record { bench = b; judgements = js })
+with_judgements js (Err n) = Err n
 
 -- what a bench script of these lines comes to, or the line that makes more slots than a run may
 -- have
-abbrev pub played : Parts → ℕ → ℕ → List (ℕ × Line) → Result Run ℕ
-played c opening capacity ls = in_turn c opening capacity (Ok first) ls
+abbrev pub played : Bool → Parts → ℕ → ℕ → List (ℕ × Line) → Result Run ℕ
+played strict c opening capacity ls =
+    with_judgements (judgements strict c opening capacity ls) (come_to c opening capacity ls)

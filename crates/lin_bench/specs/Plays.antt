@@ -5,23 +5,23 @@ use Rattle.std.specs.List.{list_any}
 use Rattle.lin_cluster_parts.specs.declared.parts.Parts.{Parts}
 use Rattle.lin_core.specs.Core.{IsAlike}
 use Rattle.lin_bench.specs.Bench.{BenchData, made_on, state_of}
-use Rattle.lin_bench.specs.Made.{made}
+use Rattle.lin_bench.specs.Made.{BenchState, made}
 use Rattle.lin_core.specs.declared.log.LogEntry.{LogEntry}
-use Rattle.lin_bench.specs.Played.{Run, next, played}
+use Rattle.lin_bench.specs.Played.{Run, come_to, next, of_line, played}
 use Rattle.lin_bench.specs.declared.fault.PlayFault.{PlayFault}
 use Rattle.lin_bench.specs.declared.fault.PlayFault.TheVariants.{SlotLimit, LogFull, OutOfMemory}
-use Rattle.lin_bench.specs.declared.got.Unmet.{Unmet}
+use Rattle.lin_bench.specs.declared.got.Judgement.{Judgement}
 use Rattle.lin_bench.specs.declared.line.Line.{Line}
 use Rattle.lin_bench.specs.declared.line.Line.TheVariants as line
 use Rattle.lin_bench.specs.declared.playing.Played.{Played}
 
--- the core's log is the history that the lines come to, and the unmet expectations are theirs
-pub record Comes (c : Parts) (opening : ℕ) (capacity : ℕ) (ls : List (ℕ × Line))
+-- the core's log is the history that the lines come to, and the judgements are theirs
+pub record Comes (strict : Bool) (c : Parts) (opening : ℕ) (capacity : ℕ) (ls : List (ℕ × Line))
     (it : Played) : Type 0 where
   pub run : Run
-  pub lines : played c opening capacity ls ≡ Ok run
+  pub lines : played strict c opening capacity ls ≡ Ok run
   pub log : it.core.log ≡ reverse run.bench.past
-  pub unmet : it.unmet ≡ run.unmet
+  pub judgements : it.judgements ≡ run.judgements
   pub cluster : it.core.cluster ≡ c
   pub opening_is : it.core.opening ≡ opening
   pub capacity_is : it.core.capacity ≡ capacity
@@ -36,18 +36,18 @@ pub record Overfills (c : Parts) (opening : ℕ) (capacity : ℕ) (ls : List (�
   pub line : ℕ × Line
   pub behind : List (ℕ × Line)
   pub all : ls ≡ before ++ line ∷ behind
-  pub run : Run
-  pub so_far : played c opening capacity before ≡ Ok run
-  pub full : IsTooLong (made c opening capacity run.bench line.1).0.past
+  pub bench : BenchState
+  pub so_far : come_to c opening capacity before ≡ Ok bench
+  pub full : IsTooLong (made c opening capacity bench line.1).0.past
 
-abbrev pub PlayFails : Parts → ℕ → ℕ → List (ℕ × Line) → PlayFault → Type 0
-PlayFails c opening capacity ls (SlotLimit n) = played c opening capacity ls ≡ Err n
-PlayFails c opening capacity ls LogFull = Overfills c opening capacity ls
-PlayFails c opening capacity ls OutOfMemory = Unit {0}
+abbrev pub PlayFails : Bool → Parts → ℕ → ℕ → List (ℕ × Line) → PlayFault → Type 0
+PlayFails strict c opening capacity ls (SlotLimit n) = played strict c opening capacity ls ≡ Err n
+PlayFails strict c opening capacity ls LogFull = Overfills c opening capacity ls
+PlayFails strict c opening capacity ls OutOfMemory = Unit {0}
 
-abbrev pub Plays : Parts → ℕ → ℕ → List (ℕ × Line) → Result Played PlayFault → Type 0
-Plays c opening capacity ls (Ok it) = Comes c opening capacity ls it
-Plays c opening capacity ls (Err fault) = PlayFails c opening capacity ls fault
+abbrev pub Plays : Bool → Parts → ℕ → ℕ → List (ℕ × Line) → Result Played PlayFault → Type 0
+Plays strict c opening capacity ls (Ok it) = Comes strict c opening capacity ls it
+Plays strict c opening capacity ls (Err fault) = PlayFails strict c opening capacity ls fault
 
 abbrev pub IsLogFull : Result Played PlayFault → Type 0
 IsLogFull (Err LogFull) = Unit {0}
@@ -61,20 +61,18 @@ is_rule line = false
 abbrev pub has_rule : List (ℕ × Line) → Bool
 has_rule ls = list_any (λ (l : ℕ × Line). is_rule l.1) ls
 
--- a bench, and the expectations so far that aren't met
-abbrev pub run_of : BenchData → List Unmet → Run
-run_of b unmet = record { bench = state_of b; unmet = unmet }
+-- line n on a bench: what it came to
+abbrev pub next_on : BenchData → ℕ × Line → Result BenchState ℕ
+next_on b l = next b.core.cluster b.core.opening b.core.capacity (state_of b) l
 
--- the run that line n of a script makes of one
-abbrev pub next_on : BenchData → List Unmet → ℕ → Line → Result Run ℕ
-next_on b unmet n line =
-    next b.core.cluster b.core.opening b.core.capacity (run_of b unmet) (n, line)
-
--- what playing a line answers
-abbrev pub PlaysLine : BenchData → List Unmet → ℕ → Line → Result Unit PlayFault → BenchData
-    → List Unmet → Type 0
-PlaysLine old unmet n line (Ok done) new more =
-    (next_on old unmet n line ≡ Ok (run_of new more)) × IsAlike old.core new.core
-PlaysLine old unmet n line (Err (SlotLimit m)) new more = next_on old unmet n line ≡ Err m
-PlaysLine old unmet n line (Err LogFull) new more = IsTooLong (made_on old line).0.past
-PlaysLine old unmet n line (Err OutOfMemory) new more = Unit {0}
+-- what playing a line answers, of whose last step the next line may speak: it comes to that bench,
+-- and the judgements on it are added
+abbrev pub PlaysLine : Bool → BenchData → List Judgement → ℕ × Line → Bool
+    → Result Unit PlayFault → BenchData → List Judgement → Type 0
+PlaysLine strict old js l is_told (Ok done) new more =
+    (next_on old l ≡ Ok (state_of new))
+    × (more ≡ js ++ of_line strict (state_of old) l (made_on old l.1) is_told)
+    × IsAlike old.core new.core
+PlaysLine strict old js l is_told (Err (SlotLimit m)) new more = next_on old l ≡ Err m
+PlaysLine strict old js l is_told (Err LogFull) new more = IsTooLong (made_on old l.1).0.past
+PlaysLine strict old js l is_told (Err OutOfMemory) new more = Unit {0}

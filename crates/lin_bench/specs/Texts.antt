@@ -2,6 +2,7 @@
 use Rattle.std.specs.Prelude.{ℕ, ◌==◌, if◌then◌else◌, List, [], ◌∷◌, ◌++◌, flat_map}
 use Rattle.std.specs.Prelude.{codes, Option, Some, None}
 use Rattle.std.specs.Fmt.{decimal}
+use Rattle.std.specs.Option.{option_map_or}
 use Rattle.lin_cluster_parts.specs.declared.parts.Parts.{Parts}
 use Rattle.lin_core.specs.Tables.{cause_word, look_word, refusal_word}
 use Rattle.lin_log.specs.Language.{named, word_of}
@@ -19,7 +20,10 @@ use Rattle.lin_bench.specs.declared.got.Got.{Got}
 use Rattle.lin_bench.specs.declared.got.Got.TheVariants as got
 use Rattle.lin_bench.specs.declared.got.Pending.{Pending}
 use Rattle.lin_bench.specs.declared.got.Pending.TheVariants.{MessagesWait, AnswersNoted}
-use Rattle.lin_bench.specs.declared.got.Unmet.{Unmet}
+use Rattle.lin_bench.specs.declared.got.Judged.{Judged}
+use Rattle.lin_bench.specs.declared.got.Judged.TheVariants as judged
+use Rattle.lin_bench.specs.declared.got.Judgement.{Judgement}
+use Rattle.lin_bench.specs.Played.{is_unmet}
 
 -- fields with one space between two
 abbrev pub fields_text : List (List ℕ) → List ℕ
@@ -175,16 +179,33 @@ got_text c (got.StillPending all) = pending_text c all
 got_text c got.NoNode = codes "no such node"
 got_text c got.NoNodeOrSignal = codes "no such node or signal"
 
--- what is expected and what is so, without the line's end
-abbrev pub judged_text : List ℕ → List ℕ → List ℕ
-judged_text what is = codes " expected " ++ (what ++ (codes ": " ++ is))
-
 -- what is expected and what is so
 abbrev pub verdict_text : List ℕ → List ℕ → List ℕ
 verdict_text what is = codes " expected " ++ (what ++ (codes ": " ++ (is ++ 10 ∷ [])))
 
--- the line of an expectation that isn't met
-abbrev pub unmet_text : Parts → Unmet → List ℕ
-unmet_text c u =
-    codes "script "
-    ++ (decimal u.line ++ verdict_text (expected_text c u.expected) (got_text c u.got))
+-- what was judged
+abbrev pub what_text : Parts → Judged → List ℕ
+what_text c (judged.Met what) = expected_text c what
+what_text c (judged.Unmet what got) = expected_text c what
+what_text c (judged.NotDue node) = codes "leave " ++ node_word c node
+what_text c judged.NothingExpected = codes "expectations"
+
+-- what is so in its place; none where it is so
+abbrev pub found_text : Parts → Judged → Option (List ℕ)
+found_text c (judged.Met what) = None
+found_text c (judged.Unmet what got) = Some (got_text c got)
+found_text c (judged.NotDue node) = Some (codes "not due")
+found_text c judged.NothingExpected = Some (codes "none")
+
+-- what is expected and what is so, without the line's end
+abbrev pub judged_text : Parts → Judged → List ℕ
+judged_text c what =
+    codes " expected "
+    ++ (what_text c what ++ 58 ∷ option_map_or spaced_word (found_text c what) [])
+
+-- the line of a judgement, where it isn't met
+abbrev pub unmet_text : Parts → Judgement → List ℕ
+unmet_text c j =
+    if is_unmet j.judged
+    then codes "script " ++ (decimal j.line ++ (judged_text c j.judged ++ 10 ∷ []))
+    else []

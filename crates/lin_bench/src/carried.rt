@@ -165,7 +165,11 @@ fn last_open(log: &Log, end: usize) -> Option<usize>
 }
 
 /// The slot that is open after so many entries.
-pub(crate) fn open_after(alloc: Global, log: &Log, end: usize) -> Result<Option<OpenSlot>, AllocError>
+pub(crate) fn open_after(
+    alloc: Global,
+    log: &Log,
+    end: usize,
+) -> Result<Option<OpenSlot>, AllocError>
     requires { end ≤ length log.now.entries }
     ensures { IfOk result (λ o. IsKept o (reverse (take end log.now.entries))) }
 {
@@ -205,6 +209,7 @@ pub(crate) fn entry_at(cluster: &Cluster, table: u16, entry: u16) -> Entry
     }
 }
 
+/// Whether a node is one of these.
 pub(crate) fn has(nodes: &[u8], node: u8) -> bool
     ensures { result ≡ list_any (λ n. n == node) nodes.now }
 {

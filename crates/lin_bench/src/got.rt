@@ -1,4 +1,7 @@
-//! Verdicts on lines, and expectations that aren't met.
+//! Verdicts on lines, and judgements of a play.
+
+ghost use Rattle.std.specs.Prelude.{◌≡◌};
+ghost use Rattle.lin_bench.specs.Played.{is_unmet, some_unmet};
 
 use crate::expected::{Carried, Expected};
 use lin_core::{Cause, Look, Payload, Refusal};
@@ -70,14 +73,42 @@ pub enum Verdict {
     SlotLimit,
 }
 
-/// An expectation that isn't met.
+/// What was judged, and what came of it.
 #[derive(Drop)]
-pub struct Unmet {
-    /// The number of its line, counted from 1.
+pub enum Judged {
+    /// What is expected is so.
+    Met(Expected),
+    /// What is expected isn't so, but this.
+    Unmet(Expected, Got),
+    /// A line leaves out the response of this node, which isn't due in its slot.
+    NotDue { node: u8 },
+    /// The script expects nothing.
+    NothingExpected,
+}
+
+/// A judgement on a line of a bench script.
+#[derive(Drop)]
+pub struct Judgement {
+    /// The number of the line, counted from 1.
     pub line: u64,
     /// How many entries the log had when it was judged.
     pub entries: usize,
-    pub expected: Expected,
-    /// What is so.
-    pub got: Got,
+    pub judged: Judged,
+}
+
+/// Whether something isn't as it is expected.
+pub fn is_unmet(judged: &Judged) -> bool
+    ensures { result ≡ is_unmet judged.now }
+{
+    match judged {
+        Judged::Met(_) => false,
+        Judged::Unmet(_, _) | Judged::NotDue { .. } | Judged::NothingExpected => true,
+    }
+}
+
+/// Whether something isn't as it is expected, of what was judged.
+pub fn some_unmet(judgements: &[Judgement]) -> bool
+    ensures { result ≡ some_unmet judgements.now }
+{
+    judgements.iter().any(|one| is_unmet(&one.judged))
 }

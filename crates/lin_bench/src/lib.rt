@@ -4,8 +4,8 @@
 //! ```
 //! // a message, the slots that it takes, and what is expected
 //! let lines = read(alloc, &cluster, b"send cem door 3E\nslots idle\nexpect sent cem\n")?;
-//! let Played { core, unmet } = play(alloc, cluster, table, capacity, lines)?;
-//! write_unmet(core.cluster(), unmet.as_slice(), &mut errors)?;
+//! let Played { core, judgements } = play(alloc, cluster, table, capacity, lines, false)?;
+//! write_unmet(core.cluster(), judgements.as_slice(), &mut errors)?;
 //!
 //! // the same in hand, a line at a time
 //! let mut bench = Bench::new(alloc, Core::new(alloc, cluster, table, capacity)?);
@@ -41,6 +41,7 @@ mod ruled;
 mod rules;
 mod script;
 mod slots;
+mod strict;
 mod taken;
 mod texts;
 mod verdicts;
@@ -48,16 +49,17 @@ mod verdicts;
 pub use bench::Bench;
 pub use expected::{Carried, Expected};
 pub use fault::{LineFault, MakeFault, PlayFault, ReadFault};
-pub use got::{Got, Pending, Unmet, Verdict};
+pub use got::{Got, Judged, Judgement, Pending, Verdict, is_unmet, some_unmet};
 pub use law::{plain_scripts_say_the_same, rules_alone_add_steps};
 pub use lin_core::Look;
 pub use line::{Disturbance, Extent, Line};
 pub use lines::read_line;
 pub use playing::{Played, play};
 pub use reason::Reason;
+pub use replies::first_refusal;
 pub use rules::{Answer, Every, Part, Pattern, Rule, When};
 pub use script::{bad_lines, read, without_mark};
 pub use texts::{
-    put_fields, put_judged, put_pending, put_reason, put_unmet, put_verdict, write_bad_line,
-    write_unmet,
+    put_fields, put_found, put_judged, put_pending, put_reason, put_unmet, put_verdict, put_what,
+    write_bad_line, write_unmet,
 };

@@ -1,59 +1,140 @@
 //! Bench scripts, played.
 
-ghost use Rattle.std.specs.Prelude.{◌≡◌, ◌<◌, ◌≤◌, length, true};
+ghost use Rattle.std.specs.Prelude.{◌≡◌, ◌<◌, ◌≤◌, ◌++◌, false, length, true, OnOk};
+ghost use Rattle.lin_bench.specs.Played.{is_silent, nothing_expected, on_line};
 ghost use Rattle.lin_bench.specs.Plays.{IsLogFull, Plays, PlaysLine, has_rule};
 
 use crate::bench::Bench;
 use crate::fault::{MakeFault, PlayFault};
-use crate::got::{Unmet, Verdict};
+use crate::got::{Judged, Judgement, Verdict};
 use crate::line::Line;
+use crate::strict::{expects_something, left_out, speaks_of_last, strictly};
 use lin_cluster_parts::Cluster;
-use lin_core::Core;
+use lin_core::{Core, Log};
 use lin_lists::Many;
-use std::alloc::Global;
+use std::alloc::{AllocError, Global};
 
 /// A bench script that was played.
 #[derive(Drop)]
 pub struct Played {
     /// The core, with the log of all steps that the lines say.
     pub core: Core,
-    /// The expectations that aren't met, in order.
-    pub unmet: Many<Unmet>,
+    /// The judgements on what is expected, in order.
+    pub judgements: Many<Judgement>,
 }
 
-/// Makes a line with its number.
+/// Adds a judgement on a line after all entries of a log, if there is one. An error means out of
+/// memory.
+fn add(
+    judgements: &mut Vec<Judgement>,
+    line: u64,
+    log: &Log,
+    judged: Option<Judged>,
+) -> Result<(), AllocError>
+    ensures { OnOk result (judgements.new.items
+        ≡ judgements.old.items ++ on_line line (length log.now.entries) judged) }
+{
+    if let Some(judged) = judged {
+        judgements.push(Judgement {
+            line,
+            entries: log.len(),
+            judged,
+        })?;
+    }
+    Ok(())
+}
+
+/// Makes a line with its number, and judges what it expects.
 fn play_line(
     alloc: Global,
     bench: &mut Bench,
+    judgements: &mut Vec<Judgement>,
     number: u64,
     line: Line,
-    unmet: &mut Vec<Unmet>,
 ) -> Result<(), PlayFault>
-    ensures { PlaysLine bench.old unmet.old.items number line result
-        bench.new unmet.new.items }
+    ensures { PlaysLine false bench.old judgements.old.items (number, line) false result
+        bench.new judgements.new.items }
 {
-    match bench.make(alloc, line) {
-        Ok(Verdict::Nothing | Verdict::Met(_)) => Ok(()),
-        Ok(Verdict::Unmet(expected, got)) => {
-            let missed = Unmet {
-                line: number,
-                entries: bench.core().log().len(),
-                expected,
-                got,
-            };
-            if unmet.push(missed).is_err() {
-                return Err(PlayFault::OutOfMemory);
-            }
-            Ok(())
-        }
-        Ok(Verdict::SlotLimit) => Err(PlayFault::SlotLimit { line: number }),
-        Err(MakeFault::OutOfMemory) => Err(PlayFault::OutOfMemory),
-        Err(MakeFault::LogFull) => Err(PlayFault::LogFull),
+    let own = match bench.make(alloc, line) {
+        Ok(Verdict::Nothing) => None,
+        Ok(Verdict::Met(expected)) => Some(Judged::Met(expected)),
+        Ok(Verdict::Unmet(expected, got)) => Some(Judged::Unmet(expected, got)),
+        Ok(Verdict::SlotLimit) => return Err(PlayFault::SlotLimit { line: number }),
+        Err(MakeFault::OutOfMemory) => return Err(PlayFault::OutOfMemory),
+        Err(MakeFault::LogFull) => return Err(PlayFault::LogFull),
+    };
+    add(judgements, number, bench.core().log(), own)?;
+    Ok(())
+}
+
+/// The same, where the play is strict, by whether the next line speaks of the line's last step.
+fn play_strictly(
+    alloc: Global,
+    bench: &mut Bench,
+    judgements: &mut Vec<Judgement>,
+    number: u64,
+    line: Line,
+    is_told: bool,
+) -> Result<(), PlayFault>
+    ensures { PlaysLine true bench.old judgements.old.items (number, line)
+        is_told result bench.new judgements.new.items }
+{
+    let from = bench.core().log().len();
+    let nodes = left_out(alloc, &line)?;
+    match play_line(alloc, bench, judgements, number, line) {
+        Ok(()) => {}
+        Err(fault) => return Err(fault),
+    }
+    let log = bench.core().log();
+    let judged = strictly(alloc, log, from, nodes.as_slice(), is_told)?;
+    add(judgements, number, log, judged)?;
+    Ok(())
+}
+
+/// Makes a line with its number, and judges it, strictly or not, by whether the next line speaks of
+/// the line's last step.
+fn play_numbered(
+    alloc: Global,
+    is_strict: bool,
+    bench: &mut Bench,
+    judgements: &mut Vec<Judgement>,
+    numbered: (u64, Line),
+    is_told: bool,
+) -> Result<(), PlayFault>
+    ensures { PlaysLine is_strict bench.old judgements.old.items numbered is_told result
+        bench.new judgements.new.items }
+{
+    let (number, line) = numbered;
+    if is_strict {
+        play_strictly(alloc, bench, judgements, number, line, is_told)
+    } else {
+        play_line(alloc, bench, judgements, number, line)
+    }
+}
+
+/// Whether nothing is expected where it is to be.
+fn is_silent(is_strict: bool, lines: &[(u64, Line)]) -> bool
+    ensures { result ≡ is_silent is_strict lines.now }
+{
+    is_strict && !expects_something(lines)
+}
+
+/// What is judged of that.
+fn nothing_expected(is_silent: bool) -> Option<Judged>
+    ensures { result ≡ nothing_expected is_silent }
+{
+    if is_silent {
+        Some(Judged::NothingExpected)
+    } else {
+        None
     }
 }
 
 /// Plays a bench script of these lines, each with its number, on a new core over a cluster: makes
 /// the steps that each line says after those before it, and judges what is expected at its line.
+/// Where it is strict, it also judges that no step was refused of which the next line doesn't speak,
+/// that each node whose response a line leaves out was due, and at line 1, after all others, that
+/// something is expected.
 ///
 /// The core begins with schedule table `table` of the cluster; each host may have `capacity`
 /// messages waiting, 1 to 1,024. Its log is the history of these steps, and of those that the rules of
@@ -70,23 +151,35 @@ pub fn play(
     table: u16,
     capacity: usize,
     lines: Vec<(u64, Line)>,
+    is_strict: bool,
 ) -> Result<Played, PlayFault>
     requires table { table < length cluster.tables }
     requires capacity { (1 ≤ capacity) × (capacity ≤ 1024) }
-    ensures plays { Plays cluster table capacity lines.items result }
+    ensures plays { Plays is_strict cluster table capacity lines.items result }
     ensures few { length lines.items ≤ 16777217 → IsLogFull result → has_rule lines.items ≡ true }
 {
     cluster.sound();
     let mut bench = Bench::new(alloc, Core::new(alloc, cluster, table, capacity)?);
-    let mut unmet = Vec::new(alloc);
-    for (number, line) in lines {
-        match play_line(alloc, &mut bench, number, line, &mut unmet) {
+    let mut judgements = Vec::new(alloc);
+    let is_silent = is_silent(is_strict, lines.as_slice());
+    let mut rest = lines.into_iter();
+    let mut next = rest.next();
+    while let Some(line) = next {
+        next = rest.next();
+        let is_told = speaks_of_last(&next);
+        match play_numbered(alloc, is_strict, &mut bench, &mut judgements, line, is_told) {
             Ok(()) => {}
             Err(fault) => return Err(fault),
         }
     }
+    add(
+        &mut judgements,
+        1,
+        bench.core().log(),
+        nothing_expected(is_silent),
+    )?;
     Ok(Played {
         core: bench.into_core(),
-        unmet: Many::new(unmet),
+        judgements: Many::new(judgements),
     })
 }

@@ -1,12 +1,13 @@
 //! What the newest entries of logs say.
 
-ghost use Rattle.std.specs.Prelude.{◌≡◌, ◌==◌, false, is_some, option_map, slice_index};
+ghost use Rattle.std.specs.Prelude.{◌≡◌, ◌==◌, ◌≤◌, drop, false, is_some, length, option_map, slice_index, take};
 ghost use Rattle.std.specs.Option.{option_map_or};
 ghost use Rattle.lin_core.specs.History.{done, events, is_finish};
 ghost use Rattle.lin_transport.specs.Transport.{functional};
 ghost use Rattle.lin_bench.specs.Adding.{damaged_in, good_in};
+ghost use Rattle.lin_bench.specs.Strict.{counted, first_refusal, refusal_in};
 
-use lin_core::{Event, LogEntry, Reply, Seen, Step};
+use lin_core::{Event, Log, LogEntry, Refusal, Reply, Seen, Step};
 use lin_transport::FUNCTIONAL;
 
 /// The first byte; 0 where there is none.
@@ -72,5 +73,46 @@ pub(crate) fn is_finish(step: &Step) -> bool
     match step {
         Step::Finish => true,
         _ => false,
+    }
+}
+
+/// Why a reply refuses, if it does.
+fn refusal_in(reply: &Reply) -> Option<Refusal>
+    ensures { result ≡ refusal_in reply.now }
+{
+    match reply {
+        Reply::Done(_) => None,
+        Reply::Refused(refusal) => Some(*refusal),
+    }
+}
+
+/// The first refusal among the entries of a log from one up to another, which isn't of them.
+fn refusal_among(log: &Log, from: usize, to: usize) -> Option<Refusal>
+    requires { to ≤ length log.now.entries }
+    ensures { result ≡ first_refusal (drop from (take to log.now.entries)) }
+{
+    for index in from..to {
+        if let Some(refusal) = refusal_in(&log.entry(index).reply) {
+            return Some(refusal);
+        }
+    }
+    None
+}
+
+/// The first refusal among the entries of a log from one on.
+pub fn first_refusal(log: &Log, from: usize) -> Option<Refusal>
+    ensures { result ≡ first_refusal (drop from log.now.entries) }
+{
+    refusal_among(log, from, log.len())
+}
+
+/// The first refusal among the entries of a log from one on, of which the last one may not count.
+pub(crate) fn counted_refusal(log: &Log, from: usize, is_told: bool) -> Option<Refusal>
+    ensures { result ≡ first_refusal (counted is_told (drop from log.now.entries)) }
+{
+    if is_told {
+        refusal_among(log, from, log.len().saturating_sub(1))
+    } else {
+        first_refusal(log, from)
     }
 }

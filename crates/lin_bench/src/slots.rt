@@ -43,7 +43,7 @@ fn due_nodes(alloc: Global, events: &[Event]) -> Result<Vec<u8>, AllocError>
 }
 
 /// The nodes that are due in the slot that an open was done for; none where it was refused.
-fn due_in(alloc: Global, reply: &Reply) -> Result<Option<Vec<u8>>, AllocError>
+pub(crate) fn due_in(alloc: Global, reply: &Reply) -> Result<Option<Vec<u8>>, AllocError>
     ensures { IfOk result (λ due. option_map (λ v. v.items) due ≡ due_in reply.now) }
 {
     match reply {

@@ -1,16 +1,17 @@
 //! What is said of bad lines and of expectations that aren't met.
 
-ghost use Rattle.std.specs.Prelude.{◌++◌, codes, flat_map};
+ghost use Rattle.std.specs.Prelude.{◌++◌, [], codes, flat_map};
 ghost use Rattle.std.specs.Fmt.{decimal};
+ghost use Rattle.std.specs.Option.{option_map_or};
 ghost use Rattle.lin_log.specs.Words.{spaced_word};
 ghost use Rattle.lin_text.specs.Written.{Grows, WritesText};
 ghost use Rattle.lin_bench.specs.Texts.{bad_line_text, expected_text, fields_text, fields_word};
-ghost use Rattle.lin_bench.specs.Texts.{frame_word, got_text, judged_text, node_word};
+ghost use Rattle.lin_bench.specs.Texts.{found_text, frame_word, got_text, judged_text, node_word};
 ghost use Rattle.lin_bench.specs.Texts.{other_pending_text, pending_text, said_word};
-ghost use Rattle.lin_bench.specs.Texts.{pending_word, reason_text, step_reason_text, unmet_text, verdict_text};
+ghost use Rattle.lin_bench.specs.Texts.{pending_word, reason_text, step_reason_text, unmet_text, verdict_text, what_text};
 
 use crate::expected::{Carried, Expected};
-use crate::got::{Got, Pending, Unmet};
+use crate::got::{Got, Judged, Judgement, Pending, is_unmet};
 use crate::reason::Reason;
 use lin_cluster_parts::Cluster;
 use lin_core::{Listed, Payload};
@@ -424,23 +425,7 @@ fn put_got<W: Write>(out: &mut TextWriter<'_, W>, cluster: &Cluster, got: &Got)
     }
 }
 
-/// That what is expected isn't so, and what is: ` expected WHAT: GOT`.
-pub fn put_judged<W: Write>(
-    out: &mut TextWriter<'_, W>,
-    cluster: &Cluster,
-    expected: &Expected,
-    got: &Got,
-)
-    ensures { Grows W.contents out.old out.new
-        (judged_text (expected_text cluster.now expected.now) (got_text cluster.now got.now)) }
-{
-    out.put_text(" expected");
-    put_expected(out, cluster, expected);
-    out.put_byte(b':');
-    put_got(out, cluster, got);
-}
-
-/// That what is expected isn't so, and what is: ` expected WHAT: GOT` and the line's end.
+/// What is expected and what is so, with the line's end.
 pub fn put_verdict<W: Write>(
     out: &mut TextWriter<'_, W>,
     cluster: &Cluster,
@@ -450,23 +435,66 @@ pub fn put_verdict<W: Write>(
     ensures { Grows W.contents out.old out.new
         (verdict_text (expected_text cluster.now expected.now) (got_text cluster.now got.now)) }
 {
-    put_judged(out, cluster, expected, got);
+    out.put_text(" expected");
+    put_expected(out, cluster, expected);
+    out.put_byte(b':');
+    put_got(out, cluster, got);
     out.put_byte(b'\n');
 }
 
-/// The line of an expectation that isn't met.
-pub fn put_unmet<W: Write>(out: &mut TextWriter<'_, W>, cluster: &Cluster, unmet: &Unmet)
-    ensures { Grows W.contents out.old out.new (unmet_text cluster.now unmet.now) }
+/// What was judged, with a space before it.
+pub fn put_what<W: Write>(out: &mut TextWriter<'_, W>, cluster: &Cluster, judged: &Judged)
+    ensures { Grows W.contents out.old out.new (spaced_word (what_text cluster.now judged.now)) }
 {
-    out.put_text("script ");
-    out.put_number(unmet.line);
-    put_verdict(out, cluster, &unmet.expected, &unmet.got);
+    match judged {
+        Judged::Met(expected) | Judged::Unmet(expected, _) => put_expected(out, cluster, expected),
+        Judged::NotDue { node } => {
+            out.put_text(" leave");
+            put_node(out, cluster, *node);
+        }
+        Judged::NothingExpected => out.put_text(" expectations"),
+    }
 }
 
-fn put_all_unmet<W: Write>(out: &mut TextWriter<'_, W>, cluster: &Cluster, unmet: &[Unmet])
-    ensures { Grows W.contents out.old out.new (flat_map (unmet_text cluster.now) unmet.now) }
+/// What is so in place of what is expected, with a space before it; nothing where that is so.
+pub fn put_found<W: Write>(out: &mut TextWriter<'_, W>, cluster: &Cluster, judged: &Judged)
+    ensures { Grows W.contents out.old out.new
+        (option_map_or spaced_word (found_text cluster.now judged.now) []) }
 {
-    for one in unmet {
+    match judged {
+        Judged::Met(_) => {}
+        Judged::Unmet(_, got) => put_got(out, cluster, got),
+        Judged::NotDue { .. } => out.put_text(" not due"),
+        Judged::NothingExpected => out.put_text(" none"),
+    }
+}
+
+/// That what is expected isn't so, and what is: ` expected WHAT: GOT`.
+pub fn put_judged<W: Write>(out: &mut TextWriter<'_, W>, cluster: &Cluster, judged: &Judged)
+    ensures { Grows W.contents out.old out.new (judged_text cluster.now judged.now) }
+{
+    out.put_text(" expected");
+    put_what(out, cluster, judged);
+    out.put_byte(b':');
+    put_found(out, cluster, judged);
+}
+
+/// The line of a judgement, where it isn't met.
+pub fn put_unmet<W: Write>(out: &mut TextWriter<'_, W>, cluster: &Cluster, judgement: &Judgement)
+    ensures { Grows W.contents out.old out.new (unmet_text cluster.now judgement.now) }
+{
+    if is_unmet(&judgement.judged) {
+        out.put_text("script ");
+        out.put_number(judgement.line);
+        put_judged(out, cluster, &judgement.judged);
+        out.put_byte(b'\n');
+    }
+}
+
+fn put_all_unmet<W: Write>(out: &mut TextWriter<'_, W>, cluster: &Cluster, judgements: &[Judgement])
+    ensures { Grows W.contents out.old out.new (flat_map (unmet_text cluster.now) judgements.now) }
+{
+    for one in judgements {
         put_unmet(out, cluster, one);
     }
 }
@@ -478,13 +506,13 @@ fn put_all_unmet<W: Write>(out: &mut TextWriter<'_, W>, cluster: &Cluster, unmet
 /// lines.
 pub fn write_unmet<W: Write>(
     cluster: &Cluster,
-    unmet: &[Unmet],
+    judgements: &[Judgement],
     writer: &mut W,
 ) -> Result<(), WriteFailed>
     ensures { WritesText (W.contents writer.old) (W.contents writer.new) result
-        (flat_map (unmet_text cluster.now) unmet.now) }
+        (flat_map (unmet_text cluster.now) judgements.now) }
 {
     let mut out = TextWriter::new(writer);
-    put_all_unmet(&mut out, cluster, unmet);
+    put_all_unmet(&mut out, cluster, judgements);
     out.finish()
 }

@@ -16,7 +16,8 @@ use Rattle.lin_bench.specs.declared.line.Line.{Line}
 use Rattle.lin_bench.specs.declared.line.Line.TheVariants as line
 use Rattle.lin_log.specs.Words.{text}
 use Rattle.lin_live.specs.Answers.{AnswersAreTheLog, AnswersAreWritten, answers}
-use Rattle.lin_live.specs.Told.{HandData, answered, entries_since, heard_as, told, unmarked}
+use Rattle.lin_live.specs.Told.{HandData, answered, heard_as, told, unmarked}
+use Rattle.lin_bench.specs.Strict.{entries_since}
 use Rattle.lin_live.specs.Transcript.{short}
 use Rattle.lin_live.specs.declared.heard.Heard.{Heard}
 use Rattle.lin_live.specs.declared.heard.Heard.TheVariants.{Ask, Make}

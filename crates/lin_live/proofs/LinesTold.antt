@@ -9,16 +9,9 @@ use Rattle.lin_bench.specs.Made.{BenchState}
 use Rattle.lin_bench.specs.declared.got.Verdict.{Verdict}
 use Rattle.lin_bench.specs.declared.line.Line.{Line}
 use Rattle.lin_live.specs.Hand.{hand_data}
-use Rattle.lin_live.specs.Told.{HandData, after_line, entries_since, verdict_ending, written}
+use Rattle.lin_bench.proofs.Runs.{since-log}
+use Rattle.lin_live.specs.Told.{HandData, after_line, verdict_ending, written}
 use Rattle.lin_live.specs.declared.hand.Hand.TheInside.{Inside}
-
--- the entries since then, where logs have their oldest entry first
-since-log : (past later old new : List LogEntry) → past ≡ reverse old → later ≡ reverse new → entries_since past later ≡ drop (length old) new
-since-log past later old new e f =
-    ap (λ p. drop (length p) (reverse later)) e
-    ∙ ap (λ l. drop (length (reverse old)) (reverse l)) f
-    ∙ ap (λ n. drop n (reverse (reverse new))) (length-reverse old)
-    ∙ ap (drop (length old)) (reverse-reverse new)
 
 line-told : (h : HandData) (m : BenchState × Verdict) (old new : List LogEntry) → h.bench.past ≡ reverse old → m.0.past ≡ reverse new
     → (written (after_line h m)).1 ≡ text (drop (length old) new) ++ verdict_ending h.cluster m.1 (drop (length old) new)

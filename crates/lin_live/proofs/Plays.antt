@@ -1,7 +1,8 @@
 -- Lines in hand come to what a play of them comes to.
 use Rattle.std.proofs.Common.{◌≡◌, ◌∙◌, ℕ, ◌≤◌, ◌+◌, Bool, true, false, ◌||◌, nat_le, nat_lt, List, [], ◌∷◌, ◌++◌, Option, Some, None, Result, Ok, Err, refl, sym, ap, arith, length, map, if◌then◌else◌}
 use Rattle.std.proofs.lemmas.Grind.{common_steps}
-use Rattle.std.specs.List.{AllByRecursion}
+use Rattle.std.specs.List.{AllByRecursion, list_any}
+use Rattle.std.proofs.lemmas.List.Folds.{list_any-append}
 use Rattle.std.specs.Str.Lines.{strip_carriage_return}
 use Rattle.lin_cluster_parts.specs.declared.parts.Parts.{Parts}
 use Rattle.lin_core.specs.declared.port.PortId.{PortId}
@@ -9,10 +10,10 @@ use Rattle.lin_core.specs.declared.step.Step.{Step}
 use Rattle.lin_bench.specs.Fields.{fields}
 use Rattle.lin_bench.specs.Lines.{Script, read_line, read_lines, with_said}
 use Rattle.lin_bench.specs.Made.{BenchState, expects, judged, made, made_within, said as steps_said, slots_made, stepped}
-use Rattle.lin_bench.specs.Played.{Run, first, in_turn, next, told as run_told}
+use Rattle.lin_bench.specs.Played.{Run, come_to, first, in_turn, is_unmet as is_missed, judged_from, judgements, next, on_line, own, some_unmet, told as run_told, with_judgements}
 use Rattle.lin_bench.specs.Slots.{most, slot_limit}
 use Rattle.lin_bench.specs.declared.expected.Expected.{Expected}
-use Rattle.lin_bench.specs.declared.got.Unmet.{Unmet as Missed}
+use Rattle.lin_bench.specs.declared.got.Judgement.{Judgement}
 use Rattle.lin_bench.specs.declared.got.Verdict.{Verdict}
 use Rattle.lin_bench.specs.declared.got.Verdict.TheVariants.{Nothing, Met, Unmet, SlotLimit}
 use Rattle.lin_bench.specs.declared.line.Line.{Line}
@@ -21,7 +22,8 @@ use Rattle.lin_bench.specs.declared.reason.Reason.{Reason}
 use Rattle.lin_live.specs.Heard.{heard_in, of_script}
 use Rattle.lin_live.specs.Told.{HandData, after_line, is_limit, is_unmet, reply, told}
 use Rattle.lin_live.specs.Transcript.{after, most_bytes, short}
-use Rattle.lin_live.specs.Play.{IsPlain, LiveIsPlay, asks, in_hand_of, is_missed}
+use Rattle.lin_bench.proofs.Runs.{told-bench}
+use Rattle.lin_live.specs.Play.{IsPlain, LiveIsPlay, asks}
 
 -- ---- a bench with room for more slots
 abbrev pub Alike : BenchState × Verdict → BenchState × Verdict → Type 0
@@ -105,37 +107,35 @@ less-made c opening capacity b line.Forget = omega arith
 less-made c opening capacity b (line.Rule rule) = omega arith
 
 -- ---- one line
-abbrev unmet_of : Result Run ℕ → List Missed
-unmet_of (Ok r) = r.unmet
-unmet_of (Err n) = []
-
-missed-more : (ms : List Missed) (m : Missed) → is_missed (ms ++ m ∷ []) ≡ true
-missed-more [] m = refl
-missed-more (x ∷ ms) m = refl
-
-or-more : (x : Bool) → (x || true) ≡ true
-or-more true = refl
-or-more false = refl
+not-limit : (n : ℕ) (b end : BenchState) (v : Verdict) → run_told n b v ≡ Ok end → is_limit v ≡ false
+not-limit n b end SlotLimit h = absurd (cc)
+not-limit n b end (Unmet what got) h = refl
+not-limit n b end Nothing h = refl
+not-limit n b end (Met what) h = refl
 
 or-none : (x : Bool) → (x || false) ≡ x
 or-none true = refl
 or-none false = refl
 
-not-limit : (n : ℕ) (missed : List Missed) (b : BenchState) (v : Verdict) (r : Run) → run_told n missed b v ≡ Ok r → is_limit v ≡ false
-not-limit n missed b SlotLimit r h = absurd (cc)
-not-limit n missed b (Unmet what got) r h = refl
-not-limit n missed b Nothing r h = refl
-not-limit n missed b (Met what) r h = refl
+or-assoc : (x y z : Bool) → ((x || y) || z) ≡ (x || (y || z))
+or-assoc true y z = refl
+or-assoc false y z = refl
 
--- what a play has come to after a line
-abbrev pub CameTo : List Missed → BenchState → Verdict → Run → Type 0
-CameTo missed b v r = (r.bench ≡ b) × ((is_missed missed || is_unmet v) ≡ is_missed r.unmet)
+own-unmet : (n entries : ℕ) (v : Verdict) → some_unmet (on_line n entries (own v) ++ []) ≡ is_unmet v
+own-unmet n entries SlotLimit = refl
+own-unmet n entries (Unmet what got) = refl
+own-unmet n entries Nothing = refl
+own-unmet n entries (Met what) = refl
 
-pub came-to : (n : ℕ) (missed : List Missed) (b : BenchState) (v : Verdict) (r : Run) → run_told n missed b v ≡ Ok r → CameTo missed b v r
-came-to n missed b SlotLimit r h = absurd (cc)
-came-to n missed b (Unmet what got) r h = (cc, or-more (is_missed missed) ∙ sym (missed-more missed _) ∙ ap (λ (e : Result Run ℕ). is_missed (unmet_of e)) h)
-came-to n missed b Nothing r h = (cc, or-none (is_missed missed) ∙ ap (λ (e : Result Run ℕ). is_missed (unmet_of e)) h)
-came-to n missed b (Met what) r h = (cc, or-none (is_missed missed) ∙ ap (λ (e : Result Run ℕ). is_missed (unmet_of e)) h)
+-- what is unmet of a line and of those after it
+unmet-more : (c : Parts) (opening capacity : ℕ) (b : BenchState) (l : ℕ × Line) (ls : List (ℕ × Line))
+    → some_unmet (judged_from false false c opening capacity b (l ∷ ls))
+    ≡ (is_unmet (made c opening capacity b l.1).1 || some_unmet (judged_from false false c opening capacity (made c opening capacity b l.1).0 ls))
+unmet-more c opening capacity b l ls =
+    let m = made c opening capacity b l.1 in
+    let rest = judged_from false false c opening capacity m.0 ls in
+    list_any-append (λ (j : Judgement). is_missed j.judged) (on_line l.0 (length m.0.past) (own m.1) ++ []) rest
+    ∙ ap (λ t. t || some_unmet rest) (own-unmet l.0 (length m.0.past) m.1)
 
 abbrev hand_with : Parts → ℕ → ℕ → BenchState → Bool → Bool → HandData
 hand_with c opening capacity b bad unmet = record {
@@ -148,30 +148,35 @@ hand_with c opening capacity b bad unmet = record {
   was_unmet = unmet;
 }
 
+-- a bench in hand on which no line was bad
+abbrev hand_of : Parts → ℕ → ℕ → BenchState → Bool → HandData
+hand_of c opening capacity b unmet = hand_with c opening capacity b false unmet
+
 same-hand : (c : Parts) (opening capacity : ℕ) (p q : BenchState) (bad unmet wanted : Bool) → p.past ≡ q.past → p.rules ≡ q.rules → p.taken ≡ q.taken → bad ≡ false
     → unmet ≡ wanted
     → hand_with c opening capacity p bad unmet ≡ hand_with c opening capacity q false wanted
 same-hand c opening capacity p q bad unmet wanted e f g h k = cc
 
-line-same : (c : Parts) (opening capacity : ℕ) (r s : Run) (l : ℕ × Line) → r.bench.left ≤ slot_limit → next c opening capacity r l ≡ Ok s
-    → (after_line (in_hand_of c opening capacity r) (made c opening capacity (in_hand_of c opening capacity r).bench l.1)).0 ≡ in_hand_of c opening capacity s
-line-same c opening capacity r s l le h =
-    let m = made c opening capacity r.bench l.1 in
-    let k = made c opening capacity (record r.bench { left = slot_limit }) l.1 in
-    let limit = not-limit l.0 r.unmet m.0 m.1 s h in
-    let alike = alike-made c opening capacity r.bench slot_limit l.1 le limit in
-    let came = came-to l.0 r.unmet m.0 m.1 s h in
-    same-hand c opening capacity k.0 s.bench (is_limit k.1) (is_missed r.unmet || is_unmet k.1) (is_missed s.unmet)
-    (alike.0 ∙ ap (λ (b : BenchState). b.past) (sym came.0)) (alike.1 ∙ ap (λ (b : BenchState). b.rules) (sym came.0))
-    (alike.2 ∙ ap (λ (b : BenchState). b.taken) (sym came.0))
-    (ap is_limit alike.3 ∙ limit) (ap (λ v. is_missed r.unmet || is_unmet v) alike.3 ∙ came.1)
+line-same : (c : Parts) (opening capacity : ℕ) (b s : BenchState) (unmet : Bool) (l : ℕ × Line) → b.left ≤ slot_limit → next c opening capacity b l ≡ Ok s
+    → (after_line (hand_of c opening capacity b unmet) (made c opening capacity (hand_of c opening capacity b unmet).bench l.1)).0
+    ≡ hand_of c opening capacity s (unmet || is_unmet (made c opening capacity b l.1).1)
+line-same c opening capacity b s unmet l le h =
+    let m = made c opening capacity b l.1 in
+    let k = made c opening capacity (record b { left = slot_limit }) l.1 in
+    let limit = not-limit l.0 m.0 s m.1 h in
+    let alike = alike-made c opening capacity b slot_limit l.1 le limit in
+    let came = told-bench l.0 m.0 s m.1 h in
+    same-hand c opening capacity k.0 s (is_limit k.1) (unmet || is_unmet k.1) (unmet || is_unmet m.1)
+    (alike.0 ∙ ap (λ (x : BenchState). x.past) came) (alike.1 ∙ ap (λ (x : BenchState). x.rules) came)
+    (alike.2 ∙ ap (λ (x : BenchState). x.taken) came)
+    (ap is_limit alike.3 ∙ limit) (ap (λ v. unmet || is_unmet v) alike.3)
 
-line-less : (c : Parts) (opening capacity : ℕ) (r s : Run) (l : ℕ × Line) → r.bench.left ≤ slot_limit → next c opening capacity r l ≡ Ok s → s.bench.left ≤ slot_limit
-line-less c opening capacity r s l le h =
-    let m = made c opening capacity r.bench l.1 in
-    let came = came-to l.0 r.unmet m.0 m.1 s h in
-    let less = less-made c opening capacity r.bench l.1 in
-    let same : s.bench.left ≡ m.0.left = ap (λ (b : BenchState). b.left) came.0 in
+line-less : (c : Parts) (opening capacity : ℕ) (b s : BenchState) (l : ℕ × Line) → b.left ≤ slot_limit → next c opening capacity b l ≡ Ok s → s.left ≤ slot_limit
+line-less c opening capacity b s l le h =
+    let m = made c opening capacity b l.1 in
+    let came = told-bench l.0 m.0 s m.1 h in
+    let less = less-made c opening capacity b l.1 in
+    let same : m.0.left ≡ s.left = ap (λ (x : BenchState). x.left) came in
     omega (arith, le, less, same)
 
 -- ---- what a line says
@@ -182,11 +187,11 @@ heard-plain : (c : Parts) (line : List ℕ) (fs : List (List ℕ)) → asks fs �
 heard-plain c line [] h = refl
 heard-plain c line (w ∷ fs) h = rw h refl
 
-answer-of : (c : Parts) (opening capacity : ℕ) (r : Run) (line : List ℕ) (said : Result (Option Line) Reason)
+answer-of : (c : Parts) (opening capacity : ℕ) (b : BenchState) (unmet : Bool) (line : List ℕ) (said : Result (Option Line) Reason)
     → (length line ≤ most_bytes) × (asks (fields line) ≡ false) → read_line c line ≡ said
-    → (reply (in_hand_of c opening capacity r) (short line)).0 ≡ (told (in_hand_of c opening capacity r) (of_script said)).0
-answer-of c opening capacity r line said plain e =
-    let h = in_hand_of c opening capacity r in
+    → (reply (hand_of c opening capacity b unmet) (short line)).0 ≡ (told (hand_of c opening capacity b unmet) (of_script said)).0
+answer-of c opening capacity b unmet line said plain e =
+    let h = hand_of c opening capacity b unmet in
     ap (λ o. (reply h o).0) (short-line line plain.0)
     ∙ ap (λ s. (told h s).0) (heard-plain c line (fields line) plain.1 ∙ ap of_script e)
 
@@ -195,52 +200,74 @@ abbrev lines_or : Script → List (ℕ × Line)
 lines_or (Ok ls) = ls
 lines_or (Err bad) = []
 
-abbrev run_or : Run → Result Run ℕ → Run
-run_or r (Ok s) = s
-run_or r (Err n) = r
+abbrev bench_or : BenchState → Result BenchState ℕ → BenchState
+bench_or b (Ok s) = s
+bench_or b (Err n) = b
 
-abbrev pub Same : Parts → ℕ → ℕ → List (List ℕ) → Run → Run → Type 0
-Same c opening capacity ls r run =
-    after reply (in_hand_of c opening capacity r) (map strip_carriage_return ls) ≡ in_hand_of c opening capacity run
+-- a bench in hand comes to another, and what of its lines isn't met is kept
+abbrev pub Same : Parts → ℕ → ℕ → List (List ℕ) → BenchState → Bool → BenchState → Bool → Type 0
+Same c opening capacity ls b unmet end more =
+    after reply (hand_of c opening capacity b unmet) (map strip_carriage_return ls) ≡ hand_of c opening capacity end (unmet || more)
 
 abbrev pub Goes : Parts → ℕ → ℕ → List (List ℕ) → Type 0
-Goes c opening capacity ls = (n : ℕ) (r run : Run) (said : List (ℕ × Line)) → r.bench.left ≤ slot_limit
-    → read_lines c n ls ≡ Ok said → in_turn c opening capacity (Ok r) said ≡ Ok run → Same c opening capacity ls r run
+Goes c opening capacity ls = (n : ℕ) (b end : BenchState) (unmet : Bool) (said : List (ℕ × Line)) → b.left ≤ slot_limit
+    → read_lines c n ls ≡ Ok said → in_turn c opening capacity (Ok b) said ≡ Ok end
+    → Same c opening capacity ls b unmet end (some_unmet (judged_from false false c opening capacity b said))
 
 nothing-goes : (c : Parts) (opening capacity : ℕ) → Goes c opening capacity []
-nothing-goes c opening capacity n r run [] le e h = ap (λ o. in_hand_of c opening capacity (run_or r o)) h
-nothing-goes c opening capacity n r run (x ∷ xs) le e h = absurd (cc)
+nothing-goes c opening capacity n b end unmet [] le e h =
+    ap (λ o. hand_of c opening capacity (bench_or b o) unmet) h ∙ ap (hand_of c opening capacity end) (sym (or-none unmet))
+nothing-goes c opening capacity n b end unmet (x ∷ xs) le e h = absurd (cc)
 
 -- after a line that was made
-next-goes : (c : Parts) (opening capacity : ℕ) (r run : Run) (l : ℕ × Line) (line : List ℕ) (ls : List (List ℕ)) (rest : List (ℕ × Line)) (o : Result Run ℕ)
-    → r.bench.left ≤ slot_limit → Goes c opening capacity ls → (n : ℕ) → read_lines c n ls ≡ Ok rest
-    → (reply (in_hand_of c opening capacity r) (short (strip_carriage_return line))).0
-    ≡ (after_line (in_hand_of c opening capacity r) (made c opening capacity (in_hand_of c opening capacity r).bench l.1)).0
-    → next c opening capacity r l ≡ o → in_turn c opening capacity o rest ≡ Ok run → Same c opening capacity (line ∷ ls) r run
-next-goes c opening capacity r run l line ls rest (Err k) le goes n e a is h = absurd (cc)
-next-goes c opening capacity r run l line ls rest (Ok s) le goes n e a is h =
-    ap (λ t. after reply t (map strip_carriage_return ls)) (a ∙ line-same c opening capacity r s l le is)
-    ∙ goes n s run rest (line-less c opening capacity r s l le is) e h
+next-goes : (c : Parts) (opening capacity : ℕ) (b end : BenchState) (unmet : Bool) (l : ℕ × Line) (line : List ℕ) (ls : List (List ℕ)) (rest : List (ℕ × Line)) (o : Result BenchState ℕ)
+    → b.left ≤ slot_limit → Goes c opening capacity ls → (n : ℕ) → read_lines c n ls ≡ Ok rest
+    → (reply (hand_of c opening capacity b unmet) (short (strip_carriage_return line))).0
+    ≡ (after_line (hand_of c opening capacity b unmet) (made c opening capacity (hand_of c opening capacity b unmet).bench l.1)).0
+    → next c opening capacity b l ≡ o → in_turn c opening capacity o rest ≡ Ok end
+    → Same c opening capacity (line ∷ ls) b unmet end (some_unmet (judged_from false false c opening capacity b (l ∷ rest)))
+next-goes c opening capacity b end unmet l line ls rest (Err k) le goes n e a is h = absurd (cc)
+next-goes c opening capacity b end unmet l line ls rest (Ok s) le goes n e a is h =
+    let m = made c opening capacity b l.1 in
+    let came = told-bench l.0 m.0 s m.1 is in
+    let more = some_unmet (judged_from false false c opening capacity s rest) in
+    ap (λ t. after reply t (map strip_carriage_return ls)) (a ∙ line-same c opening capacity b s unmet l le is)
+    ∙ goes n s end (unmet || is_unmet m.1) rest (line-less c opening capacity b s l le is) e h
+    ∙ ap (hand_of c opening capacity end)
+    (or-assoc unmet (is_unmet m.1) more
+    ∙ ap (λ x. unmet || (is_unmet m.1 || some_unmet (judged_from false false c opening capacity x rest))) (sym came)
+    ∙ ap (λ t. unmet || t) (sym (unmet-more c opening capacity b l rest)))
 
 -- a line that says this, with those after it
-line-goes : (c : Parts) (opening capacity n : ℕ) (r run : Run) (line : List ℕ) (ls : List (List ℕ)) (said : List (ℕ × Line)) (this : Result (Option Line) Reason) (more : Script)
-    → r.bench.left ≤ slot_limit → IsPlain line → Goes c opening capacity ls → read_line c (strip_carriage_return line) ≡ this
-    → read_lines c (n + 1) ls ≡ more → with_said n this more ≡ Ok said → in_turn c opening capacity (Ok r) said ≡ Ok run → Same c opening capacity (line ∷ ls) r run
-line-goes c opening capacity n r run line ls said (Err why) more le plain goes is rest e h = absurd (cc)
-line-goes c opening capacity n r run line ls said (Ok None) more le plain goes is rest e h =
-    ap (λ t. after reply t (map strip_carriage_return ls)) (answer-of c opening capacity r (strip_carriage_return line) (Ok None) plain is)
-    ∙ goes (n + 1) r run said le (rest ∙ e) h
-line-goes c opening capacity n r run line ls said (Ok (Some l)) (Err bad) le plain goes is rest e h = absurd (cc)
-line-goes c opening capacity n r run line ls [] (Ok (Some l)) (Ok tail) le plain goes is rest e h = absurd (cc)
-line-goes c opening capacity n r run line ls (x ∷ said) (Ok (Some l)) (Ok tail) le plain goes is rest e h =
-    next-goes c opening capacity r run (n, l) line ls tail (next c opening capacity r (n, l)) le goes (n + 1) rest
-    (answer-of c opening capacity r (strip_carriage_return line) (Ok (Some l)) plain is) refl
-    (ap (λ (s : Script). in_turn c opening capacity (Ok r) (lines_or s)) e ∙ h)
+line-goes : (c : Parts) (opening capacity n : ℕ) (b end : BenchState) (unmet : Bool) (line : List ℕ) (ls : List (List ℕ)) (said : List (ℕ × Line)) (this : Result (Option Line) Reason) (more : Script)
+    → b.left ≤ slot_limit → IsPlain line → Goes c opening capacity ls → read_line c (strip_carriage_return line) ≡ this
+    → read_lines c (n + 1) ls ≡ more → with_said n this more ≡ Ok said → in_turn c opening capacity (Ok b) said ≡ Ok end
+    → Same c opening capacity (line ∷ ls) b unmet end (some_unmet (judged_from false false c opening capacity b said))
+line-goes c opening capacity n b end unmet line ls said (Err why) more le plain goes is rest e h = absurd (cc)
+line-goes c opening capacity n b end unmet line ls said (Ok None) more le plain goes is rest e h =
+    ap (λ t. after reply t (map strip_carriage_return ls)) (answer-of c opening capacity b unmet (strip_carriage_return line) (Ok None) plain is)
+    ∙ goes (n + 1) b end unmet said le (rest ∙ e) h
+line-goes c opening capacity n b end unmet line ls said (Ok (Some l)) (Err bad) le plain goes is rest e h = absurd (cc)
+line-goes c opening capacity n b end unmet line ls said (Ok (Some l)) (Ok tail) le plain goes is rest e h =
+    let same : (n, l) ∷ tail ≡ said = ap lines_or e in
+    ap (λ t. t) (next-goes c opening capacity b end unmet (n, l) line ls tail (next c opening capacity b (n, l)) le goes (n + 1) rest
+    (answer-of c opening capacity b unmet (strip_carriage_return line) (Ok (Some l)) plain is) refl
+    (ap (λ ls. in_turn c opening capacity (Ok b) ls) same ∙ h))
+    ∙ ap (λ ls. hand_of c opening capacity end (unmet || some_unmet (judged_from false false c opening capacity b ls))) same
 
 all-go : (c : Parts) (opening capacity : ℕ) (ls : List (List ℕ)) → AllByRecursion IsPlain ls → Goes c opening capacity ls
 all-go c opening capacity [] p = nothing-goes c opening capacity
-all-go c opening capacity (line ∷ ls) p = λ n r run said le e h.
-    line-goes c opening capacity n r run line ls said (read_line c (strip_carriage_return line)) (read_lines c (n + 1) ls) le p.0 (all-go c opening capacity ls p.1) refl refl e h
+all-go c opening capacity (line ∷ ls) p = λ n b end unmet said le e h.
+    line-goes c opening capacity n b end unmet line ls said (read_line c (strip_carriage_return line)) (read_lines c (n + 1) ls) le p.0 (all-go c opening capacity ls p.1) refl refl e h
+
+-- what the lines of a play come to
+played-bench : (js : List Judgement) (o : Result BenchState ℕ) (run : Run) → with_judgements js o ≡ Ok run → (o ≡ Ok run.bench) × (js ≡ run.judgements)
+played-bench js (Err n) run h = absurd (cc)
+played-bench js (Ok b) run h = (cc, cc)
 
 pub live-is-play : LiveIsPlay
-live-is-play c opening capacity ls said run plain e h = all-go c opening capacity ls plain 1 first run said (omega arith) e h
+live-is-play c opening capacity ls said run plain e h =
+    let js = judgements false c opening capacity said in
+    let is = played-bench js (come_to c opening capacity said) run h in
+    all-go c opening capacity ls plain 1 first run.bench false said (omega arith) e is.0
+    ∙ ap (hand_of c opening capacity run.bench) (ap some_unmet is.1)

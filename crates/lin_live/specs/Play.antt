@@ -1,14 +1,13 @@
 -- Lines in hand and bench scripts.
-use Rattle.std.specs.Prelude.{◌≡◌, ℕ, ◌≤◌, Bool, true, false, List, [], ◌∷◌, length, map, Ok, codes}
+use Rattle.std.specs.Prelude.{◌≡◌, ℕ, ◌≤◌, Bool, false, List, [], ◌∷◌, length, map, Ok, codes}
 use Rattle.std.specs.List.{AllByRecursion}
 use Rattle.std.specs.Str.{bytes_eq}
 use Rattle.std.specs.Str.Lines.{strip_carriage_return}
 use Rattle.lin_cluster_parts.specs.declared.parts.Parts.{Parts}
 use Rattle.lin_bench.specs.Fields.{fields}
 use Rattle.lin_bench.specs.Lines.{read_lines}
-use Rattle.lin_bench.specs.Played.{Run, first, played}
+use Rattle.lin_bench.specs.Played.{Run, first, played, some_unmet}
 use Rattle.lin_bench.specs.Slots.{slot_limit}
-use Rattle.lin_bench.specs.declared.got.Unmet.{Unmet as Missed}
 use Rattle.lin_bench.specs.declared.line.Line.{Line}
 use Rattle.lin_live.specs.Told.{HandData, reply}
 use Rattle.lin_live.specs.Transcript.{after, most_bytes}
@@ -24,10 +23,6 @@ IsPlain line =
     (length (strip_carriage_return line) ≤ most_bytes)
     × (asks (fields (strip_carriage_return line)) ≡ false)
 
-abbrev pub is_missed : List Missed → Bool
-is_missed [] = false
-is_missed (m ∷ ms) = true
-
 -- the bench in hand that a play has come to (a byte order mark would be a part of the next line)
 abbrev pub in_hand_of : Parts → ℕ → ℕ → Run → HandData
 in_hand_of c opening capacity run = record {
@@ -37,14 +32,18 @@ in_hand_of c opening capacity run = record {
   bench = record run.bench { left = slot_limit };
   begun = true;
   was_bad = false;
-  was_unmet = is_missed run.unmet;
+  was_unmet = some_unmet run.judgements;
 }
+
+-- a play of no line
+abbrev pub nothing : Run
+nothing = record { bench = first; judgements = [] }
 
 -- The lines of a bench script without bad lines and within the limit of slots come, answered in
 -- hand, to the bench that its play comes to, with the same log; an expectation isn't met in one
 -- exactly where one isn't met in the other.
 abbrev pub LiveIsPlay : Type 0
 LiveIsPlay = (c : Parts) (opening capacity : ℕ) (ls : List (List ℕ)) (said : List (ℕ × Line)) (run : Run)
-    → AllByRecursion IsPlain ls → read_lines c 1 ls ≡ Ok said → played c opening capacity said ≡ Ok run
-    → after reply (in_hand_of c opening capacity first) (map strip_carriage_return ls)
+    → AllByRecursion IsPlain ls → read_lines c 1 ls ≡ Ok said → played false c opening capacity said ≡ Ok run
+    → after reply (in_hand_of c opening capacity nothing) (map strip_carriage_return ls)
     ≡ in_hand_of c opening capacity run

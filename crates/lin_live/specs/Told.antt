@@ -4,7 +4,7 @@ use Rattle.std.specs.Prelude.{ℕ, ◌-◌, ◌^◌, ◌<◌, Bool, true, false,
 use Rattle.std.specs.Prelude.{◌∷◌, ◌++◌, flat_map, length, reverse, drop, Option, Some, None}
 use Rattle.std.specs.Prelude.{option_map}
 use Rattle.std.specs.Prelude.{Result, Ok, Err, codes}
-use Rattle.std.specs.Option.{option_map_or, option_or}
+use Rattle.std.specs.Option.{option_map_or}
 use Rattle.std.specs.Fmt.{decimal}
 use Rattle.lin_cluster_parts.specs.declared.parts.Parts.{Parts}
 use Rattle.lin_core.specs.History.{asleep, time}
@@ -15,13 +15,12 @@ use Rattle.lin_core.specs.Tables.{refusal_number, refusal_word}
 use Rattle.lin_core.specs.declared.event.Event.TheVariants.{Slot}
 use Rattle.lin_core.specs.declared.log.LogEntry.{LogEntry}
 use Rattle.lin_core.specs.declared.reply.Refusal.{Refusal}
-use Rattle.lin_core.specs.declared.reply.Reply.{Reply}
-use Rattle.lin_core.specs.declared.reply.Reply.TheVariants.{Done, Refused}
 use Rattle.lin_log.specs.Words.{spaced_word, text, value_word}
 use Rattle.lin_export.specs.Named.{slot_names}
 use Rattle.lin_bench.specs.Lines.{without_mark}
 use Rattle.lin_bench.specs.Made.{BenchState, made}
 use Rattle.lin_bench.specs.Slots.{pending, slot_limit}
+use Rattle.lin_bench.specs.Strict.{entries_since, first_refusal}
 use Rattle.lin_bench.specs.declared.got.Pending.{Pending}
 use Rattle.lin_bench.specs.declared.rules.Noted.{Noted}
 use Rattle.lin_bench.specs.Texts.{expected_text, fields_text, got_text, pending_text}
@@ -51,15 +50,6 @@ reason_text (UnknownQuestion fields) = codes "? has no form " ++ fields_text fie
 reason_text NoNode = codes "no such node"
 reason_text NoNodeOrSignal = codes "no such node or signal"
 reason_text TooLong = codes "line too long"
-
-abbrev pub refusal_in : Reply → Option Refusal
-refusal_in (Done events) = None
-refusal_in (Refused why) = Some why
-
--- the first refusal among entries
-abbrev pub first_refusal : List LogEntry → Option Refusal
-first_refusal [] = None
-first_refusal (e ∷ es) = option_or (refusal_in e.reply) (first_refusal es)
 
 abbrev pub steps_ending : Option Refusal → List ℕ
 steps_ending None = ending (codes "ok")
@@ -127,10 +117,6 @@ is_limit verdict = false
 abbrev pub is_unmet : Verdict → Bool
 is_unmet (Unmet what got) = true
 is_unmet verdict = false
-
--- the entries by which a history grew, the oldest first
-abbrev pub entries_since : List LogEntry → List LogEntry → List LogEntry
-entries_since past later = drop (length past) (reverse later)
 
 -- an answer: the entries that the line made, and its last line
 pub record Answer : Type 0 where

@@ -3,14 +3,16 @@
 ghost use Rattle.std.specs.Prelude.{◌≡◌, ◌++◌, codes, drop, flat_map};
 ghost use Rattle.lin_log.specs.Words.{spaced_word, text};
 ghost use Rattle.lin_text.specs.Written.{Grows, WritesText};
-ghost use Rattle.lin_live.specs.Told.{ending, first_refusal, idle_text, reason_text, refusal_in};
+ghost use Rattle.lin_live.specs.Told.{ending, idle_text, reason_text};
 ghost use Rattle.lin_live.specs.Told.{slot_text, steps_ending, value_shown, verdict_ending};
 
 use crate::reason::Reason;
 use crate::value::Value;
-use lin_bench::{Pending, Verdict, put_fields, put_pending, put_reason, put_verdict};
+use lin_bench::{
+    Pending, Verdict, first_refusal, put_fields, put_pending, put_reason, put_verdict,
+};
 use lin_cluster_parts::Cluster;
-use lin_core::{Core, Event, Listed, Log, Refusal, Reply};
+use lin_core::{Core, Event, Listed, Refusal};
 use lin_export::put_slot_names;
 use lin_log::{put_entries, put_number, put_table, put_value, put_word};
 use lin_text::{TextWriter, WriteFailed};
@@ -134,28 +136,6 @@ pub(crate) fn write_value<W: Write>(
     put_answer(&mut out, cluster, value);
     out.put_byte(b'\n');
     out.finish()
-}
-
-/// Why the reply refuses, if it does.
-fn refusal_in(reply: &Reply) -> Option<Refusal>
-    ensures { result ≡ refusal_in reply.now }
-{
-    match reply {
-        Reply::Done(_) => None,
-        Reply::Refused(refusal) => Some(*refusal),
-    }
-}
-
-/// The first refusal among the entries of a log from one on.
-fn first_refusal(log: &Log, from: usize) -> Option<Refusal>
-    ensures { result ≡ first_refusal (drop from log.now.entries) }
-{
-    for index in from..log.len() {
-        if let Some(refusal) = refusal_in(&log.entry(index).reply) {
-            return Some(refusal);
-        }
-    }
-    None
 }
 
 /// That the steps of a line were done, or the first that was refused.

@@ -21,8 +21,9 @@ use Rattle.lin_listing.specs.Frames.{frames}
 use Rattle.lin_listing.specs.Listing.{listing}
 use Rattle.lin_listing.specs.Slots.{slots}
 use Rattle.lin_export.specs.FirstSlots.{first_slots}
+use Rattle.lin_bench.specs.Played.{is_unmet}
 use Rattle.lin_bench.specs.Texts.{unmet_text}
-use Rattle.lin_bench.specs.declared.got.Unmet.{Unmet}
+use Rattle.lin_bench.specs.declared.got.Judgement.{Judgement}
 use Rattle.lin_page.specs.declared.pieces.TheConstants.{HEAD, MIDDLE, TAIL}
 
 -- a text as one field: printable bytes but `%`, `&` and `<` stand for themselves, each other byte is
@@ -55,9 +56,12 @@ abbrev pub log_head : Parts → List ℕ
 log_head c =
     flat_map (alone_line c) (numbers (length c.signals)) ++ line (codes "log" ∷ [])
 
--- an expectation that isn't met, after so many entries
-abbrev pub unmet_line : Parts → Unmet → List ℕ
-unmet_line c u = codes "unmet" ++ (spaced_word (decimal u.entries) ++ spaced_word (unmet_text c u))
+-- a judgement after so many entries, where it isn't met
+abbrev pub unmet_line : Parts → Judgement → List ℕ
+unmet_line c j =
+    if is_unmet j.judged
+    then codes "unmet" ++ (spaced_word (decimal j.entries) ++ spaced_word (unmet_text c j))
+    else []
 
 -- how many events of a log pass a test, and how many of its steps were refused
 abbrev pub events_so : (Event → Bool) → List LogEntry → ℕ
@@ -102,8 +106,8 @@ abbrev pub log_page : Parts → List ℕ → List LogEntry → List ℕ
 log_page c file log =
     page_head c file ++ listing c ++ frames c ++ slots c ++ log_head c ++ text log
 
--- the page of a log of a cluster, with the name of its LDF and the expectations that it doesn't meet
-abbrev pub page : Parts → List ℕ → List LogEntry → List Unmet → List ℕ
-page c file log unmet =
-    log_page c file log ++ (flat_map (unmet_line c) unmet ++ MIDDLE.now ++ summary c log)
+-- the page of a log of a cluster, with the name of its LDF and the judgements of its play
+abbrev pub page : Parts → List ℕ → List LogEntry → List Judgement → List ℕ
+page c file log judgements =
+    log_page c file log ++ (flat_map (unmet_line c) judgements ++ MIDDLE.now ++ summary c log)
     ++ first_slots c log ++ TAIL.now

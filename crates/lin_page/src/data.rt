@@ -7,7 +7,7 @@ ghost use Rattle.lin_page.specs.Page.{alone_line, log_head, page_head, unmet_lin
 
 use crate::field::put_field;
 use crate::pieces::HEAD;
-use lin_bench::{Unmet, put_unmet};
+use lin_bench::{Judgement, is_unmet, put_unmet};
 use lin_cluster_parts::Cluster;
 use lin_log::{put_number, put_value};
 use lin_text::{TextWriter, WriteFailed};
@@ -71,24 +71,26 @@ pub(crate) fn write_log_head<W: Write>(cluster: &Cluster, writer: &mut W) -> Res
     out.finish()
 }
 
-/// The line of an expectation that isn't met.
-fn put_unmet_line<W: Write>(out: &mut TextWriter<'_, W>, cluster: &Cluster, unmet: &Unmet)
-    ensures { Grows W.contents out.old out.new (unmet_line cluster.now unmet.now) }
+/// The line of a judgement, where it isn't met.
+fn put_unmet_line<W: Write>(out: &mut TextWriter<'_, W>, cluster: &Cluster, judgement: &Judgement)
+    ensures { Grows W.contents out.old out.new (unmet_line cluster.now judgement.now) }
 {
-    out.put_text("unmet");
-    put_number(out, unmet.entries);
-    out.put_byte(b' ');
-    put_unmet(out, cluster, unmet);
+    if is_unmet(&judgement.judged) {
+        out.put_text("unmet");
+        put_number(out, judgement.entries);
+        out.put_byte(b' ');
+        put_unmet(out, cluster, judgement);
+    }
 }
 
 pub(crate) fn put_unmet_lines<W: Write>(
     out: &mut TextWriter<'_, W>,
     cluster: &Cluster,
-    unmet: &[Unmet],
+    judgements: &[Judgement],
 )
-    ensures { Grows W.contents out.old out.new (flat_map (unmet_line cluster.now) unmet.now) }
+    ensures { Grows W.contents out.old out.new (flat_map (unmet_line cluster.now) judgements.now) }
 {
-    for one in unmet {
+    for one in judgements {
         put_unmet_line(out, cluster, one);
     }
 }

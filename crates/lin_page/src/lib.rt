@@ -14,3 +14,4 @@ mod pieces;
 mod summary;
 
 pub use page::write_page;
+pub use summary::{messages_lost, slots_finished, steps_refused};

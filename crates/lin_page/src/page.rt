@@ -7,7 +7,7 @@ ghost use Rattle.lin_page.specs.Page.{log_page, page, summary, unmet_line};
 use crate::data::{put_unmet_lines, write_head, write_log_head};
 use crate::pieces::{MIDDLE, TAIL};
 use crate::summary::put_summary;
-use lin_bench::Unmet;
+use lin_bench::Judgement;
 use lin_core::Core;
 use lin_export::{ExportFault, write_first_slots};
 use lin_listing::{write_frames, write_list, write_slots};
@@ -38,20 +38,24 @@ fn write_log_page<W: Write>(core: &Core, file: &[u8], writer: &mut W) -> Result<
 ///
 /// # Errors
 /// `WriteFailed`; what was written then is the beginning of it.
-fn write_middle<W: Write>(core: &Core, unmet: &[Unmet], writer: &mut W) -> Result<(), WriteFailed>
+fn write_middle<W: Write>(
+    core: &Core,
+    judgements: &[Judgement],
+    writer: &mut W,
+) -> Result<(), WriteFailed>
     ensures { WritesText (W.contents writer.old) (W.contents writer.new) result
-        (flat_map (unmet_line core.now.cluster) unmet.now ++ MIDDLE.now
+        (flat_map (unmet_line core.now.cluster) judgements.now ++ MIDDLE.now
         ++ summary core.now.cluster core.now.log) }
 {
     let mut out = TextWriter::new(writer);
-    put_unmet_lines(&mut out, core.cluster(), unmet);
+    put_unmet_lines(&mut out, core.cluster(), judgements);
     out.put_text(MIDDLE);
     put_summary(&mut out, core);
     out.finish()
 }
 
 /// Writes the page of a run for browsers, one file that asks for nothing else: the name of its LDF
-/// as it was given, what its cluster has, its log, and the expectations that it doesn't meet, which
+/// as it was given, what its cluster has, its log, and the judgements of its play that aren't met, which
 /// the page's scripts draw; and for readers without scripts a summary and the first 200 slots.
 ///
 /// Names of LDFs are words and the rest are numbers and words, so that of all that is written only
@@ -69,14 +73,14 @@ pub fn write_page<W: Write>(
     alloc: Global,
     core: &Core,
     file: &[u8],
-    unmet: &[Unmet],
+    judgements: &[Judgement],
     writer: &mut W,
 ) -> Result<(), ExportFault>
     ensures { WritesText (W.contents writer.old) (W.contents writer.new) result
-        (page core.now.cluster file.now core.now.log unmet.now) }
+        (page core.now.cluster file.now core.now.log judgements.now) }
 {
     write_log_page(core, file, writer)?;
-    write_middle(core, unmet, writer)?;
+    write_middle(core, judgements, writer)?;
     write_first_slots(alloc, core.cluster(), core.log(), writer)?;
     write_out(writer, TAIL.as_bytes())?;
     Ok(())

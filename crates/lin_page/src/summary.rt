@@ -5,7 +5,7 @@ ghost use Rattle.std.specs.List.{count_by};
 ghost use Rattle.lin_core.specs.History.{reply_events};
 ghost use Rattle.lin_core.specs.Tables.{looks};
 ghost use Rattle.lin_text.specs.Written.{Grows};
-ghost use Rattle.lin_page.specs.Page.{events_so, is_refusal, look_count, number_of, summary};
+ghost use Rattle.lin_page.specs.Page.{events_so, is_lost, is_refusal, is_seen, look_count, number_of, summary};
 ghost use Rattle.lin_page.specs.Told.{is_told};
 
 use itoa::Integer;
@@ -60,8 +60,22 @@ fn count(told: Told, log: &Log) -> u128
     count
 }
 
+/// How many slots of a log were finished.
+pub fn slots_finished(log: &Log) -> u128
+    ensures { result ≡ events_so is_seen log.now.entries }
+{
+    count(Told::Slots, log)
+}
+
+/// How many messages of a log were lost.
+pub fn messages_lost(log: &Log) -> u128
+    ensures { result ≡ events_so is_lost log.now.entries }
+{
+    count(Told::Lost, log)
+}
+
 /// How many steps of a log were refused.
-fn refused(log: &Log) -> usize
+pub fn steps_refused(log: &Log) -> usize
     ensures { result ≡ count_by (λ e. is_refusal e.reply) log.now.entries }
 {
     let mut count = 0;
@@ -97,10 +111,10 @@ pub(crate) fn put_summary<W: Write>(out: &mut TextWriter<'_, W>, core: &Core)
 {
     let log = core.log();
     out.put_text("<p>");
-    put_count(out, "slots", count(Told::Slots, log));
+    put_count(out, "slots", slots_finished(log));
     put_looks(out, log);
-    put_count(out, ", refused", refused(log));
-    put_count(out, ", lost", count(Told::Lost, log));
+    put_count(out, ", refused", steps_refused(log));
+    put_count(out, ", lost", messages_lost(log));
     put_count(out, ", time_us", core.time());
     out.put_text("</p>\n");
 }

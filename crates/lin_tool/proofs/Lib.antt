@@ -2,3 +2,4 @@ pub mod Texts
 pub mod Shows
 pub mod Plays
 pub mod Moments
+pub mod Tallies

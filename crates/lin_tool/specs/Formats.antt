@@ -4,7 +4,7 @@ use Rattle.std.specs.Io.KnownBytes.{Appends}
 use Rattle.lin_cluster_parts.specs.declared.parts.Parts.{Parts}
 use Rattle.lin_core.specs.declared.log.LogEntry.{LogEntry}
 use Rattle.lin_log.specs.Words.{text}
-use Rattle.lin_bench.specs.declared.got.Unmet.{Unmet}
+use Rattle.lin_bench.specs.declared.got.Judgement.{Judgement}
 use Rattle.lin_export.specs.Csv.{csv}
 use Rattle.lin_export.specs.Jsonl.{jsonl}
 use Rattle.lin_export.specs.Named.{named_log}
@@ -13,22 +13,24 @@ use Rattle.lin_export.specs.Vcd.{vcd}
 use Rattle.lin_export.specs.declared.fault.ExportFault.{ExportFault}
 use Rattle.lin_export.specs.declared.fault.ExportFault.TheVariants as export
 use Rattle.lin_page.specs.Page.{page}
+use Rattle.lin_tool.specs.Junit.{junit}
 use Rattle.lin_tool.specs.declared.fault.Fault.{Fault}
 use Rattle.lin_tool.specs.declared.fault.Fault.TheVariants.{OutOfMemory, WriteFailed}
 use Rattle.lin_tool.specs.declared.formats.Format.{Format}
 use Rattle.lin_tool.specs.declared.formats.Format.TheVariants.{Log, Named, Csv, Jsonl, Pcap}
-use Rattle.lin_tool.specs.declared.formats.Format.TheVariants.{Vcd, Html}
+use Rattle.lin_tool.specs.declared.formats.Format.TheVariants.{Vcd, Html, Junit}
 
 -- a log in a format, of a run that opened with this table and this capacity of the queues; a picture
--- also has expectations that it doesn't meet
-abbrev pub log_as : Format → Parts → ℕ → ℕ → List LogEntry → List Unmet → List ℕ
-log_as Log c opening capacity log unmet = text log
-log_as Named c opening capacity log unmet = named_log c log
-log_as Csv c opening capacity log unmet = csv c log
-log_as Jsonl c opening capacity log unmet = jsonl c opening capacity log
-log_as Pcap c opening capacity log unmet = pcap c log
-log_as Vcd c opening capacity log unmet = vcd c log
-log_as (Html file) c opening capacity log unmet = page c file.now log unmet
+-- and a report also have the judgements of a play
+abbrev pub log_as : Format → Parts → ℕ → ℕ → List LogEntry → List Judgement → List ℕ
+log_as Log c opening capacity log js = text log
+log_as Named c opening capacity log js = named_log c log
+log_as Csv c opening capacity log js = csv c log
+log_as Jsonl c opening capacity log js = jsonl c opening capacity log
+log_as Pcap c opening capacity log js = pcap c log
+log_as Vcd c opening capacity log js = vcd c log
+log_as (Html file) c opening capacity log js = page c file.now log js
+log_as (Junit file) c opening capacity log js = junit file.now c log js
 
 -- a beginning of a text was written
 abbrev pub Begins : Option (List ℕ) → Option (List ℕ) → List ℕ → Type 0

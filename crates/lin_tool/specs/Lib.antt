@@ -1,6 +1,7 @@
 pub mod Clusters
 pub mod Comparing
 pub mod Formats
+pub mod Junit
 pub mod Listing
 pub mod Living
 pub mod Opening
@@ -10,4 +11,5 @@ pub mod Reading
 pub mod Replaying
 pub mod Running
 pub mod Statuses
+pub mod Tally
 pub mod Telling

@@ -1,5 +1,5 @@
 -- What `play --where` says of a bench script, after its file's name.
-use Rattle.std.specs.Prelude.{ℕ, zero, suc, ◌+◌, List, [], ◌∷◌, ◌++◌, flat_map, take, reverse, codes}
+use Rattle.std.specs.Prelude.{ℕ, zero, suc, ◌+◌, List, [], ◌∷◌, ◌++◌, flat_map, if◌then◌else◌, take, reverse, codes}
 use Rattle.std.specs.Prelude.{Option, Some, None, option_map}
 use Rattle.std.specs.Borrow.{Bor}
 use Rattle.std.specs.Fmt.{decimal}
@@ -10,9 +10,9 @@ use Rattle.lin_core.specs.History.{Slot, open_slot, time}
 use Rattle.lin_core.specs.declared.log.LogEntry.{LogEntry}
 use Rattle.lin_export.specs.Track.{slots_in}
 use Rattle.lin_bench.specs.Lines.{bad_lines}
-use Rattle.lin_bench.specs.Texts.{bad_line_text, expected_text, got_text, judged_text, reason_text}
-use Rattle.lin_bench.specs.Texts.{unmet_text}
-use Rattle.lin_bench.specs.declared.got.Unmet.{Unmet}
+use Rattle.lin_bench.specs.Played.{is_unmet}
+use Rattle.lin_bench.specs.Texts.{bad_line_text, judged_text, reason_text, unmet_text}
+use Rattle.lin_bench.specs.declared.got.Judgement.{Judgement}
 use Rattle.lin_bench.specs.declared.reason.Reason.{Reason}
 use Rattle.lin_tool.specs.declared.placing.Moment.{Moment}
 
@@ -33,17 +33,22 @@ abbrev pub last_slot : ℕ → List ℕ
 last_slot zero = codes "no slot"
 last_slot (suc n) = codes "slot " ++ decimal n
 
--- the last slot that was finished, by its number in a table of slots, the time, and the line's end
+-- the last slot that was finished, by its number in a table of slots, and the time
 abbrev pub moment_text : ℕ → ℕ → List ℕ
 moment_text slots at =
-    codes " (" ++ (last_slot slots ++ (codes ", " ++ (decimal at ++ codes " us)\n")))
+    codes " (" ++ (last_slot slots ++ (codes ", " ++ (decimal at ++ codes " us)")))
 
--- the line of an expectation that isn't met
-abbrev pub placed_unmet : List ℕ → Parts → List LogEntry → Unmet → List ℕ
-placed_unmet file c log u =
-    placed file u.line
-    ++ (judged_text (expected_text c u.expected) (got_text c u.got)
-    ++ moment_text (slots_in (past_at log u.entries)) (time c (past_at log u.entries)))
+-- what is said of a judgement that isn't met, without the line's end
+abbrev pub placed_missed : List ℕ → Parts → List LogEntry → Judgement → List ℕ
+placed_missed file c log j =
+    placed file j.line
+    ++ (judged_text c j.judged
+    ++ moment_text (slots_in (past_at log j.entries)) (time c (past_at log j.entries)))
+
+-- the line of a judgement, where it isn't met
+abbrev pub placed_unmet : List ℕ → Parts → List LogEntry → Judgement → List ℕ
+placed_unmet file c log j =
+    if is_unmet j.judged then placed_missed file c log j ++ 10 ∷ [] else []
 
 -- what is said of a script's bad lines: all of them after the file's name, or without a name the
 -- first one
@@ -51,10 +56,10 @@ abbrev pub bad_text : Option (Bor (List ℕ)) → Parts → List ℕ → ℕ →
 bad_text None c text n why = bad_line_text n why
 bad_text (Some file) c text n why = flat_map (placed_bad file.now) (bad_lines c text)
 
--- what is said of the expectations that a log doesn't meet
-abbrev pub missed_text : Option (Bor (List ℕ)) → Parts → List LogEntry → List Unmet → List ℕ
-missed_text None c log unmet = flat_map (unmet_text c) unmet
-missed_text (Some file) c log unmet = flat_map (placed_unmet file.now c log) unmet
+-- what is said of the judgements of a play that aren't met
+abbrev pub missed_text : Option (Bor (List ℕ)) → Parts → List LogEntry → List Judgement → List ℕ
+missed_text None c log js = flat_map (unmet_text c) js
+missed_text (Some file) c log js = flat_map (placed_unmet file.now c log) js
 
 -- the entry of a slot
 abbrev pub entry_in : Slot → ℕ × ℕ

@@ -1,5 +1,5 @@
 -- What the program's play answers.
-use Rattle.std.specs.Prelude.{◌≡◌, ◌≢◌, ◌⊎◌, ℕ, ◌≤◌, true, List, [], length, reverse, Option, IfSome}
+use Rattle.std.specs.Prelude.{◌≡◌, ◌≢◌, ◌⊎◌, ◌++◌, ℕ, ◌≤◌, Bool, true, false, if◌then◌else◌, List, [], length, reverse, Option, IfSome}
 use Rattle.std.specs.Prelude.{Result, Ok, Err}
 use Rattle.std.specs.Borrow.{Bor}
 use Rattle.std.specs.Io.KnownBytes.{Appends, Keeps}
@@ -7,16 +7,19 @@ use Rattle.lin_text.specs.Written.{WritesText}
 use Rattle.lin_cluster_parts.specs.declared.parts.Parts.{Parts}
 use Rattle.lin_log.specs.declared.fault.ScriptFault.TheVariants as script
 use Rattle.lin_bench.specs.Lines.{Script, read}
-use Rattle.lin_bench.specs.Played.{Run, played}
+use Rattle.lin_bench.specs.Played.{Run, played, some_unmet}
 use Rattle.lin_bench.specs.Plays.{Overfills, has_rule}
 use Rattle.lin_bench.specs.declared.fault.PlayFault.{PlayFault}
 use Rattle.lin_bench.specs.declared.fault.PlayFault.TheVariants as play
-use Rattle.lin_bench.specs.declared.got.Unmet.{Unmet as Missed}
+use Rattle.lin_bench.specs.declared.got.Judgement.{Judgement}
 use Rattle.lin_bench.specs.declared.line.Line.{Line}
 use Rattle.lin_bench.specs.declared.reason.Reason.{Reason}
 use Rattle.lin_tool.specs.Formats.{Begins, log_as}
 use Rattle.lin_tool.specs.Placing.{bad_text, missed_text}
+use Rattle.lin_core.specs.declared.log.LogEntry.{LogEntry}
+use Rattle.lin_text.specs.declared.fault.WriteFailed.{WriteFailed as Failed}
 use Rattle.lin_tool.specs.Replaying.{IsRefused}
+use Rattle.lin_tool.specs.Tally.{tally_text}
 use Rattle.lin_tool.specs.declared.fault.Fault.{Fault}
 use Rattle.lin_tool.specs.declared.fault.Fault.TheVariants.{BadBenchLine, SlotLimit, LogFull, Unmet}
 use Rattle.lin_tool.specs.declared.fault.Fault.TheVariants.{ScriptTooLong, OutOfMemory}
@@ -37,66 +40,76 @@ pub record Says (c : Parts) (told : Option (List ℕ)) (said : Script) : Type 0 
   pub short : length bytes ≤ 16777216
   pub all : read c bytes ≡ said
 
--- the lines of a bench script come to this
-abbrev pub ComesTo : Parts → ℕ → ℕ → Option (List ℕ) → Result Run ℕ → Type 0
-ComesTo c opening capacity told end =
-    (ls : List (ℕ × Line)) × Says c told (Ok ls) × (played c opening capacity ls ≡ end)
+-- the lines of a bench script, played strictly or not, come to this
+abbrev pub ComesTo : Bool → Parts → ℕ → ℕ → Option (List ℕ) → Result Run ℕ → Type 0
+ComesTo strict c opening capacity told end =
+    (ls : List (ℕ × Line)) × Says c told (Ok ls) × (played strict c opening capacity ls ≡ end)
 
 -- the log of a run in a format
 abbrev pub run_as : Format → Parts → ℕ → ℕ → Run → List ℕ
 run_as format c opening capacity run =
-    log_as format c opening capacity (reverse run.bench.past) run.unmet
+    log_as format c opening capacity (reverse run.bench.past) run.judgements
 
--- What is written of a run: its log (this is the whole of it), and then to errors this text of the
--- expectations that it missed, if it missed any; or writing the log stopped at some place. (The
--- log's own text takes no memory.)
-abbrev pub WritesPlayed : Format → List ℕ → List Missed → List ℕ → Result Unit Fault
+-- a text was written, as far as the writer took it
+abbrev pub Tells : Option (List ℕ) → Option (List ℕ) → List ℕ → Type 0
+Tells silent heard text = (outcome : Result Unit Failed) × WritesText silent heard outcome text
+
+-- what is told of the judgements of a play, with this log: a line for each that isn't met, and of a
+-- strict play a line of numbers
+abbrev pub told_text : Option (Bor (List ℕ)) → Bool → Parts → List LogEntry → List Judgement → List ℕ
+told_text named strict c log js =
+    missed_text named c log js ++ (if strict then tally_text c log js else [])
+
+-- What is written of a run: its log (this is the whole of it), and then to errors what is told of
+-- its judgements, of which all are met where the answer is Ok; or writing the log stopped at some
+-- place. (The log's own text takes no memory.)
+abbrev pub WritesPlayed : Format → List ℕ → List Judgement → List ℕ → Result Unit Fault
     → Option (List ℕ) → Option (List ℕ) → Option (List ℕ) → Option (List ℕ) → Type 0
-WritesPlayed format whole missed text (Ok done) old new silent heard =
-    Appends old new whole × (missed ≡ []) × Keeps silent heard
-WritesPlayed format whole missed text (Err (Unmet outcome)) old new silent heard =
-    Appends old new whole × (missed ≢ []) × WritesText silent heard outcome text
-WritesPlayed format whole missed text (Err WriteFailed) old new silent heard =
+WritesPlayed format whole js text (Ok done) old new silent heard =
+    Appends old new whole × (some_unmet js ≡ false) × Tells silent heard text
+WritesPlayed format whole js text (Err (Unmet outcome)) old new silent heard =
+    Appends old new whole × (some_unmet js ≡ true) × WritesText silent heard outcome text
+WritesPlayed format whole js text (Err WriteFailed) old new silent heard =
     Begins old new whole × Keeps silent heard
-WritesPlayed format whole missed text (Err OutOfMemory) old new silent heard =
+WritesPlayed format whole js text (Err OutOfMemory) old new silent heard =
     (format ≢ Log) × Begins old new whole × Keeps silent heard
-WritesPlayed format whole missed text (Err _) old new silent heard = ⊥
+WritesPlayed format whole js text (Err _) old new silent heard = ⊥
 
 -- the lines of a bench script came to a run, and this was written of it
-abbrev pub WritesRunOf : Format → Option (Bor (List ℕ)) → Parts → ℕ → ℕ → Result Unit Fault → Option (List ℕ)
-    → Option (List ℕ) → Option (List ℕ) → Option (List ℕ) → Option (List ℕ) → Type 0
-WritesRunOf format named c opening capacity result told old new silent heard =
-    (run : Run) × ComesTo c opening capacity told (Ok run)
-    × WritesPlayed format (run_as format c opening capacity run) run.unmet
-    (missed_text named c (reverse run.bench.past) run.unmet) result old new silent heard
+abbrev pub WritesRunOf : Format → Option (Bor (List ℕ)) → Bool → Parts → ℕ → ℕ → Result Unit Fault
+    → Option (List ℕ) → Option (List ℕ) → Option (List ℕ) → Option (List ℕ) → Option (List ℕ) → Type 0
+WritesRunOf format named strict c opening capacity result told old new silent heard =
+    (run : Run) × ComesTo strict c opening capacity told (Ok run)
+    × WritesPlayed format (run_as format c opening capacity run) run.judgements
+    (told_text named strict c (reverse run.bench.past) run.judgements) result old new silent heard
 
 -- What a play in this format answers, what the writer took (from old to new), and what the writer
--- of errors took (from silent to heard). Of a log that was written, all expectations are met exactly
+-- of errors took (from silent to heard). Of a log that was written, all judgements are met exactly
 -- where the answer is Ok.
-abbrev pub PlaysScript : Format → Option (Bor (List ℕ)) → Parts → ℕ → ℕ → Result Unit Fault → Option (List ℕ)
-    → Option (List ℕ) → Option (List ℕ) → Option (List ℕ) → Option (List ℕ) → Type 0
-PlaysScript format named c opening capacity (Ok done) told old new silent heard =
-    WritesRunOf format named c opening capacity (Ok done) told old new silent heard
-PlaysScript format named c opening capacity (Err (Unmet outcome)) told old new silent heard =
-    WritesRunOf format named c opening capacity (Err (Unmet outcome)) told old new silent heard
-PlaysScript format named c opening capacity (Err (BadBenchLine n outcome)) told old new silent heard =
+abbrev pub PlaysScript : Format → Option (Bor (List ℕ)) → Bool → Parts → ℕ → ℕ → Result Unit Fault
+    → Option (List ℕ) → Option (List ℕ) → Option (List ℕ) → Option (List ℕ) → Option (List ℕ) → Type 0
+PlaysScript format named strict c opening capacity (Ok done) told old new silent heard =
+    WritesRunOf format named strict c opening capacity (Ok done) told old new silent heard
+PlaysScript format named strict c opening capacity (Err (Unmet outcome)) told old new silent heard =
+    WritesRunOf format named strict c opening capacity (Err (Unmet outcome)) told old new silent heard
+PlaysScript format named strict c opening capacity (Err (BadBenchLine n outcome)) told old new silent heard =
     (why : Reason) × (it : Says c told (Err (n, why))) × Keeps old new
     × WritesText silent heard outcome (bad_text named c it.bytes n why)
-PlaysScript format named c opening capacity (Err (SlotLimit n)) told old new silent heard =
-    ComesTo c opening capacity told (Err n) × Keeps old new × Keeps silent heard
-PlaysScript format named c opening capacity (Err LogFull) told old new silent heard =
+PlaysScript format named strict c opening capacity (Err (SlotLimit n)) told old new silent heard =
+    ComesTo strict c opening capacity told (Err n) × Keeps old new × Keeps silent heard
+PlaysScript format named strict c opening capacity (Err LogFull) told old new silent heard =
     (ls : List (ℕ × Line)) × Says c told (Ok ls) × Overfills c opening capacity ls
     × (has_rule ls ≡ true) × Keeps old new × Keeps silent heard
-PlaysScript format named c opening capacity (Err ScriptTooLong) told old new silent heard =
+PlaysScript format named strict c opening capacity (Err ScriptTooLong) told old new silent heard =
     IsRefused script.TooLong told old new × Keeps silent heard
-PlaysScript format named c opening capacity (Err ReadFailed) told old new silent heard =
+PlaysScript format named strict c opening capacity (Err ReadFailed) told old new silent heard =
     Keeps old new × Keeps silent heard
-PlaysScript format named c opening capacity (Err OutOfMemory) told old new silent heard =
+PlaysScript format named strict c opening capacity (Err OutOfMemory) told old new silent heard =
     (Keeps old new × Keeps silent heard)
-    ⊎ WritesRunOf format named c opening capacity (Err OutOfMemory) told old new silent heard
-PlaysScript format named c opening capacity (Err WriteFailed) told old new silent heard =
-    WritesRunOf format named c opening capacity (Err WriteFailed) told old new silent heard
-PlaysScript format named c opening capacity (Err _) told old new silent heard = ⊥
+    ⊎ WritesRunOf format named strict c opening capacity (Err OutOfMemory) told old new silent heard
+PlaysScript format named strict c opening capacity (Err WriteFailed) told old new silent heard =
+    WritesRunOf format named strict c opening capacity (Err WriteFailed) told old new silent heard
+PlaysScript format named strict c opening capacity (Err _) told old new silent heard = ⊥
 
 -- what telling bad lines by this text answers
 abbrev pub TellsBad : {E F : Type 0} → Result (Result Unit F) E → List ℕ → Option (List ℕ)
@@ -120,10 +133,10 @@ ReadsLines named c text view (Ok x) silent heard =
     (read c text ≡ Ok (view x)) × Keeps silent heard
 ReadsLines named c text view (Err fault) silent heard = IsUnread named c text fault silent heard
 
--- what judging these expectations answers, of which this is told
-abbrev pub Judges : Result Unit Fault → List Missed → List ℕ
+-- what judging these answers, of which this is told
+abbrev pub Judges : Result Unit Fault → List Judgement → List ℕ
     → Option (List ℕ) → Option (List ℕ) → Type 0
-Judges (Ok done) missed text silent heard = (missed ≡ []) × Keeps silent heard
-Judges (Err (Unmet outcome)) missed text silent heard =
-    (missed ≢ []) × WritesText silent heard outcome text
-Judges (Err _) missed text silent heard = ⊥
+Judges (Ok done) js text silent heard = (some_unmet js ≡ false) × Tells silent heard text
+Judges (Err (Unmet outcome)) js text silent heard =
+    (some_unmet js ≡ true) × WritesText silent heard outcome text
+Judges (Err _) js text silent heard = ⊥

@@ -6,7 +6,8 @@ ghost use Rattle.lin_text.specs.Written.{WritesText};
 ghost use Rattle.lin_tool.specs.Formats.{log_as};
 ghost use Rattle.lin_tool.specs.declared.formats.Format.TheVariants.{Log};
 
-use lin_bench::Unmet;
+use crate::junit::write_junit;
+use lin_bench::Judgement;
 use lin_core::Core;
 use lin_export::{ExportFault, write_csv, write_jsonl, write_named, write_pcap, write_vcd};
 use lin_log::write_log;
@@ -31,11 +32,14 @@ pub enum Format<'a> {
     Vcd,
     /// A picture of the run (HTML), one file, under this name of the LDF.
     Html(&'a [u8]),
+    /// A report of the judgements of a play, for what reads those of tests (JUnit's, in XML 1.0),
+    /// under this name of the script.
+    Junit(&'a str),
 }
 
 /// Writes the log of a core in a format; the core opened with the schedule table `table` and the
-/// capacity `capacity`, which objects tell, and a picture also has expectations that aren't met. A
-/// log's own text takes no memory, and the others take little.
+/// capacity `capacity`, which objects tell; a picture and a report also have the judgements of a play.
+/// A log's own text takes no memory, and the others take little.
 ///
 /// # Errors
 /// `OutOfMemory`, which a log's own text hasn't, and `WriteFailed`. What was written then is the
@@ -46,11 +50,11 @@ pub fn write_shown<W: Write>(
     core: &Core,
     table: u16,
     capacity: usize,
-    unmet: &[Unmet],
+    judgements: &[Judgement],
     writer: &mut W,
 ) -> Result<(), ExportFault>
     ensures text { WritesText (W.contents writer.old) (W.contents writer.new) result
-        (log_as format.entry core.now.cluster table capacity core.now.log unmet.now) }
+        (log_as format.entry core.now.cluster table capacity core.now.log judgements.now) }
     ensures memory { format.entry ≡ Log → IfErr result (λ fault. fault ≡ WriteFailed) }
 {
     let cluster = core.cluster();
@@ -65,6 +69,7 @@ pub fn write_shown<W: Write>(
         Format::Jsonl => write_jsonl(alloc, cluster, table, capacity, log, writer),
         Format::Pcap => write_pcap(alloc, cluster, log, writer),
         Format::Vcd => write_vcd(alloc, cluster, log, writer),
-        Format::Html(file) => write_page(alloc, core, file, unmet, writer),
+        Format::Html(file) => write_page(alloc, core, file, judgements, writer),
+        Format::Junit(file) => write_junit(alloc, file, cluster, log, judgements, writer),
     }
 }

@@ -16,6 +16,7 @@ mod explaining;
 mod fault;
 mod findings;
 mod formats;
+mod junit;
 mod listing;
 mod living;
 mod locating;
@@ -28,6 +29,7 @@ mod playing;
 mod replaying;
 mod running;
 mod scripts;
+mod tally;
 mod telling;
 
 pub use checking::check;

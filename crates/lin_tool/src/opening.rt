@@ -22,6 +22,8 @@ pub struct Settings<'a> {
     pub capacity: u16,
     /// The format of the log.
     pub format: Format<'a>,
+    /// Whether a play is strict: refused steps of which the script doesn't speak aren't met either.
+    pub is_strict: bool,
 }
 
 /// The number of the cluster's schedule table of this name; of the first one, where no name is

@@ -1,5 +1,5 @@
-//! `play --where`: bad lines of a bench script, and expectations that aren't met, after the name of
-//! its file.
+//! Bad lines of a bench script, and judgements that aren't met, after the name of its file; and the
+//! moments of a log.
 
 ghost use Rattle.std.specs.Prelude.{◌≡◌, ◌≤◌, ◌+◌, ◌*◌, ◌<◌, ◌^◌, ◌∷◌, ◌++◌, ℕ, [], List};
 ghost use Rattle.std.specs.Prelude.{codes, flat_map, length};
@@ -9,9 +9,9 @@ ghost use Rattle.lin_core.specs.History.{Slot, slot_after_event, slot_after_even
 ghost use Rattle.lin_core.specs.declared.log.LogEntry.{LogEntry};
 ghost use Rattle.lin_text.specs.Written.{Grows, WritesText};
 ghost use Rattle.lin_tool.specs.Placing.{entry_in, finished_on, last_slot, moment_of, moment_text, past_at};
-ghost use Rattle.lin_tool.specs.Placing.{placed, placed_bad, placed_unmet};
+ghost use Rattle.lin_tool.specs.Placing.{placed, placed_bad, placed_missed, placed_unmet};
 
-use lin_bench::{Reason, Unmet, put_judged, put_reason};
+use lin_bench::{Judgement, Reason, is_unmet, put_judged, put_reason};
 use lin_cluster_parts::Cluster;
 use lin_core::{Event, Log, LogEntry, Reply, Step};
 use lin_text::{TextWriter, WriteFailed};
@@ -50,7 +50,7 @@ fn told_by_all(events: &[Event], entry: (u16, u16)) -> (u16, u16)
 
 impl Moment {
     /// That of an empty log.
-    fn new() -> Moment
+    pub(crate) fn new() -> Moment
         ensures { (c : Parts) → result ≡ moment_of c [] }
     {
         Moment {
@@ -120,7 +120,7 @@ impl Moment {
 
     /// That after so many entries of a log, by the one after some that were read. (A play's log only
     /// grows; where fewer entries are asked for than were read, it is read again.)
-    fn at(self, cluster: &Cluster, log: &Log, read: usize, entries: usize) -> Moment
+    pub(crate) fn at(self, cluster: &Cluster, log: &Log, read: usize, entries: usize) -> Moment
         requires told { self ≡ moment_of cluster.now (past_at log.now.entries read) }
         requires there { entries ≤ length log.now.entries }
         requires few { entries < 2 ^ 32 }
@@ -195,7 +195,7 @@ fn put_last<W: Write>(out: &mut TextWriter<'_, W>, slots: u64)
     }
 }
 
-/// The last slot that was finished, the time, and the line's end.
+/// The last slot that was finished, and the time.
 fn put_moment<W: Write>(out: &mut TextWriter<'_, W>, moment: Moment)
     ensures { Grows W.contents out.old out.new (moment_text moment.slots moment.time_us) }
 {
@@ -203,27 +203,49 @@ fn put_moment<W: Write>(out: &mut TextWriter<'_, W>, moment: Moment)
     put_last(out, moment.slots);
     out.put_text(", ");
     out.put_number(moment.time_us);
-    out.put_text(" us)\n");
+    out.put_text(" us)");
 }
 
-/// The line of an expectation that isn't met, which was judged at this moment of a log.
+/// What is said of a judgement that isn't met, which was made at this moment of a log, without the
+/// line's end.
+pub(crate) fn put_missed<W: Write>(
+    out: &mut TextWriter<'_, W>,
+    file: &str,
+    cluster: &Cluster,
+    moment: Moment,
+    judgement: &Judgement,
+)
+    ensures { (log : List LogEntry)
+        → moment ≡ moment_of cluster.now (past_at log judgement.now.entries)
+        → Grows W.contents out.old out.new
+        (placed_missed file.now cluster.now log judgement.now) }
+{
+    put_placed(out, file, judgement.line);
+    put_judged(out, cluster, &judgement.judged);
+    put_moment(out, moment);
+}
+
+/// The line of a judgement, which was made at this moment of a log, where it isn't met.
 fn put_unmet<W: Write>(
     out: &mut TextWriter<'_, W>,
     file: &str,
     cluster: &Cluster,
     moment: Moment,
-    unmet: &Unmet,
+    judgement: &Judgement,
 )
-    ensures { (log : List LogEntry) → moment ≡ moment_of cluster.now (past_at log unmet.now.entries)
-        → Grows W.contents out.old out.new (placed_unmet file.now cluster.now log unmet.now) }
+    ensures { (log : List LogEntry)
+        → moment ≡ moment_of cluster.now (past_at log judgement.now.entries)
+        → Grows W.contents out.old out.new
+        (placed_unmet file.now cluster.now log judgement.now) }
 {
-    put_placed(out, file, unmet.line);
-    put_judged(out, cluster, &unmet.expected, &unmet.got);
-    put_moment(out, moment);
+    if is_unmet(&judgement.judged) {
+        put_missed(out, file, cluster, moment, judgement);
+        out.put_byte(b'\n');
+    }
 }
 
 /// As many entries as a log has at most.
-fn within(log: &Log, entries: usize) -> usize
+pub(crate) fn within(log: &Log, entries: usize) -> usize
     ensures there { result ≤ length log.now.entries }
     ensures few { result < 2 ^ 32 }
     ensures same { past_at log.now.entries result ≡ past_at log.now.entries entries }
@@ -236,14 +258,14 @@ fn put_all_unmet<W: Write>(
     file: &str,
     cluster: &Cluster,
     log: &Log,
-    unmet: &[Unmet],
+    judgements: &[Judgement],
 )
     ensures { Grows W.contents out.old out.new
-        (flat_map (placed_unmet file.now cluster.now log.now.entries) unmet.now) }
+        (flat_map (placed_unmet file.now cluster.now log.now.entries) judgements.now) }
 {
     let mut read = 0;
     let mut moment = Moment::new();
-    for one in unmet {
+    for one in judgements {
         let entries = within(log, one.entries);
         moment = moment.at(cluster, log, read, entries);
         read = entries;
@@ -251,7 +273,7 @@ fn put_all_unmet<W: Write>(
     }
 }
 
-/// Writes a line for each expectation that a log doesn't meet, in order:
+/// Writes a line for each judgement that isn't met, in order:
 /// `FILE:LINE: expected WHAT: GOT (slot N, T us)`, with the number, from 0, of the last slot that
 /// was finished when it was judged, and the time in microseconds.
 ///
@@ -262,13 +284,13 @@ pub(crate) fn write_placed_unmet<W: Write>(
     file: &str,
     cluster: &Cluster,
     log: &Log,
-    unmet: &[Unmet],
+    judgements: &[Judgement],
     writer: &mut W,
 ) -> Result<(), WriteFailed>
     ensures { WritesText (W.contents writer.old) (W.contents writer.new) result
-        (flat_map (placed_unmet file.now cluster.now log.now.entries) unmet.now) }
+        (flat_map (placed_unmet file.now cluster.now log.now.entries) judgements.now) }
 {
     let mut out = TextWriter::new(writer);
-    put_all_unmet(&mut out, file, cluster, log, unmet);
+    put_all_unmet(&mut out, file, cluster, log, judgements);
     out.finish()
 }

@@ -6,16 +6,17 @@ ghost use Rattle.std.specs.Io.KnownBytes.{Keeps};
 ghost use Rattle.lin_text.specs.Written.{WritesText};
 ghost use Rattle.lin_tool.specs.Formats.{log_as};
 ghost use Rattle.lin_tool.specs.Placing.{bad_text, missed_text};
-ghost use Rattle.lin_tool.specs.Playing.{Judges, PlaysScript, ReadsLines, TellsBad, WritesPlayed};
+ghost use Rattle.lin_tool.specs.Playing.{Judges, PlaysScript, ReadsLines, TellsBad, WritesPlayed, told_text};
 
 use crate::fault::Fault;
 use crate::formats::{Format, write_shown};
 use crate::notes::Notes;
 use crate::opening::{Opened, Settings, begin, within_limits};
 use crate::placing::{write_bad_lines, write_placed_unmet};
+use crate::tally::write_tally;
 use lin_bench::{
-    Line, Played, ReadFault, Reason, Unmet, bad_lines, play as play_lines, read, write_bad_line,
-    write_unmet,
+    Judgement, Line, Played, ReadFault, Reason, bad_lines, play as play_lines, read, some_unmet,
+    write_bad_line, write_unmet,
 };
 use lin_cluster_parts::Cluster;
 use lin_core::Core;
@@ -89,54 +90,76 @@ fn bench_lines<E: Write>(
     }
 }
 
-/// Writes a line for each expectation that isn't met; where the script has a name, with the place.
+/// Writes a line for each judgement that isn't met; where the script has a name, with the place.
 ///
 /// # Errors
 /// `WriteFailed`, where what was written is the beginning of the lines.
 fn tell_unmet<E: Write>(
     core: &Core,
     named: Option<&str>,
-    unmet: &[Unmet],
+    judgements: &[Judgement],
     errors: &mut E,
 ) -> Result<(), WriteFailed>
     ensures { WritesText (E.contents errors.old) (E.contents errors.new) result
-        (missed_text named.entry core.now.cluster core.now.log unmet.now) }
+        (missed_text named.entry core.now.cluster core.now.log judgements.now) }
 {
     match named {
-        None => write_unmet(core.cluster(), unmet, errors),
-        Some(file) => write_placed_unmet(file, core.cluster(), core.log(), unmet, errors),
+        None => write_unmet(core.cluster(), judgements, errors),
+        Some(file) => { write_placed_unmet(file, core.cluster(), core.log(), judgements, errors) }
     }
 }
 
-/// Writes to `errors` a line for each expectation that isn't met; where the script has a name, with
-/// the place.
+/// The same, and a last line where the play is strict.
 ///
 /// # Errors
-/// `Unmet` where there is one.
+/// `WriteFailed`, where what was written is the beginning of the lines.
+fn tell<E: Write>(
+    core: &Core,
+    named: Option<&str>,
+    is_strict: bool,
+    judgements: &[Judgement],
+    errors: &mut E,
+) -> Result<(), WriteFailed>
+    ensures { WritesText (E.contents errors.old) (E.contents errors.new) result
+        (told_text named.entry is_strict core.now.cluster core.now.log judgements.now) }
+{
+    tell_unmet(core, named, judgements, errors)?;
+    if is_strict {
+        write_tally(core, judgements, errors)
+    } else {
+        Ok(())
+    }
+}
+
+/// Writes to `errors` what is told of judgements.
+///
+/// # Errors
+/// `Unmet` where one isn't met.
 fn judge<E: Write>(
     core: &Core,
     named: Option<&str>,
-    unmet: &[Unmet],
+    is_strict: bool,
+    judgements: &[Judgement],
     errors: &mut E,
 ) -> Result<(), Fault>
-    ensures { Judges result unmet.now
-        (missed_text named.entry core.now.cluster core.now.log unmet.now)
+    ensures { Judges result judgements.now
+        (told_text named.entry is_strict core.now.cluster core.now.log judgements.now)
         (E.contents errors.old) (E.contents errors.new) }
 {
-    if unmet.is_empty() {
-        return Ok(());
+    let told = tell(core, named, is_strict, judgements, errors);
+    if some_unmet(judgements) {
+        Err(Fault::Unmet { told })
+    } else {
+        Ok(())
     }
-    Err(Fault::Unmet {
-        told: tell_unmet(core, named, unmet, errors),
-    })
 }
 
 /// Writes the log of a run that opened with this table and capacity in a format, and then to
-/// `errors` a line for each expectation that isn't met.
+/// `errors` what is told of its judgements.
 ///
 /// # Errors
 /// `WriteFailed`, and in a format other than the log's own text `OutOfMemory`, where what was
-/// written is the beginning of the whole; `Unmet` after all was written, where an expectation isn't
+/// written is the beginning of the whole; `Unmet` after all was written, where a judgement isn't
 /// met.
 fn put_played<W: Write, E: Write>(
     alloc: Global,
@@ -145,25 +168,27 @@ fn put_played<W: Write, E: Write>(
     table: u16,
     capacity: usize,
     named: Option<&str>,
-    unmet: &[Unmet],
+    is_strict: bool,
+    judgements: &[Judgement],
     writer: &mut W,
     errors: &mut E,
 ) -> Result<(), Fault>
     ensures { WritesPlayed format.entry
-        (log_as format.entry core.now.cluster table capacity core.now.log unmet.now) unmet.now
-        (missed_text named.entry core.now.cluster core.now.log unmet.now) result
+        (log_as format.entry core.now.cluster table capacity core.now.log judgements.now)
+        judgements.now
+        (told_text named.entry is_strict core.now.cluster core.now.log judgements.now) result
         (W.contents writer.old) (W.contents writer.new)
         (E.contents errors.old) (E.contents errors.new) }
 {
-    write_shown(alloc, format, core, table, capacity, unmet, writer)?;
-    judge(core, named, unmet, errors)
+    write_shown(alloc, format, core, table, capacity, judgements, writer)?;
+    judge(core, named, is_strict, judgements, errors)
 }
 
 /// Reads a bench script, makes the steps that its lines say over a cluster, and writes their log in
-/// a format; for each expectation that isn't met, and for a bad line, a line goes to `errors`.
-/// Where the script has a name, these lines begin with it, each bad line has one, and an
-/// expectation that isn't met ends with the last slot that was finished, and the time. The notes
-/// tell which steps were refused.
+/// a format; for each judgement that isn't met, and for a bad line, a line goes to `errors`.
+/// Where the script has a name, these lines begin with it, each bad line has one, and that of a
+/// judgement ends with the last slot that was finished, and the time. Where the play is strict, as
+/// `lin_bench::play` says, a line of numbers is the last. The notes tell which steps were refused.
 ///
 /// It begins with the schedule table `table`; each host may have `capacity` messages waiting, 1 to
 /// 1,024. (The core's memory is left to the end of the program: it would be let go of entry by
@@ -173,8 +198,7 @@ fn put_played<W: Write, E: Write>(
 /// `BadBenchLine`, `SlotLimit` and `ScriptTooLong` for a fault of the script; `ReadFailed` where
 /// the reader answers an error. No log was written then. `OutOfMemory`, where none was written, or
 /// in a format other than the log's own text a beginning. `WriteFailed`, where what was written is
-/// the beginning of the whole. `Unmet`, after all of it was written, where an expectation isn't
-/// met.
+/// the beginning of the whole. `Unmet`, after all of it was written, where a judgement isn't met.
 pub fn play_script<R: Read, W: Write, E: Write>(
     alloc: Global,
     cluster: Cluster,
@@ -182,6 +206,7 @@ pub fn play_script<R: Read, W: Write, E: Write>(
     capacity: usize,
     format: Format<'_>,
     named: Option<&str>,
+    is_strict: bool,
     reader: &mut R,
     writer: &mut W,
     errors: &mut E,
@@ -189,13 +214,16 @@ pub fn play_script<R: Read, W: Write, E: Write>(
 ) -> Result<(), Fault>
     requires table { table < length cluster.tables }
     requires capacity { (1 ≤ capacity) × (capacity ≤ 1024) }
-    ensures { PlaysScript format.entry named.entry cluster table capacity result (R.remaining reader.old)
+    ensures { PlaysScript format.entry named.entry is_strict cluster table capacity result
+        (R.remaining reader.old)
         (W.contents writer.old) (W.contents writer.new)
         (E.contents errors.old) (E.contents errors.new) }
 {
     let bytes = read_bytes(alloc, reader)?;
     let lines = bench_lines(alloc, &cluster, bytes.as_slice(), named, errors, notes)?;
-    let Played { core, unmet } = play_lines(alloc, cluster, table, capacity, lines)?;
+    let Played { core, judgements } = play_lines(
+        alloc, cluster, table, capacity, lines, is_strict,
+    )?;
     let judged = put_played(
         alloc,
         format,
@@ -203,7 +231,8 @@ pub fn play_script<R: Read, W: Write, E: Write>(
         table,
         capacity,
         named,
-        unmet.as_slice(),
+        is_strict,
+        judgements.as_slice(),
         writer,
         errors,
     );
@@ -231,6 +260,7 @@ fn play_read<R: AllocGlobal + Print, S: Read, E: Write>(
         within_limits(settings.capacity),
         settings.format,
         notes.script(),
+        settings.is_strict,
         script,
         &mut io::writer(rt),
         errors,

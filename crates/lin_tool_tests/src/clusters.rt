@@ -58,7 +58,7 @@ pub fn played(alloc: Global, ldf: &[u8], text: &[u8]) -> Result<Played, Fail> {
     if lines.len() > 16_777_217 {
         return Err(Fail::from("too many lines"));
     }
-    match play(alloc, cluster, 0, 16, lines) {
+    match play(alloc, cluster, 0, 16, lines, false) {
         Ok(played) => Ok(played),
         Err(PlayFault::SlotLimit { .. }) => Err(Fail::from("slot limit")),
         Err(PlayFault::LogFull) => Err(Fail::from("log full")),
@@ -70,7 +70,11 @@ pub fn played(alloc: Global, ldf: &[u8], text: &[u8]) -> Result<Played, Fail> {
 pub fn unmet_of(alloc: Global, ldf: &[u8], text: &[u8]) -> Result<Vec<u8>, Fail> {
     let played = played(alloc, ldf, text)?;
     let mut written = Vec::new(alloc);
-    write_unmet(played.core.cluster(), played.unmet.as_slice(), &mut written)?;
+    write_unmet(
+        played.core.cluster(),
+        played.judgements.as_slice(),
+        &mut written,
+    )?;
     Ok(written)
 }
 

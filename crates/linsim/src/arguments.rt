@@ -14,7 +14,7 @@ const RUN_NOTE: &str =
     "The script's steps are the hosts' own: sends, writes and closes, each by its host's port. They are put while the slots run,\nso where a step stands among the slots isn't fixed; the log, read by replay, is written again.";
 
 const PLAY_NOTE: &str =
-    "A bench script has the steps of replay's scripts, and lines of its own: slot, slots N, slots N ms, slots N until WHAT,\nslots idle, slot hurt BYTES, slot leave NODE.., expect WHAT, forget; and rules, which are in force from their line on:\nwhen NODE PATTERN answer BYTES (silent), timeouts N ms, every N ms STEP, response_errors on. Nodes, signals and schedule\ntables stand by their names or numbers. A bad line, and each expectation that isn't met, is a line on standard error; the\nlog is written before expectations are told.\n\nExample: linsim play door.ldf door.bench > door.log";
+    "A bench script has the steps of replay's scripts, and lines of its own: slot, slots N, slots N ms, slots N until WHAT,\nslots idle, slot hurt BYTES, slot leave NODE.., expect WHAT, forget; and rules, which are in force from their line on:\nwhen NODE PATTERN answer BYTES (silent), timeouts N ms, every N ms STEP, response_errors on. Nodes, signals and schedule\ntables stand by their names or numbers. A bad line, and each expectation that isn't met, is a line on standard error; the\nlog is written before expectations are told. The format junit is a report of what was judged, and not of the log.\n\nExample: linsim play door.ldf door.bench > door.log";
 
 const LIVE_NOTE: &str =
     "Lines are those of bench scripts, and questions: ? signal NODE SIGNAL, ? waiting NODE, ? idle, ? time, ? asleep, ? next.\nEach is answered before the next is read: the log of its entries, and a line that begins with #.\n\nExample: linsim live door.ldf < door.bench";
@@ -52,11 +52,16 @@ fn capacity<'a>(alloc: Global) -> Arg<'a> {
 /// The words for the formats.
 static FORMATS: [&str; 7] = ["log", "named", "csv", "jsonl", "pcap", "vcd", "html"];
 
-fn format<'a>(alloc: Global) -> Arg<'a> {
+/// Those of a play.
+static PLAY_FORMATS: [&str; 8] = [
+    "log", "named", "csv", "jsonl", "pcap", "vcd", "html", "junit",
+];
+
+fn format<'a>(alloc: Global, words: &'a [&'a str]) -> Arg<'a> {
     Arg::new(alloc, "to")
         .long("to")
         .value_name("FORMAT")
-        .value_parser(FORMATS.as_slice())
+        .value_parser(words)
         .default_value("log")
         .help("The format in which the log is written")
 }
@@ -96,6 +101,12 @@ fn script_places<'a>(alloc: Global) -> Arg<'a> {
     flag(alloc, "where", help)
 }
 
+fn strict<'a>(alloc: Global) -> Arg<'a> {
+    let help =
+        "Judges refused steps too, of which the script doesn't speak, and what is left out in vain; ends with a line of numbers on standard error";
+    flag(alloc, "strict", help)
+}
+
 fn explain<'a>(alloc: Global) -> Arg<'a> {
     let help = "Says more of faults, findings and refused steps, on standard error";
     flag(alloc, "explain", help)
@@ -119,7 +130,7 @@ fn replay<'a>(alloc: Global) -> Result<Command<'a>, AllocError> {
         .arg(file(alloc))?
         .arg(table(alloc))?
         .arg(capacity(alloc))?
-        .arg(format(alloc))?
+        .arg(format(alloc, FORMATS.as_slice()))?
         .arg(same(alloc)?)?
         .arg(explain(alloc))
 }
@@ -147,7 +158,7 @@ fn run<'a>(alloc: Global) -> Result<Command<'a>, AllocError> {
         .arg(slots(alloc))?
         .arg(table(alloc))?
         .arg(capacity(alloc))?
-        .arg(format(alloc))?
+        .arg(format(alloc, FORMATS.as_slice()))?
         .arg(explain(alloc))
 }
 
@@ -161,8 +172,9 @@ fn play<'a>(alloc: Global) -> Result<Command<'a>, AllocError> {
         .arg(script(alloc))?
         .arg(table(alloc))?
         .arg(capacity(alloc))?
-        .arg(format(alloc))?
+        .arg(format(alloc, PLAY_FORMATS.as_slice()))?
         .arg(script_places(alloc))?
+        .arg(strict(alloc))?
         .arg(explain(alloc))
 }
 
@@ -209,8 +221,8 @@ pub(crate) enum Request<'a> {
     },
     /// `linsim live FILE [--table T] [--capacity N]`
     Live(Settings<'a>),
-    /// `linsim play FILE [SCRIPT] [--table T] [--capacity N] [--to FORMAT] [--where]`; without a
-    /// script's file it is read from standard input.
+    /// `linsim play FILE [SCRIPT] [--table T] [--capacity N] [--to FORMAT] [--where] [--strict]`;
+    /// without a script's file it is read from standard input.
     Play {
         settings: Settings<'a>,
         script: Option<&'a str>,
@@ -256,7 +268,7 @@ fn wanted_of<'a>(matches: &ArgMatches<'a>) -> Wanted<'a> {
         "play" if found.get_flag("where") => Wanted {
             explained,
             file: found.get_str("file"),
-            script: Some(found.get_str("script").unwrap_or("-")),
+            script: Some(script_of(found)),
         },
         _ => Wanted {
             explained,
@@ -274,7 +286,23 @@ fn settings_of<'a>(found: &ArgMatches<'a>) -> Settings<'a> {
         table: found.get_str("table"),
         capacity: found.get_one::<u16>("capacity").unwrap_or(16),
         format: format_of(found.get_str("to"), file),
+        is_strict: false,
     }
+}
+
+/// What a play begins with. A report tells the script by its name, as `--where` does.
+fn play_settings_of<'a>(found: &ArgMatches<'a>) -> Settings<'a> {
+    let mut settings = settings_of(found);
+    settings.is_strict = found.get_flag("strict");
+    if found.get_str("to") == Some("junit") {
+        settings.format = Format::Junit(script_of(found));
+    }
+    settings
+}
+
+/// The name of a bench script: its file as it was given, `-` for standard input.
+fn script_of<'a>(found: &ArgMatches<'a>) -> &'a str {
+    found.get_str("script").unwrap_or("-")
 }
 
 fn request_of<'a>(matches: &ArgMatches<'a>) -> Option<Request<'a>> {
@@ -288,7 +316,7 @@ fn request_of<'a>(matches: &ArgMatches<'a>) -> Option<Request<'a>> {
         }),
         Some(("live", found)) => Some(Request::Live(settings_of(found))),
         Some(("play", found)) => Some(Request::Play {
-            settings: settings_of(found),
+            settings: play_settings_of(found),
             script: found.get_str("script").filter(|path| *path != "-"),
         }),
         Some(("replay", found)) if found.get_flag("same") => {

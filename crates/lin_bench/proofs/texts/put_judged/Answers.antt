@@ -2,4 +2,4 @@ use Rattle.lin_text.proofs.Growing.{grows-more}
 use Rattle.lin_bench.proofs.texts.put_judged.Goals as goal
 
 pub returns : goal.returns
-returns g c = grows-more c.put_text.ensures (grows-more c.put_expected.ensures (grows-more c.put_byte.ensures c.put_got.ensures))
+returns g c = grows-more c.put_text.ensures (grows-more c.put_what.ensures (grows-more c.put_byte.ensures c.put_found.ensures))

@@ -13,7 +13,7 @@ returns-in_err-write_log_page g c =
     let failed = c.from_residual.ensures.0 in
     written-short TAIL.now failed refl
     (written-short (first_slots x log) failed refl
-    (written-short (flat_map (unmet_line x) c.args.unmet.now ++ MIDDLE.now ++ summary x log) failed refl
+    (written-short (flat_map (unmet_line x) c.args.judgements.now ++ MIDDLE.now ++ summary x log) failed refl
     c.write_log_page.ensures))
 
 pub returns-in_err-write_middle : goal.returns-in_err-write_middle

@@ -2,7 +2,7 @@ use Rattle.std.proofs.Common.{sym, ap}
 use Rattle.lin_text.proofs.Growing.{grows-more, same-growth}
 use Rattle.lin_tool.specs.Placing.{moment_text}
 use Rattle.lin_tool.specs.declared.placing.Moment.{Moment}
-use Rattle.lin_tool.proofs.placing.put_unmet.Goals as goal
+use Rattle.lin_tool.proofs.placing.put_missed.Goals as goal
 
 pub returns : goal.returns
 returns g c = λ log is.

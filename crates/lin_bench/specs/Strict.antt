@@ -1,0 +1,64 @@
+-- What a strict play judges of a line, beside what the line expects.
+use Rattle.std.specs.Prelude.{ℕ, ◌-◌, Bool, true, false, not, is_some, if◌then◌else◌, List, []}
+use Rattle.std.specs.Prelude.{◌∷◌, drop, find, length, option_map, reverse, take, Option, Some, None}
+use Rattle.std.specs.List.{list_any}
+use Rattle.std.specs.Option.{option_map_or, option_or}
+use Rattle.lin_core.specs.History.{is_in}
+use Rattle.lin_core.specs.declared.log.LogEntry.{LogEntry}
+use Rattle.lin_core.specs.declared.reply.Refusal.{Refusal}
+use Rattle.lin_core.specs.declared.reply.Reply.{Reply}
+use Rattle.lin_core.specs.declared.reply.Reply.TheVariants.{Done, Refused}
+use Rattle.lin_bench.specs.Made.{expects}
+use Rattle.lin_bench.specs.Slots.{due_in, leave_nodes}
+use Rattle.lin_bench.specs.declared.expected.Expected.TheVariants as expected
+use Rattle.lin_bench.specs.declared.got.Got.TheVariants as got
+use Rattle.lin_bench.specs.declared.got.Judged.{Judged}
+use Rattle.lin_bench.specs.declared.got.Judged.TheVariants.{Unmet, NotDue}
+use Rattle.lin_bench.specs.declared.line.Line.{Line}
+use Rattle.lin_bench.specs.declared.line.Line.TheVariants as line
+
+-- the entries by which a history grew, the oldest first
+abbrev pub entries_since : List LogEntry → List LogEntry → List LogEntry
+entries_since past later = drop (length past) (reverse later)
+
+abbrev pub refusal_in : Reply → Option Refusal
+refusal_in (Done events) = None
+refusal_in (Refused why) = Some why
+
+-- the first refusal among entries
+abbrev pub first_refusal : List LogEntry → Option Refusal
+first_refusal [] = None
+first_refusal (e ∷ es) = option_or (refusal_in e.reply) (first_refusal es)
+
+-- whether what a line expects, if there is one, is said of the last step before it
+abbrev pub speaks_of_last : Option (ℕ × Line) → Bool
+speaks_of_last (Some (n, line.Expect expected.Done)) = true
+speaks_of_last (Some (n, line.Expect (expected.Refused why))) = true
+speaks_of_last other = false
+
+-- the entries of a line that count: all but the last one where the next line speaks of that
+abbrev pub counted : Bool → List LogEntry → List LogEntry
+counted is_told es = if is_told then take (length es - 1) es else es
+
+-- the nodes whose responses a line leaves out
+abbrev pub left_out : Line → List ℕ
+left_out (line.Slot how) = leave_nodes how
+left_out line = []
+
+-- the first of these nodes that isn't due in the slot which the first of a line's entries opened
+abbrev pub not_due : List ℕ → List LogEntry → Option ℕ
+not_due nodes [] = None
+not_due nodes (e ∷ es) =
+    option_map_or (λ due. find (λ node. not (is_in due node)) nodes) (due_in e.reply) None
+
+-- what is judged of a line's entries, the oldest first: that none of those that count was refused,
+-- and where none at all was, that the nodes whose responses it leaves out were due
+abbrev pub strictly : List ℕ → Bool → List LogEntry → Option Judged
+strictly nodes is_told es =
+    if is_some (first_refusal es)
+    then option_map (λ why. Unmet expected.Done (got.Refused why)) (first_refusal (counted is_told es))
+    else option_map (λ node. NotDue node) (not_due nodes es)
+
+-- some line of a script expects something
+abbrev pub expects_something : List (ℕ × Line) → Bool
+expects_something ls = list_any (λ (l : ℕ × Line). is_some (expects l.1)) ls

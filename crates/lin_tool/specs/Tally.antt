@@ -1,0 +1,32 @@
+-- A play in numbers, as the last line of a strict one says them.
+use Rattle.std.specs.Prelude.{ℕ, List, ◌++◌, length, reverse, sum_by, codes}
+use Rattle.std.specs.List.{count_by}
+use Rattle.std.specs.Fmt.{decimal}
+use Rattle.lin_frame.specs.Words.{numbers}
+use Rattle.lin_cluster_parts.specs.Cluster.{nodes}
+use Rattle.lin_cluster_parts.specs.declared.parts.Parts.{Parts}
+use Rattle.lin_core.specs.History.{time}
+use Rattle.lin_core.specs.Links.{waiting}
+use Rattle.lin_core.specs.declared.log.LogEntry.{LogEntry}
+use Rattle.lin_bench.specs.Played.{is_unmet}
+use Rattle.lin_bench.specs.declared.got.Judgement.{Judgement}
+use Rattle.lin_page.specs.Page.{events_so, is_lost, is_refusal, is_seen}
+
+-- how many messages wait, of all hosts
+abbrev pub waiting_in : Parts → List LogEntry → ℕ
+waiting_in c past = sum_by (λ h. length (waiting c past h)) (numbers (nodes c))
+
+-- a number, and what it counts
+abbrev pub counted : ℕ → List ℕ → List ℕ
+counted count word = decimal count ++ word
+
+abbrev pub tally_text : Parts → List LogEntry → List Judgement → List ℕ
+tally_text c log js =
+    codes "play: "
+    ++ (counted (length js) (codes " expected, ")
+    ++ (counted (count_by (λ (j : Judgement). is_unmet j.judged) js) (codes " unmet, ")
+    ++ (counted (events_so is_seen log) (codes " slots, ")
+    ++ (counted (time c (reverse log)) (codes " us, ")
+    ++ (counted (count_by (λ (e : LogEntry). is_refusal e.reply) log) (codes " refused, ")
+    ++ (counted (events_so is_lost log) (codes " lost, ")
+    ++ counted (waiting_in c (reverse log)) (codes " waiting\n")))))))

@@ -1,0 +1,225 @@
+//! The judgements of a play as a report for what reads those of tests (JUnit's, in XML 1.0).
+
+ghost use Rattle.std.specs.Prelude.{◌≡◌, ◌++◌, [], codes, drop, flat_map, IfOk, List, Some, ℕ};
+ghost use Rattle.std.specs.Option.{option_map_or};
+ghost use Rattle.lin_core.specs.declared.log.LogEntry.{LogEntry};
+ghost use Rattle.lin_log.specs.Words.{spaced_word};
+ghost use Rattle.lin_bench.specs.Texts.{found_text, what_text};
+ghost use Rattle.lin_export.specs.Putting.{PutsAll};
+ghost use Rattle.lin_text.specs.Written.{Grows, WritesText};
+ghost use Rattle.lin_tool.specs.Junit.{case_end, case_name, case_text, escaped, escaped_text, head};
+ghost use Rattle.lin_tool.specs.Junit.{junit};
+ghost use Rattle.lin_tool.specs.Placing.{moment_of, past_at, placed_missed};
+
+use crate::placing::{Moment, put_missed, within};
+use crate::tally::unmet_in;
+use lin_bench::{Judged, Judgement, is_unmet, put_found, put_what};
+use lin_cluster_parts::Cluster;
+use lin_core::Log;
+use lin_export::ExportFault;
+use lin_text::TextWriter;
+use std::alloc::{AllocError, Global};
+use std::io::Write;
+
+/// A byte as it stands in XML: `?` for one that isn't printable.
+fn put_escaped_byte<W: Write>(out: &mut TextWriter<'_, W>, byte: u8)
+    ensures { Grows W.contents out.old out.new (escaped byte) }
+{
+    if byte == b'&' {
+        out.put_text("&amp;");
+    } else if byte == b'<' {
+        out.put_text("&lt;");
+    } else if byte == b'>' {
+        out.put_text("&gt;");
+    } else if byte == b'"' {
+        out.put_text("&quot;");
+    } else if 32 <= byte && byte <= 126 {
+        out.put_byte(byte);
+    } else {
+        out.put_byte(b'?');
+    }
+}
+
+fn put_escaped<W: Write>(out: &mut TextWriter<'_, W>, text: &[u8])
+    ensures { Grows W.contents out.old out.new (escaped_text text.now) }
+{
+    for byte in text {
+        put_escaped_byte(out, *byte);
+    }
+}
+
+/// What was judged, with a space before it. An error means out of memory.
+fn what_text(alloc: Global, cluster: &Cluster, judged: &Judged) -> Result<Vec<u8>, AllocError>
+    ensures { IfOk result (λ v. v.items ≡ spaced_word (what_text cluster.now judged.now)) }
+{
+    let mut text = Vec::new(alloc);
+    let mut out = TextWriter::new(&mut text);
+    put_what(&mut out, cluster, judged);
+    match out.finish() {
+        Ok(()) => Ok(text),
+        Err(_) => Err(AllocError),
+    }
+}
+
+/// What is so in its place, with a space before it. An error means out of memory.
+fn found_text(alloc: Global, cluster: &Cluster, judged: &Judged) -> Result<Vec<u8>, AllocError>
+    ensures { IfOk result (λ v. v.items
+        ≡ option_map_or spaced_word (found_text cluster.now judged.now) []) }
+{
+    let mut text = Vec::new(alloc);
+    let mut out = TextWriter::new(&mut text);
+    put_found(&mut out, cluster, judged);
+    match out.finish() {
+        Ok(()) => Ok(text),
+        Err(_) => Err(AllocError),
+    }
+}
+
+/// What is said of a judgement that isn't met, which was made at this moment of a log. An error
+/// means out of memory.
+fn missed_text(
+    alloc: Global,
+    file: &str,
+    cluster: &Cluster,
+    moment: Moment,
+    judgement: &Judgement,
+) -> Result<Vec<u8>, AllocError>
+    ensures { IfOk result (λ v. (log : List LogEntry)
+        → moment ≡ moment_of cluster.now (past_at log judgement.now.entries)
+        → v.items ≡ placed_missed file.now cluster.now log judgement.now) }
+{
+    let mut text = Vec::new(alloc);
+    let mut out = TextWriter::new(&mut text);
+    put_missed(&mut out, file, cluster, moment, judgement);
+    match out.finish() {
+        Ok(()) => Ok(text),
+        Err(_) => Err(AllocError),
+    }
+}
+
+/// What was judged of a line, under the script's name.
+fn put_name<W: Write>(out: &mut TextWriter<'_, W>, file: &str, line: u64, what: &[u8])
+    ensures { (text : List ℕ) → what.now ≡ spaced_word text
+        → Grows W.contents out.old out.new (case_name file.now line text) }
+{
+    out.put_text("<testcase classname=\"");
+    put_escaped(out, file.as_bytes());
+    out.put_text("\" name=\"line ");
+    out.put_number(line);
+    out.put_text(":");
+    put_escaped(out, what);
+    out.put_text("\"");
+}
+
+/// What is so in its place, and what is said of that.
+fn put_failure<W: Write>(out: &mut TextWriter<'_, W>, found: &[u8], missed: &[u8])
+    ensures { (text : List ℕ) → found.now ≡ spaced_word text
+        → Grows W.contents out.old out.new (case_end missed.now (Some text)) }
+{
+    out.put_text(">\n<failure message=\"");
+    put_escaped(out, without_space(found));
+    out.put_text("\">");
+    put_escaped(out, missed);
+    out.put_text("</failure>\n</testcase>\n");
+}
+
+/// A text without the space before it.
+fn without_space(text: &[u8]) -> &[u8]
+    ensures { result.now ≡ drop 1 text.now }
+{
+    match text {
+        [_, rest @ ..] => rest,
+        [] => text,
+    }
+}
+
+/// The case of a judgement at this moment of a log. An error means out of memory; nothing was put
+/// then.
+fn put_case<W: Write>(
+    out: &mut TextWriter<'_, W>,
+    alloc: Global,
+    file: &str,
+    cluster: &Cluster,
+    moment: Moment,
+    judgement: &Judgement,
+) -> Result<(), AllocError>
+    ensures { (log : List LogEntry)
+        → moment ≡ moment_of cluster.now (past_at log judgement.now.entries)
+        → PutsAll W.contents out.old out.new result
+        (case_text file.now cluster.now log judgement.now) }
+{
+    let judged = &judgement.judged;
+    let what = what_text(alloc, cluster, judged)?;
+    if is_unmet(judged) {
+        let found = found_text(alloc, cluster, judged)?;
+        let missed = missed_text(alloc, file, cluster, moment, judgement)?;
+        put_name(out, file, judgement.line, what.as_slice());
+        put_failure(out, found.as_slice(), missed.as_slice());
+    } else {
+        put_name(out, file, judgement.line, what.as_slice());
+        out.put_text("/>\n");
+    }
+    Ok(())
+}
+
+/// The cases, and what stands after them.
+fn put_cases<W: Write>(
+    out: &mut TextWriter<'_, W>,
+    alloc: Global,
+    file: &str,
+    cluster: &Cluster,
+    log: &Log,
+    judgements: &[Judgement],
+) -> Result<(), AllocError>
+    ensures { PutsAll W.contents out.old out.new result
+        (flat_map (case_text file.now cluster.now log.now.entries) judgements.now
+        ++ codes "</testsuite>\n</testsuites>\n") }
+{
+    let mut read = 0;
+    let mut moment = Moment::new();
+    for one in judgements {
+        let entries = within(log, one.entries);
+        moment = moment.at(cluster, log, read, entries);
+        read = entries;
+        put_case(out, alloc, file, cluster, moment, one)?;
+    }
+    out.put_text("</testsuite>\n</testsuites>\n");
+    Ok(())
+}
+
+/// What stands before the cases: how many there are, and how many fail.
+fn put_head<W: Write>(out: &mut TextWriter<'_, W>, file: &str, judgements: &[Judgement])
+    ensures { Grows W.contents out.old out.new (head file.now judgements.now) }
+{
+    out.put_text("<?xml version=\"1.0\" encoding=\"UTF-8\"?>\n<testsuites>\n<testsuite name=\"");
+    put_escaped(out, file.as_bytes());
+    out.put_text("\" tests=\"");
+    out.put_number(judgements.len());
+    out.put_text("\" failures=\"");
+    out.put_number(unmet_in(judgements));
+    out.put_text("\" errors=\"0\" skipped=\"0\">\n");
+}
+
+/// Writes the judgements of a play as a report for what reads those of tests: a case for each, in
+/// order, under the name of the script. Bytes that aren't 20 to 7E are `?`.
+///
+/// # Errors
+/// `OutOfMemory` and `WriteFailed`, where what was written is the beginning of the report.
+pub(crate) fn write_junit<W: Write>(
+    alloc: Global,
+    file: &str,
+    cluster: &Cluster,
+    log: &Log,
+    judgements: &[Judgement],
+    writer: &mut W,
+) -> Result<(), ExportFault>
+    ensures { WritesText (W.contents writer.old) (W.contents writer.new) result
+        (junit file.now cluster.now log.now.entries judgements.now) }
+{
+    let mut out = TextWriter::new(writer);
+    put_head(&mut out, file, judgements);
+    let put = put_cases(&mut out, alloc, file, cluster, log, judgements);
+    out.finish()?;
+    put?;
+    Ok(())
+}
