@@ -19,7 +19,8 @@ use Rattle.lin_bench.specs.Fields.{fields}
 use Rattle.lin_bench.specs.Lines.{line_form, of_fields, read, read_line, read_lines, without_mark}
 use Rattle.lin_bench.specs.Plain.{NamedTexts, PlainScripts}
 use Rattle.lin_bench.specs.Made.{BenchState, course_of, made, said, stepped}
-use Rattle.lin_bench.specs.Played.{Run, first, in_turn, next}
+use Rattle.lin_bench.specs.Played.{come_to, first, in_turn, judged_from, next, with_judgements}
+use Rattle.lin_bench.specs.declared.got.Verdict.TheVariants.{Nothing}
 use Rattle.lin_bench.proofs.RuleLaws.{unchanged}
 use Rattle.lin_bench.specs.Rules.{no_rules}
 use Rattle.lin_bench.specs.Slots.{Course, after, past_after}
@@ -145,19 +146,32 @@ one-step c o room b s h =
     ∙ ap (λ (k : ℕ). record b { past = past; rules = no_rules; left = k }) left
     ∙ ap (λ (r : Rules). record b { past = past; rules = r }) (sym h)
 
-one-turn : (c : Parts) (o room : ℕ) (run : Run) (n : ℕ) (by : PortId) (step : Step) → run.bench.rules ≡ no_rules
-    → next c o room run (n, line.Step by step) ≡ Ok (record run { bench = record run.bench { past = entry_of c o room run.bench.past (by, step) ∷ run.bench.past } })
+one-turn : (c : Parts) (o room : ℕ) (b : BenchState) (n : ℕ) (by : PortId) (step : Step) → b.rules ≡ no_rules
+    → next c o room b (n, line.Step by step) ≡ Ok (record b { past = entry_of c o room b.past (by, step) ∷ b.past })
 unfolding made said
-one-turn c o room run n by step h =
-    let few : nat_lt run.bench.left 0 ≡ false = grind (arith, common_steps) in
-    rw few (ap (λ (b : BenchState). Ok (record run { bench = b })) (one-step c o room run.bench (by, step) h))
+one-turn c o room b n by step h =
+    let few : nat_lt b.left 0 ≡ false = grind (arith, common_steps) in
+    rw few (ap (λ (x : BenchState). Ok x) (one-step c o room b (by, step) h))
 
-turns : (c : Parts) (o room : ℕ) (run : Run) (ts : List (ℕ × (PortId × Step))) → run.bench.rules ≡ no_rules
-    → in_turn c o room (Ok run) (lines_of ts) ≡ Ok (record run { bench = record run.bench { past = past_after c o room run.bench.past (steps_of ts) } })
-turns c o room run [] h = refl
-turns c o room run (t ∷ ts) h =
-    ap (λ r. in_turn c o room r (lines_of ts)) (one-turn c o room run t.0 t.1.0 t.1.1 h)
-    ∙ turns c o room (record run { bench = record run.bench { past = entry_of c o room run.bench.past t.1 ∷ run.bench.past } }) ts h
+turns : (c : Parts) (o room : ℕ) (b : BenchState) (ts : List (ℕ × (PortId × Step))) → b.rules ≡ no_rules
+    → in_turn c o room (Ok b) (lines_of ts) ≡ Ok (record b { past = past_after c o room b.past (steps_of ts) })
+turns c o room b [] h = refl
+turns c o room b (t ∷ ts) h =
+    ap (λ r. in_turn c o room r (lines_of ts)) (one-turn c o room b t.0 t.1.0 t.1.1 h)
+    ∙ turns c o room (record b { past = entry_of c o room b.past t.1 ∷ b.past }) ts h
+
+-- a step expects nothing
+no-verdict : (c : Parts) (o room : ℕ) (b : BenchState) (by : PortId) (step : Step) → (made c o room b (line.Step by step)).1 ≡ Nothing
+unfolding made said
+no-verdict c o room b by step =
+    let few : nat_lt b.left 0 ≡ false = grind (arith, common_steps) in
+    rw few refl
+
+unjudged : (c : Parts) (o room : ℕ) (b : BenchState) (ts : List (ℕ × (PortId × Step)))
+    → judged_from false false c o room b (lines_of ts) ≡ []
+unjudged c o room b [] = refl
+unjudged c o room b (t ∷ ts) =
+    rw (no-verdict c o room b t.1.0 t.1.1) (unjudged c o room (made c o room b (line.Step t.1.0 t.1.1)).0 ts)
 
 -- ---- no text that says steps begins with the mark EF BB BF
 first-word : (x : ℕ) (ps : List (List ℕ)) → (x == 35) ≡ false
@@ -228,8 +242,9 @@ named-texts c opening capacity text steps e =
       lines = lines_of q.numbered;
       reading = rw (no-mark c text steps e) q.reading;
       steps_alone =
-          turns c opening capacity first q.numbered refl
-          ∙ ap (λ past. Ok (record first { bench = record first.bench { past = past } }))
+          ap (λ js. with_judgements js (come_to c opening capacity (lines_of q.numbered))) (unjudged c opening capacity first q.numbered)
+          ∙ ap (with_judgements []) (turns c opening capacity first q.numbered refl)
+          ∙ ap (λ past. Ok (record { bench = record first { past = past }; judgements = [] }))
           (after-history c opening capacity [] (steps_of q.numbered) ∙ ap (λ ss. history c opening capacity (reverse ss)) (sym q.steps_are));
     }
 

@@ -1,6 +1,6 @@
 -- Texts that say steps alone: those in the language of the cluster's names, as logs with names are,
 -- and the scripts that `replay` reads.
-use Rattle.std.specs.Prelude.{◌≡◌, ℕ, List, reverse, Ok}
+use Rattle.std.specs.Prelude.{◌≡◌, ℕ, false, List, [], reverse, Ok}
 use Rattle.lin_cluster_parts.specs.declared.parts.Parts.{Parts}
 use Rattle.lin_core.specs.Runs.{history}
 use Rattle.lin_core.specs.declared.port.PortId.{PortId}
@@ -19,9 +19,10 @@ pub record SaysSteps (c : Parts) (opening : ℕ) (capacity : ℕ) (text : List �
   pub lines : List (ℕ × Line)
   pub reading : read c text ≡ Ok lines
   pub steps_alone :
-      played c opening capacity lines
-      ≡ Ok (record first {
-        bench = record first.bench { past = history c opening capacity (reverse steps) };
+      played false c opening capacity lines
+      ≡ Ok (record {
+        bench = record first { past = history c opening capacity (reverse steps) };
+        judgements = [];
       })
 
 -- a script of `replay` says the same steps as a bench script

@@ -198,11 +198,7 @@ fn write_of(signal: &ErrorSignal, number: u16) -> (PortId, Step)
 }
 
 /// Adds the writes by which responders tell what they know of a slot.
-fn add_writes(
-    core: &Core,
-    ended: &Ended,
-    steps: &mut Vec<(PortId, Step)>,
-) -> Result<(), AllocError>
+fn add_writes(core: &Core, ended: &Ended, steps: &mut Vec<(PortId, Step)>) -> Result<(), AllocError>
     ensures { OnOk result (steps.new.items ≡ steps.old.items ++ filter_map
         (error_told core.now.cluster (past_of core.now) ended.now) core.now.cluster.errors) }
 {

@@ -2,6 +2,7 @@ pub mod Tellings
 mod Wholes
 pub mod Captures
 pub mod Slots
+mod Times
 pub mod Puttings
 pub mod Rows
 pub mod Lines

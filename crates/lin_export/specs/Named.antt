@@ -116,6 +116,10 @@ lines_of_reply c e past (Refused r) =
 abbrev pub reply_lines : Parts → LogEntry → List LogEntry → List (List (List ℕ))
 reply_lines c e past = lines_of_reply c e past e.reply
 
+-- entries with names, the oldest first, each on those before it, which stand the newest first
+abbrev pub named_entries : Parts → List LogEntry → List LogEntry → List ℕ
+named_entries c past entries = log_text (named c) (reply_lines c) past entries
+
 -- the log with names, the oldest entry first
 abbrev pub named_log : Parts → List LogEntry → List ℕ
-named_log c log = log_text (named c) (reply_lines c) [] log
+named_log c log = named_entries c [] log

@@ -1,7 +1,7 @@
 //! What all formats have in common: something before the entries of a log, something for each, and
 //! something after them.
 
-ghost use Rattle.std.specs.Prelude.{◌≡◌, ◌∷◌, ◌++◌, ◌<◌, ◌^◌, ℕ, [], List, reverse};
+ghost use Rattle.std.specs.Prelude.{◌≡◌, ◌∷◌, ◌++◌, ◌<◌, ◌^◌, ℕ, [], List, OnOk, drop, reverse, take};
 ghost use Rattle.lin_core.specs.declared.log.LogEntry.{LogEntry};
 ghost use Rattle.lin_cluster_parts.specs.declared.parts.Parts.{Parts};
 ghost use Rattle.lin_text.specs.Written.{Grows, WritesText};
@@ -59,8 +59,37 @@ pub(crate) trait Format {
             → Grows W.contents out.old out.new (ends self.now cluster.now past) };
 }
 
+/// Puts the entries of a log from one on, with the track of those before it, which then is that of
+/// all. The error is that it is out of memory.
+pub(crate) fn put_entries<F: Format, W: Write>(
+    format: &mut F,
+    out: &mut TextWriter<'_, W>,
+    track: &mut Track,
+    cluster: &Cluster,
+    log: &Log,
+    from: usize,
+) -> Result<(), AllocError>
+    requires track { track.old ≡ track_of cluster.now (reverse (take from log.now.entries)) }
+    requires fits { F.fits format.old cluster.now }
+    requires keeps { F.keeps format.old cluster.now (reverse (take from log.now.entries)) }
+    ensures text { PutsAll W.contents out.old out.new result
+        (each_entry (F.says format.old cluster.now) (reverse (take from log.now.entries))
+        (drop from log.now.entries)) }
+    ensures track { OnOk result (track.new ≡ track_of cluster.now (reverse log.now.entries)) }
+    ensures keeps { OnOk result (F.keeps format.new cluster.now (reverse log.now.entries)) }
+    ensures ends { F.ends format.new ≡ F.ends format.old }
+{
+    cluster.sound();
+    for index in from..log.len() {
+        let entry = log.entry(index);
+        format.put_entry(out, cluster, track, entry);
+        track.follow(cluster, entry)?;
+    }
+    Ok(())
+}
+
 /// Puts the entries of a log, and what stands after them. The error is that it is out of memory.
-fn put_entries<F: Format, W: Write>(
+fn put_all<F: Format, W: Write>(
     format: &mut F,
     out: &mut TextWriter<'_, W>,
     alloc: Global,
@@ -74,11 +103,7 @@ fn put_entries<F: Format, W: Write>(
         ++ F.ends format.old cluster.now (reverse log.now.entries)) }
 {
     let mut track = Track::new(alloc);
-    for index in 0..log.len() {
-        let entry = log.entry(index);
-        format.put_entry(out, cluster, &track, entry);
-        track.follow(cluster, entry)?;
-    }
+    put_entries(format, out, &mut track, cluster, log, 0)?;
     format.put_end(out, cluster, &track);
     Ok(())
 }
@@ -109,7 +134,7 @@ pub(crate) fn write_as<F: Format, W: Write>(
 {
     let mut out = TextWriter::new(writer);
     format.put_head(&mut out, cluster);
-    let followed = put_entries(format, &mut out, alloc, cluster, log);
+    let followed = put_all(format, &mut out, alloc, cluster, log);
     out.finish()?;
     followed?;
     Ok(())

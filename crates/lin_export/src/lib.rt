@@ -31,6 +31,7 @@ pub use fault::ExportFault;
 pub use first_slots::write_first_slots;
 pub use jsonl::write_jsonl;
 pub use law::{captures_what_was_seen, dumps_last_values};
-pub use named::{put_slot_names, write_named};
+pub use named::{named_text, put_slot_names, write_named};
 pub use pcap::write_pcap;
+pub use track::Track;
 pub use vcd::write_vcd;

@@ -1,7 +1,7 @@
 //! Logs with names.
 
-ghost use Rattle.std.specs.Prelude.{◌≡◌, ◌∷◌, ◌<◌, ⊤, [], codes, flat_map, length, map, option_map};
-ghost use Rattle.std.specs.Prelude.{zip};
+ghost use Rattle.std.specs.Prelude.{◌≡◌, ◌∷◌, ◌<◌, ⊤, [], IfOk, OnOk, codes, drop, flat_map, length};
+ghost use Rattle.std.specs.Prelude.{map, option_map, reverse, take, zip};
 ghost use Rattle.std.specs.Fmt.{decimal};
 ghost use Rattle.std.specs.Option.{option_to_list};
 ghost use Rattle.lin_cluster_parts.specs.Cluster.{frame_name, frame_of};
@@ -11,14 +11,15 @@ ghost use Rattle.lin_log.specs.Shown.{word_shown};
 ghost use Rattle.lin_log.specs.Words.{reply_line, spaced_word};
 ghost use Rattle.lin_text.specs.Written.{Grows, WritesText};
 ghost use Rattle.lin_export.specs.Named.{behind, control_words, frame_words, good_words};
-ghost use Rattle.lin_export.specs.Named.{named_event, named_log, signal_words, slot_names};
+ghost use Rattle.lin_export.specs.Named.{named_entries, named_event, named_log, signal_words, slot_names};
 ghost use Rattle.lin_export.specs.Named.{sporadic_frame, time_words, transport, transport_words};
 ghost use Rattle.lin_export.specs.Named.{who_word};
 ghost use Rattle.lin_export.specs.NamedWords.{event_text, line_or_none, named_entry};
 ghost use Rattle.lin_export.specs.Open.{slot_in};
+ghost use Rattle.lin_export.specs.Track.{track_of};
 
 use crate::fault::ExportFault;
-use crate::format::{Format, write_as};
+use crate::format::{Format, put_entries, write_as};
 use crate::naming::node_name;
 use crate::slot::{OpenSlot, byte_at};
 use crate::track::Track;
@@ -27,7 +28,7 @@ use lin_core::{Event, Listed, Log, LogEntry, Refusal, Reply, Seen, Step, frame_u
 use lin_frame::{Answer, unpack};
 use lin_log::{Word, put_line, put_step_line, put_words, value_word};
 use lin_text::TextWriter;
-use std::alloc::Global;
+use std::alloc::{AllocError, Global};
 use std::io::Write;
 
 /// A line of a reply.
@@ -334,4 +335,51 @@ pub fn write_named<W: Write>(
         (named_log cluster.now log.now.entries) }
 {
     write_as(&mut NamedLog, alloc, cluster, log, writer)
+}
+
+/// Writes the entries of a log from one on with names; the track is that of the entries before it,
+/// and then that of all.
+fn write_entries<W: Write>(
+    track: &mut Track,
+    cluster: &Cluster,
+    log: &Log,
+    from: usize,
+    writer: &mut W,
+) -> Result<(), ExportFault>
+    requires { track.old ≡ track_of cluster.now (reverse (take from log.now.entries)) }
+    ensures text { WritesText (W.contents writer.old) (W.contents writer.new) result
+        (named_entries cluster.now (reverse (take from log.now.entries))
+        (drop from log.now.entries)) }
+    ensures track { OnOk result (track.new ≡ track_of cluster.now (reverse log.now.entries)) }
+{
+    let mut out = TextWriter::new(writer);
+    let put = put_entries(&mut NamedLog, &mut out, track, cluster, log, from);
+    out.finish()?;
+    put?;
+    Ok(())
+}
+
+/// The text of the entries of a log from one on with names, as `write_named` writes them; the track
+/// is that of the entries before it, and then that of all.
+///
+/// # Errors
+/// Out of memory, after which the track is of no use.
+pub fn named_text(
+    alloc: Global,
+    track: &mut Track,
+    cluster: &Cluster,
+    log: &Log,
+    from: usize,
+) -> Result<Vec<u8>, AllocError>
+    requires { track.old ≡ track_of cluster.now (reverse (take from log.now.entries)) }
+    ensures text { IfOk result (λ text. text.items
+        ≡ named_entries cluster.now (reverse (take from log.now.entries))
+        (drop from log.now.entries)) }
+    ensures track { OnOk result (track.new ≡ track_of cluster.now (reverse log.now.entries)) }
+{
+    let mut text = Vec::new(alloc);
+    match write_entries(track, cluster, log, from, &mut text) {
+        Ok(()) => Ok(text),
+        Err(_) => Err(AllocError),
+    }
 }

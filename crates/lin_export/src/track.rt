@@ -1,6 +1,6 @@
 //! What is kept of a log, entry by entry.
 
-ghost use Rattle.std.specs.Prelude.{◌≡◌, ◌+◌, ◌≤◌, ◌^◌, ◌<◌, ◌∷◌, [], List, option_map, OnOk};
+ghost use Rattle.std.specs.Prelude.{◌≡◌, ◌+◌, ◌≤◌, ◌^◌, ◌<◌, ◌∷◌, [], IfOk, List, OnOk, length, option_map, reverse, take};
 ghost use Rattle.lin_cluster_parts.specs.declared.parts.Parts.{Parts};
 ghost use Rattle.lin_core.specs.History.{time};
 ghost use Rattle.lin_core.specs.declared.log.LogEntry.{LogEntry};
@@ -9,14 +9,15 @@ ghost use Rattle.lin_export.specs.Track.{track_of};
 
 use crate::slot::OpenSlot;
 use lin_cluster_parts::Cluster;
-use lin_core::{LogEntry, Reply, Step};
+use lin_core::{Log, LogEntry, Reply, Step};
 use std::alloc::{AllocError, Global};
 use std::marker::Model;
 
-/// The slot that is open after the entries that were read, the delays of the slots that are
-/// finished, in microseconds, their number, and the bytes of the last disturbance.
+/// What is kept of the entries of a log that were read, for texts of those after them: the slot that
+/// is open, the delays of the slots that are finished, in microseconds, their number, and the bytes
+/// of the last disturbance. Contracts see these.
 #[derive(Drop)]
-pub(crate) struct Track {
+pub struct Track {
     alloc: Global,
     slot: Option<OpenSlot>,
     time: u64,
@@ -51,6 +52,27 @@ impl Track {
             slots: 0,
             hurt: Vec::new(alloc),
         }
+    }
+
+    /// The entries of a log before one were read.
+    ///
+    /// # Errors
+    /// Out of memory.
+    pub fn up_to(
+        alloc: Global,
+        cluster: &Cluster,
+        log: &Log,
+        end: usize,
+    ) -> Result<Track, AllocError>
+        requires { end ≤ length log.now.entries }
+        ensures { IfOk result (λ track.
+            track ≡ track_of cluster.now (reverse (take end log.now.entries))) }
+    {
+        let mut track = Track::new(alloc);
+        for index in 0..end.min(log.len()) {
+            track.follow(cluster, log.entry(index))?;
+        }
+        Ok(track)
     }
 
     /// The open slot.

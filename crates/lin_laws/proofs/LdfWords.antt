@@ -1,8 +1,7 @@
 -- The words of an LDF text are names.
-use Rattle.std.proofs.Common.{◌≡◌, ◌∙◌, ◌+◌, ◌-◌, ◌==◌, ◌&&◌, ◌||◌, ◌++◌, ℕ, List, [], ◌∷◌, true, not, nat_lt, refl, sym, ap, arith, append_assoc, Option, Some, None, length, drop}
-use Rattle.std.specs.List.{All, list_all, slice_range}
+use Rattle.std.proofs.Common.{◌≡◌, ◌∙◌, ◌+◌, ◌-◌, ◌==◌, ◌||◌, ◌++◌, ℕ, List, [], ◌∷◌, true, not, refl, sym, ap, arith, append_assoc, Option, Some, None, length, drop}
+use Rattle.std.specs.List.{All, slice_range}
 use Rattle.std.proofs.Math.Seq.{drop-append_seam, take-append_seam}
-use Rattle.std.proofs.lemmas.Bool.{and_parts}
 use Rattle.std.proofs.lemmas.Grind.{common_steps}
 use Rattle.std.proofs.lemmas.List.{drop-drop}
 use Rattle.std.proofs.lemmas.List.Elements.{All-cons, All-nil}

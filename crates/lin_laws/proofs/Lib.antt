@@ -3,3 +3,8 @@ pub mod NamedLogs
 pub mod LdfWords
 pub mod LdfNames
 pub mod TextNames
+pub mod Remarks
+pub mod LogLines
+pub mod LastLines
+pub mod Transcripts
+pub mod Scripts

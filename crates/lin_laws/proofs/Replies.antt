@@ -1,9 +1,8 @@
 -- The lines of replies with names, which hold no end of a line within.
-use Rattle.std.proofs.Common.{◌≡◌, ◌+◌, ◌*◌, ◌/◌, ◌%◌, ◌<◌, ◌≤◌, ◌==◌, ◌&&◌, ◌++◌, ℕ, zero, suc, List, [], ◌∷◌, Bool, true, false, nat_lt, refl, sym, ap, subst, arith, append_assoc, append-nil, Option, Some, None, length, slice_index, slice_index_or, flat_map, map, take, zip, codes, if◌then◌else◌}
+use Rattle.std.proofs.Common.{◌≡◌, ◌+◌, ◌*◌, ◌/◌, ◌%◌, ◌<◌, ◌≤◌, ◌==◌, ◌++◌, ℕ, zero, suc, List, [], ◌∷◌, Bool, true, false, nat_lt, refl, sym, ap, subst, arith, append_assoc, append-nil, Option, Some, None, length, slice_index, slice_index_or, flat_map, map, take, zip, codes, if◌then◌else◌}
 use Rattle.std.specs.Fmt.{decimal}
 use Rattle.std.specs.List.{All}
 use Rattle.std.specs.Option.{option_map_or, option_to_list}
-use Rattle.std.proofs.lemmas.Bool.{and_parts}
 use Rattle.std.proofs.lemmas.Grind.{common_steps}
 use Rattle.std.proofs.lemmas.List.{get_or_past}
 use Rattle.std.proofs.lemmas.List.Elements.{All-cons, All-head, All-nil, All-tail}
@@ -68,7 +67,7 @@ signal-name c a k =
     name-by (length c.signals) k (signal_of c k).name (nat_lt k (length c.signals)) refl (a.of_signals.words k)
     (λ le. ap (λ (s : Signal). s.name) (get_or_past c.signals k (record { name = []; publisher = 0; size = 1; initial = Scalar 0 }) le))
 
-frame-name : (c : Parts) → HasFrameNames c → (f : ℕ) → is_quiet (frame_name c f) ≡ true
+pub frame-name : (c : Parts) → HasFrameNames c → (f : ℕ) → is_quiet (frame_name c f) ≡ true
 frame-name c b f = listed-name (λ (x : SignalFrame). x.name) no_frame refl c.frames f b.of_frames
 
 entry-name : (c : Parts) → HasFrameNames c → (e : Entry) → is_quiet (entry_name c e) ≡ true
@@ -83,7 +82,7 @@ listed-frames : (c : Parts) → HasFrameNames c → (o : Option ℕ) → are_qui
 listed-frames c b None = refl
 listed-frames c b (Some f) = rw (frame-name c b f) refl
 
-slot-quiet : (c : Parts) → HasFrameNames c → (e : Event) → are_quiet (slot_names c e) ≡ true
+pub slot-quiet : (c : Parts) → HasFrameNames c → (e : Event) → are_quiet (slot_names c e) ≡ true
 slot-quiet c b (event.Slot table entry header) =
     rw (entry-name c b (line_of c table entry).entry, listed-frames c b (sporadic_frame c (line_of c table entry).entry header)) refl
 slot-quiet c b e = refl
@@ -91,7 +90,7 @@ slot-quiet c b e = refl
 event-quiet : (c : Parts) → HasNames (named c) → HasFrameNames c → (e : Event) → are_quiet (named_event c e) ≡ true
 event-quiet c a b e = joined is_quiet (event_words (named c) e) (slot_names c e) (quiet-event (named c) a e) (slot-quiet c b e)
 
-value-quiet : (v : Value) → is_quiet (value_word v) ≡ true
+pub value-quiet : (v : Value) → is_quiet (value_word v) ≡ true
 value-quiet (Scalar n) = quiet-decimal n
 value-quiet (Bytes bytes) = rw (quiet-hex bytes) refl
 
@@ -192,7 +191,7 @@ events-quiet c a b o (e ∷ es) more q =
     subst (λ (l : List (List (List ℕ))). AreQuiet (named_event c e ∷ l)) (sym (append_assoc own others more))
     (All-cons (λ ws. are_quiet ws ≡ true) (named_event c e) (own ++ (others ++ more)) (event-quiet c a b e) p)
 
-refusal-quiet : (r : Refusal) → is_quiet (refusal_word r) ≡ true
+pub refusal-quiet : (r : Refusal) → is_quiet (refusal_word r) ≡ true
 refusal-quiet refusal.NoSuchNode = refl
 refusal-quiet refusal.NoSuchSignal = refl
 refusal-quiet refusal.NoSuchTable = refl

@@ -1,1 +1,2 @@
 pub mod NamedScripts
+pub mod Transcripts

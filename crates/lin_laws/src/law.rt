@@ -1,6 +1,8 @@
 //! What holds of logs with names.
 
 ghost use Rattle.lin_laws.specs.NamedScripts.{NamedLogs, NamedLogsOfTexts};
+ghost use Rattle.lin_laws.specs.Transcripts.{TranscriptsAreBenchScripts, TranscriptsAreLogs};
+ghost use Rattle.lin_laws.specs.Transcripts.{TranscriptsAreScripts};
 
 /// A log with names is a bench script of the log's own steps: it has no bad line, makes no slots
 /// of its own, and expects nothing. It holds wherever names are words and no two nodes, signals or
@@ -8,4 +10,15 @@ ghost use Rattle.lin_laws.specs.NamedScripts.{NamedLogs, NamedLogsOfTexts};
 pub fn named_logs_say_the_same()
     ensures of_words { NamedLogs }
     ensures of_texts { NamedLogsOfTexts }
+{}
+
+/// Without the lines that begin with `#`, the transcript of lines on a bench in hand that begins is
+/// the text of its log, byte for byte: the log's own, or the log with names, whichever the bench
+/// tells. A transcript by numbers is a script of its run, and each one is a bench script of it. It
+/// holds of lines of which none is bad or meets the limit of slots, wherever names are words and no
+/// two nodes, signals or schedule tables have the same one.
+pub fn transcripts_are_logs()
+    ensures logs { TranscriptsAreLogs }
+    ensures scripts { TranscriptsAreScripts }
+    ensures bench_scripts { TranscriptsAreBenchScripts }
 {}

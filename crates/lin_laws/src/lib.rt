@@ -3,4 +3,4 @@
 
 mod law;
 
-pub use law::named_logs_say_the_same;
+pub use law::{named_logs_say_the_same, transcripts_are_logs};

@@ -1,7 +1,7 @@
 -- The entries of answers are the log.
 use Rattle.std.proofs.Common.{◌≡◌, ◌∙◌, ℕ, List, [], ◌∷◌, ◌++◌, true, false, Option, Some, None, Result, Ok, Err, refl, sym, ap, append_assoc, append-nil, drop, flat_map, length, reverse, if◌then◌else◌, nat_lt}
 use Rattle.std.proofs.Math.Seq.{drop-append_seam}
-use Rattle.std.proofs.lemmas.List.{length-reverse, reverse-append}
+use Rattle.std.proofs.lemmas.List.{length-reverse, reverse-append, reverse-reverse}
 use Rattle.lin_cluster_parts.specs.declared.parts.Parts.{Parts}
 use Rattle.lin_core.specs.Runs.{entry_of}
 use Rattle.lin_core.specs.declared.log.LogEntry.{LogEntry}
@@ -14,9 +14,8 @@ use Rattle.lin_bench.specs.declared.expected.Expected.{Expected}
 use Rattle.lin_bench.specs.declared.got.Verdict.TheVariants.{SlotLimit}
 use Rattle.lin_bench.specs.declared.line.Line.{Line}
 use Rattle.lin_bench.specs.declared.line.Line.TheVariants as line
-use Rattle.lin_log.specs.Words.{text}
-use Rattle.lin_live.specs.Answers.{AnswersAreTheLog, AnswersAreWritten, answers}
-use Rattle.lin_live.specs.Told.{HandData, answered, heard_as, told, unmarked}
+use Rattle.lin_live.specs.Answers.{AnswersAreTheLog, AnswersAreWritten, answers, answers_text}
+use Rattle.lin_live.specs.Told.{HandData, answer_text, answered, heard_as, told, unmarked}
 use Rattle.lin_bench.specs.Strict.{entries_since}
 use Rattle.lin_live.specs.Transcript.{short}
 use Rattle.lin_live.specs.declared.heard.Heard.{Heard}
@@ -24,7 +23,7 @@ use Rattle.lin_live.specs.declared.heard.Heard.TheVariants.{Ask, Make}
 use Rattle.lin_live.specs.declared.reason.Reason.{Reason}
 
 -- a history that others lead to
-abbrev Grown : List LogEntry → List LogEntry → Type 0
+abbrev pub Grown : List LogEntry → List LogEntry → Type 0
 Grown past later = (more : List LogEntry) × (reverse later ≡ reverse past ++ more)
 
 grown-nothing : (past : List LogEntry) → Grown past past
@@ -71,7 +70,7 @@ grown-line c opening capacity b l =
     let steps = said c opening capacity most b l in
     grown-within c opening capacity b (slots_made l steps) steps (said c opening capacity (λ extent. b.left) b l) (expects l)
 
-grown-made : (c : Parts) (opening capacity : ℕ) (b : BenchState) (l : Line) → Grown b.past (made c opening capacity b l).0.past
+pub grown-made : (c : Parts) (opening capacity : ℕ) (b : BenchState) (l : Line) → Grown b.past (made c opening capacity b l).0.past
 unfolding made
 grown-made c opening capacity b (line.Step by step) = grown-line c opening capacity b (line.Step by step)
 grown-made c opening capacity b (line.Slot how) = grown-line c opening capacity b (line.Slot how)
@@ -103,8 +102,27 @@ answers-are-the-log h (line ∷ more) =
     ∙ ap (λ l. l ++ rest) (told-grown (record h { begun = true }) (heard_as h.cluster (unmarked h (short line))))
     ∙ append_assoc (reverse h.bench.past) a.1.entries rest
 
+-- an answer changes neither how entries are told nor the cluster
+pub told-kept : (h : HandData) (said : Result (Option Heard) Reason) → ((told h said).0.format ≡ h.format) × ((told h said).0.cluster ≡ h.cluster)
+told-kept h (Err why) = (refl, refl)
+told-kept h (Ok None) = (refl, refl)
+told-kept h (Ok (Some (Ask asked))) = (refl, refl)
+told-kept h (Ok (Some (Make line))) = (refl, refl)
+
+past-grown : (past later es : List LogEntry) → reverse later ≡ reverse past ++ es → later ≡ reverse es ++ past
+past-grown past later es e =
+    sym (reverse-reverse later) ∙ ap reverse e ∙ reverse-append (reverse past) es ∙ ap (λ l. reverse es ++ l) (reverse-reverse past)
+
 pub answers-are-written : AnswersAreWritten
 answers-are-written h [] = refl
 answers-are-written h (line ∷ more) =
-    let a = answered h (short line) in
-    ap (λ l. (text a.1.entries ++ a.1.last_line) ++ l) (answers-are-written a.0 more)
+    let said = heard_as h.cluster (unmarked h (short line)) in
+    let b = record h { begun = true } in
+    let a = told b said in
+    let same = told-kept b said in
+    let past = past-grown h.bench.past a.0.bench.past a.1.entries (told-grown b said) in
+    ap (λ l. answer_text h a.1 ++ l)
+    (answers-are-written a.0 more
+    ∙ ap (λ f. answers_text f a.0.cluster a.0.bench.past (answers a.0 more)) same.0
+    ∙ ap (λ c. answers_text h.format c a.0.bench.past (answers a.0 more)) same.1
+    ∙ ap (λ p. answers_text h.format h.cluster p (answers a.0 more)) past)

@@ -1,9 +1,9 @@
 mod Adding
-mod Cuts
+pub mod Cuts
 mod Keeping
 mod Transcripts
 pub mod Writing
-mod Growth
+pub mod Growth
 mod LinesTold
 mod Replying
 mod Plays

@@ -1,8 +1,10 @@
 -- The answers to lines: what they tell, together, and how they are written.
 use Rattle.std.specs.Prelude.{◌≡◌, ℕ, List, [], ◌∷◌, ◌++◌, flat_map, reverse}
-use Rattle.lin_log.specs.Words.{text}
-use Rattle.lin_live.specs.Told.{Answer, HandData, answered, reply}
+use Rattle.lin_cluster_parts.specs.declared.parts.Parts.{Parts}
+use Rattle.lin_core.specs.declared.log.LogEntry.{LogEntry}
+use Rattle.lin_live.specs.Told.{Answer, HandData, answered, entries_text, reply}
 use Rattle.lin_live.specs.Transcript.{after, short, transcript}
+use Rattle.lin_live.specs.declared.format.AnswerFormat.{AnswerFormat}
 
 -- what is answered to lines, each after those before it
 abbrev pub answers : HandData → List (List ℕ) → List Answer
@@ -15,7 +17,14 @@ AnswersAreTheLog = (h : HandData) (ls : List (List ℕ))
     → reverse (after reply h ls).bench.past
     ≡ reverse h.bench.past ++ flat_map (λ a. a.entries) (answers h ls)
 
+-- the texts of answers, each on the log of those before it
+abbrev pub answers_text : AnswerFormat → Parts → List LogEntry → List Answer → List ℕ
+answers_text f c past [] = []
+answers_text f c past (a ∷ more) =
+    (entries_text f c past a.entries ++ a.last_line)
+    ++ answers_text f c (reverse a.entries ++ past) more
+
 -- a transcript has nothing but the texts of entries, and a last line for each line
 abbrev pub AnswersAreWritten : Type 0
 AnswersAreWritten = (h : HandData) (ls : List (List ℕ))
-    → transcript reply h ls ≡ flat_map (λ a. text a.entries ++ a.last_line) (answers h ls)
+    → transcript reply h ls ≡ answers_text h.format h.cluster h.bench.past (answers h ls)

@@ -1,16 +1,20 @@
 -- What contracts see of a bench in hand.
-use Rattle.std.specs.Prelude.{false}
+use Rattle.std.specs.Prelude.{◌≡◌, ℕ, List, IfSome, false, reverse, take}
 use Rattle.lin_core.specs.Core.{CoreData}
+use Rattle.lin_core.specs.declared.log.LogEntry.{LogEntry}
 use Rattle.lin_bench.specs.Bench.{fresh, renewed, state_of}
 use Rattle.lin_bench.specs.declared.fault.MakeFault.{MakeFault}
 use Rattle.lin_bench.specs.declared.fault.MakeFault.TheVariants as makes
+use Rattle.lin_export.specs.Track.{track_of}
 use Rattle.lin_live.specs.Told.{HandData}
+use Rattle.lin_live.specs.declared.format.AnswerFormat.{AnswerFormat}
 use Rattle.lin_live.specs.declared.fault.Fault.{Fault}
 use Rattle.lin_live.specs.declared.fault.Fault.TheVariants.{LogFull, OutOfMemory}
 use Rattle.lin_live.specs.declared.hand.Hand.TheInside.{Inside}
 
 abbrev pub hand_data : Inside → HandData
 hand_data a = record {
+  format = a.format;
   cluster = a.bench.core.cluster;
   opening = a.bench.core.opening;
   capacity = a.bench.core.capacity;
@@ -20,9 +24,18 @@ hand_data a = record {
   was_unmet = a.was_unmet;
 }
 
+-- a history as it was when it had this many entries
+abbrev pub earlier : ℕ → List LogEntry → List LogEntry
+earlier count past = reverse (take count (reverse past))
+
+-- what is kept of the log, where it is at hand, is of all its entries
+abbrev pub IsFollowed : Inside → Type 0
+IsFollowed a = IfSome a.track (λ t. t ≡ track_of a.bench.core.cluster (reverse a.bench.core.log))
+
 -- a bench in hand on which no line was made
-abbrev pub begins : CoreData → HandData
-begins core = record {
+abbrev pub begins : AnswerFormat → CoreData → HandData
+begins format core = record {
+  format = format;
   cluster = core.cluster;
   opening = core.opening;
   capacity = core.capacity;

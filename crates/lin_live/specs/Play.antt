@@ -1,5 +1,6 @@
 -- Lines in hand and bench scripts.
-use Rattle.std.specs.Prelude.{◌≡◌, ℕ, ◌≤◌, Bool, false, List, [], ◌∷◌, length, map, Ok, codes}
+use Rattle.std.specs.Prelude.{◌≡◌, ℕ, ◌≤◌, Bool, true, false, List, [], ◌∷◌, length, map, Ok}
+use Rattle.std.specs.Prelude.{codes}
 use Rattle.std.specs.List.{AllByRecursion}
 use Rattle.std.specs.Str.{bytes_eq}
 use Rattle.std.specs.Str.Lines.{strip_carriage_return}
@@ -11,6 +12,7 @@ use Rattle.lin_bench.specs.Slots.{slot_limit}
 use Rattle.lin_bench.specs.declared.line.Line.{Line}
 use Rattle.lin_live.specs.Told.{HandData, reply}
 use Rattle.lin_live.specs.Transcript.{after, most_bytes}
+use Rattle.lin_live.specs.declared.format.AnswerFormat.{AnswerFormat}
 
 -- whether fields are those of a question
 abbrev pub asks : List (List ℕ) → Bool
@@ -24,8 +26,9 @@ IsPlain line =
     × (asks (fields (strip_carriage_return line)) ≡ false)
 
 -- the bench in hand that a play has come to (a byte order mark would be a part of the next line)
-abbrev pub in_hand_of : Parts → ℕ → ℕ → Run → HandData
-in_hand_of c opening capacity run = record {
+abbrev pub in_hand_of : AnswerFormat → Parts → ℕ → ℕ → Run → HandData
+in_hand_of format c opening capacity run = record {
+  format = format;
   cluster = c;
   opening = opening;
   capacity = capacity;
@@ -43,7 +46,9 @@ nothing = record { bench = first; judgements = [] }
 -- hand, to the bench that its play comes to, with the same log; an expectation isn't met in one
 -- exactly where one isn't met in the other.
 abbrev pub LiveIsPlay : Type 0
-LiveIsPlay = (c : Parts) (opening capacity : ℕ) (ls : List (List ℕ)) (said : List (ℕ × Line)) (run : Run)
-    → AllByRecursion IsPlain ls → read_lines c 1 ls ≡ Ok said → played false c opening capacity said ≡ Ok run
-    → after reply (in_hand_of c opening capacity nothing) (map strip_carriage_return ls)
-    ≡ in_hand_of c opening capacity run
+LiveIsPlay = (format : AnswerFormat) (c : Parts) (opening capacity : ℕ) (ls : List (List ℕ))
+    (said : List (ℕ × Line)) (run : Run)
+    → AllByRecursion IsPlain ls → read_lines c 1 ls ≡ Ok said
+    → played false c opening capacity said ≡ Ok run
+    → after reply (in_hand_of format c opening capacity nothing) (map strip_carriage_return ls)
+    ≡ in_hand_of format c opening capacity run

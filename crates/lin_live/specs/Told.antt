@@ -1,7 +1,7 @@
 -- What a bench in hand answers to a line: the text of the entries that the line makes, and then one
 -- line that begins with `#`.
 use Rattle.std.specs.Prelude.{ℕ, ◌-◌, ◌^◌, ◌<◌, Bool, true, false, ◌||◌, if◌then◌else◌, List, []}
-use Rattle.std.specs.Prelude.{◌∷◌, ◌++◌, flat_map, length, reverse, drop, Option, Some, None}
+use Rattle.std.specs.Prelude.{◌∷◌, ◌++◌, flat_map, length, Option, Some, None}
 use Rattle.std.specs.Prelude.{option_map}
 use Rattle.std.specs.Prelude.{Result, Ok, Err, codes}
 use Rattle.std.specs.Option.{option_map_or}
@@ -16,7 +16,7 @@ use Rattle.lin_core.specs.declared.event.Event.TheVariants.{Slot}
 use Rattle.lin_core.specs.declared.log.LogEntry.{LogEntry}
 use Rattle.lin_core.specs.declared.reply.Refusal.{Refusal}
 use Rattle.lin_log.specs.Words.{spaced_word, text, value_word}
-use Rattle.lin_export.specs.Named.{slot_names}
+use Rattle.lin_export.specs.Named.{named_entries, slot_names}
 use Rattle.lin_bench.specs.Lines.{without_mark}
 use Rattle.lin_bench.specs.Made.{BenchState, made}
 use Rattle.lin_bench.specs.Slots.{pending, slot_limit}
@@ -28,6 +28,8 @@ use Rattle.lin_bench.specs.Texts.{reason_text as script_text, table_word, verdic
 use Rattle.lin_bench.specs.declared.got.Verdict.{Verdict}
 use Rattle.lin_bench.specs.declared.got.Verdict.TheVariants.{Unmet, SlotLimit}
 use Rattle.lin_live.specs.Heard.{heard}
+use Rattle.lin_live.specs.declared.format.AnswerFormat.{AnswerFormat}
+use Rattle.lin_live.specs.declared.format.AnswerFormat.TheVariants.{Log, Named}
 use Rattle.lin_live.specs.declared.heard.Heard.{Heard}
 use Rattle.lin_live.specs.declared.heard.Heard.TheVariants.{Ask, Make}
 use Rattle.lin_live.specs.declared.question.Question.{Question}
@@ -99,9 +101,10 @@ value_shown c (shown.Asleep is) = if is then codes "asleep" else codes "awake"
 value_shown c shown.Open = codes "open"
 value_shown c (shown.Slot table entry header) = slot_text c (table, entry) header
 
--- ---- what is kept: a bench whose next line may make 1,000,000 slots, whether there was a line,
--- whether one was bad or met that limit, and whether an expectation wasn't met
+-- ---- what is kept: how entries are told, a bench whose next line may make 1,000,000 slots, whether
+-- there was a line, whether one was bad or met that limit, and whether an expectation wasn't met
 pub record HandData : Type 0 where
+  pub format : AnswerFormat
   pub cluster : Parts
   pub opening : ℕ
   pub capacity : ℕ
@@ -161,12 +164,21 @@ unmarked h line = if h.begun then line else option_map without_mark line
 abbrev pub answered : HandData → Option (List ℕ) → HandData × Answer
 answered h line = told (record h { begun = true }) (heard_as h.cluster (unmarked h line))
 
+-- entries as they are told, the oldest first, on those before them: as the log's own text, or as the
+-- log with names
+abbrev pub entries_text : AnswerFormat → Parts → List LogEntry → List LogEntry → List ℕ
+entries_text Log c past entries = text entries
+entries_text Named c past entries = named_entries c past entries
+
 -- an answer is written as the text of its entries, and then its last line
-abbrev pub written : HandData × Answer → HandData × List ℕ
-written a = (a.0, text a.1.entries ++ a.1.last_line)
+abbrev pub answer_text : HandData → Answer → List ℕ
+answer_text h a = entries_text h.format h.cluster h.bench.past a.entries ++ a.last_line
+
+abbrev pub written : HandData → HandData × Answer → HandData × List ℕ
+written h a = (a.0, answer_text h a.1)
 
 abbrev pub reply : HandData → Option (List ℕ) → HandData × List ℕ
-reply h line = written (answered h line)
+reply h line = written h (answered h line)
 
 -- the log would have more entries than it takes
 abbrev pub IsFull : HandData → Option (List ℕ) → Type 0

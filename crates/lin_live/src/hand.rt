@@ -1,33 +1,43 @@
 //! A bench in hand.
 
-ghost use Rattle.std.specs.Prelude.{◌≡◌, ◌<◌, ◌-◌, ◌^◌, [], IfOk, IfSome, length, option_map, reverse};
+ghost use Rattle.std.specs.Prelude.{◌≡◌, ◌<◌, ◌≤◌, ◌-◌, ◌^◌, ◌++◌, ◌||◌, [], IfOk, IfSome, codes};
+ghost use Rattle.std.specs.Prelude.{drop, length, option_map, reverse, true};
 ghost use Rattle.lin_bench.specs.Lines.{without_mark};
+ghost use Rattle.lin_export.specs.Track.{track_of};
 ghost use Rattle.lin_live.specs.Asked.{Gives, IsAskable};
+ghost use Rattle.lin_live.specs.Hand.{earlier};
 ghost use Rattle.lin_live.specs.Serving.{Tells};
 ghost use Rattle.lin_live.specs.Heard.{IsHeard};
-ghost use Rattle.lin_live.specs.Told.{HandData, IsFull, heard_as, is_limit, is_unmet};
-ghost use Rattle.lin_live.specs.Told.{reply, told, unmarked, written};
-ghost use Rattle.lin_live.specs.declared.heard.Heard.TheVariants.{Ask, Make};
+ghost use Rattle.lin_live.specs.Told.{HandData, IsFull, ending, entries_text, heard_as, is_limit};
+ghost use Rattle.lin_live.specs.Told.{is_unmet, reason_text, reply, told, unmarked, value_text};
+ghost use Rattle.lin_live.specs.Told.{verdict_ending, written};
+ghost use Rattle.lin_live.specs.declared.heard.Heard.TheVariants.{Make};
 
 use crate::answering::Answering;
 use crate::fault::Fault;
+use crate::format::AnswerFormat;
 use crate::heard::{Heard, hear};
 use crate::question::Question;
 use crate::reason::{LineFault, Reason};
-use crate::telling::{write_bad, write_line, write_ok, write_value};
+use crate::telling::{with_names, write_bad, write_line, write_ok, write_told_line, write_value};
 use crate::value::value_of;
 use lin_bench::{Bench, Line, Verdict, without_mark};
 use lin_core::{Core, Log};
+use lin_export::Track;
 use std::alloc::Global;
 use std::io::Write;
 use std::marker::Model;
 
 /// A bench that answers lines: those of bench scripts, each by the entries that it makes and by what
-/// it came to, and questions. Contracts see the cluster, what the core was opened with, the log, what
-/// expectations took, whether there was a line, and whether one was bad or an expectation not met.
+/// it came to, and questions. Contracts see how it tells entries, the cluster, what the core was
+/// opened with, the log, what expectations took, whether there was a line, and whether one was bad
+/// or an expectation not met.
 #[derive(Drop)]
 pub struct Hand {
     bench: Bench,
+    format: AnswerFormat,
+    /// What is kept of the log for telling further entries with names, where it is at hand.
+    track: Option<Track>,
     /// Whether there was a line.
     begun: bool,
     was_bad: bool,
@@ -39,9 +49,11 @@ impl Model for Hand {
 
     ghost Value = { HandData };
 
-    ghost use Rattle.lin_live.specs.Hand.{hand_data};
+    ghost use Rattle.lin_live.specs.Hand.{IsFollowed, hand_data};
 
     ghost view = { hand_data };
+
+    ghost invariant = { IsFollowed };
 }
 
 /// Whether a line made more slots than a line may.
@@ -75,13 +87,15 @@ fn without_its_mark(line: Option<&[u8]>) -> Option<&[u8]>
 impl Hand {
     ghost use Rattle.lin_live.specs.Hand.{begins};
 
-    /// A bench over a core with an empty log, on which no line was made.
-    pub fn new(alloc: Global, core: Core) -> Hand
+    /// A bench over a core with an empty log, on which no line was made, and which tells entries so.
+    pub fn new(alloc: Global, core: Core, format: AnswerFormat) -> Hand
         requires { core.log ≡ [] }
-        ensures { result ≡ begins core }
+        ensures { result ≡ begins format core }
     {
         Hand {
             bench: Bench::new(alloc, core),
+            format,
+            track: None,
             begun: false,
             was_bad: false,
             was_unmet: false,
@@ -134,7 +148,8 @@ impl Hand {
 
     /// Tells that a line says nothing.
     fn pass<W: Write>(&self, writer: &mut W) -> Result<(), Fault>
-        ensures { Tells (written (told self.now (Ok None))) ⊥ self.now (W.contents writer.old) (W.contents writer.new) result }
+        ensures { Tells (self.now, ending (codes "ok")) ⊥ self.now (W.contents writer.old)
+            (W.contents writer.new) result }
     {
         write_ok(writer)?;
         Ok(())
@@ -142,7 +157,11 @@ impl Hand {
 
     /// Tells that a line is bad.
     fn refuse<W: Write>(&mut self, reason: &Reason, writer: &mut W) -> Result<(), Fault>
-        ensures { Tells (written (told self.old (Err reason.now))) ⊥ self.new (W.contents writer.old) (W.contents writer.new) result }
+        ensures { Tells (
+          record self.old { was_bad = true },
+          ending (codes "bad line: " ++ reason_text reason.now),
+        )
+            ⊥ self.new (W.contents writer.old) (W.contents writer.new) result }
     {
         self.was_bad = true;
         write_bad(writer, reason)?;
@@ -152,28 +171,75 @@ impl Hand {
     /// Answers a question.
     fn ask<W: Write>(&self, alloc: Global, question: Question, writer: &mut W) -> Result<(), Fault>
         requires { IsAskable self.now.cluster question }
-        ensures { Tells (written (told self.now (Ok (Some (Ask question))))) ⊥ self.now (W.contents writer.old) (W.contents writer.new) result }
+        ensures { Tells (
+          self.now,
+          ending (codes "is " ++ value_text self.now.cluster
+              self.now.opening self.now.bench.past self.now.bench.rules.noted question),
+        )
+            ⊥ self.now (W.contents writer.old) (W.contents writer.new) result }
     {
         let value = value_of(alloc, &self.bench, question)?;
         write_value(writer, self.bench.core().cluster(), &value)?;
         Ok(())
     }
 
+    /// Keeps what a line came to.
+    fn keep(&mut self, verdict: &Verdict)
+        ensures { self.new ≡ record self.old {
+          was_bad = self.old.was_bad || is_limit verdict.now;
+          was_unmet = self.old.was_unmet || is_unmet verdict.now;
+        } }
+    {
+        self.was_bad = self.was_bad || is_limit(verdict);
+        self.was_unmet = self.was_unmet || is_unmet(verdict);
+    }
+
+    /// Tells the entries from one on, and what their line came to, where what is kept of those before
+    /// is at hand or isn't.
+    fn tell<W: Write>(
+        &mut self,
+        alloc: Global,
+        track: Option<Track>,
+        from: usize,
+        verdict: &Verdict,
+        writer: &mut W,
+    ) -> Result<(), Fault>
+        requires there { from ≤ length self.old.bench.past }
+        requires track { IfSome track (λ track. track
+            ≡ track_of self.old.cluster (earlier from self.old.bench.past)) }
+        ensures { Tells (
+          self.old,
+          entries_text self.old.format self.old.cluster
+              (earlier from self.old.bench.past) (drop from (reverse self.old.bench.past))
+              ++ verdict_ending self.old.cluster verdict.now
+              (drop from (reverse self.old.bench.past)),
+        )
+            ⊥ self.new (W.contents writer.old) (W.contents writer.new) result }
+    {
+        let core = self.bench.core();
+        match self.format {
+            AnswerFormat::Log => write_line(writer, core, from, verdict)?,
+            AnswerFormat::Named => {
+                let (text, track) = with_names(alloc, core, track, from)?;
+                write_told_line(writer, core, from, text.as_slice(), verdict)?;
+                self.track = Some(track);
+            }
+        }
+        Ok(())
+    }
+
     /// Makes a line, and tells its entries and what it came to.
     fn make<W: Write>(&mut self, alloc: Global, line: Line, writer: &mut W) -> Result<(), Fault>
-        ensures { Tells (written (told self.old (Ok (Some (Make line)))))
+        ensures { Tells (written self.old (told self.old (Ok (Some (Make line)))))
             (2 ^ 32 - 1 < length (told self.old (Ok (Some (Make line)))).0.bench.past) self.new
             (W.contents writer.old) (W.contents writer.new) result }
     {
         let from = self.bench.core().log().len();
+        let track = self.track.take();
         self.bench.renew_slots();
         let verdict = self.bench.make(alloc, line)?;
-        self.was_bad = self.was_bad || is_limit(&verdict);
-        self.was_unmet = self.was_unmet || is_unmet(&verdict);
-        match write_line(writer, self.bench.core(), from, &verdict) {
-            Ok(()) => Ok(()),
-            Err(_) => Err(Fault::WriteFailed),
-        }
+        self.keep(&verdict);
+        self.tell(alloc, track, from, &verdict, writer)
     }
 }
 

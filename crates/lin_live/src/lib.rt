@@ -1,7 +1,7 @@
 //! A bench in hand, and a loop that answers each line of a reader on a writer before it reads on.
 //!
 //! ```
-//! let mut hand = Hand::new(alloc, core);
+//! let mut hand = Hand::new(alloc, core, AnswerFormat::Log);
 //! // answers each line of standard input, until it ends
 //! live(alloc, &mut hand, &mut reader, &mut writer)?;
 //! ```
@@ -11,6 +11,7 @@ mod answering;
 mod asking;
 mod begun;
 mod fault;
+mod format;
 mod hand;
 mod heard;
 mod law;
@@ -22,6 +23,7 @@ mod value;
 
 pub use answering::Answering;
 pub use fault::Fault;
+pub use format::AnswerFormat;
 pub use hand::Hand;
 pub use heard::{Heard, hear};
 pub use law::{answers_tell_the_log, live_is_play, pieces_come_back, transcripts_split};

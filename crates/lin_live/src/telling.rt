@@ -1,6 +1,9 @@
 //! The answers to lines.
 
-ghost use Rattle.std.specs.Prelude.{◌≡◌, ◌++◌, codes, drop, flat_map};
+ghost use Rattle.std.specs.Prelude.{◌≡◌, ◌++◌, ◌≤◌, IfOk, IfSome, codes, drop, flat_map, length};
+ghost use Rattle.std.specs.Prelude.{reverse, take};
+ghost use Rattle.lin_export.specs.Named.{named_entries};
+ghost use Rattle.lin_export.specs.Track.{track_of};
 ghost use Rattle.lin_log.specs.Words.{spaced_word, text};
 ghost use Rattle.lin_text.specs.Written.{Grows, WritesText};
 ghost use Rattle.lin_live.specs.Told.{ending, idle_text, reason_text};
@@ -12,10 +15,11 @@ use lin_bench::{
     Pending, Verdict, first_refusal, put_fields, put_pending, put_reason, put_verdict,
 };
 use lin_cluster_parts::Cluster;
-use lin_core::{Core, Event, Listed, Refusal};
-use lin_export::put_slot_names;
+use lin_core::{Core, Event, Listed, Log, Refusal};
+use lin_export::{Track, named_text, put_slot_names};
 use lin_log::{put_entries, put_number, put_table, put_value, put_word};
 use lin_text::{TextWriter, WriteFailed};
+use std::alloc::{AllocError, Global};
 use std::io::Write;
 
 /// A last line that is always the same.
@@ -175,7 +179,8 @@ fn put_verdict_ending<W: Write>(
     }
 }
 
-/// Writes the entries of a line, which are those of the log from one on, and what it came to.
+/// Writes the entries of a line by numbers, which are those of the log from one on, and what it came
+/// to.
 pub(crate) fn write_line<W: Write>(
     writer: &mut W,
     core: &Core,
@@ -188,6 +193,51 @@ pub(crate) fn write_line<W: Write>(
 {
     let mut out = TextWriter::new(writer);
     put_entries(&mut out, core.log(), from);
+    put_verdict_ending(&mut out, core, from, verdict);
+    out.finish()
+}
+
+/// The text of the entries of a log from one on with names, and what is kept of all entries then.
+/// What is kept of those before is made, where it isn't at hand. The error is that it is out of
+/// memory.
+pub(crate) fn with_names(
+    alloc: Global,
+    core: &Core,
+    track: Option<Track>,
+    from: usize,
+) -> Result<(Vec<u8>, Track), AllocError>
+    requires there { from ≤ length core.now.log }
+    requires track { IfSome track (λ track.
+        track ≡ track_of core.now.cluster (reverse (take from core.now.log))) }
+    ensures text { IfOk result (λ told. told.0.items
+        ≡ named_entries core.now.cluster (reverse (take from core.now.log))
+        (drop from core.now.log)) }
+    ensures track { IfOk result (λ told.
+        told.1 ≡ track_of core.now.cluster (reverse core.now.log)) }
+{
+    let mut track = match track {
+        Some(track) => track,
+        None => Track::up_to(alloc, core.cluster(), core.log(), from)?,
+    };
+    let text = named_text(alloc, &mut track, core.cluster(), core.log(), from)?;
+    Ok((text, track))
+}
+
+/// Writes a text of the entries of a line, which are those of the log from one on, and what it came
+/// to.
+pub(crate) fn write_told_line<W: Write>(
+    writer: &mut W,
+    core: &Core,
+    from: usize,
+    told: &[u8],
+    verdict: &Verdict,
+) -> Result<(), WriteFailed>
+    ensures { WritesText (W.contents writer.old) (W.contents writer.new) result
+        (told.now
+        ++ verdict_ending core.now.cluster verdict.now (drop from core.now.log)) }
+{
+    let mut out = TextWriter::new(writer);
+    out.put(told);
     put_verdict_ending(&mut out, core, from, verdict);
     out.finish()
 }

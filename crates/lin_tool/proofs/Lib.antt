@@ -3,3 +3,4 @@ pub mod Shows
 pub mod Plays
 pub mod Moments
 pub mod Tallies
+pub mod Reports

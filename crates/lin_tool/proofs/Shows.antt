@@ -10,7 +10,7 @@ use Rattle.lin_log.specs.Replay.{IsReplay, IsScriptOf, log_of}
 use Rattle.lin_log.specs.declared.fault.ReplayFault.{ReplayFault}
 use Rattle.lin_log.specs.declared.fault.ReplayFault.TheVariants as replay
 use Rattle.lin_log.specs.declared.fault.ScriptFault.TheVariants as script
-use Rattle.lin_bench.specs.declared.got.Unmet.{Unmet}
+use Rattle.lin_bench.specs.declared.got.Judgement.{Judgement}
 use Rattle.lin_export.specs.Vcd.{vcd}
 use Rattle.lin_export.specs.declared.fault.ExportFault.{ExportFault}
 use Rattle.lin_export.specs.declared.fault.ExportFault.TheVariants as export
@@ -30,10 +30,10 @@ begins old new whole fault h = (h.part, h.rest, h.whole, h.written)
 
 -- a dump of a log over the same cluster
 pub shows-dump : {E : Type 0} (old new : Option (List ℕ)) (result : Result Unit E)
-    (a b : Parts) (opening capacity : ℕ) (xs ys : List LogEntry) (unmet : List Unmet) → a ≡ b → xs ≡ ys
+    (a b : Parts) (opening capacity : ℕ) (xs ys : List LogEntry) (js : List Judgement) → a ≡ b → xs ≡ ys
     → WritesText old new result (vcd a xs)
-    → WritesText old new result (log_as Vcd b opening capacity ys unmet)
-shows-dump old new result a b opening capacity xs ys unmet cluster log h =
+    → WritesText old new result (log_as Vcd b opening capacity ys js)
+shows-dump old new result a b opening capacity xs ys js cluster log h =
     let P : List LogEntry → Type 0 = λ l. WritesText old new result (vcd a l) in
     let Q : Parts → Type 0 = λ c. WritesText old new result (vcd c ys) in
     subst Q cluster (subst P log h)

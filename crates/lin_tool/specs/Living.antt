@@ -5,6 +5,7 @@ use Rattle.lin_bench.specs.Rules.{no_rules}
 use Rattle.lin_bench.specs.Slots.{slot_limit}
 use Rattle.lin_live.specs.Serving.{IsLive}
 use Rattle.lin_live.specs.Told.{HandData, IsFull, reply}
+use Rattle.lin_live.specs.declared.format.AnswerFormat.{AnswerFormat}
 use Rattle.lin_live.specs.declared.fault.Fault.{Fault as LiveFault}
 use Rattle.lin_live.specs.declared.fault.Fault.TheVariants as live
 use Rattle.lin_tool.specs.declared.fault.Fault.{Fault}
@@ -19,8 +20,9 @@ live_fault live.OutOfMemory = OutOfMemory
 live_fault live.LogFull = LogFull
 
 -- a bench in hand over a cluster, on which no line was made
-abbrev pub in_hand : Parts → ℕ → ℕ → HandData
-in_hand c opening capacity = record {
+abbrev pub in_hand : AnswerFormat → Parts → ℕ → ℕ → HandData
+in_hand format c opening capacity = record {
+  format = format;
   cluster = c;
   opening = opening;
   capacity = capacity;
@@ -40,11 +42,11 @@ abbrev pub ends : HandData → Result Unit LiveFault → Result Unit Fault
 ends t (Ok done) = ended t
 ends t (Err fault) = Err (live_fault fault)
 
--- What live answers, what it read, and what the writer took: the answers to the lines, each on the
--- bench of those before it.
-abbrev pub Lives : Parts → ℕ → ℕ → Result Unit Fault → Option (List ℕ) → Option (List ℕ)
+-- What live answers on a bench in hand, what it read, and what the writer took: the answers to the
+-- lines, each on the bench of those before it.
+abbrev pub Lives : HandData → Result Unit Fault → Option (List ℕ) → Option (List ℕ)
     → Option (List ℕ) → Option (List ℕ) → Type 0
-Lives c opening capacity result told left old new =
+Lives h result told left old new =
     (t : HandData) × (done : Result Unit LiveFault)
-    × IsLive reply IsFull (in_hand c opening capacity) t told left old new done
+    × IsLive reply IsFull h t told left old new done
     × (result ≡ ends t done)

@@ -42,7 +42,7 @@ pub use findings::Findings;
 pub use formats::{Format, write_shown};
 pub use lin_listing::write_list;
 pub use listing::{Lists, write_lists};
-pub use living::{answer_lines, live};
+pub use living::{answer_lines, bench_in_hand, live};
 pub use notes::{Notes, Wanted};
 pub use opening::{Settings, opening_table};
 pub use playing::{play, play_script};

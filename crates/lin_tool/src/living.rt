@@ -1,14 +1,19 @@
 //! `linsim live`: a bench in hand, which answers each line as it comes.
 
-ghost use Rattle.std.specs.Prelude.{◌≡◌, ◌≤◌, ◌<◌, length};
-ghost use Rattle.lin_tool.specs.Living.{Lives, ends};
+ghost use Rattle.std.specs.Prelude.{◌≡◌, ◌≤◌, ◌<◌, IfErr, IfOk, length};
+ghost use Rattle.lin_tool.specs.Living.{Lives, ends, in_hand};
+ghost use Rattle.lin_live.specs.declared.format.AnswerFormat.TheVariants.{Log, Named};
+ghost use Rattle.lin_tool.specs.declared.fault.Fault.TheVariants.{OutOfMemory as NoMemory};
+ghost use Rattle.lin_tool.specs.declared.formats.Format.TheVariants.{Log as LogFormat};
+ghost use Rattle.lin_tool.specs.declared.formats.Format.TheVariants.{Named as NamedFormat};
 
 use crate::fault::Fault;
+use crate::formats::Format;
 use crate::notes::Notes;
 use crate::opening::{Opened, Settings, begin, within_limits};
 use lin_cluster_parts::Cluster;
 use lin_core::Core;
-use lin_live::Hand;
+use lin_live::{AnswerFormat, Hand};
 use std::alloc::Global;
 use std::fs::Files;
 use std::io::{self, Read, Write};
@@ -26,34 +31,46 @@ fn ending(hand: &Hand, done: Result<(), lin_live::Fault>) -> Result<(), Fault>
     }
 }
 
-/// Answers each line of a reader on a writer before it reads on, as `lin_live::live`, over a
-/// cluster. The notes tell which steps were refused.
+/// A bench in hand over a cluster, on which no line was made, and which tells entries so. It begins
+/// with the schedule table `table`; each host may have `capacity` messages waiting, 1 to 1,024.
 ///
-/// It begins with the schedule table `table`; each host may have `capacity` messages waiting, 1 to
-/// 1,024. (The core's memory is left to the end of the program.)
+/// # Errors
+/// `OutOfMemory`.
+pub fn bench_in_hand(
+    alloc: Global,
+    cluster: Cluster,
+    table: u16,
+    capacity: usize,
+    format: AnswerFormat,
+) -> Result<Hand, Fault>
+    requires table { table < length cluster.tables }
+    requires capacity { (1 ≤ capacity) × (capacity ≤ 1024) }
+    ensures hand { IfOk result (λ hand. hand ≡ in_hand format cluster table capacity) }
+    ensures memory { IfErr result (λ fault. fault ≡ NoMemory) }
+{
+    match Core::new(alloc, cluster, table, capacity) {
+        Ok(core) => Ok(Hand::new(alloc, core, format)),
+        Err(_) => Err(Fault::OutOfMemory),
+    }
+}
+
+/// Answers each line of a reader on a writer before it reads on, as `lin_live::live`, on a bench in
+/// hand. The notes tell which steps were refused. (The bench's memory is left to the end of the
+/// program.)
 ///
 /// # Errors
 /// Those of `lin_live::live`; after all lines were answered `BadLines`, where one was bad or made
 /// more than 1,000,000 slots, and else `Unmet`, where an expectation wasn't met.
 pub fn answer_lines<R: Read, W: Write>(
     alloc: Global,
-    cluster: Cluster,
-    table: u16,
-    capacity: usize,
+    mut hand: Hand,
     reader: &mut R,
     writer: &mut W,
     notes: &mut Notes<'_>,
 ) -> Result<(), Fault>
-    requires table { table < length cluster.tables }
-    requires capacity { (1 ≤ capacity) × (capacity ≤ 1024) }
-    ensures { Lives cluster table capacity result (R.remaining reader.old) (R.remaining reader.new)
+    ensures { Lives hand result (R.remaining reader.old) (R.remaining reader.new)
         (W.contents writer.old) (W.contents writer.new) }
 {
-    let core = match Core::new(alloc, cluster, table, capacity) {
-        Ok(core) => core,
-        Err(_) => return Err(Fault::OutOfMemory),
-    };
-    let mut hand = Hand::new(alloc, core);
     let done = lin_live::live(alloc, &mut hand, reader, writer);
     let ended = ending(&hand, done);
     notes.add_refusals(hand.log());
@@ -61,23 +78,37 @@ pub fn answer_lines<R: Read, W: Write>(
     ended
 }
 
+/// How entries are told in a format of logs: with names, or as the log's own text in place of any
+/// other one.
+fn answer_format(format: Format<'_>) -> AnswerFormat
+    ensures named { format.entry ≡ NamedFormat → result ≡ Named }
+    ensures log { format.entry ≡ LogFormat → result ≡ Log }
+{
+    match format {
+        Format::Named => AnswerFormat::Named,
+        _ => AnswerFormat::Log,
+    }
+}
+
 /// Answers each line on standard input on standard output before it reads on, over the cluster of
-/// the settings, whose format is the log's own text.
+/// the settings; entries are told as the log with names where the settings have that format, and
+/// else as the log's own text.
 ///
 /// # Errors
 /// Those of `cluster_of_file`, and `NoSuchTable`, after which nothing was read; those of
-/// `answer_lines`.
+/// `bench_in_hand` and `answer_lines`.
 pub fn live<R: AllocGlobal + Files + Input + Print>(
     rt: &R,
     settings: &Settings<'_>,
     notes: &mut Notes<'_>,
 ) -> Result<(), Fault> {
     let Opened { cluster, table } = begin(rt, settings, notes)?;
+    let capacity = within_limits(settings.capacity);
+    let format = answer_format(settings.format);
+    let hand = bench_in_hand(rt.alloc(), cluster, table, capacity, format)?;
     let answer = answer_lines(
         rt.alloc(),
-        cluster,
-        table,
-        within_limits(settings.capacity),
+        hand,
         &mut rt.reader(),
         &mut io::writer(rt),
         notes,

@@ -13,9 +13,27 @@ const COMPARED: usize = 64;
 
 /// The words that a line begins with.
 static WORDS: [&str; 21] = [
-    "send", "write", "open", "answer", "leave", "hurt", "finish", "timeout", "switch", "sleep",
-    "wake", "close", "slot", "slots", "expect", "forget", "when", "timeouts", "every",
-    "response_errors", "bus",
+    "send",
+    "write",
+    "open",
+    "answer",
+    "leave",
+    "hurt",
+    "finish",
+    "timeout",
+    "switch",
+    "sleep",
+    "wake",
+    "close",
+    "slot",
+    "slots",
+    "expect",
+    "forget",
+    "when",
+    "timeouts",
+    "every",
+    "response_errors",
+    "bus",
 ];
 
 /// What `expect` and `until` take.

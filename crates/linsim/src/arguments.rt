@@ -17,7 +17,7 @@ const PLAY_NOTE: &str =
     "A bench script has the steps of replay's scripts, and lines of its own: slot, slots N, slots N ms, slots N until WHAT,\nslots idle, slot hurt BYTES, slot leave NODE.., expect WHAT, forget; and rules, which are in force from their line on:\nwhen NODE PATTERN answer BYTES (silent), timeouts N ms, every N ms STEP, response_errors on. Nodes, signals and schedule\ntables stand by their names or numbers. A bad line, and each expectation that isn't met, is a line on standard error; the\nlog is written before expectations are told. The format junit is a report of what was judged, and not of the log.\n\nExample: linsim play door.ldf door.bench > door.log";
 
 const LIVE_NOTE: &str =
-    "Lines are those of bench scripts, and questions: ? signal NODE SIGNAL, ? waiting NODE, ? idle, ? time, ? asleep, ? next.\nEach is answered before the next is read: the log of its entries, and a line that begins with #.\n\nExample: linsim live door.ldf < door.bench";
+    "Lines are those of bench scripts, and questions: ? signal NODE SIGNAL, ? waiting NODE, ? idle, ? time, ? asleep, ? next.\nEach is answered before the next is read: the log of its entries, with names if wanted, and a line that begins with #.\n\nExample: linsim live door.ldf < door.bench";
 
 const CHECK_NOTE: &str =
     "On standard output: node NUMBER NAME NAD (- for none), signal NUMBER NAME, table NUMBER NAME ENTRIES, one a line.\nOn standard error: ldf LINE:COLUMN fault NUMBER NAME for the first fault of the text, or ldf too long above 4,194,304 bytes;\notherwise a line LINE:COLUMN finding NUMBER NAME for each reason why it describes no cluster.";
@@ -56,6 +56,9 @@ static FORMATS: [&str; 7] = ["log", "named", "csv", "jsonl", "pcap", "vcd", "htm
 static PLAY_FORMATS: [&str; 8] = [
     "log", "named", "csv", "jsonl", "pcap", "vcd", "html", "junit",
 ];
+
+/// The words for those in which answers tell entries.
+static ANSWER_FORMATS: [&str; 2] = ["log", "named"];
 
 fn format<'a>(alloc: Global, words: &'a [&'a str]) -> Arg<'a> {
     Arg::new(alloc, "to")
@@ -187,6 +190,7 @@ fn live<'a>(alloc: Global) -> Result<Command<'a>, AllocError> {
         .arg(file(alloc).required(true))?
         .arg(table(alloc))?
         .arg(capacity(alloc))?
+        .arg(format(alloc, ANSWER_FORMATS.as_slice()))?
         .arg(explain(alloc))
 }
 
@@ -219,7 +223,7 @@ pub(crate) enum Request<'a> {
         file: &'a str,
         lists: Lists,
     },
-    /// `linsim live FILE [--table T] [--capacity N]`
+    /// `linsim live FILE [--table T] [--capacity N] [--to log|named]`
     Live(Settings<'a>),
     /// `linsim play FILE [SCRIPT] [--table T] [--capacity N] [--to FORMAT] [--where] [--strict]`;
     /// without a script's file it is read from standard input.

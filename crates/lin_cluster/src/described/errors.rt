@@ -119,10 +119,7 @@ fn is_concerned_by(node: u8, subscribed: &[bool], frames: &[SignalFrame], frame:
 }
 
 // The numbers of the frames that concern a node.
-#[tactic(auto, using(
-    lin_cluster_parts::proofs::Carrying::kept_added,
-    lin_cluster_parts::proofs::Carrying::kept_same,
-))]
+#[tactic(auto, using(lin_cluster_parts::proofs::Carrying::kept_added, lin_cluster_parts::proofs::Carrying::kept_same,))]
 fn frames_concerning(
     alloc: Global,
     node: u8,

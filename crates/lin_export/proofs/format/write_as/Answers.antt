@@ -5,21 +5,21 @@ use Rattle.lin_export.proofs.format.write_as.Goals as goal
 
 pub returns-in_err-finish : goal.returns-in_err-finish
 returns-in_err-finish g c =
-    let same = same-writer g.W.Write.contents _ _ _ _ _ _ _ c.new-out.ensures c.put_head.ensures c.put_entries-followed.ensures in
-    let written = written-part g.W.Write.contents _ _ _ _ _ _ _ _ _ _ c.from_residual.ensures.0 c.new-out.ensures c.put_head.ensures c.put_entries-followed.ensures c.finish.ensures in
+    let same = same-writer g.W.Write.contents _ _ _ _ _ _ _ c.new-out.ensures c.put_head.ensures c.put_all-followed.ensures in
+    let written = written-part g.W.Write.contents _ _ _ _ _ _ _ _ _ _ c.from_residual.ensures.0 c.new-out.ensures c.put_head.ensures c.put_all-followed.ensures c.finish.ensures in
     search rules
 
 pub returns-in_err-followed : goal.returns-in_err-followed
 returns-in_err-followed g c =
-    let same = same-writer g.W.Write.contents _ _ _ _ _ _ _ c.new-out.ensures c.put_head.ensures c.put_entries-followed.ensures in
+    let same = same-writer g.W.Write.contents _ _ _ _ _ _ _ c.new-out.ensures c.put_head.ensures c.put_all-followed.ensures in
     let written =
-    written-part g.W.Write.contents _ _ _ _ _ _ _ _ _ _ c.from_residual-in_err-followed.ensures.0 c.new-out.ensures c.put_head.ensures c.put_entries-followed.ensures c.finish.ensures in
+    written-part g.W.Write.contents _ _ _ _ _ _ _ _ _ _ c.from_residual-in_err-followed.ensures.0 c.new-out.ensures c.put_head.ensures c.put_all-followed.ensures c.finish.ensures in
     search rules
 
 pub returns : goal.returns
 returns g c =
-    let same = same-writer g.W.Write.contents _ _ _ _ _ _ _ c.new-out.ensures c.put_head.ensures c.put_entries-followed.ensures in
+    let same = same-writer g.W.Write.contents _ _ _ _ _ _ _ c.new-out.ensures c.put_head.ensures c.put_all-followed.ensures in
     let written =
-    written-whole ExportFault _ g.W.Write.contents _ _ _ _ _ _ _ c.new-out.ensures c.put_head.ensures (rw c.in_ok-followed.was at c.put_entries-followed.ensures)
+    written-whole ExportFault _ g.W.Write.contents _ _ _ _ _ _ _ c.new-out.ensures c.put_head.ensures (rw c.in_ok-followed.was at c.put_all-followed.ensures)
     (rw c.in_ok-finish.was at c.finish.ensures) in
     search rules

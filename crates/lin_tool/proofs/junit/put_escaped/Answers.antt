@@ -1,5 +1,5 @@
-use Rattle.std.proofs.Common.{arith}
-use Rattle.lin_text.proofs.Growing.{grows-next, grows-nothing}
+use Rattle.std.proofs.Common.{arith, sym}
+use Rattle.lin_text.proofs.Growing.{grows-more, grows-nothing, same-growth, texts-next}
 use Rattle.lin_tool.specs.Junit.{escaped}
 use Rattle.lin_tool.proofs.junit.put_escaped.Goals as goal
 
@@ -8,4 +8,4 @@ loop-byte-init g c = grows-nothing c.args.out.now
 
 pub loop-byte-preserved : goal.loop-byte-preserved
 loop-byte-preserved g c =
-    grows-next escaped c.args.text.now c.loop-byte.byte-index c.byte-item.result c.byte-item.is (omega arith) c.loop-byte.invariant c.put_escaped_byte.ensures
+    same-growth (sym (texts-next escaped c.args.text.now c.loop-byte.byte-index _ (omega arith))) (grows-more c.loop-byte.invariant c.put_escaped_byte.ensures)

@@ -6,5 +6,5 @@ returns g c =
     grows-more c.put_text.ensures
     (grows-more (rw c.as_bytes.ensures.value at c.put_escaped.ensures)
     (grows-more c.put_text-2.ensures
-    (grows-more (rw c.len.ensures at c.put_number.ensures)
+    (grows-more c.put_number.ensures
     (grows-more c.put_text-3.ensures (grows-more (rw c.unmet_in.ensures at c.put_number-2.ensures) c.put_text-4.ensures)))))

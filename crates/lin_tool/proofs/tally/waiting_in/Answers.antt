@@ -11,5 +11,5 @@ loop-host-preserved c =
     let one = c.waiting.ensures in
     record {
       sum = omega (arith, c.loop-host.invariant.sum, next, one);
-      few = omega (arith, c.loop-host.invariant.few, c.ranges);
+      few = omega (arith, c.loop-host.invariant.few, c.waiting.type_inv);
     }

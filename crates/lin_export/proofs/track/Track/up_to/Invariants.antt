@@ -1,0 +1,11 @@
+use Rattle.std.proofs.Common.{◌≡◌, ◌*◌, ◌≤◌}
+use Rattle.lin_export.proofs.Tellings.{before}
+use Rattle.lin_export.specs.Track.{track_of}
+use Rattle.lin_export.proofs.track.Track.up_to.Given as goal
+
+abbrev pub invariant-loop-index : goal.invariant-loop-index
+invariant-loop-index l = record {
+  kept : l.track ≡ track_of l.fn.cluster (before l.fn.log.entries l.index);
+  time : l.track.time ≤ 1000000000 * l.index;
+  slots : l.track.slots ≤ l.index;
+}

@@ -1,0 +1,207 @@
+-- The last lines of answers: each begins with `#`, and has no LF but at its end.
+use Rattle.std.proofs.Common.{◌≡◌, ℕ, Bool, true, false, List, [], ◌∷◌, ◌++◌, refl, ap, subst, append_assoc, flat_map, codes, length, Option, Some, None, if◌then◌else◌, nat_lt}
+use Rattle.std.specs.Fmt.{decimal}
+use Rattle.std.specs.Option.{option_map_or}
+use Rattle.lin_cluster_parts.specs.Cluster.{frame_name}
+use Rattle.lin_cluster_parts.specs.declared.parts.Parts.{Parts}
+use Rattle.lin_core.specs.History.{asleep, time}
+use Rattle.lin_core.specs.Links.{waiting}
+use Rattle.lin_core.specs.Next.{next_slot}
+use Rattle.lin_core.specs.Signals.{value_at}
+use Rattle.lin_core.specs.Tables.{cause_word, look_word, refusal_number, refusal_word}
+use Rattle.lin_core.specs.declared.event.Event.TheVariants.{Slot}
+use Rattle.lin_core.specs.declared.link.Cause.{Cause}
+use Rattle.lin_core.specs.declared.link.Cause.TheVariants as cause
+use Rattle.lin_core.specs.declared.event.Look.{Look}
+use Rattle.lin_core.specs.declared.event.Look.TheVariants as look
+use Rattle.lin_core.specs.declared.log.LogEntry.{LogEntry}
+use Rattle.lin_core.specs.declared.reply.Refusal.{Refusal}
+use Rattle.lin_log.specs.Language.{named}
+use Rattle.lin_log.specs.Laws.{HasNames, is_quiet, no_end}
+use Rattle.lin_log.specs.Words.{hex_word, spaced_word}
+use Rattle.lin_log.proofs.Items.{joined}
+use Rattle.lin_log.proofs.Quiet.{quiet-called, quiet-decimal, quiet-hex, quiet-spaced}
+use Rattle.lin_export.specs.Named.{slot_names}
+use Rattle.lin_bench.specs.Texts.{expected_text, frame_word, got_text, node_word, other_pending_text, pending_text, pending_word, said_word, signal_word, table_word}
+use Rattle.lin_bench.specs.Slots.{pending}
+use Rattle.lin_bench.specs.declared.expected.Carried.{Carried}
+use Rattle.lin_bench.specs.declared.expected.Carried.TheVariants.{Signals, Request, Response}
+use Rattle.lin_bench.specs.declared.expected.Expected.{Expected}
+use Rattle.lin_bench.specs.declared.expected.Expected.TheVariants as expected
+use Rattle.lin_bench.specs.declared.got.Got.{Got}
+use Rattle.lin_bench.specs.declared.got.Got.TheVariants as got
+use Rattle.lin_bench.specs.declared.got.Pending.{Pending}
+use Rattle.lin_bench.specs.declared.got.Pending.TheVariants.{MessagesWait, AnswersNoted}
+use Rattle.lin_bench.specs.declared.got.Verdict.{Verdict}
+use Rattle.lin_bench.specs.declared.got.Verdict.TheVariants.{Nothing, Met, Unmet, SlotLimit}
+use Rattle.lin_bench.specs.declared.rules.Noted.{Noted}
+use Rattle.lin_bench.specs.Strict.{first_refusal}
+use Rattle.lin_live.specs.Told.{ending, idle_text, slot_text, steps_ending, value_text, verdict_ending}
+use Rattle.lin_live.specs.declared.question.Question.{Question}
+use Rattle.lin_live.specs.declared.question.Question.TheVariants as question
+use Rattle.lin_laws.specs.NamedScripts.{HasFrameNames}
+use Rattle.lin_laws.proofs.Remarks.{Goes, goes-line, is_clean, quiet-clean}
+use Rattle.lin_laws.proofs.Replies.{frame-name, refusal-quiet, slot-quiet, value-quiet}
+
+abbrev Quiet : List ℕ → Type 0
+Quiet w = is_quiet w ≡ true
+
+both : (xs ys : List ℕ) → Quiet xs → Quiet ys → Quiet (xs ++ ys)
+both xs ys h k = joined no_end xs ys h k
+
+cause-quiet : (c : Cause) → Quiet (cause_word c)
+cause-quiet cause.Damaged = refl
+cause-quiet cause.TimedOut = refl
+cause-quiet cause.Slept = refl
+
+look-quiet : (l : Look) → Quiet (look_word l)
+look-quiet look.Silent = refl
+look-quiet look.NoAnswer = refl
+look-quiet look.Good = refl
+look-quiet look.Damaged = refl
+look-quiet look.Collided = refl
+
+said-quiet : (o : Option (List ℕ)) → Quiet (said_word o)
+said-quiet None = refl
+said-quiet (Some bytes) = quiet-hex bytes
+
+frame-by : (c : Parts) → HasFrameNames c → (f : ℕ) (t : Bool) → Quiet (if t then frame_name c f else decimal f)
+frame-by c b f true = frame-name c b f
+frame-by c b f false = quiet-decimal f
+
+frame-quiet : (c : Parts) → HasFrameNames c → (f : Carried) → Quiet (frame_word c f)
+frame-quiet c b (Signals f) = frame-by c b f (nat_lt f (length c.frames))
+frame-quiet c b Request = refl
+frame-quiet c b Response = refl
+
+module _ (c : Parts) (a : HasNames (named c)) (b : HasFrameNames c) where
+  node : (n : ℕ) → Quiet (node_word c n)
+  node n = quiet-called (named c).nodes a.of_nodes n
+
+  signal : (s : ℕ) → Quiet (signal_word c s)
+  signal s = quiet-called (named c).signals a.of_signals s
+
+  table : (t : ℕ) → Quiet (table_word c t)
+  table t = quiet-called (named c).tables a.of_tables t
+
+  -- ---- what waits or is noted
+  pending-quiet : (p : Pending) → Quiet (pending_word c p)
+  pending-quiet (MessagesWait host count) = both (decimal count) _ (quiet-decimal count) (both (node_word c host) (codes " waiting") (node host) refl)
+  pending-quiet (AnswersNoted n count) = both (decimal count) _ (quiet-decimal count) (both (node_word c n) (codes " noted") (node n) refl)
+
+  others-quiet : (ps : List Pending) → Quiet (flat_map (other_pending_text c) ps)
+  others-quiet [] = refl
+  others-quiet (p ∷ ps) = both (other_pending_text c p) _ (pending-quiet p) (others-quiet ps)
+
+  all-pending : (ps : List Pending) → Quiet (pending_text c ps)
+  all-pending [] = refl
+  all-pending (p ∷ ps) = both (pending_word c p) _ (pending-quiet p) (others-quiet ps)
+
+  -- ---- what is expected, and what is so
+  expected-quiet : (e : Expected) → Quiet (expected_text c e)
+  expected-quiet (expected.Signal n s value) = both (node_word c n) _ (node n) (both (spaced_word (signal_word c s)) _ (signal s) (value-quiet value))
+  expected-quiet (expected.SignalWithin n s low high) =
+      both (node_word c n) _ (node n)
+      (both (spaced_word (signal_word c s)) _ (signal s) (both (decimal low) _ (quiet-decimal low) (quiet-decimal high)))
+  expected-quiet (expected.Waiting host count) = both (node_word c host) _ (node host) (quiet-decimal count)
+  expected-quiet (expected.Message from to bytes) = both (node_word c from) _ (node from) (both (spaced_word (node_word c to)) _ (node to) (quiet-hex bytes))
+  expected-quiet (expected.MessageWithin from to bytes most) =
+      both (node_word c from) _ (node from)
+      (both (spaced_word (node_word c to)) _ (node to)
+      (both (spaced_word (hex_word bytes)) _ (quiet-hex bytes) (both (decimal most) (codes " ms") (quiet-decimal most) refl)))
+  expected-quiet (expected.NoMessage from to) = both (node_word c from) _ (node from) (node to)
+  expected-quiet (expected.NoLost None) = refl
+  expected-quiet (expected.NoLost (Some host)) = node host
+  expected-quiet (expected.Sent host) = node host
+  expected-quiet (expected.Lost host why) = both (node_word c host) _ (node host) (cause-quiet why)
+  expected-quiet (expected.Seen how) = look-quiet how
+  expected-quiet (expected.Frame frame bytes) = both (frame_word c frame) _ (frame-quiet c b frame) (said-quiet bytes)
+  expected-quiet (expected.Slot t entry) = both (table_word c t) _ (table t) (quiet-decimal entry)
+  expected-quiet expected.Done = refl
+  expected-quiet (expected.Refused why) = refusal-quiet why
+  expected-quiet expected.Asleep = refl
+  expected-quiet expected.Awake = refl
+  expected-quiet expected.Idle = refl
+
+  got-quiet : (g : Got) → Quiet (got_text c g)
+  got-quiet (got.Value value) = value-quiet value
+  got-quiet (got.Waiting count) = quiet-decimal count
+  got-quiet (got.Message bytes) = quiet-hex bytes
+  got-quiet (got.Took took) = both (decimal took) (codes " us") (quiet-decimal took) refl
+  got-quiet (got.Sent number) = both (decimal number) (codes " sent") (quiet-decimal number) refl
+  got-quiet (got.Lost number why) = both (decimal number) _ (quiet-decimal number) (cause-quiet why)
+  got-quiet (got.LostOf host number why) =
+      both (decimal number) _ (quiet-decimal number) (both (node_word c host) _ (node host) (cause-quiet why))
+  got-quiet got.NoEvent = refl
+  got-quiet (got.Seen how) = look-quiet how
+  got-quiet (got.Frame frame bytes) = both (frame_word c frame) _ (frame-quiet c b frame) (quiet-hex bytes)
+  got-quiet (got.Slot t entry) = both (table_word c t) _ (table t) (quiet-decimal entry)
+  got-quiet got.NoSlot = refl
+  got-quiet got.Done = refl
+  got-quiet (got.Refused why) = refusal-quiet why
+  got-quiet got.NoStep = refl
+  got-quiet got.Asleep = refl
+  got-quiet got.Awake = refl
+  got-quiet (got.StillPending all) = all-pending all
+  got-quiet got.NoNode = refl
+  got-quiet got.NoNodeOrSignal = refl
+
+  -- ---- what is said to questions
+  idle-quiet : (ps : List Pending) → Quiet (idle_text c ps)
+  idle-quiet [] = refl
+  idle-quiet (p ∷ ps) = all-pending (p ∷ ps)
+
+  slot-said : (s : ℕ × ℕ × Option ℕ) → Quiet (slot_text c (s.0, s.1) s.2)
+  slot-said s =
+      both (table_word c s.0) _ (table s.0)
+      (both (spaced_word (decimal s.1)) _ (quiet-decimal s.1)
+      (quiet-spaced (slot_names c (Slot s.0 s.1 s.2)) (slot-quiet c b (Slot s.0 s.1 s.2))))
+
+  next-said : (o : Option (ℕ × ℕ × Option ℕ)) → Quiet (option_map_or (λ (s : ℕ × ℕ × Option ℕ). slot_text c (s.0, s.1) s.2) o (codes "open"))
+  next-said None = refl
+  next-said (Some s) = slot-said s
+
+  if-quiet : (t : Bool) (x y : List ℕ) → Quiet x → Quiet y → Quiet (if t then x else y)
+  if-quiet true x y h k = h
+  if-quiet false x y h k = k
+
+  value-said : (opening : ℕ) (past : List LogEntry) (noted : List Noted) (q : Question) → Quiet (value_text c opening past noted q)
+  value-said opening past noted (question.Signal n s) = value-quiet (value_at c past n s)
+  value-said opening past noted (question.Waiting host) = quiet-decimal (length (waiting c past host))
+  value-said opening past noted question.Idle = idle-quiet (pending c past noted)
+  value-said opening past noted question.Time = quiet-decimal (time c past)
+  value-said opening past noted question.Asleep = if-quiet (asleep past) (codes "asleep") (codes "awake") refl refl
+  value-said opening past noted question.Next =
+      if-quiet (asleep past) (codes "asleep") (option_map_or (λ (s : ℕ × ℕ × Option ℕ). slot_text c (s.0, s.1) s.2) (next_slot c opening past) (codes "open")) refl
+      (next-said (next_slot c opening past))
+
+  -- ---- last lines
+  pub ending-goes : (words : List ℕ) → is_clean words ≡ true → Goes (ending words)
+  ending-goes words h = goes-line (32 ∷ words) h
+
+  quiet-goes : (words : List ℕ) → Quiet words → Goes (ending words)
+  quiet-goes words h = ending-goes words (quiet-clean words h)
+
+  steps-go : (o : Option Refusal) → Goes (steps_ending o)
+  steps-go None = quiet-goes (codes "ok") refl
+  steps-go (Some why) =
+      quiet-goes (codes "refused " ++ (decimal (refusal_number why) ++ spaced_word (refusal_word why)))
+      (both (decimal (refusal_number why)) _ (quiet-decimal (refusal_number why)) (refusal-quiet why))
+
+  unmet-goes : (what : Expected) (is : Got) → Goes (verdict_ending c (Unmet what is) [])
+  unmet-goes what is =
+      let w = expected_text c what in
+      let g = got_text c is in
+      let body = codes " expected " ++ (w ++ (codes ": " ++ g)) in
+      let same : body ++ 10 ∷ [] ≡ codes " expected " ++ (w ++ (codes ": " ++ (g ++ 10 ∷ []))) = ap (λ t. codes " expected " ++ t) (append_assoc w (codes ": " ++ g) (10 ∷ [])) in
+      subst (λ t. Goes (35 ∷ t)) same
+      (goes-line body (quiet-clean body (both (codes " expected ") (w ++ (codes ": " ++ g)) refl (both w (codes ": " ++ g) (expected-quiet what) (both (codes ": ") g refl (got-quiet is))))))
+
+  pub verdict-goes : (v : Verdict) (es : List LogEntry) → Goes (verdict_ending c v es)
+  verdict-goes SlotLimit es = quiet-goes (codes "slot limit") refl
+  verdict-goes (Unmet what is) es = unmet-goes what is
+  verdict-goes Nothing es = steps-go (first_refusal es)
+  verdict-goes (Met what) es = steps-go (first_refusal es)
+
+  pub value-goes : (opening : ℕ) (past : List LogEntry) (noted : List Noted) (q : Question) → Goes (ending (codes "is " ++ value_text c opening past noted q))
+  value-goes opening past noted q = quiet-goes (codes "is " ++ value_text c opening past noted q) (value-said opening past noted q)

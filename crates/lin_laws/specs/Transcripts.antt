@@ -1,0 +1,58 @@
+-- Transcripts of lines on a bench in hand, as texts.
+use Rattle.std.specs.Prelude.{◌≡◌, ℕ, ◌==◌, Bool, false, not, filter, flat_map, List, [], ◌∷◌}
+use Rattle.std.specs.Prelude.{◌++◌, map, Ok, reverse, slice_index}
+use Rattle.std.specs.List.{All}
+use Rattle.lin_core.specs.Runs.{steps_of}
+use Rattle.lin_core.specs.declared.log.LogEntry.{LogEntry}
+use Rattle.lin_log.specs.Language.{named}
+use Rattle.lin_log.specs.Laws.{FitsEntry, HasNames}
+use Rattle.lin_log.specs.Script.{script}
+use Rattle.lin_bench.specs.Plain.{SaysSteps}
+use Rattle.lin_live.specs.Lines.{but_last, pieces, tail}
+use Rattle.lin_live.specs.Told.{HandData, entries_text, reply}
+use Rattle.lin_live.specs.Transcript.{after, transcript}
+use Rattle.lin_live.specs.declared.format.AnswerFormat.TheVariants.{Log}
+use Rattle.lin_laws.specs.NamedScripts.{HasFrameNames}
+
+-- the lines of a text, each with the LF that ends it, and what stands after the last LF
+abbrev pub ended : List ℕ → List ℕ
+ended line = line ++ 10 ∷ []
+
+abbrev pub lines_with_ends : List ℕ → List (List ℕ)
+lines_with_ends bytes = map ended (but_last (pieces bytes)) ++ tail bytes ∷ []
+
+-- a text without its lines that begin with `#`
+abbrev pub is_said : List ℕ → Bool
+is_said line = not (slice_index line 0 == 35)
+
+abbrev pub without_remarks : List ℕ → List ℕ
+without_remarks bytes = flat_map (λ line. line) (filter is_said (lines_with_ends bytes))
+
+-- names are words, and a bench in hand that begins has answered lines of which none was bad or met
+-- the limit of slots
+pub record IsTranscript (h : HandData) (ls : List (List ℕ)) : Type 0 where
+  pub names : HasNames (named h.cluster)
+  pub frames : HasFrameNames h.cluster
+  pub begins : h.bench.past ≡ []
+  pub well : (after reply h ls).was_bad ≡ false
+
+abbrev pub log_of : HandData → List (List ℕ) → List LogEntry
+log_of h ls = reverse (after reply h ls).bench.past
+
+-- without the lines that begin with `#`, a transcript is the text of the log, byte for byte
+abbrev pub TranscriptsAreLogs : Type 0
+TranscriptsAreLogs = (h : HandData) (ls : List (List ℕ)) → IsTranscript h ls
+    → without_remarks (transcript reply h ls) ≡ entries_text h.format h.cluster [] (log_of h ls)
+
+-- a transcript by numbers is a script of its run
+abbrev pub TranscriptsAreScripts : Type 0
+TranscriptsAreScripts = (h : HandData) (ls : List (List ℕ)) → IsTranscript h ls
+    → All FitsEntry (log_of h ls) → h.format ≡ Log
+    → script (transcript reply h ls) ≡ Ok (steps_of (log_of h ls))
+
+-- each transcript is a bench script of its run: it has no bad line, makes no slots of its own, and
+-- expects nothing
+abbrev pub TranscriptsAreBenchScripts : Type 0
+TranscriptsAreBenchScripts = (h : HandData) (ls : List (List ℕ)) (opening capacity : ℕ)
+    → IsTranscript h ls → All FitsEntry (log_of h ls)
+    → SaysSteps h.cluster opening capacity (transcript reply h ls) (steps_of (log_of h ls))
