@@ -1,0 +1,22 @@
+"""A LIN cluster in a Python test, over `linsim live` as a co-process.
+
+    import linsim
+    with linsim.Cluster("seat.ldf", table="Regul") as bus:
+        bus["BCM"]["HeatLevel"].raw = 5
+        bus.run(slots=2)
+        assert bus["Heater"]["HeatLevel"].raw == 5
+
+The program is `linsim` on the path, the environment's LINSIM, or the argument `program`. Times are
+the schedule's: milliseconds in arguments, microseconds in what is told. Nothing is in real time but
+the limit of seconds for an answer.
+"""
+from .cluster import Cluster
+from .errors import (BadLine, Ended, Fault, LdfError, LinsimError, NoAnswer, Refused, SlotLimit,
+                     StartError, TimeLimit, UnknownName, Unmet)
+from .log import ALL, Message, Received, RefusedStep, Run, Slot
+from .node import Node, Signal
+from .process import Answer, Live
+
+__all__ = ["ALL", "Answer", "BadLine", "Cluster", "Ended", "Fault", "LdfError", "LinsimError",
+           "Live", "Message", "NoAnswer", "Node", "Received", "Refused", "RefusedStep", "Run",
+           "Signal", "Slot", "SlotLimit", "StartError", "TimeLimit", "UnknownName", "Unmet"]

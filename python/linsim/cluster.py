@@ -1,0 +1,381 @@
+"""The cluster: its parts by their names, lines, slots, and hooks around slots."""
+from __future__ import annotations
+
+import difflib
+import os
+from functools import partial
+from typing import Callable, Dict, List, Optional, Sequence, Tuple, Type, TypeVar, Union
+
+from .errors import LinsimError, Refused, UnknownName, Unmet
+from .log import ROW, Data, History, Received, Run, Slot, as_bytes, hex_of
+from .node import Node
+from .process import SECONDS, Answer, Live, Program, check
+
+Before = TypeVar("Before", bound=Callable[[], object])
+Result = TypeVar("Result")
+After = TypeVar("After", bound=Callable[[Slot], object])
+
+
+class Cluster:
+    """A LIN cluster of an LDF file, in a process of its own, which ends with a `with` block.
+
+    `bus["Heater"]` is a node. It begins with the schedule table `table`, or with the first one;
+    `capacity` is how many messages of a host may wait (16); the program is `program`, or the
+    environment's LINSIM, or `linsim` on the path; an answer that takes longer than `seconds` by
+    the clock raises `TimeLimit`. Raises `LdfError` with the place of each fault of the LDF, and
+    `StartError`. `nodes`, `signals`, `frames` and `tables` have the names in the LDF's order.
+    """
+
+    def __init__(self, ldf: Union[str, os.PathLike[str]], table: Optional[str] = None, *,
+                 capacity: Optional[int] = None, program: Optional[Program] = None,
+                 seconds: float = SECONDS) -> None:
+        self.ldf = os.fspath(ldf)
+        self.nodes: Dict[str, Node] = {}
+        self.signals: List[str] = []
+        self.frames: List[str] = []
+        self.tables: List[str] = []
+        for line in check(self.ldf, program, seconds):
+            self._declare(line.split(" "))
+        self._names = {"node": set(self.nodes), "signal": set(self.signals),
+                       "frame": {*self.frames, "MasterReq", "SlaveResp"},
+                       "table": set(self.tables)}
+        if table is not None:
+            self.known("table", table)
+        self._fresh = partial(type(self), self.ldf, table, capacity=capacity, program=program,
+                              seconds=seconds)
+        self.live = Live(self.ldf, table, capacity=capacity, program=program, seconds=seconds)
+        self.history = History(self.nodes)
+        self._before: List[Tuple[Optional[str], Callable[[], object]]] = []
+        self._after: List[Tuple[Optional[str], Callable[[Slot], object]]] = []
+        self._slot_damage: Dict[int, bytes] = {}                # by the number of the slot
+        self._frame_damage: List[Tuple[str, int, bytes]] = []   # of the frame's slots, from now
+        self._noted: List[Tuple[int, Node, str, bytes]] = []    # answers of handlers to come
+        self._in_hook = False
+
+    def _declare(self, fields: Sequence[str]) -> None:
+        """Keeps what a line of `check --frames` declares."""
+        kind, name = fields[0], fields[2]
+        if kind == "node":
+            nad = None if fields[3] == "-" else int(fields[3])
+            self.nodes[name] = Node(self, name, int(fields[1]), nad)
+        elif kind == "signal":
+            self.signals.append(name)
+        elif kind == "table":
+            self.tables.append(name)
+        elif kind in ("frame", "sporadic", "event"):
+            self.frames.append(name)
+
+    def __enter__(self) -> Cluster:
+        return self
+
+    def __exit__(self, kind: Optional[Type[BaseException]], *_: object) -> None:
+        if kind is None:
+            self.close()
+        else:
+            self.live.kill()
+
+    def close(self) -> int:
+        """Ends the process. Its exit status: 0; 6 where an expectation wasn't met, 1 where a line
+        was bad or met the limit of slots."""
+        return self.live.close()
+
+    def __getitem__(self, node: str) -> Node:
+        return self.nodes[self.known("node", node)]
+
+    def known(self, kind: str, name: Union[str, int]) -> str:
+        """The name, where the cluster has a node, signal, frame or table (`kind`) of that name."""
+        names = self._names[kind]
+        if name in names:
+            return str(name)
+        nearest = " or ".join(difflib.get_close_matches(str(name), names))
+        hint = f" (is it {nearest}?)" if nearest else ""
+        raise UnknownName(f"{self.ldf} has no {kind} {name}{hint}")
+
+    @property
+    def time(self) -> int:
+        """The schedule's time in microseconds, which is the end of the last slot."""
+        return self.history.time
+
+    @property
+    def asleep(self) -> bool:
+        """Whether the cluster is asleep."""
+        return self.history.asleep
+
+    @property
+    def received(self) -> List[Received]:
+        """All messages that arrived at nodes, in order."""
+        return self.history.received
+
+    def place(self) -> str:
+        """Where the run is, as errors tell it: the LDF file, the line of `script` that was made
+        last, the last slot that was finished, and the time at its end."""
+        slot = f"slot {self.history.finished - 1}" if self.history.finished else "no slot"
+        return f"{self.ldf}, script line {len(self.live.lines)}, {slot}, {self.time} us"
+
+    @property
+    def script(self) -> str:
+        """The run so far as a bench script: all its lines but questions and bad lines. What rules
+        and handlers sent, and what hooks wrote, is in it, so that it makes the same run."""
+        return "".join(line + "\n" for line in self.live.lines)
+
+    def copy(self) -> Cluster:
+        """Another process in the same state: the lines of `script` are made again. Hooks, handlers
+        and the answers that they still owe are not copied, nor is damage to slots to come."""
+        other = self._fresh()
+        for answer in other.live.ask_all(self.live.lines):
+            other.history.take(answer.log)
+        return other
+
+    # -- lines
+
+    def line(self, text: str) -> Answer:
+        """Makes a line of a bench script, as it stands: slots that it makes have no hooks, handlers
+        and damage. Raises `BadLine`, `Refused`, `SlotLimit` and `Unmet`."""
+        answer = self.live.ask(text)
+        self.history.take(answer.log)
+        return answer.check(self.place)
+
+    def expect(self, form: str) -> None:
+        """Raises `Unmet`, which is an AssertionError, where the expectation of a bench script isn't
+        met: `bus.expect("signal BCM SeatTemp 690..710")`."""
+        self.line(f"expect {form}")
+
+    def ask(self, question: str) -> str:
+        """The answer to a question of `linsim live`: `bus.ask("signal BCM SeatTemp")`."""
+        return self.line(f"? {question}").text
+
+    def switch(self, table: str) -> None:
+        """The schedule goes on with the first entry of this table. Refused in an open slot."""
+        self.line(f"switch {self.known('table', table)}")
+
+    def sleep(self) -> None:
+        """The commander is asked to put the cluster to sleep, by the next free MasterReq slot."""
+        self.line("sleep")
+
+    def wake(self) -> None:
+        """The cluster wakes up, at the first entry of its table. Refused where it isn't asleep."""
+        self.line("wake")
+
+    def timeouts(self, ms: Optional[int]) -> None:
+        """Messages whose next frame is so late are given up (N_As, N_Cr); None: none are."""
+        self.line("timeouts off" if ms is None else f"timeouts {ms} ms")
+
+    def every(self, ms: int, step: str) -> None:
+        """Each time that so many milliseconds are over the step is made, a `send` or a `write`:
+        `bus.every(2000, "send BCM 126 3E80")`."""
+        self.line(f"every {ms} ms {step}")
+
+    # -- hooks and damage
+
+    def before(self, frame: Optional[str] = None) -> Callable[[Before], Before]:
+        """Calls the function before each slot of this frame opens (of an entry of this name, or of
+        a sporadic frame that will send it); without a frame, before each slot.
+
+        Hooks and handlers may write, send, ask and expect, but make no slots.
+        """
+        if frame is not None:
+            self.known("frame", frame)
+
+        def add(hook: Before) -> Before:
+            self._before.append((frame, hook))
+            return hook
+        return add
+
+    def after(self, frame: Optional[str] = None) -> Callable[[After], After]:
+        """Calls the function with each `Slot` of this frame (of an entry of this name, or that
+        carried it) once it is finished; without a frame, with each slot."""
+        if frame is not None:
+            self.known("frame", frame)
+
+        def add(hook: After) -> After:
+            self._after.append((frame, hook))
+            return hook
+        return add
+
+    def damage(self, slot: Optional[int] = None, frame: Optional[str] = None, nth: int = 0,
+               data: Data = b"") -> Cluster:
+        """Damages the response of a slot to come: of the one with this number, counted from 0 at
+        the next one, or of the frame's nth slot from now on, from 0. `data` is what the nodes see
+        in its place. A slot without a response, or with several, isn't damaged: its `hurt` stays
+        None, and the refusal stands in the `Run`. The cluster itself."""
+        if (slot is None) == (frame is None):
+            raise ValueError("damage takes a slot or a frame")
+        if min(slot or 0, nth) < 0:
+            raise ValueError("damage takes a slot to come")
+        if slot is not None:
+            self._slot_damage[self.history.finished + slot] = as_bytes(data)
+        elif frame is not None:
+            self._frame_damage.append((self.known("frame", frame), nth, as_bytes(data)))
+        return self
+
+    # -- slots
+
+    def slot(self, hurt: Optional[Data] = None, leave: Sequence[str] = ()) -> Slot:
+        """Makes one slot, with its hooks. `hurt` damages its response, in place of which the nodes
+        see these bytes; the nodes of `leave`, which must be due, leave their responses out. Refused
+        (Asleep, SlotOpen) where it can't be opened."""
+        for node in leave:
+            self.known("node", node)
+        run = self._begin()
+        try:
+            self._make(hurt, leave)
+        finally:
+            self.history.begin()
+        return run.slots[-1]
+
+    def run(self, slots: Optional[int] = None, ms: Optional[int] = None,
+            until: Optional[Callable[[], object]] = None) -> Run:
+        """Makes so many slots, or slots while less than `ms` milliseconds are over; with `until`,
+        only up to where it holds, which is asked before each slot. What came of them. Refused
+        (Asleep, SlotOpen) where a slot can't be opened."""
+        if (slots is None) == (ms is None):
+            raise ValueError("run takes slots or ms")
+        run = self._begin()
+        start = self.time
+
+        def is_over() -> bool:
+            if slots is not None:
+                return len(run.slots) >= slots
+            return self.time >= start + 1000 * (ms or 0)
+
+        try:
+            if self._is_looked_at or until or (ms is not None and self._slot_damage):
+                while not is_over() and not (until and until()):
+                    self._make()
+            else:
+                self._slots(self._stretches(slots) if slots is not None else [f"slots {ms} ms"])
+        finally:
+            self.history.begin()
+        return run
+
+    def idle(self, most: int = 10_000) -> Run:
+        """Makes slots until no message waits and no answer of a rule or a handler is to come, at
+        most so many. `Unmet` where some still do. What came of the slots."""
+        run = self._begin()
+        try:
+            if self._is_looked_at or self._slot_damage:
+                self._make_until_idle(run, most)
+            else:
+                self.line(f"slots idle {most}")
+        finally:
+            self.history.begin()
+        return run
+
+    def _make_until_idle(self, run: Run, most: int) -> None:
+        while True:
+            told = self.ask("idle")
+            left = [] if told == "idle" else [told]
+            if self._noted:
+                left.append(f"{len(self._noted)} of handlers noted")
+            if not left:
+                return
+            if len(run.slots) >= most:
+                raise Unmet("idle", ", ".join(left), self.place())
+            self._make()
+
+    def _begin(self) -> Run:
+        """Of what the slots come to that are made now."""
+        if self._in_hook:
+            raise LinsimError("a hook makes no slots")
+        return self.history.begin()
+
+    @property
+    def _is_looked_at(self) -> bool:
+        """Whether slots are made one by one, since something may be done between them."""
+        return bool(self._before or self._after or self._frame_damage
+                    or any(node.handlers for node in self.nodes.values()))
+
+    def _stretches(self, slots: int) -> List[str]:
+        """The lines that make so many slots, with the damage that is asked for."""
+        lines, at, end = [], self.history.finished, self.history.finished + slots
+        for number in sorted(it for it in self._slot_damage if at <= it < end):
+            if number > at:
+                lines.append(f"slots {number - at}")
+            lines.append(f"slot hurt {hex_of(self._slot_damage[number])}")
+            at = number + 1
+        return lines + [f"slots {end - at}"] if end > at else lines
+
+    def _slots(self, lines: List[str]) -> None:
+        """Makes lines of slots. Raises where one ended at a slot that couldn't be opened; what else
+        was refused stands in the Run."""
+        answers = self.live.ask_all(lines)
+        for answer in answers:
+            self.history.take(answer.log)
+        for number in [it for it in self._slot_damage if it < self.history.finished]:
+            del self._slot_damage[number]
+        for answer in answers:
+            if answer.kind != "refused":
+                answer.check(self.place)
+            elif answer.log[-2] == "bus open":
+                refusal, name = answer.log[-1].split(" ")[2:]
+                raise Refused(answer.line, int(refusal), name, self.place())
+
+    def _make(self, hurt: Optional[Data] = None, leave: Sequence[str] = ()) -> None:
+        """One slot with its hooks."""
+        heard = len(self.received)
+        names = self._next_names() if any(frame for frame, _ in self._before) else []
+        for frame, hook in self._before:
+            if frame is None or frame in names:
+                self._call(hook)
+        damage = self._damage()
+        hurt = damage if hurt is None else hurt
+        if hurt is not None and leave:
+            raise ValueError("a slot is hurt, or responses are left out")
+        tail = ["hurt", hex_of(hurt)] if hurt is not None else ["leave", *leave] if leave else []
+        self._slots([" ".join(["slot", *tail])])
+        slot = self.history.run.slots[-1]
+        for node in leave:
+            if node not in slot.due:
+                raise LinsimError(f"{node} isn't due ({self.place()})")
+        for received in self.received[heard:]:
+            self._hear(received)
+        for frame, after in self._after:
+            if frame is None or slot.is_of(frame):
+                self._call(after, slot)
+        self._send_noted()
+
+    def _next_names(self) -> List[str]:
+        """The names of the slot that comes next: of its entry, and the member of a sporadic
+        frame that it will send."""
+        return self.ask("next").split(" ")[2:]
+
+    def _damage(self) -> Optional[bytes]:
+        """The damage that is asked for of the next slot."""
+        found = self._slot_damage.get(self.history.finished)
+        if self._frame_damage:
+            names, left = self._next_names(), []
+            for frame, nth, data in self._frame_damage:
+                if frame not in names:
+                    left.append((frame, nth, data))
+                elif nth:
+                    left.append((frame, nth - 1, data))
+                elif found is None:
+                    found = data
+            self._frame_damage = left
+        return found
+
+    def _call(self, hook: Callable[..., Result], *arguments: object) -> Result:
+        self._in_hook = True
+        try:
+            return hook(*arguments)
+        finally:
+            self._in_hook = False
+
+    def _hear(self, received: Received) -> None:
+        """Calls the handlers of a message that arrived, and notes their answers."""
+        node = self.nodes[received.target]
+        for handler in node.handlers:
+            answers = self._call(handler, received.data)
+            if answers is None or received.functional:
+                continue
+            at = self.time
+            for wait, data in [(0, answers)] if isinstance(answers, ROW) else answers:
+                at += 1000 * wait
+                self._noted.append((at, node, received.source, as_bytes(data)))
+
+    def _send_noted(self) -> None:
+        """Sends the answers whose time has come."""
+        self._noted.sort(key=lambda noted: noted[0])
+        while self._noted and self._noted[0][0] <= self.time:
+            _, node, target, data = self._noted.pop(0)
+            node.send(target, data)

@@ -1,0 +1,231 @@
+"""The co-process: lines to `linsim live`, and its answers."""
+from __future__ import annotations
+
+import os
+import re
+import select
+import subprocess
+import tempfile
+import time
+import weakref
+from typing import IO, Callable, Iterable, List, Optional, Sequence, Union
+
+from .errors import (BadLine, Ended, LinsimError, Refused, SlotLimit, StartError, TimeLimit, Unmet,
+                     start_error)
+
+Program = Union[str, "os.PathLike[str]", Sequence[str]]
+
+SECONDS = 60.0      # the time limit of an answer where no other is given
+LAST_LINE = re.compile(r"(ok|is|refused|expected|bad line|slot limit)(?::? (.*))?")
+
+
+class Answer:
+    """What came of a line: the lines of the `log`, and how it ended: `kind` is `"ok"`, `"is"`,
+    `"refused"`, `"expected"`, `"bad line"` or `"slot limit"`, and `text` what stands behind it."""
+    __slots__ = ("line", "log", "kind", "text")
+
+    def __init__(self, line: str, log: List[str], last: str) -> None:
+        found = LAST_LINE.fullmatch(last)
+        if not found:
+            raise LinsimError(f"{line}: an answer of no known form: {last}")
+        self.line, self.log = line, log
+        self.kind, self.text = found[1], found[2] or ""
+
+    def check(self, where: Callable[[], str] = str) -> Answer:
+        """Itself. Raises `BadLine`, `SlotLimit`, `Unmet` or `Refused` where it is that, which tell
+        what `where` gives."""
+        if self.kind == "bad line":
+            raise BadLine(self.line, self.text, where())
+        if self.kind == "slot limit":
+            raise SlotLimit(self.line, where())
+        if self.kind == "expected":
+            what, _, got = self.text.partition(": ")
+            raise Unmet(what, got, where())
+        if self.kind == "refused":
+            number, _, name = self.text.partition(" ")
+            raise Refused(self.line, int(number), name, where())
+        return self
+
+
+def command(program: Optional[Program] = None) -> List[str]:
+    """The words that start the program: a path, or several words; where it is None, the path in
+    the environment's LINSIM, or else `linsim`, which is looked for on the path."""
+    if program is None:
+        program = os.environ.get("LINSIM") or "linsim"
+    if isinstance(program, (str, os.PathLike)):
+        return [os.fspath(program)]
+    return list(program)
+
+
+def not_started(words: List[str], why: OSError) -> StartError:
+    """What to raise where the system can't start the program."""
+    hint = "set LINSIM to the program's path, or give program="
+    return StartError(None, f"{words[0]} can't be started: {why.strerror}; {hint}")
+
+
+def check(ldf: str, program: Optional[Program] = None, seconds: float = SECONDS) -> List[str]:
+    """The lines of `linsim check --frames`. Raises `LdfError` with each fault's file, line and
+    column, and else `StartError`, or `TimeLimit`."""
+    words = command(program) + ["check", ldf, "--frames", "--where"]
+    try:
+        done = subprocess.run(words, stdin=subprocess.DEVNULL, stdout=subprocess.PIPE,
+                              stderr=subprocess.PIPE, timeout=seconds, check=False)
+    except OSError as why:
+        raise not_started(words, why) from None
+    except subprocess.TimeoutExpired:
+        raise TimeLimit(f"check {ldf}", seconds) from None
+    if done.returncode:
+        raise start_error(ldf, done.returncode, done.stderr.decode(errors="replace"))
+    return done.stdout.decode(errors="replace").splitlines()
+
+
+def end(process: subprocess.Popen[bytes], errors: IO[bytes], parent: int) -> None:
+    """Ends the process, and lets go of what it held; but not in a fork of its parent."""
+    if os.getpid() == parent:
+        process.kill()
+        process.wait()
+        for file in (process.stdin, process.stdout, errors):
+            if file:
+                file.close()
+
+
+class Live:
+    """`linsim live FILE` in a process of its own, which ends with this object and with Python.
+
+    `form` is `"log"` or `"named"`. An answer that isn't whole after `seconds` by the clock raises
+    `TimeLimit`. After that, and after each other exception in the middle of answers, the process
+    is ended. `lines` has the lines that make the run: all but questions and bad ones.
+    """
+
+    def __init__(self, ldf: Union[str, os.PathLike[str]], table: Optional[str] = None,
+                 form: str = "named", *, capacity: Optional[int] = None,
+                 program: Optional[Program] = None, seconds: float = SECONDS) -> None:
+        words = command(program) + ["live", os.fspath(ldf), "--to", form]
+        if table is not None:
+            words += ["--table", table]
+        if capacity is not None:
+            words += ["--capacity", str(capacity)]
+        self.seconds = seconds
+        self.lines: List[str] = []
+        self._errors: IO[bytes] = tempfile.TemporaryFile()
+        try:
+            self._process = subprocess.Popen(words, stdin=subprocess.PIPE, stdout=subprocess.PIPE,
+                                             stderr=self._errors, bufsize=0)
+        except OSError as why:
+            self._errors.close()
+            raise not_started(words, why) from None
+        self._end = weakref.finalize(self, end, self._process, self._errors, os.getpid())
+        assert self._process.stdin and self._process.stdout
+        self._in, self._out = self._process.stdin.fileno(), self._process.stdout.fileno()
+        os.set_blocking(self._in, False)
+        self._reading, self._both = select.poll(), select.poll()
+        self._reading.register(self._out, select.POLLIN)
+        self._both.register(self._out, select.POLLIN)
+        self._both.register(self._in, select.POLLOUT)
+        self._read = bytearray(b"\n")       # from the LF on that ended the last answer
+        self._searched = 0                  # before this no last line begins in it
+        try:
+            self.ask("")                    # the program has read the LDF, or has ended
+        except Ended as ended:
+            raise start_error(os.fspath(ldf), ended.status, ended.text) from None
+        except TimeLimit:
+            raise TimeLimit(f"live {os.fspath(ldf)}", seconds) from None
+        self.lines.clear()
+
+    def ask(self, line: str) -> Answer:
+        """The answer to one line."""
+        return self.ask_all([line])[0]
+
+    def ask_all(self, lines: Iterable[str]) -> List[Answer]:
+        """The answers to several lines, which are written ahead of them."""
+        lines = list(lines)
+        text = "".join([line + "\n" for line in lines])
+        if text.count("\n") != len(lines):
+            raise ValueError("a line has no line feed")
+        if not self._end.alive:
+            raise LinsimError("the program was ended")
+        unwritten = memoryview(text.encode())
+        answers: List[Answer] = []
+        try:
+            for line in lines:
+                limit = time.monotonic() + self.seconds
+                answer = self._take(line)
+                while answer is None:
+                    unwritten = self._exchange(line, unwritten, limit)
+                    answer = self._take(line)
+                answers.append(answer)
+        except BaseException:
+            self.kill()
+            raise
+        return answers
+
+    def close(self) -> int:
+        """Ends the lines, and waits for the program's end. Its exit status: 0; 6 where an
+        expectation wasn't met, 1 where a line was bad or met the limit of slots. Raises
+        `TimeLimit` where it doesn't end in time."""
+        if self._end.alive:
+            limit = time.monotonic() + self.seconds
+            assert self._process.stdin
+            self._process.stdin.close()
+            try:
+                while self._more("the end of the lines", self._reading, limit):
+                    pass
+                self._wait("the end of the lines", limit)
+            finally:
+                self.kill()
+        return self._process.returncode
+
+    def kill(self) -> None:
+        """Ends the program at once, whatever it does."""
+        self._end()
+
+    def _take(self, line: str) -> Optional[Answer]:
+        """The next answer, where it was read to its end."""
+        start = self._read.find(b"\n# ", self._searched)
+        self._searched = start if start >= 0 else max(len(self._read) - 2, 0)
+        ended = self._read.find(b"\n", start + 3) if start >= 0 else -1
+        if ended < 0:
+            return None
+        log = self._read[1:start].decode(errors="replace").split("\n") if start else []
+        answer = Answer(line, log, self._read[start + 3:ended].decode(errors="replace"))
+        del self._read[:ended]
+        self._searched = 0
+        if answer.kind not in ("is", "bad line"):
+            self.lines.append(line)
+        return answer
+
+    def _exchange(self, line: str, unwritten: memoryview, limit: float) -> memoryview:
+        """Writes of what is unwritten what the pipe takes, and reads what there is. So neither
+        process ever waits for the other one to read. What is left to be written."""
+        if unwritten:
+            try:
+                unwritten = unwritten[os.write(self._in, unwritten):]
+            except BlockingIOError:
+                pass
+            except BrokenPipeError:         # what it said before it ended is still to be read
+                unwritten = unwritten[:0]
+        if self._more(line, self._both if unwritten else self._reading, limit) == b"":
+            self._wait(line, limit)
+            self._errors.seek(0)
+            text = self._errors.read().decode(errors="replace")
+            raise Ended(line, self._process.returncode, text)
+        return unwritten
+
+    def _wait(self, line: str, limit: float) -> None:
+        """Waits for the end of the process."""
+        try:
+            self._process.wait(max(limit - time.monotonic(), 0))
+        except subprocess.TimeoutExpired:
+            raise TimeLimit(line, self.seconds) from None
+
+    def _more(self, line: str, poll: select.poll, limit: float) -> Optional[bytes]:
+        """Waits until the program wrote more or reads on. What it wrote, which is kept: none at
+        its end, None where it only reads."""
+        ready = poll.poll(max(limit - time.monotonic(), 0) * 1000)
+        if not ready:
+            raise TimeLimit(line, self.seconds)
+        if poll is self._both and self._out not in dict(ready):
+            return None
+        piece = os.read(self._out, 1 << 16)
+        self._read += piece
+        return piece

@@ -1,0 +1,93 @@
+"""What the backend builds, by its hooks, without pip."""
+import base64
+import csv
+import hashlib
+import importlib.util
+import io
+import os
+import subprocess
+import sys
+import tarfile
+import tempfile
+import unittest
+import zipfile
+
+from tests import SEAT
+
+PACKAGE = os.path.dirname(os.path.dirname(os.path.abspath(__file__)))
+
+
+def loaded(path):
+    spec = importlib.util.spec_from_file_location("linsim_backend", path)
+    module = importlib.util.module_from_spec(spec)
+    spec.loader.exec_module(module)
+    return module
+
+
+backend = loaded(os.path.join(PACKAGE, "backend", "linsim_backend.py"))
+MODULES = {f"linsim/{name}" for name in os.listdir(os.path.join(PACKAGE, "linsim"))} - {
+    "linsim/__pycache__"}
+INFO = {f"linsim-0.1.0.dist-info/{name}" for name in ("METADATA", "WHEEL", "RECORD")}
+
+
+class Backend(unittest.TestCase):
+    def setUp(self):
+        room = tempfile.TemporaryDirectory()
+        self.addCleanup(room.cleanup)
+        self.room = room.name
+
+    def imported_from(self, path):
+        """Where Python finds the package with this path alone, and that it runs there."""
+        text = (f"import sys; sys.path.insert(0, {path!r}); import linsim\n"
+                f"with linsim.Cluster({SEAT!r}) as bus: bus.run(slots=3)\n"
+                "print(linsim.__file__)")
+        return subprocess.run([sys.executable, "-c", text], cwd=self.room, timeout=60, check=True,
+                              stdout=subprocess.PIPE, universal_newlines=True).stdout.strip()
+
+    def test_version(self):
+        words = [os.environ["LINSIM"], "--version"]
+        told = subprocess.run(words, stdout=subprocess.PIPE, timeout=60, check=True).stdout
+        self.assertEqual(told.decode(), f"linsim {backend.VERSION}\n")
+
+    def test_wheel(self):
+        name = backend.build_wheel(self.room)
+        self.assertEqual(name, "linsim-0.1.0-py3-none-any.whl")
+        path = os.path.join(self.room, name)
+        with zipfile.ZipFile(path) as archive:
+            self.assertEqual(set(archive.namelist()), MODULES | INFO)
+            record = archive.read("linsim-0.1.0.dist-info/RECORD").decode()
+            for file, told, size in csv.reader(io.StringIO(record)):
+                data = archive.read(file)
+                digest = base64.urlsafe_b64encode(hashlib.sha256(data).digest()).decode()
+                wanted = ("", "") if file.endswith("RECORD") else (
+                    "sha256=" + digest.rstrip("="), str(len(data)))
+                self.assertEqual((told, size), wanted, file)
+            self.assertEqual(len(record.splitlines()), len(MODULES | INFO))
+            metadata = archive.read("linsim-0.1.0.dist-info/METADATA").decode()
+            self.assertIn("\nName: linsim\nVersion: 0.1.0\n", metadata)
+        self.assertTrue(self.imported_from(path).startswith(path))
+
+    def test_wheel_that_leads_here(self):
+        with zipfile.ZipFile(os.path.join(self.room, backend.build_editable(self.room))) as archive:
+            self.assertEqual(set(archive.namelist()), {"linsim.pth"} | INFO)
+            self.assertEqual(archive.read("linsim.pth").decode(), PACKAGE + "\n")
+
+    def test_source_archive(self):
+        """What it has builds the same wheel."""
+        with tarfile.open(os.path.join(self.room, backend.build_sdist(self.room))) as archive:
+            for entry in archive:
+                path = os.path.join(self.room, entry.name)
+                os.makedirs(os.path.dirname(path), exist_ok=True)
+                with open(path, "wb") as file:
+                    file.write(archive.extractfile(entry).read())
+        top = os.path.join(self.room, "linsim-0.1.0")
+        self.assertTrue({"pyproject.toml", "README.md", "PKG-INFO"} <= set(os.listdir(top)))
+        with open(os.path.join(self.room, backend.build_wheel(self.room)), "rb") as file:
+            wheel = file.read()
+        other = loaded(os.path.join(top, "backend", "linsim_backend.py"))
+        with open(os.path.join(top, other.build_wheel(top)), "rb") as file:
+            self.assertEqual(file.read(), wheel)
+
+
+if __name__ == "__main__":
+    unittest.main()
