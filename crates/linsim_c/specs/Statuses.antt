@@ -1,0 +1,86 @@
+-- The status of a call, and its report, by how the call ended.
+use Rattle.std.specs.Prelude.{◌≡◌, ℕ, Result, Ok, Err}
+use Rattle.lin_description.specs.declared.place.Place.{Place}
+use Rattle.lin_ldf.specs.declared.fault.LdfFault.{LdfFault}
+use Rattle.lin_ldf.specs.declared.fault.LdfFault.TheVariants.{BadByte, OpenComment, OpenText}
+use Rattle.lin_ldf.specs.declared.fault.LdfFault.TheVariants.{Unexpected, NumberTooLarge}
+use Rattle.lin_ldf.specs.declared.fault.LdfFault.TheVariants.{SectionTwice, NameTwice}
+use Rattle.lin_ldf.specs.declared.fault.LdfFault.TheVariants as ldf
+use Rattle.linsim_c.specs.declared.fault.Fault.{Fault}
+use Rattle.linsim_c.specs.declared.fault.Fault.TheVariants.{UnknownFlags, BadCapacity, Ldf}
+use Rattle.linsim_c.specs.declared.fault.Fault.TheVariants.{NoSuchTable, ScriptTooLong, BadLine}
+use Rattle.linsim_c.specs.declared.fault.Fault.TheVariants.{NoRoom, OutOfMemory, LogFull, Untold}
+use Rattle.linsim_c.specs.declared.fault.Fault.TheVariants.{IsOpen, IsClosed}
+use Rattle.linsim_c.specs.declared.fault.Fault.TheVariants as fault
+use Rattle.linsim_c.specs.declared.fault.Report.{Report}
+
+-- a call ends with the length of the text that it wrote, or with a fault
+abbrev pub Answer : Type 0
+Answer = Result ℕ Fault
+
+abbrev pub status_of : Answer → ℕ
+status_of (Ok length) = 0
+status_of (Err UnknownFlags) = 1
+status_of (Err BadCapacity) = 2
+status_of (Err (Ldf f)) = 3
+status_of (Err (fault.Finding f)) = 4
+status_of (Err NoSuchTable) = 5
+status_of (Err ScriptTooLong) = 6
+status_of (Err (BadLine line)) = 7
+status_of (Err (NoRoom length)) = 8
+status_of (Err OutOfMemory) = 9
+status_of (Err LogFull) = 10
+status_of (Err Untold) = 11
+status_of (Err IsOpen) = 12
+status_of (Err IsClosed) = 13
+
+-- the numbers of an LDF text's faults
+abbrev pub fault_number : LdfFault → ℕ
+fault_number (BadByte at) = 1
+fault_number (OpenComment at) = 2
+fault_number (OpenText at) = 3
+fault_number (Unexpected at) = 4
+fault_number (NumberTooLarge at) = 5
+fault_number (SectionTwice at) = 6
+fault_number (NameTwice at) = 7
+fault_number ldf.OutOfMemory = 0
+
+abbrev pub place_of : LdfFault → Place
+place_of (BadByte at) = at
+place_of (OpenComment at) = at
+place_of (OpenText at) = at
+place_of (Unexpected at) = at
+place_of (NumberTooLarge at) = at
+place_of (SectionTwice at) = at
+place_of (NameTwice at) = at
+place_of ldf.OutOfMemory = record { line = 0; column = 0 }
+
+-- a report of nothing but a length, or a place
+abbrev pub of_length : ℕ → Report
+of_length length = record { length = length; line = 0; column = 0; number = 0 }
+
+abbrev pub at_place : ℕ → ℕ → ℕ → Report
+at_place line column number = record { length = 0; line = line; column = column; number = number }
+
+abbrev pub report_of : Answer → Report
+report_of (Ok length) = of_length length
+report_of (Err (NoRoom length)) = of_length length
+report_of (Err (BadLine line)) = at_place line 0 0
+report_of (Err (Ldf f)) = at_place (place_of f).line (place_of f).column (fault_number f)
+report_of (Err (fault.Finding f)) = at_place f.line f.column f.number
+report_of (Err UnknownFlags) = of_length 0
+report_of (Err BadCapacity) = of_length 0
+report_of (Err NoSuchTable) = of_length 0
+report_of (Err ScriptTooLong) = of_length 0
+report_of (Err OutOfMemory) = of_length 0
+report_of (Err LogFull) = of_length 0
+report_of (Err Untold) = of_length 0
+report_of (Err IsOpen) = of_length 0
+report_of (Err IsClosed) = of_length 0
+
+-- how a call ended, of which the facts hold that this says
+pub record IsCall (facts : Answer → Type 0) (status : ℕ) (report : Report) : Type 0 where
+  pub answer : Answer
+  pub ended : facts answer
+  pub status_is : status ≡ status_of answer
+  pub report_is : report ≡ report_of answer

@@ -1,0 +1,83 @@
+//! A core's owner, in the form that C keeps: one pointer, which is null with no core.
+ghost use Rattle.std.specs.Prelude.{◌≡◌};
+ghost use Rattle.std.specs.declared.option.Option.{Option};
+ghost use Rattle.std.specs.declared.option.Option.TheVariants.{None, Some};
+ghost use Rattle.std.specs.Option.{MatchOption};
+ghost use Rattle.std.specs.Coded.{coded_option};
+ghost use Rattle.lin_core.specs.Core.{CoreData};
+ghost use Rattle.lin_core.specs.contracts.Core.{the_row};
+
+use crate::loose::Loose;
+use lin_core::Core;
+use std::alloc::Global;
+use std::marker::Model;
+use std::mem;
+use std::ptr::null_mut;
+
+/// A core or none, as C keeps it.
+#[repr(C)]
+pub struct Handle {
+    at: *mut u8,
+    pub ghost value: { Option CoreData } by { coded_option the_row.coded },
+}
+
+impl Model for Handle {
+    ghost use Rattle.linsim_c.specs.Held.{held};
+
+    ghost also_owns = { λ h. held h.at h.value };
+}
+
+impl Handle {
+    fn empty() -> Handle
+        ensures { result.value ≡ None }
+    {
+        Handle { at: null_mut() }
+    }
+
+    fn of(core: Loose<Core, Global>) -> Handle
+        ensures { result.value ≡ Some core.value }
+    {
+        let Loose { at, alloc: _ } = core;
+        Handle {
+            at: at.cast::<u8>(),
+        }
+    }
+
+    fn into_loose(self, alloc: Global) -> Option<Loose<Core, Global>>
+        ensures { MatchOption result (self.value ≡ None) (λ l. self.value ≡ Some l.value) }
+    {
+        let Handle { at } = self;
+        if at.is_null() {
+            None
+        } else {
+            Some(Loose {
+                at: at.cast::<Core>(),
+                alloc,
+            })
+        }
+    }
+
+    /// Takes the core out.
+    pub fn take(&mut self, alloc: Global) -> Option<Box<Core>>
+        ensures old { MatchOption result (self.old.value ≡ None)
+            (λ b. self.old.value ≡ Some b.value) }
+        ensures new { self.new.value ≡ None }
+    {
+        match mem::replace(self, Handle::empty()).into_loose(alloc) {
+            Some(loose) => Some(loose.into_box()),
+            None => None,
+        }
+    }
+
+    /// Puts a core in, and frees the one that was there.
+    pub fn put(&mut self, alloc: Global, core: Box<Core>)
+        ensures { self.new.value ≡ Some core.value }
+    {
+        match mem::replace(self, Handle::of(Loose::of(core))).into_loose(alloc) {
+            Some(loose) => {
+                let _old = loose.into_box();
+            }
+            None => {}
+        }
+    }
+}

@@ -1,0 +1,43 @@
+//! Texts of entries, written into the room that C lends.
+
+ghost use Rattle.std.specs.Prelude.{drop};
+ghost use Rattle.lin_log.specs.Words.{text};
+ghost use Rattle.linsim_c.specs.Writing.{Writes};
+
+use crate::fault::Fault;
+use lin_core::Log;
+use lin_log::put_entries;
+use lin_text::TextWriter;
+use std::alloc::Global;
+
+/// Writes these bytes at the beginning of `out`, and answers how many.
+///
+/// # Errors
+/// `NoRoom`; nothing was written.
+fn put(bytes: &[u8], out: &mut [u8]) -> Result<usize, Fault>
+    ensures { Writes result bytes.now out.old out.new }
+{
+    let length = bytes.len();
+    if length > out.len() {
+        return Err(Fault::NoRoom { length });
+    }
+    out[..length].copy_from_slice(bytes);
+    Ok(length)
+}
+
+/// Writes the text of the entries of a log from one on at the beginning of `out`, and answers how
+/// many bytes it has.
+///
+/// # Errors
+/// `NoRoom` and `OutOfMemory`; nothing was written.
+pub(crate) fn put_log(alloc: Global, log: &Log, from: usize, out: &mut [u8]) -> Result<usize, Fault>
+    ensures { Writes result (text (drop from log.now.entries)) out.old out.new }
+{
+    let mut bytes = Vec::new(alloc);
+    let mut lines = TextWriter::new(&mut bytes);
+    put_entries(&mut lines, log, from);
+    if lines.finish().is_err() {
+        return Err(Fault::OutOfMemory);
+    }
+    put(bytes.as_slice(), out)
+}
