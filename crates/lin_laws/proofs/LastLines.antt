@@ -40,7 +40,9 @@ use Rattle.lin_live.specs.Told.{ending, idle_text, slot_text, steps_ending, valu
 use Rattle.lin_live.specs.declared.question.Question.{Question}
 use Rattle.lin_live.specs.declared.question.Question.TheVariants as question
 use Rattle.lin_laws.specs.NamedScripts.{HasFrameNames}
-use Rattle.lin_laws.proofs.Remarks.{Goes, goes-line, is_clean, quiet-clean}
+use Rattle.lin_laws.specs.Transcripts.{IsRemark}
+use Rattle.lin_laws.proofs.Reasons.{each-way}
+use Rattle.lin_laws.proofs.Remarks.{a-remark, is_clean, quiet-clean}
 use Rattle.lin_laws.proofs.Replies.{frame-name, refusal-quiet, slot-quiet, value-quiet}
 
 abbrev Quiet : List ℕ → Type 0
@@ -161,47 +163,43 @@ module _ (c : Parts) (a : HasNames (named c)) (b : HasFrameNames c) where
   next-said None = refl
   next-said (Some s) = slot-said s
 
-  if-quiet : (t : Bool) (x y : List ℕ) → Quiet x → Quiet y → Quiet (if t then x else y)
-  if-quiet true x y h k = h
-  if-quiet false x y h k = k
-
   value-said : (opening : ℕ) (past : List LogEntry) (noted : List Noted) (q : Question) → Quiet (value_text c opening past noted q)
   value-said opening past noted (question.Signal n s) = value-quiet (value_at c past n s)
   value-said opening past noted (question.Waiting host) = quiet-decimal (length (waiting c past host))
   value-said opening past noted question.Idle = idle-quiet (pending c past noted)
   value-said opening past noted question.Time = quiet-decimal (time c past)
-  value-said opening past noted question.Asleep = if-quiet (asleep past) (codes "asleep") (codes "awake") refl refl
+  value-said opening past noted question.Asleep = each-way Quiet (asleep past) (codes "asleep") (codes "awake") refl refl
   value-said opening past noted question.Next =
-      if-quiet (asleep past) (codes "asleep") (option_map_or (λ (s : ℕ × ℕ × Option ℕ). slot_text c (s.0, s.1) s.2) (next_slot c opening past) (codes "open")) refl
+      each-way Quiet (asleep past) (codes "asleep") (option_map_or (λ (s : ℕ × ℕ × Option ℕ). slot_text c (s.0, s.1) s.2) (next_slot c opening past) (codes "open")) refl
       (next-said (next_slot c opening past))
 
   -- ---- last lines
-  pub ending-goes : (words : List ℕ) → is_clean words ≡ true → Goes (ending words)
-  ending-goes words h = goes-line (32 ∷ words) h
+  pub ending-remark : (words : List ℕ) → is_clean words ≡ true → IsRemark (ending words)
+  ending-remark words h = a-remark (32 ∷ words) h
 
-  quiet-goes : (words : List ℕ) → Quiet words → Goes (ending words)
-  quiet-goes words h = ending-goes words (quiet-clean words h)
+  quiet-remark : (words : List ℕ) → Quiet words → IsRemark (ending words)
+  quiet-remark words h = ending-remark words (quiet-clean words h)
 
-  steps-go : (o : Option Refusal) → Goes (steps_ending o)
-  steps-go None = quiet-goes (codes "ok") refl
-  steps-go (Some why) =
-      quiet-goes (codes "refused " ++ (decimal (refusal_number why) ++ spaced_word (refusal_word why)))
+  steps-remark : (o : Option Refusal) → IsRemark (steps_ending o)
+  steps-remark None = quiet-remark (codes "ok") refl
+  steps-remark (Some why) =
+      quiet-remark (codes "refused " ++ (decimal (refusal_number why) ++ spaced_word (refusal_word why)))
       (both (decimal (refusal_number why)) _ (quiet-decimal (refusal_number why)) (refusal-quiet why))
 
-  unmet-goes : (what : Expected) (is : Got) → Goes (verdict_ending c (Unmet what is) [])
-  unmet-goes what is =
+  unmet-remark : (what : Expected) (is : Got) → IsRemark (verdict_ending c (Unmet what is) [])
+  unmet-remark what is =
       let w = expected_text c what in
       let g = got_text c is in
       let body = codes " expected " ++ (w ++ (codes ": " ++ g)) in
       let same : body ++ 10 ∷ [] ≡ codes " expected " ++ (w ++ (codes ": " ++ (g ++ 10 ∷ []))) = ap (λ t. codes " expected " ++ t) (append_assoc w (codes ": " ++ g) (10 ∷ [])) in
-      subst (λ t. Goes (35 ∷ t)) same
-      (goes-line body (quiet-clean body (both (codes " expected ") (w ++ (codes ": " ++ g)) refl (both w (codes ": " ++ g) (expected-quiet what) (both (codes ": ") g refl (got-quiet is))))))
+      subst (λ t. IsRemark (35 ∷ t)) same
+      (a-remark body (quiet-clean body (both (codes " expected ") (w ++ (codes ": " ++ g)) refl (both w (codes ": " ++ g) (expected-quiet what) (both (codes ": ") g refl (got-quiet is))))))
 
-  pub verdict-goes : (v : Verdict) (es : List LogEntry) → Goes (verdict_ending c v es)
-  verdict-goes SlotLimit es = quiet-goes (codes "slot limit") refl
-  verdict-goes (Unmet what is) es = unmet-goes what is
-  verdict-goes Nothing es = steps-go (first_refusal es)
-  verdict-goes (Met what) es = steps-go (first_refusal es)
+  pub verdict-remark : (v : Verdict) (es : List LogEntry) → IsRemark (verdict_ending c v es)
+  verdict-remark SlotLimit es = quiet-remark (codes "slot limit") refl
+  verdict-remark (Unmet what is) es = unmet-remark what is
+  verdict-remark Nothing es = steps-remark (first_refusal es)
+  verdict-remark (Met what) es = steps-remark (first_refusal es)
 
-  pub value-goes : (opening : ℕ) (past : List LogEntry) (noted : List Noted) (q : Question) → Goes (ending (codes "is " ++ value_text c opening past noted q))
-  value-goes opening past noted q = quiet-goes (codes "is " ++ value_text c opening past noted q) (value-said opening past noted q)
+  pub value-remark : (opening : ℕ) (past : List LogEntry) (noted : List Noted) (q : Question) → IsRemark (ending (codes "is " ++ value_text c opening past noted q))
+  value-remark opening past noted q = quiet-remark (codes "is " ++ value_text c opening past noted q) (value-said opening past noted q)

@@ -6,5 +6,10 @@ pub mod TextNames
 pub mod Remarks
 pub mod LogLines
 pub mod LastLines
+pub mod Reasons
+pub mod StepForms
+pub mod ScriptForms
+pub mod LineForms
 pub mod Transcripts
 pub mod Scripts
+pub mod Inputs

@@ -3,13 +3,13 @@ use Rattle.std.proofs.Common.{◌≡◌, ◌∙◌, ℕ, ◌==◌, Bool, true, f
 use Rattle.std.specs.List.{list_all}
 use Rattle.std.proofs.lemmas.Bool.{and_parts}
 use Rattle.std.proofs.lemmas.Grind.{common_steps}
-use Rattle.std.proofs.lemmas.List.Elements.{All-nil, All-cons}
+use Rattle.std.proofs.lemmas.List.Elements.{All-cons, All-head, All-nil, All-tail}
 use Rattle.std.proofs.lemmas.List.Splits.{slice_split_at}
 use Rattle.lin_log.specs.Laws.{is_quiet, no_end}
-use Rattle.lin_log.proofs.Items.{weaker}
+use Rattle.lin_log.proofs.Items.{both, weaker}
 use Rattle.lin_live.specs.Lines.{HasNoLf, but_last, last_one, pieces}
 use Rattle.lin_live.proofs.Cuts.{pieces-some}
-use Rattle.lin_laws.specs.Transcripts.{ended, is_said, lines_with_ends, without_remarks}
+use Rattle.lin_laws.specs.Transcripts.{IsRemark, ended, is_said, lines_with_ends, without_remarks}
 
 -- ---- bytes without LF
 abbrev pub no_lf : ℕ → Bool
@@ -32,6 +32,14 @@ clean-bytes [] h = All-nil (λ b. (b == 10) ≡ false)
 clean-bytes (x ∷ xs) h =
     let p = and_parts (no_lf x) (is_clean xs) h in
     All-cons (λ b. (b == 10) ≡ false) x xs (not-lf x p.0) (clean-bytes xs p.1)
+
+lf-not : (b : ℕ) → (b == 10) ≡ false → no_lf b ≡ true
+lf-not b h = grind (arith, common_steps)
+
+pub bytes-clean : (w : List ℕ) → HasNoLf w → is_clean w ≡ true
+bytes-clean [] h = refl
+bytes-clean (x ∷ xs) h =
+    both (no_lf x) (is_clean xs) (lf-not x (All-head (λ b. (b == 10) ≡ false) x xs h)) (bytes-clean xs (All-tail (λ b. (b == 10) ≡ false) x xs h))
 
 -- ---- a line in front of a text
 abbrev pub with_ends : List (List ℕ) → List (List ℕ)
@@ -68,8 +76,12 @@ Goes t = (rest : List ℕ) → without_remarks (t ++ rest) ≡ without_remarks r
 pub stays-line : (body : List ℕ) → is_clean body ≡ true → is_said (ended body) ≡ true → Stays (ended body)
 stays-line body h e rest = line-first body rest true h e
 
-pub goes-line : (words : List ℕ) → is_clean words ≡ true → Goes (35 ∷ (words ++ 10 ∷ []))
-goes-line words h rest = line-first (35 ∷ words) rest false h refl
+pub a-remark : (words : List ℕ) → is_clean words ≡ true → IsRemark (35 ∷ (words ++ 10 ∷ []))
+a-remark words h = record { words = words; has_no_lf = clean-bytes words h; whole = refl }
+
+pub remark-goes : (t : List ℕ) → IsRemark t → Goes t
+remark-goes t r rest =
+    ap (λ u. without_remarks (u ++ rest)) r.whole ∙ line-first (35 ∷ r.words) rest false (bytes-clean r.words r.has_no_lf) refl
 
 pub stays-nothing : Stays []
 stays-nothing rest = refl

@@ -36,7 +36,7 @@ strip-by : (t : Bool) (x : ℕ) (xs : List ℕ) (n : ℕ) → slice_index (if t 
 strip-by true x xs n = refl
 strip-by false x xs n = refl
 
-strip-first : (x : ℕ) (xs : List ℕ) → (x == 13) ≡ false → slice_index (strip_carriage_return (x ∷ xs)) 0 ≡ x
+pub strip-first : (x : ℕ) (xs : List ℕ) → (x == 13) ≡ false → slice_index (strip_carriage_return (x ∷ xs)) 0 ≡ x
 strip-first x [] h = rw h refl
 strip-first x (y ∷ ys) h =
     let n : length (x ∷ y ∷ ys) - 1 ≡ suc (length ys) = omega arith in

@@ -1,8 +1,9 @@
 //! What holds of logs with names.
 
 ghost use Rattle.lin_laws.specs.NamedScripts.{NamedLogs, NamedLogsOfTexts};
+ghost use Rattle.lin_laws.specs.Transcripts.{LastLinesAreRemarks, LinesHaveNoLf};
 ghost use Rattle.lin_laws.specs.Transcripts.{TranscriptsAreBenchScripts, TranscriptsAreLogs};
-ghost use Rattle.lin_laws.specs.Transcripts.{TranscriptsAreScripts};
+ghost use Rattle.lin_laws.specs.Transcripts.{TranscriptsAreInputs, TranscriptsAreScripts};
 
 /// A log with names is a bench script of the log's own steps: it has no bad line, makes no slots
 /// of its own, and expects nothing. It holds wherever names are words and no two nodes, signals or
@@ -14,11 +15,17 @@ pub fn named_logs_say_the_same()
 
 /// Without the lines that begin with `#`, the transcript of lines on a bench in hand that begins is
 /// the text of its log, byte for byte: the log's own, or the log with names, whichever the bench
-/// tells. A transcript by numbers is a script of its run, and each one is a bench script of it. It
-/// holds of lines of which none is bad or meets the limit of slots, wherever names are words and no
-/// two nodes, signals or schedule tables have the same one.
+/// tells. A transcript by numbers is a script of its run, each one is a bench script of it, and
+/// each is an input of lines again, which come to the same log: these three where the numbers and
+/// bytes of the log's entries are within their types, as each `LogEntry` has them. Each answer ends
+/// with one line that begins with `#`. All this holds of lines without an LF in them, bad ones too,
+/// and the lines of each input have none; wherever names are words and no two nodes, signals or
+/// schedule tables have the same one.
 pub fn transcripts_are_logs()
     ensures logs { TranscriptsAreLogs }
     ensures scripts { TranscriptsAreScripts }
     ensures bench_scripts { TranscriptsAreBenchScripts }
+    ensures inputs { TranscriptsAreInputs }
+    ensures remarks { LastLinesAreRemarks }
+    ensures lines { LinesHaveNoLf }
 {}

@@ -35,50 +35,57 @@ grown-more past mid later g k = (g.0 ++ k.0, k.1 ∙ ap (λ l. l ++ k.0) g.1 ∙
 grown-by : (past : List LogEntry) (e : LogEntry) → Grown past (e ∷ past)
 grown-by past e = (e ∷ [], reverse-append (e ∷ []) past)
 
-grown-past : (c : Parts) (opening capacity : ℕ) (past : List LogEntry) (ss : List (PortId × Step)) → Grown past (past_after c opening capacity past ss)
-grown-past c opening capacity past [] = grown-nothing past
-grown-past c opening capacity past (s ∷ ss) =
-    let e = entry_of c opening capacity past s in
-    grown-more past (e ∷ past) (past_after c opening capacity (e ∷ past) ss) (grown-by past e) (grown-past c opening capacity (e ∷ past) ss)
+-- ---- what a line makes keeps what each entry keeps, also those of steps that rules add
+abbrev pub Keeps : Parts → ℕ → ℕ → (List LogEntry → Type 0) → Type 0
+Keeps c opening capacity P = (past : List LogEntry) (s : PortId × Step) → P past → P (entry_of c opening capacity past s ∷ past)
 
--- also by the steps that rules add
-grown-after : (c : Parts) (opening capacity : ℕ) (at : Course) (ss : List (PortId × Step)) → Grown at.past (after_steps c opening capacity at ss).past
-grown-after c opening capacity at [] = grown-nothing at.past
-grown-after c opening capacity at (s ∷ ss) =
+kept-past : (c : Parts) (opening capacity : ℕ) (P : List LogEntry → Type 0) → Keeps c opening capacity P → (past : List LogEntry) (ss : List (PortId × Step)) → P past
+    → P (past_after c opening capacity past ss)
+kept-past c opening capacity P keeps past [] h = h
+kept-past c opening capacity P keeps past (s ∷ ss) h = kept-past c opening capacity P keeps (entry_of c opening capacity past s ∷ past) ss (keeps past s h)
+
+kept-after : (c : Parts) (opening capacity : ℕ) (P : List LogEntry → Type 0) → Keeps c opening capacity P → (at : Course) (ss : List (PortId × Step)) → P at.past
+    → P (after_steps c opening capacity at ss).past
+kept-after c opening capacity P keeps at [] h = h
+kept-after c opening capacity P keeps at (s ∷ ss) h =
     let e = entry_of c opening capacity at.past s in
-    let next = with_entry c opening capacity at e in
-    grown-more at.past next.past (after_steps c opening capacity next ss).past
-    (grown-more at.past (e ∷ at.past) next.past (grown-by at.past e) (grown-past c opening capacity (e ∷ at.past) (added c e at.past at.rules)))
-    (grown-after c opening capacity next ss)
+    kept-after c opening capacity P keeps (with_entry c opening capacity at e) ss
+    (kept-past c opening capacity P keeps (e ∷ at.past) (added c e at.past at.rules) (keeps at.past s h))
 
-grown-judged : (c : Parts) (b : BenchState) (what : Option Expected) (past : List LogEntry) → Grown past b.past → Grown past (judged c b what).0.past
-grown-judged c b None past g = g
-grown-judged c b (Some what) past g = g
+kept-judged : (c : Parts) (P : List LogEntry → Type 0) (b : BenchState) (what : Option Expected) → P b.past → P (judged c b what).0.past
+kept-judged c P b None h = h
+kept-judged c P b (Some what) h = h
 
-grown-within : (c : Parts) (opening capacity : ℕ) (b : BenchState) (count : ℕ) (steps first : List (PortId × Step)) (what : Option Expected)
-    → Grown b.past (made_within c opening capacity b count steps first what).0.past
-grown-within c opening capacity b count steps first what =
-    elim (nat_lt b.left count) as (λ t. Grown b.past (if t then (stepped c opening capacity b b.left first, SlotLimit) else judged c (stepped c opening capacity b count steps) what).0.past) [
-      | true ↦ grown-after c opening capacity (course_of b) first
-      | false ↦ grown-judged c (stepped c opening capacity b count steps) what b.past (grown-after c opening capacity (course_of b) steps)
+kept-within : (c : Parts) (opening capacity : ℕ) (P : List LogEntry → Type 0) → Keeps c opening capacity P → (b : BenchState) (count : ℕ) (steps first : List (PortId × Step)) (what : Option Expected)
+    → P b.past → P (made_within c opening capacity b count steps first what).0.past
+kept-within c opening capacity P keeps b count steps first what h =
+    elim (nat_lt b.left count) as (λ t. P (if t then (stepped c opening capacity b b.left first, SlotLimit) else judged c (stepped c opening capacity b count steps) what).0.past) [
+      | true ↦ kept-after c opening capacity P keeps (course_of b) first h
+      | false ↦ kept-judged c P (stepped c opening capacity b count steps) what (kept-after c opening capacity P keeps (course_of b) steps h)
     ]
 
-grown-line : (c : Parts) (opening capacity : ℕ) (b : BenchState) (l : Line)
-    → Grown b.past (made_within c opening capacity b (slots_made l (said c opening capacity most b l)) (said c opening capacity most b l)
+kept-line : (c : Parts) (opening capacity : ℕ) (P : List LogEntry → Type 0) → Keeps c opening capacity P → (b : BenchState) (l : Line) → P b.past
+    → P (made_within c opening capacity b (slots_made l (said c opening capacity most b l)) (said c opening capacity most b l)
     (said c opening capacity (λ extent. b.left) b l) (expects l)).0.past
-grown-line c opening capacity b l =
+kept-line c opening capacity P keeps b l h =
     let steps = said c opening capacity most b l in
-    grown-within c opening capacity b (slots_made l steps) steps (said c opening capacity (λ extent. b.left) b l) (expects l)
+    kept-within c opening capacity P keeps b (slots_made l steps) steps (said c opening capacity (λ extent. b.left) b l) (expects l) h
+
+pub kept-made : (c : Parts) (opening capacity : ℕ) (P : List LogEntry → Type 0) → Keeps c opening capacity P → (b : BenchState) (l : Line) → P b.past
+    → P (made c opening capacity b l).0.past
+unfolding made
+kept-made c opening capacity P keeps b (line.Step by step) h = kept-line c opening capacity P keeps b (line.Step by step) h
+kept-made c opening capacity P keeps b (line.Slot how) h = kept-line c opening capacity P keeps b (line.Slot how) h
+kept-made c opening capacity P keeps b (line.Slots extent) h = kept-line c opening capacity P keeps b (line.Slots extent) h
+kept-made c opening capacity P keeps b (line.Until extent what) h = kept-line c opening capacity P keeps b (line.Until extent what) h
+kept-made c opening capacity P keeps b (line.Expect what) h = kept-line c opening capacity P keeps b (line.Expect what) h
+kept-made c opening capacity P keeps b line.Forget h = h
+kept-made c opening capacity P keeps b (line.Rule rule) h = h
 
 pub grown-made : (c : Parts) (opening capacity : ℕ) (b : BenchState) (l : Line) → Grown b.past (made c opening capacity b l).0.past
-unfolding made
-grown-made c opening capacity b (line.Step by step) = grown-line c opening capacity b (line.Step by step)
-grown-made c opening capacity b (line.Slot how) = grown-line c opening capacity b (line.Slot how)
-grown-made c opening capacity b (line.Slots extent) = grown-line c opening capacity b (line.Slots extent)
-grown-made c opening capacity b (line.Until extent what) = grown-line c opening capacity b (line.Until extent what)
-grown-made c opening capacity b (line.Expect what) = grown-line c opening capacity b (line.Expect what)
-grown-made c opening capacity b line.Forget = grown-nothing b.past
-grown-made c opening capacity b (line.Rule rule) = grown-nothing b.past
+grown-made c opening capacity b l =
+    kept-made c opening capacity (Grown b.past) (λ past s g. grown-more b.past past (entry_of c opening capacity past s ∷ past) g (grown-by past (entry_of c opening capacity past s))) b l
+    (grown-nothing b.past)
 
 -- the entries by which a history grew
 since : (past later : List LogEntry) → Grown past later → reverse later ≡ reverse past ++ entries_since past later

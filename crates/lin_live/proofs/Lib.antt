@@ -6,4 +6,4 @@ pub mod Writing
 pub mod Growth
 mod LinesTold
 mod Replying
-mod Plays
+pub mod Plays
