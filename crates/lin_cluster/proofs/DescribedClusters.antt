@@ -9,7 +9,7 @@ use Rattle.lin_description.specs.declared.description.Init.{Init}
 use Rattle.lin_description.specs.declared.description.Init.TheVariants.{Scalar, Array}
 use Rattle.lin_description.specs.declared.description.Number.{Number}
 use Rattle.lin_cluster.specs.Described.{described_nad, parts_of}
-use Rattle.lin_cluster.specs.Findings.{IsFree}
+use Rattle.lin_cluster.specs.Findings.{IsSound}
 use Rattle.lin_cluster.specs.Sizes as sizes
 use Rattle.lin_cluster.specs.Fitting.{FitsInitial, FitsSignal, FitsFrame, FitsParts, HasMembers}
 use Rattle.lin_cluster_parts.specs.Rules.{AreTimes, IsCluster, IsAddress}
@@ -23,7 +23,7 @@ use Rattle.lin_cluster.proofs.DescribedTables.{described-tables}
 use Rattle.lin_cluster.proofs.GoodParts.{good-signals, good-frames, good-events, within-limits}
 use Rattle.lin_cluster.proofs.KnownNames.{the_signal}
 use Rattle.lin_cluster.proofs.NothingIn.{none-has}
-use Rattle.lin_cluster.proofs.NothingFound.{NothingFound, nothing-found}
+use Rattle.lin_cluster.proofs.NothingElse.{NothingElse, nothing-else}
 
 -- ---- numbers that fit
 
@@ -48,14 +48,14 @@ small-size : (init : Init) (size : ℕ) → size_fits init size ≡ true → siz
 small-size (Scalar n) size h = let few = leb-true size 16 (and_parts (nat_le 1 size) (nat_le size 16) h).1 in omega (arith, few)
 small-size (Array place items) size h = leb-true size 64 (and_parts (nat_le 8 size) (nat_le size 64) (and_parts (nat_le 8 size && nat_le size 64) (size % 8 == 0) h).0).1
 
-fits-signals : (d : Description) → NothingFound d → All FitsSignal d.signals
+fits-signals : (d : Description) → NothingElse d → All FitsSignal d.signals
 fits-signals d none k s lt =
     let here = get_or d.signals k s
     in let good = good-signals d none k s lt
     in let few = small-size here.init here.size.value good.size
     in record { size = omega (arith, few); initial = fits-initial here.init here.size.value good.size good.init }
 
-fits-frames : (d : Description) → NothingFound d → All FitsFrame d.frames
+fits-frames : (d : Description) → NothingElse d → All FitsFrame d.frames
 fits-frames d none k f lt =
     let here = get_or d.frames k f
     in let good = good-frames d none k f lt
@@ -74,9 +74,9 @@ small-nad : (o : Option ℕ) → IfSome o IsAddress → IfSome o (λ nad. nad < 
 small-nad None h = tt
 small-nad (Some a) h = omega (arith, h.1)
 
-pub numbers-fit : (d : Description) → IsFree d → FitsParts d
-numbers-fit d free =
-    let none = nothing-found d free
+pub numbers-fit : (d : Description) → IsSound d → FitsParts d
+numbers-fit d sound =
+    let none = nothing-else d sound
     in let limits = within-limits d none
     in record {
       numbers = record { slaves = limits.slaves; signals = limits.signals; frames = limits.frames; sporadic = limits.sporadic; events = limits.events; tables = limits.tables };
@@ -86,7 +86,7 @@ numbers-fit d free =
       events = λ k e lt. omega (arith, (good-events d none k e lt).id);
     }
 
-described-times : (d : Description) → NothingFound d → AreTimes (parts_of d)
+described-times : (d : Description) → NothingElse d → AreTimes (parts_of d)
 described-times d none =
     let limits = within-limits d none
     in let speed = and_parts (nat_le 1 d.speed.value) (nat_le d.speed.value 20000) limits.speed
@@ -96,10 +96,10 @@ described-times d none =
       base = limits.base;
     }
 
--- the law: where nothing is found, what the description says is a cluster
-pub described-cluster : (d : Description) → IsFree d → HasMembers d → IsCluster (parts_of d)
-described-cluster d free members =
-    let none = nothing-found d free
+-- the law: where nothing is found but slots too short, what the description says is a cluster
+pub described-cluster : (d : Description) → IsSound d → HasMembers d → IsCluster (parts_of d)
+described-cluster d sound members =
+    let none = nothing-else d sound
     in record {
       nodes = described-nodes d none members;
       signals = described-signals d none;

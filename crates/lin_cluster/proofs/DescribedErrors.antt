@@ -1,5 +1,5 @@
 -- The signals by which responders tell errors keep the rules of clusters.
-use Rattle.std.proofs.Common.{◌≡◌, ◌<◌, ◌≤◌, ◌+◌, ◌==◌, ◌++◌, ℕ, zero, suc, Bool, true, false, not, ◌&&◌, cond, List, [], ◌∷◌, length, get_or, map, take, Option, Some, None, refl, sym, ap, ◌∙◌, arith, append-nil}
+use Rattle.std.proofs.Common.{◌≡◌, ◌<◌, ◌≤◌, ◌+◌, ◌==◌, ◌++◌, ℕ, zero, suc, true, false, not, cond, List, [], ◌∷◌, length, get_or, map, take, Option, Some, None, refl, sym, ap, ◌∙◌, arith}
 use Rattle.std.specs.Prelude.{All, IfSome, filter_map, option_and_then, slice_get}
 use Rattle.std.specs.List.{cons_option, enumerate_from}
 use Rattle.std.specs.Option.{option_map, option_map_or}
@@ -12,7 +12,7 @@ use Rattle.lin_cluster_parts.specs.Cluster.{signal_of}
 use Rattle.lin_cluster_parts.specs.Rules.{IsErrorSignal, is_array}
 use Rattle.lin_cluster_parts.specs.declared.parts.Signal.{Signal}
 use Rattle.lin_cluster_parts.proofs.Carrying.{kept_below}
-use Rattle.lin_cluster.specs.Described.{signals_of, frames_of, subscribes, is_concerned_by, is_error_signal, error_named, error_number, error_signal, error_signal_at, error_signals, parts_of, response_error, signal_number}
+use Rattle.lin_cluster.specs.Described.{signals_of, frames_of, subscribes, is_concerned_by, is_error_signal, error_named, error_signal, error_signal_at, error_signals, parts_of, response_error, signal_number}
 use Rattle.lin_cluster.proofs.Enumerated.{mapped_more}
 use Rattle.lin_cluster.proofs.KnownNames.{nodes-count}
 use Rattle.lin_cluster.proofs.NothingIn.{from-each}

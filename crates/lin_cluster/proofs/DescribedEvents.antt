@@ -30,8 +30,8 @@ use Rattle.lin_cluster_parts.specs.declared.parts.Table.{Table}
 use Rattle.lin_cluster.proofs.DescribedTables.{frames-count}
 use Rattle.lin_cluster.proofs.GoodParts.{GoodMember, GoodEvent, the_frame, good-frames, good-sporadics, good-events, within-limits}
 use Rattle.lin_cluster.proofs.KnownNames.{no_table, commander, not-commander, same-node, frame-found, frame-part}
-use Rattle.lin_cluster.proofs.Named.{found-at, found-past}
-use Rattle.lin_cluster.proofs.NothingFound.{NothingFound}
+use Rattle.lin_cluster.proofs.NamesFound.{found-at, found-past}
+use Rattle.lin_cluster.proofs.NothingElse.{NothingElse}
 use Rattle.lin_cluster.proofs.NothingIn.{none-has}
 use Rattle.lin_cluster_parts.proofs.Pairs.{pairs-map}
 
@@ -49,7 +49,7 @@ part-model d m lt = ap (λ (f : SignalFrame). f.model) (frame-part d (frame_numb
 member-there : (d : Description) (m : Name) → frame_number d m < length d.frames → frame_number d m < length (parts_of d).frames
 member-there d m lt = omega (arith, frames-count d)
 
-the-publisher : (d : Description) → NothingFound d → (m : Name) → frame_number d m < length d.frames → is_node d (the_frame d m).publisher ≡ true
+the-publisher : (d : Description) → NothingElse d → (m : Name) → frame_number d m < length d.frames → is_node d (the_frame d m).publisher ≡ true
 the-publisher d none m lt = (good-frames d none (frame_number d m) _ lt).publisher
 
 -- ---- sporadic frames
@@ -59,7 +59,7 @@ the-commanders true true k e = refl
 the-commanders true false k e = absurd (cc)
 the-commanders false same k e = absurd (cc)
 
-commanders-frame : (d : Description) → NothingFound d → (m : Name) → GoodMember d (is_responders d) m → IsCommanders (parts_of d) (frame_number d m)
+commanders-frame : (d : Description) → NothingElse d → (m : Name) → GoodMember d (is_responders d) m → IsCommanders (parts_of d) (frame_number d m)
 commanders-frame d none m good =
     let f = the_frame d m
     in (
@@ -67,7 +67,7 @@ commanders-frame d none m good =
       part-publisher d m good.within ∙ commander d f.publisher (the-commanders (is_node d f.publisher) (same_name f.publisher d.master) (the-publisher d none m good.within) good.passes),
     )
 
-pub described-sporadic : (d : Description) → NothingFound d → HasMembers d → AreSporadic (parts_of d)
+pub described-sporadic : (d : Description) → NothingElse d → HasMembers d → AreSporadic (parts_of d)
 described-sporadic d none members =
     let good = good-sporadics d none
     in record {
@@ -90,7 +90,7 @@ right-false : (a b : Bool) → a ≡ true → (a && b) ≡ false → b ≡ false
 right-false true b e h = h
 right-false false b e h = absurd (cc)
 
-event-member : (d : Description) → NothingFound d → (members earlier : List Name) (m : Name) → GoodMember d (is_bad_member d members earlier) m → EventMember d members earlier m
+event-member : (d : Description) → NothingElse d → (members earlier : List Name) (m : Name) → GoodMember d (is_bad_member d members earlier) m → EventMember d members earlier m
 event-member d none members earlier m good =
     let f = the_frame d m
     in let own = is_node d f.publisher && list_any (has_publisher d f.publisher) earlier
@@ -111,7 +111,7 @@ responders-frame d members earlier m good = (
 )
 
 -- a member and one after it have different publishers
-own-publishers : (d : Description) → NothingFound d → (members earlier others : List Name) (m n : Name) → EventMember d members others m → EventMember d members earlier n → has_publisher d (the_frame d n).publisher m ≡ false → HaveOwnPublishers (parts_of d) (frame_number d m) (frame_number d n)
+own-publishers : (d : Description) → NothingElse d → (members earlier others : List Name) (m n : Name) → EventMember d members others m → EventMember d members earlier n → has_publisher d (the_frame d n).publisher m ≡ false → HaveOwnPublishers (parts_of d) (frame_number d m) (frame_number d n)
 own-publishers d none members earlier others m n before here differ same =
     let f = the_frame d m
     in let g = the_frame d n
@@ -164,7 +164,7 @@ all-models d (first ∷ rest) each models i x in' =
     in let there = (each 0 x (omega arith)).within
     in part-model d m here ∙ (same-model d first rest m there here (models i x in') ∙ sym (first-is d first rest there))
 
-publishers-apart : (d : Description) → NothingFound d → (members : List Name) → EachMember d members → AllPairs (λ m n. HaveOwnPublishers (parts_of d) (frame_number d m) (frame_number d n)) members
+publishers-apart : (d : Description) → NothingElse d → (members : List Name) → EachMember d members → AllPairs (λ m n. HaveOwnPublishers (parts_of d) (frame_number d m) (frame_number d n)) members
 publishers-apart d none members each i j x lt in' =
     let m = get_or members i x
     in let n = get_or members j x
@@ -221,7 +221,7 @@ resolving-table d e good =
 
 -- ---- event-triggered frames
 
-pub described-events : (d : Description) → NothingFound d → HasMembers d → AreEvents (parts_of d)
+pub described-events : (d : Description) → NothingElse d → HasMembers d → AreEvents (parts_of d)
 described-events d none members =
     let c = parts_of d
     in let good = good-events d none

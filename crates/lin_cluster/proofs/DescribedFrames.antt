@@ -31,7 +31,7 @@ use Rattle.lin_cluster_parts.specs.declared.parts.SignalFrame.{SignalFrame}
 use Rattle.lin_cluster.proofs.DescribedSignals.{good-size}
 use Rattle.lin_cluster.proofs.GoodParts.{GoodSignal, GoodFrame, GoodPlaced, good-signals, good-frames, good-events, the_frame}
 use Rattle.lin_cluster.proofs.KnownNames.{no_frame, nodes-count, node-within, node-same, the_signal, signal-at, signal-part, same-signal}
-use Rattle.lin_cluster.proofs.NothingFound.{NothingFound}
+use Rattle.lin_cluster.proofs.NothingElse.{NothingElse}
 use Rattle.lin_cluster.proofs.NothingIn.{to-each, none-has, zip-of-maps}
 use Rattle.lin_cluster_parts.proofs.Pairs.{pairs-first, pairs-rest, pairs-map}
 
@@ -44,7 +44,7 @@ place-is d p lt = ap (place_at p.offset.value) (signal-part d p lt)
 
 -- ---- a signal in its frame
 
-the-signal-good : (d : Description) → NothingFound d → (p : PlacedSignal) → signal_number d p.signal < length d.signals → GoodSignal d (the_signal d p)
+the-signal-good : (d : Description) → NothingElse d → (p : PlacedSignal) → signal_number d p.signal < length d.signals → GoodSignal d (the_signal d p)
 the-signal-good d none p lt = good-signals d none (signal_number d p.signal) _ lt
 
 inside-parts : (end last : ℕ) (border : Bool) → (nat_lt end last || border) ≡ false → (last ≤ end) × (border ≡ false)
@@ -54,7 +54,7 @@ lies : (first end : ℕ) (p : Place) → has_good_size p ≡ true → first ≤ 
 lies first end p size from to =
     and_from (has_good_size p && nat_le first p.offset) (nat_le (p.offset + p.size) end) (and_from (has_good_size p) (nat_le first p.offset) size (le-leb first p.offset from)) (le-leb (p.offset + p.size) end to)
 
-place-lies : (d : Description) → NothingFound d → (f : Frame) (p : PlacedSignal) (first : ℕ) → GoodPlaced d f p → first ≤ p.offset.value → lies_in first (8 * f.size.value) (described_place d p) ≡ true
+place-lies : (d : Description) → NothingElse d → (f : Frame) (p : PlacedSignal) (first : ℕ) → GoodPlaced d f p → first ≤ p.offset.value → lies_in first (8 * f.size.value) (described_place d p) ≡ true
 place-lies d none f p first good from =
     let s = the_signal d p
     in let inside = inside-parts (8 * f.size.value) (p.offset.value + s.size.value) (sizes.is_array s.init && not (p.offset.value % 8 == 0)) good.inside
@@ -76,7 +76,7 @@ record Apart (d : Description) (q p : PlacedSignal) : Type 0 where
   names : same_name q.signal p.signal ≡ false
   places : are_apart (described_place d q) (described_place d p) ≡ true
 
-apart-from : (d : Description) → NothingFound d → (f : Frame) (q p : PlacedSignal) → GoodPlaced d f q → GoodPlaced d f p → overlaps.meets d p (the_signal d p).size.value q ≡ false → Apart d q p
+apart-from : (d : Description) → NothingElse d → (f : Frame) (q p : PlacedSignal) → GoodPlaced d f q → GoodPlaced d f p → overlaps.meets d p (the_signal d p).size.value q ≡ false → Apart d q p
 apart-from d none f q p earlier good e =
     let s = the_signal d p
     in let t = the_signal d q
@@ -89,7 +89,7 @@ apart-from d none f q p earlier good e =
           (no-share p.offset.value s.size.value q.offset.value t.size.value (some-bits (sizes.is_array s.init) s.size.value (the-signal-good d none p good.within).size) (some-bits (sizes.is_array t.init) t.size.value (the-signal-good d none q earlier.within).size) shares));
     }
 
-pairs-apart : (d : Description) → NothingFound d → (f : Frame) → GoodFrame d f → AllPairs (Apart d) f.placed
+pairs-apart : (d : Description) → NothingElse d → (f : Frame) → GoodFrame d f → AllPairs (Apart d) f.placed
 pairs-apart d none f good i j x lt in' =
     let p = get_or f.placed j x
     in let q = get_or f.placed i x
@@ -111,7 +111,7 @@ all-apart (x ∷ xs) pairs =
 abbrev frame_at : Description → ℕ → Frame
 frame_at d k = get_or d.frames k no_frame
 
-none-in-front : (d : Description) → NothingFound d → (k : ℕ) → is_member d k ≡ true → All (λ p. is_in_front d p ≡ false) (frame_at d k).placed
+none-in-front : (d : Description) → NothingElse d → (k : ℕ) → is_member d k ≡ true → All (λ p. is_in_front d p ≡ false) (frame_at d k).placed
 none-in-front d none k listed =
     let some = Any-from_list_any (λ (e : EventFrame). list_any (λ m. frame_number d m == k) e.members) d.events listed
     in let event = get_or d.events some.0 some.1
@@ -130,7 +130,7 @@ left-false true true e h = absurd (cc)
 left-false true false e h = absurd (cc)
 left-false false b e h = refl
 
-after : (d : Description) → NothingFound d → (p : PlacedSignal) → signal_number d p.signal < length d.signals → is_in_front d p ≡ false → 8 ≤ p.offset.value
+after : (d : Description) → NothingElse d → (p : PlacedSignal) → signal_number d p.signal < length d.signals → is_in_front d p ≡ false → 8 ≤ p.offset.value
 after d none p within front =
     let s = the_signal d p
     in let some = some-bits (sizes.is_array s.init) s.size.value (the-signal-good d none p within).size
@@ -146,7 +146,7 @@ first-free false own offset h = omega arith
 abbrev layout_of : Description → ℕ → Frame → Layout
 layout_of d k f = described_layout d (k, f)
 
-all-lie : (d : Description) → NothingFound d → (k : ℕ) (f : Frame) → GoodFrame d f → (is_member d k ≡ true → All (λ p. is_in_front d p ≡ false) f.placed) → list_all (lies_in (first_bit (layout_of d k f)) (8 * f.size.value)) (map (described_place d) f.placed) ≡ true
+all-lie : (d : Description) → NothingElse d → (k : ℕ) (f : Frame) → GoodFrame d f → (is_member d k ≡ true → All (λ p. is_in_front d p ≡ false) f.placed) → list_all (lies_in (first_bit (layout_of d k f)) (8 * f.size.value)) (map (described_place d) f.placed) ≡ true
 all-lie d none k f good front =
     list_all-from_AllPass (lies_in (first_bit (layout_of d k f)) (8 * f.size.value)) (map (described_place d) f.placed)
     (All-map (λ p. lies_in (first_bit (layout_of d k f)) (8 * f.size.value) p ≡ true) (described_place d) f.placed
@@ -155,7 +155,7 @@ all-lie d none k f good front =
     in let placed = good.placed i x lt
     in place-lies d none f p (first_bit (layout_of d k f)) placed (first-free (is_member d k) (pid f.id.value) p.offset.value (λ listed. after d none p placed.within (front listed i x lt)))))
 
-layout-good : (d : Description) → NothingFound d → (k : ℕ) (f : Frame) → GoodFrame d f → (is_member d k ≡ true → All (λ p. is_in_front d p ≡ false) f.placed) → is_good_layout (layout_of d k f) ≡ true
+layout-good : (d : Description) → NothingElse d → (k : ℕ) (f : Frame) → GoodFrame d f → (is_member d k ≡ true → All (λ p. is_in_front d p ≡ false) f.placed) → is_good_layout (layout_of d k f) ≡ true
 layout-good d none k f good front =
     and_from _ (all_apart (map (described_place d) f.placed))
     (and_from (sizes.is_frame_size f.size.value) (list_all (lies_in (first_bit (layout_of d k f)) (8 * f.size.value)) (map (described_place d) f.placed)) good.size (all-lie d none k f good front))
@@ -167,7 +167,7 @@ same-publisher true true false k p e = absurd (cc)
 same-publisher true false same k p e = absurd (cc)
 same-publisher false published same k p e = absurd (cc)
 
-signal-there : (d : Description) → NothingFound d → (f : Frame) → GoodFrame d f → (p : PlacedSignal) → GoodPlaced d f p → IsSignalAt (parts_of d) (node_number d f.publisher) (described_place d p) (signal_number d p.signal)
+signal-there : (d : Description) → NothingElse d → (f : Frame) → GoodFrame d f → (p : PlacedSignal) → GoodPlaced d f p → IsSignalAt (parts_of d) (node_number d f.publisher) (described_place d p) (signal_number d p.signal)
 signal-there d none f good p placed =
     let s = the_signal d p
     in record {
@@ -177,7 +177,7 @@ signal-there d none f good p placed =
       place = refl;
     }
 
-signals-once : (d : Description) → NothingFound d → (f : Frame) → GoodFrame d f → AllPairs ◌≢◌ (map (λ (p : PlacedSignal). signal_number d p.signal) f.placed)
+signals-once : (d : Description) → NothingElse d → (f : Frame) → GoodFrame d f → AllPairs ◌≢◌ (map (λ (p : PlacedSignal). signal_number d p.signal) f.placed)
 signals-once d none f good =
     pairs-map ◌≢◌ (λ (p : PlacedSignal). signal_number d p.signal) f.placed
     (λ i j x lt in' same.
@@ -188,7 +188,7 @@ signals-once d none f good =
 pub each-frame : (d : Description) (P : SignalFrame → Type 0) → ((k : ℕ) (f : Frame) → k < length d.frames → P (described_frame d (k, get_or d.frames k f))) → All P (frames_of d)
 each-frame d P each = All-map P (described_frame d) (enumerate_from 0 d.frames) (to-each (λ kf. P (described_frame d kf)) d.frames each)
 
-pub described-frames : (d : Description) → NothingFound d → AreFrames (parts_of d)
+pub described-frames : (d : Description) → NothingElse d → AreFrames (parts_of d)
 described-frames d none =
     let good = good-frames d none
     in record {

@@ -21,9 +21,9 @@ use Rattle.lin_cluster.proofs.DescribedTables.{frames-count}
 use Rattle.lin_cluster.proofs.GoodParts.{good-frames, good-events, small-id}
 use Rattle.lin_cluster_parts.proofs.Identifiers.{all-carry}
 use Rattle.lin_cluster.proofs.KnownNames.{no_frame, frame-part}
-use Rattle.lin_cluster.proofs.NothingFound.{NothingFound}
+use Rattle.lin_cluster.proofs.NothingElse.{NothingElse}
 use Rattle.lin_cluster.specs.declared.finding.FindingKind.TheVariants.{BadId, IdTwice}
-use Rattle.lin_cluster.proofs.NothingIn.{each-nil, when-nil, any-of-map, two-counted}
+use Rattle.lin_cluster.proofs.NothingIn.{IsShort, in-each, when-not, any-of-map, two-counted}
 use Rattle.lin_cluster_parts.proofs.Pairs.{pairs-map}
 use Rattle.lin_cluster_parts.proofs.SoundClusters.{pid-low}
 
@@ -62,12 +62,12 @@ counts x y same up = and_from (y.value == x.value) (is_up_to x y) (eq-eqb y.valu
 counts-itself : (x : Number) → counted x x ≡ true
 counts-itself x = counts x x refl (by-column x.line x.column x.line x.column refl (omega arith))
 
-once : (d : Description) → NothingFound d → (k : ℕ) (n : Number) → k < length (ids d) → count_by (counted (get_or (ids d) k n)) (ids d) ≤ 1
+once : (d : Description) → NothingElse d → (k : ℕ) (n : Number) → k < length (ids d) → count_by (counted (get_or (ids d) k n)) (ids d) ≤ 1
 once d none k n lt =
     let x = get_or (ids d) k n
-    in ltb-false 1 (count_by (counted x) (ids d)) (when-nil (is_repeated (ids d) x) (at_number IdTwice x) (each-nil (id_twice (ids d)) (ids d) none.ids_once k n lt))
+    in ltb-false 1 (count_by (counted x) (ids d)) (when-not (is_repeated (ids d) x) (at_number IdTwice x) refl (in-each IsShort (id_twice (ids d)) (ids d) none.ids_once k n lt))
 
-ids-apart : (d : Description) → NothingFound d → AllPairs (λ (x y : Number). x.value ≢ y.value) (ids d)
+ids-apart : (d : Description) → NothingElse d → AllPairs (λ (x y : Number). x.value ≢ y.value) (ids d)
 ids-apart d none i j n lt in' same =
     let x = get_or (ids d) i n
     in let y = get_or (ids d) j n
@@ -107,10 +107,10 @@ one-value x y small few same =
     let e : pid x % 64 ≡ pid y % 64 = ap (λ p. p % 64) same
     in sym (pid-low x (omega (arith, small))) ∙ (e ∙ pid-low y (omega (arith, few)))
 
-small-ids : (d : Description) → NothingFound d → All (λ (n : Number). n.value < 60) (ids d)
-small-ids d none k n lt = small-id (get_or (ids d) k n).value (when-nil _ (at_number BadId (get_or (ids d) k n)) (each-nil bad_id (ids d) none.ids k n lt))
+small-ids : (d : Description) → NothingElse d → All (λ (n : Number). n.value < 60) (ids d)
+small-ids d none k n lt = small-id (get_or (ids d) k n).value (when-not _ (at_number BadId (get_or (ids d) k n)) refl (in-each IsShort bad_id (ids d) none.ids k n lt))
 
-pids-apart : (d : Description) → NothingFound d → AllPairs ◌≢◌ (pids (parts_of d))
+pids-apart : (d : Description) → NothingElse d → AllPairs ◌≢◌ (pids (parts_of d))
 pids-apart d none =
     subst (λ ps. AllPairs ◌≢◌ ps) (sym (described-pids d))
     (pairs-map ◌≢◌ pid_of (ids d) (λ i j n lt in' same.
@@ -135,7 +135,7 @@ own-pid d k lt =
     in subst (λ (g : SignalFrame). g.layout.pid ≡ (if is_listed c k then Some g.pid else None)) (sym (frame-part d k lt))
     (ap (λ b. if b then Some (pid f.id.value) else None) (sym (listed-is d k)))
 
-pub described-identifiers : (d : Description) → NothingFound d → AreIdentifiers (parts_of d)
+pub described-identifiers : (d : Description) → NothingElse d → AreIdentifiers (parts_of d)
 described-identifiers d none =
     let c = parts_of d
     in record {

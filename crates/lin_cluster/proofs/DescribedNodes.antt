@@ -22,15 +22,15 @@ use Rattle.lin_cluster_parts.specs.Rules.{AreNodes, IsAddress, HaveOwnAddresses}
 use Rattle.lin_cluster_parts.specs.declared.parts.Node.{Node}
 use Rattle.lin_cluster.proofs.GoodParts.{within-limits}
 use Rattle.lin_cluster.proofs.KnownNames.{no_name, nodes-count}
-use Rattle.lin_cluster.proofs.Named.{found-at, found-past}
-use Rattle.lin_cluster.proofs.NothingFound.{NothingFound}
+use Rattle.lin_cluster.proofs.NamesFound.{found-at, found-past}
+use Rattle.lin_cluster.proofs.NothingElse.{NothingElse}
 use Rattle.lin_cluster.specs.declared.finding.FindingKind.TheVariants.{BadNad, NadTwice}
-use Rattle.lin_cluster.proofs.NothingIn.{each-nil, when-nil, of-each, from-each, none-has}
+use Rattle.lin_cluster.proofs.NothingIn.{IsShort, AreShort, in-each, when-not, of-each, from-each, none-has}
 use Rattle.lin_cluster_parts.proofs.Pairs.{pairs-cons, pairs-map, pairs-first, pairs-rest}
 
 -- ---- what is mapped where it is something
 
-mapped-all : {X Y : Type 0} (P : Y → Type 0) (h : X → Option Y) (xs : List X) → All P (filter_map h xs) → (i : ℕ) (d : X) (y : Y) → i < length xs → h (get_or xs i d) ≡ Some y → P y
+pub mapped-all : {X Y : Type 0} (P : Y → Type 0) (h : X → Option Y) (xs : List X) → All P (filter_map h xs) → (i : ℕ) (d : X) (y : Y) → i < length xs → h (get_or xs i d) ≡ Some y → P y
 mapped-all P h [] all i d y lt is = absurd (omega arith)
 mapped-all P h (x ∷ xs) all zero d y lt is = All-head P y (filter_map h xs) (rw is at all)
 mapped-all P h (x ∷ xs) all (suc i) d y lt is =
@@ -105,17 +105,17 @@ given-address d n a some few b =
 
 -- ---- addresses
 
-good-addresses : (d : Description) → NothingFound d → All (λ (n : Number). IsAddress n.value) (addresses d)
+good-addresses : (d : Description) → NothingElse d → All (λ (n : Number). IsAddress n.value) (addresses d)
 good-addresses d none k n lt =
     let v = (get_or (addresses d) k n).value
-    in let both = and_parts (nat_le 1 v) (nat_le v 125) (not-false (nat_le 1 v && nat_le v 125) (when-nil _ (at_number BadNad (get_or (addresses d) k n)) (each-nil bad_nad (addresses d) none.nads k n lt)))
+    in let both = and_parts (nat_le 1 v) (nat_le v 125) (not-false (nat_le 1 v && nat_le v 125) (when-not _ (at_number BadNad (get_or (addresses d) k n)) refl (in-each IsShort bad_nad (addresses d) none.nads k n lt)))
     in (leb-true 1 v both.0, leb-true v 125 both.1)
 
-addresses-apart : (d : Description) → NothingFound d → AllPairs (λ (y x : Number). y.value ≢ x.value) (addresses d)
+pub addresses-apart : (d : Description) → NothingElse d → AllPairs (λ (y x : Number). y.value ≢ x.value) (addresses d)
 addresses-apart d none i j n lt in' same =
     let ns = addresses d
     in let x = get_or ns j n
-    in let once : list_any (λ (y : Number). y.value == x.value) (take j ns) ≡ false = when-nil _ (at_number NadTwice x) (of-each (λ ix. nad_twice ns ix ≡ []) ns (each-nil (nad_twice ns) (enumerate_from 0 ns) none.nads_once) j n in')
+    in let once : list_any (λ (y : Number). y.value == x.value) (take j ns) ≡ false = when-not _ (at_number NadTwice x) refl (of-each (λ ix. AreShort (nad_twice ns ix)) ns (in-each IsShort (nad_twice ns) (enumerate_from 0 ns) none.nads_once) j n in')
     in let each = none-has (λ (y : Number). y.value == x.value) (take j ns) once
     in let differ : ((get_or (take j ns) i n).value == x.value) ≡ false = each i n (omega (arith, length-take-le j ns (omega arith)))
     in let apart : ((get_or ns i n).value == x.value) ≡ false = rw (get_or-take j ns i n lt) at differ
@@ -125,13 +125,13 @@ if-some : {X : Type 0} (P : X → Type 0) (o : Option X) → ((x : X) → o ≡ 
 if-some P None h = tt
 if-some P (Some x) h = h x refl
 
-pub good-nad : (d : Description) → NothingFound d → (n : ℕ) → 1 ≤ n → n ≤ length d.slaves → IfSome (described_nad d n) IsAddress
+pub good-nad : (d : Description) → NothingElse d → (n : ℕ) → 1 ≤ n → n ≤ length d.slaves → IfSome (described_nad d n) IsAddress
 good-nad d none n some few =
     if-some IsAddress (described_nad d n) (λ a is.
     let b = block-of d n a is
     in subst IsAddress b.value (mapped-all (λ (m : Number). IsAddress m.value) (address d) d.attributes (good-addresses d none) b.place no_block b.number b.within (given-address d n a some few b)))
 
-one-nad : (d : Description) → NothingFound d → (m n a : ℕ) → 1 ≤ m → m < n → n ≤ length d.slaves → described_nad d m ≡ Some a → described_nad d n ≡ Some a → ⊥
+one-nad : (d : Description) → NothingElse d → (m n a : ℕ) → 1 ≤ m → m < n → n ≤ length d.slaves → described_nad d m ≡ Some a → described_nad d n ≡ Some a → ⊥
 one-nad d none m n a some lt few here there =
     let b = block-of d m a here
     in let e = block-of d n a there
@@ -150,13 +150,13 @@ one-nad d none m n a some lt few here there =
 abbrev master_node : Description → Node
 master_node d = record { name = d.master.text; nad = None }
 
-good-nads : (d : Description) → NothingFound d → All (λ node. IfSome node.nad IsAddress) (nodes_of d)
+good-nads : (d : Description) → NothingElse d → All (λ node. IfSome node.nad IsAddress) (nodes_of d)
 good-nads d none =
     All-cons (λ (node : Node). IfSome node.nad IsAddress) (master_node d) (map (responder d) (enumerate_from 1 d.slaves)) tt
     (All-map (λ (node : Node). IfSome node.nad IsAddress) (responder d) (enumerate_from 1 d.slaves)
     (from-each (λ kn. IfSome (responder d kn).nad IsAddress) 1 d.slaves (λ k n lt. good-nad d none (1 + k) (omega arith) (omega arith))))
 
-own-nads : (d : Description) → NothingFound d → AllPairs HaveOwnAddresses (nodes_of d)
+own-nads : (d : Description) → NothingElse d → AllPairs HaveOwnAddresses (nodes_of d)
 own-nads d none =
     let numbered = enumerate_from 1 d.slaves
     in pairs-cons HaveOwnAddresses (master_node d) (map (responder d) numbered)
@@ -167,7 +167,7 @@ own-nads d none =
     (subst (λ (kn : ℕ × Name). (responder d kn).nad ≡ Some a) (get_or-enumerate_from 1 d.slaves i x (omega arith)) here)
     (subst (λ (kn : ℕ × Name). (responder d kn).nad ≡ Some a) (get_or-enumerate_from 1 d.slaves j x within) there)))
 
-pub described-nodes : (d : Description) → NothingFound d → HasMembers d → AreNodes (parts_of d)
+pub described-nodes : (d : Description) → NothingElse d → HasMembers d → AreNodes (parts_of d)
 described-nodes d none members =
     let limits = within-limits d none
     in record {

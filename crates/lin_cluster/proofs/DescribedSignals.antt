@@ -17,7 +17,7 @@ use Rattle.lin_cluster_parts.specs.Rules.{AreSignals, is_array, place_at}
 use Rattle.lin_cluster_parts.specs.declared.parts.Signal.{Signal}
 use Rattle.lin_cluster.proofs.GoodParts.{good-signals, within-limits}
 use Rattle.lin_cluster.proofs.KnownNames.{nodes-count, node-within}
-use Rattle.lin_cluster.proofs.NothingFound.{NothingFound}
+use Rattle.lin_cluster.proofs.NothingElse.{NothingElse}
 
 arrange : (few many whole at : Bool) → (few && many && whole) ≡ true → not at ≡ false → (at && whole && few && many) ≡ true
 arrange true true true true h e = refl
@@ -47,7 +47,7 @@ good-initial (inits.Array place items) size h e =
     in let whole = and_parts (nat_le 8 size && nat_le size 64) (size % 8 == 0) h
     in good-length items size count.0 whole.1
 
-pub described-signals : (d : Description) → NothingFound d → AreSignals (parts_of d)
+pub described-signals : (d : Description) → NothingElse d → AreSignals (parts_of d)
 described-signals d none =
     let good = good-signals d none
     in record {

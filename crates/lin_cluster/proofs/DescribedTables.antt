@@ -18,7 +18,7 @@ use Rattle.lin_cluster_parts.specs.declared.parts.Line.{Line}
 use Rattle.lin_cluster_parts.specs.declared.parts.Parts.{Parts}
 use Rattle.lin_cluster_parts.specs.declared.parts.Table.{Table}
 use Rattle.lin_cluster.proofs.GoodParts.{good-tables, some-tables, within-limits}
-use Rattle.lin_cluster.proofs.NothingFound.{NothingFound}
+use Rattle.lin_cluster.proofs.NothingElse.{NothingElse}
 
 pub frames-count : (d : Description) → length (parts_of d).frames ≡ length d.frames
 frames-count d = length-map (enumerate_from 0 d.frames) (described_frame d) ∙ length-enumerate_from 0 d.frames
@@ -51,7 +51,7 @@ entry-there d x =
     (choice c (bytes_eq x.name.text (codes "MasterReq")) MasterReq _ (λ e. tt)
     (choice c (bytes_eq x.name.text (codes "SlaveResp")) SlaveResp _ (λ e. tt) (frame-entry-there d x.name)))
 
-pub described-tables : (d : Description) → NothingFound d → AreTables (parts_of d)
+pub described-tables : (d : Description) → NothingElse d → AreTables (parts_of d)
 described-tables d none =
     let good = good-tables d none
     in let count = length-map d.tables (described_table d)

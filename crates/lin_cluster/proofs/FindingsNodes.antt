@@ -13,7 +13,7 @@ use Rattle.lin_cluster.specs.FindingsNodes.{node_of, is_number, is_responder_num
 use Rattle.lin_cluster.specs.Members.{has_publisher}
 use Rattle.lin_cluster.proofs.KnownNames.{alike, node-same, same-node}
 use Rattle.lin_cluster.specs.declared.finding.FindingKind.TheVariants.{WrongPublisher}
-use Rattle.lin_cluster.proofs.Named.{same-text, text-same, within-any, past-any}
+use Rattle.lin_cluster.proofs.NamesFound.{same-text, text-same, within-any, past-any}
 use Rattle.lin_description.specs.declared.description.Description.{Description}
 use Rattle.lin_description.specs.declared.description.Frame.{Frame}
 use Rattle.lin_description.specs.declared.description.Name.{Name}

@@ -17,10 +17,10 @@ use Rattle.lin_description.specs.declared.description.Description.{Description}
 
 -- ---- the order of findings
 
-finding_total : IsTotalOrder finding_cmp
+pub finding_total : IsTotalOrder finding_cmp
 finding_total = then_total (on_total (λ (f : Finding). f.line) nat_cmp_total) (then_total (on_total (λ (f : Finding). f.column) nat_cmp_total) (then_total (on_total (λ (f : Finding). f.number) nat_cmp_total) (on_total (λ (f : Finding). f.needed_us) nat_cmp_total)))
 
-then_tied : (p q : Ordering) → ordering_then p q ≡ Equal → (p ≡ Equal) × (q ≡ Equal)
+pub then_tied : (p q : Ordering) → ordering_then p q ≡ Equal → (p ≡ Equal) × (q ≡ Equal)
 then_tied Less q h = absurd (cc)
 then_tied Equal q h = (refl, h)
 then_tied Greater q h = absurd (cc)
@@ -28,7 +28,7 @@ then_tied Greater q h = absurd (cc)
 numbers_tied : (m n : ℕ) → nat_cmp m n ≡ Equal → m ≡ n
 numbers_tied m n h = grind (arith, nat_tests)
 
-findings_tied : (a b : Finding) → finding_cmp a b ≡ Equal → a ≡ b
+pub findings_tied : (a b : Finding) → finding_cmp a b ≡ Equal → a ≡ b
 findings_tied a b h =
     let l = then_tied (nat_cmp a.line b.line) (ordering_then (nat_cmp a.column b.column) (ordering_then (nat_cmp a.number b.number) (nat_cmp a.needed_us b.needed_us))) h in
     let c = then_tied (nat_cmp a.column b.column) (ordering_then (nat_cmp a.number b.number) (nat_cmp a.needed_us b.needed_us)) l.1 in
@@ -78,7 +78,7 @@ tied a Less e h k = absurd (cc)
 tied a Equal e h k = e
 tied a Greater e h k = absurd (let g : is_lt a ≡ true = ap is_lt e in cc)
 
-ordered_once : {X : Type 0} (R : X → X → Ordering) → IsTotalOrder R → ((x y : X) → R x y ≡ Equal → x ≡ y) → (xs ys : List X) → IsSorted R xs → IsSorted R ys → ((f : X → ℕ) → sum_by f xs ≡ sum_by f ys) → xs ≡ ys
+pub ordered_once : {X : Type 0} (R : X → X → Ordering) → IsTotalOrder R → ((x y : X) → R x y ≡ Equal → x ≡ y) → (xs ys : List X) → IsSorted R xs → IsSorted R ys → ((f : X → ℕ) → sum_by f xs ≡ sum_by f ys) → xs ≡ ys
 ordered_once R o ties [] [] up also same = refl
 ordered_once R o ties [] (y ∷ ys) up also same = absurd (omega (arith, same (λ z. 1), sum_by-cons (λ z. 1) y ys))
 ordered_once R o ties (x ∷ xs) [] up also same = absurd (omega (arith, same (λ z. 1), sum_by-cons (λ z. 1) x xs))

@@ -16,7 +16,7 @@ use Rattle.lin_cluster.specs.declared.findings.facts.SignalFacts.{SignalFacts}
 use Rattle.lin_cluster.specs.declared.findings.ranges.Ranges.{Ranges}
 use Rattle.lin_cluster.proofs.KnownNames.{same-number}
 use Rattle.lin_cluster.proofs.Made.{some-made}
-use Rattle.lin_cluster.proofs.Named.{found-within}
+use Rattle.lin_cluster.proofs.NamesFound.{found-within}
 use Rattle.lin_description.specs.declared.description.Description.{Description}
 use Rattle.lin_description.specs.declared.description.PlacedSignal.{PlacedSignal}
 

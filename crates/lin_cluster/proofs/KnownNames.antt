@@ -17,7 +17,7 @@ use Rattle.lin_description.specs.declared.description.Table as declared_table
 use Rattle.lin_cluster_parts.specs.Cluster.{nodes, signal_of, frame_of}
 use Rattle.lin_cluster.specs.Described.{node_names, node_number, signal_number, frame_number, table_number, responder, described_signal, described_frame, parts_of}
 use Rattle.lin_cluster.specs.FindingsNames.{is_node, signal_named, frame_named, table_named, same_name}
-use Rattle.lin_cluster.proofs.Named.{number_by, same-text, text-same, has-text, one-text, any-within, found-within, found-at}
+use Rattle.lin_cluster.proofs.NamesFound.{number_by, same-text, text-same, has-text, one-text, any-within, found-within, found-at}
 
 pub alike : (a b : Bool) → (a ≡ true → b ≡ true) → (b ≡ true → a ≡ true) → a ≡ b
 alike true b there back = sym (there refl)

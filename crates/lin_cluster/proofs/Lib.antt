@@ -22,6 +22,6 @@ pub mod GoodParts
 pub mod KnownNames
 pub mod LongSlots
 pub mod Made
-pub mod Named
-pub mod NothingFound
+pub mod NamesFound
+pub mod NothingElse
 pub mod NothingIn

@@ -17,14 +17,14 @@ use Rattle.lin_cluster.specs.Described.{described_entry, described_event, descri
 use Rattle.lin_cluster.specs.Findings.{IsFree}
 use Rattle.lin_cluster.specs.FindingsNames.{carries_frame, event_named, frame_named, is_any_frame, sporadic_named, at_name}
 use Rattle.lin_cluster.specs.SlotTimes.{NoSlotIsShort, frame_bytes, greatest_bytes, slot_need, slot_bytes}
-use Rattle.lin_cluster.specs.Slots.{first_size, frame_size, good_size, greatest_size, is_speed, needed_us, slot_size}
+use Rattle.lin_cluster.specs.Slots.{first_size, frame_size, good_size, greatest_size, is_speed, needed_us, short_slot_at, slot_size}
 use Rattle.lin_cluster.specs.declared.finding.Finding.{Finding}
 use Rattle.lin_cluster.specs.declared.finding.FindingKind.TheVariants.{SlotTooShort}
 use Rattle.lin_cluster.proofs.DescribedEvents.{found-number, part-size}
 use Rattle.lin_cluster.proofs.GoodParts.{GoodLine, good-events, good-frames, good-sporadics, good-tables, within-limits}
 use Rattle.lin_cluster.proofs.KnownNames.{frame-found, no_frame, no_name, no_number}
-use Rattle.lin_cluster.proofs.Named.{found-at, found-within}
-use Rattle.lin_cluster.proofs.NothingFound.{NothingFound, nothing-found}
+use Rattle.lin_cluster.proofs.NamesFound.{found-at, found-within}
+use Rattle.lin_cluster.proofs.NothingElse.{NothingElse, nothing-else, free-is-sound, no-short-slots}
 use Rattle.lin_cluster_parts.specs.Cluster.{event_of, sporadic_of}
 use Rattle.lin_cluster_parts.specs.Rules.{IsCluster}
 use Rattle.lin_cluster_parts.specs.declared.parts.Entry.{Entry}
@@ -37,7 +37,7 @@ use Rattle.lin_cluster_parts.specs.declared.parts.Table.{Table}
 
 -- ---- the data bytes of a slot are those by which the description is judged
 
-size-of-frame : (d : Description) → NothingFound d → (m : Name) → frame_number d m < length d.frames → frame_size d m ≡ Some (frame_bytes (parts_of d) (frame_number d m))
+size-of-frame : (d : Description) → NothingElse d → (m : Name) → frame_number d m < length d.frames → frame_size d m ≡ Some (frame_bytes (parts_of d) (frame_number d m))
 size-of-frame d none m lt =
     let size = (get_or d.frames (frame_number d m) no_frame).size.value
     in ap (option_and_then (λ f. good_size f.size.value)) (frame-found d m lt)
@@ -46,14 +46,14 @@ size-of-frame d none m lt =
 abbrev AreThere : Description → List Name → Type 0
 AreThere d ms = All (λ m. frame_number d m < length d.frames) ms
 
-all-have-sizes : (d : Description) → NothingFound d → (ms : List Name) → AreThere d ms → list_all (λ m. is_some (frame_size d m)) ms ≡ true
+all-have-sizes : (d : Description) → NothingElse d → (ms : List Name) → AreThere d ms → list_all (λ m. is_some (frame_size d m)) ms ≡ true
 all-have-sizes d none [] there = refl
 all-have-sizes d none (m ∷ ms) there =
     let P = λ (x : Name). frame_number d x < length d.frames
     in ap (λ o. is_some o && list_all (λ x. is_some (frame_size d x)) ms) (size-of-frame d none m (All-head P m ms there))
     ∙ all-have-sizes d none ms (All-tail P m ms there)
 
-same-greatest : (d : Description) → NothingFound d → (n : ℕ) (ms : List Name) → AreThere d ms
+same-greatest : (d : Description) → NothingElse d → (n : ℕ) (ms : List Name) → AreThere d ms
     → fold (λ k m. max k (option_map_or (λ size. size) (frame_size d m) 0)) n ms ≡ fold (λ k f. max k (frame_bytes (parts_of d) f)) n (members_of d ms)
 same-greatest d none n [] there = refl
 same-greatest d none n (m ∷ ms) there =
@@ -61,24 +61,24 @@ same-greatest d none n (m ∷ ms) there =
     in ap (λ o. fold (λ k x. max k (option_map_or (λ size. size) (frame_size d x) 0)) (max n (option_map_or (λ size. size) o 0)) ms) (size-of-frame d none m (All-head P m ms there))
     ∙ same-greatest d none (max n (frame_bytes (parts_of d) (frame_number d m))) ms (All-tail P m ms there)
 
-size-of-members : (d : Description) → NothingFound d → (ms : List Name) → AreThere d ms → greatest_size d ms ≡ Some (greatest_bytes (parts_of d) (members_of d ms))
+size-of-members : (d : Description) → NothingElse d → (ms : List Name) → AreThere d ms → greatest_size d ms ≡ Some (greatest_bytes (parts_of d) (members_of d ms))
 size-of-members d none ms there =
     ap (λ b. cond b (Some (fold (λ k m. max k (option_map_or (λ size. size) (frame_size d m) 0)) 0 ms)) None) (all-have-sizes d none ms there)
     ∙ ap Some (same-greatest d none 0 ms there)
 
-size-of-first : (d : Description) → NothingFound d → (ms : List Name) → 1 ≤ length (members_of d ms) → AreThere d ms → first_size d ms ≡ Some (frame_bytes (parts_of d) (get_or (members_of d ms) 0 0))
+size-of-first : (d : Description) → NothingElse d → (ms : List Name) → 1 ≤ length (members_of d ms) → AreThere d ms → first_size d ms ≡ Some (frame_bytes (parts_of d) (get_or (members_of d ms) 0 0))
 size-of-first d none [] some there = absurd (omega arith)
 size-of-first d none (m ∷ ms) some there = size-of-frame d none m (All-head (λ x. frame_number d x < length d.frames) m ms there)
 
 -- ---- by what the entry names
 
-frame-slot : (d : Description) → NothingFound d → (n : Name) → is_some (frame_named d n) ≡ true → frame_size d n ≡ Some (slot_bytes (parts_of d) (Frame (frame_number d n)))
+frame-slot : (d : Description) → NothingElse d → (n : Name) → is_some (frame_named d n) ≡ true → frame_size d n ≡ Some (slot_bytes (parts_of d) (Frame (frame_number d n)))
 frame-slot d none n known = size-of-frame d none n (found-within (λ f. bytes_eq f.name.text n.text) d.frames known)
 
 abbrev no_sporadic : declared_sporadic.Sporadic
 no_sporadic = record { name = no_name; members = [] }
 
-sporadic-slot : (d : Description) → NothingFound d → (n : Name) → is_some (sporadic_named d n) ≡ true
+sporadic-slot : (d : Description) → NothingElse d → (n : Name) → is_some (sporadic_named d n) ≡ true
     → option_and_then (λ f. greatest_size d f.members) (sporadic_named d n) ≡ Some (slot_bytes (parts_of d) (Sporadic (sporadic_number d n)))
 sporadic-slot d none n known =
     let k = sporadic_number d n
@@ -92,7 +92,7 @@ sporadic-slot d none n known =
 abbrev no_event : declared_event.EventFrame
 no_event = record { name = no_name; table = no_name; id = no_number; members = [] }
 
-event-slot : (d : Description) → NothingFound d → IsCluster (parts_of d) → (n : Name) → is_some (event_named d n) ≡ true
+event-slot : (d : Description) → NothingElse d → IsCluster (parts_of d) → (n : Name) → is_some (event_named d n) ≡ true
     → option_and_then (λ e. first_size d e.members) (event_named d n) ≡ Some (slot_bytes (parts_of d) (Event (event_number d n)))
 event-slot d none sound n known =
     let k = event_number d n
@@ -119,7 +119,7 @@ slot-by x false false false false true e a b c of_frame of_sporadic of_event kno
 slot-by x false false false false false true a b c of_frame of_sporadic of_event known frame sporadic event = event refl
 slot-by x false false false false false false a b c of_frame of_sporadic of_event known frame sporadic event = absurd (cc)
 
-slot-size-is : (d : Description) → NothingFound d → IsCluster (parts_of d) → (x : TableEntry) → (carries_frame x && not (is_any_frame d x.name)) ≡ false
+slot-size-is : (d : Description) → NothingElse d → IsCluster (parts_of d) → (x : TableEntry) → (carries_frame x && not (is_any_frame d x.name)) ≡ false
     → slot_size d x ≡ Some (slot_bytes (parts_of d) (described_entry d x))
 slot-size-is d none sound x known =
     let n = x.name
@@ -146,20 +146,20 @@ not-short false true true f zero' good none = absurd (cc)
 not-short true is_good is_short f zero' good none = absurd (cc)
 not-short false false is_short f zero' good none = absurd (cc)
 
-long-entry : (d : Description) → NothingFound d → IsCluster (parts_of d) → (x : TableEntry) → GoodLine d x → slot_need (parts_of d) (described_entry d x) ≤ x.delay.value
-long-entry d none sound x good =
+long-entry : (d : Description) → NothingElse d → IsCluster (parts_of d) → (x : TableEntry) → GoodLine d x → short_slot_at d x ≡ [] → slot_need (parts_of d) (described_entry d x) ≤ x.delay.value
+long-entry d none sound x good long =
     let bytes = slot_bytes (parts_of d) (described_entry d x)
     in let us = needed_us d.jitter.value d.speed.value bytes
     in let short : nat_lt x.delay.value us ≡ false = not-short (x.delay.value == 0) (is_speed d.speed.value) (nat_lt x.delay.value us) (at_name (SlotTooShort us) x.name)
-    (not-zero x.delay.value good.some) (within-limits d none).speed (rw (slot-size-is d none sound x good.known) at good.long)
+    (not-zero x.delay.value good.some) (within-limits d none).speed (rw (slot-size-is d none sound x good.known) at long)
     in ltb-false x.delay.value us short
 
 -- the law
 pub no-slot-is-short : (d : Description) → IsFree d → IsCluster (parts_of d) → NoSlotIsShort (parts_of d)
 no-slot-is-short d free sound =
-    let none = nothing-found d free
+    let none = nothing-else d (free-is-sound d free)
     in let c = parts_of d
     in let IsLong = λ (l : Line). slot_need c l.entry ≤ l.delay_us
     in All-map (λ (t : Table). All IsLong t.lines) (described_table d) d.tables
     (λ k t lt. All-map IsLong (described_line d) (get_or d.tables k t).entries
-    (λ i x in'. long-entry d none sound (get_or (get_or d.tables k t).entries i x) ((good-tables d none k t lt).lines i x in')))
+    (λ i x in'. long-entry d none sound (get_or (get_or d.tables k t).entries i x) ((good-tables d none k t lt).lines i x in') (no-short-slots d free k t lt i x in')))

@@ -1,33 +1,57 @@
--- What an empty list of findings says of what it was collected from, and what a whole list has.
-use Rattle.std.proofs.Common.{◌≡◌, ◌<◌, ◌≤◌, ◌+◌, ℕ, zero, suc, Bool, true, false, cond, ◌||◌, List, [], ◌∷◌, ◌++◌, length, map, get_or, refl, ap, arith}
+-- What a list of findings that are all slots too short says of what it was collected from, and
+-- what a whole list has.
+use Rattle.std.proofs.Common.{◌≡◌, ◌<◌, ◌≤◌, ◌==◌, ◌+◌, ℕ, zero, suc, Bool, true, false, cond, ◌||◌, List, [], ◌∷◌, ◌++◌, length, map, get_or, refl, ap, arith}
 use Rattle.std.specs.Prelude.{All, slice_get, count_by}
 use Rattle.std.specs.List.{flat_map, list_any, enumerate_from, AllZip}
+use Rattle.std.proofs.lemmas.Bool.{eqb-false}
 use Rattle.std.proofs.lemmas.List.Elements.{All-nil, All-cons, All-head, All-tail}
 use Rattle.std.proofs.lemmas.List.Sums.{sum_by-cons, get_or-le-sum_by}
-use Rattle.lin_cluster.specs.FindingsNames.{when}
+use Rattle.lin_cluster.specs.FindingsNames.{when, at_name}
 use Rattle.lin_cluster.specs.Limits.{past}
 use Rattle.lin_cluster.specs.declared.finding.Finding.{Finding}
+use Rattle.lin_cluster.specs.declared.finding.FindingKind.TheVariants.{LimitPassed}
+use Rattle.lin_cluster_parts.proofs.Pairs.{all-front, all-back}
 use Rattle.lin_description.specs.declared.description.Name.{Name}
 
-pub nil-parts : {X : Type 0} (xs ys : List X) → xs ++ ys ≡ [] → (xs ≡ []) × (ys ≡ [])
-nil-parts [] ys e = (refl, e)
-nil-parts (x ∷ xs) ys e = absurd (cc)
+-- slots that are too short (9), and no other finding
+abbrev pub IsShort : Finding → Type 0
+IsShort f = f.number ≡ 9
 
-pub each-nil : {X A : Type 0} (f : X → List A) (xs : List X) → flat_map f xs ≡ [] → All (λ x. f x ≡ []) xs
-each-nil f [] e = All-nil (λ x. f x ≡ [])
-each-nil f (x ∷ xs) e =
-    let parts = nil-parts (f x) (flat_map f xs) e
-    in All-cons (λ y. f y ≡ []) x xs parts.0 (each-nil f xs parts.1)
+abbrev pub AreShort : List Finding → Type 0
+AreShort fs = All IsShort fs
 
-pub when-nil : (b : Bool) (f : Finding) → when b f ≡ [] → b ≡ false
-when-nil true f e = absurd (cc)
-when-nil false f e = refl
+-- over any lists, so that nothing unfolds
+pub two-parts : {X : Type 0} (P : X → Type 0) (a b : List X) → All P (a ++ b) → All P a × All P b
+two-parts P a b all = (all-front P a b all, all-back P a b all)
+
+pub three-parts : {X : Type 0} (P : X → Type 0) (a b c : List X) → All P (a ++ b ++ c) → All P a × All P b × All P c
+three-parts P a b c all =
+    let back = two-parts P (a ++ b) c all
+    in let front = two-parts P a b back.0
+    in (front.0, front.1, back.1)
+
+pub four-parts : {X : Type 0} (P : X → Type 0) (a b c d : List X) → All P (a ++ b ++ c ++ d) → All P a × All P b × All P c × All P d
+four-parts P a b c d all =
+    let back = two-parts P (a ++ b ++ c) d all
+    in let front = three-parts P a b c back.0
+    in (front.0, front.1, front.2, back.1)
+
+pub in-each : {X A : Type 0} (P : A → Type 0) (f : X → List A) (xs : List X) → All P (flat_map f xs) → All (λ x. All P (f x)) xs
+in-each P f [] all = All-nil (λ x. All P (f x))
+in-each P f (x ∷ xs) all =
+    let parts = two-parts P (f x) (flat_map f xs) all
+    in All-cons (λ y. All P (f y)) x xs parts.0 (in-each P f xs parts.1)
+
+-- another finding isn't there
+pub when-not : (b : Bool) (f : Finding) → (f.number == 9) ≡ false → AreShort (when b f) → b ≡ false
+when-not true f other all = absurd (eqb-false f.number 9 other (All-head IsShort f [] all))
+when-not false f other all = refl
 
 -- nothing after the limit
-pub within-limit : {X : Type 0} (name : X → Name) (xs : List X) (n : ℕ) → past name (slice_get xs n) ≡ [] → length xs ≤ n
-within-limit name [] n e = omega arith
-within-limit name (x ∷ xs) zero e = absurd (cc)
-within-limit name (x ∷ xs) (suc n) e = let h = within-limit name xs n e in omega arith
+pub within-limit : {X : Type 0} (name : X → Name) (xs : List X) (n : ℕ) → AreShort (past name (slice_get xs n)) → length xs ≤ n
+within-limit name [] n all = omega arith
+within-limit name (x ∷ xs) zero all = absurd (eqb-false 17 9 refl (All-head IsShort (at_name LimitPassed (name x)) [] all))
+within-limit name (x ∷ xs) (suc n) all = let h = within-limit name xs n all in omega arith
 
 -- of each item with its number
 pub at-each : {X : Type 0} (P : ℕ × X → Type 0) (n : ℕ) (xs : List X) → All P (enumerate_from n xs) → (k : ℕ) (d : X) → k < length xs → P (n + k, get_or xs k d)

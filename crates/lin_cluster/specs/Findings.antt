@@ -1,6 +1,6 @@
 -- What is wrong with a description: what each condition finds, declaration by declaration, in the
 -- order of the places.
-use Rattle.std.specs.Prelude.{◌≡◌, ℕ, List, [], ◌++◌, flat_map, IsPermutation, IsSorted}
+use Rattle.std.specs.Prelude.{◌≡◌, ℕ, List, [], ◌++◌, All, flat_map, IsPermutation, IsSorted}
 use Rattle.std.specs.List.{enumerate_from}
 use Rattle.std.specs.declared.cmp.Ordering.{Ordering}
 use Rattle.std.specs.Ordering.{nat_cmp, ordering_then}
@@ -94,6 +94,10 @@ candidates d = bad_ids d ++ ids_twice d ++ beside_ids d
 -- a description in which nothing is found
 abbrev pub IsFree : Description → Type 0
 IsFree d = candidates d ≡ []
+
+-- a description in which nothing is found but slots that are too short (9)
+abbrev pub IsSound : Description → Type 0
+IsSound d = All (λ f. f.number ≡ 9) (candidates d)
 
 -- by line, then by column, then by number
 abbrev pub finding_cmp : Finding → Finding → Ordering

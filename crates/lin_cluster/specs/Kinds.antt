@@ -11,6 +11,10 @@ use Rattle.lin_cluster.specs.declared.finding.FindingKind.TheVariants.{BadNad, N
 use Rattle.lin_cluster.specs.declared.finding.FindingKind.TheVariants.{BadEventFrame, BadSporadic}
 use Rattle.lin_cluster.specs.declared.finding.FindingKind.TheVariants.{NestedCollision, EmptyTable}
 use Rattle.lin_cluster.specs.declared.finding.FindingKind.TheVariants.{LimitPassed, MixedChecksum}
+use Rattle.lin_cluster.specs.declared.finding.FindingKind.TheVariants.{NoSize, NoTable, WideSignal}
+use Rattle.lin_cluster.specs.declared.finding.FindingKind.TheVariants.{Rounded, ExtraMark}
+use Rattle.lin_cluster.specs.declared.finding.FindingKind.TheVariants.{InitialNad, ByteOrder}
+use Rattle.lin_cluster.specs.declared.finding.FindingKind.TheVariants.{HeaderLine}
 
 abbrev pub number_of : FindingKind → ℕ
 number_of UnknownName = 1
@@ -31,6 +35,14 @@ number_of NestedCollision = 15
 number_of EmptyTable = 16
 number_of LimitPassed = 17
 number_of MixedChecksum = 18
+number_of NoSize = 19
+number_of NoTable = 20
+number_of WideSignal = 21
+number_of Rounded = 22
+number_of ExtraMark = 23
+number_of InitialNad = 24
+number_of ByteOrder = 25
+number_of HeaderLine = 26
 
 -- the names of findings, by their numbers, which begin at 1
 abbrev pub finding_names : List (List ℕ)
@@ -38,7 +50,9 @@ finding_names =
     [] ∷ codes "UnknownName" ∷ codes "WrongPublisher" ∷ codes "BadId" ∷ codes "IdTwice" ∷ codes "BadSize"
     ∷ codes "SignalOutside" ∷ codes "SignalsOverlap" ∷ codes "BadInit" ∷ codes "SlotTooShort"
     ∷ codes "ZeroDelay" ∷ codes "BadNad" ∷ codes "NadTwice" ∷ codes "BadEventFrame" ∷ codes "BadSporadic"
-    ∷ codes "NestedCollision" ∷ codes "EmptyTable" ∷ codes "LimitPassed" ∷ codes "MixedChecksum" ∷ []
+    ∷ codes "NestedCollision" ∷ codes "EmptyTable" ∷ codes "LimitPassed" ∷ codes "MixedChecksum"
+    ∷ codes "NoSize" ∷ codes "NoTable" ∷ codes "WideSignal" ∷ codes "Rounded" ∷ codes "ExtraMark"
+    ∷ codes "InitialNad" ∷ codes "ByteOrder" ∷ codes "HeaderLine" ∷ []
 
 abbrev pub finding_name : ℕ → List ℕ
 finding_name number = slice_index_or finding_names number []
@@ -63,6 +77,14 @@ needed_by NestedCollision = 0
 needed_by EmptyTable = 0
 needed_by LimitPassed = 0
 needed_by MixedChecksum = 0
+needed_by NoSize = 0
+needed_by NoTable = 0
+needed_by WideSignal = 0
+needed_by Rounded = 0
+needed_by ExtraMark = 0
+needed_by InitialNad = 0
+needed_by ByteOrder = 0
+needed_by HeaderLine = 0
 
 -- a finding by its kind, line and column
 abbrev pub finding_at : FindingKind → ℕ → ℕ → Finding

@@ -3,7 +3,7 @@
 ghost use Rattle.std.specs.Prelude.{◌≡◌, map, IfErr, IfOk};
 ghost use Rattle.lin_cluster.specs.Checks.{IsFaultOf};
 ghost use Rattle.lin_cluster.specs.Described.{parts_of};
-ghost use Rattle.lin_cluster.specs.Findings.{AreFindings, IsFree};
+ghost use Rattle.lin_cluster.specs.Findings.{AreFindings, IsFree, IsSound};
 ghost use Rattle.lin_cluster.specs.Models.{frame_model};
 ghost use Rattle.lin_cluster.specs.SlotTimes.{NoSlotIsShort};
 ghost use Rattle.lin_cluster.specs.declared.finding.CheckFault.TheVariants.{OutOfMemory};
@@ -25,16 +25,17 @@ impl From<AllocError> for CheckFault {
     }
 }
 
-// The cluster of a description in which nothing is found.
-fn cluster_of(
+/// The cluster of a description in which nothing is found but slots that are too short (9), with the
+/// checksum model of each of its frames. An error means out of memory.
+pub fn cluster_of(
     alloc: Global,
     description: &Description,
     models: &[SumKind],
 ) -> Result<Cluster, AllocError>
-    requires free { IsFree description.now }
+    requires sound { IsSound description.now }
     requires models { models.now ≡ map (frame_model description.now) description.now.frames }
     ensures cluster { IfOk result (λ cluster. cluster ≡ parts_of description.now) }
-    ensures slots { IfOk result NoSlotIsShort }
+    ensures slots { IfOk result (λ cluster. IsFree description.now → NoSlotIsShort cluster) }
 {
     Cluster::new(alloc, parts_of(alloc, description, models)?)
 }

@@ -6,7 +6,8 @@ ghost use Rattle.lin_cluster.specs.Kinds.{finding_at, finding_name, number_of};
 use lin_description::Place;
 use lin_lists::Many;
 
-/// The kinds of findings, in the order of their numbers, 1 to 18.
+/// The kinds of findings, in the order of their numbers, 1 to 26. Those from 19 on are told of texts
+/// of the field alone.
 #[derive(Clone, Copy, Debug, PartialEq, Eq)]
 pub enum FindingKind {
     UnknownName,
@@ -28,10 +29,18 @@ pub enum FindingKind {
     EmptyTable,
     LimitPassed,
     MixedChecksum,
+    NoSize,
+    NoTable,
+    WideSignal,
+    Rounded,
+    ExtraMark,
+    InitialNad,
+    ByteOrder,
+    HeaderLine,
 }
 
 impl FindingKind {
-    /// The number, 1 to 18.
+    /// The number, 1 to 26.
     pub fn number(self) -> u8
         ensures { result ≡ number_of self }
     {
@@ -54,11 +63,19 @@ impl FindingKind {
             FindingKind::EmptyTable => 16,
             FindingKind::LimitPassed => 17,
             FindingKind::MixedChecksum => 18,
+            FindingKind::NoSize => 19,
+            FindingKind::NoTable => 20,
+            FindingKind::WideSignal => 21,
+            FindingKind::Rounded => 22,
+            FindingKind::ExtraMark => 23,
+            FindingKind::InitialNad => 24,
+            FindingKind::ByteOrder => 25,
+            FindingKind::HeaderLine => 26,
         }
     }
 }
 
-/// What is wrong, and where: the finding's number (1 to 18), line and column, and for a slot that
+/// What is wrong, and where: the finding's number (1 to 26), line and column, and for a slot that
 /// is too short (9) the time in microseconds that it needs; otherwise 0. Findings are ordered by
 /// place, then by number.
 #[derive(Clone, Copy, Debug, PartialEq, Eq, PartialOrd, Ord)]
@@ -85,7 +102,7 @@ impl Finding {
         }
     }
 
-    /// The name; only numbers from 1 to 18 have one.
+    /// The name; only numbers from 1 to 26 have one.
     pub fn name(&self) -> &'static str
         ensures { result.now ≡ finding_name self.now.number }
     {
@@ -108,6 +125,14 @@ impl Finding {
             16 => "EmptyTable",
             17 => "LimitPassed",
             18 => "MixedChecksum",
+            19 => "NoSize",
+            20 => "NoTable",
+            21 => "WideSignal",
+            22 => "Rounded",
+            23 => "ExtraMark",
+            24 => "InitialNad",
+            25 => "ByteOrder",
+            26 => "HeaderLine",
             _ => "",
         }
     }

@@ -27,19 +27,22 @@ use crate::finding::Finding;
 use addresses::bad_addresses;
 use declarations::in_declarations;
 use identifiers::bad_identifiers;
-use judged::Judged;
+pub(crate) use judged::Judged;
 use limits::limits_passed;
 use lin_description::Description;
 use lin_frame::SumKind;
-pub use slots::needed_us;
+pub use repeats::Repeats;
+pub use sizes::is_frame_size;
+pub use slots::{is_speed, needed_us};
 use std::alloc::{AllocError, Global};
 use tables::no_table;
+pub use walk::{at_name, at_number, push_when};
 
 /// All that is wrong with a description, and the checksum model of each of its frames.
 #[derive(Drop)]
-pub(crate) struct Examined {
-    pub(crate) found: Vec<Finding>,
-    pub(crate) models: Vec<SumKind>,
+pub struct Examined {
+    pub found: Vec<Finding>,
+    pub models: Vec<SumKind>,
 }
 
 fn gather(alloc: Global, found: &mut Vec<Finding>, judged: &Judged) -> Result<(), AllocError>
@@ -68,7 +71,7 @@ fn unordered(alloc: Global, description: &Description) -> Result<Examined, Alloc
 
 /// All that is wrong with a description, by place and number, and the checksum model of each frame.
 /// An error means out of memory.
-pub(crate) fn examine(alloc: Global, description: &Description) -> Result<Examined, AllocError>
+pub fn examine(alloc: Global, description: &Description) -> Result<Examined, AllocError>
     ensures found { IfOk result (λ x. AreFindings description.now x.found.items) }
     ensures models { IfOk result
         (λ x. x.models.items ≡ map (frame_model description.now) description.now.frames) }

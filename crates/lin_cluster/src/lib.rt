@@ -12,10 +12,15 @@ mod described;
 mod finding;
 mod findings;
 mod names;
+mod slot_sizes;
 
-pub use checks::check;
+pub use checks::{check, cluster_of};
 pub use finding::{CheckFault, Finding, FindingKind};
-pub use findings::needed_us;
+pub use findings::{
+    Examined, Repeats, at_name, at_number, examine, is_frame_size, is_speed, needed_us, push_when,
+};
 pub use lin_cluster_parts::{
     Cluster, Entry, EventFrame, Line, Node, Parts, Signal, SignalFrame, SporadicFrame, Table,
 };
+pub use names::{Named, Numbers, find_by, number_by, numbers_of};
+pub use slot_sizes::SlotSizes;

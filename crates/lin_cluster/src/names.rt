@@ -14,7 +14,7 @@ use lin_description::{Attributes, Name};
 use std::alloc::{AllocError, Global};
 
 /// What is declared with a name.
-pub(crate) trait Named {
+pub trait Named {
     ghost use Rattle.lin_description.specs.declared.description.Name.{Name};
 
     ghost name_of: { Self → Name };
@@ -40,7 +40,7 @@ impl Named for Attributes {
 }
 
 /// Gives a name what it names, where it names nothing yet.
-pub(crate) fn add<'a, V: Copy>(
+pub fn add<'a, V: Copy>(
     map: &mut IndexMap<&'a [u8], V>,
     name: &'a [u8],
     value: V,
@@ -58,8 +58,8 @@ pub(crate) fn add<'a, V: Copy>(
 }
 
 /// The number of the first declaration with each name, by the name's text.
-pub(crate) struct Numbers<'a> {
-    map: IndexMap<&'a [u8], usize>,
+pub struct Numbers<'a> {
+    pub map: IndexMap<&'a [u8], usize>,
 }
 
 // Written out, so that what owns one lets it go in one step.
@@ -70,10 +70,7 @@ impl<'a> Drop for Numbers<'a> {
 }
 
 /// Each name is looked at once; an error means out of memory.
-pub(crate) fn numbers_of<'a, T: Named>(
-    alloc: Global,
-    all: &'a [T],
-) -> Result<Numbers<'a>, AllocError>
+pub fn numbers_of<'a, T: Named>(alloc: Global, all: &'a [T]) -> Result<Numbers<'a>, AllocError>
     ensures { IfOk result (λ n. NumbersFirst T.name_of all.now n.map) }
 {
     let mut numbers = Numbers {
@@ -86,7 +83,7 @@ pub(crate) fn numbers_of<'a, T: Named>(
 }
 
 /// The number of the first of these that has the name, or the one after the last.
-pub(crate) fn number_by<T: Named>(numbers: &Numbers, all: &[T], name: &Name) -> usize
+pub fn number_by<T: Named>(numbers: &Numbers, all: &[T], name: &Name) -> usize
     requires { NumbersFirst T.name_of all.now numbers.now.map }
     ensures { result ≡ position_or_len (λ x. same_name (T.name_of x) name.now) all.now }
 {
@@ -97,7 +94,7 @@ pub(crate) fn number_by<T: Named>(numbers: &Numbers, all: &[T], name: &Name) -> 
 }
 
 /// The first of these that has the name.
-pub(crate) fn find_by<'a, T: Named>(numbers: &Numbers, all: &'a [T], name: &Name) -> Option<&'a T>
+pub fn find_by<'a, T: Named>(numbers: &Numbers, all: &'a [T], name: &Name) -> Option<&'a T>
     requires { NumbersFirst T.name_of all.now numbers.now.map }
     ensures { option_copied result ≡ find (λ x. same_name (T.name_of x) name.now) all.now }
 {

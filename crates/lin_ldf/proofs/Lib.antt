@@ -24,3 +24,5 @@ pub mod Ending
 pub mod Described
 pub mod Stops
 pub mod Parsed
+pub mod Alike
+pub mod Blanks

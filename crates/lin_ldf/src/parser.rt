@@ -92,7 +92,7 @@ impl<'a> Parser<'a> {
     }
 
     /// The text of the next token.
-    fn text(&self) -> &'a [u8]
+    pub fn text(&self) -> &'a [u8]
         ensures { result.now ≡ (front self.now).text }
     {
         self.front.text()
@@ -265,7 +265,7 @@ impl<'a> Parser<'a> {
     }
 
     /// The next token, a number with this value where that is within the limit.
-    fn number(&mut self, value: Option<u32>) -> Result<Number, LdfFault>
+    pub fn number(&mut self, value: Option<u32>) -> Result<Number, LdfFault>
         requires { has_front self.old ≡ true }
         ensures { Gives result self.new (number_at value self.old) }
     {

@@ -33,7 +33,7 @@ pub(super) struct SignalFacts {
 /// of the node that publishes it, where there is one, whether a signal begins in its data byte 0,
 /// and its checksum model.
 #[derive(Clone, Copy)]
-pub(super) struct FrameFacts {
+pub(crate) struct FrameFacts {
     pub(super) publisher: Option<usize>,
     pub(super) size: u32,
     pub(super) has_front: bool,

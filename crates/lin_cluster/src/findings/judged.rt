@@ -103,13 +103,13 @@ impl<'a> Makes<FrameFacts, SumKind> for Judged<'a> {
 /// What an entry says of its slot: whether it names nothing, and the data bytes that the slot has
 /// to hold.
 #[derive(Clone, Copy)]
-pub(super) struct Slot {
-    pub(super) is_unknown: bool,
-    pub(super) size: Option<u32>,
+pub(crate) struct Slot {
+    pub(crate) is_unknown: bool,
+    pub(crate) size: Option<u32>,
 }
 
 /// What is worked out once of each declaration that names may name. Contracts see the description.
-pub(super) struct Judged<'a> {
+pub(crate) struct Judged<'a> {
     pub(super) signals: Signals<'a>,
     facts: Facts,
 }
@@ -158,7 +158,7 @@ fn facts_of(alloc: Global, signals: &Signals) -> Result<Facts, AllocError>
 
 impl<'a> Judged<'a> {
     /// An error means out of memory.
-    pub(super) fn new(alloc: Global, description: &'a Description) -> Result<Judged<'a>, AllocError>
+    pub(crate) fn new(alloc: Global, description: &'a Description) -> Result<Judged<'a>, AllocError>
         ensures { IfOk result (λ j. j ≡ description.now) }
     {
         let signals = Signals::new(alloc, Known::new(alloc, description)?)?;
@@ -174,7 +174,7 @@ impl<'a> Judged<'a> {
     }
 
     /// The facts of the frame with this name, where there is one.
-    pub(super) fn frame(&self, name: &Name) -> Option<FrameFacts>
+    pub(crate) fn frame(&self, name: &Name) -> Option<FrameFacts>
         ensures { result ≡ option_map (frame_facts self.now) (frame_named self.now name.now) }
     {
         at(
@@ -229,7 +229,7 @@ impl<'a> Judged<'a> {
     }
 
     /// What is asked of the slot of an entry.
-    pub(super) fn slot(&self, entry: &TableEntry) -> Slot
+    pub(crate) fn slot(&self, entry: &TableEntry) -> Slot
         ensures unknown { result.is_unknown
             ≡ (carries_frame entry.now && not (is_any_frame self.now entry.now.name)) }
         ensures size { result.size ≡ slot_size self.now entry.now }

@@ -14,13 +14,13 @@ use std::marker::Model;
 
 /// The first two of the numbers that have one value, by place.
 #[derive(Clone, Copy)]
-pub(super) struct Uses {
+struct Uses {
     first: Number,
     second: Option<Number>,
 }
 
 /// Numbers, and the first two of each value. Contracts see the numbers.
-pub(super) struct Repeats {
+pub struct Repeats {
     all: Vec<Number>,
     uses: IndexMap<u32, Uses>,
 }
@@ -121,21 +121,21 @@ fn counted(alloc: Global, ids: &[Number]) -> Result<IndexMap<u32, Uses>, AllocEr
 
 impl Repeats {
     /// An error means out of memory.
-    pub(super) fn new(alloc: Global, all: Vec<Number>) -> Result<Repeats, AllocError>
+    pub fn new(alloc: Global, all: Vec<Number>) -> Result<Repeats, AllocError>
         ensures { IfOk result (λ r. r ≡ all.items) }
     {
         let uses = counted(alloc, all.as_slice())?;
         Ok(Repeats { all, uses })
     }
 
-    pub(super) fn numbers(&self) -> &[Number]
+    pub fn numbers(&self) -> &[Number]
         ensures { result.now ≡ self.now }
     {
         self.all.as_slice()
     }
 
     /// Whether up to the place of a number more than one has its value.
-    pub(super) fn is_repeated(&self, x: &Number) -> bool
+    pub fn is_repeated(&self, x: &Number) -> bool
         ensures { result ≡ is_repeated self.now x.now }
     {
         match self.uses.get(&x.value) {

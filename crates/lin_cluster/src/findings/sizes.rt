@@ -42,7 +42,7 @@ pub(super) fn bad_signal_size(found: &mut Vec<Finding>, signal: &Signal) -> Resu
 }
 
 /// Whether a frame may have this number of bytes.
-pub(super) fn is_frame_size(size: u32) -> bool
+pub fn is_frame_size(size: u32) -> bool
     ensures { result ≡ is_frame_size size }
 {
     1 <= size && size <= 8

@@ -23,7 +23,7 @@ pub fn needed_us(jitter: u32, speed: u32, size: u32) -> u64
 }
 
 /// Whether a bus may have this speed, in bits per second.
-pub(super) fn is_speed(speed: u32) -> bool
+pub fn is_speed(speed: u32) -> bool
     ensures { result ≡ is_speed speed }
 {
     1 <= speed && speed <= 20_000

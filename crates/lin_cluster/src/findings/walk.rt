@@ -61,7 +61,8 @@ where
     Ok(made)
 }
 
-pub(super) fn at_name(kind: FindingKind, name: &Name) -> Finding
+/// The finding of this kind at a name.
+pub fn at_name(kind: FindingKind, name: &Name) -> Finding
     ensures { result ≡ at_name kind name.now }
 {
     Finding::new(
@@ -73,7 +74,8 @@ pub(super) fn at_name(kind: FindingKind, name: &Name) -> Finding
     )
 }
 
-pub(super) fn at_number(kind: FindingKind, place: &Number) -> Finding
+/// The finding of this kind at a number.
+pub fn at_number(kind: FindingKind, place: &Number) -> Finding
     ensures { result ≡ at_number kind place.now }
 {
     Finding::new(
@@ -86,11 +88,7 @@ pub(super) fn at_number(kind: FindingKind, place: &Number) -> Finding
 }
 
 /// Adds the finding where the condition holds; an error means out of memory.
-pub(super) fn push_when(
-    found: &mut Vec<Finding>,
-    holds: bool,
-    finding: Finding,
-) -> Result<(), AllocError>
+pub fn push_when(found: &mut Vec<Finding>, holds: bool, finding: Finding) -> Result<(), AllocError>
     ensures { OnOk result (found.new.items ≡ found.old.items ++ when holds finding) }
 {
     if holds {

@@ -2,7 +2,7 @@ use Rattle.std.proofs.Common.{ap, sym, ◌∙◌}
 use Rattle.std.specs.Prelude.{slice_get}
 use Rattle.std.proofs.lemmas.List.Folds.{find_at}
 use Rattle.lin_cluster.specs.FindingsNames.{same_name}
-use Rattle.lin_cluster.proofs.Named.{lent-at}
+use Rattle.lin_cluster.proofs.NamesFound.{lent-at}
 use Rattle.lin_cluster.proofs.names.find_by.Goals as goal
 
 pub returns : goal.returns

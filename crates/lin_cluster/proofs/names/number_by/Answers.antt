@@ -2,7 +2,7 @@ use Rattle.std.proofs.Common.{ap, ◌∙◌}
 use Rattle.std.specs.List.{position_from}
 use Rattle.std.specs.Str.{bytes_eq}
 use Rattle.lin_cluster.specs.FindingsNames.{same_name}
-use Rattle.lin_cluster.proofs.Named.{number_found, none_numbered}
+use Rattle.lin_cluster.proofs.NamesFound.{number_found, none_numbered}
 use Rattle.lin_cluster.proofs.names.number_by.Goals as goal
 
 pub returns-in-Some : goal.returns-in-Some

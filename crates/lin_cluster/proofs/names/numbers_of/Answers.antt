@@ -3,7 +3,7 @@ use Rattle.std.specs.List.{position_from}
 use Rattle.std.specs.Str.{bytes_eq}
 use Rattle.std.proofs.lemmas.List.{take_all}
 use Rattle.indexmap.specs.IndexMap.{get_by}
-use Rattle.lin_cluster.proofs.Named.{numbered_more}
+use Rattle.lin_cluster.proofs.NamesFound.{numbered_more}
 use Rattle.lin_cluster.proofs.names.numbers_of.Goals as goal
 use Rattle.lin_description.specs.declared.description.Name.{Name}
 

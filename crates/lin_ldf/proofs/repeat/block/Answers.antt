@@ -1,4 +1,4 @@
-use Rattle.std.proofs.Common.{◌≡◌, ◌∙◌, not, ap, sym, ◌∷◌, [], Option, Some, refl, rules}
+use Rattle.std.proofs.Common.{◌≡◌, ◌∙◌, not, ap, sym, ◌∷◌, [], Some, refl, rules}
 use Rattle.std.proofs.lemmas.Result.{err_from_is_err_and}
 use Rattle.std.proofs.lemmas.List.Sums.{fold-append}
 use Rattle.lin_ldf.specs.Words.{no_word}

@@ -1,7 +1,7 @@
 use Rattle.std.proofs.Common.{refl, ◌∙◌}
 use Rattle.std.specs.Str.{bytes_eq}
 use Rattle.lin_cluster.specs.Models.{frame_model}
-use Rattle.lin_cluster.proofs.Named.{lent-at, made_of}
+use Rattle.lin_cluster.proofs.NamesFound.{lent-at, made_of}
 use Rattle.lin_cluster.proofs.described.frames.model_named.Goals as goal
 
 pub returns : goal.returns

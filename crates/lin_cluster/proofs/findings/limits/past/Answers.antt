@@ -3,7 +3,7 @@ use Rattle.lin_cluster.specs.FindingsNames.{at_name}
 use Rattle.lin_cluster.specs.Limits.{past}
 use Rattle.lin_cluster.specs.declared.finding.FindingKind.TheVariants.{LimitPassed}
 use Rattle.lin_cluster.proofs.FindingsLists.{past_none}
-use Rattle.lin_cluster.proofs.Named.{lent-at}
+use Rattle.lin_cluster.proofs.NamesFound.{lent-at}
 use Rattle.lin_cluster.proofs.findings.limits.past.Goals as goal
 
 pub returns-in_ok-push-in-Some : goal.returns-in_ok-push-in-Some

@@ -1,4 +1,4 @@
-use Rattle.std.proofs.Common.{◌≡◌, ℕ, Bool, true, false}
+use Rattle.std.proofs.Common.{◌≡◌, Bool, true, false}
 use Rattle.std.specs.Prelude.{if◌then◌else◌, nat_eq}
 use Rattle.indexmap.specs.IndexSet.{contains}
 use Rattle.lin_cluster.proofs.findings.numbers.no_numbers.Goals as goal

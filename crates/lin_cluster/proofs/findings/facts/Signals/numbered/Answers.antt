@@ -1,7 +1,7 @@
 use Rattle.std.proofs.Common.{◌∙◌}
 use Rattle.lin_cluster.specs.FindingsNames.{same_name}
 use Rattle.lin_cluster.specs.Known.{signal_facts}
-use Rattle.lin_cluster.proofs.Named.{made_of}
+use Rattle.lin_cluster.proofs.NamesFound.{made_of}
 use Rattle.lin_cluster.proofs.findings.facts.Signals.numbered.Goals as goal
 
 pub returns-clause-facts : goal.returns-clause-facts

@@ -2,7 +2,7 @@ use Rattle.std.proofs.Common.{ap, ◌∙◌}
 use Rattle.lin_cluster.specs.FindingsNames.{same_name}
 use Rattle.lin_cluster.specs.Known.{frame_facts}
 use Rattle.std.specs.List.{position_or_len}
-use Rattle.lin_cluster.proofs.Named.{made_of}
+use Rattle.lin_cluster.proofs.NamesFound.{made_of}
 use Rattle.lin_cluster.proofs.findings.judged.Judged.frame.Goals as goal
 use Rattle.lin_cluster.specs.declared.findings.judged.Judged.TheInside.{Inside}
 

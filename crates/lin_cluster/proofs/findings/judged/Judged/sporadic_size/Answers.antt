@@ -1,7 +1,7 @@
 use Rattle.std.proofs.Common.{ap, ◌∙◌}
 use Rattle.lin_cluster.specs.Slots.{greatest_size}
 use Rattle.std.specs.List.{position_or_len}
-use Rattle.lin_cluster.proofs.Named.{made_of}
+use Rattle.lin_cluster.proofs.NamesFound.{made_of}
 use Rattle.lin_cluster.specs.FindingsNames.{same_name}
 use Rattle.lin_cluster.proofs.findings.judged.Judged.sporadic_size.Goals as goal
 use Rattle.lin_cluster.specs.declared.findings.judged.Judged.TheInside.{Inside}
