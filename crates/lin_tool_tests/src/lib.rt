@@ -1,5 +1,6 @@
 //! Tests of what stands on logs: formats, lists, bench scripts, lines in hand, and the program's
-//! calls; apart from their crates, so that these aren't proved a second time with them.
+//! calls; and of texts of the field. They are apart from the crates of these, so that those aren't
+//! proved a second time with them.
 #![tactic(auto)]
 
 #[cfg(test)]
@@ -10,6 +11,8 @@ mod clusters;
 mod export;
 #[cfg(test)]
 mod fakes;
+#[cfg(test)]
+mod field;
 #[cfg(test)]
 mod lists;
 #[cfg(test)]

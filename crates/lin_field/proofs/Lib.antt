@@ -1,0 +1,15 @@
+pub mod ExtraSteps
+pub mod Mended
+pub mod NumbersFound
+pub mod Permutations
+pub mod PlainNames
+pub mod PlainParts
+pub mod PlainTexts
+pub mod Remarks
+pub mod Rounding
+pub mod Spelled
+pub mod TightSlots
+pub mod Untimed
+pub mod Walked
+pub mod SettledSteps
+pub mod PlainWords

@@ -1,0 +1,26 @@
+-- What an LDF text of the field describes.
+use Rattle.std.specs.Prelude.{◌≡◌, ℕ, List, []}
+use Rattle.lin_ldf.specs.Symbols.{symbols_in}
+use Rattle.lin_ldf.specs.Tokens.{AreTokens}
+use Rattle.lin_ldf.specs.declared.token.Token.{Token}
+use Rattle.lin_description.specs.declared.description.Description.{Description}
+use Rattle.lin_field.specs.Bytes.{field_bytes}
+use Rattle.lin_field.specs.Grammar.{field_file}
+use Rattle.lin_field.specs.Marks.{mended, extra_in}
+use Rattle.lin_field.specs.Settled.{settled}
+use Rattle.lin_field.specs.declared.loose.Loose.{Loose}
+use Rattle.lin_field.specs.declared.reading.FieldText.{FieldText}
+
+-- The tokens of the source, without marks that it has too many, spell this; these are the marks.
+abbrev pub Spells : List ℕ → List Token → Loose → Type 0
+Spells source ts l = field_file.spells (mended (symbols_in (field_bytes source) ts)) l []
+
+abbrev pub Reads : List ℕ → FieldText → Type 0
+Reads source t =
+    (ts : List Token) × AreTokens (field_bytes source) ts × (t.marks ≡ extra_in ts)
+    × Spells source ts t.loose
+
+abbrev pub DescribesField : List ℕ → Description → Type 0
+DescribesField source d =
+    (ts : List Token) × AreTokens (field_bytes source) ts
+    × ((l : Loose) × Spells source ts l × (d ≡ settled l))

@@ -1,0 +1,455 @@
+-- The grammar of LDF texts of the field: that of LIN 2.2A, section 9, with the productions of LIN
+-- 1.3 (a frame without a size, Diagnostic_addresses), of LIN 2.0 (an event-triggered frame without
+-- a table), of J2602 (a list after the jitter) and of ISO 17987 (the order of bytes).
+use Rattle.std.specs.Prelude.{◌≡◌, ℕ, List, [], ◌∷◌, ◌++◌, ◌+◌, Bool, true, false, not, ◌&&◌}
+use Rattle.std.specs.Prelude.{Option, Some, None, is_some, if◌then◌else◌, codes, fold, nat_le}
+use Rattle.std.specs.Str.{bytes_eq}
+use Rattle.lin_ldf.specs.Symbols.{Symbol, is_kind}
+use Rattle.lin_ldf.specs.Forms.{Form, ◌>>=◌, end, token, mark, keyword, as_value, either, choice}
+use Rattle.lin_ldf.specs.Forms.{front, is_front, nothing, ◌&◌, ◌&>◌, ◌<&◌, ◌&=◌}
+use Rattle.lin_ldf.specs.Loops.{gathering, is_next}
+use Rattle.lin_ldf.specs.Numbers.{thousandths, fraction_part, fraction_digit, has_zero_tail}
+use Rattle.lin_ldf.specs.Numbers.{is_hexadecimal, is_in_limit}
+use Rattle.lin_ldf.specs.Words.{open_brace, close_brace, colon, semicolon, comma, equals, word}
+use Rattle.lin_ldf.specs.Words.{is_word_but, new_word, number_of, int, is_word_next, words}
+use Rattle.lin_ldf.specs.Words.{same_state, with_name, block, no_word, list, once}
+use Rattle.lin_ldf.specs.Grammar.{slaves, placed_signals, frame_before, event_rest}
+use Rattle.lin_ldf.specs.Grammar.{protocol_text, nad, attr, no_settings, with_node, entry_before}
+use Rattle.lin_ldf.specs.Grammar.{section, no_sections, or_empty}
+use Rattle.lin_ldf.specs.declared.token.TokenKind.{TokenKind}
+use Rattle.lin_ldf.specs.declared.token.TokenKind.TheVariants as kinds
+use Rattle.lin_ldf.specs.declared.node_attributes.Settings.{Settings}
+use Rattle.lin_ldf.specs.declared.node_attributes.NodeBlocks.{NodeBlocks}
+use Rattle.lin_ldf.specs.declared.section.Sections.{Sections}
+use Rattle.lin_description.specs.declared.description.Name.{Name}
+use Rattle.lin_description.specs.declared.description.Number.{Number}
+use Rattle.lin_description.specs.declared.description.PlacedSignal.{PlacedSignal}
+use Rattle.lin_field.specs.declared.loose.Decimal.{Decimal}
+use Rattle.lin_field.specs.declared.loose.Header.{Header}
+use Rattle.lin_field.specs.declared.loose.LooseNodes.{LooseNodes}
+use Rattle.lin_field.specs.declared.loose.LooseFrame.{LooseFrame}
+use Rattle.lin_field.specs.declared.loose.LooseEvent.{LooseEvent}
+use Rattle.lin_field.specs.declared.loose.LooseAttributes.{LooseAttributes}
+use Rattle.lin_field.specs.declared.loose.NodeAddress.{NodeAddress}
+use Rattle.lin_field.specs.declared.loose.LooseEntry.{LooseEntry}
+use Rattle.lin_field.specs.declared.loose.LooseTable.{LooseTable}
+use Rattle.lin_field.specs.declared.loose.Loose.{Loose}
+use Rattle.lin_field.specs.declared.header.Lines.{Lines}
+use Rattle.lin_field.specs.declared.header.LineWord.{LineWord}
+use Rattle.lin_field.specs.declared.header.LineWord.TheVariants as line_words
+use Rattle.lin_field.specs.declared.items.LooseSettings.{LooseSettings}
+use Rattle.lin_field.specs.declared.file.FieldWord.{FieldWord}
+use Rattle.lin_field.specs.declared.file.FieldWord.TheVariants as field_words
+use Rattle.lin_field.specs.declared.file.LooseSections.{LooseSections}
+
+-- ---- forms
+
+-- This form where the next token is a WORD that is none of these.
+abbrev pub unless : {A : Type 0} → List (List ℕ) → Form A → Form A
+unless words f = record {
+  spells = λ ts a rest. (is_front (is_word_but words) ts ≡ true) × f.spells ts a rest;
+  read = λ ts. if is_front (is_word_but words) ts then f.read ts else None;
+}
+
+-- The same, with what is made of the value, where something is.
+abbrev pub made_of : {A B : Type 0} → (A → Option B) → Form A → Form B
+made_of make f = record {
+  spells = λ ts b rest. (a : _) × f.spells ts a rest × (make a ≡ Some b);
+  read = λ ts. f.read ts >>= λ a. make a.0 >>= λ b. Some (b, a.1);
+}
+
+abbrev pub some_of : {A : Type 0} → A → Option A
+some_of x = Some x
+
+-- This form, or nothing, as the next token tells.
+abbrev pub optional : {A : Type 0} → (List Symbol → Bool) → Form A → Form (Option A)
+optional test f = either test (as_value some_of f) (nothing None)
+
+-- ---- numbers
+
+-- the value of a NUM in decimal form, in thousandths, rounded half up
+abbrev pub rounded : List ℕ → ℕ
+rounded w = thousandths w + (if nat_le 5 (fraction_digit (fraction_part w) 3) then 1 else 0)
+
+abbrev pub is_decimal : List ℕ → Bool
+is_decimal w = not (is_hexadecimal w) && is_in_limit (rounded w)
+
+abbrev pub decimal_of : Symbol → Decimal
+decimal_of t = record {
+  number = number_of rounded t;
+  is_rounded = not (has_zero_tail (fraction_part t.text));
+}
+
+-- DECR: a NUM in decimal form, in thousandths within the limit
+abbrev pub decimal : Form Decimal
+decimal = token (λ t. is_kind kinds.Number t.kind && is_decimal t.text) decimal_of
+
+-- DECR, unit, mark
+abbrev pub decimal_in : List ℕ → TokenKind → Form Decimal
+decimal_in unit end = decimal <& (keyword unit <& mark end)
+
+-- ---- the header
+
+-- WORD '=' ( TEXT | NUM ) ';'
+abbrev pub version : List ℕ → Form (List ℕ)
+version w = keyword w <& equals &> protocol_text <& semicolon
+
+-- 'LIN_speed' '=' DECR 'kbps' ';'
+abbrev pub speed : Form Decimal
+speed =
+    keyword (codes "LIN_speed") <& equals &> decimal_in (codes "kbps") kinds.Semicolon
+
+-- the words of the lines that stand once at most
+abbrev pub line_words_known : List (List ℕ)
+line_words_known =
+    codes "LIN_protocol_version" ∷ codes "LIN_language_version" ∷ codes "LIN_speed"
+    ∷ codes "LIN_sig_byte_order_little_endian" ∷ codes "LIN_sig_byte_order_big_endian" ∷ []
+
+-- the words that begin no line
+abbrev pub line_ends : List (List ℕ)
+line_ends = codes "LIN_description_file" ∷ codes "Nodes" ∷ []
+
+abbrev pub other_of : Name × Bool → Option Name
+other_of p = if p.1 then None else Some p.0
+
+-- WORD '=' list ';' | WORD ';', the WORD being none of these: of the second it is kept
+abbrev pub other_line : Form (Option Name)
+other_line =
+    as_value other_of
+    (word
+    & either (is_next kinds.Equals) (as_value (λ u. true) (equals &> list))
+    (as_value (λ u. false) semicolon))
+
+abbrev pub line_word : List ℕ → LineWord
+line_word w =
+    if bytes_eq w (codes "LIN_protocol_version") then line_words.Version
+    else (if bytes_eq w (codes "LIN_language_version") then line_words.Language
+    else (if bytes_eq w (codes "LIN_speed") then line_words.Speed
+    else (if bytes_eq w (codes "LIN_sig_byte_order_little_endian") then line_words.LittleEndian
+    else (if bytes_eq w (codes "LIN_sig_byte_order_big_endian") then line_words.BigEndian
+    else line_words.Other))))
+
+abbrev pub front_line : List Symbol → LineWord
+front_line ts = line_word (front ts).text
+
+abbrev pub with_version : Lines → List ℕ → Lines
+with_version s x = record s { version = Some x }
+
+abbrev pub with_language : Lines → List ℕ → Lines
+with_language s x = record s { language = Some x }
+
+abbrev pub with_speed : Lines → Decimal → Lines
+with_speed s x = record s { speed = Some x }
+
+abbrev pub with_little : Lines → Unit {0} → Lines
+with_little s x = record s { little_endian = Some x }
+
+abbrev pub with_big : Lines → Unit {0} → Lines
+with_big s x = record s { big_endian = Some x }
+
+abbrev pub with_other : Lines → Option Name → Lines
+with_other s None = s
+with_other s (Some name) = record s { unknown = s.unknown ++ name ∷ [] }
+
+-- a line after others: the first five once at most
+abbrev pub line_of : LineWord → Lines → Form Lines
+line_of line_words.Version s =
+    as_value (with_version s) (once s.version (version (codes "LIN_protocol_version")))
+line_of line_words.Language s =
+    as_value (with_language s) (once s.language (version (codes "LIN_language_version")))
+line_of line_words.Speed s = as_value (with_speed s) (once s.speed speed)
+line_of line_words.LittleEndian s =
+    as_value (with_little s)
+    (once s.little_endian (keyword (codes "LIN_sig_byte_order_little_endian") <& semicolon))
+line_of line_words.BigEndian s =
+    as_value (with_big s)
+    (once s.big_endian (keyword (codes "LIN_sig_byte_order_big_endian") <& semicolon))
+line_of line_words.Other s = as_value (with_other s) (unless line_words_known other_line)
+
+abbrev pub line : Lines → Form Lines
+line s = choice front_line (λ w. line_of w s)
+
+abbrev pub is_line_next : List Symbol → Bool
+is_line_next ts = is_front (is_word_but line_ends) ts
+
+abbrev pub no_line : List Symbol → Bool
+no_line ts = not (is_line_next ts)
+
+abbrev pub no_lines : Lines
+no_lines = record {
+  version = None;
+  language = None;
+  speed = None;
+  little_endian = None;
+  big_endian = None;
+  unknown = [];
+}
+
+-- a line that begins with none of those words
+abbrev pub one_line : Lines → Form Lines
+one_line s = unless line_ends (line s)
+
+-- { line }*
+abbrev pub lines_behind : Lines → Form Lines
+lines_behind s = gathering no_line one_line s
+
+-- 'LIN_description_file' ';' { line }*
+abbrev pub lines : Form Lines
+lines = keyword (codes "LIN_description_file") <& semicolon &> lines_behind no_lines
+
+abbrev pub header_by : Lines → List ℕ → Decimal → Header
+header_by s version speed = record {
+  version = version;
+  language = s.language;
+  speed = speed;
+  is_big_endian = is_some s.big_endian;
+  unknown = s.unknown;
+}
+
+abbrev pub header_of : Lines → Option Header
+header_of s = s.version >>= λ version. s.speed >>= λ speed. Some (header_by s version speed)
+
+-- lines, among them a version and a speed
+abbrev pub header : Form Header
+header = made_of header_of lines
+
+-- ---- nodes
+
+-- [ ',' list ] ';'
+abbrev pub master_rest : Form (Unit {0})
+master_rest = either (is_next kinds.Comma) (comma &> list) semicolon
+
+-- 'Master' ':' WORD ',' DECR 'ms' ',' DECR 'ms' [ ',' list ] ';'
+abbrev pub master : List (List ℕ) → Form (Name × (Decimal × Decimal))
+master seen =
+    keyword (codes "Master") <& colon &> new_word seen <& comma
+    & decimal_in (codes "ms") kinds.Comma & decimal <& keyword (codes "ms") <& master_rest
+
+abbrev pub nodes_of : (Name × (Decimal × Decimal)) × List Name → LooseNodes
+nodes_of p = record { master = p.0.0; time_base = p.0.1.0; jitter = p.0.1.1; slaves = p.1 }
+
+-- 'Nodes' '{' master slaves
+abbrev pub nodes : Form LooseNodes
+nodes =
+    as_value nodes_of
+    (keyword (codes "Nodes") <& open_brace &> master [] &= λ m. slaves (with_name [] m.0))
+
+abbrev pub node_names : LooseNodes → List (List ℕ)
+node_names n = fold with_name (n.master.text ∷ []) n.slaves
+
+-- ---- frames
+
+-- [ ',' INT ]
+abbrev pub frame_size : Form (Option Number)
+frame_size = optional (is_next kinds.Comma) (comma &> int)
+
+abbrev pub frame_of : Name × (Number × (Name × (Option Number × List PlacedSignal))) → LooseFrame
+frame_of p = record {
+  name = p.0;
+  id = p.1.0;
+  publisher = p.1.1.0;
+  size = p.1.1.1.0;
+  placed = p.1.1.1.1;
+}
+
+-- WORD ':' INT ',' WORD [ ',' INT ] placed_signals
+abbrev pub loose_frame : List (List ℕ) → Form LooseFrame
+loose_frame seen = as_value frame_of (frame_before (word & frame_size & placed_signals) seen)
+
+abbrev pub with_frame : List (List ℕ) → LooseFrame → List (List ℕ)
+with_frame seen f = seen ++ f.name.text ∷ []
+
+-- [ WORD ',' ]
+abbrev pub event_table : Form (Option Name)
+event_table = optional (is_next kinds.Word) (word <& comma)
+
+abbrev pub event_of : Name × (Option Name × (Number × List Name)) → LooseEvent
+event_of p = record { name = p.0; table = p.1.0; id = p.1.1.0; members = p.1.1.1 }
+
+-- WORD ':' [ WORD ',' ] INT ',' words ';'
+abbrev pub loose_event : List (List ℕ) → Form LooseEvent
+loose_event seen = as_value event_of (new_word seen <& colon & event_table & event_rest)
+
+abbrev pub with_event : List (List ℕ) → LooseEvent → List (List ℕ)
+with_event seen e = seen ++ e.name.text ∷ []
+
+-- ---- node attributes
+
+abbrev pub initial_word : List (List ℕ)
+initial_word = codes "initial_NAD" ∷ []
+
+abbrev pub with_initial : LooseSettings → Number → LooseSettings
+with_initial s n = record s { initial_nad = Some n }
+
+abbrev pub with_settings : LooseSettings → Settings → LooseSettings
+with_settings s plain = record s { plain = plain }
+
+-- attr = 'initial_NAD' '=' INT ';' | .., the first once at most
+abbrev pub loose_attr : LooseSettings → Form LooseSettings
+loose_attr s =
+    either (is_word_next (codes "initial_NAD"))
+    (as_value (with_initial s) (once s.initial_nad (nad (codes "initial_NAD"))))
+    (as_value (with_settings s) (unless initial_word (attr s.plain)))
+
+abbrev pub no_loose_settings : LooseSettings
+no_loose_settings = record { plain = no_settings; initial_nad = None }
+
+-- '{' { attr }* '}'
+abbrev pub loose_settings : Form LooseSettings
+loose_settings = open_brace &> gathering no_word loose_attr no_loose_settings <& close_brace
+
+abbrev pub attributes_of : Name × LooseSettings → LooseAttributes
+attributes_of p = record {
+  block = record {
+    node = p.0;
+    protocol = p.1.plain.protocol;
+    configured_nad = p.1.plain.configured_nad;
+    response_error = p.1.plain.response_error;
+  };
+  initial_nad = p.1.initial_nad;
+}
+
+-- WORD settings, where the WORD isn't a node that has a block
+abbrev pub loose_block : NodeBlocks → Form LooseAttributes
+loose_block s = as_value attributes_of (new_word s.seen & loose_settings)
+
+abbrev pub with_block : NodeBlocks → LooseAttributes → NodeBlocks
+with_block s a = with_node s a.block.node.text
+
+abbrev pub address_of : Name × Number → NodeAddress
+address_of p = record { node = p.0; nad = p.1 }
+
+-- WORD ':' INT ';'
+abbrev pub address : Form NodeAddress
+address = as_value address_of (word <& colon & int <& semicolon)
+
+-- ---- schedule tables
+
+abbrev pub entry_of : Name × (Bool × Decimal) → LooseEntry
+entry_of p = record { name = p.0; has_group = p.1.0; delay = p.1.1 }
+
+-- WORD [ group ] 'delay' DECR 'ms' ';'
+abbrev pub loose_entry : Form LooseEntry
+loose_entry = as_value entry_of (entry_before (decimal_in (codes "ms") kinds.Semicolon))
+
+abbrev pub loose_entries : Form (List LooseEntry)
+loose_entries = block same_state (λ (s : Unit {0}). loose_entry) tt
+
+abbrev pub table_of : Name × List LooseEntry → LooseTable
+table_of p = record { name = p.0; entries = p.1 }
+
+-- WORD entries
+abbrev pub loose_table : List (List ℕ) → Form LooseTable
+loose_table seen = as_value table_of (new_word seen & loose_entries)
+
+abbrev pub with_table : List (List ℕ) → LooseTable → List (List ℕ)
+with_table seen t = seen ++ t.name.text ∷ []
+
+-- ---- sections
+
+-- the sections that aren't spelled as in plain texts
+abbrev pub field_section_words : List (List ℕ)
+field_section_words =
+    codes "Frames" ∷ codes "Event_triggered_frames" ∷ codes "Node_attributes"
+    ∷ codes "Diagnostic_addresses" ∷ codes "Schedule_tables" ∷ []
+
+abbrev pub field_word : List ℕ → FieldWord
+field_word w =
+    if bytes_eq w (codes "Frames") then field_words.Frames
+    else (if bytes_eq w (codes "Event_triggered_frames") then field_words.Event
+    else (if bytes_eq w (codes "Node_attributes") then field_words.Attributes
+    else (if bytes_eq w (codes "Diagnostic_addresses") then field_words.Addresses
+    else (if bytes_eq w (codes "Schedule_tables") then field_words.Tables
+    else field_words.Plain))))
+
+abbrev pub front_word : List Symbol → FieldWord
+front_word ts = field_word (front ts).text
+
+abbrev pub with_plain : LooseSections → Sections → LooseSections
+with_plain s plain = record s { plain = plain }
+
+abbrev pub with_frames : LooseSections → List LooseFrame → LooseSections
+with_frames s x = record s {
+  frames = Some x;
+  plain = record s.plain { frame_names = fold with_frame s.plain.frame_names x };
+}
+
+abbrev pub with_events : LooseSections → List LooseEvent → LooseSections
+with_events s x = record s {
+  events = Some x;
+  plain = record s.plain { frame_names = fold with_event s.plain.frame_names x };
+}
+
+abbrev pub with_attributes : LooseSections → List LooseAttributes → LooseSections
+with_attributes s x = record s {
+  attributes = Some x;
+  plain = record s.plain { blocks = fold with_block s.plain.blocks x };
+}
+
+abbrev pub with_addresses : LooseSections → List NodeAddress → LooseSections
+with_addresses s x = record s { addresses = Some x }
+
+abbrev pub with_tables : LooseSections → List LooseTable → LooseSections
+with_tables s x = record s { tables = Some x }
+
+-- a section after others: each used one stands once at most, and the names of frames, sporadic
+-- frames and event-triggered frames differ
+abbrev pub loose_section_of : FieldWord → LooseSections → Form LooseSections
+loose_section_of field_words.Frames s =
+    as_value (with_frames s)
+    (once s.frames
+    (keyword (codes "Frames") &> block with_frame loose_frame s.plain.frame_names))
+loose_section_of field_words.Event s =
+    as_value (with_events s)
+    (once s.events
+    (keyword (codes "Event_triggered_frames") &> block with_event loose_event s.plain.frame_names))
+loose_section_of field_words.Attributes s =
+    as_value (with_attributes s)
+    (once s.attributes
+    (keyword (codes "Node_attributes") &> block with_block loose_block s.plain.blocks))
+loose_section_of field_words.Addresses s =
+    as_value (with_addresses s)
+    (once s.addresses
+    (keyword (codes "Diagnostic_addresses")
+    &> block same_state (λ (s : Unit {0}). address) tt))
+loose_section_of field_words.Tables s =
+    as_value (with_tables s)
+    (once s.tables (keyword (codes "Schedule_tables") &> block with_table loose_table []))
+loose_section_of field_words.Plain s =
+    as_value (with_plain s) (unless field_section_words (section s.plain))
+
+abbrev pub loose_section : LooseSections → Form LooseSections
+loose_section s = choice front_word (λ w. loose_section_of w s)
+
+-- ---- the file
+
+-- no section yet, in a cluster of these nodes
+abbrev pub no_loose_sections : List (List ℕ) → LooseSections
+no_loose_sections names = record {
+  plain = no_sections names;
+  frames = None;
+  events = None;
+  attributes = None;
+  addresses = None;
+  tables = None;
+}
+
+abbrev pub loose_of : (Header × LooseNodes) × LooseSections → Loose
+loose_of p = record {
+  header = p.0.0;
+  nodes = p.0.1;
+  signals = or_empty p.1.plain.signals;
+  frames = or_empty p.1.frames;
+  sporadic = or_empty p.1.plain.sporadic;
+  events = or_empty p.1.events;
+  attributes = or_empty p.1.attributes;
+  addresses = or_empty p.1.addresses;
+  tables = or_empty p.1.tables;
+}
+
+-- file = header nodes { section }*, and nothing after
+abbrev pub field_file : Form Loose
+field_file =
+    as_value loose_of
+    ((header & nodes)
+    &= λ p. gathering no_word loose_section (no_loose_sections (node_names p.1)) <& end)

@@ -1,0 +1,17 @@
+pub mod Bytes
+pub mod Marks
+pub mod Grammar
+pub mod GrammarLaws
+pub mod Items
+pub mod Describes
+pub mod Names
+pub mod Frames
+pub mod Signals
+pub mod Attributes
+pub mod Tables
+pub mod Times
+pub mod Order
+pub mod Settled
+pub mod Checks
+pub mod Plain
+pub mod PlainTexts

@@ -1,0 +1,184 @@
+//! The header of a text of the field, whose lines may stand in any order.
+
+ghost use Rattle.std.specs.Prelude.{◌≡◌};
+ghost use Rattle.lin_ldf.specs.Forms.{Gives, Gathers, keyword, ◌<&◌};
+ghost use Rattle.lin_ldf.specs.Words.{semicolon};
+ghost use Rattle.lin_field.specs.Grammar.{line_word, version, speed, other_line, line, lines};
+ghost use Rattle.lin_field.specs.Grammar.{header, no_lines, is_line_next};
+
+use crate::decimals::decimal_in;
+use crate::loose::{Decimal, Header};
+use lin_description::Name;
+use lin_ldf::{LdfFault, Parser, TokenKind, once};
+use lin_lists::{Many, Text};
+use std::alloc::Global;
+
+/// The lines of a header that were read.
+#[derive(Drop)]
+pub struct Lines {
+    pub version: Option<Text>,
+    pub language: Option<Text>,
+    pub speed: Option<Decimal>,
+    pub little_endian: Option<()>,
+    pub big_endian: Option<()>,
+    pub unknown: Many<Name>,
+}
+
+const LITTLE_ENDIAN: &[u8] = b"LIN_sig_byte_order_little_endian";
+
+const BIG_ENDIAN: &[u8] = b"LIN_sig_byte_order_big_endian";
+
+/// What the word of a line says.
+#[derive(Clone, Copy)]
+pub enum LineWord {
+    Version,
+    Language,
+    Speed,
+    LittleEndian,
+    BigEndian,
+    Other,
+}
+
+fn line_word(word: &[u8]) -> LineWord
+    ensures { result ≡ line_word word.now }
+{
+    if word == b"LIN_protocol_version".as_slice() {
+        LineWord::Version
+    } else if word == b"LIN_language_version".as_slice() {
+        LineWord::Language
+    } else if word == b"LIN_speed".as_slice() {
+        LineWord::Speed
+    } else if word == LITTLE_ENDIAN {
+        LineWord::LittleEndian
+    } else if word == BIG_ENDIAN {
+        LineWord::BigEndian
+    } else {
+        LineWord::Other
+    }
+}
+
+// version = word '=' ( TEXT | NUM ) ';'
+fn version(parser: &mut Parser<'_>, word: &[u8]) -> Result<Text, LdfFault>
+    ensures { Gives result parser.new ((version word.now).read parser.old) }
+{
+    parser.keyword_before(word, TokenKind::Equals)?;
+    let text = parser.protocol_text()?;
+    parser.mark(TokenKind::Semicolon)?;
+    Ok(text)
+}
+
+// speed = 'LIN_speed' '=' DECR 'kbps' ';'
+fn speed(parser: &mut Parser<'_>) -> Result<Decimal, LdfFault>
+    ensures { Gives result parser.new (speed.read parser.old) }
+{
+    parser.keyword_before(b"LIN_speed", TokenKind::Equals)?;
+    decimal_in(parser, b"kbps", TokenKind::Semicolon)
+}
+
+// word ';'
+fn byte_order(parser: &mut Parser<'_>, word: &[u8]) -> Result<(), LdfFault>
+    ensures { Gives result parser.new ((keyword word.now <& semicolon).read parser.old) }
+{
+    parser.keyword_before(word, TokenKind::Semicolon)
+}
+
+// other = WORD '=' list ';' | WORD ';', of which the second's word is kept
+fn other(parser: &mut Parser<'_>) -> Result<Option<Name>, LdfFault>
+    ensures { Gives result parser.new (other_line.read parser.old) }
+{
+    let name = parser.word()?;
+    if parser.is_at(TokenKind::Equals) {
+        parser.mark(TokenKind::Equals)?;
+        parser.list()?;
+        return Ok(None);
+    }
+    parser.mark(TokenKind::Semicolon)?;
+    Ok(Some(name))
+}
+
+impl Lines {
+    fn new(alloc: Global) -> Lines
+        ensures { result ≡ no_lines }
+    {
+        Lines {
+            version: None,
+            language: None,
+            speed: None,
+            little_endian: None,
+            big_endian: None,
+            unknown: Many::new(Vec::new(alloc)),
+        }
+    }
+
+    // line = version | language | speed | byte order | other, the first five once at most
+    fn add(&mut self, parser: &mut Parser<'_>) -> Result<(), LdfFault>
+        ensures { Gathers result self.new parser.new ((line self.old).read parser.old) }
+    {
+        let twice = LdfFault::NameTwice(parser.place());
+        match line_word(parser.text()) {
+            LineWord::Version => {
+                once(&self.version, twice)?;
+                self.version = Some(version(parser, b"LIN_protocol_version")?);
+            }
+            LineWord::Language => {
+                once(&self.language, twice)?;
+                self.language = Some(version(parser, b"LIN_language_version")?);
+            }
+            LineWord::Speed => {
+                once(&self.speed, twice)?;
+                self.speed = Some(speed(parser)?);
+            }
+            LineWord::LittleEndian => {
+                once(&self.little_endian, twice)?;
+                self.little_endian = Some(byte_order(parser, LITTLE_ENDIAN)?);
+            }
+            LineWord::BigEndian => {
+                once(&self.big_endian, twice)?;
+                self.big_endian = Some(byte_order(parser, BIG_ENDIAN)?);
+            }
+            LineWord::Other => {
+                if let Some(name) = other(parser)? {
+                    self.unknown.push(name)?;
+                }
+            }
+        }
+        Ok(())
+    }
+}
+
+fn is_at_line(parser: &Parser<'_>) -> bool
+    ensures { result ≡ is_line_next parser.now }
+{
+    parser.is_at(TokenKind::Word)
+        && !parser.is_at_word(b"LIN_description_file")
+        && !parser.is_at_word(b"Nodes")
+}
+
+// 'LIN_description_file' ';' { line }*
+fn read_lines(parser: &mut Parser<'_>) -> Result<Lines, LdfFault>
+    ensures { Gives result parser.new (lines.read parser.old) }
+{
+    parser.keyword_before(b"LIN_description_file", TokenKind::Semicolon)?;
+    let mut lines = Lines::new(parser.alloc());
+    while is_at_line(parser) {
+        lines.add(parser)?;
+    }
+    Ok(lines)
+}
+
+// header = lines, among them a version and a speed
+pub fn read_header(parser: &mut Parser<'_>) -> Result<Header, LdfFault>
+    ensures { Gives result parser.new (header.read parser.old) }
+{
+    let lines = read_lines(parser)?;
+    match (lines.version, lines.speed) {
+        (Some(version), Some(speed)) => Ok(Header {
+            version,
+            language: lines.language,
+            speed,
+            is_big_endian: lines.big_endian.is_some(),
+            unknown: lines.unknown,
+        }),
+        _ => Err(LdfFault::Unexpected(parser.place())),
+    }
+}

@@ -1,0 +1,57 @@
+//! The nodes of a text of the field.
+
+ghost use Rattle.std.specs.Prelude.{◌≡◌, [], IfOk};
+ghost use Rattle.lin_ldf.specs.Forms.{Gives};
+ghost use Rattle.lin_ldf.specs.Words.{with_name};
+ghost use Rattle.lin_field.specs.Grammar.{master, master_rest, nodes, node_names};
+
+use crate::decimals::{decimal_in, read_decimal};
+use crate::loose::{Decimal, LooseNodes};
+use lin_description::Name;
+use lin_ldf::{LdfFault, Names, Parser, TokenKind};
+
+// [ ',' list ] ';'
+fn master_rest(parser: &mut Parser<'_>) -> Result<(), LdfFault>
+    ensures { Gives result parser.new (master_rest.read parser.old) }
+{
+    if parser.is_at(TokenKind::Comma) {
+        parser.mark(TokenKind::Comma)?;
+        parser.list()
+    } else {
+        parser.mark(TokenKind::Semicolon)
+    }
+}
+
+// master = 'Master' ':' WORD ',' DECR 'ms' ',' DECR 'ms' [ ',' list ] ';'
+fn master<'a>(
+    parser: &mut Parser<'a>,
+    seen: &mut Names<'a>,
+) -> Result<(Name, (Decimal, Decimal)), LdfFault>
+    ensures read { Gives result parser.new ((master seen.old).read parser.old) }
+    ensures names { IfOk result (λ m. seen.new ≡ with_name seen.old m.0) }
+{
+    parser.keyword_before(b"Master", TokenKind::Colon)?;
+    let name = parser.declared_before(seen, TokenKind::Comma)?;
+    let time_base = decimal_in(parser, b"ms", TokenKind::Comma)?;
+    let jitter = read_decimal(parser)?;
+    parser.keyword(b"ms")?;
+    master_rest(parser)?;
+    Ok((name, (time_base, jitter)))
+}
+
+// nodes = 'Nodes' '{' master slaves
+pub fn nodes<'a>(parser: &mut Parser<'a>, seen: &mut Names<'a>) -> Result<LooseNodes, LdfFault>
+    requires { seen.old ≡ [] }
+    ensures read { Gives result parser.new (nodes.read parser.old) }
+    ensures names { IfOk result (λ n. seen.new ≡ node_names n) }
+{
+    parser.keyword_before(b"Nodes", TokenKind::OpenBrace)?;
+    let (master, (time_base, jitter)) = master(parser, seen)?;
+    let slaves = parser.slaves(seen)?;
+    Ok(LooseNodes {
+        master,
+        time_base,
+        jitter,
+        slaves,
+    })
+}

@@ -1,0 +1,163 @@
+//! Settling of signals: wide ones, initial values that are too large, and subscribers that are no
+//! nodes.
+
+ghost use Rattle.std.specs.Prelude.{◌≡◌, ◌++◌, ◌≤◌, ◌<◌, flat_map, map, filter, IfOk, OnOk};
+ghost use Rattle.lin_field.specs.Names.{is_node};
+ghost use Rattle.lin_field.specs.Signals.{is_wide, is_narrow, low_bits, byte_numbers, settled_init};
+ghost use Rattle.lin_field.specs.Signals.{size_warnings, settled_signal, signal_warnings};
+ghost use Rattle.lin_field.specs.Signals.{unknown_node};
+
+use crate::names::NodeNames;
+use lin_cluster::{Finding, FindingKind, at_name, at_number, push_when};
+use lin_description::{Init, Name, Number, Place, Signal};
+use lin_lists::{Many, OneOrMore};
+use std::alloc::{AllocError, Global};
+
+/// A scalar of so many bits is an array.
+fn is_wide(size: u32) -> bool
+    ensures { result ≡ is_wide size }
+{
+    24 <= size && size <= 64 && size % 8 == 0
+}
+
+fn is_narrow(size: u32) -> bool
+    ensures { result ≡ is_narrow size }
+{
+    1 <= size && size <= 16
+}
+
+/// The value that the low bits of a number have: a number has 32.
+fn low_bits(value: u32, size: u32) -> u32
+    ensures { result ≡ low_bits value size }
+{
+    if size < 32 {
+        value % (1 << size)
+    } else {
+        value
+    }
+}
+
+/// The bytes of a number, the lowest first, each at the number's place.
+fn byte_numbers(alloc: Global, number: Number, count: u32) -> Result<OneOrMore<Number>, AllocError>
+    requires { (1 ≤ count) × (count ≤ 8) }
+    ensures { IfOk result (λ bytes. bytes ≡ byte_numbers number count) }
+{
+    let mut bytes = Vec::new(alloc);
+    let mut rest = number.value;
+    for _ in 0..count {
+        bytes.push(Number {
+            value: rest % 256,
+            line: number.line,
+            column: number.column,
+        })?;
+        rest /= 256;
+    }
+    Ok(OneOrMore::new(bytes))
+}
+
+fn settled_init(alloc: Global, size: u32, init: Init) -> Result<Init, AllocError>
+    ensures { IfOk result (λ i. i ≡ settled_init size init) }
+{
+    match init {
+        Init::Scalar(number) if is_wide(size) => {
+            let place = Place {
+                line: number.line,
+                column: number.column,
+            };
+            Ok(Init::Array(place, byte_numbers(alloc, number, size / 8)?))
+        }
+        Init::Scalar(number) if is_narrow(size) => Ok(Init::Scalar(Number {
+            value: low_bits(number.value, size),
+            line: number.line,
+            column: number.column,
+        })),
+        init => Ok(init),
+    }
+}
+
+fn warn_of_size(warned: &mut Vec<Finding>, signal: &Signal) -> Result<(), AllocError>
+    ensures { OnOk result (warned.new.items ≡ warned.old.items ++ size_warnings signal.now) }
+{
+    let size = signal.size.value;
+    let Init::Scalar(number) = &signal.init else {
+        return Ok(());
+    };
+    let is_wide = is_wide(size);
+    push_when(
+        warned,
+        is_wide,
+        at_number(FindingKind::WideSignal, &signal.size),
+    )?;
+    push_when(
+        warned,
+        (is_wide || is_narrow(size)) && low_bits(number.value, size) != number.value,
+        at_number(FindingKind::BadInit, number),
+    )
+}
+
+/// The names that are nodes'.
+fn kept_nodes(
+    alloc: Global,
+    nodes: &NodeNames<'_>,
+    names: Many<Name>,
+    warned: &mut Vec<Finding>,
+) -> Result<Many<Name>, AllocError>
+    ensures kept { IfOk result (λ n. n ≡ filter (is_node nodes.now) names) }
+    ensures warned { OnOk result
+        (warned.new.items ≡ warned.old.items ++ flat_map (unknown_node nodes.now) names) }
+{
+    let mut kept = Vec::new(alloc);
+    for name in names.into_vec() {
+        let is_known = nodes.is_node(&name);
+        push_when(warned, !is_known, at_name(FindingKind::UnknownName, &name))?;
+        if is_known {
+            kept.push(name)?;
+        }
+    }
+    Ok(Many::new(kept))
+}
+
+fn settle_signal(
+    alloc: Global,
+    nodes: &NodeNames<'_>,
+    signal: Signal,
+    warned: &mut Vec<Finding>,
+) -> Result<Signal, AllocError>
+    ensures settled { IfOk result (λ s. s ≡ settled_signal nodes.now signal) }
+    ensures warned { OnOk result
+        (warned.new.items ≡ warned.old.items ++ signal_warnings nodes.now signal) }
+{
+    warn_of_size(warned, &signal)?;
+    let Signal {
+        name,
+        size,
+        init,
+        publisher,
+        subscribers,
+    } = signal;
+    Ok(Signal {
+        name,
+        size,
+        init: settled_init(alloc, size.value, init)?,
+        publisher,
+        subscribers: kept_nodes(alloc, nodes, subscribers, warned)?,
+    })
+}
+
+/// The signals, whose values fit and whose subscribers are nodes.
+pub fn settle_signals(
+    alloc: Global,
+    nodes: &NodeNames<'_>,
+    signals: Many<Signal>,
+    warned: &mut Vec<Finding>,
+) -> Result<Many<Signal>, AllocError>
+    ensures settled { IfOk result (λ s. s ≡ map (settled_signal nodes.now) signals) }
+    ensures warned { OnOk result
+        (warned.new.items ≡ warned.old.items ++ flat_map (signal_warnings nodes.now) signals) }
+{
+    let mut settled = Vec::new(alloc);
+    for signal in signals.into_vec() {
+        settled.push(settle_signal(alloc, nodes, signal, warned)?)?;
+    }
+    Ok(Many::new(settled))
+}
