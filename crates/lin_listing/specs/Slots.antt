@@ -1,7 +1,7 @@
 -- How much time the slots of schedule tables leave (ISO 17987-3, frame slots; LIN 2.2A, section
 -- 9.2.5), as lines.
 use Rattle.std.specs.Prelude.{ℕ, ◌+◌, ◌-◌, ◌*◌, ◌/◌, List, [], ◌∷◌, ◌++◌, length, sum_by}
-use Rattle.std.specs.Prelude.{flat_map, codes}
+use Rattle.std.specs.Prelude.{flat_map, codes, nat_le, if◌then◌else◌}
 use Rattle.std.specs.Fmt.{decimal}
 use Rattle.lin_cluster.specs.SlotTimes.{slot_bytes, slot_need}
 use Rattle.lin_frame.specs.Words.{numbers}
@@ -10,6 +10,11 @@ use Rattle.lin_cluster_parts.specs.declared.parts.Parts.{Parts}
 use Rattle.lin_log.specs.Words.{line}
 
 -- ---- the slot of an entry
+
+-- what is left of a delay, or what is missing after `-`
+abbrev pub slack : ℕ → ℕ → List ℕ
+slack delay need =
+    if nat_le need delay then decimal (delay - need) else 45 ∷ decimal (need - delay)
 
 -- an entry of a table: what it is for, the data bytes of its slot, its delay, what the slot needs,
 -- and what is left
@@ -26,7 +31,7 @@ slot_line c t e =
     ∷ decimal (slot_bytes c entry)
     ∷ decimal delay
     ∷ decimal (slot_need c entry)
-    ∷ decimal (delay - slot_need c entry)
+    ∷ slack delay (slot_need c entry)
     ∷ [])
 
 -- ---- the load of a table

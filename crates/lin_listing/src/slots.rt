@@ -7,11 +7,11 @@ ghost use Rattle.lin_cluster_parts.specs.Rules.{IsEntry};
 ghost use Rattle.lin_text.specs.Written.{Grows, WritesText};
 ghost use Rattle.lin_cluster.specs.SlotTimes.{frame_bytes, greatest_bytes, slot_bytes};
 ghost use Rattle.lin_listing.specs.Slots.{bits_of, delay_of, load_line, nominal_bits, permille};
-ghost use Rattle.lin_listing.specs.Slots.{slot_line, slots, table_lines};
+ghost use Rattle.lin_listing.specs.Slots.{slack, slot_line, slots, table_lines};
 
 use lin_cluster::needed_us;
 use lin_cluster_parts::{Cluster, Entry};
-use lin_log::{Word, put_line};
+use lin_log::{Word, put_head, put_line};
 use lin_text::{TextWriter, WriteFailed};
 use std::io::Write;
 
@@ -48,6 +48,18 @@ fn slot_bytes(cluster: &Cluster, entry: Entry) -> u8
     }
 }
 
+/// What is left of a delay, or what is missing after `-`.
+fn put_slack<W: Write>(out: &mut TextWriter<'_, W>, delay: u64, needed: u64)
+    ensures { Grows W.contents out.old out.new (slack delay needed) }
+{
+    if needed <= delay {
+        out.put_number(delay - needed);
+    } else {
+        out.put_byte(b'-');
+        out.put_number(needed - delay);
+    }
+}
+
 /// The line of an entry of a table.
 fn put_slot<'a, W: Write>(
     out: &mut TextWriter<'_, W>,
@@ -64,7 +76,7 @@ fn put_slot<'a, W: Write>(
     let bytes = slot_bytes(cluster, entry);
     let delay = u64::from(cluster.delay_us(table, number));
     let needed = needed_us(cluster.jitter_us(), cluster.speed(), u32::from(bytes));
-    put_line(
+    put_head(
         out,
         b"slot",
         &[
@@ -75,9 +87,11 @@ fn put_slot<'a, W: Write>(
             Word::Number(u64::from(bytes)),
             Word::Number(delay),
             Word::Number(needed),
-            Word::Number(delay.saturating_sub(needed)),
         ],
     );
+    out.put_byte(b' ');
+    put_slack(out, delay, needed);
+    out.put_byte(b'\n');
 }
 
 fn put_table_slots<W: Write>(out: &mut TextWriter<'_, W>, cluster: &Cluster, table: u16)
@@ -173,8 +187,8 @@ fn put_slots<W: Write>(out: &mut TextWriter<'_, W>, cluster: &Cluster)
 }
 
 /// Writes for each schedule table a line for each slot, with the time that it needs and its slack
-/// in microseconds, and then one for the table's load (ISO 17987-3, frame slots). In a cluster that
-/// `check` made no slot is short; the slack of one that is would be 0.
+/// in microseconds, and then one for the table's load (ISO 17987-3, frame slots). The slack of a slot
+/// that is short is `-` and what is missing.
 ///
 /// It goes through a buffer of fixed size, and takes no memory. The writer isn't flushed.
 ///

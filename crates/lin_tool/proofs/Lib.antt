@@ -1,4 +1,5 @@
 pub mod Texts
+pub mod FieldTexts
 pub mod Shows
 pub mod Plays
 pub mod Moments

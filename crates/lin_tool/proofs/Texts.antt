@@ -1,13 +1,13 @@
 -- What `parse` and `check` say of a text, in the program's words.
-use Rattle.std.proofs.Common.{◌≡◌, ◌≢◌, ◌⊎◌, inl, inr, ℕ, ◌≤◌, List, length, Option, None, IfOk, IfSome, Result, Ok, Err, sym, ◌∙◌}
+use Rattle.std.proofs.Common.{◌≡◌, ◌≢◌, ◌⊎◌, inl, inr, ℕ, ◌≤◌, List, length, Option, None, IfSome, Result, Ok, Err, sym, ◌∙◌}
 use Rattle.lin_ldf.specs.Describes.{Describes}
 use Rattle.lin_ldf.specs.Tokens.{IsLexFault}
 use Rattle.lin_ldf.specs.declared.fault.LdfFault.{LdfFault}
 use Rattle.lin_ldf.specs.declared.fault.LdfFault.TheVariants as ldf
 use Rattle.lin_description.specs.declared.description.Description.{Description}
-use Rattle.lin_cluster.specs.SlotTimes.{NoSlotIsShort}
 use Rattle.lin_tool.specs.Clusters.{AnswersText, Tells, TextFaults}
-use Rattle.lin_tool.specs.Reading.{AnswersLdf, ReadFaults}
+use Rattle.lin_tool.specs.Field.{ReadFaults}
+use Rattle.lin_tool.specs.Reading.{AnswersLdf}
 use Rattle.lin_cluster_parts.specs.declared.parts.Parts.{Parts}
 use Rattle.lin_tool.specs.declared.fault.Fault.{Fault}
 use Rattle.lin_tool.specs.declared.fault.Fault.TheVariants.{Ldf, Findings, LdfTooLong, OutOfMemory, ReadFailed}
@@ -48,8 +48,3 @@ answers_untold (Err LdfTooLong) told h = tt
 answers_untold (Err OutOfMemory) told h = tt
 answers_untold (Err ReadFailed) told h = tt
 answers_untold (Err _) told h = absurd h
-
--- no slot of a cluster that is answered is short
-pub long_slots : (r : Result Parts Fault) (told : Option (List ℕ)) → AnswersLdf r told → IfOk r NoSlotIsShort
-long_slots (Ok answer) told (text, is, short, h) = h.long
-long_slots (Err fault) told h = tt

@@ -1,5 +1,6 @@
 pub mod Clusters
 pub mod Comparing
+pub mod Field
 pub mod Formats
 pub mod Junit
 pub mod Listing

@@ -6,7 +6,7 @@ use Rattle.lin_tool.specs.declared.fault.Fault.TheVariants.{ScriptTooLong, NotHo
 use Rattle.lin_tool.specs.declared.fault.Fault.TheVariants.{OutOfMemory, ReadFailed, WriteFailed}
 use Rattle.lin_tool.specs.declared.fault.Fault.TheVariants.{TaskLimit, NoThread, LogFull}
 use Rattle.lin_tool.specs.declared.fault.Fault.TheVariants.{LogDiffers, BadBenchLine, SlotLimit}
-use Rattle.lin_tool.specs.declared.fault.Fault.TheVariants.{BadLines, Unmet}
+use Rattle.lin_tool.specs.declared.fault.Fault.TheVariants.{BadLines, Unmet, Remarks}
 
 -- 1 for a fault of the input, 3 for lack of memory, 4 where standard input, a file or standard
 -- output failed, 5 where a run met a limit, 6 where a log isn't the text of its own history or
@@ -15,6 +15,7 @@ abbrev pub status_of : Fault → ℕ
 status_of (BadLine n) = 1
 status_of (Ldf f) = 1
 status_of (Findings f) = 1
+status_of (Remarks f) = 1
 status_of LdfTooLong = 1
 status_of ScriptTooLong = 1
 status_of (NotHostStep n) = 1

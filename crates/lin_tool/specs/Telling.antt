@@ -6,6 +6,7 @@ use Rattle.lin_ldf.specs.declared.fault.LdfFault.{LdfFault}
 use Rattle.lin_ldf.specs.declared.fault.LdfFault.TheVariants as ldf
 use Rattle.lin_cluster.specs.declared.finding.Finding.{Finding}
 use Rattle.lin_cluster.specs.Kinds.{finding_name}
+use Rattle.lin_field.specs.declared.checking.Remark.{Remark}
 use Rattle.lin_log.specs.Words.{line}
 use Rattle.lin_tool.specs.declared.fault.Fault.{Fault}
 use Rattle.lin_tool.specs.declared.fault.Fault.TheVariants.{BadLine, Ldf, Findings, LdfTooLong}
@@ -13,7 +14,7 @@ use Rattle.lin_tool.specs.declared.fault.Fault.TheVariants.{ScriptTooLong, NotHo
 use Rattle.lin_tool.specs.declared.fault.Fault.TheVariants.{OutOfMemory, ReadFailed, WriteFailed}
 use Rattle.lin_tool.specs.declared.fault.Fault.TheVariants.{TaskLimit, NoThread, LogFull}
 use Rattle.lin_tool.specs.declared.fault.Fault.TheVariants.{LogDiffers, SlotLimit, BadBenchLine}
-use Rattle.lin_tool.specs.declared.fault.Fault.TheVariants.{BadLines, Unmet}
+use Rattle.lin_tool.specs.declared.fault.Fault.TheVariants.{BadLines, Unmet, Remarks}
 
 -- a line and a column
 abbrev pub place_word : ℕ → ℕ → List ℕ
@@ -23,11 +24,21 @@ place_word line column = decimal line ++ 58 ∷ decimal column
 abbrev pub needed_words : Finding → List (List ℕ)
 needed_words finding = if finding.number == 9 then decimal finding.needed_us ∷ [] else []
 
-abbrev pub finding_line : Finding → List ℕ
-finding_line f =
+-- a finding, after the word for what it is
+abbrev pub told_line : List ℕ → Finding → List ℕ
+told_line word f =
     line
-    (place_word f.line f.column ∷ codes "finding" ∷ decimal f.number ∷ finding_name f.number
-    ∷ needed_words f)
+    (place_word f.line f.column ∷ word ∷ decimal f.number ∷ finding_name f.number ∷ needed_words f)
+
+abbrev pub finding_line : Finding → List ℕ
+finding_line f = told_line (codes "finding") f
+
+-- a finding or a warning
+abbrev pub remark_word : Remark → List ℕ
+remark_word r = if r.is_warning then codes "warning" else codes "finding"
+
+abbrev pub remark_line : Remark → List ℕ
+remark_line r = told_line (remark_word r) r.finding
 
 -- the line of a fault of an LDF text, by its number and name
 abbrev pub ldf_line : Place → List ℕ → List ℕ
@@ -50,6 +61,7 @@ abbrev pub fault_text : Fault → List ℕ
 fault_text (BadLine n) = line (codes "script" ∷ decimal n ∷ codes "bad line" ∷ [])
 fault_text (Ldf fault) = ldf_text fault
 fault_text (Findings found) = flat_map finding_line found.0
+fault_text (Remarks found) = flat_map remark_line found.0
 fault_text LdfTooLong = line (codes "ldf too long" ∷ [])
 fault_text ScriptTooLong = line (codes "script too long" ∷ [])
 fault_text (NotHostStep index) =

@@ -1,10 +1,11 @@
 //! `linsim check`: lists what a cluster has.
 
-use crate::describing::cluster_at;
+use crate::describing::{Reading, cluster_at, read_text};
 use crate::fault::Fault;
+use crate::field::write_field;
 use crate::listing::{Lists, write_lists};
 use crate::notes::Notes;
-use std::fs::Files;
+use std::fs::{self, Files};
 use std::io;
 
 /// Writes on standard output a line for each node, each signal and each schedule table of the
@@ -16,9 +17,38 @@ use std::io;
 pub fn check<R: AllocGlobal + Files + Input + Print>(
     rt: &R,
     path: &str,
+    reading: Reading,
     lists: Lists,
     notes: &mut Notes<'_>,
 ) -> Result<(), Fault> {
-    let cluster = cluster_at(rt, path, notes)?;
+    let cluster = cluster_at(rt, path, reading, notes)?;
     Ok(write_lists(&cluster, lists, &mut io::writer(rt))?)
+}
+
+/// The LDF text in the file at `path`; where the path is `-`, that on standard input.
+fn text_at<R: AllocGlobal + Files + Input>(rt: &R, path: &str) -> Result<Vec<u8>, Fault> {
+    if path == "-" {
+        return read_text(rt.alloc(), &mut rt.reader());
+    }
+    match fs::open(rt, path) {
+        Ok(mut file) => read_text(rt.alloc(), &mut file),
+        Err(_) => Err(Fault::ReadFailed),
+    }
+}
+
+/// Writes on standard output a plain LDF text of what the text of the field in the file at `path`
+/// was settled to; where the path is `-`, that on standard input.
+///
+/// # Errors
+/// Those of `cluster_at`, after which nothing was written; `WriteFailed`, where what was written is
+/// the beginning of the text.
+pub fn check_plain<R: AllocGlobal + Files + Input + Print>(
+    rt: &R,
+    path: &str,
+    notes: &mut Notes<'_>,
+) -> Result<(), Fault> {
+    let text = text_at(rt, path);
+    let named = if path == "-" { None } else { Some(path) };
+    notes.add_unread(&text, named);
+    write_field(rt.alloc(), text?, &mut io::writer(rt), notes)
 }

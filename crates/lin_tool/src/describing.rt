@@ -5,9 +5,11 @@ ghost use Rattle.std.specs.Prelude.{◌≡◌, List, ℕ, IfOk, IsSome};
 ghost use Rattle.lin_ldf.specs.Describes.{Describes};
 ghost use Rattle.lin_cluster.specs.SlotTimes.{NoSlotIsShort};
 ghost use Rattle.lin_tool.specs.Clusters.{AnswersParse, AnswersText, Tells};
-ghost use Rattle.lin_tool.specs.Reading.{AnswersLdf, ReadsAll};
+ghost use Rattle.lin_tool.specs.Reading.{AnswersLdf, AnswersReading, ReadsAll};
+ghost use Rattle.lin_tool.specs.declared.describing.Reading.TheVariants.{Plain};
 
 use crate::fault::Fault;
+use crate::field::field_of_reader;
 use crate::findings::Findings;
 use crate::notes::Notes;
 use lin_cluster::{CheckFault, check};
@@ -52,7 +54,7 @@ pub fn read_text<R: Read>(alloc: Global, reader: &mut R) -> Result<Vec<u8>, Faul
 }
 
 /// What a fault of `parse` is to the program.
-fn fault_of(fault: LdfFault) -> Fault
+pub(crate) fn fault_of(fault: LdfFault) -> Fault
     ensures { Tells result fault }
 {
     match fault {
@@ -104,7 +106,7 @@ pub fn cluster_of_text(alloc: Global, text: &[u8]) -> Result<Cluster, Fault>
 
 /// Gives the memory of a text back, but for a byte. (It is shrunk in place: once a block as large is
 /// freed, the C library's heap grows lists by copying them.)
-fn let_go(text: &mut Vec<u8>) {
+pub(crate) fn let_go(text: &mut Vec<u8>) {
     text.truncate(1);
     text.shrink_to_fit();
 }
@@ -129,6 +131,7 @@ fn cluster_of_bytes(
     if let Err(fault) = &answer {
         notes.add_text(alloc, bytes.as_slice(), fault)?;
     }
+    notes.add_field(alloc, bytes.as_mut_slice(), &answer);
     answer
 }
 
@@ -149,18 +152,44 @@ pub fn cluster_of_reader<R: Read>(
     cluster_of_bytes(alloc, text, notes)
 }
 
+/// How an LDF text is read.
+#[derive(Clone, Copy, Debug, Drop, PartialEq)]
+pub enum Reading {
+    /// By the grammar of LIN 2.2A alone.
+    Plain,
+    /// As a text of the field.
+    Field,
+}
+
+/// The cluster that the LDF text of a reader describes, as of `cluster_of_reader`, or as a text of
+/// the field.
+fn cluster_read<R: Read>(
+    alloc: Global,
+    reader: &mut R,
+    reading: Reading,
+    notes: &mut Notes<'_>,
+) -> Result<Cluster, Fault>
+    ensures { AnswersReading reading result notes.new.warnings (R.remaining reader.old) }
+{
+    match reading {
+        Reading::Plain => cluster_of_reader(alloc, reader, notes),
+        Reading::Field => field_of_reader(alloc, reader, notes),
+    }
+}
+
 /// The cluster that the LDF text on standard input describes.
 ///
 /// # Errors
-/// Those of `cluster_of_reader`.
-#[tactic(auto, using(crate::proofs::Texts::answers_untold))]
+/// Those of `cluster_of_reader`, or of `field_of_reader`.
+#[tactic(auto, using(crate::proofs::FieldTexts::reading_untold))]
 pub fn cluster_of_input<R: AllocGlobal + Input>(
     rt: &R,
+    reading: Reading,
     notes: &mut Notes<'_>,
 ) -> Result<Cluster, Fault>
-    ensures { AnswersLdf result None }
+    ensures { AnswersReading reading result notes.new.warnings None }
 {
-    let answer = cluster_of_reader(rt.alloc(), &mut rt.reader(), notes);
+    let answer = cluster_read(rt.alloc(), &mut rt.reader(), reading, notes);
     notes.add_unread(&answer, None);
     answer
 }
@@ -168,21 +197,23 @@ pub fn cluster_of_input<R: AllocGlobal + Input>(
 /// The cluster that the LDF text in the file at `path` describes; without a path the built-in one.
 ///
 /// # Errors
-/// `ReadFailed` where the file can't be opened, and those of `cluster_of_reader`.
-#[tactic(auto, using(crate::proofs::Texts::answers_untold))]
+/// `ReadFailed` where the file can't be opened, and those of `cluster_of_input`.
+#[tactic(auto, using(crate::proofs::FieldTexts::reading_untold, crate::proofs::FieldTexts::reading_unread))]
 pub fn cluster_of_file<R: AllocGlobal + Files>(
     rt: &R,
     path: Option<&str>,
+    reading: Reading,
     notes: &mut Notes<'_>,
 ) -> Result<Cluster, Fault>
     ensures built_in { path.entry ≡ None → AnswersText result BUILT_IN.now }
-    ensures file { IsSome path.entry → AnswersLdf result None }
+    ensures file { IsSome path.entry
+        → AnswersReading reading result notes.new.warnings None }
 {
     match path {
         None => cluster_of_text(rt.alloc(), BUILT_IN),
         Some(path) => {
             let answer = match fs::open(rt, path) {
-                Ok(mut file) => cluster_of_reader(rt.alloc(), &mut file, notes),
+                Ok(mut file) => cluster_read(rt.alloc(), &mut file, reading, notes),
                 Err(_) => Err(Fault::ReadFailed),
             };
             notes.add_unread(&answer, Some(path));
@@ -196,17 +227,18 @@ pub fn cluster_of_file<R: AllocGlobal + Files>(
 ///
 /// # Errors
 /// Those of `cluster_of_file` and `cluster_of_input`.
-#[tactic(auto, using(crate::proofs::Texts::long_slots))]
+#[tactic(auto, using(crate::proofs::FieldTexts::long_slots))]
 pub fn cluster_at<R: AllocGlobal + Files + Input>(
     rt: &R,
     path: &str,
+    reading: Reading,
     notes: &mut Notes<'_>,
 ) -> Result<Cluster, Fault>
-    ensures { IfOk result NoSlotIsShort }
+    ensures { reading ≡ Plain → IfOk result NoSlotIsShort }
 {
     if path == "-" {
-        cluster_of_input(rt, notes)
+        cluster_of_input(rt, reading, notes)
     } else {
-        cluster_of_file(rt, Some(path), notes)
+        cluster_of_file(rt, Some(path), reading, notes)
     }
 }

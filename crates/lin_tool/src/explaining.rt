@@ -1,13 +1,15 @@
 //! `--explain`: what is said below the lines of a fault, for who meets it first.
 
 use crate::fault::Fault;
+use crate::field::warnings_of;
 use crate::meanings::{FAULTS, FINDINGS, REFUSALS};
 use lin_cluster::Finding;
 use lin_cluster_parts::Cluster;
 use lin_core::{Listed, Log, Refusal, Reply};
+use lin_field::{Remark, read_field};
 use lin_ldf::{LdfFault, Place};
 use lin_log::first_line;
-use std::alloc::AllocError;
+use std::alloc::{AllocError, Global};
 
 /// How many bytes of a line are shown at most.
 const WIDTH: usize = 96;
@@ -118,6 +120,56 @@ pub(crate) fn put_text(out: &mut String, text: &[u8], fault: &Fault) -> Result<(
         Fault::Findings(findings) => put_findings(out, text, findings.0.as_slice()),
         _ => Ok(()),
     }
+}
+
+/// Puts where an LDF text of the field is remarked on, and what that means: of the first ten.
+pub(crate) fn put_remarks(
+    out: &mut String,
+    text: &[u8],
+    remarks: &[Remark],
+) -> Result<(), AllocError> {
+    let text = text.strip_prefix(b"\xEF\xBB\xBF").unwrap_or(text);
+    for remark in remarks.iter().take(MOST) {
+        put_finding(out, text, &remark.finding)?;
+    }
+    Ok(())
+}
+
+/// Puts what `--field` makes of a text that is refused without it: with how many warnings it reads
+/// it; nothing where it refuses it too.
+pub(crate) fn put_refused_field(
+    alloc: Global,
+    out: &mut String,
+    text: &mut [u8],
+) -> Result<(), AllocError> {
+    match warnings_of(alloc, text) {
+        Ok(count) => writeln!(out, "  --field reads this text, with {count} warnings"),
+        Err(Fault::OutOfMemory) => Err(AllocError),
+        Err(_) => Ok(()),
+    }
+}
+
+/// Puts what of a text that is accepted is read by `--field` alone.
+pub(crate) fn put_accepted_field(
+    alloc: Global,
+    out: &mut String,
+    text: &mut [u8],
+) -> Result<(), AllocError> {
+    let loose = match read_field(alloc, text) {
+        Ok(read) => read.loose,
+        Err(LdfFault::OutOfMemory) => return Err(AllocError),
+        Err(_) => return Ok(()),
+    };
+    if loose.header.is_old() {
+        let version = loose.header.version.as_slice();
+        out.push_str("  the header's version is ")?;
+        put_shown(out, version)?;
+        out.push_str(": --field reads each node without LIN_protocol as one of LIN 1.x\n")?;
+    }
+    if !loose.addresses.as_slice().is_empty() {
+        out.push_str("  --field reads the addresses of Diagnostic_addresses\n")?;
+    }
+    Ok(())
 }
 
 /// Puts the names of a cluster's schedule tables.

@@ -9,7 +9,7 @@ ghost use Rattle.lin_tool.specs.Running.{run_fault, split_fault};
 ghost use Rattle.lin_tool.specs.Statuses.{end_status, status_of};
 ghost use Rattle.lin_tool.specs.declared.fault.Fault.TheVariants.{OutOfMemory, WriteFailed as NotWritten};
 
-use crate::findings::Findings;
+use crate::findings::{Findings, Remarks};
 use lin_bench::PlayFault;
 use lin_export::ExportFault;
 use lin_ldf::LdfFault;
@@ -29,6 +29,8 @@ pub enum Fault {
     Ldf(LdfFault),
     /// The LDF text describes no cluster: a line for each reason.
     Findings(Findings),
+    /// The LDF text of the field describes no cluster: a line for each reason and each warning.
+    Remarks(Remarks),
     /// The LDF text is longer than 4,194,304 bytes.
     LdfTooLong,
     /// The script is longer than 16,777,216 bytes.
@@ -86,6 +88,7 @@ impl Fault {
         match self {
             Fault::Ldf(_)
             | Fault::Findings(_)
+            | Fault::Remarks(_)
             | Fault::LdfTooLong
             | Fault::BadLine { .. }
             | Fault::ScriptTooLong

@@ -1,11 +1,13 @@
 //! The findings of a description, as lines.
 
-ghost use Rattle.std.specs.Prelude.{flat_map};
+ghost use Rattle.std.specs.Prelude.{◌≡◌, flat_map};
 ghost use Rattle.lin_text.specs.Written.{Grows};
 ghost use Rattle.lin_log.specs.Words.{line_tail};
-ghost use Rattle.lin_tool.specs.Telling.{finding_line, needed_words, place_word};
+ghost use Rattle.lin_tool.specs.Telling.{finding_line, told_line, remark_line, remark_word, needed_words};
+ghost use Rattle.lin_tool.specs.Telling.{place_word};
 
 use lin_cluster::Finding;
+use lin_field::Remark;
 use lin_lists::Many;
 use lin_text::TextWriter;
 use std::io::Write;
@@ -13,6 +15,10 @@ use std::io::Write;
 /// All that is wrong with a description.
 #[derive(Debug, Drop)]
 pub struct Findings(pub Many<Finding>);
+
+/// All that is wrong with a text of the field, among its warnings.
+#[derive(Debug, Drop)]
+pub struct Remarks(pub Many<Remark>);
 
 /// A line and a column, both from 1.
 pub(crate) fn put_place<W: Write>(out: &mut TextWriter<'_, W>, line: u64, column: u64)
@@ -36,13 +42,15 @@ fn put_needed<W: Write>(out: &mut TextWriter<'_, W>, finding: &Finding)
     }
 }
 
-/// The line of a finding: its place, its number and its name, and for a slot that is too short the
-/// time that it needs.
-fn put_finding<W: Write>(out: &mut TextWriter<'_, W>, finding: &Finding)
-    ensures { Grows W.contents out.old out.new (finding_line finding.now) }
+/// The line of a finding or a warning: its place, its number and its name, and for a slot that is
+/// too short the time that it needs.
+fn put_told<W: Write>(out: &mut TextWriter<'_, W>, finding: &Finding, word: &str)
+    ensures { Grows W.contents out.old out.new (told_line word.now finding.now) }
 {
     put_place(out, finding.line, finding.column);
-    out.put(b" finding ");
+    out.put_byte(b' ');
+    out.put_text(word);
+    out.put_byte(b' ');
     out.put_number(u64::from(finding.number));
     out.put_byte(b' ');
     out.put(finding.name().as_bytes());
@@ -54,6 +62,26 @@ pub(crate) fn put_findings<W: Write>(out: &mut TextWriter<'_, W>, findings: &[Fi
     ensures { Grows W.contents out.old out.new (flat_map finding_line findings.now) }
 {
     for finding in findings {
-        put_finding(out, finding);
+        put_told(out, finding, "finding");
+    }
+}
+
+/// What a remark is.
+pub(crate) fn remark_word(remark: &Remark) -> &'static str
+    ensures { result.now ≡ remark_word remark.now }
+{
+    if remark.is_warning {
+        "warning"
+    } else {
+        "finding"
+    }
+}
+
+/// A line for each finding and each warning.
+pub(crate) fn put_remarks<W: Write>(out: &mut TextWriter<'_, W>, remarks: &[Remark])
+    ensures { Grows W.contents out.old out.new (flat_map remark_line remarks.now) }
+{
+    for remark in remarks {
+        put_told(out, &remark.finding, remark_word(remark));
     }
 }

@@ -14,6 +14,7 @@ mod comparing;
 mod describing;
 mod explaining;
 mod fault;
+mod field;
 mod findings;
 mod formats;
 mod junit;
@@ -32,13 +33,15 @@ mod scripts;
 mod tally;
 mod telling;
 
-pub use checking::check;
+pub use checking::{check, check_plain};
 pub use comparing::{compare, compare_script, first_difference};
 pub use describing::{
-    BUILT_IN, cluster_of_file, cluster_of_input, cluster_of_reader, cluster_of_text, read_text,
+    BUILT_IN, Reading, cluster_of_file, cluster_of_input, cluster_of_reader, cluster_of_text,
+    read_text,
 };
 pub use fault::{Fault, exit_status};
-pub use findings::Findings;
+pub use field::field_of_reader;
+pub use findings::{Findings, Remarks};
 pub use formats::{Format, write_shown};
 pub use lin_listing::write_list;
 pub use listing::{Lists, write_lists};

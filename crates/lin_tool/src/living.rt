@@ -92,17 +92,19 @@ fn answer_format(format: Format<'_>) -> AnswerFormat
 
 /// Answers each line on standard input on standard output before it reads on, over the cluster of
 /// the settings; entries are told as the log with names where the settings have that format, and
-/// else as the log's own text.
+/// else as the log's own text. Warnings of the LDF go to `errors` first.
 ///
 /// # Errors
 /// Those of `cluster_of_file`, and `NoSuchTable`, after which nothing was read; those of
 /// `bench_in_hand` and `answer_lines`.
-pub fn live<R: AllocGlobal + Files + Input + Print>(
+pub fn live<R: AllocGlobal + Files + Input + Print, E: Write>(
     rt: &R,
     settings: &Settings<'_>,
+    errors: &mut E,
     notes: &mut Notes<'_>,
 ) -> Result<(), Fault> {
     let Opened { cluster, table } = begin(rt, settings, notes)?;
+    notes.tell_warnings(errors);
     let capacity = within_limits(settings.capacity);
     let format = answer_format(settings.format);
     let hand = bench_in_hand(rt.alloc(), cluster, table, capacity, format)?;

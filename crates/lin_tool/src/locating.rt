@@ -2,8 +2,10 @@
 
 use crate::explaining::{place_of, put_shown};
 use crate::fault::Fault;
+use crate::findings::remark_word;
 use crate::meanings::FAULTS;
 use lin_cluster::Finding;
+use lin_field::Remark;
 use lin_ldf::{LdfFault, Place, Token, lex};
 use std::alloc::{AllocError, Global};
 
@@ -66,6 +68,7 @@ fn put_finding(
     file: &str,
     tokens: &mut Tokens<'_>,
     finding: &Finding,
+    word: &str,
 ) -> Result<(), AllocError> {
     let Finding {
         number,
@@ -74,7 +77,7 @@ fn put_finding(
         needed_us,
     } = *finding;
     let name = finding.name();
-    write!(out, "{file}:{line}:{column}: finding {number} {name}")?;
+    write!(out, "{file}:{line}:{column}: {word} {number} {name}")?;
     if needed_us > 0 {
         write!(out, " {needed_us}")?;
     }
@@ -83,6 +86,43 @@ fn put_finding(
         return put_token(out, &[]);
     }
     put_token(out, tokens.token_at(Place { line, column }))
+}
+
+fn put_remarks(
+    out: &mut String,
+    file: &str,
+    tokens: &mut Tokens<'_>,
+    remarks: &[Remark],
+) -> Result<(), AllocError> {
+    for remark in remarks {
+        put_finding(out, file, tokens, &remark.finding, remark_word(remark))?;
+    }
+    Ok(())
+}
+
+/// The tokens of a text; none where it has a byte that begins no token.
+fn lexed(alloc: Global, text: &[u8]) -> Result<Vec<Token>, AllocError> {
+    match lex(alloc, text) {
+        Ok(tokens) => Ok(tokens),
+        Err(LdfFault::OutOfMemory) => Err(AllocError),
+        Err(_) => Ok(Vec::new(alloc)),
+    }
+}
+
+/// Puts a line for each finding and each warning, in the same form.
+pub(crate) fn put_remark_places(
+    alloc: Global,
+    out: &mut String,
+    file: &str,
+    text: &[u8],
+    remarks: &[Remark],
+) -> Result<(), AllocError> {
+    let lexed = lexed(alloc, text)?;
+    let mut tokens = Tokens {
+        text,
+        rest: lexed.as_slice(),
+    };
+    put_remarks(out, file, &mut tokens, remarks)
 }
 
 /// Puts a line for the fault of an LDF text, or a line for each finding, with the file's name
@@ -94,12 +134,7 @@ pub(crate) fn put_places(
     text: &[u8],
     fault: &Fault,
 ) -> Result<(), AllocError> {
-    let lexed = match lex(alloc, text) {
-        Ok(tokens) => tokens,
-        Err(LdfFault::OutOfMemory) => return Err(AllocError),
-        // (a byte that begins no token)
-        Err(_) => Vec::new(alloc),
-    };
+    let lexed = lexed(alloc, text)?;
     let mut tokens = Tokens {
         text,
         rest: lexed.as_slice(),
@@ -108,7 +143,7 @@ pub(crate) fn put_places(
         Fault::Ldf(fault) => put_fault(out, file, &mut tokens, fault),
         Fault::Findings(findings) => {
             for finding in findings.0.as_slice() {
-                put_finding(out, file, &mut tokens, finding)?;
+                put_finding(out, file, &mut tokens, finding, "finding")?;
             }
             Ok(())
         }

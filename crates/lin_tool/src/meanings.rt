@@ -30,7 +30,7 @@ pub(crate) static FAULTS: [(&str, &str); 7] = [
 ];
 
 /// What a finding means, and what to change.
-pub(crate) static FINDINGS: [(&str, &str); 18] = [
+pub(crate) static FINDINGS: [(&str, &str); 26] = [
     (
         "a publisher, a subscriber or an attribute block that is no node; a signal of a frame \
          that isn't declared; a member that is no frame of any kind; a table that isn't \
@@ -117,6 +117,40 @@ pub(crate) static FINDINGS: [(&str, &str); 18] = [
         "a member of an event-triggered frame that is a frame with another checksum than the \
          first member, where that is a frame",
         "members that all have the classic checksum, or none",
+    ),
+    (
+        "a frame without a size: it has the bytes that bits 5 and 4 of its identifier tell",
+        "write the size after the publisher",
+    ),
+    (
+        "an event-triggered frame without a table, or with an empty one: its collisions are \
+         resolved by a table of its members",
+        "name a table with the members as entries",
+    ),
+    (
+        "a scalar of 24, 32, .. or 64 bits: it is an array, with the number's bytes, the lowest \
+         first",
+        "write the initial value as bytes in braces",
+    ),
+    (
+        "a number with a further decimal that isn't zero: it is rounded to thousandths",
+        "write three decimals",
+    ),
+    (
+        "a comma before ; or }, or a semicolon before another: it is left out",
+        "delete the mark",
+    ),
+    (
+        "a responder without configured_NAD and without an address: it has its initial_NAD",
+        "write configured_NAD",
+    ),
+    (
+        "in a text with the bytes of its signals in big endian, a scalar over the border of a byte",
+        "place it within a byte, or write its bytes as signals of their own",
+    ),
+    (
+        "a word alone in the header that isn't known: it is left out",
+        "delete the line",
     ),
 ];
 

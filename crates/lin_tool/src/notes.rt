@@ -1,14 +1,24 @@
 //! What is said on standard error of how a subcommand ended: the lines of its fault, with
 //! `--where` in the form of compilers, and with `--explain` more below them.
 
-use crate::explaining::{MOST, put_bad_line, put_refusals, put_tables, put_text};
+ghost use Rattle.std.specs.Prelude.{◌≡◌, flat_map};
+ghost use Rattle.lin_text.specs.Written.{WritesText};
+ghost use Rattle.lin_tool.specs.Telling.{remark_line};
+
+use crate::explaining::{
+    MOST, put_accepted_field, put_bad_line, put_refusals, put_refused_field, put_remarks,
+    put_tables, put_text,
+};
 use crate::fault::Fault;
-use crate::locating::put_places;
+use crate::findings::put_remarks as put_remark_lines;
+use crate::locating::{put_places, put_remark_places};
 use crate::nearest::put_bad_bench_line;
 use crate::telling::{put_fault, write_fault};
 use lin_bench::Reason;
 use lin_cluster_parts::Cluster;
 use lin_core::Log;
+use lin_field::Remark;
+use lin_lists::Many;
 use lin_text::{TextWriter, WriteFailed, write_out};
 use std::alloc::{AllocError, Global};
 use std::io::Write;
@@ -29,7 +39,10 @@ pub struct Wanted<'a> {
 #[derive(Drop)]
 pub struct Notes<'a> {
     wanted: Wanted<'a>,
+    /// The warnings of an LDF text of the field that is accepted.
+    pub warnings: Many<Remark>,
     is_script_read: bool,
+    are_warnings_told: bool,
     places: String,
     text: String,
     is_cut: bool,
@@ -40,7 +53,9 @@ impl<'a> Notes<'a> {
     pub fn new(alloc: Global, wanted: Wanted<'a>) -> Notes<'a> {
         Notes {
             wanted,
+            warnings: Many::new(Vec::new(alloc)),
             is_script_read: false,
+            are_warnings_told: false,
             places: String::new(alloc),
             text: String::new(alloc),
             is_cut: false,
@@ -71,6 +86,11 @@ impl<'a> Notes<'a> {
         self.wanted.explained
     }
 
+    /// Whether they are, and memory for them hasn't run out yet.
+    fn is_more_explained(&self) -> bool {
+        self.wanted.explained && !self.is_cut
+    }
+
     /// Writes the lines of a fault, if there is one, and those that explain.
     ///
     /// # Errors
@@ -81,6 +101,9 @@ impl<'a> Notes<'a> {
         fault: Option<&Fault>,
         writer: &mut W,
     ) -> Result<(), WriteFailed> {
+        if !self.are_warnings_told {
+            self.write_warnings(writer)?;
+        }
         if let Some(fault) = fault {
             self.write_lines(fault, writer)?;
         }
@@ -91,9 +114,30 @@ impl<'a> Notes<'a> {
         Ok(())
     }
 
+    /// Writes the warnings of an LDF text that is accepted before what else is said.
+    pub(crate) fn tell_warnings<W: Write>(&mut self, writer: &mut W) {
+        let _ = self.write_warnings(writer);
+        self.are_warnings_told = true;
+    }
+
+    /// Writes the warnings of an LDF text that is accepted.
+    fn write_warnings<W: Write>(&self, writer: &mut W) -> Result<(), WriteFailed>
+        ensures { self.now.wanted.file ≡ None
+            → WritesText (W.contents writer.old) (W.contents writer.new) result
+            (flat_map remark_line self.now.warnings) }
+    {
+        let warnings = self.warnings.as_slice();
+        if !warnings.is_empty() && self.wanted.file.is_some() {
+            return write_out(writer, self.places.as_bytes());
+        }
+        let mut lines = TextWriter::new(writer);
+        put_remark_lines(&mut lines, warnings);
+        lines.finish()
+    }
+
     fn write_lines<W: Write>(&self, fault: &Fault, writer: &mut W) -> Result<(), WriteFailed> {
         match (self.named(), fault) {
-            (Some(_), Fault::Ldf(_) | Fault::Findings(_)) => {
+            (Some(_), Fault::Ldf(_) | Fault::Findings(_) | Fault::Remarks(_)) => {
                 write_out(writer, self.places.as_bytes())
             }
             (Some(file), Fault::LdfTooLong | Fault::ScriptTooLong | Fault::ReadFailed) => {
@@ -116,9 +160,11 @@ impl<'a> Notes<'a> {
     }
 
     /// Where what was to be read couldn't be, adds the file, by its path; without one standard input.
-    pub(crate) fn add_unread<T>(&mut self, answer: &Result<T, Fault>, path: Option<&str>) {
+    pub(crate) fn add_unread<T>(&mut self, answer: &Result<T, Fault>, path: Option<&str>)
+        ensures { self.new.warnings ≡ self.old.warnings }
+    {
         if let Err(Fault::ReadFailed) = answer
-            && self.wanted.explained
+            && self.is_more_explained()
         {
             let put = match path {
                 Some(path) => writeln!(self.text, "  the file is {path}"),
@@ -130,7 +176,7 @@ impl<'a> Notes<'a> {
 
     /// Adds the names of the schedule tables.
     pub(crate) fn add_tables(&mut self, cluster: &Cluster) {
-        if self.wanted.explained {
+        if self.is_more_explained() {
             self.is_cut |= put_tables(&mut self.text, cluster).is_err();
         }
     }
@@ -153,15 +199,61 @@ impl<'a> Notes<'a> {
         if let Some(file) = self.wanted.file {
             put_places(alloc, &mut self.places, file, text, fault)?;
         }
-        if self.wanted.explained {
+        if self.is_more_explained() {
             self.is_cut |= put_text(&mut self.text, text, fault).is_err();
         }
         Ok(())
     }
 
+    /// Adds where an LDF text of the field is remarked on, and what that means.
+    ///
+    /// # Errors
+    /// Out of memory for the places of compilers.
+    pub(crate) fn add_remarks(
+        &mut self,
+        alloc: Global,
+        text: &[u8],
+        remarks: &[Remark],
+    ) -> Result<(), AllocError> {
+        if let Some(file) = self.wanted.file {
+            put_remark_places(alloc, &mut self.places, file, text, remarks)?;
+        }
+        if self.is_more_explained() {
+            self.is_cut |= put_remarks(&mut self.text, text, remarks).is_err();
+        }
+        Ok(())
+    }
+
+    /// Keeps the warnings of an LDF text that is accepted.
+    pub(crate) fn keep_warnings(&mut self, warnings: Many<Remark>)
+        ensures { self.new.warnings ≡ warnings }
+    {
+        self.warnings = warnings;
+    }
+
+    /// Adds what `--field` would make of an LDF text that was read without it.
+    pub(crate) fn add_field<T>(
+        &mut self,
+        alloc: Global,
+        text: &mut [u8],
+        answer: &Result<T, Fault>,
+    ) {
+        if !self.is_more_explained() {
+            return;
+        }
+        let put = match answer {
+            Ok(_) => put_accepted_field(alloc, &mut self.text, text),
+            Err(Fault::Ldf(_) | Fault::Findings(_)) => {
+                put_refused_field(alloc, &mut self.text, text)
+            }
+            Err(_) => Ok(()),
+        };
+        self.is_cut |= put.is_err();
+    }
+
     /// Adds the line of a script that is in no form.
     pub(crate) fn add_line(&mut self, script: &[u8], line: u64) {
-        if self.wanted.explained {
+        if self.is_more_explained() {
             self.is_cut |= put_bad_line(&mut self.text, script, line).is_err();
         }
     }
@@ -188,7 +280,7 @@ impl<'a> Notes<'a> {
         cluster: &Cluster,
         reason: &Reason,
     ) {
-        if self.wanted.explained {
+        if self.is_more_explained() {
             let put = put_bad_bench_line(alloc, &mut self.text, script, line, cluster, reason);
             self.is_cut |= put.is_err();
         }
@@ -196,7 +288,7 @@ impl<'a> Notes<'a> {
 
     /// Adds how many steps of a log were refused, and why.
     pub(crate) fn add_refusals(&mut self, log: &Log) {
-        if self.wanted.explained {
+        if self.is_more_explained() {
             self.is_cut |= put_refusals(&mut self.text, log).is_err();
         }
     }

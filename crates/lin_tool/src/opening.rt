@@ -4,7 +4,7 @@
 ghost use Rattle.std.specs.Prelude.{◌≡◌, ◌≤◌, ◌<◌, length, min, max, IfOk};
 ghost use Rattle.lin_tool.specs.Opening.{Opens, opening_of};
 
-use crate::describing::cluster_of_file;
+use crate::describing::{Reading, cluster_of_file};
 use crate::fault::Fault;
 use crate::formats::Format;
 use crate::notes::Notes;
@@ -16,6 +16,8 @@ use std::fs::Files;
 pub struct Settings<'a> {
     /// The LDF file; without one the cluster is the built-in one.
     pub file: Option<&'a str>,
+    /// How the LDF file is read.
+    pub reading: Reading,
     /// The schedule table, by its name; without one it is the first.
     pub table: Option<&'a str>,
     /// How many messages of a host may wait: the nearest number of 1 to 1,024.
@@ -61,7 +63,7 @@ pub(crate) fn begin<R: AllocGlobal + Files>(
 ) -> Result<Opened, Fault>
     ensures { IfOk result (λ it. it.table < length it.cluster.tables) }
 {
-    let cluster = cluster_of_file(rt, settings.file, notes)?;
+    let cluster = cluster_of_file(rt, settings.file, settings.reading, notes)?;
     match opening_table(&cluster, settings.table) {
         Ok(table) => Ok(Opened { cluster, table }),
         Err(fault) => {

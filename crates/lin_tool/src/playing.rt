@@ -270,7 +270,8 @@ fn play_read<R: AllocGlobal + Print, S: Read, E: Write>(
 
 /// Reads the bench script in the file at the path `script`, or without one that on standard input,
 /// plays it over the cluster of the settings, and writes the log on standard output in their format.
-/// What is said of a bad line and of expectations that aren't met goes to `errors`.
+/// Warnings of the LDF, and what is said of a bad line and of expectations that aren't met, go to
+/// `errors`.
 ///
 /// # Errors
 /// Those of `cluster_of_file`, and `NoSuchTable`, after which nothing was written; those of
@@ -283,6 +284,7 @@ pub fn play<R: AllocGlobal + Files + Input + Print, E: Write>(
     notes: &mut Notes<'_>,
 ) -> Result<(), Fault> {
     let opened = begin(rt, settings, notes)?;
+    notes.tell_warnings(errors);
     notes.begin_script();
     let answer = match script {
         None => play_read(rt, opened, settings, &mut rt.reader(), errors, notes),

@@ -6,7 +6,7 @@ ghost use Rattle.lin_text.specs.Written.{Grows, WritesText};
 ghost use Rattle.lin_tool.specs.Telling.{fault_text, ldf_line, ldf_text};
 
 use crate::fault::Fault;
-use crate::findings::{put_findings, put_place};
+use crate::findings::{put_findings, put_place, put_remarks};
 use lin_ldf::{LdfFault, Place};
 use lin_text::{TextWriter, WriteFailed};
 use std::io::Write;
@@ -55,6 +55,7 @@ pub(crate) fn put_fault<W: Write>(out: &mut TextWriter<'_, W>, fault: &Fault)
         Fault::BadLine { line } => put_numbered(out, "script ", *line, " bad line\n"),
         Fault::Ldf(fault) => put_ldf(out, fault),
         Fault::Findings(findings) => put_findings(out, findings.0.as_slice()),
+        Fault::Remarks(remarks) => put_remarks(out, remarks.0.as_slice()),
         Fault::LdfTooLong => out.put_text("ldf too long\n"),
         Fault::ScriptTooLong => out.put_text("script too long\n"),
         Fault::NotHostStep { index } => {

@@ -5,8 +5,8 @@ use crate::fakes::{Narrow, Piecewise};
 use crate::samples::{BUILT_IN, LIGHTS};
 use lin_log::run_script;
 use lin_tool::{
-    Fault, Format, Lists, Notes, Wanted, cluster_of_reader, cluster_of_text, opening_table,
-    read_text, replay_script, write_list, write_lists, write_shown,
+    Fault, Format, Lists, Notes, Wanted, cluster_of_reader, cluster_of_text, field_of_reader,
+    opening_table, read_text, replay_script, write_list, write_lists, write_shown,
 };
 use std::alloc::Global;
 use std::process::Abort;
@@ -29,6 +29,34 @@ fn cluster_is_listed(rt: HostRuntime) {
     let wanted =
         b"node 0 cem -\nnode 1 lsm 1\nnode 2 rsm 2\nsignal 0 level\nsignal 1 mode\nsignal 2 speed\nsignal 3 lkey\nsignal 4 rkey\ntable 0 Main 3\ntable 1 Resolve 2\ntable 2 Diag 2\n";
     expect_bytes(&rt, &listed, wanted, "a cluster", "a list");
+}
+
+/// A text of LIN 1.3, with a frame without a size, and a value that is too large.
+const OLD: &[u8] =
+    b"LIN_description_file;\nLIN_protocol_version = 1.3;\nLIN_speed = 19.2 kbps;\nNodes { Master: m, 5 ms, 0.1 ms; Slaves: s; }\nSignals { a: 8, 300, m, s; }\nFrames { A: 0x20, m { a, 0; } }\nDiagnostic_addresses { s: 9; }\nSchedule_tables { T { A delay 10 ms; } }\n";
+
+/// The list of the cluster that a text of the field describes, and with how many warnings it is read.
+fn field_text(alloc: Global, mut rest: &[u8]) -> Result<(Vec<u8>, usize), Fault> {
+    let mut notes = Notes::new(alloc, Wanted::default());
+    let cluster = field_of_reader(alloc, &mut rest, &mut notes)?;
+    let mut text = Vec::new(alloc);
+    write_list(&cluster, &mut text)?;
+    Ok((text, notes.warnings.as_slice().len()))
+}
+
+#[test]
+fn text_of_the_field_is_listed(rt: HostRuntime) -> Result<(), Fail> {
+    let (listed, warnings) = field_text(rt.alloc(), OLD)?;
+    let wanted = b"node 0 m -\nnode 1 s 9\nsignal 0 a\ntable 0 T 1\n";
+    expect_bytes(&rt, &listed, wanted, "a text of the field", "a list");
+    assert_eq!(rt; warnings, 1);
+    assert!(rt;
+        matches!(
+            field_text(rt.alloc(), b"LIN_description_file"),
+            Err(Fault::Ldf(_))
+        )
+    );
+    Ok(())
 }
 
 fn replayed(alloc: Global, script: &[u8]) -> Result<Vec<u8>, Fault> {

@@ -1,7 +1,7 @@
 //! The command line.
 
 use clap::{Arg, ArgAction, ArgMatches, Command, value_parser};
-use lin_tool::{Format, Lists, Settings, Wanted};
+use lin_tool::{Format, Lists, Reading, Settings, Wanted};
 use std::alloc::{AllocError, Global};
 
 const STATUS_NOTE: &str =
@@ -20,7 +20,7 @@ const LIVE_NOTE: &str =
     "Lines are those of bench scripts, and questions: ? signal NODE SIGNAL, ? waiting NODE, ? idle, ? time, ? asleep, ? next.\nEach is answered before the next is read: the log of its entries, with names if wanted, and a line that begins with #.\n\nExample: linsim live door.ldf < door.bench";
 
 const CHECK_NOTE: &str =
-    "On standard output: node NUMBER NAME NAD (- for none), signal NUMBER NAME, table NUMBER NAME ENTRIES, one a line.\nOn standard error: ldf LINE:COLUMN fault NUMBER NAME for the first fault of the text, or ldf too long above 4,194,304 bytes;\notherwise a line LINE:COLUMN finding NUMBER NAME for each reason why it describes no cluster.";
+    "On standard output: node NUMBER NAME NAD (- for none), signal NUMBER NAME, table NUMBER NAME ENTRIES, one a line.\nOn standard error: ldf LINE:COLUMN fault NUMBER NAME for the first fault of the text, or ldf too long above 4,194,304 bytes;\notherwise a line LINE:COLUMN finding NUMBER NAME for each reason why it describes no cluster;\nwith --field also LINE:COLUMN warning NUMBER NAME for what is read otherwise than it stands.";
 
 fn file<'a>(alloc: Global) -> Arg<'a> {
     Arg::new(alloc, "file")
@@ -115,6 +115,21 @@ fn explain<'a>(alloc: Global) -> Arg<'a> {
     flag(alloc, "explain", help)
 }
 
+fn field<'a>(alloc: Global) -> Arg<'a> {
+    let help =
+        "Reads the LDF as one of the field (LIN 1.3, 2.0, J2602, ISO 17987), with warnings on standard error";
+    flag(alloc, "field", help)
+}
+
+fn plain<'a>(alloc: Global) -> Result<Arg<'a>, AllocError> {
+    let help =
+        "Writes the LDF as --field reads it, as a plain one that other tools read, in place of the list";
+    flag(alloc, "plain", help)
+        .requires_arg("field")?
+        .conflicts_with("frames")?
+        .conflicts_with("slots")
+}
+
 fn slots<'a>(alloc: Global) -> Arg<'a> {
     Arg::new(alloc, "slots")
         .long("slots")
@@ -135,6 +150,7 @@ fn replay<'a>(alloc: Global) -> Result<Command<'a>, AllocError> {
         .arg(capacity(alloc))?
         .arg(format(alloc, FORMATS.as_slice()))?
         .arg(same(alloc)?)?
+        .arg(field(alloc))?
         .arg(explain(alloc))
 }
 
@@ -147,6 +163,8 @@ fn check<'a>(alloc: Global) -> Result<Command<'a>, AllocError> {
         .arg(file(alloc).required(true))?
         .arg(listed_frames(alloc))?
         .arg(listed_slots(alloc))?
+        .arg(field(alloc))?
+        .arg(plain(alloc)?)?
         .arg(places(alloc))?
         .arg(explain(alloc))
 }
@@ -162,6 +180,7 @@ fn run<'a>(alloc: Global) -> Result<Command<'a>, AllocError> {
         .arg(table(alloc))?
         .arg(capacity(alloc))?
         .arg(format(alloc, FORMATS.as_slice()))?
+        .arg(field(alloc))?
         .arg(explain(alloc))
 }
 
@@ -176,6 +195,7 @@ fn play<'a>(alloc: Global) -> Result<Command<'a>, AllocError> {
         .arg(table(alloc))?
         .arg(capacity(alloc))?
         .arg(format(alloc, PLAY_FORMATS.as_slice()))?
+        .arg(field(alloc))?
         .arg(script_places(alloc))?
         .arg(strict(alloc))?
         .arg(explain(alloc))
@@ -191,6 +211,7 @@ fn live<'a>(alloc: Global) -> Result<Command<'a>, AllocError> {
         .arg(table(alloc))?
         .arg(capacity(alloc))?
         .arg(format(alloc, ANSWER_FORMATS.as_slice()))?
+        .arg(field(alloc))?
         .arg(explain(alloc))
 }
 
@@ -218,11 +239,14 @@ pub(crate) struct Asked<'a> {
 /// What the command line asks for.
 #[derive(Clone, Copy)]
 pub(crate) enum Request<'a> {
-    /// `linsim check FILE [--frames] [--slots]`
+    /// `linsim check FILE [--field] [--frames] [--slots]`
     Check {
         file: &'a str,
+        reading: Reading,
         lists: Lists,
     },
+    /// `linsim check FILE --field --plain`
+    CheckPlain(&'a str),
     /// `linsim live FILE [--table T] [--capacity N] [--to log|named]`
     Live(Settings<'a>),
     /// `linsim play FILE [SCRIPT] [--table T] [--capacity N] [--to FORMAT] [--where] [--strict]`;
@@ -282,11 +306,21 @@ fn wanted_of<'a>(matches: &ArgMatches<'a>) -> Wanted<'a> {
     }
 }
 
+/// How the LDF file is read.
+fn reading_of(found: &ArgMatches<'_>) -> Reading {
+    if found.get_flag("field") {
+        Reading::Field
+    } else {
+        Reading::Plain
+    }
+}
+
 /// What a run begins with.
 fn settings_of<'a>(found: &ArgMatches<'a>) -> Settings<'a> {
     let file = found.get_str("file");
     Settings {
         file,
+        reading: reading_of(found),
         table: found.get_str("table"),
         capacity: found.get_one::<u16>("capacity").unwrap_or(16),
         format: format_of(found.get_str("to"), file),
@@ -311,8 +345,12 @@ fn script_of<'a>(found: &ArgMatches<'a>) -> &'a str {
 
 fn request_of<'a>(matches: &ArgMatches<'a>) -> Option<Request<'a>> {
     match matches.subcommand() {
+        Some(("check", found)) if found.get_flag("plain") => {
+            Some(Request::CheckPlain(found.get_str("file").unwrap_or("")))
+        }
         Some(("check", found)) => Some(Request::Check {
             file: found.get_str("file").unwrap_or(""),
+            reading: reading_of(found),
             lists: Lists {
                 frames: found.get_flag("frames"),
                 slots: found.get_flag("slots"),

@@ -34,8 +34,13 @@ fn perform<R: AllocGlobal + Files + Input + Print + Eprint + Threads + Wait, W: 
     errors: &mut W,
 ) -> Result<(), Fault> {
     match request {
-        Request::Check { file, lists } => lin_tool::check(rt, file, lists, notes),
-        Request::Live(settings) => lin_tool::live(rt, &settings, notes),
+        Request::Check {
+            file,
+            reading,
+            lists,
+        } => lin_tool::check(rt, file, reading, lists, notes),
+        Request::CheckPlain(file) => lin_tool::check_plain(rt, file, notes),
+        Request::Live(settings) => lin_tool::live(rt, &settings, errors, notes),
         Request::Play { settings, script } => {
             lin_tool::play(rt, &settings, script, errors, notes)
         }
@@ -50,7 +55,7 @@ fn perform<R: AllocGlobal + Files + Input + Print + Eprint + Threads + Wait, W: 
 /// Whether a script or an LDF text is read from standard input.
 fn is_read(request: Request<'_>) -> bool {
     match request {
-        Request::Check { file, .. } => file == "-",
+        Request::Check { file, .. } | Request::CheckPlain(file) => file == "-",
         Request::Play { script, .. } => script.is_none(),
         Request::Live(_) | Request::Replay(_) | Request::Compare(_) | Request::Run { .. } => true,
     }

@@ -1,8 +1,0 @@
-use Rattle.lin_text.proofs.Growing.{grows-more}
-use Rattle.lin_tool.proofs.findings.put_finding.Goals as goal
-
-pub returns : goal.returns
-returns g c =
-    rw (c.from.ensures, c.as_bytes.ensures.value, c.name.ensures) at
-    (grows-more c.put_place.ensures (grows-more c.put.ensures (grows-more c.put_number.ensures
-    (grows-more c.put_byte.ensures (grows-more c.put-2.ensures c.put_needed.ensures)))))

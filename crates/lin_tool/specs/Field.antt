@@ -1,0 +1,121 @@
+-- What is answered to an LDF text of the field.
+use Rattle.std.specs.Prelude.{◌≡◌, ◌≢◌, ℕ, ◌<◌, ◌≤◌, List, length, Option, IfSome, Result, Ok, Err}
+use Rattle.lin_ldf.specs.Tokens.{AreTokens, IsLexFault}
+use Rattle.lin_ldf.specs.declared.fault.LdfFault.{LdfFault}
+use Rattle.lin_ldf.specs.declared.fault.LdfFault.TheVariants as ldf
+use Rattle.lin_ldf.specs.declared.token.Token.{Token}
+use Rattle.lin_cluster.specs.Described.{parts_of}
+use Rattle.lin_cluster_parts.specs.declared.parts.Parts.{Parts}
+use Rattle.lin_field.specs.Bytes.{field_bytes}
+use Rattle.lin_field.specs.Checks.{AreRemarks, IsFieldFree, IsRefusalOf}
+use Rattle.lin_field.specs.Describes.{Reads}
+use Rattle.lin_field.specs.Marks.{blanked, extra_in}
+use Rattle.lin_field.specs.Order.{byte_order}
+use Rattle.lin_field.specs.Plain.{plain_data, plain_text}
+use Rattle.lin_field.specs.Settled.{settled, warnings}
+use Rattle.lin_field.specs.declared.checking.Checked.{Checked}
+use Rattle.lin_field.specs.declared.checking.FieldFault.TheVariants as check
+use Rattle.lin_field.specs.declared.checking.Remark.{Remark}
+use Rattle.lin_field.specs.declared.reading.FieldText.{FieldText}
+use Rattle.lin_field.specs.declared.settling.Settled.{Settled}
+use Rattle.lin_text.specs.Written.{WritesText}
+use Rattle.lin_tool.specs.declared.fault.Fault.{Fault}
+use Rattle.lin_tool.specs.declared.fault.Fault.TheVariants.{Ldf, Remarks, LdfTooLong, OutOfMemory}
+use Rattle.lin_tool.specs.declared.fault.Fault.TheVariants.{ReadFailed, WriteFailed}
+
+-- these are the bytes of the text where what is read over is spaces
+abbrev pub IsReadOver : List ℕ → List ℕ → Type 0
+IsReadOver text left =
+    (ts : List Token) × AreTokens (field_bytes text) ts
+    × (left ≡ blanked (field_bytes text) (extra_in ts))
+
+-- this is what the text is settled to
+pub record IsSettled (text : List ℕ) (s : Settled) : Type 0 where
+  pub read : FieldText
+  pub reads : Reads text read
+  pub description : s.description ≡ settled read.loose
+  pub warnings : s.warnings.items ≡ warnings read
+  pub order : s.byte_order.items ≡ byte_order read.loose
+
+-- the text describes nothing; where its tokens have a fault, it is this one
+pub record IsFieldFault (text : List ℕ) (fault : LdfFault) : Type 0 where
+  pub some : fault ≢ ldf.OutOfMemory
+  pub nothing : (read : FieldText) → Reads text read → ⊥
+  pub first : (lexed : LdfFault) → IsLexFault (field_bytes text) lexed → lexed ≢ ldf.OutOfMemory
+      → fault ≡ lexed
+
+-- what a text of the field is settled to, and the bytes that are left of it; or why it isn't
+abbrev pub AnswersSettled : Result Settled Fault → List ℕ → List ℕ → Type 0
+AnswersSettled (Ok s) text left = IsSettled text s × IsReadOver text left
+AnswersSettled (Err (Ldf f)) text left = IsFieldFault text f
+AnswersSettled (Err OutOfMemory) text left = Unit {0}
+AnswersSettled (Err _) text left = ⊥
+
+-- what is wrong with what a text is settled to
+abbrev pub CheckFaults : Fault → Settled → Type 0
+CheckFaults (Remarks found) s = IsRefusalOf s (check.Remarks found.0)
+CheckFaults OutOfMemory s = Unit {0}
+CheckFaults _ s = ⊥
+
+-- its cluster, and these are the warnings
+pub record IsFieldCluster (s : Settled) (answer : Parts) (warned : List Remark) : Type 0 where
+  pub free : IsFieldFree s
+  pub said : answer ≡ parts_of s.description
+  pub warnings : AreRemarks s warned
+
+abbrev pub ChecksField : Settled → Result Checked Fault → Type 0
+ChecksField s (Ok checked) = IsFieldCluster s checked.cluster checked.warnings
+ChecksField s (Err fault) = CheckFaults fault s
+
+abbrev pub AnswersChecked : Settled → Result Parts Fault → List Remark → Type 0
+AnswersChecked s (Ok answer) warned = IsFieldCluster s answer warned
+AnswersChecked s (Err fault) warned = CheckFaults fault s
+
+-- when a reader has this fault: what it has is told, or it isn't
+abbrev pub ReadFaults : Fault → Option (List ℕ) → Type 0
+ReadFaults LdfTooLong told = IfSome told (λ bytes. 4194304 < length bytes)
+ReadFaults OutOfMemory told = Unit {0}
+ReadFaults ReadFailed told = Unit {0}
+ReadFaults _ told = ⊥
+
+-- what is answered to a text of the field that isn't too long, with these warnings
+abbrev pub AnswersFieldText : Result Parts Fault → List Remark → List ℕ → Type 0
+AnswersFieldText (Ok answer) warned text =
+    (s : Settled) × IsSettled text s × IsFieldCluster s answer warned
+AnswersFieldText (Err (Ldf f)) warned text = IsFieldFault text f
+AnswersFieldText (Err fault) warned text = (s : Settled) × IsSettled text s × CheckFaults fault s
+
+-- to what the reader has, where that is told
+abbrev pub FieldRead : Result Parts Fault → List Remark → Option (List ℕ) → Type 0
+FieldRead result warned told =
+    (text : List ℕ) × IfSome told (λ bytes. text ≡ bytes) × (length text ≤ 4194304)
+    × AnswersFieldText result warned text
+
+-- what is answered to a reader of a text of the field
+abbrev pub AnswersField : Result Parts Fault → List Remark → Option (List ℕ) → Type 0
+AnswersField (Ok answer) warned told = FieldRead (Ok answer) warned told
+AnswersField (Err (Ldf f)) warned told = FieldRead (Err (Ldf f)) warned told
+AnswersField (Err (Remarks found)) warned told = FieldRead (Err (Remarks found)) warned told
+AnswersField (Err fault) warned told = ReadFaults fault told
+
+-- of the plain text of what a text of the field is settled to a beginning was written, and after Ok all
+-- of it
+pub record IsWrittenPlain (old new : Option (List ℕ)) (result : Result Unit Fault) (text : List ℕ)
+    : Type 0 where
+  pub s : Settled
+  pub settled : IsSettled text s
+  pub free : IsFieldFree s
+  pub left : List ℕ
+  pub over : IsReadOver text left
+  pub written : (ts : List Token) → AreTokens left ts
+      → WritesText old new result (plain_text (plain_data s.header s.description left ts))
+
+-- what writing a text of the field as a plain one answers
+abbrev pub WritesPlain : Option (List ℕ) → Option (List ℕ) → Result Unit Fault → List ℕ → Type 0
+WritesPlain old new (Err (Ldf f)) text = IsFieldFault text f
+WritesPlain old new (Err (Remarks found)) text =
+    (s : Settled) × IsSettled text s × IsRefusalOf s (check.Remarks found.0)
+WritesPlain old new (Err OutOfMemory) text = Unit {0}
+WritesPlain old new (Ok done) text = IsWrittenPlain old new (Ok done) text
+WritesPlain old new (Err WriteFailed) text = IsWrittenPlain old new (Err WriteFailed) text
+WritesPlain old new (Err _) text = ⊥

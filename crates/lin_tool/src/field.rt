@@ -1,0 +1,144 @@
+//! Clusters from LDF texts of the field.
+
+ghost use Rattle.lin_tool.specs.Field.{AnswersChecked, AnswersField, AnswersSettled, ChecksField};
+ghost use Rattle.lin_tool.specs.Field.{WritesPlain};
+
+use crate::describing::{fault_of, let_go, read_text};
+use crate::fault::Fault;
+use crate::findings::Remarks;
+use crate::notes::Notes;
+use lin_cluster_parts::Cluster;
+use lin_field::{
+    Checked, FieldFault, Settled, check_field, read_field, read_over_bytes, settle, write_plain,
+};
+use std::alloc::{AllocError, Global};
+use std::io::{Read, Write};
+
+/// What a text of the field is settled to. In the bytes what is read over becomes spaces.
+///
+/// # Errors
+/// `Ldf` for the first fault of the text; `OutOfMemory`.
+fn settled_of(alloc: Global, bytes: &mut [u8]) -> Result<Settled, Fault>
+    ensures { AnswersSettled result bytes.old bytes.new }
+{
+    match read_field(alloc, bytes) {
+        Ok(text) => Ok(settle(alloc, text)?),
+        Err(fault) => Err(fault_of(fault)),
+    }
+}
+
+fn check_settled(alloc: Global, settled: &Settled) -> Result<Checked, Fault>
+    ensures { ChecksField settled.now result }
+{
+    match check_field(alloc, settled) {
+        Ok(checked) => Ok(checked),
+        Err(FieldFault::OutOfMemory) => Err(Fault::OutOfMemory),
+        Err(FieldFault::Remarks(remarks)) => Err(Fault::Remarks(Remarks(remarks))),
+    }
+}
+
+/// With how many warnings a text of the field is read.
+///
+/// # Errors
+/// `Ldf`, `Remarks` or `OutOfMemory`, where it isn't.
+pub(crate) fn warnings_of(alloc: Global, bytes: &mut [u8]) -> Result<usize, Fault> {
+    let settled = settled_of(alloc, bytes)?;
+    Ok(check_settled(alloc, &settled)?.warnings.as_slice().len())
+}
+
+/// The text where the notes want it; its bytes that are read over are spaces. (Its marks stand.)
+fn noted_text(alloc: Global, bytes: &[u8], notes: &Notes<'_>) -> Result<Vec<u8>, AllocError> {
+    if !notes.is_text_wanted() {
+        return Ok(Vec::new(alloc));
+    }
+    let mut text = Vec::from_slice(alloc, bytes)?;
+    read_over_bytes(text.as_mut_slice());
+    Ok(text)
+}
+
+/// What a text of the field is settled to, as of `settled_of`. Where it is at fault, the notes tell
+/// where in `text`.
+fn settled_noted(
+    alloc: Global,
+    bytes: &mut [u8],
+    text: &[u8],
+    notes: &mut Notes<'_>,
+) -> Result<Settled, Fault>
+    ensures { AnswersSettled result bytes.old bytes.new }
+{
+    let answer = settled_of(alloc, bytes);
+    if let Err(fault) = &answer {
+        notes.add_text(alloc, text, fault)?;
+    }
+    answer
+}
+
+/// The cluster of what a text of the field is settled to. The notes keep its warnings, or tell where
+/// something is wrong in `text`.
+///
+/// # Errors
+/// `Remarks` for all that is wrong, and all warnings; `OutOfMemory`.
+fn cluster_noted(
+    alloc: Global,
+    settled: &Settled,
+    text: &[u8],
+    notes: &mut Notes<'_>,
+) -> Result<Cluster, Fault>
+    ensures { AnswersChecked settled.now result notes.new.warnings }
+{
+    let answer = check_settled(alloc, settled);
+    match &answer {
+        Ok(checked) => notes.add_remarks(alloc, text, checked.warnings.as_slice())?,
+        Err(Fault::Remarks(remarks)) => notes.add_remarks(alloc, text, remarks.0.as_slice())?,
+        Err(_) => {}
+    }
+    let Checked { cluster, warnings } = answer?;
+    notes.keep_warnings(warnings);
+    Ok(cluster)
+}
+
+/// The cluster that a text of the field describes, as a reader gives it. The notes keep its
+/// warnings, or tell where it is at fault.
+///
+/// # Errors
+/// Those of `read_text`; `Ldf` for the first fault of the text; `Remarks` for all the reasons why it
+/// describes no cluster, and all warnings; `OutOfMemory`.
+#[tactic(auto, using(crate::proofs::FieldTexts::unsettled, crate::proofs::FieldTexts::checked, crate::proofs::FieldTexts::field_unread))]
+pub fn field_of_reader<R: Read>(
+    alloc: Global,
+    reader: &mut R,
+    notes: &mut Notes<'_>,
+) -> Result<Cluster, Fault>
+    ensures { AnswersField result notes.new.warnings (R.remaining reader.old) }
+{
+    let mut bytes = read_text(alloc, reader)?;
+    let text = noted_text(alloc, bytes.as_slice(), notes)?;
+    let settled = settled_noted(alloc, bytes.as_mut_slice(), text.as_slice(), notes)?;
+    let_go(&mut bytes);
+    cluster_noted(alloc, &settled, text.as_slice(), notes)
+}
+
+/// Writes a plain LDF text of what a text of the field is settled to.
+///
+/// # Errors
+/// Those of `field_of_reader` but for reading, after which nothing was written; `WriteFailed`, where
+/// what was written is the beginning of the text.
+pub(crate) fn write_field<W: Write>(
+    alloc: Global,
+    bytes: Vec<u8>,
+    writer: &mut W,
+    notes: &mut Notes<'_>,
+) -> Result<(), Fault>
+    ensures { WritesPlain (W.contents writer.old) (W.contents writer.new) result bytes.items }
+{
+    let mut bytes = bytes;
+    let text = noted_text(alloc, bytes.as_slice(), notes)?;
+    let settled = settled_noted(alloc, bytes.as_mut_slice(), text.as_slice(), notes)?;
+    match cluster_noted(alloc, &settled, text.as_slice(), notes) {
+        Ok(_cluster) => match write_plain(alloc, &settled, bytes.as_slice(), writer)? {
+            Ok(()) => Ok(()),
+            Err(_) => Err(Fault::WriteFailed),
+        },
+        Err(fault) => Err(fault),
+    }
+}
