@@ -13,3 +13,9 @@ pub mod LineForms
 pub mod Transcripts
 pub mod Scripts
 pub mod Inputs
+pub mod Limits
+pub mod Widens
+pub mod PlainItems
+pub mod PlainErrors
+pub mod PlainSections
+pub mod Texts

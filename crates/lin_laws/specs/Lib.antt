@@ -1,2 +1,3 @@
 pub mod NamedScripts
 pub mod Transcripts
+pub mod Texts

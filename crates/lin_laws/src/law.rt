@@ -1,6 +1,7 @@
-//! What holds of logs with names.
+//! What holds of logs with names, of transcripts, and of plain LDF texts.
 
 ghost use Rattle.lin_laws.specs.NamedScripts.{NamedLogs, NamedLogsOfTexts};
+ghost use Rattle.lin_laws.specs.Texts.{PlainTextsAreRead};
 ghost use Rattle.lin_laws.specs.Transcripts.{LastLinesAreRemarks, LinesHaveNoLf};
 ghost use Rattle.lin_laws.specs.Transcripts.{TranscriptsAreBenchScripts, TranscriptsAreLogs};
 ghost use Rattle.lin_laws.specs.Transcripts.{TranscriptsAreInputs, TranscriptsAreScripts};
@@ -28,4 +29,11 @@ pub fn transcripts_are_logs()
     ensures inputs { TranscriptsAreInputs }
     ensures remarks { LastLinesAreRemarks }
     ensures lines { LinesHaveNoLf }
+{}
+
+/// What a plain LDF text describes, it says as a text of the field, with the versions of its header.
+/// It has none of the bytes that are read as spaces and none of the words of texts of the field, and
+/// no `response_error = WORD , ;`, of which a plain text doesn't take the WORD.
+pub fn plain_texts_are_read()
+    ensures { PlainTextsAreRead }
 {}

@@ -3,4 +3,4 @@
 
 mod law;
 
-pub use law::{named_logs_say_the_same, transcripts_are_logs};
+pub use law::{named_logs_say_the_same, plain_texts_are_read, transcripts_are_logs};
