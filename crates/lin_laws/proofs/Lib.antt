@@ -13,9 +13,11 @@ pub mod LineForms
 pub mod Transcripts
 pub mod Scripts
 pub mod Inputs
+pub mod LdfTokens
 pub mod Limits
 pub mod Widens
 pub mod PlainItems
 pub mod PlainErrors
 pub mod PlainSections
+pub mod PlainTables
 pub mod Texts

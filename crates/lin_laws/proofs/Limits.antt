@@ -1,5 +1,5 @@
 -- Which tokens stay where the marks that a text has too many are left out.
-use Rattle.std.proofs.Common.{◌≡◌, ◌++◌, ◌&&◌, ◌||◌, Bool, true, false, not, List, [], ◌∷◌, refl, sym, ap, subst}
+use Rattle.std.proofs.Common.{◌≡◌, ◌++◌, ◌&&◌, ◌||◌, ◌⊎◌, Bool, true, false, not, List, [], ◌∷◌, refl, sym, ap, subst, inl, inr}
 use Rattle.lin_ldf.specs.Forms.{is_front}
 use Rattle.lin_ldf.specs.GrammarLaws.{not_true}
 use Rattle.lin_ldf.specs.Loops.{is_next}
@@ -7,6 +7,7 @@ use Rattle.lin_ldf.specs.Symbols.{Symbol, is_kind}
 use Rattle.lin_ldf.specs.declared.token.TokenKind.{TokenKind}
 use Rattle.lin_ldf.specs.declared.token.TokenKind.TheVariants as kinds
 use Rattle.lin_field.specs.Marks.{is_extra, mended}
+use Rattle.lin_laws.proofs.LdfTokens.{AreOfKind}
 use Rattle.lin_laws.specs.Texts.{HasNoErrorAndComma, is_field_word, uses_field_words}
 
 -- ---- tokens of plain texts
@@ -14,6 +15,7 @@ use Rattle.lin_laws.specs.Texts.{HasNoErrorAndComma, is_field_word, uses_field_w
 pub record IsClean (ts : List Symbol) : Type 0 where
   pub words : uses_field_words ts ≡ false
   pub errors : HasNoErrorAndComma ts
+  pub tokens : AreOfKind ts
 
 pub neither : (a b : Bool) → (a || b) ≡ false → (a ≡ false) × (b ≡ false)
 neither true b e = absurd cc
@@ -26,6 +28,7 @@ pub clean_tail : (t : Symbol) (ts : List Symbol) → IsClean (t ∷ ts) → IsCl
 clean_tail t ts c = record {
   words = (neither (is_field_word t) (uses_field_words ts) c.words).1;
   errors = λ before us name rest e h. c.errors (t ∷ before) us name rest (ap (λ (x : List Symbol). t ∷ x) e) h;
+  tokens = c.tokens.1;
 }
 
 pub clean_behind : (w rest : List Symbol) → IsClean (w ++ rest) → IsClean rest
@@ -66,13 +69,9 @@ no_front (t ∷ ts) e = no_end (is_kind kinds.Semicolon t.kind) (is_kind kinds.C
 pub covered : (a b : Limit) (ts : List Symbol) → covers a b ≡ true → allows a ts ≡ true → allows b ts ≡ true
 covered NoEnd NoEnd ts c e = e
 covered NoEnd NoSemicolon ts c e = no_front ts e
-covered NoEnd Anything ts c e = refl
-covered NoSemicolon NoEnd ts c e = absurd cc
 covered NoSemicolon NoSemicolon ts c e = e
-covered NoSemicolon Anything ts c e = refl
-covered Anything Anything ts c e = refl
-covered Anything NoSemicolon ts c e = absurd cc
-covered Anything NoEnd ts c e = absurd cc
+covered a Anything ts c e = refl
+covered _ _ ts c e = absurd cc
 
 pub covers_self : (a : Limit) → covers a a ≡ true
 covers_self Anything = refl
@@ -92,15 +91,7 @@ last_limit _ = Anything
 
 pub kind_first : (k : TokenKind) (t : Symbol) (ts : List Symbol) → t.kind ≡ k → allows (first_limit k) (t ∷ ts) ≡ true
 kind_first kinds.Semicolon t ts e = refl
-kind_first kinds.CloseBrace t ts e = rw e refl
-kind_first kinds.Word t ts e = rw e refl
-kind_first kinds.Number t ts e = rw e refl
-kind_first kinds.Text t ts e = rw e refl
-kind_first kinds.OpenBrace t ts e = rw e refl
-kind_first kinds.Colon t ts e = rw e refl
-kind_first kinds.Comma t ts e = rw e refl
-kind_first kinds.Equals t ts e = rw e refl
-kind_first kinds.Other t ts e = rw e refl
+kind_first _ t ts e = rw e refl
 
 comma_stays : (a b : Bool) → not a ≡ true → (a || (false && b)) ≡ false
 comma_stays true b e = absurd cc
@@ -111,16 +102,9 @@ is_left_out kind ts = is_front (λ u. is_extra kind u.kind) ts
 
 kind_stays : (k : TokenKind) (ts : List Symbol) → allows (last_limit k) ts ≡ true → is_left_out k ts ≡ false
 kind_stays k [] e = refl
-kind_stays kinds.Word (u ∷ us) e = refl
-kind_stays kinds.Number (u ∷ us) e = refl
-kind_stays kinds.Text (u ∷ us) e = refl
-kind_stays kinds.OpenBrace (u ∷ us) e = refl
-kind_stays kinds.CloseBrace (u ∷ us) e = refl
-kind_stays kinds.Colon (u ∷ us) e = refl
 kind_stays kinds.Semicolon (u ∷ us) e = not_true _ e
 kind_stays kinds.Comma (u ∷ us) e = comma_stays (is_end u) (is_kind kinds.Semicolon u.kind) e
-kind_stays kinds.Equals (u ∷ us) e = refl
-kind_stays kinds.Other (u ∷ us) e = refl
+kind_stays _ (u ∷ us) e = refl
 
 pub stays : (t : Symbol) (ts : List Symbol) → is_left_out t.kind ts ≡ false → mended (t ∷ ts) ≡ t ∷ mended ts
 stays t ts e = rw e refl
@@ -130,6 +114,21 @@ kept t ts e = stays t ts (kind_stays t.kind ts e)
 
 pub goes : (t : Symbol) (ts : List Symbol) → is_left_out t.kind ts ≡ true → mended (t ∷ ts) ≡ mended ts
 goes t ts e = rw e refl
+
+comma_goes : (a b : Bool) → (a || (false && b)) ≡ true → a ≡ true
+comma_goes true b e = refl
+comma_goes false b e = absurd cc
+
+-- a mark that is left out is a comma before an end, or a semicolon before one
+abbrev pub IsMarkBefore : TokenKind → List Symbol → Type 0
+IsMarkBefore kind ts =
+    ((kind ≡ kinds.Comma) × (is_front is_end ts ≡ true)) ⊎ ((kind ≡ kinds.Semicolon) × (is_next kinds.Semicolon ts ≡ true))
+
+pub left_out : (kind : TokenKind) (ts : List Symbol) → is_left_out kind ts ≡ true → IsMarkBefore kind ts
+left_out kind [] e = absurd cc
+left_out kinds.Comma (t ∷ ts) e = inl (refl, comma_goes (is_end t) (is_kind kinds.Semicolon t.kind) e)
+left_out kinds.Semicolon (t ∷ ts) e = inr (refl, e)
+left_out _ (t ∷ ts) e = absurd cc
 
 -- ---- kinds
 

@@ -1,5 +1,5 @@
 -- The signal that a response_error names stays the same where marks are left out.
-use Rattle.std.proofs.Common.{◌≡◌, ◌∙◌, ◌&&◌, ◌||◌, Bool, true, false, List, [], ◌∷◌, Option, Some, None, refl, sym, ap, subst}
+use Rattle.std.proofs.Common.{◌≡◌, ◌∙◌, ◌||◌, Bool, true, false, List, [], ◌∷◌, Option, Some, None, refl, sym, ap, subst}
 use Rattle.std.specs.Prelude.{codes}
 use Rattle.std.specs.Option.{option_map}
 use Rattle.std.proofs.Common.{inl, inr}
@@ -8,35 +8,25 @@ use Rattle.lin_description.specs.declared.description.Name.{Name}
 use Rattle.lin_ldf.specs.Forms.{◌<&◌, is_front, is_keyword}
 use Rattle.lin_ldf.specs.Grammar.{attribute_words, general, named_error}
 use Rattle.lin_ldf.specs.GrammarLaws.{is_of, is_word, other_is_word}
-use Rattle.lin_ldf.specs.KindLaws.{semicolon_is, word_is}
+use Rattle.lin_ldf.specs.KindLaws.{word_is}
 use Rattle.lin_ldf.specs.Symbols.{Symbol, is_kind}
 use Rattle.lin_ldf.specs.Words.{name_of, semicolon, word}
 use Rattle.lin_ldf.specs.declared.token.TokenKind.{TokenKind}
 use Rattle.lin_ldf.specs.declared.token.TokenKind.TheVariants as kinds
-use Rattle.lin_field.specs.Marks.{is_extra, mended}
+use Rattle.lin_field.specs.Marks.{mended}
 use Rattle.lin_laws.specs.Texts.{HasNoErrorAndComma}
-use Rattle.lin_laws.proofs.Limits.{Anything, IsClean, goes, is_end, is_left_out, kept, kind_is, last_limit, stays}
+use Rattle.lin_laws.proofs.Limits.{Anything, IsClean, goes, is_end, is_left_out, kept, kind_is, last_limit, left_out, stays}
 
 abbrev is_semicolon : Symbol → Bool
 is_semicolon t = is_of kinds.Semicolon t
 
-without_nothing : (a b : Bool) → (a || (false && b)) ≡ true → a ≡ true
-without_nothing true b e = refl
-without_nothing false b e = absurd cc
+semicolon_ends : (ts : List Symbol) → is_front is_semicolon ts ≡ true → is_front is_end ts ≡ true
+semicolon_ends [] e = absurd cc
+semicolon_ends (t ∷ ts) e = ap (λ b. b || is_kind kinds.CloseBrace t.kind) e
 
 -- before such a token alone a mark is left out
 before_end : (kind : TokenKind) (ts : List Symbol) → is_left_out kind ts ≡ true → is_front is_end ts ≡ true
-before_end kind [] e = absurd cc
-before_end kinds.Comma (t ∷ ts) e = without_nothing (is_end t) (is_semicolon t) e
-before_end kinds.Semicolon (t ∷ ts) e = ap (λ b. b || is_kind kinds.CloseBrace t.kind) e
-before_end kinds.Word (t ∷ ts) e = absurd cc
-before_end kinds.Number (t ∷ ts) e = absurd cc
-before_end kinds.Text (t ∷ ts) e = absurd cc
-before_end kinds.OpenBrace (t ∷ ts) e = absurd cc
-before_end kinds.CloseBrace (t ∷ ts) e = absurd cc
-before_end kinds.Colon (t ∷ ts) e = absurd cc
-before_end kinds.Equals (t ∷ ts) e = absurd cc
-before_end kinds.Other (t ∷ ts) e = absurd cc
+before_end kind ts e = elim (left_out kind ts e) [ inl m ↦ m.1 | inr m ↦ semicolon_ends ts m.1 ]
 
 end_no_word : (kind : TokenKind) → (is_kind kinds.Semicolon kind || is_kind kinds.CloseBrace kind) ≡ true → is_kind kinds.Word kind ≡ false
 end_no_word kinds.Word e = absurd cc
@@ -56,8 +46,10 @@ no_word_stays (t ∷ ts) e =
     ] refl
 
 semicolon_before : (t : Symbol) (ts : List Symbol) → is_semicolon t ≡ true → is_left_out t.kind ts ≡ true → is_front is_semicolon ts ≡ true
-semicolon_before t [] e is = absurd cc
-semicolon_before t (u ∷ us) e is = subst (λ (k : TokenKind). is_extra k u.kind ≡ true) (semicolon_is t.kind e) is
+semicolon_before t ts e is = elim (left_out t.kind ts is) [
+  | inl m ↦ let bad : false ≡ true = ap (is_kind kinds.Semicolon) (sym m.0) ∙ e in absurd cc
+  | inr m ↦ m.1
+]
 
 -- what begins with a semicolon still does
 semicolon_stays : (ts : List Symbol) → is_front is_semicolon ts ≡ true → is_front is_semicolon (mended ts) ≡ true
@@ -70,31 +62,27 @@ semicolon_stays (t ∷ ts) e =
 
 -- a comma and a semicolon
 abbrev IsSpoiled : List Symbol → Type 0
-IsSpoiled ts = (y : Symbol) × (z : Symbol) × (rest : List Symbol) × (ts ≡ y ∷ z ∷ rest) × (is_kind kinds.Comma y.kind ≡ true) × (is_semicolon z ≡ true)
+IsSpoiled ts = (y : Symbol) × (z : Symbol) × (rest : List Symbol) × (ts ≡ y ∷ z ∷ rest) × (is_kind kinds.Comma y.kind ≡ true) ×
+    (is_semicolon z ≡ true)
 
-left_out_comma : (kind : TokenKind) (ts : List Symbol) → is_kind kinds.Semicolon kind ≡ false → is_left_out kind ts ≡ true → is_kind kinds.Comma kind ≡ true
-left_out_comma kind [] absent e = absurd cc
-left_out_comma kinds.Comma (t ∷ ts) absent e = refl
-left_out_comma kinds.Semicolon (t ∷ ts) absent e = absurd cc
-left_out_comma kinds.Word (t ∷ ts) absent e = absurd cc
-left_out_comma kinds.Number (t ∷ ts) absent e = absurd cc
-left_out_comma kinds.Text (t ∷ ts) absent e = absurd cc
-left_out_comma kinds.OpenBrace (t ∷ ts) absent e = absurd cc
-left_out_comma kinds.CloseBrace (t ∷ ts) absent e = absurd cc
-left_out_comma kinds.Colon (t ∷ ts) absent e = absurd cc
-left_out_comma kinds.Equals (t ∷ ts) absent e = absurd cc
-left_out_comma kinds.Other (t ∷ ts) absent e = absurd cc
+left_out_comma : (kind : TokenKind) (ts : List Symbol) → is_kind kinds.Semicolon kind ≡ false → is_left_out kind ts ≡ true
+    → is_kind kinds.Comma kind ≡ true
+left_out_comma kind ts other e = elim (left_out kind ts e) [
+  | inl m ↦ rw (m.0) refl
+  | inr m ↦ let bad : true ≡ false = ap (is_kind kinds.Semicolon) (sym m.0) ∙ other in absurd cc
+]
 
-brace_no_semicolon : (kind : TokenKind) → is_kind kinds.Semicolon kind ≡ false → (is_kind kinds.Semicolon kind || is_kind kinds.CloseBrace kind) ≡ true → kind ≡ kinds.CloseBrace
-brace_no_semicolon kinds.CloseBrace absent e = refl
-brace_no_semicolon _ absent e = absurd cc
+brace_no_semicolon : (kind : TokenKind) → is_kind kinds.Semicolon kind ≡ false
+    → (is_kind kinds.Semicolon kind || is_kind kinds.CloseBrace kind) ≡ true → kind ≡ kinds.CloseBrace
+brace_no_semicolon kinds.CloseBrace other e = refl
+brace_no_semicolon _ other e = absurd cc
 
 -- what comes after a brace, or nothing, begins with no semicolon
 brace_stays : (ts : List Symbol) → is_front is_end ts ≡ true → is_front is_semicolon ts ≡ false → is_front is_semicolon (mended ts) ≡ false
-brace_stays [] e absent = refl
-brace_stays (t ∷ ts) e absent =
-    let is : t.kind ≡ kinds.CloseBrace = brace_no_semicolon t.kind absent e in
-    rw (kept t ts (rw is refl)) absent
+brace_stays [] e other = refl
+brace_stays (t ∷ ts) e other =
+    let is : t.kind ≡ kinds.CloseBrace = brace_no_semicolon t.kind other e in
+    rw (kept t ts (rw is refl)) other
 
 -- what begins with no semicolon begins with none then, but for a comma before one
 no_semicolon_stays : (ts : List Symbol) → (IsSpoiled ts → ⊥) → is_front is_semicolon ts ≡ false → is_front is_semicolon (mended ts) ≡ false

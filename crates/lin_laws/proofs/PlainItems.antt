@@ -1,5 +1,5 @@
 -- The productions of plain texts, down to their items, in texts of the field.
-use Rattle.std.proofs.Common.{◌≡◌, ◌∙◌, ◌+◌, ◌-◌, ◌++◌, ◌&&◌, ℕ, Bool, true, false, not, List, [], ◌∷◌, Option, Some, None, refl, sym, ap, subst, map, arith, cond}
+use Rattle.std.proofs.Common.{inl, inr, ◌≡◌, ◌∙◌, ◌+◌, ◌-◌, ◌++◌, ◌&&◌, ℕ, Bool, true, false, not, List, [], ◌∷◌, Option, Some, None, refl, sym, ap, subst, map, arith, cond}
 use Rattle.std.specs.Prelude.{codes}
 use Rattle.std.proofs.lemmas.Bool.{eqb-true}
 use Rattle.lin_ldf.specs.Forms.{Form, ◌>>=◌, ◌&◌, ◌&>◌, ◌<&◌, is_keyword, keyword, mark, nothing}
@@ -18,7 +18,7 @@ use Rattle.lin_field.specs.Grammar as field
 use Rattle.lin_field.specs.Marks.{mended}
 use Rattle.lin_field.specs.PlainTexts.{exact, loose_entry, loose_event, loose_frame, loose_table}
 use Rattle.lin_field.specs.declared.loose.LooseNodes.{LooseNodes}
-use Rattle.lin_laws.proofs.Limits.{IsClean, IsWithin, Limit, clean_behind, covers, covers_anything, first_limit, goes, is_left_out, kind_is, last_limit, stays, within_kind}
+use Rattle.lin_laws.proofs.Limits.{IsClean, IsWithin, Limit, clean_behind, covers, covers_anything, first_limit, goes, is_left_out, kind_is, last_limit, left_out, stays, within_kind}
 use Rattle.lin_laws.proofs.Limits.{Anything, NoEnd, NoSemicolon}
 use Rattle.lin_laws.proofs.Widens.{Widens, both, into_left, into_right, left, mark_moved, regrouped, relaxed, right, same_either, same_nothing, same_token, several_widens, then, token_widens, value, value_of}
 
@@ -116,27 +116,19 @@ same_new_words seen = same_list_of with_name new_word same_new_word seen
 pub same_block : {A S : Type 0} {e : Limit} (next : S → A → S) (f : S → Form A) → ((s : S) → Widens NoEnd e (f s) (f s) (λ a. a))
     → covers NoSemicolon e ≡ true → (s : S) → Widens NoEnd Anything (block next f s) (block next f s) (λ xs. xs)
 same_block {e = e} next f p is s =
-    right (same_mark kinds.OpenBrace) (left (several_widens next next f f (λ a. a) (λ xs. xs) refl (λ a xs. refl) (λ x a. refl) p no_word no_word s) (same_mark kinds.CloseBrace) is) (covers_anything e)
+    right (same_mark kinds.OpenBrace) (left (several_widens next next f f (λ a. a) (λ xs. xs) refl (λ a xs. refl) (λ x a. refl) p no_word no_word s)
+    (same_mark kinds.CloseBrace) is) (covers_anything e)
 
 pub block_widens : {A B S : Type 0} {e : Limit} (next : S → A → S) (wide : S → B → S) (f : S → Form A) (g : S → Form B) (h : A → B)
     → ((s : S) → Widens NoEnd e (f s) (g s) h) → covers NoSemicolon e ≡ true → ((s : S) (a : A) → wide s (h a) ≡ next s a) → (s : S)
     → Widens NoEnd Anything (block next f s) (block wide g s) (map h)
 block_widens {e = e} next wide f g h p is same s =
-    right (same_mark kinds.OpenBrace) (left (several_widens next wide f g h (map h) refl (λ a xs. refl) same p no_word no_word s) (same_mark kinds.CloseBrace) is) (covers_anything e)
+    right (same_mark kinds.OpenBrace) (left (several_widens next wide f g h (map h) refl (λ a xs. refl) same p no_word no_word s)
+    (same_mark kinds.CloseBrace) is) (covers_anything e)
 
 -- marks that are left out open and close nothing
 same_depth : (kind : TokenKind) (ts : List Symbol) (n : ℕ) → is_left_out kind ts ≡ true → depth_behind n kind ≡ Some n
-same_depth kind [] n e = absurd cc
-same_depth kinds.Comma (t ∷ ts) n e = refl
-same_depth kinds.Semicolon (t ∷ ts) n e = refl
-same_depth kinds.Word (t ∷ ts) n e = refl
-same_depth kinds.Number (t ∷ ts) n e = refl
-same_depth kinds.Text (t ∷ ts) n e = refl
-same_depth kinds.Colon (t ∷ ts) n e = refl
-same_depth kinds.Equals (t ∷ ts) n e = refl
-same_depth kinds.Other (t ∷ ts) n e = refl
-same_depth kinds.OpenBrace (t ∷ ts) n e = absurd cc
-same_depth kinds.CloseBrace (t ∷ ts) n e = absurd cc
+same_depth kind ts n e = elim (left_out kind ts e) [ inl m ↦ rw (m.0) refl | inr m ↦ rw (m.0) refl ]
 
 unended : (b : Bool) (o : Option ℕ) (m : ℕ) → cond b None o ≡ Some m → (b ≡ false) × (o ≡ Some m)
 unended true o m e = absurd cc
@@ -193,24 +185,29 @@ master_end =
 master_widens : (seen : List (List ℕ))
     → Widens NoEnd NoSemicolon (plain.master seen) (field.master seen) (λ m. (m.0, (exact m.1.0, exact m.1.1)))
 master_widens seen =
-    right (keyword_mark (codes "Master") kinds.Colon) (both (left (same_new_word seen) (same_mark kinds.Comma) refl) (both (dec_in_widens (codes "ms") kinds.Comma) master_end refl) refl) refl
+    right (keyword_mark (codes "Master") kinds.Colon)
+    (both (left (same_new_word seen) (same_mark kinds.Comma) refl) (both (dec_in_widens (codes "ms") kinds.Comma) master_end refl) refl) refl
 
 same_slaves : (seen : List (List ℕ)) → Widens NoEnd Anything (plain.slaves seen) (plain.slaves seen) (λ ns. ns)
 same_slaves seen =
-    right (keyword_mark (codes "Slaves") kinds.Colon) (left (left (same_new_words seen) (same_mark kinds.Semicolon) refl) (same_mark kinds.CloseBrace) refl) refl
+    right (keyword_mark (codes "Slaves") kinds.Colon)
+    (left (left (same_new_words seen) (same_mark kinds.Semicolon) refl) (same_mark kinds.CloseBrace) refl) refl
 
 abbrev pub loose_nodes : Nodes → LooseNodes
 loose_nodes n = record { master = n.master; time_base = exact n.time_base; jitter = exact n.jitter; slaves = n.slaves }
 
 pub nodes_widen : Widens NoEnd Anything plain.nodes field.nodes loose_nodes
 nodes_widen =
-    value plain.nodes_of field.nodes_of loose_nodes (right (keyword_mark (codes "Nodes") kinds.OpenBrace) (then (λ m. plain.slaves (with_name [] m.0)) (master_widens []) (λ m. same_slaves (with_name [] m.0)) refl) refl) (λ p. refl)
+    value plain.nodes_of field.nodes_of loose_nodes
+    (right (keyword_mark (codes "Nodes") kinds.OpenBrace)
+    (then (λ m. plain.slaves (with_name [] m.0)) (master_widens []) (λ m. same_slaves (with_name [] m.0)) refl) refl) (λ p. refl)
 
 -- ---- signals
 
 same_array : Widens NoEnd Anything plain.array plain.array (λ a. a)
 same_array =
-    value plain.array_of plain.array_of (λ a. a) (both (same_token NoEnd Anything _ place_of (kind_within kinds.OpenBrace)) (left same_ints (same_mark kinds.CloseBrace) refl) refl) (λ p. refl)
+    value plain.array_of plain.array_of (λ a. a) (both (same_token NoEnd Anything _ place_of (kind_within kinds.OpenBrace))
+    (left same_ints (same_mark kinds.CloseBrace) refl) refl) (λ p. refl)
 
 same_init : Widens NoEnd Anything plain.init plain.init (λ a. a)
 same_init =
@@ -219,7 +216,12 @@ same_init =
 
 same_signal : (seen : List (List ℕ)) → Widens NoEnd NoSemicolon (plain.signal seen) (plain.signal seen) (λ s. s)
 same_signal seen =
-    value plain.signal_of plain.signal_of (λ s. s) (both (left (same_new_word seen) (same_mark kinds.Colon) refl) (both (left same_int (same_mark kinds.Comma) refl) (both (left same_init (same_mark kinds.Comma) refl) (both same_word (left (same_others same_state (λ (s : Unit {0}). word) (λ s. same_word) tt) (same_mark kinds.Semicolon) refl) refl) refl) refl) refl) (λ p. refl)
+    value plain.signal_of plain.signal_of (λ s. s)
+    (both (left (same_new_word seen) (same_mark kinds.Colon) refl)
+    (both (left same_int (same_mark kinds.Comma) refl)
+    (both (left same_init (same_mark kinds.Comma) refl)
+    (both same_word (left (same_others same_state (λ (s : Unit {0}). word) (λ s. same_word) tt)
+    (same_mark kinds.Semicolon) refl) refl) refl) refl) refl) (λ p. refl)
 
 pub same_signals : Widens NoEnd Anything plain.signals plain.signals (λ ss. ss)
 same_signals = right (same_keyword (codes "Signals")) (same_block plain.with_signal plain.signal same_signal refl []) refl
@@ -228,7 +230,8 @@ same_signals = right (same_keyword (codes "Signals")) (same_block plain.with_sig
 
 same_placement : (s : Unit {0}) → Widens NoEnd NoSemicolon plain.placement plain.placement (λ p. p)
 same_placement s =
-    value plain.placed_of plain.placed_of (λ p. p) (both (left same_word (same_mark kinds.Comma) refl) (left same_int (same_mark kinds.Semicolon) refl) refl) (λ p. refl)
+    value plain.placed_of plain.placed_of (λ p. p)
+    (both (left same_word (same_mark kinds.Comma) refl) (left same_int (same_mark kinds.Semicolon) refl) refl) (λ p. refl)
 
 same_placed : Widens NoEnd Anything plain.placed_signals plain.placed_signals (λ ps. ps)
 same_placed = same_block same_state (λ (s : Unit {0}). plain.placement) same_placement refl tt
@@ -243,11 +246,14 @@ frame_rest = mark_moved word comma int plain.placed_signals (both same_word (bot
 
 pub frame_widens : (seen : List (List ℕ)) → Widens NoEnd Anything (plain.frame seen) (field.loose_frame seen) loose_frame
 frame_widens seen =
-    value plain.frame_of field.frame_of loose_frame (both (left (same_new_word seen) (same_mark kinds.Colon) refl) (both (left same_int (same_mark kinds.Comma) refl) frame_rest refl) refl) (λ p. refl)
+    value plain.frame_of field.frame_of loose_frame
+    (both (left (same_new_word seen) (same_mark kinds.Colon) refl) (both (left same_int (same_mark kinds.Comma) refl) frame_rest refl) refl)
+    (λ p. refl)
 
 same_sporadic : (seen : List (List ℕ)) → Widens NoEnd NoSemicolon (plain.sporadic_frame seen) (plain.sporadic_frame seen) (λ f. f)
 same_sporadic seen =
-    value plain.sporadic_of plain.sporadic_of (λ f. f) (both (left (same_new_word seen) (same_mark kinds.Colon) refl) (left same_words (same_mark kinds.Semicolon) refl) refl) (λ p. refl)
+    value plain.sporadic_of plain.sporadic_of (λ f. f)
+    (both (left (same_new_word seen) (same_mark kinds.Colon) refl) (left same_words (same_mark kinds.Semicolon) refl) refl) (λ p. refl)
 
 pub same_sporadics : (seen : List (List ℕ)) → Widens NoEnd Anything (plain.sporadic seen) (plain.sporadic seen) (λ fs. fs)
 same_sporadics seen =
@@ -258,7 +264,10 @@ table_widens = into_left (is_next kinds.Word) (nothing None) (value_of field.som
 
 pub event_widens : (seen : List (List ℕ)) → Widens NoEnd NoSemicolon (plain.event_frame seen) (field.loose_event seen) loose_event
 event_widens seen =
-    value plain.event_of field.event_of loose_event (both (left (same_new_word seen) (same_mark kinds.Colon) refl) (both table_widens (both (left same_int (same_mark kinds.Comma) refl) (left same_words (same_mark kinds.Semicolon) refl) refl) refl) refl) (λ p. refl)
+    value plain.event_of field.event_of loose_event
+    (both (left (same_new_word seen) (same_mark kinds.Colon) refl)
+    (both table_widens (both (left same_int (same_mark kinds.Comma) refl) (left same_words (same_mark kinds.Semicolon) refl) refl) refl) refl)
+    (λ p. refl)
 
 -- ---- schedule tables
 
@@ -269,11 +278,14 @@ same_has_group =
 
 pub entry_widens : (s : Unit {0}) → Widens NoEnd NoSemicolon plain.entry field.loose_entry loose_entry
 entry_widens s =
-    value plain.entry_of field.entry_of loose_entry (both same_word (both (left same_has_group (same_keyword (codes "delay")) refl) (dec_in_widens (codes "ms") kinds.Semicolon) refl) refl) (λ p. refl)
+    value plain.entry_of field.entry_of loose_entry
+    (both same_word (both (left same_has_group (same_keyword (codes "delay")) refl) (dec_in_widens (codes "ms") kinds.Semicolon) refl) refl)
+    (λ p. refl)
 
 entries_widen : Widens NoEnd Anything plain.entries field.loose_entries (map loose_entry)
 entries_widen =
-    block_widens same_state same_state (λ (s : Unit {0}). plain.entry) (λ (s : Unit {0}). field.loose_entry) loose_entry entry_widens refl (λ s a. refl) tt
+    block_widens same_state same_state (λ (s : Unit {0}). plain.entry) (λ (s : Unit {0}). field.loose_entry) loose_entry entry_widens refl
+    (λ s a. refl) tt
 
 pub plain_table_widens : (seen : List (List ℕ)) → Widens NoEnd Anything (plain.table seen) (field.loose_table seen) loose_table
 plain_table_widens seen =

@@ -27,6 +27,9 @@ use Rattle.lin_field.specs.declared.file.FieldWord.{FieldWord}
 use Rattle.lin_field.specs.declared.file.FieldWord.TheVariants as field_words_of
 use Rattle.lin_field.specs.declared.file.LooseSections.{LooseSections}
 use Rattle.lin_field.specs.declared.items.LooseSettings.{LooseSettings}
+use Rattle.lin_field.specs.declared.loose.LooseAttributes.{LooseAttributes}
+use Rattle.lin_field.specs.declared.loose.LooseEvent.{LooseEvent}
+use Rattle.lin_field.specs.declared.loose.LooseFrame.{LooseFrame}
 use Rattle.lin_laws.specs.Texts.{field_words}
 use Rattle.lin_laws.proofs.Limits.{IsClean, Limit, clean_front, kept}
 use Rattle.lin_laws.proofs.Limits.{Anything, NoEnd, NoSemicolon}
@@ -109,7 +112,8 @@ same_configured =
 
 same_general : Widens NoEnd NoSemicolon plain.general plain.general (λ u. u)
 same_general =
-    right (same_word_but plain.attribute_words) (same_either (is_next kinds.Equals) (is_next kinds.Equals) (right (same_mark kinds.Equals) same_list refl)
+    right (same_word_but plain.attribute_words) (same_either (is_next kinds.Equals) (is_next kinds.Equals)
+    (right (same_mark kinds.Equals) same_list refl)
     (relaxed same_group refl refl)) refl
 
 same_named : Widens NoEnd NoSemicolon (as_seen plain.named_error plain.general) (as_seen plain.named_error plain.general) (λ n. n)
@@ -120,11 +124,13 @@ same_named = record {
 }
 
 same_protocols : (s : Settings)
-    → Widens NoEnd NoSemicolon (as_value (plain.with_protocol s) (once s.protocol plain.protocol)) (as_value (plain.with_protocol s) (once s.protocol plain.protocol)) (λ z. z)
+    → Widens NoEnd NoSemicolon (as_value (plain.with_protocol s) (once s.protocol plain.protocol))
+    (as_value (plain.with_protocol s) (once s.protocol plain.protocol)) (λ z. z)
 same_protocols s = value (plain.with_protocol s) (plain.with_protocol s) (λ z. z) (same_once_itself s.protocol same_protocol) (λ p. refl)
 
 same_nads : (s : Settings)
-    → Widens NoEnd NoSemicolon (as_value (plain.with_nad s) (once s.configured_nad plain.configured_nad)) (as_value (plain.with_nad s) (once s.configured_nad plain.configured_nad)) (λ z. z)
+    → Widens NoEnd NoSemicolon (as_value (plain.with_nad s) (once s.configured_nad plain.configured_nad))
+    (as_value (plain.with_nad s) (once s.configured_nad plain.configured_nad)) (λ z. z)
 same_nads s = value (plain.with_nad s) (plain.with_nad s) (λ z. z) (same_once_itself s.configured_nad same_configured) (λ p. refl)
 
 same_attr : (s : Settings) → Widens NoEnd NoSemicolon (plain.attr s) (plain.attr s) (λ z. z)
@@ -144,10 +150,12 @@ attr_front : (s : Settings) (ts : List Symbol) (a : Settings) (rest : List Symbo
     → is_front (is_word_but field.initial_word) (mended ts) ≡ true
 attr_front s ts a rest x c = elim x [
   | inl y ↦ keyword_front (codes "LIN_protocol") field.initial_word refl ts
-      (begins_once plain.protocol (is_keyword (codes "LIN_protocol")) s.protocol (begins_keyword (codes "LIN_protocol") equals (plain.protocol_text <& semicolon)) ts y.0 rest y.1)
+      (begins_once plain.protocol (is_keyword (codes "LIN_protocol")) s.protocol
+      (begins_keyword (codes "LIN_protocol") equals (plain.protocol_text <& semicolon)) ts y.0 rest y.1)
   | inr y ↦ elim y [
     | inl z ↦ keyword_front (codes "configured_NAD") field.initial_word refl ts
-        (begins_once plain.configured_nad (is_keyword (codes "configured_NAD")) s.configured_nad (begins_keyword (codes "configured_NAD") equals (int <& semicolon)) ts z.0 rest z.1)
+        (begins_once plain.configured_nad (is_keyword (codes "configured_NAD")) s.configured_nad
+        (begins_keyword (codes "configured_NAD") equals (int <& semicolon)) ts z.0 rest z.1)
     | inr z ↦ word_front plain.attribute_words field.initial_word refl ts c (general_begins ts tt rest z.1.0)
   ]
 ]
@@ -160,7 +168,9 @@ attr_widens s =
 
 settings_widen : Widens NoEnd Anything plain.settings field.loose_settings loose_settings
 settings_widen =
-    right (same_mark kinds.OpenBrace) (left (gathering_widens plain.attr field.loose_attr loose_settings attr_widens no_word no_word plain.no_settings) (same_mark kinds.CloseBrace) refl) refl
+    right (same_mark kinds.OpenBrace)
+    (left (gathering_widens plain.attr field.loose_attr loose_settings attr_widens no_word no_word plain.no_settings)
+    (same_mark kinds.CloseBrace) refl) refl
 
 block_of_node : (s : NodeBlocks) → Widens NoEnd Anything (plain.attribute_block s) (field.loose_block s) loose_block
 block_of_node s =
@@ -192,7 +202,8 @@ signals_widen s =
     (into_choice plain.front_section (λ w. plain.section_of w sections) words_of.Signals
     (value_of (plain.with_signals sections) (same_once_itself s.signals same_signals)))
     (λ ts a rest x c. keyword_front (codes "Signals") field.field_section_words refl ts
-    (begins_once plain.signals (is_keyword (codes "Signals")) s.signals (begins_word (codes "Signals") (block plain.with_signal plain.signal [])) ts a rest x))) (λ x. refl)
+    (begins_once plain.signals (is_keyword (codes "Signals")) s.signals
+    (begins_word (codes "Signals") (block plain.with_signal plain.signal [])) ts a rest x))) (λ x. refl)
 
 sporadics_widen : (s : Sections)
     → Widens NoEnd Anything (plain.section_of words_of.Sporadic s) (field.loose_section_of field_words_of.Plain (loose_sections s)) loose_sections
@@ -215,32 +226,57 @@ unused_widens s =
     (λ ts a rest x c. word_front plain.section_words field.field_section_words refl ts c
     (begins_other plain.section_words group ts a rest x))) (λ u. refl)
 
+-- the same but for these
+abbrev frames_as : Sections → Option (List LooseFrame) → Option (List LooseEvent) → List (List ℕ) → LooseSections
+frames_as s frames events names =
+    record (loose_sections s) { frames = frames; events = events; plain = record (loose_sections s).plain { frame_names = names } }
+
+abbrev attributes_as : Sections → Option (List LooseAttributes) → NodeBlocks → LooseSections
+attributes_as s attributes blocks =
+    record (loose_sections s) { attributes = attributes; plain = record (loose_sections s).plain { blocks = blocks } }
+
 frames_widen : (s : Sections)
     → Widens NoEnd Anything (plain.section_of words_of.Frames s) (field.loose_section_of field_words_of.Frames (loose_sections s)) loose_sections
 frames_widen s =
-    value (plain.with_frames s) (field.with_frames (loose_sections s)) loose_sections (same_once s.frames (map loose_frame)
-    (right (same_keyword (codes "Frames")) (block_widens plain.with_frame field.with_frame plain.frame field.loose_frame loose_frame frame_widens refl (λ z a. refl) s.frame_names) refl)) (λ x. ap (λ (names : List (List ℕ)). record (loose_sections s) { frames = Some (map loose_frame x); plain = record (loose_sections s).plain { frame_names = names } })
+    value (plain.with_frames s) (field.with_frames (loose_sections s)) loose_sections
+    (same_once s.frames (map loose_frame)
+    (right (same_keyword (codes "Frames"))
+    (block_widens plain.with_frame field.with_frame plain.frame field.loose_frame loose_frame frame_widens refl (λ z a. refl) s.frame_names)
+    refl))
+    (λ x. ap (frames_as s (Some (map loose_frame x)) (loose_sections s).events)
     (same_fold plain.with_frame field.with_frame loose_frame (λ z a. refl) s.frame_names x))
 
 events_widen : (s : Sections)
     → Widens NoEnd Anything (plain.section_of words_of.Event s) (field.loose_section_of field_words_of.Event (loose_sections s)) loose_sections
 events_widen s =
-    value (plain.with_events s) (field.with_events (loose_sections s)) loose_sections (same_once s.events (map loose_event)
-    (right (same_keyword (codes "Event_triggered_frames")) (block_widens plain.with_event field.with_event plain.event_frame field.loose_event loose_event event_widens refl (λ z a. refl) s.frame_names) refl)) (λ x. ap (λ (names : List (List ℕ)). record (loose_sections s) { events = Some (map loose_event x); plain = record (loose_sections s).plain { frame_names = names } })
+    value (plain.with_events s) (field.with_events (loose_sections s)) loose_sections
+    (same_once s.events (map loose_event)
+    (right (same_keyword (codes "Event_triggered_frames"))
+    (block_widens plain.with_event field.with_event plain.event_frame field.loose_event loose_event event_widens refl
+    (λ z a. refl) s.frame_names) refl))
+    (λ x. ap (frames_as s (loose_sections s).frames (Some (map loose_event x)))
     (same_fold plain.with_event field.with_event loose_event (λ z a. refl) s.frame_names x))
 
 attributes_widen : (s : Sections)
-    → Widens NoEnd Anything (plain.section_of words_of.Attributes s) (field.loose_section_of field_words_of.Attributes (loose_sections s)) loose_sections
+    → Widens NoEnd Anything (plain.section_of words_of.Attributes s)
+    (field.loose_section_of field_words_of.Attributes (loose_sections s)) loose_sections
 attributes_widen s =
-    value (plain.with_attributes s) (field.with_attributes (loose_sections s)) loose_sections (same_once s.attributes (map loose_block)
-    (right (same_keyword (codes "Node_attributes")) (block_widens plain.with_block field.with_block plain.attribute_block field.loose_block loose_block block_of_node refl (λ z a. refl) s.blocks) refl)) (λ x. ap (λ (blocks : NodeBlocks). record (loose_sections s) { attributes = Some (map loose_block x); plain = record (loose_sections s).plain { blocks = blocks } })
+    value (plain.with_attributes s) (field.with_attributes (loose_sections s)) loose_sections
+    (same_once s.attributes (map loose_block)
+    (right (same_keyword (codes "Node_attributes"))
+    (block_widens plain.with_block field.with_block plain.attribute_block field.loose_block loose_block block_of_node refl
+    (λ z a. refl) s.blocks) refl))
+    (λ x. ap (attributes_as s (Some (map loose_block x)))
     (same_fold plain.with_block field.with_block loose_block (λ z a. refl) s.blocks x))
 
 tables_widen : (s : Sections)
     → Widens NoEnd Anything (plain.section_of words_of.Tables s) (field.loose_section_of field_words_of.Tables (loose_sections s)) loose_sections
 tables_widen s =
-    value (plain.with_tables s) (field.with_tables (loose_sections s)) loose_sections (same_once s.tables (map loose_table)
-    (right (same_keyword (codes "Schedule_tables")) (block_widens plain.with_table field.with_table plain.table field.loose_table loose_table plain_table_widens refl (λ z a. refl) []) refl)) (λ x. refl)
+    value (plain.with_tables s) (field.with_tables (loose_sections s)) loose_sections
+    (same_once s.tables (map loose_table)
+    (right (same_keyword (codes "Schedule_tables"))
+    (block_widens plain.with_table field.with_table plain.table field.loose_table loose_table plain_table_widens refl (λ z a. refl) []) refl))
+    (λ x. refl)
 
 abbrev into_section : (s : Sections) (w : SectionWord) (k : FieldWord)
     → Widens NoEnd Anything (plain.section_of w s) (field.loose_section_of k (loose_sections s)) loose_sections

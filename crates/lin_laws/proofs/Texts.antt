@@ -1,34 +1,44 @@
 -- Plain texts are read as texts of the field.
-use Rattle.std.proofs.Common.{◌≡◌, ◌∙◌, ◌||◌, ℕ, zero, suc, true, false, List, [], ◌∷◌, Option, Some, None, refl, sym, ap, subst, map}
-use Rattle.std.specs.Prelude.{codes}
-use Rattle.std.specs.Option.{option_map}
 use Rattle.lin_description.specs.declared.description.Description.{Description}
 use Rattle.lin_description.specs.declared.description.Name.{Name}
 use Rattle.lin_description.specs.declared.description.Number.{Number}
+use Rattle.lin_field.proofs.PlainTexts.{plain-stays}
+use Rattle.lin_field.specs.Grammar as field
+use Rattle.lin_field.specs.GrammarLaws.{field_file_takes}
+use Rattle.lin_field.specs.Marks.{mended}
+use Rattle.lin_field.specs.PlainTexts.{NamesTables, StaysPlain, exact, loose_block, loose_event, loose_frame, loose_table, loosened}
+use Rattle.lin_field.specs.declared.header.LineWord.TheVariants as line_words
+use Rattle.lin_field.specs.declared.header.LineWord.{LineWord}
+use Rattle.lin_field.specs.declared.header.Lines.{Lines}
+use Rattle.lin_field.specs.declared.loose.Header.{Header}
+use Rattle.lin_field.specs.declared.loose.Loose.{Loose}
+use Rattle.lin_laws.proofs.LdfTokens.{tokens-kind}
+use Rattle.lin_laws.proofs.Limits.{Anything, IsClean, NoEnd, NoSemicolon, allows, covered}
+use Rattle.lin_laws.proofs.PlainItems.{dec_in_widens, keyword_mark, loose_nodes, nodes_widen, same_list, same_mark, text_within, word_within}
+use Rattle.lin_laws.proofs.PlainSections.{Begins, begins_keyword, keyword_front, loose_sections, section_widens, word_front}
+use Rattle.lin_laws.proofs.PlainTables.{no_sections_named, sections_named}
+use Rattle.lin_laws.proofs.Widens.{Widens, both, gathering_widens, into_choice, into_left, left, right, token_widens, unless_widens, value_of}
+use Rattle.lin_laws.specs.Texts.{IsPlainText, PlainTextsAreRead, PlainTextsSayTheSame}
+use Rattle.lin_ldf.proofs.Unique.{same_tokens}
 use Rattle.lin_ldf.specs.Describes.{Spells}
 use Rattle.lin_ldf.specs.Forms.{Form, ◌&◌, ◌&>◌, ◌<&◌, as_value, is_front, is_keyword, keyword, mark, token}
 use Rattle.lin_ldf.specs.Grammar as plain
 use Rattle.lin_ldf.specs.GrammarLaws.{keyword_is_word, other_is_word}
 use Rattle.lin_ldf.specs.KindLaws.{word_is}
+use Rattle.lin_ldf.specs.Laws.{made_is}
 use Rattle.lin_ldf.specs.Loops.{Steps, is_next}
 use Rattle.lin_ldf.specs.Names.{has_name}
 use Rattle.lin_ldf.specs.Symbols.{Symbol, is_kind, symbols_in}
+use Rattle.lin_ldf.specs.Tokens.{AreTokens, behind_mark, mark_len}
 use Rattle.lin_ldf.specs.Words.{dec_in, equals, is_word_but, list, name_of, new_word, no_word, semicolon, word}
 use Rattle.lin_ldf.specs.declared.header.Nodes.{Nodes}
 use Rattle.lin_ldf.specs.declared.section.Sections.{Sections}
+use Rattle.lin_ldf.specs.declared.token.Token.{Token}
 use Rattle.lin_ldf.specs.declared.token.TokenKind.TheVariants as kinds
-use Rattle.lin_field.specs.Grammar as field
-use Rattle.lin_field.specs.Marks.{mended}
-use Rattle.lin_field.specs.PlainTexts.{exact, loose_block, loose_event, loose_frame, loose_table, loosened}
-use Rattle.lin_field.specs.declared.header.LineWord.{LineWord}
-use Rattle.lin_field.specs.declared.header.LineWord.TheVariants as line_words
-use Rattle.lin_field.specs.declared.header.Lines.{Lines}
-use Rattle.lin_field.specs.declared.loose.Header.{Header}
-use Rattle.lin_laws.specs.Texts.{PlainTextsAreRead}
-use Rattle.lin_laws.proofs.Limits.{Anything, IsClean, NoEnd, NoSemicolon, allows, covered}
-use Rattle.lin_laws.proofs.PlainItems.{dec_in_widens, keyword_mark, loose_nodes, nodes_widen, same_list, same_mark, text_within, word_within}
-use Rattle.lin_laws.proofs.PlainSections.{Begins, begins_keyword, keyword_front, loose_sections, section_widens, word_front}
-use Rattle.lin_laws.proofs.Widens.{Widens, both, gathering_widens, into_choice, into_left, left, right, token_widens, unless_widens, value_of}
+use Rattle.std.proofs.Common.{◌≡◌, ◌∙◌, ◌||◌, ℕ, zero, suc, true, false, List, [], ◌∷◌, Option, Some, None, refl, sym, ap, subst, map}
+use Rattle.std.specs.List.{starts_with}
+use Rattle.std.specs.Option.{option_map}
+use Rattle.std.specs.Prelude.{codes, nat_eq}
 
 -- ---- lines that aren't used
 
@@ -84,7 +94,8 @@ version_widens : (w : List ℕ) → Widens NoEnd NoSemicolon (version_line w) (f
 version_widens w =
     right (keyword_mark w kinds.Equals)
     (left
-    (token_widens NoEnd Anything (λ t. is_kind kinds.Text t.kind) (λ t. is_kind kinds.Text t.kind || is_kind kinds.Number t.kind) plain.protocol_of plain.protocol_of
+    (token_widens NoEnd Anything (λ t. is_kind kinds.Text t.kind)
+    (λ t. is_kind kinds.Text t.kind || is_kind kinds.Number t.kind) plain.protocol_of plain.protocol_of
     (λ v. v) text_within (λ t e absent. (ap (λ b. b || is_kind kinds.Number t.kind) e, refl)))
     (same_mark kinds.Semicolon) refl) refl
 
@@ -110,7 +121,8 @@ abbrev IsBehind : Lines → List Symbol → Lines → List Symbol → Type 0
 IsBehind s ts last rest = (field.lines_behind s).spells ts last rest
 
 joined : (n m : ℕ) (s : Lines) (ts : List Symbol) (mid : Lines) (between : List Symbol) (last : Lines) (rest : List Symbol)
-    → Steps (λ x. (field.one_line x).spells) n s ts mid between → Steps (λ x. (field.one_line x).spells) m mid between last rest → IsBehind s ts last rest
+    → Steps (λ x. (field.one_line x).spells) n s ts mid between → Steps (λ x. (field.one_line x).spells) m mid between last rest
+    → IsBehind s ts last rest
 joined zero m s ts mid between last rest x y =
     subst (λ (us : List Symbol). IsBehind s us last rest) x.1 (subst (λ (z : Lines). IsBehind z between last rest) x.0 (m, y))
 joined (suc n) m s ts mid between last rest x y =
@@ -164,12 +176,14 @@ both_lines v l = field.with_language (first_lines v) l
 protocol_at : Widens NoEnd NoSemicolon (version_line (codes "LIN_protocol_version")) (field.one_line field.no_lines) first_lines
 protocol_at =
     keyword_line (codes "LIN_protocol_version") line_words.Version field.no_lines
-    (value_of (field.with_version field.no_lines) (version_widens (codes "LIN_protocol_version"))) (version_begins (codes "LIN_protocol_version")) refl
+    (value_of (field.with_version field.no_lines) (version_widens (codes "LIN_protocol_version")))
+    (version_begins (codes "LIN_protocol_version")) refl
 
 language_at : (v : List ℕ) → Widens NoEnd NoSemicolon (version_line (codes "LIN_language_version")) (field.one_line (first_lines v)) (both_lines v)
 language_at v =
     keyword_line (codes "LIN_language_version") line_words.Language (first_lines v)
-    (value_of (field.with_language (first_lines v)) (version_widens (codes "LIN_language_version"))) (version_begins (codes "LIN_language_version")) refl
+    (value_of (field.with_language (first_lines v)) (version_widens (codes "LIN_language_version")))
+    (version_begins (codes "LIN_language_version")) refl
 
 speed_at : (v l : List ℕ) → Widens NoEnd NoSemicolon speed_line (field.one_line (both_lines v l)) (λ n. field.with_speed (both_lines v l) (exact n))
 speed_at v l =
@@ -203,7 +217,8 @@ header_read ts speed rest (u, m0, title, (u1, m1, protocol, (u2, m2, language, (
     let lines0 = begin.widened ts u m0 title c end0 in
     let c0 = begin.cleans ts u m0 title c in
     let v = version_read (codes "LIN_protocol_version") field.no_lines first_lines protocol_at m0 u1 m1 protocol c0 end1 in
-    let l = version_read (codes "LIN_language_version") (first_lines v.text) (both_lines v.text) (language_at v.text) m1 u2 m2 language v.read.clean end2 in
+    let l = version_read (codes "LIN_language_version") (first_lines v.text) (both_lines v.text)
+    (language_at v.text) m1 u2 m2 language v.read.clean end2 in
     let n = one_more (speed_at v.text l.text) m2 speed m4 u3 rest (a, m3, kw, number) others l.read.clean last in
     let all = field.with_speed (both_lines v.text l.text) (exact speed) in
     let behind =
@@ -212,8 +227,17 @@ header_read ts speed rest (u, m0, title, (u1, m1, protocol, (u2, m2, language, (
     record {
       version = v.text;
       language = l.text;
-      spelled =
-          (all, (lines0.0, lines0.1, lines0.2, behind_both field.no_lines lines0.1 field.no_lines (mended m0) all (mended rest) lines0.3 behind), refl);
+      spelled = (
+        all,
+        (
+          lines0.0,
+          lines0.1,
+          lines0.2,
+          behind_both field.no_lines lines0.1 field.no_lines (mended m0) all
+              (mended rest) lines0.3 behind,
+        ),
+        refl,
+      );
       clean = n.clean;
     }
 
@@ -237,40 +261,72 @@ same_loose v l speed n s = λ i. record {
   tables = or_mapped loose_table s.tables i;
 }
 
-abbrev IsRead : List Symbol → Description → Type 0
-IsRead ts d = (version : List ℕ) × ((language : Option (List ℕ)) × field.field_file.spells (mended ts) (loosened version language d) [])
+record FileRead (ts : List Symbol) (d : Description) : Type 0 where
+  version : List ℕ
+  language : List ℕ
+  spelled : field.field_file.spells (mended ts) (loosened version (Some language) d) []
+  named : NamesTables d
 
-file_read : (ts : List Symbol) (d : Description) → plain.file.spells ts d [] → IsClean ts → IsRead ts d
+file_read : (ts : List Symbol) (d : Description) → plain.file.spells ts d [] → IsClean ts → FileRead ts d
 file_read ts d (((speed, n), s), (mid, (m0, header, nodes), (m1, u, sections, (none, end))), same) c =
     let start : allows NoSemicolon m0 ≡ true =
     covered NoEnd NoSemicolon m0 refl (nodes_widen.begins m0 n mid nodes refl) in
     let h = header_read ts speed m0 header c start in
     let k = nodes_widen.cleans m0 n mid nodes h.clean in
+    let first = plain.no_sections (plain.node_names n) in
     let gathered =
-    (gathering_widens plain.section field.loose_section loose_sections section_widens no_word no_word (plain.no_sections (plain.node_names n))).widened mid s m1
-    sections k refl in (
-      h.version,
-      (
-        Some h.language,
+    (gathering_widens plain.section field.loose_section loose_sections section_widens no_word no_word first).widened mid s m1
+    sections k refl in
+    let named : NamesTables (plain.description_of ((speed, n), s)) =
+    sections_named sections.0 first mid s m1 sections.1 k (no_sections_named (plain.node_names n)) in
+    record {
+      version = h.version;
+      language = h.language;
+      spelled = (
+        ((header_with h.version h.language speed, loose_nodes n), loose_sections s),
         (
-          ((header_with h.version h.language speed, loose_nodes n), loose_sections s),
-          (
-            mended mid,
-            (mended m0, h.spelled, nodes_widen.widened m0 n mid nodes h.clean refl),
-            (mended m1, tt, gathered, (ap mended none, refl)),
-          ),
-          same_loose h.version h.language speed n s ∙ ap (loosened h.version (Some h.language)) same,
+          mended mid,
+          (mended m0, h.spelled, nodes_widen.widened m0 n mid nodes h.clean refl),
+          (mended m1, tt, gathered, (ap mended none, refl)),
         ),
-      ),
-    )
+        same_loose h.version h.language speed n s ∙ ap (loosened h.version (Some h.language)) same,
+      );
+      named = subst NamesTables same named;
+    }
+
+-- ---- the laws
+
+text_read : (source : List ℕ) (ts : List Token) (d : Description) → AreTokens source ts → IsPlainText source ts → Spells (symbols_in source ts) d
+    → FileRead (symbols_in source ts) d
+unfolding Spells
+text_read source ts d are is spelled =
+    file_read (symbols_in source ts) d spelled (record { words = is.words; errors = is.errors; tokens = tokens-kind source ts are })
+
+abbrev SpellsIn : List Token → Loose → List ℕ → Type 0
+SpellsIn ts l source = field.field_file.spells (mended (symbols_in source ts)) l []
 
 pub plain-texts-are-read : PlainTextsAreRead
-unfolding Spells
 plain-texts-are-read source ts d are is spelled =
-    let read = file_read (symbols_in source ts) d spelled (record { words = is.words; errors = is.errors }) in (
-      read.0,
-      (
-        read.1.0,
-        subst (λ (s : List ℕ). field.field_file.spells (mended (symbols_in s ts)) (loosened read.0 read.1.0 d) []) (sym is.bytes) read.1.1,
-      ),
+    let read = text_read source ts d are is spelled in (
+      read.version,
+      (Some read.language, subst (SpellsIn ts (loosened read.version (Some read.language) d)) (sym is.bytes) read.spelled),
     )
+
+spelled_once : (ss : List Symbol) (l m : Loose) → field.field_file.spells ss l [] → field.field_file.spells ss m [] → l ≡ m
+spelled_once ss l m h k =
+    let same : (l, []) ≡ (m, []) =
+    made_is (l, []) (m, []) (sym (field_file_takes.lawful.again ss l [] h refl) ∙ field_file_takes.lawful.again ss m [] k refl) in
+    ap (λ (p : Loose × List Symbol). p.0) same
+
+pub plain-texts-say-the-same : PlainTextsSayTheSame
+plain-texts-say-the-same source ts d text are is spelled free (us, tokens, marks, reads) new =
+    let read = text_read source ts d are is spelled in
+    let same : us ≡ ts =
+    same_tokens (mark_len source) (behind_mark source) us ts (subst (λ (s : List ℕ). AreTokens s us) is.bytes tokens) are in
+    let here : SpellsIn ts text.loose source =
+    subst (λ (vs : List Token). SpellsIn vs text.loose source) same (subst (SpellsIn us text.loose) is.bytes reads) in
+    let one : loosened read.version (Some read.language) d ≡ text.loose =
+    spelled_once (mended (symbols_in source ts)) (loosened read.version (Some read.language) d) text.loose read.spelled here in
+    subst (λ (l : Loose). StaysPlain l d) one
+    (plain-stays read.version (Some read.language) d
+    (ap (λ (l : Loose). starts_with nat_eq l.header.version (codes "1.")) one ∙ new) read.named free)

@@ -253,7 +253,8 @@ module _ {S T : Type 0} {e : Limit} (f : S → Form S) (g : T → Form T) (h : S
   abbrev StepsOf : ℕ → S → List Symbol → S → List Symbol → Type 0
   StepsOf n s ts last rest = Steps (λ x. (f x).spells) n s ts last rest
 
-  steps_begin : (n : ℕ) (s : S) (ts : List Symbol) (last : S) (rest : List Symbol) → StepsOf n s ts last rest → allows e rest ≡ true → allows e ts ≡ true
+  steps_begin : (n : ℕ) (s : S) (ts : List Symbol) (last : S) (rest : List Symbol) → StepsOf n s ts last rest → allows e rest ≡ true
+      → allows e ts ≡ true
   steps_begin zero s ts last rest x is = subst (λ (us : List Symbol). allows e us ≡ true) x.1 is
   steps_begin (suc n) s ts last rest x is = covered NoEnd e ts refl ((p s).begins ts x.0 x.1 x.2 (steps_begin n x.0 x.1 last rest x.3 is))
 

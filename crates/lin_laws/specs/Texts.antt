@@ -1,6 +1,7 @@
 -- Plain LDF texts, read as texts of the field.
-use Rattle.std.specs.Prelude.{◌≡◌, ◌++◌, ℕ, Bool, false, List, [], ◌∷◌, Option, codes}
-use Rattle.std.specs.List.{list_any}
+use Rattle.std.specs.Prelude.{◌≡◌, ◌++◌, ℕ, Bool, false, List, [], ◌∷◌, Option, codes, nat_eq}
+use Rattle.std.specs.List.{list_any, starts_with}
+use Rattle.lin_cluster.specs.Findings.{IsFree}
 use Rattle.lin_description.specs.declared.description.Description.{Description}
 use Rattle.lin_description.specs.declared.description.Name.{Name}
 use Rattle.lin_ldf.specs.Describes as plain
@@ -11,8 +12,9 @@ use Rattle.lin_ldf.specs.Tokens.{AreTokens}
 use Rattle.lin_ldf.specs.Words.{comma, equals, semicolon, word}
 use Rattle.lin_ldf.specs.declared.token.Token.{Token}
 use Rattle.lin_field.specs.Bytes.{field_bytes}
-use Rattle.lin_field.specs.Describes.{Spells}
-use Rattle.lin_field.specs.PlainTexts.{loosened}
+use Rattle.lin_field.specs.Describes.{Reads, Spells}
+use Rattle.lin_field.specs.PlainTexts.{StaysPlain, loosened}
+use Rattle.lin_field.specs.declared.reading.FieldText.{FieldText}
 
 -- the words that only a text of the field uses
 abbrev pub field_words : List (List ℕ)
@@ -36,7 +38,7 @@ HasNoErrorAndComma all =
     (before ts : List Symbol) (name : Name) (rest : List Symbol) → all ≡ before ++ ts
     → error_and_comma.spells ts name rest → ⊥
 
--- a text with none of the bytes that become spaces, and none of these words
+-- a text with none of the bytes that become spaces, none of these words, and no such response_error
 pub record IsPlainText (source : List ℕ) (ts : List Token) : Type 0 where
   pub bytes : field_bytes source ≡ source
   pub words : uses_field_words (symbols_in source ts) ≡ false
@@ -50,3 +52,14 @@ PlainTextsAreRead =
     → IsPlainText source ts → plain.Spells (symbols_in source ts) d
     → (version : List ℕ)
     × ((language : Option (List ℕ)) × Spells source ts (loosened version language d))
+
+-- One in which nothing is found, and whose header's version doesn't begin with `1.`, is settled to
+-- what the plain one describes, and so to the same cluster. Nothing is told but marks that are left
+-- out.
+abbrev pub PlainTextsSayTheSame : Type 0
+PlainTextsSayTheSame =
+    (source : List ℕ) (ts : List Token) (d : Description) (text : FieldText)
+    → AreTokens source ts → IsPlainText source ts → plain.Spells (symbols_in source ts) d
+    → IsFree d → Reads source text
+    → starts_with nat_eq text.loose.header.version (codes "1.") ≡ false
+    → StaysPlain text.loose d

@@ -1,7 +1,7 @@
 //! What holds of logs with names, of transcripts, and of plain LDF texts.
 
 ghost use Rattle.lin_laws.specs.NamedScripts.{NamedLogs, NamedLogsOfTexts};
-ghost use Rattle.lin_laws.specs.Texts.{PlainTextsAreRead};
+ghost use Rattle.lin_laws.specs.Texts.{PlainTextsAreRead, PlainTextsSayTheSame};
 ghost use Rattle.lin_laws.specs.Transcripts.{LastLinesAreRemarks, LinesHaveNoLf};
 ghost use Rattle.lin_laws.specs.Transcripts.{TranscriptsAreBenchScripts, TranscriptsAreLogs};
 ghost use Rattle.lin_laws.specs.Transcripts.{TranscriptsAreInputs, TranscriptsAreScripts};
@@ -31,9 +31,13 @@ pub fn transcripts_are_logs()
     ensures lines { LinesHaveNoLf }
 {}
 
-/// What a plain LDF text describes, it says as a text of the field, with the versions of its header.
-/// It has none of the bytes that are read as spaces and none of the words of texts of the field, and
-/// no `response_error = WORD , ;`, of which a plain text doesn't take the WORD.
+/// What a plain LDF text describes, it says as a text of the field too, with the versions of its
+/// header. It holds where none of the bytes that are read as spaces and no word of texts of the field
+/// stands in it, nor `response_error = WORD , ;`, which names a signal in texts of the field alone.
+/// Where nothing is found in such a text, and the version of its header doesn't begin with `1.`, it
+/// is settled to the same description, and so to the same cluster; nothing is told but marks that
+/// are left out, no slot is tight, and the order of bytes doesn't matter.
 pub fn plain_texts_are_read()
-    ensures { PlainTextsAreRead }
+    ensures read { PlainTextsAreRead }
+    ensures same { PlainTextsSayTheSame }
 {}
