@@ -1,5 +1,6 @@
 pub mod Replies
 pub mod NamedLogs
+pub mod LdfTokens
 pub mod LdfWords
 pub mod LdfNames
 pub mod TextNames
@@ -13,7 +14,6 @@ pub mod LineForms
 pub mod Transcripts
 pub mod Scripts
 pub mod Inputs
-pub mod LdfTokens
 pub mod Limits
 pub mod Widens
 pub mod PlainItems
