@@ -1,4 +1,10 @@
+pub mod DraftedNodes
 pub mod ExtraSteps
+pub mod KnownNodes
+pub mod NothingTold
+pub mod ReadOver
+pub mod Suspects
+pub mod Unmarked
 pub mod Mended
 pub mod NumbersFound
 pub mod Permutations

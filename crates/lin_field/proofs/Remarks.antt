@@ -1,5 +1,5 @@
 -- Findings, tight slots and warnings, and what is remarked of them.
-use Rattle.std.proofs.Common.{◌≡◌, ◌≢◌, ◌<◌, ◌==◌, ◌+◌, ℕ, Bool, true, false, not, cond, ◌&&◌, ◌||◌, List, [], ◌∷◌, ◌++◌, length, get_or, map, take, filter, refl, sym, ap, ◌∙◌, subst, inl, inr, append_assoc, arith}
+use Rattle.std.proofs.Common.{◌≡◌, ◌≢◌, ◌==◌, ℕ, Bool, true, false, not, cond, ◌&&◌, ◌||◌, List, [], ◌∷◌, ◌++◌, length, get_or, map, filter, refl, sym, ap, ◌∙◌, subst, inl, inr, append_assoc, arith}
 use Rattle.std.specs.Prelude.{All, IsSorted, IsPermutation, Result, Ok, Err, is_err, if◌then◌else◌}
 use Rattle.std.specs.List.{list_any}
 use Rattle.std.specs.List.Sorted.{IsBinarySearchResult, IsSearchInRange}
@@ -10,9 +10,9 @@ use Rattle.std.proofs.lemmas.Bool.{and_parts, cases_lt, eqb-false, eqb-true, eq-
 use Rattle.std.specs.Cmp.{IsTotalOrder, on_total, then_total, bool_cmp_total}
 use Rattle.std.proofs.lemmas.Cmp.{tied_itself}
 use Rattle.std.proofs.lemmas.List.{length-map, map-append, nil_from_length}
-use Rattle.std.proofs.lemmas.List.Elements.{All-nil, All-cons, All-head, All-tail, filter_agree, filter_more}
+use Rattle.std.proofs.lemmas.List.Elements.{All-nil, All-cons, All-head, All-tail, filter_agree, filter-append}
 use Rattle.std.proofs.lemmas.List.Folds.{list_any_at, list_any_none}
-use Rattle.std.proofs.lemmas.List.Sorted.{All-permutation, IsPermutation-sym, searchable_from_sorted, list_any-IsPermutation, length_permutation, sum_by-IsPermutation, IsPermutation-map, IsPermutation-append, IsPermutation-append_left}
+use Rattle.std.proofs.lemmas.List.Sorted.{All-permutation, IsPermutation-sym, searchable_from_sorted, list_any-IsPermutation, length_permutation, sum_by-IsPermutation, IsPermutation-map, IsPermutation-append, IsPermutation-append_left, IsPermutation-append_right, IsPermutation-append_comm, IsPermutation-trans}
 use Rattle.lin_cluster.specs.Findings.{candidates, finding_cmp, IsFree, IsSound}
 use Rattle.lin_cluster.specs.declared.finding.Finding.{Finding}
 use Rattle.lin_cluster.proofs.NothingIn.{none-has}
@@ -79,19 +79,28 @@ mapped-one : (b : Bool) (x : Finding) → (if b then remark false x ∷ [] else 
 mapped-one true x = refl
 mapped-one false x = refl
 
--- a step of the loop that adds what passes a test
-pub more-found : (p : Finding → Bool) (xs : List Finding) (i : ℕ) (d : Finding) (before old more : List Remark) (b : Bool) → i < length xs
-    → old ≡ before ++ map (remark false) (filter p (take i xs)) → b ≡ p (get_or xs i d) → more ≡ old ++ (if b then remark false (get_or xs i d) ∷ [] else [])
-    → more ≡ before ++ map (remark false) (filter p (take (i + 1) xs))
-more-found p xs i d before old more b lt so passes here =
-    let x = get_or xs i d
-    in let kept = filter p (take i xs)
-    in let one = cond (p x) (x ∷ []) []
-    in let last : (if b then remark false x ∷ [] else []) ≡ map (remark false) one = ap (λ t. if t then remark false x ∷ [] else []) passes ∙ mapped-one (p x) x
-    in here ∙ (ap (λ l. l ++ (if b then remark false x ∷ [] else [])) so
-    ∙ (append_assoc before (map (remark false) kept) (if b then remark false x ∷ [] else [])
-    ∙ ap (λ l. before ++ l)
-    (ap (λ l. map (remark false) kept ++ l) last ∙ (sym (map-append (remark false) kept one) ∙ ap (map (remark false)) (sym (filter_more p xs i d lt))))))
+-- the loop that adds what passes a test, from the end on
+module _ (p : Finding → Bool) where
+  pub turned : (xs ys : List Finding) (before old : List Remark) → IsPermutation xs ys → old ≡ before
+      → IsPermutation (before ++ map (remark false) (filter p xs)) (old ++ map (remark false) (filter p ys))
+  turned xs ys before old same is =
+      subst (λ rs. IsPermutation (before ++ map (remark false) (filter p xs)) (rs ++ map (remark false) (filter p ys))) (sym is)
+      (IsPermutation-append_right before _ _ (IsPermutation-map (remark false) (filter p xs) (filter p ys) (IsPermutation-filter p xs ys same)))
+
+  pub more-found : (whole old more : List Remark) (xs rest : List Finding) (x : Finding) (b : Bool)
+      → IsPermutation whole (old ++ map (remark false) (filter p xs)) → xs ≡ rest ++ x ∷ [] → b ≡ p x → more ≡ old ++ (if b then remark false x ∷ [] else [])
+      → IsPermutation whole (more ++ map (remark false) (filter p rest))
+  more-found whole old more xs rest x b so last passes here =
+      let R = map (remark false) (filter p rest)
+      in let one = if b then remark false x ∷ [] else []
+      in let is : map (remark false) (filter p xs) ≡ R ++ one =
+      ap (λ l. map (remark false) (filter p l)) last ∙ (ap (map (remark false)) (filter-append p rest (x ∷ []))
+      ∙ (map-append (remark false) (filter p rest) (cond (p x) (x ∷ []) [])
+      ∙ ap (λ l. R ++ l) (sym (ap (λ t. if t then remark false x ∷ [] else []) passes ∙ mapped-one (p x) x))))
+      in let turned' : IsPermutation whole (old ++ (one ++ R)) =
+      IsPermutation-trans whole (old ++ map (remark false) (filter p xs)) (old ++ (one ++ R)) so
+      (subst (λ l. IsPermutation (old ++ l) (old ++ (one ++ R))) (sym is) (IsPermutation-append_right old _ _ (IsPermutation-append_comm R one)))
+      in subst (λ l. IsPermutation whole l) (sym (append_assoc old one R) ∙ ap (λ l. l ++ R) (sym here)) turned'
 
 -- ---- what is accepted
 
@@ -200,17 +209,23 @@ pub record Told (s : Settled) (wrongs all : List Remark) : Type 0 where
   pub all-are : IsPermutation (remarks s) all
 
 pub told : (s : Settled) (found tight bs ws : List Finding) (r0 r1 r2 r3 r4 : List Remark) → IsPermutation (candidates s.description) found → IsPermutation (tight_slots s.description) tight → bs ≡ s.byte_order.items → ws ≡ s.warnings.items
-    → r0 ≡ [] → r1 ≡ r0 ++ map (remark false) (filter (λ f. not (list_any (same_finding f) tight)) found) → r2 ≡ r1 ++ map (remark false) bs → r3 ≡ r2 ++ map (remark true) tight → r4 ≡ r3 ++ map (remark true) ws
+    → r0 ≡ [] → IsPermutation (r0 ++ map (remark false) (filter (λ f. not (list_any (same_finding f) tight)) found)) r1 → r2 ≡ r1 ++ map (remark false) bs → r3 ≡ r2 ++ map (remark true) tight → r4 ≡ r3 ++ map (remark true) ws
     → Told s r2 r4
 told s found tight bs ws r0 r1 r2 r3 r4 founds tights b w e0 e1 e2 e3 e4 =
     let F = map (remark false) (filter (λ f. not (list_any (same_finding f) tight)) found)
-    in let first : r1 ≡ F = e1 ∙ ap (λ rs. rs ++ F) e0
-    in let second : r2 ≡ F ++ map (remark false) s.byte_order.items = e2 ∙ (λ i. first i ++ map (remark false) (b i))
-    in let all : r4 ≡ F ++ map (remark false) s.byte_order.items ++ map (remark true) tight ++ map (remark true) s.warnings.items =
-    e4 ∙ (λ i. (e3 ∙ ap (λ rs. rs ++ map (remark true) tight) second) i ++ map (remark true) (w i))
+    in let B = map (remark false) s.byte_order.items
+    in let T = map (remark true) tight
+    in let W = map (remark true) s.warnings.items
+    in let first : IsPermutation F r1 = subst (λ (rs : List Remark). IsPermutation (rs ++ F) r1) e0 e1
+    in let second : r2 ≡ r1 ++ B = e2 ∙ ap (λ fs. r1 ++ map (remark false) fs) b
+    in let two : IsPermutation (F ++ B) r2 = subst (λ rs. IsPermutation (F ++ B) rs) (sym second) (IsPermutation-append_left B F r1 first)
+    in let fourth : r4 ≡ r2 ++ T ++ W = e4 ∙ (λ i. e3 i ++ map (remark true) (w i))
+    in let four : IsPermutation (F ++ B ++ T ++ W) r4 =
+    subst (λ rs. IsPermutation (F ++ B ++ T ++ W) rs) (sym fourth)
+    (IsPermutation-append_left W (F ++ B ++ T) (r2 ++ T) (IsPermutation-append_left T (F ++ B) r2 two))
     in record {
-      wrongs-are = subst (λ rs. IsPermutation (map (remark false) (wrong s)) rs) (sym second) (wrong-remarks s found tight founds tights);
-      all-are = subst (λ rs. IsPermutation (remarks s) rs) (sym all) (all-remarks s found tight founds tights);
+      wrongs-are = IsPermutation-trans (map (remark false) (wrong s)) (F ++ B) r2 (wrong-remarks s found tight founds tights) two;
+      all-are = IsPermutation-trans (remarks s) (F ++ B ++ T ++ W) r4 (all-remarks s found tight founds tights) four;
     }
 
 -- ---- where nothing is remarked

@@ -11,7 +11,7 @@ use Rattle.lin_ldf.specs.declared.fault.LdfFault.TheVariants as faults
 use Rattle.lin_ldf.proofs.Unique.{same_tokens}
 use Rattle.lin_field.specs.Bytes.{field_bytes}
 use Rattle.lin_field.specs.Marks.{AreExtraMarks, mended, extra_in, blanked}
-use Rattle.lin_field.specs.Describes.{Reads}
+use Rattle.lin_field.specs.Describes.{Reads, ReadsIn, SpellsIn}
 use Rattle.lin_field.specs.Grammar.{field_file}
 use Rattle.lin_field.specs.GrammarLaws.{field_file_takes}
 use Rattle.lin_field.specs.declared.loose.Loose.{Loose}
@@ -21,7 +21,7 @@ use Rattle.lin_field.proofs.Mended.{marks_blanked}
 file_ends : (ss : List Symbol) (l : Loose) (rest : List Symbol) → field_file.spells ss l rest → rest ≡ []
 file_ends ss l rest h = h.1.2.3.1
 
-found_spelled : (l : Loose) (left ss : List Symbol) → Gives (Ok l) left (field_file.read ss) → field_file.spells ss l []
+pub found_spelled : (l : Loose) (left ss : List Symbol) → Gives (Ok l) left (field_file.read ss) → field_file.spells ss l []
 found_spelled l left ss e =
     let h = field_file_takes.lawful.found ss l left e in
     subst (λ (rest : List Symbol). field_file.spells ss l rest) (file_ends ss l left h) h
@@ -43,9 +43,6 @@ fails_alone f ss l e h = absurd (not_both (field_file.read ss) (l, []) e (field_
 
 abbrev pub seen_in : List ℕ → List Symbol
 seen_in bytes = symbols_in bytes (start_of bytes).tokens
-
-abbrev SpellsIn : List ℕ → List Token → Loose → Type 0
-SpellsIn source ts l = field_file.spells (mended (symbols_in source ts)) l []
 
 -- what the parser sees, step by step
 pub seen_blanked : (source over bytes : List ℕ) (marks lent : List Token) (ss : List Symbol) → over ≡ source → bytes ≡ blanked over lent → lent ≡ marks → ss ≡ seen_in bytes → ss ≡ seen_in (blanked source marks)
@@ -73,10 +70,12 @@ same_text t u e f =
     first ∙ ap (λ (ms : List Token). record { loose = u.loose; marks = ms }) f
 
 -- a text of the field reads as one thing at most
-pub reads_once : (text : List ℕ) (t u : FieldText) → Reads text t → Reads text u → t ≡ u
-reads_once text t u (ts, are, marks, spells) (us, are', marks', spells') =
-    let source : List ℕ = field_bytes text in
+pub read_once : (source : List ℕ) (t u : FieldText) → ReadsIn source t → ReadsIn source u → t ≡ u
+read_once source t u (ts, are, marks, spells) (us, are', marks', spells') =
     let same : ts ≡ us = same_tokens (mark_len source) (behind_mark source) ts us are are' in
     same_text t u
     (spelled_once _ t.loose u.loose (subst (λ (vs : List Token). SpellsIn source vs t.loose) same spells) spells')
     (marks ∙ ap extra_in same ∙ sym marks')
+
+pub reads_once : (text : List ℕ) (t u : FieldText) → Reads text t → Reads text u → t ≡ u
+reads_once text t u h k = read_once (field_bytes text) t u h k

@@ -12,13 +12,19 @@ use Rattle.lin_field.specs.declared.loose.Loose.{Loose}
 use Rattle.lin_field.specs.declared.reading.FieldText.{FieldText}
 
 -- The tokens of the source, without marks that it has too many, spell this; these are the marks.
+abbrev pub SpellsIn : List ℕ → List Token → Loose → Type 0
+SpellsIn source ts l = field_file.spells (mended (symbols_in source ts)) l []
+
+abbrev pub ReadsIn : List ℕ → FieldText → Type 0
+ReadsIn source t =
+    (ts : List Token) × AreTokens source ts × (t.marks ≡ extra_in ts) × SpellsIn source ts t.loose
+
+-- The same, where bytes of old editors are spaces.
 abbrev pub Spells : List ℕ → List Token → Loose → Type 0
-Spells source ts l = field_file.spells (mended (symbols_in (field_bytes source) ts)) l []
+Spells source ts l = SpellsIn (field_bytes source) ts l
 
 abbrev pub Reads : List ℕ → FieldText → Type 0
-Reads source t =
-    (ts : List Token) × AreTokens (field_bytes source) ts × (t.marks ≡ extra_in ts)
-    × Spells source ts t.loose
+Reads source t = ReadsIn (field_bytes source) t
 
 abbrev pub DescribesField : List ℕ → Description → Type 0
 DescribesField source d =

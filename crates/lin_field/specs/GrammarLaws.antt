@@ -203,7 +203,7 @@ lines_take =
     right_take (keyword_before _ kinds.Semicolon)
     (gathered_lawful (is_word_but line_ends) one_line one_line_takes no_lines)
 
-header_takes : Taking (is_keyword (codes "LIN_description_file")) no_line header
+pub header_takes : Taking (is_keyword (codes "LIN_description_file")) no_line header
 header_takes = made_takes header_of lines_take
 
 no_line_at_nodes : Follows (is_keyword (codes "Nodes")) no_line
@@ -220,7 +220,7 @@ master_rest_takes =
     (λ t e. is_other_kind kinds.Semicolon kinds.Comma t.kind (semicolon_is t.kind e) refl)
     (λ t e. refl) (λ t e. refl)
 
-master_takes : (seen : List (List ℕ))
+pub master_takes : (seen : List (List ℕ))
     → Taking (is_keyword (codes "Master")) anything (master seen)
 master_takes seen =
     right_take (keyword_before _ kinds.Colon)

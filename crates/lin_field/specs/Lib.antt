@@ -1,5 +1,6 @@
 pub mod Bytes
 pub mod Marks
+pub mod Suspects
 pub mod Grammar
 pub mod GrammarLaws
 pub mod Items

@@ -1,8 +1,9 @@
 //! Settling of attributes: which address each responder has, and which version each node.
 
-ghost use Rattle.std.specs.Prelude.{◌≡◌, ◌++◌, flat_map, map, IfOk, OnOk};
+ghost use Rattle.std.specs.Prelude.{◌≡◌, ◌++◌, ◌==◌, ◌&&◌, flat_map, map, length, is_none, true, All};
+ghost use Rattle.std.specs.Prelude.{IfOk, OnOk};
 ghost use Rattle.lin_cluster.specs.Names.{NumbersFirst};
-ghost use Rattle.lin_field.specs.Names.{node_list};
+ghost use Rattle.lin_field.specs.Names.{is_node, node_list};
 ghost use Rattle.lin_field.specs.Attributes.{line_nad, chosen_nad, draft, told_nad, new_draft};
 ghost use Rattle.lin_field.specs.Attributes.{new_drafts, drafts, draft_warnings, responder_nad};
 ghost use Rattle.lin_field.specs.Attributes.{responder_nads, is_nad, settled_block, nad_warnings};
@@ -63,6 +64,13 @@ impl<'a, 'n> Told<'a, 'n> {
         }
     }
 
+    /// Whether nothing is told of nodes outside of their blocks.
+    fn tells_nothing(&self) -> bool
+        ensures { result ≡ (is_none self.now.version && (length self.now.lines == 0)) }
+    {
+        self.version.is_none() && self.lines.is_empty()
+    }
+
     /// The header's version.
     fn copied_version(&self, alloc: Global) -> Result<Option<Text>, AllocError>
         ensures { IfOk result (λ version. version ≡ self.now.version) }
@@ -88,6 +96,7 @@ impl<'a, 'n> Told<'a, 'n> {
 
     /// The block of a node with what is told of the node elsewhere.
     fn draft(&self, alloc: Global, attributes: LooseAttributes) -> Result<Attributes, AllocError>
+        requires { is_node self.now.nodes attributes.block.node ≡ true }
         ensures { IfOk result (λ block. block ≡ draft self.now attributes) }
     {
         let nad = self.chosen_nad(&attributes);
@@ -95,7 +104,7 @@ impl<'a, 'n> Told<'a, 'n> {
             mut block,
             initial_nad: _,
         } = attributes;
-        if self.nodes.is_responder(&block.node) {
+        if self.nodes.is_responding_node(&block.node) {
             block.configured_nad = nad;
         }
         if block.protocol.is_none() {
@@ -135,12 +144,13 @@ impl<'a, 'n> Told<'a, 'n> {
         &self,
         warned: &mut Vec<Finding>,
         attributes: &LooseAttributes,
+        is_known: bool,
     ) -> Result<(), AllocError>
+        requires { is_known ≡ is_node self.now.nodes attributes.now.block.node }
         ensures { OnOk result
             (warned.new.items ≡ warned.old.items ++ draft_warnings self.now attributes.now) }
     {
         let node = &attributes.block.node;
-        let is_known = self.nodes.is_node(node);
         push_when(warned, !is_known, at_name(FindingKind::UnknownName, node))?;
         let Some(nad) = &attributes.initial_nad else {
             return Ok(());
@@ -182,6 +192,9 @@ fn new_drafts(
     ensures { IfOk result
         (λ v. v.items ≡ flat_map (new_drafts told.now blocks.now) (node_list told.now.nodes)) }
 {
+    if told.tells_nothing() {
+        return Ok(Vec::new(alloc));
+    }
     let numbers = numbers_of(alloc, blocks)?;
     let names = told.nodes;
     let nodes = names.nodes;
@@ -205,10 +218,11 @@ fn drafts(
         (warned.new.items ≡ warned.old.items ++ flat_map (draft_warnings told.now) attributes) }
 {
     let mut new = new_drafts(alloc, told, attributes.as_slice())?;
-    let mut drafts = Vec::new(alloc);
+    let mut drafts = Vec::with_capacity(alloc, attributes.as_slice().len())?;
     for block in attributes.into_vec() {
-        told.warn_of_draft(warned, &block)?;
-        if told.nodes.is_node(&block.block.node) {
+        let is_known = told.nodes.is_node(&block.block.node);
+        told.warn_of_draft(warned, &block, is_known)?;
+        if is_known {
             drafts.push(told.draft(alloc, block)?)?;
         }
     }
@@ -216,11 +230,12 @@ fn drafts(
     Ok(drafts)
 }
 
-/// The address that a responder is told.
+/// The address that a node is told, where it is a responder.
 fn responder_nad(nodes: &NodeNames<'_>, draft: &Attributes) -> Option<Number>
+    requires { is_node nodes.now draft.now.node ≡ true }
     ensures { result ≡ responder_nad nodes.now draft.now }
 {
-    if nodes.is_responder(&draft.node) {
+    if nodes.is_responding_node(&draft.node) {
         draft.configured_nad
     } else {
         None
@@ -233,12 +248,17 @@ fn responder_nads(
     nodes: &NodeNames<'_>,
     drafts: &[Attributes],
 ) -> Result<Vec<Number>, AllocError>
+    requires { All (λ a. is_node nodes.now a.node ≡ true) drafts.now }
     ensures { IfOk result (λ n. n.items ≡ responder_nads nodes.now drafts.now) }
 {
-    drafts
-        .iter()
-        .filter_map(|draft| responder_nad(nodes, draft))
-        .collect(alloc)
+    let mut nads = Vec::new(alloc);
+    for draft in drafts {
+        match responder_nad(nodes, draft) {
+            Some(nad) => nads.push(nad)?,
+            None => {}
+        }
+    }
+    Ok(nads)
 }
 
 fn is_nad(nad: Number) -> bool
@@ -260,14 +280,10 @@ fn settle_block(
     let Some(nad) = block.configured_nad else {
         return Ok(());
     };
-    let is_repeated = nads.is_repeated(&nad);
+    let is_twice = is_nad(nad) && nads.is_repeated(&nad);
     push_when(warned, !is_nad(nad), at_number(FindingKind::BadNad, &nad))?;
-    push_when(
-        warned,
-        is_nad(nad) && is_repeated,
-        at_number(FindingKind::NadTwice, &nad),
-    )?;
-    if !is_nad(nad) || is_repeated {
+    push_when(warned, is_twice, at_number(FindingKind::NadTwice, &nad))?;
+    if !is_nad(nad) || is_twice {
         block.configured_nad = None;
     }
     Ok(())
@@ -291,37 +307,36 @@ fn warn_of_lines(told: &Told<'_, '_>, warned: &mut Vec<Finding>) -> Result<(), A
 fn settle_draft(
     told: &Told<'_, '_>,
     nads: &Repeats,
-    draft: Attributes,
+    draft: &mut Attributes,
     warned: &mut Vec<Finding>,
-) -> Result<Attributes, AllocError>
-    ensures settled { IfOk result (λ a. a ≡ settled_draft told.now nads.now draft) }
+) -> Result<(), AllocError>
+    requires { is_node told.now.nodes draft.old.node ≡ true }
+    ensures settled { OnOk result (draft.new ≡ settled_draft told.now nads.now draft.old) }
     ensures warned { OnOk result
-        (warned.new.items ≡ warned.old.items ++ draft_nad_warnings told.now nads.now draft) }
+        (warned.new.items ≡ warned.old.items ++ draft_nad_warnings told.now nads.now draft.old) }
 {
-    let mut draft = draft;
-    if told.nodes.is_responder(&draft.node) {
-        settle_block(nads, &mut draft, warned)?;
+    if told.nodes.is_responding_node(&draft.node) {
+        settle_block(nads, draft, warned)?;
     }
-    Ok(draft)
+    Ok(())
 }
 
 fn settle_drafts(
-    alloc: Global,
     told: &Told<'_, '_>,
     nads: &Repeats,
-    drafts: Vec<Attributes>,
+    drafts: &mut [Attributes],
     warned: &mut Vec<Finding>,
-) -> Result<Many<Attributes>, AllocError>
-    ensures settled { IfOk result (λ a. a ≡ map (settled_draft told.now nads.now) drafts.items) }
+) -> Result<(), AllocError>
+    requires { All (λ a. is_node told.now.nodes a.node ≡ true) drafts.old }
+    ensures settled { OnOk result (drafts.new ≡ map (settled_draft told.now nads.now) drafts.old) }
     ensures warned { OnOk result
         (warned.new.items
-        ≡ warned.old.items ++ flat_map (draft_nad_warnings told.now nads.now) drafts.items) }
+        ≡ warned.old.items ++ flat_map (draft_nad_warnings told.now nads.now) drafts.old) }
 {
-    let mut settled = Vec::new(alloc);
-    for draft in drafts {
-        settled.push(settle_draft(told, nads, draft, warned)?)?;
+    for draft in drafts.iter_mut() {
+        settle_draft(told, nads, draft, warned)?;
     }
-    Ok(Many::new(settled))
+    Ok(())
 }
 
 /// The blocks of nodes, one for each that something is told of.
@@ -336,7 +351,8 @@ pub fn settle_attributes(
         (warned.new.items ≡ warned.old.items ++ attribute_warnings told.now attributes) }
 {
     warn_of_lines(told, warned)?;
-    let drafts = drafts(alloc, told, attributes, warned)?;
+    let mut drafts = drafts(alloc, told, attributes, warned)?;
     let nads = Repeats::new(alloc, responder_nads(alloc, told.nodes, drafts.as_slice())?)?;
-    settle_drafts(alloc, told, &nads, drafts, warned)
+    settle_drafts(told, &nads, drafts.as_mut_slice(), warned)?;
+    Ok(Many::new(drafts))
 }

@@ -47,6 +47,9 @@ impl From<AllocError> for FieldFault {
     }
 }
 
+/// So few findings are kept until all are gone.
+const FEW: usize = 1024;
+
 /// Whether a slot is too short (9).
 fn has_short(found: &[Finding]) -> bool
     ensures { result ≡ list_any (λ f. f.number == 9) found.now }
@@ -90,25 +93,41 @@ fn add_remarks(
     Ok(())
 }
 
-/// What is found that isn't a tight slot.
+/// Gives back memory where an eighth of it or more is unused.
+fn give_back(found: &mut Vec<Finding>)
+    ensures { found.new.items ≡ found.old.items }
+{
+    let capacity = found.capacity();
+    if FEW < capacity && found.len() <= capacity - capacity / 8 {
+        found.shrink_to_fit();
+    }
+}
+
+/// What is found that isn't a tight slot. What is found goes bit by bit, so that it is never in
+/// memory as a whole beside the remarks.
 fn add_findings(
     remarks: &mut Vec<Remark>,
-    found: &[Finding],
+    found: Vec<Finding>,
     tight: &[Finding],
 ) -> Result<(), AllocError>
     requires { IsSorted finding_cmp tight.now }
     ensures { OnOk result
-        (remarks.new.items
-        ≡ remarks.old.items
-        ++ map (remark false) (filter (λ f. not (list_any (same_finding f) tight.now)) found.now)) }
+        (IsPermutation
+        (remarks.old.items
+        ++ map (remark false) (filter (λ f. not (list_any (same_finding f) tight.now)) found.items))
+        remarks.new.items) }
 {
-    for finding in found {
-        if tight.binary_search(finding).is_err() {
+    let mut found = found;
+    // (from its end on, so that what is in order stays in order)
+    found.reverse();
+    while let Some(finding) = found.pop() {
+        if tight.binary_search(&finding).is_err() {
             remarks.push(Remark {
-                finding: *finding,
+                finding,
                 is_warning: false,
             })?;
         }
+        give_back(&mut found);
     }
     Ok(())
 }
@@ -123,16 +142,19 @@ struct AllRemarks {
 fn remarks_of(
     alloc: Global,
     settled: &Settled,
-    found: &[Finding],
+    found: Vec<Finding>,
     tight: &[Finding],
 ) -> Result<AllRemarks, AllocError>
-    requires found { IsPermutation (candidates settled.now.description) found.now }
+    requires found { IsPermutation (candidates settled.now.description) found.items }
     requires tight { IsPermutation (tight_slots settled.now.description) tight.now }
     requires ordered { IsSorted finding_cmp tight.now }
     ensures all { IfOk result (λ r. AreRemarks settled.now r.remarks.items) }
     ensures free { IfOk result (λ r. r.is_free ≡ (length (wrong settled.now) == 0)) }
 {
     let mut remarks = Vec::new(alloc);
+    let most = found.len().saturating_add(settled.byte_order.len());
+    let warnings = tight.len().saturating_add(settled.warnings.len());
+    remarks.reserve_exact(most.saturating_add(warnings))?;
     add_findings(&mut remarks, found, tight)?;
     add_remarks(&mut remarks, settled.byte_order.as_slice(), false)?;
     let is_free = remarks.as_slice().is_empty();
@@ -156,12 +178,7 @@ pub fn check_field(alloc: Global, settled: &Settled) -> Result<Checked, FieldFau
     let description = &settled.description;
     let Examined { found, models } = examine(alloc, description)?;
     let tight = tight_slots(alloc, description, found.as_slice())?;
-    let AllRemarks { remarks, is_free } = remarks_of(
-        alloc,
-        settled,
-        found.as_slice(),
-        tight.as_slice(),
-    )?;
+    let AllRemarks { remarks, is_free } = remarks_of(alloc, settled, found, tight.as_slice())?;
     if !is_free {
         return Err(FieldFault::Remarks(Many::new(remarks)));
     }

@@ -1,6 +1,6 @@
 //! What has a name in a text of the field, and which names are nodes'.
 
-ghost use Rattle.std.specs.Prelude.{◌≡◌, IfOk};
+ghost use Rattle.std.specs.Prelude.{◌≡◌, true, IfOk};
 ghost use Rattle.std.specs.List.{list_any};
 ghost use Rattle.lin_cluster.specs.FindingsNames.{same_name};
 ghost use Rattle.lin_cluster.specs.Names.{NumbersFirst};
@@ -34,6 +34,15 @@ impl Named for LooseTable {
     fn name(&self) -> &Name {
         &self.name
     }
+}
+
+/// So many slaves are found by their names' hashes, and fewer one after the other.
+const MANY: usize = 8;
+
+fn same_name(one: &Name, other: &Name) -> bool
+    ensures { result ≡ same_name one.now other.now }
+{
+    one.text.as_slice() == other.text.as_slice()
 }
 
 /// Whether one of these has the name.
@@ -84,19 +93,32 @@ impl<'a> NodeNames<'a> {
     fn is_master(&self, name: &Name) -> bool
         ensures { result ≡ same_name self.now.master name.now }
     {
-        self.nodes.master.text.as_slice() == name.text.as_slice()
+        same_name(&self.nodes.master, name)
     }
 
     fn is_slave(&self, name: &Name) -> bool
         ensures { result ≡ is_slave self.now name.now }
     {
-        is_named(&self.slaves, self.nodes.slaves.as_slice(), name)
+        let slaves = self.nodes.slaves.as_slice();
+        if slaves.len() < MANY {
+            slaves.iter().any(|slave| same_name(slave, name))
+        } else {
+            is_named(&self.slaves, slaves, name)
+        }
     }
 
     pub fn is_responder(&self, name: &Name) -> bool
         ensures { result ≡ is_responder self.now name.now }
     {
         !self.is_master(name) && self.is_slave(name)
+    }
+
+    /// Whether a node is a responder: each is but the commander.
+    pub fn is_responding_node(&self, node: &Name) -> bool
+        requires { is_node self.now node.now ≡ true }
+        ensures { result ≡ is_responder self.now node.now }
+    {
+        !self.is_master(node)
     }
 
     pub fn is_node(&self, name: &Name) -> bool

@@ -2,6 +2,7 @@
 //! nodes.
 
 ghost use Rattle.std.specs.Prelude.{◌≡◌, ◌++◌, ◌≤◌, ◌<◌, flat_map, map, filter, IfOk, OnOk};
+ghost use Rattle.std.specs.List.{list_all};
 ghost use Rattle.lin_field.specs.Names.{is_node};
 ghost use Rattle.lin_field.specs.Signals.{is_wide, is_narrow, low_bits, byte_numbers, settled_init};
 ghost use Rattle.lin_field.specs.Signals.{size_warnings, settled_signal, signal_warnings};
@@ -95,7 +96,13 @@ fn warn_of_size(warned: &mut Vec<Finding>, signal: &Signal) -> Result<(), AllocE
     )
 }
 
-/// The names that are nodes'.
+fn are_nodes(nodes: &NodeNames<'_>, names: &[Name]) -> bool
+    ensures { result ≡ list_all (is_node nodes.now) names.now }
+{
+    names.iter().all(|name| nodes.is_node(name))
+}
+
+/// The names that are nodes'. (Where all are, they stay where they are.)
 fn kept_nodes(
     alloc: Global,
     nodes: &NodeNames<'_>,
@@ -106,6 +113,9 @@ fn kept_nodes(
     ensures warned { OnOk result
         (warned.new.items ≡ warned.old.items ++ flat_map (unknown_node nodes.now) names) }
 {
+    if are_nodes(nodes, names.as_slice()) {
+        return Ok(names);
+    }
     let mut kept = Vec::new(alloc);
     for name in names.into_vec() {
         let is_known = nodes.is_node(&name);

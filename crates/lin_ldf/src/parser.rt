@@ -136,6 +136,16 @@ impl<'a> Parser<'a> {
         }
     }
 
+    /// Another parser of the tokens that are left, which may read ahead.
+    pub fn ahead(&self) -> Parser<'a>
+        ensures { result ≡ self.now }
+    {
+        Parser {
+            alloc: self.alloc,
+            front: self.front,
+        }
+    }
+
     /// The next token is passed over.
     pub fn skip(&mut self)
         ensures { self.new ≡ tail self.old }

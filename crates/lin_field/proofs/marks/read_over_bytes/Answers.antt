@@ -1,12 +1,14 @@
-use Rattle.std.proofs.Common.{◌<◌, length, get_or, arith}
-use Rattle.std.proofs.lemmas.List.{get_or_default}
-use Rattle.std.proofs.lemmas.List.Edits.{map_over_more}
-use Rattle.lin_field.specs.Bytes.{field_byte}
+use Rattle.std.proofs.Common.{ℕ, List, Some, None, subst}
+use Rattle.memchr.specs.Find.{IsFirstByte, is_byte3}
+use Rattle.lin_field.proofs.ReadOver.{from_on, one_more, all_over}
 use Rattle.lin_field.proofs.marks.read_over_bytes.Goals as goal
 
-pub loop-byte-preserved : goal.loop-byte-preserved
-loop-byte-preserved c =
-    let i = c.loop-byte.byte-index in
-    let ys = c.loop-byte.bytes in
-    let in_it : i < length ys = omega arith in
-    rw c.field_byte.ensures (map_over_more field_byte c.args.bytes.now ys i (get_or ys i 0) c.loop-byte-test.true c.loop-byte.invariant (get_or_default ys i 0 (get_or ys i 0) in_it))
+pub loop-n-preserved : goal.loop-n-preserved
+loop-n-preserved c =
+    let rest = from_on c.loop-n.bytes c.loop-n.passed in
+    one_more _ c.loop-n.bytes c.loop-n.passed c.in-Some.n c.loop-n.invariant (subst (λ (xs : List ℕ). IsFirstByte (is_byte3 0x0B 0x0C 0x1A) xs (Some c.in-Some.n)) rest c.in-Some.ensures)
+
+pub returns : goal.returns
+returns c =
+    let rest = from_on c.loop-n.bytes c.loop-n.passed in
+    all_over _ c.loop-n.bytes c.loop-n.passed c.loop-n.invariant (subst (λ (xs : List ℕ). IsFirstByte (is_byte3 0x0B 0x0C 0x1A) xs None) rest c.in_default.ensures)

@@ -1,6 +1,9 @@
-use Rattle.std.proofs.Common.{◌≡◌, ◌++◌, map, take, drop}
-use Rattle.lin_field.specs.Bytes.{field_byte}
+use Rattle.std.proofs.Common.{◌-◌, length}
+use Rattle.lin_field.proofs.ReadOver.{ReadOver}
 use Rattle.lin_field.proofs.marks.read_over_bytes.Given as goal
 
-abbrev pub invariant-loop-byte : goal.invariant-loop-byte
-invariant-loop-byte l = l.bytes ≡ map field_byte (take l.byte-index l.fn.bytes) ++ drop l.byte-index l.fn.bytes
+abbrev pub invariant-loop-n : goal.invariant-loop-n
+invariant-loop-n l = ReadOver l.fn.bytes l.bytes l.passed
+
+abbrev pub decreases-loop-n : goal.decreases-loop-n
+decreases-loop-n l = length l.initial.bytes - l.passed

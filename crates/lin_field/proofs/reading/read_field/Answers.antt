@@ -1,13 +1,22 @@
-use Rattle.std.proofs.Common.{ℕ, List, Err, ap, sym, ◌∙◌}
+use Rattle.std.proofs.Common.{ℕ, List, Err, ap, sym, subst, ◌∙◌}
 use Rattle.std.proofs.lemmas.Result.{err_from_is_err_and}
 use Rattle.lin_ldf.specs.Tokens.{IsLexFault, mark_len, behind_mark}
 use Rattle.lin_ldf.specs.declared.token.Token.{Token}
 use Rattle.lin_ldf.proofs.Unique.{only_tokens, only_fault}
 use Rattle.lin_ldf.proofs.Parsed.{no_fault}
 use Rattle.lin_field.specs.Bytes.{field_bytes}
+use Rattle.lin_field.specs.Describes.{ReadsIn}
 use Rattle.lin_field.specs.Marks.{AreExtraMarks, blanked}
 use Rattle.lin_field.proofs.Spelled.{seen_blanked, read_spelled, only_memory, reads_once}
 use Rattle.lin_field.proofs.reading.read_field.Goals as goal
+
+-- ---- no mark is left out
+
+pub returns-then-not-has_suspect-clause-only : goal.returns-then-not-has_suspect-clause-only
+returns-then-not-has_suspect-clause-only c = λ t h. c.read_unmarked.ensures.only t (subst (λ (s : List ℕ). ReadsIn s t) (sym c.read_over_bytes.ensures) h)
+
+pub returns-then-not-has_suspect-clause-one : goal.returns-then-not-has_suspect-clause-one
+returns-then-not-has_suspect-clause-one c = reads_once c.args.bytes.now
 
 -- ---- a fault of the tokens
 
