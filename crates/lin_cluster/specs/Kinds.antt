@@ -15,6 +15,13 @@ use Rattle.lin_cluster.specs.declared.finding.FindingKind.TheVariants.{NoSize, N
 use Rattle.lin_cluster.specs.declared.finding.FindingKind.TheVariants.{Rounded, ExtraMark}
 use Rattle.lin_cluster.specs.declared.finding.FindingKind.TheVariants.{InitialNad, ByteOrder}
 use Rattle.lin_cluster.specs.declared.finding.FindingKind.TheVariants.{HeaderLine}
+use Rattle.lin_cluster.specs.declared.finding.FindingKind.TheVariants.{BadEncoding, EncodingTwice}
+use Rattle.lin_cluster.specs.declared.finding.FindingKind.TheVariants.{UnknownEncoding}
+use Rattle.lin_cluster.specs.declared.finding.FindingKind.TheVariants.{UnknownSignal}
+use Rattle.lin_cluster.specs.declared.finding.FindingKind.TheVariants.{RepresentedTwice, MinAboveMax}
+use Rattle.lin_cluster.specs.declared.finding.FindingKind.TheVariants.{RangesOverlap, LogicalTwice}
+use Rattle.lin_cluster.specs.declared.finding.FindingKind.TheVariants.{ValueOutside, ZeroScale}
+use Rattle.lin_cluster.specs.declared.finding.FindingKind.TheVariants.{KindOfSignal}
 
 abbrev pub number_of : FindingKind → ℕ
 number_of UnknownName = 1
@@ -43,6 +50,17 @@ number_of ExtraMark = 23
 number_of InitialNad = 24
 number_of ByteOrder = 25
 number_of HeaderLine = 26
+number_of BadEncoding = 31
+number_of EncodingTwice = 32
+number_of UnknownEncoding = 33
+number_of UnknownSignal = 34
+number_of RepresentedTwice = 35
+number_of MinAboveMax = 36
+number_of RangesOverlap = 37
+number_of LogicalTwice = 38
+number_of ValueOutside = 39
+number_of ZeroScale = 40
+number_of KindOfSignal = 41
 
 -- the names of findings, by their numbers, which begin at 1
 abbrev pub finding_names : List (List ℕ)
@@ -52,7 +70,10 @@ finding_names =
     ∷ codes "ZeroDelay" ∷ codes "BadNad" ∷ codes "NadTwice" ∷ codes "BadEventFrame" ∷ codes "BadSporadic"
     ∷ codes "NestedCollision" ∷ codes "EmptyTable" ∷ codes "LimitPassed" ∷ codes "MixedChecksum"
     ∷ codes "NoSize" ∷ codes "NoTable" ∷ codes "WideSignal" ∷ codes "Rounded" ∷ codes "ExtraMark"
-    ∷ codes "InitialNad" ∷ codes "ByteOrder" ∷ codes "HeaderLine" ∷ []
+    ∷ codes "InitialNad" ∷ codes "ByteOrder" ∷ codes "HeaderLine" ∷ [] ∷ [] ∷ [] ∷ []
+    ∷ codes "BadEncoding" ∷ codes "EncodingTwice" ∷ codes "UnknownEncoding" ∷ codes "UnknownSignal"
+    ∷ codes "RepresentedTwice" ∷ codes "MinAboveMax" ∷ codes "RangesOverlap" ∷ codes "LogicalTwice"
+    ∷ codes "ValueOutside" ∷ codes "ZeroScale" ∷ codes "KindOfSignal" ∷ []
 
 abbrev pub finding_name : ℕ → List ℕ
 finding_name number = slice_index_or finding_names number []
@@ -85,6 +106,17 @@ needed_by ExtraMark = 0
 needed_by InitialNad = 0
 needed_by ByteOrder = 0
 needed_by HeaderLine = 0
+needed_by BadEncoding = 0
+needed_by EncodingTwice = 0
+needed_by UnknownEncoding = 0
+needed_by UnknownSignal = 0
+needed_by RepresentedTwice = 0
+needed_by MinAboveMax = 0
+needed_by RangesOverlap = 0
+needed_by LogicalTwice = 0
+needed_by ValueOutside = 0
+needed_by ZeroScale = 0
+needed_by KindOfSignal = 0
 
 -- a finding by its kind, line and column
 abbrev pub finding_at : FindingKind → ℕ → ℕ → Finding

@@ -6,8 +6,8 @@ ghost use Rattle.lin_cluster.specs.Kinds.{finding_at, finding_name, number_of};
 use lin_description::Place;
 use lin_lists::Many;
 
-/// The kinds of findings, in the order of their numbers, 1 to 26. Those from 19 on are told of texts
-/// of the field alone.
+/// The kinds of findings, in the order of their numbers, 1 to 26 and 31 to 41. Those from 19 on are
+/// told of texts of the field alone, and those from 31 on of encodings of signals.
 #[derive(Clone, Copy, Debug, PartialEq, Eq)]
 pub enum FindingKind {
     UnknownName,
@@ -37,10 +37,21 @@ pub enum FindingKind {
     InitialNad,
     ByteOrder,
     HeaderLine,
+    BadEncoding,
+    EncodingTwice,
+    UnknownEncoding,
+    UnknownSignal,
+    RepresentedTwice,
+    MinAboveMax,
+    RangesOverlap,
+    LogicalTwice,
+    ValueOutside,
+    ZeroScale,
+    KindOfSignal,
 }
 
 impl FindingKind {
-    /// The number, 1 to 26.
+    /// The number, 1 to 26 or 31 to 41.
     pub fn number(self) -> u8
         ensures { result ≡ number_of self }
     {
@@ -71,11 +82,22 @@ impl FindingKind {
             FindingKind::InitialNad => 24,
             FindingKind::ByteOrder => 25,
             FindingKind::HeaderLine => 26,
+            FindingKind::BadEncoding => 31,
+            FindingKind::EncodingTwice => 32,
+            FindingKind::UnknownEncoding => 33,
+            FindingKind::UnknownSignal => 34,
+            FindingKind::RepresentedTwice => 35,
+            FindingKind::MinAboveMax => 36,
+            FindingKind::RangesOverlap => 37,
+            FindingKind::LogicalTwice => 38,
+            FindingKind::ValueOutside => 39,
+            FindingKind::ZeroScale => 40,
+            FindingKind::KindOfSignal => 41,
         }
     }
 }
 
-/// What is wrong, and where: the finding's number (1 to 26), line and column, and for a slot that
+/// What is wrong, and where: the finding's number (1 to 26 or 31 to 41), line and column, and for a slot that
 /// is too short (9) the time in microseconds that it needs; otherwise 0. Findings are ordered by
 /// place, then by number.
 #[derive(Clone, Copy, Debug, PartialEq, Eq, PartialOrd, Ord)]
@@ -102,7 +124,7 @@ impl Finding {
         }
     }
 
-    /// The name; only numbers from 1 to 26 have one.
+    /// The name; only numbers from 1 to 26 and from 31 to 41 have one.
     pub fn name(&self) -> &'static str
         ensures { result.now ≡ finding_name self.now.number }
     {
@@ -133,6 +155,17 @@ impl Finding {
             24 => "InitialNad",
             25 => "ByteOrder",
             26 => "HeaderLine",
+            31 => "BadEncoding",
+            32 => "EncodingTwice",
+            33 => "UnknownEncoding",
+            34 => "UnknownSignal",
+            35 => "RepresentedTwice",
+            36 => "MinAboveMax",
+            37 => "RangesOverlap",
+            38 => "LogicalTwice",
+            39 => "ValueOutside",
+            40 => "ZeroScale",
+            41 => "KindOfSignal",
             _ => "",
         }
     }
