@@ -1,0 +1,76 @@
+-- One token of a line that is passed over; and each line takes a token.
+use Rattle.std.proofs.Common.{◌≡◌, ◌∙◌, ℕ, suc, ◌≤◌, ◌<◌, ◌==◌, ◌&&◌, Bool, true, false, cond, not, List, [], ◌∷◌, length, Some, None, refl, sym, ap, arith}
+use Rattle.lin_ldf.specs.declared.token.TokenKind.{TokenKind}
+use Rattle.lin_ldf.specs.declared.token.TokenKind.TheVariants.{CloseBrace, Semicolon}
+use Rattle.lin_ldf.specs.Symbols.{Symbol, is_kind}
+use Rattle.lin_ldf.specs.Forms.{tail}
+use Rattle.lin_ldf.specs.UpTo.{front_kind}
+use Rattle.lin_values.specs.Passed.{behind_line, behind_lines, depth_behind, has_line}
+use Rattle.lin_values.proofs.Repeating.{one-step, no-step}
+
+pub kind-is : (t : Symbol) (ts : List Symbol) (k : TokenKind) → front_kind (t ∷ ts) ≡ Some k → k ≡ t.kind
+kind-is t ts k e = cc
+
+pub closed : (n : ℕ) (ts : List Symbol) (k : TokenKind) → front_kind ts ≡ Some k → (n == 0 && is_kind CloseBrace k) ≡ true → behind_line n ts ≡ ts
+closed n [] k e h = refl
+closed n (t ∷ ts) k e h =
+    let is : (n == 0 && is_kind CloseBrace t.kind) ≡ true = ap (λ x. n == 0 && is_kind CloseBrace x) (sym (kind-is t ts k e)) ∙ h in
+    rw is refl
+
+pub ended : (n : ℕ) (ts : List Symbol) (k : TokenKind) → front_kind ts ≡ Some k → (n == 0 && is_kind CloseBrace k) ≡ false → (n == 0 && is_kind Semicolon k) ≡ true → behind_line n ts ≡ tail ts
+ended n [] k e h i = refl
+ended n (t ∷ ts) k e h i =
+    let open_still : (n == 0 && is_kind CloseBrace t.kind) ≡ false = ap (λ x. n == 0 && is_kind CloseBrace x) (sym (kind-is t ts k e)) ∙ h in
+    let is : (n == 0 && is_kind Semicolon t.kind) ≡ true = ap (λ x. n == 0 && is_kind Semicolon x) (sym (kind-is t ts k e)) ∙ i in
+    rw (open_still, is) refl
+
+pub goes-on : (n : ℕ) (ts : List Symbol) (k : TokenKind) → front_kind ts ≡ Some k → (n == 0 && is_kind CloseBrace k) ≡ false → (n == 0 && is_kind Semicolon k) ≡ false → behind_line n ts ≡ behind_line (depth_behind n k) (tail ts)
+goes-on n [] k e h i = absurd cc
+goes-on n (t ∷ ts) k e h i =
+    let open_still : (n == 0 && is_kind CloseBrace t.kind) ≡ false = ap (λ x. n == 0 && is_kind CloseBrace x) (sym (kind-is t ts k e)) ∙ h in
+    let is : (n == 0 && is_kind Semicolon t.kind) ≡ false = ap (λ x. n == 0 && is_kind Semicolon x) (sym (kind-is t ts k e)) ∙ i in
+    rw (open_still, is) (ap (λ x. behind_line (depth_behind n x) ts) (sym (kind-is t ts k e)))
+
+pub none-left : (n : ℕ) (ts : List Symbol) → front_kind ts ≡ None → behind_line n ts ≡ ts
+none-left n [] e = refl
+none-left n (t ∷ ts) e = absurd cc
+
+pub taken : (ts : List Symbol) (k : TokenKind) → front_kind ts ≡ Some k → suc (length (tail ts)) ≡ length ts
+taken [] k e = absurd cc
+taken (t ∷ ts) k e = refl
+
+pub no-more : (n : ℕ) (ts : List Symbol) → length (behind_line n ts) ≤ length ts
+no-more n [] = omega arith
+no-more n (t ∷ ts) =
+    let less : length (behind_line (depth_behind n t.kind) ts) ≤ length ts = no-more (depth_behind n t.kind) ts in
+    elim (n == 0 && is_kind CloseBrace t.kind) as (λ b. length (cond b (t ∷ ts) (cond (n == 0 && is_kind Semicolon t.kind) ts (behind_line (depth_behind n t.kind) ts))) ≤ length (t ∷ ts)) [
+      | true ↦ omega arith
+      | false ↦ elim (n == 0 && is_kind Semicolon t.kind) as (λ b. length (cond b ts (behind_line (depth_behind n t.kind) ts)) ≤ length (t ∷ ts)) [
+        | true ↦ omega arith
+        | false ↦ omega arith
+      ]
+    ]
+
+shorter-at : (c s : Bool) (t : Symbol) (ts rest : List Symbol) → c ≡ false → length rest ≤ length ts → length (cond c (t ∷ ts) (cond s ts rest)) < length (t ∷ ts)
+shorter-at true s t ts rest e less = absurd cc
+shorter-at false true t ts rest e less = omega arith
+shorter-at false false t ts rest e less = omega arith
+
+stays-open : (c : Bool) → not c ≡ true → c ≡ false
+stays-open true e = absurd cc
+stays-open false e = refl
+
+-- a line takes a token
+pub shorter : (ts : List Symbol) → has_line ts ≡ true → length (behind_line 0 ts) < length ts
+shorter [] h = absurd cc
+shorter (t ∷ ts) h =
+    shorter-at (0 == 0 && is_kind CloseBrace t.kind) (0 == 0 && is_kind Semicolon t.kind) t ts (behind_line (depth_behind 0 t.kind) ts) (stays-open (is_kind CloseBrace t.kind) h) (no-more (depth_behind 0 t.kind) ts)
+
+-- one line more of a group, or none
+pub one-line : (ts us total : List Symbol) → has_line ts ≡ true → us ≡ behind_line 0 ts → behind_lines ts ≡ total → behind_lines us ≡ total
+one-line ts us total h e so_far = one-step (length {A = Symbol}) has_line (behind_line 0) shorter ts us total h e so_far
+
+pub no-line : (ts total : List Symbol) → has_line ts ≡ false → behind_lines ts ≡ total → total ≡ ts
+no-line ts total h so_far = no-step (length {A = Symbol}) has_line (behind_line 0) shorter ts total h so_far
+
+pub ruleset passing = (closed, ended, goes-on, none-left, taken)

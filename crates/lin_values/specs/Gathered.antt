@@ -1,0 +1,118 @@
+-- What the lines of signals come to, as it is gathered.
+use Rattle.std.specs.Prelude.{◌≡◌, ℕ, ◌%◌, ◌==◌, ◌&&◌, ◌||◌, ◌++◌, not, Bool, List, [], ◌∷◌, map, find}
+use Rattle.std.specs.Prelude.{nat_lt, Option, Some, None, if◌then◌else◌, option_and_then, position}
+use Rattle.std.specs.Prelude.{slice_index_or}
+use Rattle.std.specs.Option.{option_map}
+use Rattle.std.specs.Str.{bytes_eq}
+use Rattle.indexmap.specs.IndexMap.{get_by, IndexMap}
+use Rattle.lin_cluster.specs.FindingsNames.{at_name, same_name, when}
+use Rattle.lin_cluster.specs.Names.{NumbersFirst}
+use Rattle.lin_cluster.specs.declared.finding.Finding.{Finding}
+use Rattle.lin_cluster.specs.declared.finding.FindingKind.TheVariants as finding
+use Rattle.lin_cluster_parts.specs.Rules.{is_array}
+use Rattle.lin_cluster_parts.specs.declared.parts.Parts.{Parts}
+use Rattle.lin_cluster_parts.specs.declared.parts.Signal.{Signal}
+use Rattle.lin_description.specs.declared.description.Name.{Name}
+use Rattle.lin_values.specs.Coded.{is_named}
+use Rattle.lin_values.specs.Traits.{has_coding}
+use Rattle.lin_values.specs.Warnings.{kind_warnings, line_warnings, most_of, name_warnings, told_by}
+use Rattle.lin_values.specs.Warnings.{type_warning}
+use Rattle.lin_values.specs.declared.coded.CodedSignal.{CodedSignal}
+use Rattle.lin_values.specs.declared.encoding.Coding.TheVariants.{Bcd, Ascii}
+use Rattle.lin_values.specs.declared.encoding.Traits.{Traits}
+use Rattle.lin_values.specs.declared.items.CodedLine.{CodedLine}
+use Rattle.lin_values.specs.declared.items.CodingType.{CodingType}
+use Rattle.lin_values.specs.declared.items.Codings.{Codings}
+use denote.Ref.{Bor}
+
+-- ---- signals
+
+abbrev pub uncoded : Signal → CodedSignal
+uncoded s = record { bits = s.size; is_array = is_array s.initial; encoding = None }
+
+-- the first signal with each name
+abbrev pub AreSignals : {S : Type 0} → Parts → IndexMap (Bor (List ℕ)) CodedSignal S → Type 0
+AreSignals c m =
+    (q : List ℕ)
+    → get_by (λ k. bytes_eq q k.now) m
+    ≡ option_map uncoded (find (λ s. bytes_eq s.name q) c.signals)
+
+-- the number of the encoding that a name has
+abbrev pub encoding_in : {S : Type 0} → IndexMap (Bor (List ℕ)) (Option ℕ) S → List ℕ → Option ℕ
+encoding_in m name = option_and_then (λ e. e) (get_by (λ k. bytes_eq name k.now) m)
+
+abbrev pub signal_in : {S : Type 0} → IndexMap (Bor (List ℕ)) (Option ℕ) S → Signal → CodedSignal
+signal_in m s = record (uncoded s) { encoding = encoding_in m s.name }
+
+abbrev pub is_other_kind : Traits → CodedSignal → Bool
+is_other_kind t s =
+    if s.is_array then t.is_numeric
+    else has_coding t Bcd && not (s.bits % 4 == 0) || (has_coding t Ascii && not (s.bits % 8 == 0))
+
+abbrev pub told_of_kind : Traits → CodedSignal → Name → List Finding
+told_of_kind t s n =
+    when (not s.is_array && (t.is_numeric && nat_lt (most_of s.bits) t.greatest))
+    (at_name finding.ValueOutside n)
+    ++ when (is_other_kind t s) (at_name finding.KindOfSignal n)
+
+-- ---- types
+
+-- the number of the first type with a name
+abbrev pub type_number : List CodingType → Name → Option ℕ
+type_number ts n = position (λ t. same_name t.name n) ts
+
+abbrev pub type_at : List CodingType → Option ℕ → Option CodingType
+type_at ts number = option_and_then (λ n. slice_index_or (map (λ t. Some t) ts) n None) number
+
+-- the types and the parts of a cluster, found by their names
+pub record DeclaredData : Type 0 where
+  pub types : List CodingType
+  pub parts : Parts
+
+pub record IsDeclared {S R : Type 0} (c : Parts) (ts : List CodingType)
+    (by_name : IndexMap (Bor (List ℕ)) ℕ S) (named : IndexMap (Bor (List ℕ)) CodedSignal R)
+    : Type 0 where
+  pub types : NumbersFirst (λ t. t.name) ts by_name
+  pub signals : AreSignals c named
+
+-- ---- lines
+
+abbrev pub names_of : CodedLine → List (Name × Name)
+names_of l = map (λ n. (n, l.encoding)) l.signals
+
+-- the number of the encoding of each of these names
+abbrev pub AreNamed : {S : Type 0} → List CodingType → List (Name × Name)
+    → IndexMap (Bor (List ℕ)) (Option ℕ) S → Type 0
+AreNamed ts named m =
+    (q : List ℕ)
+    → get_by (λ k. bytes_eq q k.now) m
+    ≡ option_map (λ p. type_number ts p.1) (find (is_named q) named)
+
+abbrev pub lines_of : List CodingType → List CodedLine → Codings
+lines_of ts ls = record { types = ts; lines = ls; bad = [] }
+
+abbrev pub kind_told : Option CodingType → CodedSignal → Name → List Finding
+kind_told None s n = []
+kind_told (Some t) s n =
+    kind_warnings n (record { bits = s.bits; is_array = s.is_array; encoding = None }) t
+
+-- what is told of a name of this encoding, which is the first of its kind or not
+abbrev pub name_told : Bool → Option CodingType → Name → Option Signal → List Finding
+name_told is_first t n None = at_name finding.UnknownSignal n ∷ []
+name_told is_first t n (Some s) =
+    if is_first then kind_told t (uncoded s) n else at_name finding.RepresentedTwice n ∷ []
+
+abbrev pub line_told : Parts → List CodingType → List (Name × Name) → CodedLine → List Finding
+line_told c ts before l =
+    line_warnings (lines_of ts []) l
+    ++ told_by (name_warnings c (lines_of ts [])) before (names_of l)
+
+abbrev pub lines_told : Parts → List CodingType → List (Name × Name) → List CodedLine
+    → List Finding
+lines_told c ts before [] = []
+lines_told c ts before (l ∷ ls) =
+    line_told c ts before l ++ lines_told c ts (before ++ names_of l) ls
+
+-- what is wrong with names: of types, of encodings of lines, and of signals
+abbrev pub gathered_warnings : Parts → List CodingType → List CodedLine → List Finding
+gathered_warnings c ts ls = told_by type_warning [] ts ++ lines_told c ts [] ls

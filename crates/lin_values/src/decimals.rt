@@ -1,0 +1,155 @@
+//! Exact decimals, and the physical values of raw values (LIN 2.2A, section 9.2.6.1).
+
+ghost use Rattle.std.specs.Prelude.{◌≡◌, ◌+◌, ◌-◌, ◌*◌, ◌^◌, ◌<◌, ◌≤◌, true};
+ghost use lib.IntN.{◌+ℤ◌, ◌*ℤ◌, pos};
+ghost use Rattle.lin_text.specs.Written.{Grows};
+ghost use Rattle.lin_values.specs.Shown.{fraction, last_digits, decimal_shown};
+ghost use Rattle.lin_values.specs.Value.{signed, shortest_at, value, IsInLimits, IsReadable};
+ghost use Rattle.lin_values.specs.Value.{is_small, IsShortest};
+
+use lin_text::TextWriter;
+use std::io::Write;
+
+/// The decimal `digits / 10 ^ places`, or that below 0.
+#[derive(Clone, Copy, Debug, PartialEq, Eq)]
+pub struct Decimal {
+    pub negative: bool,
+    pub digits: u128,
+    pub places: u8,
+}
+
+pub(crate) fn ten_to(k: u8) -> u128
+    requires { k ≤ 33 }
+    ensures { result ≡ 10 ^ k }
+{
+    let mut power = 1u128;
+    for _i in 0..k {
+        power *= 10;
+    }
+    power
+}
+
+/// The digits of a decimal with so many places.
+fn digits_at(d: Decimal, places: u8) -> u128
+    requires limits { IsInLimits d }
+    requires more { d.places ≤ places }
+    requires few { places ≤ 24 }
+    ensures same { result ≡ d.digits * 10 ^ (places - d.places) }
+    ensures fits { result < 10 ^ (9 + places) }
+{
+    d.digits * ten_to(places - d.places)
+}
+
+/// The sum of two numbers with signs, where 0 may have either.
+fn sum(minus_a: bool, a: u128, minus_b: bool, b: u128) -> (bool, u128)
+    requires { a + b < 10 ^ 38 }
+    ensures same { signed result.0 result.1 ≡ signed minus_a a +ℤ signed minus_b b }
+    ensures fits { result.1 ≤ a + b }
+{
+    if minus_a == minus_b {
+        (minus_a, a + b)
+    } else if a >= b {
+        (minus_a, a - b)
+    } else {
+        (minus_b, b - a)
+    }
+}
+
+/// The same value without zeros at the end.
+pub(crate) fn shortest(negative: bool, digits: u128, places: u8) -> Decimal
+    requires { places ≤ 24 }
+    ensures same { value result ≡ signed negative (digits * 10 ^ (24 - places)) }
+    ensures size { result.digits * 10 ^ (24 - result.places) ≡ digits * 10 ^ (24 - places) }
+    ensures exact { result ≡ shortest_at negative digits places }
+    ensures places { result.places ≤ places }
+    ensures form { IsShortest result }
+{
+    let mut rest = digits;
+    let mut left = places;
+    while left > 0 && rest % 10 == 0 {
+        rest /= 10;
+        left -= 1;
+    }
+    Decimal {
+        negative: negative && rest > 0,
+        digits: rest,
+        places: left,
+    }
+}
+
+/// `raw * scale + offset`, exactly.
+pub fn physical(raw: u16, scale: Decimal, offset: Decimal) -> Decimal
+    requires scale { IsInLimits scale }
+    requires offset { IsInLimits offset }
+    ensures same { value result ≡ pos raw *ℤ value scale +ℤ value offset }
+    ensures size { IsReadable result }
+    ensures form { IsShortest result }
+{
+    let places = scale.places.max(offset.places);
+    let slope = u128::from(raw) * digits_at(scale, places);
+    let (negative, digits) = sum(
+        scale.negative,
+        slope,
+        offset.negative,
+        digits_at(offset, places),
+    );
+    shortest(negative, digits, places)
+}
+
+/// The value in units of 10 ^ -24.
+pub fn units(d: Decimal) -> i128
+    requires { IsReadable d }
+    ensures { result ≡ value d }
+{
+    let size = (d.digits * ten_to(24 - d.places)) as i128;
+    if d.negative { -size } else { size }
+}
+
+/// Whether a decimal is below 10 ^ 9 in size, with at most 24 places.
+pub fn is_small(d: Decimal) -> bool
+    requires { IsReadable d }
+    ensures same { result ≡ is_small (value d) }
+    ensures limits { result ≡ true → IsInLimits d }
+{
+    d.digits < ten_to(9 + d.places)
+}
+
+/// Puts the digits of a number that has at most so many.
+fn put_last_digits<W: Write>(out: &mut TextWriter<'_, W>, number: u128, count: u8)
+    requires few { count ≤ 24 }
+    requires fits { number < 10 ^ count }
+    ensures { Grows W.contents out.old out.new (last_digits count number) }
+{
+    let mut rest = number;
+    let mut left = count;
+    while left > 0 {
+        left -= 1;
+        let power = ten_to(left);
+        out.put_byte(b'0' + (rest / power) as u8);
+        rest %= power;
+    }
+}
+
+fn put_fraction<W: Write>(out: &mut TextWriter<'_, W>, number: u128, places: u8)
+    requires few { places ≤ 24 }
+    requires fits { number < 10 ^ places }
+    ensures { Grows W.contents out.old out.new (fraction places number) }
+{
+    if places > 0 {
+        out.put_byte(b'.');
+        put_last_digits(out, number, places);
+    }
+}
+
+/// Puts the shortest text of a decimal.
+pub fn put_decimal<W: Write>(out: &mut TextWriter<'_, W>, d: Decimal)
+    requires { d.places ≤ 24 }
+    ensures { Grows W.contents out.old out.new (decimal_shown d) }
+{
+    if d.negative {
+        out.put_byte(b'-');
+    }
+    let power = ten_to(d.places);
+    out.put_number(d.digits / power);
+    put_fraction(out, d.digits % power, d.places);
+}

@@ -1,0 +1,43 @@
+//! Physical values of signals, exactly: what an LDF says of them in its sections of encodings (LIN
+//! 2.2A, section 9.2.6), what a raw value means, its text, and the ways back.
+//!
+//! ```
+//! let (coded, warnings) = coded_by(alloc, &cluster, read_codings(alloc, text)?)?;
+//! if let Some(meaning) = coded.meaning(signal, &value) {
+//!     put_meaning(&mut out, &meaning);
+//! }
+//! let raws = coded.raws_of(alloc, signal, b"5 degC")?;
+//! ```
+#![tactic(auto)]
+
+mod coded;
+mod decimals;
+mod encoding;
+mod grammar;
+mod items;
+mod laws;
+mod layers;
+mod limits;
+mod lines;
+mod meaning;
+mod nearest;
+mod numbers;
+mod raws;
+mod reading;
+mod reals;
+mod sought;
+mod spelled;
+mod texts;
+mod unit;
+mod ways_back;
+
+pub use coded::{Coded, coded_by};
+pub use decimals::{Decimal, is_small, physical, put_decimal, units};
+pub use encoding::{Coding, Encoding, Range, Traits};
+pub use items::{CodedLine, CodingType, Codings, Item, PlacedItem};
+pub use laws::shown_is_read;
+pub use limits::{Coefficient, PhysicalValue};
+pub use meaning::{Meaning, put_meaning, put_plain, shown};
+pub use numbers::{number_and_unit, read_decimal};
+pub use raws::Raws;
+pub use reading::read_codings;
