@@ -1,3 +1,4 @@
 pub mod Listing
 pub mod Frames
 pub mod Slots
+pub mod Signals

@@ -1,5 +1,5 @@
 //! What an LDF describes, as lines: its nodes, signals and schedule tables, its frames with the
-//! places of their signals, and how much time its slots leave.
+//! places of their signals, how much time its slots leave, and what the values of signals mean.
 //!
 //! ```
 //! // a line for each node, signal and table, for each frame and each place, and for each slot and
@@ -12,8 +12,10 @@
 
 mod frames;
 mod listing;
+mod signals;
 mod slots;
 
 pub use frames::write_frames;
 pub use listing::write_list;
+pub use signals::write_signals;
 pub use slots::write_slots;

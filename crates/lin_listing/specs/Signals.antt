@@ -1,0 +1,83 @@
+-- What the values of signals mean (LIN 2.2A, section 9.2.6), as lines.
+use Rattle.std.specs.Prelude.{ℕ, List, [], ◌∷◌, ◌++◌, length, flat_map, codes, Option, Some, None}
+use Rattle.std.specs.Fmt.{decimal}
+use lib.IntN.{pos, ◌+ℤ◌, ◌*ℤ◌}
+use Rattle.lin_cluster_parts.specs.Cluster.{signal_of}
+use Rattle.lin_cluster_parts.specs.declared.parts.Parts.{Parts}
+use Rattle.lin_frame.specs.Words.{numbers}
+use Rattle.lin_log.specs.Words.{line, value_word}
+use Rattle.lin_values.specs.Coded.{encoding_of, CodedData, RangeData}
+use Rattle.lin_values.specs.Meaning.{meaning}
+use Rattle.lin_values.specs.Meant.{Meant}
+use Rattle.lin_values.specs.Shown.{decimal_shown, shown}
+use Rattle.lin_values.specs.Value.{decimal_of, value}
+use Rattle.lin_values.specs.declared.decimals.Decimal.{Decimal}
+use Rattle.lin_values.specs.declared.items.CodingType.{CodingType}
+use Rattle.lin_values.specs.declared.items.Item.{Item}
+use Rattle.lin_values.specs.declared.items.Item.TheVariants.{Logical, Physical, Bcd, Ascii}
+
+abbrev pub encoding_word : Option CodingType → List ℕ
+encoding_word None = codes "-"
+encoding_word (Some t) = t.name.text
+
+-- number, name, bits, and encoding or `-`
+abbrev pub coding_line : Parts → CodedData → ℕ → List ℕ
+coding_line c k s =
+    line (codes "coding" ∷ decimal s ∷ (signal_of c s).name ∷ decimal (signal_of c s).size
+    ∷ encoding_word (encoding_of k s) ∷ [])
+
+-- ---- items
+
+abbrev pub unit_words : List ℕ → List (List ℕ)
+unit_words [] = []
+unit_words (c ∷ cs) = (c ∷ cs) ∷ []
+
+abbrev pub decimal_word : ℕ → Decimal → Decimal → List ℕ
+decimal_word raw scale offset =
+    decimal_shown (decimal_of (pos raw *ℤ value scale +ℤ value offset))
+
+-- the raw ends, the decimals that they mean, and the unit
+abbrev pub range_line : ℕ → RangeData → List ℕ
+range_line s r =
+    line (codes "range" ∷ decimal s ∷ decimal r.min ∷ decimal r.max
+    ∷ decimal_word r.min r.scale r.offset ∷ decimal_word r.max r.scale r.offset ∷ unit_words r.unit)
+
+abbrev pub text_or_number : ℕ → List ℕ → List ℕ
+text_or_number n [] = decimal n
+text_or_number n (c ∷ cs) = c ∷ cs
+
+abbrev pub value_line : ℕ → ℕ → List ℕ → List ℕ
+value_line s n text =
+    line (codes "value" ∷ decimal s ∷ decimal n ∷ text_or_number n text ∷ [])
+
+abbrev pub item_line : ℕ → Item → List ℕ
+item_line s (Logical v text) = value_line s v text
+item_line s (Physical from to scale offset unit) =
+    range_line s
+    (record { min = from; max = to; scale = scale; offset = offset; unit = unit })
+item_line s Bcd = line (codes "bcd" ∷ decimal s ∷ [])
+item_line s Ascii = line (codes "ascii" ∷ decimal s ∷ [])
+
+abbrev pub item_lines : ℕ → Option CodingType → List ℕ
+item_lines s None = []
+item_lines s (Some t) = flat_map (λ p. item_line s p.item) t.items
+
+-- ---- the initial value, and its text where it has one
+
+abbrev pub meaning_words : Option Meant → List (List ℕ)
+meaning_words None = []
+meaning_words (Some m) = shown m ∷ []
+
+abbrev pub initial_line : Parts → CodedData → ℕ → List ℕ
+initial_line c k s =
+    line (codes "initial" ∷ decimal s ∷ value_word (signal_of c s).initial
+    ∷ meaning_words (meaning k s (signal_of c s).initial))
+
+-- ---- all signals
+
+abbrev pub signal_lines : Parts → CodedData → ℕ → List ℕ
+signal_lines c k s =
+    coding_line c k s ++ (item_lines s (encoding_of k s) ++ initial_line c k s)
+
+abbrev pub signal_list : Parts → CodedData → List ℕ
+signal_list c k = flat_map (signal_lines c k) (numbers (length c.signals))
