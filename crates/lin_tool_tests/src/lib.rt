@@ -1,6 +1,6 @@
 //! Tests of what stands on logs: formats, lists, bench scripts, lines in hand, and the program's
-//! calls; and of texts of the field. They are apart from the crates of these, so that those aren't
-//! proved a second time with them.
+//! calls; of texts of the field; and of what values mean. They are apart from the crates of these,
+//! so that those aren't proved a second time with them.
 #![tactic(auto)]
 
 #[cfg(test)]
@@ -21,3 +21,5 @@ mod live;
 mod program;
 #[cfg(test)]
 mod samples;
+#[cfg(test)]
+mod values;
