@@ -1,13 +1,9 @@
-//! Tests of whole runs, with threads.
+//! Tests of ports and their pump, without threads, and of whole runs, with threads.
 #![tactic(auto)]
 
 #[cfg(test)]
-mod bench;
+mod ports;
 #[cfg(test)]
-mod meeting;
+mod runs;
 #[cfg(test)]
-mod rows;
-#[cfg(test)]
-mod split;
-#[cfg(test)]
-mod tasks;
+mod samples;

@@ -1,8 +1,8 @@
 -- What a fault says of the pump.
 use Rattle.std.proofs.Common.{Result, Ok, Err, IfErr}
-use Rattle.lin_ports.specs.Pumps.{KeepsPump}
-use Rattle.lin_ports.specs.declared.pump.Pump.{Pump}
-use Rattle.lin_ports.proofs.RoundLemmas.{pump_trans}
+use Rattle.lin_threads.specs.Pumps.{KeepsPump}
+use Rattle.lin_threads.specs.declared.ports.pump.Pump.{Pump}
+use Rattle.lin_threads.proofs.RoundLemmas.{pump_trans}
 use Rattle.lin_threads.specs.Faults.{StopsFor}
 use Rattle.lin_threads.specs.declared.runs.RunFault.{RunFault}
 

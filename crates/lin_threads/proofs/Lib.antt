@@ -1,3 +1,11 @@
+pub mod PortLemmas
+pub mod LaneLemmas
+pub mod SettleLemmas
+pub mod WireLemmas
+pub mod TellLemmas
+pub mod RoundLemmas
+pub mod GivenLemmas
+pub mod MessageLemmas
 pub mod StateLemmas
 pub mod RunLemmas
 pub mod ScriptLemmas

@@ -2,20 +2,20 @@
 use Rattle.std.proofs.Common.{◌≡◌, ◌≤◌, ◌+◌, inl, inr, ℕ, List, [], ◌∷◌, ◌++◌, map, length, length-append, MatchBool, Bool, true, false, cond, Option, Some, None, refl, sym, ap, ◌∙◌, append_assoc, append-nil, arith}
 use Rattle.std.proofs.lemmas.List.{map-append}
 use Rattle.std.proofs.lemmas.List.Sums.{sum_by-append}
-use Rattle.lin_ports.specs.Ports.{by_node_port, node_put, node_ring, node_took, node_wiring, size_of}
+use Rattle.lin_threads.specs.Ports.{by_node_port, node_put, node_ring, node_took, node_wiring, size_of}
 use Rattle.std.specs.Global.{Vec}
 use Rattle.std.specs.declared.thread.PromisedHandle.{PromisedHandle}
-use Rattle.lin_ports.specs.Settled.{SameReceipt}
-use Rattle.lin_ports.specs.declared.node_port.NodePort.{NodePort}
-use Rattle.lin_ports.specs.declared.ports.Receipt.{Receipt}
-use Rattle.lin_ports.specs.declared.steps.NodeStep.{NodeStep}
-use Rattle.lin_ports.specs.declared.steps.Note.{Note}
+use Rattle.lin_threads.specs.Settled.{SameReceipt}
+use Rattle.lin_threads.specs.declared.ports.node_port.NodePort.{NodePort}
+use Rattle.lin_threads.specs.declared.ports.Receipt.{Receipt}
+use Rattle.lin_threads.specs.declared.ports.steps.NodeStep.{NodeStep}
+use Rattle.lin_threads.specs.declared.ports.steps.Note.{Note}
 use Rattle.lin_threads.specs.Nodes.{AreStepsIn, FollowsList, IsByList, PutsUnlessFull, dues, is_due, node_lists, step_in}
 use Rattle.lin_threads.specs.Started.{all_lists, list_lent}
 use Rattle.lin_threads.specs.declared.starting.Finished.{Finished}
 use Rattle.lin_threads.specs.declared.starting.Keeps.{Keeps}
 use Rattle.lin_threads.specs.States.{IsFurther, PortState, node_state, receipt_state}
-use Rattle.lin_ports.proofs.RoundLemmas.{prefix_same}
+use Rattle.lin_threads.proofs.RoundLemmas.{prefix_same}
 use Rattle.lin_threads.proofs.StateLemmas.{further_same, further_trans}
 
 -- the same port fills in the same number

@@ -12,16 +12,16 @@ use Rattle.lin_core.specs.declared.log.LogEntry.{LogEntry}
 use Rattle.lin_core.specs.declared.port.PortId.{PortId}
 use Rattle.lin_core.specs.declared.port.PortId.TheVariants.{Bus}
 use Rattle.lin_core.specs.declared.step.Step.{Step}
-use Rattle.lin_ports.specs.Pumps.{core_of, KeepsPump}
-use Rattle.lin_ports.specs.Ports.{receipt_wiring}
-use Rattle.lin_ports.specs.Rounds.{Rising, RoundAdds, longer_by}
-use Rattle.lin_ports.specs.Settled.{SameReceipt, StaysSettled}
-use Rattle.lin_ports.specs.Steps.{logged, port_at, same_port, step_by}
-use Rattle.lin_ports.specs.declared.ports.Receipt.{Receipt}
-use Rattle.lin_ports.specs.declared.pump.Pump.{Pump}
-use Rattle.lin_ports.proofs.PortLemmas.{port_at-apart, port_at-no_bus, same_port-false, same_port-true}
-use Rattle.lin_ports.proofs.RoundLemmas.{pump_refl, pump_trans}
-use Rattle.lin_ports.proofs.SettleLemmas.{stays_trans}
+use Rattle.lin_threads.specs.Pumps.{core_of, KeepsPump}
+use Rattle.lin_threads.specs.Ports.{receipt_wiring}
+use Rattle.lin_threads.specs.Rounds.{Rising, RoundAdds, longer_by}
+use Rattle.lin_threads.specs.Settled.{SameReceipt, StaysSettled}
+use Rattle.lin_threads.specs.Steps.{logged, port_at, same_port, step_by}
+use Rattle.lin_threads.specs.declared.ports.Receipt.{Receipt}
+use Rattle.lin_threads.specs.declared.ports.pump.Pump.{Pump}
+use Rattle.lin_threads.proofs.PortLemmas.{port_at-apart, port_at-no_bus, same_port-false, same_port-true}
+use Rattle.lin_threads.proofs.RoundLemmas.{pump_refl, pump_trans}
+use Rattle.lin_threads.proofs.SettleLemmas.{stays_trans}
 use Rattle.lin_threads.specs.Runs.{Advances, IsSettledAs, IsWiredReceipt, MakesAtMost, bus_steps, slot_steps}
 use Rattle.lin_threads.proofs.StateLemmas.{zip_weaker}
 

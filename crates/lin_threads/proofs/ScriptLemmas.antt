@@ -1,10 +1,10 @@
 -- A turn of a script's task.
 use Rattle.std.proofs.Common.{◌≡◌, ◌∙◌, List, [], ◌∷◌, ◌++◌, map, Option, Some, None, IfSome, IfNone, sym, ap, append-nil}
 use mathlib.Core.List.{IsPrefix}
-use Rattle.lin_ports.specs.Ports.{host_wiring, host_put, host_took, by_port, Continues}
-use Rattle.lin_ports.specs.declared.host_port.HostPort.{HostPort}
-use Rattle.lin_ports.specs.declared.steps.HostStep.{HostStep}
-use Rattle.lin_ports.specs.declared.steps.Note.{Note}
+use Rattle.lin_threads.specs.Ports.{host_wiring, host_put, host_took, by_port, Continues}
+use Rattle.lin_threads.specs.declared.ports.host_port.HostPort.{HostPort}
+use Rattle.lin_threads.specs.declared.ports.steps.HostStep.{HostStep}
+use Rattle.lin_threads.specs.declared.ports.steps.Note.{Note}
 use Rattle.lin_threads.specs.Scripts.{PutsFirst}
 
 -- what a port took begins with what it had taken

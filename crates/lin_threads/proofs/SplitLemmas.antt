@@ -10,8 +10,8 @@ use Rattle.std.proofs.Math.Seq.{take-append_seam}
 use Rattle.lin_core.specs.declared.port.PortId.{PortId}
 use Rattle.lin_core.specs.declared.port.PortId.TheVariants.{Host}
 use Rattle.lin_core.specs.declared.step.Step.{Step}
-use Rattle.lin_ports.specs.Steps.{host_step, same_port}
-use Rattle.lin_ports.specs.declared.steps.HostStep.{HostStep}
+use Rattle.lin_threads.specs.Steps.{host_step, same_port}
+use Rattle.lin_threads.specs.declared.ports.steps.HostStep.{HostStep}
 use Rattle.lin_threads.specs.Splitting.{IsOfHost, IsSplit, IsFirstOther, given_by, step_given, list_at}
 
 -- what one step more adds to what a host gives: the step, where it is that host's

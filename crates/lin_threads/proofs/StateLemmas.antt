@@ -4,14 +4,14 @@ use Rattle.std.proofs.lemmas.List.{length-append, length-map, map-append}
 use Rattle.std.proofs.lemmas.List.Elements.{All-nil, All-cons}
 use Rattle.std.specs.List.{All, AllZip, slice_get}
 use Rattle.std.specs.declared.thread.PromisedHandle.{PromisedHandle}
-use Rattle.lin_ports.specs.Ports.{Continues, IsReceiptOf, Wiring, host_wiring, node_wiring, node_put, node_took}
-use Rattle.lin_ports.specs.Pumps.{since, wirings}
-use Rattle.lin_ports.specs.declared.host_port.HostPort.{HostPort}
-use Rattle.lin_ports.specs.declared.node_port.NodePort.{NodePort}
-use Rattle.lin_ports.specs.declared.ports.Receipt.{Receipt}
-use Rattle.lin_ports.specs.declared.pump.Pump.{Pump}
-use Rattle.lin_ports.specs.declared.steps.Note.{Note}
-use Rattle.lin_ports.proofs.RoundLemmas.{prefix_same, prefix_trans}
+use Rattle.lin_threads.specs.Ports.{Continues, IsReceiptOf, Wiring, host_wiring, node_wiring, node_put, node_took}
+use Rattle.lin_threads.specs.Pumps.{since, wirings}
+use Rattle.lin_threads.specs.declared.ports.host_port.HostPort.{HostPort}
+use Rattle.lin_threads.specs.declared.ports.node_port.NodePort.{NodePort}
+use Rattle.lin_threads.specs.declared.ports.Receipt.{Receipt}
+use Rattle.lin_threads.specs.declared.ports.pump.Pump.{Pump}
+use Rattle.lin_threads.specs.declared.ports.steps.Note.{Note}
+use Rattle.lin_threads.proofs.RoundLemmas.{prefix_same, prefix_trans}
 use Rattle.lin_threads.specs.Runs.{IsSettledAs, IsWiredReceipt}
 use Rattle.lin_threads.specs.Started.{all_lent, lent}
 use Rattle.lin_threads.specs.declared.starting.Finished.{Finished}

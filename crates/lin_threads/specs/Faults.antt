@@ -2,10 +2,10 @@
 use Rattle.std.specs.Prelude.{◌≡◌, ◌≢◌, ◌-◌, ◌^◌, length}
 use Rattle.lin_core.specs.declared.hold.Hold.{Hold}
 use Rattle.lin_core.specs.declared.hold.Hold.TheVariants as hold
-use Rattle.lin_ports.specs.Pumps.{core_of, KeepsPump}
-use Rattle.lin_ports.specs.declared.pump.Pump.{Pump}
-use Rattle.lin_ports.specs.declared.pump.RoundFault.{RoundFault}
-use Rattle.lin_ports.specs.declared.pump.RoundFault.TheVariants as round
+use Rattle.lin_threads.specs.Pumps.{core_of, KeepsPump}
+use Rattle.lin_threads.specs.declared.ports.pump.Pump.{Pump}
+use Rattle.lin_threads.specs.declared.ports.pump.RoundFault.{RoundFault}
+use Rattle.lin_threads.specs.declared.ports.pump.RoundFault.TheVariants as round
 use Rattle.lin_threads.specs.declared.runs.RunFault.{RunFault}
 use Rattle.lin_threads.specs.declared.runs.RunFault.TheVariants.{LogFull, NoThread, OutOfMemory}
 

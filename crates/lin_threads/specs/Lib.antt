@@ -1,3 +1,11 @@
+pub mod Steps
+pub mod Lanes
+pub mod Ports
+pub mod Settled
+pub mod Wired
+pub mod Rounds
+pub mod Pumps
+pub mod Messages
 pub mod States
 pub mod Started
 pub mod Nodes

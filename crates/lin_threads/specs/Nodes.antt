@@ -4,14 +4,14 @@ use Rattle.std.specs.Prelude.{◌∷◌, ◌++◌, ◌⊎◌, length, map, count
 use Rattle.std.specs.Global.{Vec}
 use Rattle.std.specs.List.{list_any, zip}
 use Rattle.lin_core.specs.declared.event.Event.TheVariants as event
-use Rattle.lin_ports.specs.Ports.{by_node_port, node_put, node_ring, node_took}
-use Rattle.lin_ports.specs.declared.host_port.HostPort.{HostPort}
-use Rattle.lin_ports.specs.declared.node_port.NodePort.{NodePort}
-use Rattle.lin_ports.specs.declared.ports.Receipt.{Receipt}
-use Rattle.lin_ports.specs.declared.steps.NodeStep.{NodeStep}
-use Rattle.lin_ports.specs.declared.steps.NodeStep.TheVariants.{Answer, Leave}
-use Rattle.lin_ports.specs.declared.steps.Note.{Note}
-use Rattle.lin_ports.specs.declared.steps.Note.TheVariants as note
+use Rattle.lin_threads.specs.Ports.{by_node_port, node_put, node_ring, node_took}
+use Rattle.lin_threads.specs.declared.ports.host_port.HostPort.{HostPort}
+use Rattle.lin_threads.specs.declared.ports.node_port.NodePort.{NodePort}
+use Rattle.lin_threads.specs.declared.ports.Receipt.{Receipt}
+use Rattle.lin_threads.specs.declared.ports.steps.NodeStep.{NodeStep}
+use Rattle.lin_threads.specs.declared.ports.steps.NodeStep.TheVariants.{Answer, Leave}
+use Rattle.lin_threads.specs.declared.ports.steps.Note.{Note}
+use Rattle.lin_threads.specs.declared.ports.steps.Note.TheVariants as note
 use Rattle.lin_threads.specs.States.{PortState, receipt_state}
 
 -- what a node does in the slot that has this number among those in which it is due, from 0: it

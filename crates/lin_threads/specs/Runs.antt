@@ -8,12 +8,12 @@ use Rattle.lin_core.specs.declared.port.PortId.{PortId}
 use Rattle.lin_core.specs.declared.port.PortId.TheVariants.{Bus}
 use Rattle.lin_core.specs.declared.step.Step.{Step}
 use Rattle.lin_core.specs.declared.step.Step.TheVariants.{Open, Hurt, Finish}
-use Rattle.lin_ports.specs.Ports.{receipt_wiring}
-use Rattle.lin_ports.specs.Pumps.{core_of, IsWired, KeepsPump}
-use Rattle.lin_ports.specs.Settled.{IsSettled, SameReceipt, StaysSettled}
-use Rattle.lin_ports.specs.Steps.{logged}
-use Rattle.lin_ports.specs.declared.ports.Receipt.{Receipt}
-use Rattle.lin_ports.specs.declared.pump.Pump.{Pump}
+use Rattle.lin_threads.specs.Ports.{receipt_wiring}
+use Rattle.lin_threads.specs.Pumps.{core_of, IsWired, KeepsPump}
+use Rattle.lin_threads.specs.Settled.{IsSettled, SameReceipt, StaysSettled}
+use Rattle.lin_threads.specs.Steps.{logged}
+use Rattle.lin_threads.specs.declared.ports.Receipt.{Receipt}
+use Rattle.lin_threads.specs.declared.ports.pump.Pump.{Pump}
 
 -- the slot with this number is damaged, without bytes, where the plan names it
 abbrev pub damage : List ℕ → ℕ → List Step

@@ -1,8 +1,8 @@
 -- What a turn of a script's task does.
 use Rattle.std.specs.Prelude.{◌≡◌, Bool, true, false, List, [], ◌∷◌, ◌++◌, map}
-use Rattle.lin_ports.specs.Ports.{host_put, by_port}
-use Rattle.lin_ports.specs.declared.host_port.HostPort.{HostPort}
-use Rattle.lin_ports.specs.declared.steps.HostStep.{HostStep}
+use Rattle.lin_threads.specs.Ports.{host_put, by_port}
+use Rattle.lin_threads.specs.declared.ports.host_port.HostPort.{HostPort}
+use Rattle.lin_threads.specs.declared.ports.steps.HostStep.{HostStep}
 use Rattle.lin_threads.specs.declared.tasks.Turn.{Turn}
 use Rattle.lin_threads.specs.declared.tasks.Turn.TheVariants.{Again, Done}
 

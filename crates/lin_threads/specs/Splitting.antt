@@ -7,8 +7,8 @@ use Rattle.std.specs.Option.{option_map_or}
 use Rattle.lin_core.specs.declared.port.PortId.{PortId}
 use Rattle.lin_core.specs.declared.port.PortId.TheVariants.{Host}
 use Rattle.lin_core.specs.declared.step.Step.{Step}
-use Rattle.lin_ports.specs.Steps.{host_step, same_port}
-use Rattle.lin_ports.specs.declared.steps.HostStep.{HostStep}
+use Rattle.lin_threads.specs.Steps.{host_step, same_port}
+use Rattle.lin_threads.specs.declared.ports.steps.HostStep.{HostStep}
 use Rattle.lin_threads.specs.declared.splitting.SplitFault.{SplitFault}
 use Rattle.lin_threads.specs.declared.splitting.SplitFault.TheVariants.{NotHost, OutOfMemory}
 

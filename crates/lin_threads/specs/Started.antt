@@ -1,7 +1,7 @@
 -- Threads that were started.
 use Rattle.std.specs.Prelude.{ℕ, List, map, Option, Some, None}
 use Rattle.std.specs.declared.thread.PromisedHandle.{PromisedHandle}
-use Rattle.lin_ports.specs.declared.node_port.NodePort.{NodePort}
+use Rattle.lin_threads.specs.declared.ports.node_port.NodePort.{NodePort}
 use Rattle.lin_threads.specs.States.{PortState, host_state, node_state}
 use Rattle.lin_threads.specs.declared.starting.Finished.{Finished}
 use Rattle.lin_threads.specs.declared.starting.Keeps.{Keeps}

@@ -3,16 +3,16 @@ use Rattle.std.specs.Prelude.{◌≡◌, List, ◌++◌, map}
 use mathlib.Core.List.{IsPrefix}
 use Rattle.lin_core.specs.declared.log.LogEntry.{LogEntry}
 use Rattle.lin_core.specs.declared.step.Step.{Step}
-use Rattle.lin_ports.specs.Ports.{Wiring, host_wiring, host_put, host_took, node_wiring, node_put}
-use Rattle.lin_ports.specs.Ports.{node_took, receipt_wiring, receipt_id, receipt_put}
-use Rattle.lin_ports.specs.Ports.{receipt_took}
-use Rattle.lin_ports.specs.Pumps.{wirings}
-use Rattle.lin_ports.specs.Steps.{logged, notes}
-use Rattle.lin_ports.specs.declared.host_port.HostPort.{HostPort}
-use Rattle.lin_ports.specs.declared.node_port.NodePort.{NodePort}
-use Rattle.lin_ports.specs.declared.ports.Receipt.{Receipt}
-use Rattle.lin_ports.specs.declared.pump.Pump.{Pump}
-use Rattle.lin_ports.specs.declared.steps.Note.{Note}
+use Rattle.lin_threads.specs.Ports.{Wiring, host_wiring, host_put, host_took, node_wiring, node_put}
+use Rattle.lin_threads.specs.Ports.{node_took, receipt_wiring, receipt_id, receipt_put}
+use Rattle.lin_threads.specs.Ports.{receipt_took}
+use Rattle.lin_threads.specs.Pumps.{wirings}
+use Rattle.lin_threads.specs.Steps.{logged, notes}
+use Rattle.lin_threads.specs.declared.ports.host_port.HostPort.{HostPort}
+use Rattle.lin_threads.specs.declared.ports.node_port.NodePort.{NodePort}
+use Rattle.lin_threads.specs.declared.ports.Receipt.{Receipt}
+use Rattle.lin_threads.specs.declared.ports.pump.Pump.{Pump}
+use Rattle.lin_threads.specs.declared.ports.steps.Note.{Note}
 
 -- which port it is, the steps that it has put, and the notes that it has taken
 pub record PortState : Type 0 where

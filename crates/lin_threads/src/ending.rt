@@ -3,14 +3,14 @@
 ghost use Rattle.std.specs.Prelude.{◌≡◌, ◌≤◌, [], All, IfOk, IfErr, OnOk, vec_len};
 ghost use Rattle.std.specs.List.{AllZip};
 ghost use Rattle.std.specs.Vec.{vec_capacity};
-ghost use Rattle.lin_ports.specs.Ports.{receipt_wiring};
-ghost use Rattle.lin_ports.specs.Pumps.{IsWired};
+ghost use Rattle.lin_threads.specs.Ports.{receipt_wiring};
+ghost use Rattle.lin_threads.specs.Pumps.{IsWired};
 ghost use Rattle.lin_threads.specs.Faults.{StopsFor};
 ghost use Rattle.lin_threads.specs.Runs.{Advances, IsSettledAs, IsWiredReceipt};
 
+use crate::ports::{Pump, Receipt, Settled};
 use crate::runs::RunFault;
 use crate::shared::Shared;
-use lin_ports::{Pump, Receipt, Settled};
 use std::sync::Wait;
 use std::thread;
 

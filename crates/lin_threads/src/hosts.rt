@@ -2,11 +2,11 @@
 
 ghost use Rattle.lin_threads.specs.States.{IsFurther, host_state, receipt_state};
 
+use crate::ports::HostPort;
 use crate::runs::Ended;
 use crate::shared::Shared;
 use crate::starting::Finished;
 use crate::tasks::{HostTask, Turn};
-use lin_ports::HostPort;
 use std::alloc::Global;
 use std::sync::Arc;
 use std::thread;

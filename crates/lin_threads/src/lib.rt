@@ -1,16 +1,27 @@
-//! Whole runs of a cluster: the hosts' tasks and the nodes' answers in threads of their own, and
-//! the slots of the schedule. The ports and the pump of `lin_ports` are handed on.
+//! Whole runs of a cluster: ports of hosts and nodes, each with a ring of steps and a ring of notes;
+//! the pump that makes their steps on a core; the hosts' tasks and the nodes' answers in threads of
+//! their own; and the slots of the schedule.
 //!
 //! ```
 //! let (pump, hosts, nodes) = wire(alloc, core, 64)?;
 //! let report = run_cluster(rt, alloc, pump, hosts, nodes, tasks, plan)?;
 //! write_log(report.core.log(), &mut writer)?;
 //! ```
+//!
+//! Without threads, step by step:
+//!
+//! ```
+//! let (mut pump, mut hosts, mut nodes) = wire(alloc, core, 64)?;
+//! hosts[0].put(HostStep::Send { to: 1, message })?;
+//! pump.round()?;
+//! let note = hosts[0].take();
+//! ```
 #![tactic(auto)]
 
 mod ending;
 mod hosts;
 mod nodes;
+mod ports;
 mod runs;
 mod script_task;
 mod shared;
@@ -19,9 +30,9 @@ mod splitting;
 mod starting;
 mod tasks;
 
-pub use lin_ports::{
+pub use ports::{
     Full, HostPort, HostStep, NodePort, NodeStep, Note, Pump, Receipt, RoundFault, Settled, Taken,
-    wire,
+    taken_messages, tells_messages, wire,
 };
 pub use runs::{Ended, Plan, RunFault, RunReport, run_cluster};
 pub use script_task::ScriptTask;

@@ -1,15 +1,15 @@
 //! The threads of nodes.
 
 ghost use Rattle.std.specs.Prelude.{◌≡◌, ◌<◌, ◌+◌, ◌-◌, ◌^◌, ◌∷◌, [], ℕ, MatchBool};
-ghost use Rattle.lin_ports.specs.Ports.{node_put, node_took, node_wiring};
+ghost use Rattle.lin_threads.specs.Ports.{node_put, node_took, node_wiring};
 ghost use Rattle.lin_threads.specs.Nodes.{FollowsList, PutsUnlessFull, dues, is_due, step_in};
 ghost use Rattle.lin_threads.specs.States.{IsFurther, node_state, receipt_state};
 
+use crate::ports::{Full, NodePort, NodeStep, Note};
 use crate::runs::Ended;
 use crate::shared::Shared;
 use crate::starting::Finished;
 use lin_core::Event;
-use lin_ports::{Full, NodePort, NodeStep, Note};
 use std::alloc::Global;
 use std::sync::Arc;
 use std::thread;

@@ -6,9 +6,9 @@ ghost use Rattle.std.specs.Vec.{vec_capacity};
 ghost use mathlib.Core.List.{IsPrefix};
 ghost use Rattle.lin_core.specs.Core.{IsAlike};
 ghost use Rattle.lin_core.specs.declared.port.PortId.TheVariants.{Bus};
-ghost use Rattle.lin_ports.specs.Lanes.{OnlyOwn};
-ghost use Rattle.lin_ports.specs.Pumps.{core_of, since, first_entry};
-ghost use Rattle.lin_ports.specs.Steps.{logged};
+ghost use Rattle.lin_threads.specs.Lanes.{OnlyOwn};
+ghost use Rattle.lin_threads.specs.Pumps.{core_of, since, first_entry};
+ghost use Rattle.lin_threads.specs.Steps.{logged};
 ghost use Rattle.lin_threads.specs.Faults.{EndsFor, IsFaultOf};
 ghost use Rattle.lin_threads.specs.Nodes.{IsByList, no_lists, node_lists};
 ghost use Rattle.lin_threads.specs.Started.{all_lent, all_lists};
@@ -16,12 +16,12 @@ ghost use Rattle.lin_threads.specs.States.{ArePortsOf, IsSettledReceipt, handed_
 ghost use Rattle.lin_threads.specs.Runs.{Advances, bus_steps};
 
 use crate::ending::{make_last_rounds, settle_all};
+use crate::ports::{HostPort, NodePort, Pump, Receipt, RoundFault};
 use crate::shared::Shared;
 use crate::slots::all_slots;
 use crate::starting::{Handle, give_up, join_all, start_hosts, start_nodes};
 use crate::tasks::HostTask;
 use lin_core::{Core, Hold};
-use lin_ports::{HostPort, NodePort, Pump, Receipt, RoundFault};
 use std::alloc::{AllocError, Global};
 use std::sync::{Arc, Wait};
 use std::thread::Threads;

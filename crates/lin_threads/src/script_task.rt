@@ -1,7 +1,7 @@
 //! A host's task that puts the steps of a script.
 
+use crate::ports::{Full, HostPort, HostStep};
 use crate::tasks::{HostTask, Turn};
-use lin_ports::{Full, HostPort, HostStep};
 use std::marker::Model;
 use std::vec::IntoIter;
 
@@ -16,7 +16,7 @@ impl Model for ScriptTask {
     ghost use Rattle.std.specs.Prelude.{◌≡◌, List, [], ◌++◌, IfNone};
     ghost use Rattle.std.specs.Option.{option_to_list};
     ghost use Rattle.std.specs.Vec.Iter.{into_iter_items};
-    ghost use Rattle.lin_ports.specs.declared.steps.HostStep.{HostStep};
+    ghost use Rattle.lin_threads.specs.declared.ports.steps.HostStep.{HostStep};
 
     ghost Value = { List HostStep };
 
@@ -27,7 +27,7 @@ impl Model for ScriptTask {
 
 impl ScriptTask {
     ghost use Rattle.std.specs.Prelude.{◌≡◌, ◌≤◌, [], length, IsTrue, ◌↔◌};
-    ghost use Rattle.lin_ports.specs.Ports.{host_wiring, host_put, host_took, host_ring};
+    ghost use Rattle.lin_threads.specs.Ports.{host_wiring, host_put, host_took, host_ring};
     ghost use Rattle.lin_threads.specs.Scripts.{PutsFirst};
 
     /// A task with all these steps left.
@@ -68,7 +68,7 @@ impl ScriptTask {
 
 impl HostTask for ScriptTask {
     ghost use Rattle.std.specs.Prelude.{◌≡◌, ◌≤◌, ◌+◌, length};
-    ghost use Rattle.lin_ports.specs.Ports.{Continues, host_put, host_took, host_ring};
+    ghost use Rattle.lin_threads.specs.Ports.{Continues, host_put, host_took, host_ring};
     ghost use Rattle.lin_threads.specs.Scripts.{PutsFirst, turn_with};
 
     /// Takes a note, if one has come, and puts the first step that is left, which stays where the

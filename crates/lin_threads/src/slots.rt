@@ -4,9 +4,9 @@ ghost use Rattle.std.specs.Prelude.{◌∷◌, [], IfErr, OnOk};
 ghost use Rattle.lin_threads.specs.Faults.{StopsFor};
 ghost use Rattle.lin_threads.specs.Runs.{Advances, MakesAtMost, bus_steps, damage, slot_steps};
 
+use crate::ports::Pump;
 use crate::runs::RunFault;
 use lin_core::{Payload, Step};
-use lin_ports::Pump;
 use std::alloc::Global;
 use std::thread;
 

@@ -3,11 +3,11 @@
 ghost use Rattle.std.specs.Prelude.{◌≡◌, ◌≢◌, ℕ, ◌<◌, ◌++◌, ◌∷◌, [], length, OnOk, IfOk, IfSome};
 ghost use Rattle.std.specs.Prelude.{IfNone};
 ghost use Rattle.lin_core.specs.declared.port.PortId.TheVariants.{Host};
-ghost use Rattle.lin_ports.specs.Steps.{host_step};
+ghost use Rattle.lin_threads.specs.Steps.{host_step};
 ghost use Rattle.lin_threads.specs.Splitting.{IsOfHost, Splits, list_at};
 
+use crate::ports::HostStep;
 use lin_core::{PortId, Step};
-use lin_ports::HostStep;
 use std::alloc::{AllocError, Global};
 
 /// Why a script isn't split.

@@ -12,10 +12,10 @@ ghost use Rattle.lin_threads.specs.declared.runs.RunFault.TheVariants.{NoThread}
 
 use crate::hosts::run_task;
 use crate::nodes::run_node;
+use crate::ports::{HostPort, NodePort, Receipt};
 use crate::runs::{Ended, RunFault};
 use crate::shared::Shared;
 use crate::tasks::HostTask;
-use lin_ports::{HostPort, NodePort, Receipt};
 use std::alloc::Global;
 use std::snapshot::Snapshot;
 use std::sync::Arc;

@@ -1,6 +1,6 @@
 //! What a host does.
 
-use lin_ports::HostPort;
+use crate::ports::HostPort;
 
 /// What a task answers at the end of a turn.
 #[derive(Clone, Copy, Debug, PartialEq, Eq)]
@@ -13,7 +13,7 @@ pub enum Turn {
 
 /// What a host does: a task that works on its port a turn at a time.
 pub trait HostTask: Drop {
-    ghost use Rattle.lin_ports.specs.Ports.{Continues};
+    ghost use Rattle.lin_threads.specs.Ports.{Continues};
 
     /// One turn of a host's task on its port; `over` once the run's slots are over. The port is
     /// still that port afterwards, and what it put and what it took begin with what it had put and

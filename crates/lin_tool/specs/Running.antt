@@ -7,7 +7,7 @@ use Rattle.lin_core.specs.declared.port.PortId.{PortId}
 use Rattle.lin_core.specs.declared.step.Step.{Step}
 use Rattle.lin_log.specs.Replay.{ScriptFaults, IsScriptOf}
 use Rattle.lin_log.specs.declared.fault.ScriptFault.TheVariants as script
-use Rattle.lin_ports.specs.declared.steps.HostStep.{HostStep}
+use Rattle.lin_threads.specs.declared.ports.steps.HostStep.{HostStep}
 use Rattle.lin_threads.specs.Splitting.{IsSplit, IsFirstOther}
 use Rattle.lin_threads.specs.declared.splitting.SplitFault.{SplitFault}
 use Rattle.lin_threads.specs.declared.splitting.SplitFault.TheVariants as split

@@ -4,7 +4,7 @@
 ghost use Rattle.std.specs.Prelude.{◌≡◌, ◌≤◌, ◌<◌, [], length, vec_len, IfOk, IfSome};
 ghost use Rattle.lin_cluster_parts.specs.Cluster.{nodes};
 ghost use Rattle.lin_core.specs.declared.port.PortId.TheVariants.{Bus};
-ghost use Rattle.lin_ports.specs.Steps.{logged};
+ghost use Rattle.lin_threads.specs.Steps.{logged};
 ghost use Rattle.lin_threads.specs.Runs.{bus_steps};
 ghost use Rattle.lin_tool.specs.Formats.{log_as};
 ghost use Rattle.lin_tool.specs.Running.{ReadsHosts, WritesRun};

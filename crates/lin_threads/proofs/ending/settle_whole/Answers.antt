@@ -1,6 +1,6 @@
 use Rattle.std.proofs.Common.{refl}
 use Rattle.lin_threads.proofs.RunLemmas.{advances_refl, advances_round, advances_same, same_receipt, wired_kept}
-use Rattle.lin_ports.proofs.RoundLemmas.{pump_trans}
+use Rattle.lin_threads.proofs.RoundLemmas.{pump_trans}
 use Rattle.lin_threads.proofs.ending.settle_whole.Goals as goal
 
 pub loop-init : goal.loop-init

@@ -1,5 +1,5 @@
 use Rattle.std.proofs.Common.{[]}
-use Rattle.lin_ports.specs.Settled.{SameReceipt}
+use Rattle.lin_threads.specs.Settled.{SameReceipt}
 use Rattle.lin_threads.specs.Runs.{Advances, IsWiredReceipt}
 use Rattle.lin_threads.proofs.ending.settle_whole.Given as goal
 

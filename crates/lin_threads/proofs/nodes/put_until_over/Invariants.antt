@@ -1,5 +1,5 @@
 use Rattle.std.proofs.Common.{◌≡◌, ◌≤◌, length}
-use Rattle.lin_ports.specs.Ports.{node_put, node_ring, node_took, node_wiring}
+use Rattle.lin_threads.specs.Ports.{node_put, node_ring, node_took, node_wiring}
 use Rattle.lin_threads.proofs.nodes.put_until_over.Given as goal
 
 abbrev pub invariant-loop : goal.invariant-loop

@@ -1,6 +1,6 @@
 use Rattle.std.proofs.Common.{List, ◌++◌, subst, ◌∙◌, arith}
 use Rattle.std.specs.List.{AllZip}
-use Rattle.lin_ports.specs.Pumps.{since}
+use Rattle.lin_threads.specs.Pumps.{since}
 use Rattle.lin_threads.specs.Runs.{IsSettledAs, bus_steps}
 use Rattle.lin_threads.specs.Nodes.{IsByList, no_lists, node_lists}
 use Rattle.lin_threads.specs.States.{IsReceiptFrom, IsSettledReceipt, PortState, handed_in}

@@ -1,7 +1,7 @@
 use Rattle.std.proofs.Common.{[], ◌∷◌}
 use Rattle.lin_core.specs.declared.step.Step.TheVariants.{Finish, Open}
 use Rattle.lin_threads.specs.Runs.{damage}
-use Rattle.lin_ports.proofs.RoundLemmas.{pump_trans}
+use Rattle.lin_threads.proofs.RoundLemmas.{pump_trans}
 use Rattle.lin_threads.proofs.FaultLemmas.{stops_after}
 use Rattle.lin_threads.proofs.RunLemmas.{advances_ok, advances_trans}
 use Rattle.lin_threads.proofs.slots.one_slot.Goals as goal

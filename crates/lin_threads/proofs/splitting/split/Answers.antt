@@ -1,7 +1,7 @@
 use Rattle.std.proofs.Common.{◌≡◌, ◌<◌, ◌∙◌, [], ◌∷◌, ◌++◌, ap, sym, append_assoc, rules, arith}
 use Rattle.std.proofs.lemmas.Grind.{common_steps}
 use Rattle.lin_core.specs.declared.port.PortId.TheVariants.{Host}
-use Rattle.lin_ports.specs.Steps.{host_step}
+use Rattle.lin_threads.specs.Steps.{host_step}
 use Rattle.lin_threads.specs.Splitting.{list_at}
 use Rattle.lin_threads.proofs.SplitLemmas.{split-more, first-other}
 use Rattle.lin_threads.proofs.splitting.split.Goals as goal

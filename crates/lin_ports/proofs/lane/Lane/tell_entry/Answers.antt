@@ -1,9 +1,0 @@
-use Rattle.std.proofs.Common.{refl, sym, ap, ◌∙◌}
-use Rattle.lin_core.specs.declared.reply.Reply.TheVariants.{Done}
-use Rattle.lin_ports.proofs.lane.Lane.tell_entry.Goals as goal
-
-pub returns-in-Done-clause-serves : goal.returns-in-Done-clause-serves
-returns-in-Done-clause-serves c base log s at = c.tell_events.ensures.serves base log c.args.entry.now s at (c.in-Done.is ∙ ap Done (sym c.as_slice.ensures))
-
-pub returns-in-Refused-clause-serves : goal.returns-in-Refused-clause-serves
-returns-in-Refused-clause-serves c base log s at = c.tell_refusal.ensures.serves base log c.args.entry.now s at refl c.in-Refused.is

@@ -1,0 +1,7 @@
+//! Whole runs, with threads.
+
+mod bench;
+mod meeting;
+mod rows;
+mod split;
+mod tasks;

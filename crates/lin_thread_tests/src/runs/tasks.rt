@@ -1,0 +1,94 @@
+//! Tasks that take all turns that they get, and that wait for the rounds after the last slot.
+
+use crate::runs::bench::{NUMBERS, Numbers, expect_ended, expect_log, run, script};
+use crate::samples::{DOOR_CLUSTER, core_on};
+use lin_core::Event;
+use lin_threads::{Ended, HostPort, HostTask, Note, ScriptTask, Turn};
+use std::alloc::Global;
+use std::sync::Arc;
+use std::sync::atomic::{AtomicU64, Ordering};
+use std::test::Fail;
+
+/// A task that is never done, and counts its turns.
+#[derive(Drop)]
+struct Restless {
+    turns: Arc<AtomicU64, Global>,
+}
+
+impl HostTask for Restless {
+    fn turn(&mut self, _port: &mut HostPort, _over: bool) -> Turn {
+        self.turns.fetch_add(1, Ordering::SeqCst);
+        Turn::Again
+    }
+}
+
+#[test]
+fn task_that_never_ends(rt: HostRuntime) -> Result<(), Fail> {
+    let alloc = rt.alloc();
+    let turns = Arc::new(alloc, AtomicU64::new(0))?;
+    let restless = Restless {
+        turns: Arc::try_clone(&turns)?,
+    };
+    let mut tasks: Vec<Box<dyn HostTask + Send>> = Vec::new(alloc);
+    tasks.push(Box::new(alloc, script(alloc, 1, &[1])?)?)?;
+    tasks.push(Box::new(alloc, restless)?)?;
+    let numbers = Numbers {
+        ring: 4,
+        slots: 2,
+        turns: 10,
+        rounds: 0,
+        ..NUMBERS
+    };
+    let core = core_on(&rt, alloc, DOOR_CLUSTER, 0)?;
+    let report = run(&rt, alloc, core, tasks, &numbers)?;
+    assert_eq!(rt; report.ended.len(), 2);
+    assert_eq!(rt; report.ended[1], Ended::Limit);
+    assert_eq!(rt; turns.load(Ordering::SeqCst), 10);
+    Ok(())
+}
+
+/// A task that puts its step once the run's slots are over, and is done once it took the note that
+/// a message was accepted.
+#[derive(Drop)]
+struct Late {
+    step: ScriptTask,
+    has_put: bool,
+}
+
+impl HostTask for Late {
+    fn turn(&mut self, port: &mut HostPort, over: bool) -> Turn {
+        if over && !self.has_put {
+            self.has_put = true;
+            let _turn = self.step.turn(port, over);
+            return Turn::Again;
+        }
+        match port.take() {
+            Some(Note::Event(Event::Accepted { .. })) => Turn::Done,
+            _ => Turn::Again,
+        }
+    }
+}
+
+const LATE_SEND: &str = "bus open
+> slot 0 0 -
+bus finish
+> seen silent
+h0 send 0 1 01
+> accepted 0 1
+";
+
+#[test]
+fn rounds_go_on_while_a_task_does(rt: HostRuntime) -> Result<(), Fail> {
+    let alloc = rt.alloc();
+    let late = Late {
+        step: script(alloc, 1, &[1])?,
+        has_put: false,
+    };
+    let mut tasks: Vec<Box<dyn HostTask + Send>> = Vec::new(alloc);
+    tasks.push(Box::new(alloc, late)?)?;
+    tasks.push(Box::new(alloc, script(alloc, 0, &[])?)?)?;
+    let core = core_on(&rt, alloc, DOOR_CLUSTER, 0)?;
+    let report = run(&rt, alloc, core, tasks, &NUMBERS)?;
+    expect_ended(&rt, &report, [Ended::Done, Ended::Done], "late");
+    expect_log(&rt, alloc, &report.core, LATE_SEND, "late")
+}
