@@ -27,7 +27,8 @@ def loaded(path):
 backend = loaded(os.path.join(PACKAGE, "backend", "linsim_backend.py"))
 MODULES = {f"linsim/{name}" for name in os.listdir(os.path.join(PACKAGE, "linsim"))} - {
     "linsim/__pycache__"}
-INFO = {f"linsim-0.1.0.dist-info/{name}" for name in ("METADATA", "WHEEL", "RECORD")}
+NAME = f"linsim-{backend.VERSION}"
+INFO = {f"{NAME}.dist-info/{name}" for name in ("METADATA", "WHEEL", "RECORD")}
 
 
 class Backend(unittest.TestCase):
@@ -51,11 +52,11 @@ class Backend(unittest.TestCase):
 
     def test_wheel(self):
         name = backend.build_wheel(self.room)
-        self.assertEqual(name, "linsim-0.1.0-py3-none-any.whl")
+        self.assertEqual(name, f"{NAME}-py3-none-any.whl")
         path = os.path.join(self.room, name)
         with zipfile.ZipFile(path) as archive:
             self.assertEqual(set(archive.namelist()), MODULES | INFO)
-            record = archive.read("linsim-0.1.0.dist-info/RECORD").decode()
+            record = archive.read(f"{NAME}.dist-info/RECORD").decode()
             for file, told, size in csv.reader(io.StringIO(record)):
                 data = archive.read(file)
                 digest = base64.urlsafe_b64encode(hashlib.sha256(data).digest()).decode()
@@ -63,8 +64,8 @@ class Backend(unittest.TestCase):
                     "sha256=" + digest.rstrip("="), str(len(data)))
                 self.assertEqual((told, size), wanted, file)
             self.assertEqual(len(record.splitlines()), len(MODULES | INFO))
-            metadata = archive.read("linsim-0.1.0.dist-info/METADATA").decode()
-            self.assertIn("\nName: linsim\nVersion: 0.1.0\n", metadata)
+            metadata = archive.read(f"{NAME}.dist-info/METADATA").decode()
+            self.assertIn(f"\nName: linsim\nVersion: {backend.VERSION}\n", metadata)
         self.assertTrue(self.imported_from(path).startswith(path))
 
     def test_wheel_that_leads_here(self):
@@ -80,7 +81,7 @@ class Backend(unittest.TestCase):
                 os.makedirs(os.path.dirname(path), exist_ok=True)
                 with open(path, "wb") as file:
                     file.write(archive.extractfile(entry).read())
-        top = os.path.join(self.room, "linsim-0.1.0")
+        top = os.path.join(self.room, NAME)
         self.assertTrue({"pyproject.toml", "README.md", "PKG-INFO"} <= set(os.listdir(top)))
         with open(os.path.join(self.room, backend.build_wheel(self.room)), "rb") as file:
             wheel = file.read()
