@@ -129,7 +129,7 @@ fn cluster_of_bytes(
         Err(fault) => Err(fault),
     };
     if let Err(fault) = &answer {
-        notes.add_text(alloc, bytes.as_slice(), fault)?;
+        notes.add_text(alloc, Reading::Plain, bytes.as_slice(), fault)?;
     }
     notes.add_field(alloc, bytes.as_mut_slice(), &answer);
     answer

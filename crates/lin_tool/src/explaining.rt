@@ -1,13 +1,16 @@
 //! `--explain`: what is said below the lines of a fault, for who meets it first.
 
+use crate::describing::Reading;
 use crate::fault::Fault;
 use crate::field::warnings_of;
 use crate::meanings::{FAULTS, FINDINGS, REFUSALS};
+use crate::misspelled::{described, put_near, put_unread};
+use crate::wanted::put_wanted;
 use lin_cluster::Finding;
 use lin_cluster_parts::Cluster;
 use lin_core::{Listed, Log, Refusal, Reply};
 use lin_field::{Remark, read_field};
-use lin_ldf::{LdfFault, Place};
+use lin_ldf::{Description, LdfFault, Place};
 use lin_log::first_line;
 use std::alloc::{AllocError, Global};
 
@@ -16,6 +19,9 @@ const WIDTH: usize = 96;
 
 /// How many bytes of a line are shown at most before a place in it.
 const BEFORE: usize = 64;
+
+/// The number of the finding of a name that nothing declares.
+const UNKNOWN_NAME: u8 = 1;
 
 /// How many findings, or bad lines of a bench script, are explained at most.
 pub(crate) const MOST: usize = 10;
@@ -50,7 +56,7 @@ fn line_of(text: &[u8], number: u64) -> &[u8] {
 }
 
 /// Puts the line of a place in a text, and a mark under the place.
-fn put_place(out: &mut String, text: &[u8], place: Place) -> Result<(), AllocError> {
+pub(crate) fn put_place(out: &mut String, text: &[u8], place: Place) -> Result<(), AllocError> {
     let line = line_of(text, place.line);
     let at = line.len().min(place.column.saturating_sub(1) as usize);
     let from = at.saturating_sub(BEFORE);
@@ -78,14 +84,23 @@ pub(crate) fn place_of(fault: &LdfFault) -> Option<(Place, usize)> {
     }
 }
 
-fn put_fault(out: &mut String, text: &[u8], fault: &LdfFault) -> Result<(), AllocError> {
+fn put_fault(
+    alloc: Global,
+    out: &mut String,
+    reading: Reading,
+    text: &[u8],
+    fault: &LdfFault,
+) -> Result<(), AllocError> {
     let Some((place, number)) = place_of(fault) else {
         return Ok(());
     };
     put_place(out, text, place)?;
-    match FAULTS.get(number.wrapping_sub(1)) {
-        Some((_, meaning)) => writeln!(out, "  {meaning}"),
-        None => Ok(()),
+    if let Some((_, meaning)) = FAULTS.get(number.wrapping_sub(1)) {
+        writeln!(out, "  {meaning}")?;
+    }
+    match fault {
+        LdfFault::Unexpected(_) => put_wanted(alloc, out, reading, text, place),
+        _ => Ok(()),
     }
 }
 
@@ -104,35 +119,73 @@ fn put_finding(out: &mut String, text: &[u8], finding: &Finding) -> Result<(), A
     }
 }
 
-fn put_findings(out: &mut String, text: &[u8], findings: &[Finding]) -> Result<(), AllocError> {
+/// Puts the nearest name to one that nothing declares.
+fn put_unknown(
+    alloc: Global,
+    out: &mut String,
+    text: &[u8],
+    description: Option<&Description>,
+    finding: &Finding,
+) -> Result<(), AllocError> {
+    let Finding {
+        number,
+        line,
+        column,
+        needed_us: _,
+    } = *finding;
+    match description {
+        Some(description) if number == UNKNOWN_NAME => {
+            put_near(alloc, out, text, description, Place { line, column })
+        }
+        _ => Ok(()),
+    }
+}
+
+fn put_findings(
+    alloc: Global,
+    out: &mut String,
+    text: &[u8],
+    findings: &[Finding],
+) -> Result<(), AllocError> {
+    let description = described(alloc, Reading::Plain, text)?;
     for finding in findings.iter().take(MOST) {
         put_finding(out, text, finding)?;
+        put_unknown(alloc, out, text, description.as_ref(), finding)?;
     }
-    Ok(())
+    put_unread(alloc, out, text)
 }
 
 /// Puts where an LDF text is at fault, and what that means: of the first ten findings.
-pub(crate) fn put_text(out: &mut String, text: &[u8], fault: &Fault) -> Result<(), AllocError> {
+pub(crate) fn put_text(
+    alloc: Global,
+    out: &mut String,
+    reading: Reading,
+    text: &[u8],
+    fault: &Fault,
+) -> Result<(), AllocError> {
     // (columns of the first line count from after a byte-order mark)
     let text = text.strip_prefix(b"\xEF\xBB\xBF").unwrap_or(text);
     match fault {
-        Fault::Ldf(fault) => put_fault(out, text, fault),
-        Fault::Findings(findings) => put_findings(out, text, findings.0.as_slice()),
+        Fault::Ldf(fault) => put_fault(alloc, out, reading, text, fault),
+        Fault::Findings(findings) => put_findings(alloc, out, text, findings.0.as_slice()),
         _ => Ok(()),
     }
 }
 
 /// Puts where an LDF text of the field is remarked on, and what that means: of the first ten.
 pub(crate) fn put_remarks(
+    alloc: Global,
     out: &mut String,
     text: &[u8],
     remarks: &[Remark],
 ) -> Result<(), AllocError> {
     let text = text.strip_prefix(b"\xEF\xBB\xBF").unwrap_or(text);
+    let description = described(alloc, Reading::Field, text)?;
     for remark in remarks.iter().take(MOST) {
         put_finding(out, text, &remark.finding)?;
+        put_unknown(alloc, out, text, description.as_ref(), &remark.finding)?;
     }
-    Ok(())
+    put_unread(alloc, out, text)
 }
 
 /// Puts what `--field` makes of a text that is refused without it: with how many warnings it reads
@@ -149,12 +202,13 @@ pub(crate) fn put_refused_field(
     }
 }
 
-/// Puts what of a text that is accepted is read by `--field` alone.
+/// Puts what of a text that is accepted is read by `--field` alone, or nearly a word that is read.
 pub(crate) fn put_accepted_field(
     alloc: Global,
     out: &mut String,
     text: &mut [u8],
 ) -> Result<(), AllocError> {
+    put_unread(alloc, out, text)?;
     let loose = match read_field(alloc, text) {
         Ok(read) => read.loose,
         Err(LdfFault::OutOfMemory) => return Err(AllocError),

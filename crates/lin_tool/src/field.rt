@@ -3,7 +3,7 @@
 ghost use Rattle.lin_tool.specs.Field.{AnswersChecked, AnswersField, AnswersSettled, ChecksField};
 ghost use Rattle.lin_tool.specs.Field.{WritesPlain};
 
-use crate::describing::{fault_of, let_go, read_text};
+use crate::describing::{Reading, fault_of, let_go, read_text};
 use crate::fault::Fault;
 use crate::findings::Remarks;
 use crate::notes::Notes;
@@ -68,7 +68,7 @@ fn settled_noted(
 {
     let answer = settled_of(alloc, bytes);
     if let Err(fault) = &answer {
-        notes.add_text(alloc, text, fault)?;
+        notes.add_text(alloc, Reading::Field, text, fault)?;
     }
     answer
 }

@@ -22,6 +22,7 @@ mod listing;
 mod living;
 mod locating;
 mod meanings;
+mod misspelled;
 mod nearest;
 mod notes;
 mod opening;
@@ -32,6 +33,7 @@ mod running;
 mod scripts;
 mod tally;
 mod telling;
+mod wanted;
 
 pub use checking::{check, check_plain};
 pub use comparing::{compare, compare_script, first_difference};

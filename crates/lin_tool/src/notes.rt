@@ -5,6 +5,7 @@ ghost use Rattle.std.specs.Prelude.{◌≡◌, flat_map};
 ghost use Rattle.lin_text.specs.Written.{WritesText};
 ghost use Rattle.lin_tool.specs.Telling.{remark_line};
 
+use crate::describing::Reading;
 use crate::explaining::{
     MOST, put_accepted_field, put_bad_line, put_refusals, put_refused_field, put_remarks,
     put_tables, put_text,
@@ -193,6 +194,7 @@ impl<'a> Notes<'a> {
     pub(crate) fn add_text(
         &mut self,
         alloc: Global,
+        reading: Reading,
         text: &[u8],
         fault: &Fault,
     ) -> Result<(), AllocError> {
@@ -200,7 +202,7 @@ impl<'a> Notes<'a> {
             put_places(alloc, &mut self.places, file, text, fault)?;
         }
         if self.is_more_explained() {
-            self.is_cut |= put_text(&mut self.text, text, fault).is_err();
+            self.is_cut |= put_text(alloc, &mut self.text, reading, text, fault).is_err();
         }
         Ok(())
     }
@@ -219,7 +221,7 @@ impl<'a> Notes<'a> {
             put_remark_places(alloc, &mut self.places, file, text, remarks)?;
         }
         if self.is_more_explained() {
-            self.is_cut |= put_remarks(&mut self.text, text, remarks).is_err();
+            self.is_cut |= put_remarks(alloc, &mut self.text, text, remarks).is_err();
         }
         Ok(())
     }
