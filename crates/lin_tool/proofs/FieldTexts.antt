@@ -1,29 +1,38 @@
 -- What `read_field`, `settle` and `check_field` say of a text, in the program's words.
-use Rattle.std.proofs.Common.{◌≡◌, ◌≢◌, ◌⊎◌, inl, inr, ℕ, ◌≤◌, List, length, Option, None, IfOk, IfSome, Result, Ok, Err, sym, subst, ◌∙◌}
+use Rattle.std.proofs.Common.{◌≡◌, ◌≢◌, ◌⊎◌, inl, inr, ℕ, ◌≤◌, List, ◌++◌, take, length, Option, None, IfOk, IfErr, IfSome, Result, Ok, Err, sym, ap, subst, ◌∙◌}
+use Rattle.std.proofs.Math.Seq.{take-append_seam}
+use Rattle.lin_ldf.specs.Stream.{start_of}
+use Rattle.lin_ldf.specs.Symbols.{symbols_in}
 use Rattle.lin_ldf.specs.Tokens.{AreTokens, IsLexFault}
 use Rattle.lin_ldf.specs.declared.fault.LdfFault.{LdfFault}
 use Rattle.lin_ldf.specs.declared.fault.LdfFault.TheVariants as ldf
 use Rattle.lin_ldf.specs.declared.token.Token.{Token}
 use Rattle.lin_cluster.specs.SlotTimes.{NoSlotIsShort}
-use Rattle.lin_cluster_parts.specs.declared.parts.Parts.{Parts}
 use Rattle.lin_field.specs.Bytes.{field_bytes}
 use Rattle.lin_field.specs.Checks.{IsFieldFree}
 use Rattle.lin_field.specs.Describes.{Reads}
 use Rattle.lin_field.specs.Plain.{plain_data, plain_text}
+use Rattle.lin_field.specs.declared.checking.Checked.{Checked}
 use Rattle.lin_field.specs.declared.checking.Remark.{Remark}
 use Rattle.lin_field.specs.declared.reading.FieldText.{FieldText}
 use Rattle.lin_field.specs.declared.settling.Settled.{Settled}
+use Rattle.lin_field.proofs.Mended.{marks_blanked}
 use Rattle.lin_text.specs.Written.{WritesText}
 use Rattle.lin_text.specs.declared.fault.WriteFailed.{WriteFailed}
 use Rattle.lin_tool.specs.Clusters.{Tells}
-use Rattle.lin_tool.specs.Field.{AnswersChecked, AnswersField, AnswersSettled, CheckFaults, IsReadOver, IsSettled, IsWrittenPlain, ReadFaults, WritesPlain}
+use Rattle.lin_tool.specs.Coding.{coded_read, codings_read, AreWarnings}
+use Rattle.lin_tool.specs.Field.{AnswersChecked, AnswersField, AnswersSettled, CheckFaults, FieldSaysCodings, IsChecked, IsReadOver, IsSettled, IsWrittenPlain, ReadFaults, WritesPlain}
 use Rattle.lin_tool.specs.Reading.{AnswersReading}
+use Rattle.lin_tool.specs.declared.coding.Described.{Described}
+use Rattle.lin_tool.specs.declared.coding.Encodings.{Encodings}
 use Rattle.lin_tool.specs.declared.describing.Reading.{Reading}
 use Rattle.lin_tool.specs.declared.describing.Reading.TheVariants.{Plain, Field}
 use Rattle.lin_tool.specs.declared.fault.Fault.{Fault}
 use Rattle.lin_tool.specs.declared.fault.Fault.TheVariants as fault
 use Rattle.lin_tool.specs.declared.fault.Fault.TheVariants.{Ldf, Remarks, LdfTooLong, OutOfMemory, ReadFailed}
 use Rattle.lin_tool.proofs.Texts.{answers_unread, answers_untold}
+use Rattle.lin_tool.proofs.Warned.{remarked}
+use Rattle.lin_values.specs.declared.items.Codings.{Codings}
 
 -- what the program's fault says of the text
 pub tells_field : (text left : List ℕ) (told : Fault) (fault : LdfFault) → Tells told fault
@@ -39,34 +48,62 @@ tells_field text left OutOfMemory fault h only first = tt
 tells_field text left _ fault h only first = absurd h
 
 -- why a text isn't settled is why a reader of it gives no cluster
-pub unsettled : (fault : Fault) (text left : List ℕ) (warned : List Remark) (told : Option (List ℕ)) → IfSome told (λ bytes. text ≡ bytes)
-    → length text ≤ 4194304 → AnswersSettled (Err fault) text left → AnswersField (Err fault) warned told
-unsettled (Ldf f) text left warned told is short h = (text, is, short, h)
-unsettled OutOfMemory text left warned told is short h = tt
-unsettled _ text left warned told is short h = absurd h
+pub unsettled : (e : Encodings) (fault : Fault) (text left : List ℕ) (warned : List Remark) (told : Option (List ℕ)) → IfSome told (λ bytes. text ≡ bytes)
+    → length text ≤ 4194304 → AnswersSettled (Err fault) text left → AnswersField e (Err fault) warned told
+unsettled e (Ldf f) text left warned told is short h = (text, is, short, h)
+unsettled e OutOfMemory text left warned told is short h = tt
+unsettled e _ text left warned told is short h = absurd h
+
+-- what is answered to what a text is settled to, where nothing is wrong and its cluster is this one
+pub described_answer : (s : Settled) (checked : Checked) (k : Option Codings) (r : Result Described Fault) (warned : List Remark) → IsChecked s checked
+    → IfOk r (λ d. d.cluster ≡ checked.cluster) → IfOk r (λ d. d.coded ≡ coded_read d.cluster k)
+    → IfOk r (λ d. AreWarnings d.cluster k checked.warnings warned) → IfErr r (λ fault. fault ≡ OutOfMemory) → AnswersChecked s k r warned
+described_answer s checked k (Ok d) warned is cluster coded warnings memory = record {
+  free = is.free;
+  said = cluster ∙ is.said;
+  coded = coded;
+  warnings = remarked s d.cluster k checked.warnings warned is.warnings warnings;
+}
+described_answer s checked k (Err fault) warned is cluster coded warnings memory = subst (λ f. CheckFaults f s) (sym memory) tt
+
+-- what the sections say of the bytes that are left is what those of the text say
+pub field_says : (e : Encodings) (text left : List ℕ) (k : Option Codings) → IsReadOver text left
+    → k ≡ codings_read e (symbols_in left (start_of left).tokens) → FieldSaysCodings e text k
+field_says e text left k (ts, are, is) says = (
+  ts,
+  are,
+  says ∙ ap (λ bytes. codings_read e (symbols_in bytes (start_of bytes).tokens)) is ∙ ap (codings_read e) (marks_blanked (field_bytes text) ts are),
+)
 
 -- and what is answered to what it is settled to
-pub checked : (r : Result Parts Fault) (text : List ℕ) (s : Settled) (warned : List Remark) (told : Option (List ℕ))
-    → IfSome told (λ bytes. text ≡ bytes) → length text ≤ 4194304 → IsSettled text s → AnswersChecked s r warned → AnswersField r warned told
-checked (Ok answer) text s warned told is short settled h = (text, is, short, (s, settled, h))
-checked (Err (Remarks found)) text s warned told is short settled h = (text, is, short, (s, settled, h))
-checked (Err OutOfMemory) text s warned told is short settled h = tt
-checked (Err _) text s warned told is short settled h = absurd h
+pub checked : (e : Encodings) (r : Result Described Fault) (text left : List ℕ) (s : Settled) (k : Option Codings) (warned : List Remark) (told : Option (List ℕ))
+    → IfSome told (λ bytes. text ≡ bytes) → length text ≤ 4194304 → IsSettled text s × IsReadOver text left
+    → k ≡ codings_read e (symbols_in left (start_of left).tokens) → AnswersChecked s k r warned → AnswersField e r warned told
+checked e (Ok d) text left s k warned told is short (settled, over) says h =
+    (text, is, short, (s, settled, (k, field_says e text left k over says, h)))
+checked e (Err (Remarks found)) text left s k warned told is short (settled, over) says h = (text, is, short, (s, settled, h))
+checked e (Err OutOfMemory) text left s k warned told is short both says h = tt
+checked e (Err _) text left s k warned told is short both says h = absurd h
 
-pub field_unread : (fault : Fault) (warned : List Remark) (told : Option (List ℕ)) → ReadFaults fault told → AnswersField (Err fault) warned told
-field_unread LdfTooLong warned told h = h
-field_unread OutOfMemory warned told h = tt
-field_unread ReadFailed warned told h = tt
-field_unread _ warned told h = absurd h
+pub field_unread : (e : Encodings) (fault : Fault) (warned : List Remark) (told : Option (List ℕ)) → ReadFaults fault told → AnswersField e (Err fault) warned told
+field_unread e LdfTooLong warned told h = h
+field_unread e OutOfMemory warned told h = tt
+field_unread e ReadFailed warned told h = tt
+field_unread e _ warned told h = absurd h
 
-field_untold : (r : Result Parts Fault) (warned : List Remark) (told : Option (List ℕ)) → AnswersField r warned told → AnswersField r warned None
-field_untold (Ok answer) warned told (text, is, short, h) = (text, tt, short, h)
-field_untold (Err (Ldf f)) warned told (text, is, short, h) = (text, tt, short, h)
-field_untold (Err (Remarks found)) warned told (text, is, short, h) = (text, tt, short, h)
-field_untold (Err LdfTooLong) warned told h = tt
-field_untold (Err OutOfMemory) warned told h = tt
-field_untold (Err ReadFailed) warned told h = tt
-field_untold (Err _) warned told h = absurd h
+field_untold : (e : Encodings) (r : Result Described Fault) (warned : List Remark) (told : Option (List ℕ)) → AnswersField e r warned told
+    → AnswersField e r warned None
+field_untold e (Ok d) warned told (text, is, short, h) = (text, tt, short, h)
+field_untold e (Err (Ldf f)) warned told (text, is, short, h) = (text, tt, short, h)
+field_untold e (Err (Remarks found)) warned told (text, is, short, h) = (text, tt, short, h)
+field_untold e (Err LdfTooLong) warned told h = tt
+field_untold e (Err OutOfMemory) warned told h = tt
+field_untold e (Err ReadFailed) warned told h = tt
+field_untold e (Err _) warned told h = absurd h
+
+-- a list is as long as the room that it was lent
+pub all_lent : (n : ℕ) (xs ys : List ℕ) → length xs ≡ n → take n (xs ++ ys) ≡ xs
+all_lent n xs ys long = ap (λ k. take k (xs ++ ys)) (sym long) ∙ take-append_seam xs ys
 
 -- of what is wrong no plain text is written
 pub plain_unchecked : (old new : Option (List ℕ)) (fault : Fault) (text : List ℕ) (s : Settled) → IsSettled text s → CheckFaults fault s
@@ -113,20 +150,20 @@ plain_begun old new text left s failed settled over free l same r is h = record 
 }
 
 -- what is answered to some reader
-pub reading_untold : (reading : Reading) (r : Result Parts Fault) (warned : List Remark) (told : Option (List ℕ))
-    → AnswersReading reading r warned told → AnswersReading reading r warned None
-reading_untold Plain r warned told h = answers_untold r told h
-reading_untold Field r warned told h = field_untold r warned told h
+pub reading_untold : (reading : Reading) (e : Encodings) (r : Result Described Fault) (warned : List Remark) (told : Option (List ℕ))
+    → AnswersReading reading e r warned told → AnswersReading reading e r warned None
+reading_untold Plain e r warned told h = answers_untold e r warned told h
+reading_untold Field e r warned told h = field_untold e r warned told h
 
 -- where it can't be read
-pub reading_unread : (reading : Reading) (fault : Fault) (warned : List Remark) (told : Option (List ℕ)) → ReadFaults fault told
-    → AnswersReading reading (Err fault) warned told
-reading_unread Plain fault warned told h = answers_unread fault told h
-reading_unread Field fault warned told h = field_unread fault warned told h
+pub reading_unread : (reading : Reading) (e : Encodings) (fault : Fault) (warned : List Remark) (told : Option (List ℕ)) → ReadFaults fault told
+    → AnswersReading reading e (Err fault) warned told
+reading_unread Plain e fault warned told h = answers_unread e fault warned told h
+reading_unread Field e fault warned told h = field_unread e fault warned told h
 
 -- no slot of a cluster that is answered is short, where the text isn't read as one of the field
-pub long_slots : (reading : Reading) (r : Result Parts Fault) (warned : List Remark) (told : Option (List ℕ))
-    → reading ≡ Plain → AnswersReading reading r warned told → IfOk r NoSlotIsShort
-long_slots Plain (Ok answer) warned told plain (text, is, short, h) = h.long
-long_slots Plain (Err fault) warned told plain h = tt
-long_slots Field r warned told plain h = absurd (cc)
+pub long_slots : (reading : Reading) (e : Encodings) (r : Result Described Fault) (warned : List Remark) (told : Option (List ℕ))
+    → reading ≡ Plain → AnswersReading reading e r warned told → IfOk r (λ d. NoSlotIsShort d.cluster)
+long_slots Plain e (Ok d) warned told plain (text, is, short, h) = h.cluster.long
+long_slots Plain e (Err fault) warned told plain h = tt
+long_slots Field e r warned told plain h = absurd (cc)

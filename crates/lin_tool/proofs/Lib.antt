@@ -1,4 +1,5 @@
 pub mod Texts
+pub mod Warned
 pub mod FieldTexts
 pub mod Shows
 pub mod Plays

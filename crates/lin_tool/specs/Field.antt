@@ -1,15 +1,15 @@
 -- What is answered to an LDF text of the field.
 use Rattle.std.specs.Prelude.{◌≡◌, ◌≢◌, ℕ, ◌<◌, ◌≤◌, List, length, Option, IfSome, Result, Ok, Err}
+use Rattle.lin_ldf.specs.Symbols.{symbols_in}
 use Rattle.lin_ldf.specs.Tokens.{AreTokens, IsLexFault}
 use Rattle.lin_ldf.specs.declared.fault.LdfFault.{LdfFault}
 use Rattle.lin_ldf.specs.declared.fault.LdfFault.TheVariants as ldf
 use Rattle.lin_ldf.specs.declared.token.Token.{Token}
 use Rattle.lin_cluster.specs.Described.{parts_of}
-use Rattle.lin_cluster_parts.specs.declared.parts.Parts.{Parts}
 use Rattle.lin_field.specs.Bytes.{field_bytes}
-use Rattle.lin_field.specs.Checks.{AreRemarks, IsFieldFree, IsRefusalOf}
+use Rattle.lin_field.specs.Checks.{remarks, AreRemarks, IsFieldFree, IsRefusalOf}
 use Rattle.lin_field.specs.Describes.{Reads}
-use Rattle.lin_field.specs.Marks.{blanked, extra_in}
+use Rattle.lin_field.specs.Marks.{blanked, extra_in, mended}
 use Rattle.lin_field.specs.Order.{byte_order}
 use Rattle.lin_field.specs.Plain.{plain_data, plain_text}
 use Rattle.lin_field.specs.Settled.{settled, warnings}
@@ -19,9 +19,13 @@ use Rattle.lin_field.specs.declared.checking.Remark.{Remark}
 use Rattle.lin_field.specs.declared.reading.FieldText.{FieldText}
 use Rattle.lin_field.specs.declared.settling.Settled.{Settled}
 use Rattle.lin_text.specs.Written.{WritesText}
+use Rattle.lin_tool.specs.Coding.{coded_read, codings_read, AreWarnings}
+use Rattle.lin_tool.specs.declared.coding.Described.{Described}
+use Rattle.lin_tool.specs.declared.coding.Encodings.{Encodings}
 use Rattle.lin_tool.specs.declared.fault.Fault.{Fault}
 use Rattle.lin_tool.specs.declared.fault.Fault.TheVariants.{Ldf, Remarks, LdfTooLong, OutOfMemory}
 use Rattle.lin_tool.specs.declared.fault.Fault.TheVariants.{ReadFailed, WriteFailed}
+use Rattle.lin_values.specs.declared.items.Codings.{Codings}
 
 -- these are the bytes of the text where what is read over is spaces
 abbrev pub IsReadOver : List ℕ → List ℕ → Type 0
@@ -57,19 +61,34 @@ CheckFaults (Remarks found) s = IsRefusalOf s (check.Remarks found.0)
 CheckFaults OutOfMemory s = Unit {0}
 CheckFaults _ s = ⊥
 
--- its cluster, and these are the warnings
-pub record IsFieldCluster (s : Settled) (answer : Parts) (warned : List Remark) : Type 0 where
+-- nothing is, and this is its cluster, and what is remarked
+pub record IsChecked (s : Settled) (checked : Checked) : Type 0 where
   pub free : IsFieldFree s
-  pub said : answer ≡ parts_of s.description
-  pub warnings : AreRemarks s warned
+  pub said : checked.cluster ≡ parts_of s.description
+  pub warnings : AreRemarks s checked.warnings
 
 abbrev pub ChecksField : Settled → Result Checked Fault → Type 0
-ChecksField s (Ok checked) = IsFieldCluster s checked.cluster checked.warnings
+ChecksField s (Ok checked) = IsChecked s checked
 ChecksField s (Err fault) = CheckFaults fault s
 
-abbrev pub AnswersChecked : Settled → Result Parts Fault → List Remark → Type 0
-AnswersChecked s (Ok answer) warned = IsFieldCluster s answer warned
-AnswersChecked s (Err fault) warned = CheckFaults fault s
+-- this is its cluster where its sections of encodings say that, and these are the warnings
+pub record IsFieldCluster (s : Settled) (k : Option Codings) (d : Described) (warned : List Remark)
+    : Type 0 where
+  pub free : IsFieldFree s
+  pub said : d.cluster ≡ parts_of s.description
+  pub coded : d.coded ≡ coded_read d.cluster k
+  pub warnings : AreWarnings d.cluster k (remarks s) warned
+
+abbrev pub AnswersChecked : Settled → Option Codings → Result Described Fault → List Remark
+    → Type 0
+AnswersChecked s k (Ok d) warned = IsFieldCluster s k d warned
+AnswersChecked s k (Err fault) warned = CheckFaults fault s
+
+-- the sections of a text of the field say this, without the marks that it has too many
+abbrev pub FieldSaysCodings : Encodings → List ℕ → Option Codings → Type 0
+FieldSaysCodings e text k =
+    (ts : List Token) × AreTokens (field_bytes text) ts
+    × (k ≡ codings_read e (mended (symbols_in (field_bytes text) ts)))
 
 -- when a reader has this fault: what it has is told, or it isn't
 abbrev pub ReadFaults : Fault → Option (List ℕ) → Type 0
@@ -79,24 +98,26 @@ ReadFaults ReadFailed told = Unit {0}
 ReadFaults _ told = ⊥
 
 -- what is answered to a text of the field that isn't too long, with these warnings
-abbrev pub AnswersFieldText : Result Parts Fault → List Remark → List ℕ → Type 0
-AnswersFieldText (Ok answer) warned text =
-    (s : Settled) × IsSettled text s × IsFieldCluster s answer warned
-AnswersFieldText (Err (Ldf f)) warned text = IsFieldFault text f
-AnswersFieldText (Err fault) warned text = (s : Settled) × IsSettled text s × CheckFaults fault s
+abbrev pub AnswersFieldText : Encodings → Result Described Fault → List Remark → List ℕ → Type 0
+AnswersFieldText e (Ok d) warned text =
+    (s : Settled) × IsSettled text s
+    × ((k : Option Codings) × FieldSaysCodings e text k × IsFieldCluster s k d warned)
+AnswersFieldText e (Err (Ldf f)) warned text = IsFieldFault text f
+AnswersFieldText e (Err fault) warned text = (s : Settled) × IsSettled text s × CheckFaults fault s
 
 -- to what the reader has, where that is told
-abbrev pub FieldRead : Result Parts Fault → List Remark → Option (List ℕ) → Type 0
-FieldRead result warned told =
+abbrev pub FieldRead : Encodings → Result Described Fault → List Remark → Option (List ℕ) → Type 0
+FieldRead e result warned told =
     (text : List ℕ) × IfSome told (λ bytes. text ≡ bytes) × (length text ≤ 4194304)
-    × AnswersFieldText result warned text
+    × AnswersFieldText e result warned text
 
 -- what is answered to a reader of a text of the field
-abbrev pub AnswersField : Result Parts Fault → List Remark → Option (List ℕ) → Type 0
-AnswersField (Ok answer) warned told = FieldRead (Ok answer) warned told
-AnswersField (Err (Ldf f)) warned told = FieldRead (Err (Ldf f)) warned told
-AnswersField (Err (Remarks found)) warned told = FieldRead (Err (Remarks found)) warned told
-AnswersField (Err fault) warned told = ReadFaults fault told
+abbrev pub AnswersField : Encodings → Result Described Fault → List Remark → Option (List ℕ)
+    → Type 0
+AnswersField e (Ok d) warned told = FieldRead e (Ok d) warned told
+AnswersField e (Err (Ldf f)) warned told = FieldRead e (Err (Ldf f)) warned told
+AnswersField e (Err (Remarks found)) warned told = FieldRead e (Err (Remarks found)) warned told
+AnswersField e (Err fault) warned told = ReadFaults fault told
 
 -- of the plain text of what a text of the field is settled to a beginning was written, and after Ok all
 -- of it

@@ -1,4 +1,5 @@
 pub mod Clusters
+pub mod Coding
 pub mod Comparing
 pub mod Field
 pub mod Formats

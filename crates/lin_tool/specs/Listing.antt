@@ -1,10 +1,13 @@
 -- Which lists of a cluster are written, and in which order.
-use Rattle.std.specs.Prelude.{ℕ, Bool, List, [], ◌++◌, if◌then◌else◌}
+use Rattle.std.specs.Prelude.{ℕ, Bool, List, [], ◌++◌, Option, if◌then◌else◌}
+use Rattle.std.specs.Option.{option_map_or}
 use Rattle.lin_cluster_parts.specs.declared.parts.Parts.{Parts}
 use Rattle.lin_listing.specs.Frames.{frames}
 use Rattle.lin_listing.specs.Listing.{listing}
+use Rattle.lin_listing.specs.Signals.{signal_list}
 use Rattle.lin_listing.specs.Slots.{slots}
 use Rattle.lin_tool.specs.declared.listing.Lists.{Lists}
+use Rattle.lin_values.specs.Coded.{CodedData}
 
 -- the lines of frames and their places, and those of slots and loads, where they are wanted
 abbrev pub listed_frames : Parts → Bool → List ℕ
@@ -13,7 +16,12 @@ listed_frames c is_wanted = if is_wanted then frames c else []
 abbrev pub listed_slots : Parts → Bool → List ℕ
 listed_slots c is_wanted = if is_wanted then slots c else []
 
+-- those of what the values of signals mean, where they are wanted and that is known
+abbrev pub listed_signals : Parts → Option CodedData → Bool → List ℕ
+listed_signals c k is_wanted = if is_wanted then option_map_or (signal_list c) k [] else []
+
 -- the list of nodes, signals and schedule tables, and after it those that are wanted
-abbrev pub listed : Parts → Lists → List ℕ
-listed c wanted =
+abbrev pub listed : Parts → Option CodedData → Lists → List ℕ
+listed c k wanted =
     listing c ++ listed_frames c wanted.frames ++ listed_slots c wanted.slots
+    ++ listed_signals c k wanted.signals

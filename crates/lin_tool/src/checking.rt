@@ -1,5 +1,6 @@
 //! `linsim check`: lists what a cluster has.
 
+use crate::coding::{Described, Encodings};
 use crate::describing::{Reading, cluster_at, read_text};
 use crate::fault::Fault;
 use crate::field::write_field;
@@ -10,7 +11,7 @@ use std::io;
 
 /// Writes on standard output a line for each node, each signal and each schedule table of the
 /// cluster that the LDF text in the file at `path` describes, and after them the lists that are
-/// wanted; where the path is `-`, that on standard input.
+/// wanted, that of signals where encodings are read; where the path is `-`, that on standard input.
 ///
 /// # Errors
 /// Those of `cluster_at`, after which nothing was written; those of `write_lists`.
@@ -18,11 +19,12 @@ pub fn check<R: AllocGlobal + Files + Input + Print>(
     rt: &R,
     path: &str,
     reading: Reading,
+    encodings: Encodings,
     lists: Lists,
     notes: &mut Notes<'_>,
 ) -> Result<(), Fault> {
-    let cluster = cluster_at(rt, path, reading, notes)?;
-    Ok(write_lists(&cluster, lists, &mut io::writer(rt))?)
+    let Described { cluster, coded } = cluster_at(rt, path, reading, encodings, notes)?;
+    Ok(write_lists(&cluster, coded.as_ref(), lists, &mut io::writer(rt))?)
 }
 
 /// The LDF text in the file at `path`; where the path is `-`, that on standard input.

@@ -5,9 +5,12 @@ ghost use Rattle.std.specs.Prelude.{◌≡◌, List, ℕ, IfOk, IsSome};
 ghost use Rattle.lin_ldf.specs.Describes.{Describes};
 ghost use Rattle.lin_cluster.specs.SlotTimes.{NoSlotIsShort};
 ghost use Rattle.lin_tool.specs.Clusters.{AnswersParse, AnswersText, Tells};
+ghost use Rattle.lin_tool.specs.Coding.{AnswersCoded, AnswersCodings};
 ghost use Rattle.lin_tool.specs.Reading.{AnswersLdf, AnswersReading, ReadsAll};
+ghost use Rattle.lin_tool.specs.declared.coding.Encodings.{Encodings};
 ghost use Rattle.lin_tool.specs.declared.describing.Reading.TheVariants.{Plain};
 
+use crate::coding::{Described, Encodings, coded_noted, codings_of};
 use crate::fault::Fault;
 use crate::field::field_of_reader;
 use crate::findings::Findings;
@@ -16,7 +19,9 @@ use lin_cluster::{CheckFault, check};
 use lin_cluster_parts::Cluster;
 use lin_description::Description;
 use lin_ldf::{LdfFault, parse};
+use lin_lists::Many;
 use lin_text::{ReadFault, read_whole};
+use lin_values::Codings;
 use std::alloc::Global;
 use std::fs::{self, Files};
 use std::io::Read;
@@ -111,23 +116,59 @@ pub(crate) fn let_go(text: &mut Vec<u8>) {
     text.shrink_to_fit();
 }
 
-/// The cluster that an LDF text describes, as of `cluster_of_text`. Where it is at fault, the notes tell where;
-/// where they want no text, its memory is let go of before the description is checked.
+/// What an LDF text describes, and what its sections of encodings say, where they are read.
+///
+/// # Errors
+/// Those of `description_of`.
+fn parse_text(
+    alloc: Global,
+    text: &[u8],
+    encodings: Encodings,
+) -> Result<(Description, Option<Codings>), Fault>
+    ensures { AnswersCodings encodings result text.now }
+{
+    let description = description_of(alloc, text)?;
+    let codings = codings_of(alloc, text, encodings)?;
+    Ok((description, codings))
+}
+
+/// The cluster of what was parsed, and what the values of its signals mean. The notes keep warnings,
+/// and tell where they stand in `text`.
+///
+/// # Errors
+/// That of what was parsed; those of `said_by`.
+fn check_parsed(
+    alloc: Global,
+    parsed: Result<(Description, Option<Codings>), Fault>,
+    text: &[u8],
+    notes: &mut Notes<'_>,
+) -> Result<Described, Fault>
+    ensures { (encodings : Encodings) (source : List ℕ)
+        → AnswersCodings encodings parsed source
+        → AnswersCoded encodings result notes.new.warnings source }
+{
+    let (description, codings) = parsed?;
+    let cluster = said_by(alloc, description)?;
+    let none = Many::new(Vec::new(alloc));
+    coded_noted(alloc, cluster, codings, none, text, notes)
+}
+
+/// The cluster that an LDF text describes, as of `cluster_of_text`, and what the values of its signals
+/// mean. The notes keep warnings of its encodings, or tell where it is at fault; where they want no
+/// text, its memory is let go of before the description is checked.
 fn cluster_of_bytes(
     alloc: Global,
     mut bytes: Vec<u8>,
+    encodings: Encodings,
     notes: &mut Notes<'_>,
-) -> Result<Cluster, Fault>
-    ensures { AnswersText result bytes.items }
+) -> Result<Described, Fault>
+    ensures { AnswersCoded encodings result notes.new.warnings bytes.items }
 {
-    let parsed = description_of(alloc, bytes.as_slice());
+    let parsed = parse_text(alloc, bytes.as_slice(), encodings);
     if !notes.is_text_wanted() {
         let_go(&mut bytes);
     }
-    let answer = match parsed {
-        Ok(description) => said_by(alloc, description),
-        Err(fault) => Err(fault),
-    };
+    let answer = check_parsed(alloc, parsed, bytes.as_slice(), notes);
     if let Err(fault) = &answer {
         notes.add_text(alloc, Reading::Plain, bytes.as_slice(), fault)?;
     }
@@ -135,8 +176,9 @@ fn cluster_of_bytes(
     answer
 }
 
-/// The cluster that the LDF text of a reader describes. Where the text is at fault, the notes tell
-/// where.
+/// The cluster that the LDF text of a reader describes, and what the values of its signals mean by its
+/// sections of encodings, where they are read. The notes keep what is wrong with these as warnings, by
+/// place and then by number; where the text is at fault, they tell where.
 ///
 /// # Errors
 /// Those of `read_text`, and of what was read those of `cluster_of_text`.
@@ -144,12 +186,13 @@ fn cluster_of_bytes(
 pub fn cluster_of_reader<R: Read>(
     alloc: Global,
     reader: &mut R,
+    encodings: Encodings,
     notes: &mut Notes<'_>,
-) -> Result<Cluster, Fault>
-    ensures { AnswersLdf result (R.remaining reader.old) }
+) -> Result<Described, Fault>
+    ensures { AnswersLdf encodings result notes.new.warnings (R.remaining reader.old) }
 {
     let text = read_text(alloc, reader)?;
-    cluster_of_bytes(alloc, text, notes)
+    cluster_of_bytes(alloc, text, encodings, notes)
 }
 
 /// How an LDF text is read.
@@ -167,13 +210,14 @@ fn cluster_read<R: Read>(
     alloc: Global,
     reader: &mut R,
     reading: Reading,
+    encodings: Encodings,
     notes: &mut Notes<'_>,
-) -> Result<Cluster, Fault>
-    ensures { AnswersReading reading result notes.new.warnings (R.remaining reader.old) }
+) -> Result<Described, Fault>
+    ensures { AnswersReading reading encodings result notes.new.warnings (R.remaining reader.old) }
 {
     match reading {
-        Reading::Plain => cluster_of_reader(alloc, reader, notes),
-        Reading::Field => field_of_reader(alloc, reader, notes),
+        Reading::Plain => cluster_of_reader(alloc, reader, encodings, notes),
+        Reading::Field => field_of_reader(alloc, reader, encodings, notes),
     }
 }
 
@@ -185,11 +229,12 @@ fn cluster_read<R: Read>(
 pub fn cluster_of_input<R: AllocGlobal + Input>(
     rt: &R,
     reading: Reading,
+    encodings: Encodings,
     notes: &mut Notes<'_>,
-) -> Result<Cluster, Fault>
-    ensures { AnswersReading reading result notes.new.warnings None }
+) -> Result<Described, Fault>
+    ensures { AnswersReading reading encodings result notes.new.warnings None }
 {
-    let answer = cluster_read(rt.alloc(), &mut rt.reader(), reading, notes);
+    let answer = cluster_read(rt.alloc(), &mut rt.reader(), reading, encodings, notes);
     notes.add_unread(&answer, None);
     answer
 }
@@ -203,17 +248,22 @@ pub fn cluster_of_file<R: AllocGlobal + Files>(
     rt: &R,
     path: Option<&str>,
     reading: Reading,
+    encodings: Encodings,
     notes: &mut Notes<'_>,
-) -> Result<Cluster, Fault>
-    ensures built_in { path.entry ≡ None → AnswersText result BUILT_IN.now }
+) -> Result<Described, Fault>
+    ensures built_in { path.entry ≡ None
+        → AnswersCoded encodings result notes.new.warnings BUILT_IN.now }
     ensures file { IsSome path.entry
-        → AnswersReading reading result notes.new.warnings None }
+        → AnswersReading reading encodings result notes.new.warnings None }
 {
     match path {
-        None => cluster_of_text(rt.alloc(), BUILT_IN),
+        None => {
+            let parsed = parse_text(rt.alloc(), BUILT_IN, encodings);
+            check_parsed(rt.alloc(), parsed, BUILT_IN, notes)
+        }
         Some(path) => {
             let answer = match fs::open(rt, path) {
-                Ok(mut file) => cluster_read(rt.alloc(), &mut file, reading, notes),
+                Ok(mut file) => cluster_read(rt.alloc(), &mut file, reading, encodings, notes),
                 Err(_) => Err(Fault::ReadFailed),
             };
             notes.add_unread(&answer, Some(path));
@@ -232,13 +282,14 @@ pub fn cluster_at<R: AllocGlobal + Files + Input>(
     rt: &R,
     path: &str,
     reading: Reading,
+    encodings: Encodings,
     notes: &mut Notes<'_>,
-) -> Result<Cluster, Fault>
-    ensures { reading ≡ Plain → IfOk result NoSlotIsShort }
+) -> Result<Described, Fault>
+    ensures { reading ≡ Plain → IfOk result (λ d. NoSlotIsShort d.cluster) }
 {
     if path == "-" {
-        cluster_of_input(rt, reading, notes)
+        cluster_of_input(rt, reading, encodings, notes)
     } else {
-        cluster_of_file(rt, Some(path), reading, notes)
+        cluster_of_file(rt, Some(path), reading, encodings, notes)
     }
 }

@@ -3,7 +3,7 @@
 use crate::describing::Reading;
 use crate::fault::Fault;
 use crate::field::warnings_of;
-use crate::meanings::{FAULTS, FINDINGS, REFUSALS};
+use crate::meanings::{FAULTS, REFUSALS, finding_meaning};
 use crate::misspelled::{described, put_near, put_unread};
 use crate::wanted::put_wanted;
 use lin_cluster::Finding;
@@ -113,7 +113,7 @@ fn put_finding(out: &mut String, text: &[u8], finding: &Finding) -> Result<(), A
     } = *finding;
     writeln!(out, "{line}:{column}")?;
     put_place(out, text, Place { line, column })?;
-    match FINDINGS.get(usize::from(number).wrapping_sub(1)) {
+    match finding_meaning(number) {
         Some((meaning, change)) => writeln!(out, "  {meaning}\n  to change: {change}"),
         None => Ok(()),
     }
@@ -172,7 +172,8 @@ pub(crate) fn put_text(
     }
 }
 
-/// Puts where an LDF text of the field is remarked on, and what that means: of the first ten.
+/// Puts where an LDF text is remarked on, and what that means: of the first ten; and what of it is
+/// nearly a word that is read.
 pub(crate) fn put_remarks(
     alloc: Global,
     out: &mut String,
@@ -180,7 +181,15 @@ pub(crate) fn put_remarks(
     remarks: &[Remark],
 ) -> Result<(), AllocError> {
     let text = text.strip_prefix(b"\xEF\xBB\xBF").unwrap_or(text);
-    let description = described(alloc, Reading::Field, text)?;
+    let unknown = remarks
+        .iter()
+        .take(MOST)
+        .any(|remark| remark.finding.number == UNKNOWN_NAME);
+    let description = if unknown {
+        described(alloc, Reading::Field, text)?
+    } else {
+        None
+    };
     for remark in remarks.iter().take(MOST) {
         put_finding(out, text, &remark.finding)?;
         put_unknown(alloc, out, text, description.as_ref(), &remark.finding)?;
@@ -202,13 +211,12 @@ pub(crate) fn put_refused_field(
     }
 }
 
-/// Puts what of a text that is accepted is read by `--field` alone, or nearly a word that is read.
+/// Puts what of a text that is accepted is read by `--field` alone.
 pub(crate) fn put_accepted_field(
     alloc: Global,
     out: &mut String,
     text: &mut [u8],
 ) -> Result<(), AllocError> {
-    put_unread(alloc, out, text)?;
     let loose = match read_field(alloc, text) {
         Ok(read) => read.loose,
         Err(LdfFault::OutOfMemory) => return Err(AllocError),

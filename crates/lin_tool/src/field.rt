@@ -3,14 +3,15 @@
 ghost use Rattle.lin_tool.specs.Field.{AnswersChecked, AnswersField, AnswersSettled, ChecksField};
 ghost use Rattle.lin_tool.specs.Field.{WritesPlain};
 
+use crate::coding::{Described, Encodings, coded_noted, codings_of};
 use crate::describing::{Reading, fault_of, let_go, read_text};
 use crate::fault::Fault;
 use crate::findings::Remarks;
 use crate::notes::Notes;
-use lin_cluster_parts::Cluster;
 use lin_field::{
     Checked, FieldFault, Settled, check_field, read_field, read_over_bytes, settle, write_plain,
 };
+use lin_values::Codings;
 use std::alloc::{AllocError, Global};
 use std::io::{Read, Write};
 
@@ -73,49 +74,56 @@ fn settled_noted(
     answer
 }
 
-/// The cluster of what a text of the field is settled to. The notes keep its warnings, or tell where
-/// something is wrong in `text`.
+/// The cluster of what a text of the field is settled to, and what the values of its signals mean by
+/// its sections of encodings, where they are read. The notes keep all warnings, or tell where something
+/// is wrong in `text`.
 ///
 /// # Errors
-/// `Remarks` for all that is wrong, and all warnings; `OutOfMemory`.
+/// `Remarks` for all that is wrong, and the warnings of what was settled; `OutOfMemory`.
 fn cluster_noted(
     alloc: Global,
     settled: &Settled,
+    codings: Option<Codings>,
     text: &[u8],
     notes: &mut Notes<'_>,
-) -> Result<Cluster, Fault>
-    ensures { AnswersChecked settled.now result notes.new.warnings }
+) -> Result<Described, Fault>
+    ensures { AnswersChecked settled.now codings result notes.new.warnings }
 {
-    let answer = check_settled(alloc, settled);
-    match &answer {
-        Ok(checked) => notes.add_remarks(alloc, text, checked.warnings.as_slice())?,
-        Err(Fault::Remarks(remarks)) => notes.add_remarks(alloc, text, remarks.0.as_slice())?,
-        Err(_) => {}
+    match check_settled(alloc, settled) {
+        Ok(Checked { cluster, warnings }) => {
+            coded_noted(alloc, cluster, codings, warnings, text, notes)
+        }
+        Err(fault) => {
+            if let Fault::Remarks(remarks) = &fault {
+                notes.add_remarks(alloc, text, remarks.0.as_slice())?;
+            }
+            Err(fault)
+        }
     }
-    let Checked { cluster, warnings } = answer?;
-    notes.keep_warnings(warnings);
-    Ok(cluster)
 }
 
-/// The cluster that a text of the field describes, as a reader gives it. The notes keep its
-/// warnings, or tell where it is at fault.
+/// The cluster that a text of the field describes, as a reader gives it, and what the values of its
+/// signals mean by its sections of encodings, where they are read. The notes keep its warnings, those
+/// of its encodings among them, by place and then by number; or tell where it is at fault.
 ///
 /// # Errors
 /// Those of `read_text`; `Ldf` for the first fault of the text; `Remarks` for all the reasons why it
-/// describes no cluster, and all warnings; `OutOfMemory`.
+/// describes no cluster, and the warnings of what it is settled to; `OutOfMemory`.
 #[tactic(auto, using(crate::proofs::FieldTexts::unsettled, crate::proofs::FieldTexts::checked, crate::proofs::FieldTexts::field_unread))]
 pub fn field_of_reader<R: Read>(
     alloc: Global,
     reader: &mut R,
+    encodings: Encodings,
     notes: &mut Notes<'_>,
-) -> Result<Cluster, Fault>
-    ensures { AnswersField result notes.new.warnings (R.remaining reader.old) }
+) -> Result<Described, Fault>
+    ensures { AnswersField encodings result notes.new.warnings (R.remaining reader.old) }
 {
     let mut bytes = read_text(alloc, reader)?;
     let text = noted_text(alloc, bytes.as_slice(), notes)?;
     let settled = settled_noted(alloc, bytes.as_mut_slice(), text.as_slice(), notes)?;
+    let codings = codings_of(alloc, bytes.as_slice(), encodings)?;
     let_go(&mut bytes);
-    cluster_noted(alloc, &settled, text.as_slice(), notes)
+    cluster_noted(alloc, &settled, codings, text.as_slice(), notes)
 }
 
 /// Writes a plain LDF text of what a text of the field is settled to.
@@ -134,8 +142,8 @@ pub(crate) fn write_field<W: Write>(
     let mut bytes = bytes;
     let text = noted_text(alloc, bytes.as_slice(), notes)?;
     let settled = settled_noted(alloc, bytes.as_mut_slice(), text.as_slice(), notes)?;
-    match cluster_noted(alloc, &settled, text.as_slice(), notes) {
-        Ok(_cluster) => match write_plain(alloc, &settled, bytes.as_slice(), writer)? {
+    match cluster_noted(alloc, &settled, None, text.as_slice(), notes) {
+        Ok(_described) => match write_plain(alloc, &settled, bytes.as_slice(), writer)? {
             Ok(()) => Ok(()),
             Err(_) => Err(Fault::WriteFailed),
         },

@@ -1,11 +1,13 @@
 //! Which lists of a cluster are written, and in which order.
 
+ghost use Rattle.std.specs.Prelude.{option_map};
 ghost use Rattle.lin_text.specs.Written.{WritesText};
-ghost use Rattle.lin_tool.specs.Listing.{listed, listed_frames, listed_slots};
+ghost use Rattle.lin_tool.specs.Listing.{listed, listed_frames, listed_signals, listed_slots};
 
 use lin_cluster_parts::Cluster;
-use lin_listing::{write_frames, write_list, write_slots};
+use lin_listing::{write_frames, write_list, write_signals, write_slots};
 use lin_text::WriteFailed;
+use lin_values::Coded;
 use std::io::Write;
 
 /// Which lists of a cluster are wanted after that of its nodes, signals and schedule tables.
@@ -15,6 +17,8 @@ pub struct Lists {
     pub frames: bool,
     /// The slots of its schedule tables, with the time that they need, and the load of each table.
     pub slots: bool,
+    /// Its signals, with what their values mean.
+    pub signals: bool,
 }
 
 /// Writes the lines of frames and their places, where they are wanted.
@@ -49,21 +53,42 @@ fn write_wanted_slots<W: Write>(
     }
 }
 
-/// Writes the list of `write_list`, and after it those that are wanted: frames, and then slots. It
-/// takes no memory.
+/// Writes the lines of what the values of signals mean, where they are wanted and that is known.
+fn write_wanted_signals<W: Write>(
+    cluster: &Cluster,
+    coded: Option<&Coded>,
+    is_wanted: bool,
+    writer: &mut W,
+) -> Result<(), WriteFailed>
+    ensures { WritesText (W.contents writer.old) (W.contents writer.new) result
+        (listed_signals cluster.now (option_map (λ k. k.now) coded.entry) is_wanted) }
+{
+    if !is_wanted {
+        return Ok(());
+    }
+    match coded {
+        Some(coded) => write_signals(cluster, coded, writer),
+        None => Ok(()),
+    }
+}
+
+/// Writes the list of `write_list`, and after it those that are wanted: frames, then slots, and then
+/// signals, where what their values mean is known. It takes no memory.
 ///
 /// # Errors
 /// `WriteFailed`, where what was written is the beginning of the lines. A failed write is tried
 /// once.
 pub fn write_lists<W: Write>(
     cluster: &Cluster,
+    coded: Option<&Coded>,
     lists: Lists,
     writer: &mut W,
 ) -> Result<(), WriteFailed>
     ensures { WritesText (W.contents writer.old) (W.contents writer.new) result
-        (listed cluster.now lists) }
+        (listed cluster.now (option_map (λ k. k.now) coded.entry) lists) }
 {
     write_list(cluster, writer)?;
     write_wanted_frames(cluster, lists.frames, writer)?;
-    write_wanted_slots(cluster, lists.slots, writer)
+    write_wanted_slots(cluster, lists.slots, writer)?;
+    write_wanted_signals(cluster, coded, lists.signals, writer)
 }

@@ -29,8 +29,16 @@ pub(crate) static FAULTS: [(&str, &str); 7] = [
     ),
 ];
 
+/// What a finding of this number means, and what to change.
+pub(crate) fn finding_meaning(number: u8) -> Option<&'static (&'static str, &'static str)> {
+    match number {
+        31.. => ENCODINGS.get(usize::from(number) - 31),
+        _ => FINDINGS.get(usize::from(number).wrapping_sub(1)),
+    }
+}
+
 /// What a finding means, and what to change.
-pub(crate) static FINDINGS: [(&str, &str); 26] = [
+static FINDINGS: [(&str, &str); 26] = [
     (
         "a publisher, a subscriber or an attribute block that is no node; a signal of a frame \
          that isn't declared; a member that is no frame of any kind; a table that isn't \
@@ -151,6 +159,56 @@ pub(crate) static FINDINGS: [(&str, &str); 26] = [
     (
         "a word alone in the header that isn't known: it is left out",
         "delete the line",
+    ),
+];
+
+/// What a warning of encodings means, from 31 on, and what to change.
+static ENCODINGS: [(&str, &str); 11] = [
+    (
+        "an item, an encoding or a line in no form, or with a number that is too large or has too \
+         many decimals: it is left out, up to the next semicolon",
+        "values up to 65,535; a scale or an offset below 1,000,000,000 with at most 24 decimals",
+    ),
+    (
+        "an encoding whose name an earlier one has: the first counts",
+        "another name",
+    ),
+    (
+        "a line of signals whose encoding isn't declared",
+        "spell the name as it is declared, or declare it",
+    ),
+    (
+        "a name of such a line that is no signal",
+        "spell the name as it is declared, or leave it out",
+    ),
+    (
+        "a signal that stands in such a line already: the first counts",
+        "leave one of them out",
+    ),
+    (
+        "a range whose first value is above its last: it has no value",
+        "exchange the two",
+    ),
+    (
+        "a range with a value of an earlier range of the encoding: the first counts",
+        "ranges that have no value in common",
+    ),
+    (
+        "a value that an earlier item of the encoding has: the first counts",
+        "leave one of them out",
+    ),
+    (
+        "an encoding with a value, or an end of a range, that the signal's bits can't hold",
+        "values that fit, or an encoding of its own for the signal",
+    ),
+    (
+        "a scale of 0: all values of the range mean the same",
+        "the scale that the signal has",
+    ),
+    (
+        "numbers for an array; digits for a scalar whose bits aren't a multiple of 4, or \
+         characters for one whose bits aren't a multiple of 8",
+        "an encoding of the signal's kind",
     ),
 ];
 

@@ -40,7 +40,7 @@ pub struct Wanted<'a> {
 #[derive(Drop)]
 pub struct Notes<'a> {
     wanted: Wanted<'a>,
-    /// The warnings of an LDF text of the field that is accepted.
+    /// The warnings of an LDF text that is accepted.
     pub warnings: Many<Remark>,
     is_script_read: bool,
     are_warnings_told: bool,
@@ -207,7 +207,7 @@ impl<'a> Notes<'a> {
         Ok(())
     }
 
-    /// Adds where an LDF text of the field is remarked on, and what that means.
+    /// Adds where an LDF text is remarked on, and what that means, if it is; and what of it isn't read.
     ///
     /// # Errors
     /// Out of memory for the places of compilers.
@@ -217,7 +217,9 @@ impl<'a> Notes<'a> {
         text: &[u8],
         remarks: &[Remark],
     ) -> Result<(), AllocError> {
-        if let Some(file) = self.wanted.file {
+        if let Some(file) = self.wanted.file
+            && !remarks.is_empty()
+        {
             put_remark_places(alloc, &mut self.places, file, text, remarks)?;
         }
         if self.is_more_explained() {
@@ -234,12 +236,9 @@ impl<'a> Notes<'a> {
     }
 
     /// Adds what `--field` would make of an LDF text that was read without it.
-    pub(crate) fn add_field<T>(
-        &mut self,
-        alloc: Global,
-        text: &mut [u8],
-        answer: &Result<T, Fault>,
-    ) {
+    pub(crate) fn add_field<T>(&mut self, alloc: Global, text: &mut [u8], answer: &Result<T, Fault>)
+        ensures { self.new.warnings ≡ self.old.warnings }
+    {
         if !self.is_more_explained() {
             return;
         }

@@ -4,6 +4,7 @@
 ghost use Rattle.std.specs.Prelude.{◌≡◌, ◌≤◌, ◌<◌, length, min, max, IfOk};
 ghost use Rattle.lin_tool.specs.Opening.{Opens, opening_of};
 
+use crate::coding::{Described, Encodings};
 use crate::describing::{Reading, cluster_of_file};
 use crate::fault::Fault;
 use crate::formats::Format;
@@ -63,7 +64,11 @@ pub(crate) fn begin<R: AllocGlobal + Files>(
 ) -> Result<Opened, Fault>
     ensures { IfOk result (λ it. it.table < length it.cluster.tables) }
 {
-    let cluster = cluster_of_file(rt, settings.file, settings.reading, notes)?;
+    let (file, reading) = (settings.file, settings.reading);
+    let Described {
+        cluster,
+        coded: _coded,
+    } = cluster_of_file(rt, file, reading, Encodings::Unread, notes)?;
     match opening_table(&cluster, settings.table) {
         Ok(table) => Ok(Opened { cluster, table }),
         Err(fault) => {

@@ -5,8 +5,9 @@ use crate::fakes::{Narrow, Piecewise};
 use crate::samples::{BUILT_IN, LIGHTS};
 use lin_log::run_script;
 use lin_tool::{
-    Fault, Format, Lists, Notes, Wanted, cluster_of_reader, cluster_of_text, field_of_reader,
-    opening_table, read_text, replay_script, write_list, write_lists, write_shown,
+    Described, Encodings, Fault, Format, Lists, Notes, Reading, Wanted, cluster_of_reader,
+    cluster_of_text, field_of_reader, opening_table, read_text, replay_script, write_list,
+    write_lists, write_shown,
 };
 use std::alloc::Global;
 use std::process::Abort;
@@ -14,7 +15,10 @@ use std::test::Fail;
 
 fn cluster_text(alloc: Global, mut rest: &[u8]) -> Result<Vec<u8>, Fault> {
     let mut notes = Notes::new(alloc, Wanted::default());
-    let cluster = cluster_of_reader(alloc, &mut rest, &mut notes)?;
+    let Described {
+        cluster,
+        coded: _coded,
+    } = cluster_of_reader(alloc, &mut rest, Encodings::Unread, &mut notes)?;
     let mut text = Vec::new(alloc);
     write_list(&cluster, &mut text)?;
     Ok(text)
@@ -38,7 +42,10 @@ const OLD: &[u8] =
 /// The list of the cluster that a text of the field describes, and with how many warnings it is read.
 fn field_text(alloc: Global, mut rest: &[u8]) -> Result<(Vec<u8>, usize), Fault> {
     let mut notes = Notes::new(alloc, Wanted::default());
-    let cluster = field_of_reader(alloc, &mut rest, &mut notes)?;
+    let Described {
+        cluster,
+        coded: _coded,
+    } = field_of_reader(alloc, &mut rest, Encodings::Unread, &mut notes)?;
     let mut text = Vec::new(alloc);
     write_list(&cluster, &mut text)?;
     Ok((text, notes.warnings.as_slice().len()))
@@ -59,12 +66,76 @@ fn text_of_the_field_is_listed(rt: HostRuntime) -> Result<(), Fail> {
     Ok(())
 }
 
+/// A signal with an encoding, in which a value stands twice.
+const CODED: &[u8] =
+    b"LIN_description_file;\nLIN_protocol_version = \"2.1\";\nLIN_language_version = \"2.1\";\nLIN_speed = 19.2 kbps;\nNodes { Master: m, 5 ms, 0.1 ms; Slaves: s; }\nSignals { a: 8, 9, m, s; }\nFrames { A: 0x20, m, 1 { a, 0; } }\nSchedule_tables { T { A delay 10 ms; } }\nSignal_encoding_types { Temp { physical_value, 0, 250, 0.5, -40, \"degC\"; logical_value, 255; logical_value, 255, \"none\"; } }\nSignal_representation { Temp: a; }\n";
+
+/// The list of signals alone.
+const SIGNALS: Lists = Lists {
+    frames: false,
+    slots: false,
+    signals: true,
+};
+
+/// The lists of a cluster, and what is said on standard error.
+fn listed(
+    alloc: Global,
+    described: Result<Described, Fault>,
+    notes: &Notes<'_>,
+) -> Result<(Vec<u8>, Vec<u8>), Fault> {
+    let Described { cluster, coded } = described?;
+    let mut lists = Vec::new(alloc);
+    write_lists(&cluster, coded.as_ref(), SIGNALS, &mut lists)?;
+    let mut told = Vec::new(alloc);
+    notes.write(None, &mut told)?;
+    Ok((lists, told))
+}
+
+/// Those of a plain text, or of one of the field, from a reader of three bytes a read.
+fn coded_text(
+    alloc: Global,
+    text: &[u8],
+    reading: Reading,
+    encodings: Encodings,
+) -> Result<(Vec<u8>, Vec<u8>), Fault> {
+    let mut notes = Notes::new(alloc, Wanted::default());
+    let mut reader = Piecewise::new(text, 3);
+    let described = match reading {
+        Reading::Plain => cluster_of_reader(alloc, &mut reader, encodings, &mut notes),
+        Reading::Field => field_of_reader(alloc, &mut reader, encodings, &mut notes),
+    };
+    listed(alloc, described, &notes)
+}
+
+#[test]
+fn encodings_are_read_where_they_are_wanted(rt: HostRuntime) -> Result<(), Fail> {
+    let alloc = rt.alloc();
+    let list = b"node 0 m -\nnode 1 s -\nsignal 0 a\ntable 0 T 1\n";
+    let coded =
+        b"node 0 m -\nnode 1 s -\nsignal 0 a\ntable 0 T 1\ncoding 0 a 8 Temp\nrange 0 0 250 -40 85 degC\nvalue 0 255 255\nvalue 0 255 none\ninitial 0 9 -35.5 degC\n";
+    let warning = b"9:94 warning 38 LogicalTwice\n";
+    for reading in [Reading::Plain, Reading::Field] {
+        let (lists, told) = coded_text(alloc, CODED, reading, Encodings::Unread)?;
+        expect_bytes(&rt, &lists, list, "without encodings", "lists");
+        expect_bytes(&rt, &told, b"", "without encodings", "what is told");
+        let (lists, told) = coded_text(alloc, CODED, reading, Encodings::Told)?;
+        expect_bytes(&rt, &lists, coded, "with encodings", "lists");
+        expect_bytes(&rt, &told, warning, "with encodings", "what is told");
+        let fault = coded_text(alloc, &CODED[..200], reading, Encodings::Told);
+        assert!(rt; matches!(fault, Err(Fault::Ldf(_))));
+    }
+    Ok(())
+}
+
 fn replayed(alloc: Global, script: &[u8]) -> Result<Vec<u8>, Fault> {
     let mut rest = BUILT_IN;
     let mut reader = script;
     let mut text = Vec::new(alloc);
     let mut notes = Notes::new(alloc, Wanted::default());
-    let cluster = cluster_of_reader(alloc, &mut rest, &mut notes)?;
+    let Described {
+        cluster,
+        coded: _coded,
+    } = cluster_of_reader(alloc, &mut rest, Encodings::Unread, &mut notes)?;
     let table = opening_table(&cluster, None)?;
     replay_script(
         alloc,
@@ -119,19 +190,23 @@ fn reads_fail_at_each_byte(rt: HostRuntime) -> Result<(), Fail> {
 #[test]
 fn lists_end_where_a_write_fails(rt: HostRuntime) -> Result<(), Fail> {
     let alloc = rt.alloc();
-    let cluster = cluster_of_text(alloc, LIGHTS)?;
+    let mut notes = Notes::new(alloc, Wanted::default());
+    let mut rest = CODED;
+    let described = cluster_of_reader(alloc, &mut rest, Encodings::Told, &mut notes)?;
+    let Described { cluster, coded } = described;
     let all = Lists {
         frames: true,
         slots: true,
+        signals: true,
     };
     let mut whole = Vec::new(alloc);
-    write_lists(&cluster, all, &mut whole)?;
+    write_lists(&cluster, coded.as_ref(), all, &mut whole)?;
     for good in 0..whole.len() {
         let mut writer = Narrow {
             taken: Vec::new(alloc),
             left: good,
         };
-        assert!(rt; write_lists(&cluster, all, &mut writer).is_err());
+        assert!(rt; write_lists(&cluster, coded.as_ref(), all, &mut writer).is_err());
         let wanted = &whole[..good];
         expect_bytes(&rt, &writer.taken, wanted, "a beginning", "lists");
     }

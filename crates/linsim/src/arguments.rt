@@ -1,7 +1,7 @@
 //! The command line.
 
 use clap::{Arg, ArgAction, ArgMatches, Command, value_parser};
-use lin_tool::{Format, Lists, Reading, Settings, Wanted};
+use lin_tool::{Encodings, Format, Lists, Reading, Settings, Wanted};
 use std::alloc::{AllocError, Global};
 
 const STATUS_NOTE: &str =
@@ -20,7 +20,7 @@ const LIVE_NOTE: &str =
     "Lines are those of bench scripts, and questions: ? signal NODE SIGNAL, ? waiting NODE, ? idle, ? time, ? asleep, ? next.\nEach is answered before the next is read: the log of its entries, with names if wanted, and a line that begins with #.\n\nExample: linsim live door.ldf < door.bench";
 
 const CHECK_NOTE: &str =
-    "On standard output: node NUMBER NAME NAD (- for none), signal NUMBER NAME, table NUMBER NAME ENTRIES, one a line.\nOn standard error: ldf LINE:COLUMN fault NUMBER NAME for the first fault of the text, or ldf too long above 4,194,304 bytes;\notherwise a line LINE:COLUMN finding NUMBER NAME for each reason why it describes no cluster;\nwith --field also LINE:COLUMN warning NUMBER NAME for what is read otherwise than it stands.";
+    "On standard output: node NUMBER NAME NAD (- for none), signal NUMBER NAME, table NUMBER NAME ENTRIES, one a line.\nOn standard error: ldf LINE:COLUMN fault NUMBER NAME for the first fault of the text, or ldf too long above 4,194,304 bytes;\notherwise a line LINE:COLUMN finding NUMBER NAME for each reason why it describes no cluster;\nwith --field also LINE:COLUMN warning NUMBER NAME for what is read otherwise than it stands,\nand with --physical for what is wrong with the encodings of signals.";
 
 fn file<'a>(alloc: Global) -> Arg<'a> {
     Arg::new(alloc, "file")
@@ -127,7 +127,19 @@ fn plain<'a>(alloc: Global) -> Result<Arg<'a>, AllocError> {
     flag(alloc, "plain", help)
         .requires_arg("field")?
         .conflicts_with("frames")?
-        .conflicts_with("slots")
+        .conflicts_with("slots")?
+        .conflicts_with("physical")?
+        .conflicts_with("signals")
+}
+
+fn physical<'a>(alloc: Global) -> Arg<'a> {
+    let help = "Reads the LDF's encodings of signals, too, with warnings on standard error";
+    flag(alloc, "physical", help)
+}
+
+fn listed_signals<'a>(alloc: Global) -> Result<Arg<'a>, AllocError> {
+    let help = "Lists the signals with what their values mean, too";
+    flag(alloc, "signals", help).requires_arg("physical")
 }
 
 fn slots<'a>(alloc: Global) -> Arg<'a> {
@@ -163,7 +175,9 @@ fn check<'a>(alloc: Global) -> Result<Command<'a>, AllocError> {
         .arg(file(alloc).required(true))?
         .arg(listed_frames(alloc))?
         .arg(listed_slots(alloc))?
+        .arg(listed_signals(alloc)?)?
         .arg(field(alloc))?
+        .arg(physical(alloc))?
         .arg(plain(alloc)?)?
         .arg(places(alloc))?
         .arg(explain(alloc))
@@ -239,10 +253,11 @@ pub(crate) struct Asked<'a> {
 /// What the command line asks for.
 #[derive(Clone, Copy)]
 pub(crate) enum Request<'a> {
-    /// `linsim check FILE [--field] [--frames] [--slots]`
+    /// `linsim check FILE [--field] [--frames] [--slots] [--physical [--signals]]`
     Check {
         file: &'a str,
         reading: Reading,
+        encodings: Encodings,
         lists: Lists,
     },
     /// `linsim check FILE --field --plain`
@@ -315,6 +330,15 @@ fn reading_of(found: &ArgMatches<'_>) -> Reading {
     }
 }
 
+/// How its sections of encodings are read.
+fn encodings_of(found: &ArgMatches<'_>) -> Encodings {
+    if found.get_flag("physical") {
+        Encodings::Told
+    } else {
+        Encodings::Unread
+    }
+}
+
 /// What a run begins with.
 fn settings_of<'a>(found: &ArgMatches<'a>) -> Settings<'a> {
     let file = found.get_str("file");
@@ -351,9 +375,11 @@ fn request_of<'a>(matches: &ArgMatches<'a>) -> Option<Request<'a>> {
         Some(("check", found)) => Some(Request::Check {
             file: found.get_str("file").unwrap_or(""),
             reading: reading_of(found),
+            encodings: encodings_of(found),
             lists: Lists {
                 frames: found.get_flag("frames"),
                 slots: found.get_flag("slots"),
+                signals: found.get_flag("signals"),
             },
         }),
         Some(("live", found)) => Some(Request::Live(settings_of(found))),

@@ -1,7 +1,7 @@
-use Rattle.std.proofs.Common.{◌++◌, append_assoc, refl}
+use Rattle.std.proofs.Common.{◌++◌, append_assoc, ap, option_map, refl, ◌∙◌}
 use Rattle.lin_export.proofs.Puttings.{writes-more, written-short}
 use Rattle.lin_listing.specs.Listing.{listing}
-use Rattle.lin_tool.specs.Listing.{listed_frames, listed_slots}
+use Rattle.lin_tool.specs.Listing.{listed_frames, listed_signals, listed_slots}
 use Rattle.lin_tool.proofs.listing.write_lists.Goals as goal
 
 pub returns-in_err-write_list : goal.returns-in_err-write_list
@@ -9,18 +9,31 @@ returns-in_err-write_list g c =
     let x = c.args.cluster.now in
     let second = listed_frames x c.args.lists.frames in
     let third = listed_slots x c.args.lists.slots in
-    written-short (second ++ third) c.from_residual.ensures.0
-    (append_assoc (listing x) second third) c.write_list.ensures
+    let fourth = listed_signals x (option_map (λ k. k.now) c.args.coded) c.args.lists.signals in
+    written-short ((second ++ third) ++ fourth) c.from_residual.ensures.0
+    (ap (λ l. l ++ fourth) (append_assoc (listing x) second third) ∙ append_assoc (listing x) (second ++ third) fourth) c.write_list.ensures
 
 pub returns-in_err-write_wanted_frames : goal.returns-in_err-write_wanted_frames
 returns-in_err-write_wanted_frames g c =
+    let x = c.args.cluster.now in
     let first = rw c.in_ok-write_list.was at c.write_list.ensures in
-    let third = listed_slots c.args.cluster.now c.args.lists.slots in
-    written-short third c.from_residual-in_err-write_wanted_frames.ensures.0 refl
+    let second = listed_frames x c.args.lists.frames in
+    let third = listed_slots x c.args.lists.slots in
+    let fourth = listed_signals x (option_map (λ k. k.now) c.args.coded) c.args.lists.signals in
+    written-short (third ++ fourth) c.from_residual-in_err-write_wanted_frames.ensures.0 (append_assoc (listing x ++ second) third fourth)
     (writes-more first c.write_wanted_frames.ensures)
+
+pub returns-in_err-write_wanted_slots : goal.returns-in_err-write_wanted_slots
+returns-in_err-write_wanted_slots g c =
+    let first = rw c.in_ok-write_list.was at c.write_list.ensures in
+    let second = rw c.in_ok-write_wanted_frames.was at c.write_wanted_frames.ensures in
+    let fourth = listed_signals c.args.cluster.now (option_map (λ k. k.now) c.args.coded) c.args.lists.signals in
+    written-short fourth c.from_residual-in_err-write_wanted_slots.ensures.0 refl
+    (writes-more (writes-more first second) c.write_wanted_slots.ensures)
 
 pub returns : goal.returns
 returns g c =
     let first = rw c.in_ok-write_list.was at c.write_list.ensures in
     let second = rw c.in_ok-write_wanted_frames.was at c.write_wanted_frames.ensures in
-    writes-more (writes-more first second) c.write_wanted_slots.ensures
+    let third = rw c.in_ok-write_wanted_slots.was at c.write_wanted_slots.ensures in
+    writes-more (writes-more (writes-more first second) third) c.write_wanted_signals.ensures

@@ -1,0 +1,121 @@
+//! What an LDF text says of the values of its signals (LIN 2.2A, section 9.2.6): `--physical`.
+
+ghost use Rattle.std.specs.Prelude.{◌≡◌, ◌++◌, true, map, IfOk, IfErr, IsPermutation, IsSorted, List};
+ghost use Rattle.lin_ldf.specs.Stream.{start_of};
+ghost use Rattle.lin_ldf.specs.Symbols.{symbols_in};
+ghost use Rattle.lin_ldf.specs.Tokens.{AreTokens};
+ghost use Rattle.lin_ldf.specs.declared.token.Token.{Token};
+ghost use Rattle.lin_field.specs.Checks.{remark, remark_cmp};
+ghost use Rattle.lin_tool.specs.Coding.{coded_read, codings_read, AreWarnings};
+ghost use Rattle.lin_tool.specs.declared.fault.Fault.TheVariants.{OutOfMemory};
+
+use crate::fault::Fault;
+use crate::notes::Notes;
+use lin_cluster::Finding;
+use lin_cluster_parts::Cluster;
+use lin_field::Remark;
+use lin_lists::Many;
+use lin_values::{Coded, Codings, coded_by, read_codings};
+use std::alloc::{AllocError, Global};
+
+/// How the sections of encodings are read.
+#[derive(Clone, Copy, Debug, Drop, PartialEq)]
+pub enum Encodings {
+    /// They aren't.
+    Unread,
+    /// What is wrong with them is told as warnings.
+    Told,
+}
+
+/// The cluster of an LDF text, and what the values of its signals mean, where that is read.
+#[derive(Drop)]
+pub struct Described {
+    pub cluster: Cluster,
+    pub coded: Option<Coded>,
+}
+
+/// What the sections of encodings of an LDF text say, where they are read.
+///
+/// An error means out of memory.
+pub(crate) fn codings_of(
+    alloc: Global,
+    text: &[u8],
+    encodings: Encodings,
+) -> Result<Option<Codings>, AllocError>
+    ensures read { IfOk result
+        (λ k. k ≡ codings_read encodings (symbols_in text.now (start_of text.now).tokens)) }
+    ensures tokens { (ts : List Token) → AreTokens text.now ts
+        → IfOk result (λ k. k ≡ codings_read encodings (symbols_in text.now ts)) }
+{
+    match encodings {
+        Encodings::Unread => Ok(None),
+        Encodings::Told => Ok(Some(read_codings(alloc, text)?)),
+    }
+}
+
+/// Warnings, and findings as such, by place and then by number.
+///
+/// An error means out of memory.
+fn with_findings(warnings: Many<Remark>, findings: &[Finding]) -> Result<Many<Remark>, AllocError>
+    ensures all { IfOk result
+        (λ all. IsPermutation (warnings ++ map (remark true) findings.now) all) }
+    ensures ordered { IfOk result (λ all. IsSorted remark_cmp all) }
+{
+    let mut all = warnings.into_vec();
+    for finding in findings {
+        all.push(Remark {
+            finding: *finding,
+            is_warning: true,
+        })?;
+    }
+    all.sort()?;
+    Ok(Many::new(all))
+}
+
+/// What the values of a cluster's signals mean by the sections of encodings, where they are read;
+/// and warnings with what is wrong with these, by place and then by number.
+///
+/// An error means out of memory.
+fn coded_with(
+    alloc: Global,
+    cluster: &Cluster,
+    codings: Option<Codings>,
+    warnings: Many<Remark>,
+) -> Result<(Option<Coded>, Many<Remark>), AllocError>
+    requires { IsSorted remark_cmp warnings }
+    ensures coded { IfOk result (λ r. r.0 ≡ coded_read cluster.now codings) }
+    ensures warnings { IfOk result (λ r. AreWarnings cluster.now codings warnings r.1) }
+{
+    let Some(codings) = codings else {
+        return Ok((None, warnings));
+    };
+    let (coded, found) = coded_by(alloc, cluster, codings)?;
+    let all = with_findings(warnings, found.as_slice())?;
+    Ok((Some(coded), all))
+}
+
+/// A cluster, and what the values of its signals mean by the sections of encodings, where they are
+/// read. The notes keep the warnings of its text with those of its encodings.
+///
+/// # Errors
+/// `OutOfMemory`.
+pub(crate) fn coded_noted(
+    alloc: Global,
+    cluster: Cluster,
+    codings: Option<Codings>,
+    warnings: Many<Remark>,
+    text: &[u8],
+    notes: &mut Notes<'_>,
+) -> Result<Described, Fault>
+    requires { IsSorted remark_cmp warnings }
+    ensures cluster { IfOk result (λ d. d.cluster ≡ cluster) }
+    ensures coded { IfOk result (λ d. d.coded ≡ coded_read d.cluster codings) }
+    ensures warnings { IfOk result
+        (λ d. AreWarnings d.cluster codings warnings notes.new.warnings) }
+    ensures memory { IfErr result (λ fault. fault ≡ OutOfMemory) }
+{
+    let (coded, warnings) = coded_with(alloc, &cluster, codings, warnings)?;
+    notes.add_remarks(alloc, text, warnings.as_slice())?;
+    notes.keep_warnings(warnings);
+    Ok(Described { cluster, coded })
+}
