@@ -8,7 +8,7 @@ use Rattle.lin_description.specs.declared.place.Place.{Place}
 use Rattle.lin_ldf.specs.Symbols.{symbol_in, symbols_in}
 use Rattle.lin_ldf.specs.Advance.{step, first_place}
 use Rattle.lin_ldf.specs.Scanning.{piece_at}
-use Rattle.lin_ldf.specs.Stream.{Ahead, ahead_at, more, stop_with, start_of}
+use Rattle.lin_ldf.specs.Stream.{Ahead, ahead_at, more, stop_with, start_of, token_from}
 use Rattle.lin_ldf.specs.Tokens.{mark_len, behind_mark}
 use Rattle.lin_ldf.specs.declared.token.Token.{Token}
 use Rattle.lin_ldf.specs.declared.token.TokenKind.{TokenKind}
@@ -17,7 +17,7 @@ use Rattle.lin_ldf.specs.declared.lexer.Scanned.{Scanned}
 use Rattle.lin_ldf.specs.declared.lexer.Scanned.TheVariants as pieces
 use Rattle.lin_ldf.specs.declared.fault.LdfFault.{LdfFault}
 use Rattle.lin_ldf.specs.declared.fault.LdfFault.TheVariants as faults
-use Rattle.lin_ldf.proofs.Stream.{nothing_ahead, token}
+use Rattle.lin_ldf.proofs.Stream.{nothing_ahead}
 use Rattle.lin_ldf.proofs.Pieces.{found, Found}
 use Rattle.lin_ldf.proofs.Alike.{IsMarkByte, Alike, alike_at, same_length, same_piece}
 
@@ -79,7 +79,7 @@ unfolding ahead_at
 gap_is at p c cs k h = rw (h, ahead_at) refl
 
 token_is : (at : ℕ) (p : Place) (c : ℕ) (cs : List ℕ) (kind : TokenKind) (k : ℕ) → piece_at c cs ≡ pieces.Token kind k
-    → ahead_at zero at p (c ∷ cs) ≡ more (token kind at (length (take k (c ∷ cs))) p) (ahead_at (k - 1) (at + 1) (step p c) cs)
+    → ahead_at zero at p (c ∷ cs) ≡ more (token_from kind at (length (take k (c ∷ cs))) p) (ahead_at (k - 1) (at + 1) (step p c) cs)
 unfolding ahead_at
 token_is at p c cs kind k h = rw (h, ahead_at) refl
 
@@ -109,7 +109,7 @@ all_from (c ∷ cs) (suc n) at p ts e =
 all_from (c ∷ cs) zero at p ts e = elim (piece_at c cs) as (λ s. piece_at c cs ≡ s → AllFrom (at + zero) ts) [
   | pieces.Gap k ↦ λ is. from_earlier (at + zero) (at + 1 + (k - 1)) ts (omega arith) (all_from cs (k - 1) (at + 1) (step p c) ts (sym (gap_is at p c cs k is) ∙ e))
   | pieces.Token kind k ↦ λ is.
-      let t : Token = token kind at (length (take k (c ∷ cs))) p in
+      let t : Token = token_from kind at (length (take k (c ∷ cs))) p in
       let r : Ahead = ahead_at (k - 1) (at + 1) (step p c) cs in
       let whole : more t r ≡ clean ts = sym (token_is at p c cs kind k is) ∙ e in
       let behind : AllFrom (at + 1 + (k - 1)) r.tokens = all_from cs (k - 1) (at + 1) (step p c) r.tokens (rest_clean t r ts whole) in
@@ -164,7 +164,7 @@ mark_step p c (inl is) = ap (step p) is
 mark_step p c (inr is) = ap (step p) is
 
 -- the mark is the first byte
-gone_here : (at : ℕ) (p : Place) (c : ℕ) (cs : List ℕ) (kind : TokenKind) (k : ℕ) (t : Token) (after : List Token) → IsMarkByte c → k ≡ 1 → t ≡ token kind at (length (take k (c ∷ cs))) p
+gone_here : (at : ℕ) (p : Place) (c : ℕ) (cs : List ℕ) (kind : TokenKind) (k : ℕ) (t : Token) (after : List Token) → IsMarkByte c → k ≡ 1 → t ≡ token_from kind at (length (take k (c ∷ cs))) p
     → ahead_at (k - 1) (at + 1) (step p c) cs ≡ clean after → Gone zero at p (c ∷ cs) [] t after
 gone_here at p c cs kind k t after is one same e =
     let none : k - 1 ≡ zero = omega arith in
@@ -202,7 +202,7 @@ gone_behind n m at p q c cs before t after is g =
 
 -- it stands behind a token
 gone_later : (at : ℕ) (p : Place) (c : ℕ) (cs : List ℕ) (kind : TokenKind) (k : ℕ) (b : Token) (before : List Token) (t : Token) (after : List Token) → piece_at c cs ≡ pieces.Token kind k
-    → b ≡ token kind at (length (take k (c ∷ cs))) p → at + 1 + (k - 1) ≤ t.start → Gone (k - 1) (at + 1) (step p c) cs before t after → Gone zero at p (c ∷ cs) (b ∷ before) t after
+    → b ≡ token_from kind at (length (take k (c ∷ cs))) p → at + 1 + (k - 1) ≤ t.start → Gone (k - 1) (at + 1) (step p c) cs before t after → Gone zero at p (c ∷ cs) (b ∷ before) t after
 gone_later at p c cs kind k b before t after is same le g =
     let ds : List ℕ = g.front ++ 32 ∷ g.back in
     let alike : Alike cs ds = subst (λ (xs : List ℕ). Alike xs ds) (sym g.split) (alike_at g.front g.back g.byte g.is_mark) in
@@ -218,7 +218,7 @@ gone_later at p c cs kind k b before t after is same le g =
       start = omega (arith, g.start);
       gone =
           token_is at p c ds kind k (sym (same_piece c cs ds alike) ∙ is)
-          ∙ ap (λ (n : ℕ). more (token kind at n p) (ahead_at (k - 1) (at + 1) (step p c) ds)) len
+          ∙ ap (λ (n : ℕ). more (token_from kind at n p) (ahead_at (k - 1) (at + 1) (step p c) ds)) len
           ∙ ap (λ (x : Token). more x (ahead_at (k - 1) (at + 1) (step p c) ds)) (sym same)
           ∙ ap (more b) g.gone;
       left = (omega arith, g.left);
@@ -230,7 +230,7 @@ gone_at_token : (at : ℕ) (p : Place) (c : ℕ) (cs : List ℕ) (t : Token) (af
     → ((k : ℕ) (before : List Token) → ahead_at (k - 1) (at + 1) (step p c) cs ≡ clean (before ++ t ∷ after) → Gone (k - 1) (at + 1) (step p c) cs before t after)
     → (kind : TokenKind) (k : ℕ) → piece_at c cs ≡ pieces.Token kind k → (before : List Token) → ahead_at zero at p (c ∷ cs) ≡ clean (before ++ t ∷ after) → Gone zero at p (c ∷ cs) before t after
 gone_at_token at p c cs t after is later kind k h [] e =
-    let x : Token = token kind at (length (take k (c ∷ cs))) p in
+    let x : Token = token_from kind at (length (take k (c ∷ cs))) p in
     let r : Ahead = ahead_at (k - 1) (at + 1) (step p c) cs in
     let whole : more x r ≡ clean (t ∷ after) = sym (token_is at p c cs kind k h) ∙ e in
     let same : x ≡ t = ap (λ (y : Ahead). head_or x y.tokens) whole in
@@ -239,7 +239,7 @@ gone_at_token at p c cs t after is later kind k h [] e =
     let byte = mark_byte kind k c cs kind_is h in
     gone_here at p c cs kind k t after byte (mark_size kind k c cs byte h) (sym same) (rest_clean x r _ whole ∙ ap clean others)
 gone_at_token at p c cs t after is later kind k h (b ∷ before) e =
-    let x : Token = token kind at (length (take k (c ∷ cs))) p in
+    let x : Token = token_from kind at (length (take k (c ∷ cs))) p in
     let r : Ahead = ahead_at (k - 1) (at + 1) (step p c) cs in
     let whole : more x r ≡ clean (b ∷ (before ++ t ∷ after)) = sym (token_is at p c cs kind k h) ∙ e in
     let same : x ≡ b = ap (λ (y : Ahead). head_or x y.tokens) whole in

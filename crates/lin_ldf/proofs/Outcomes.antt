@@ -1,7 +1,7 @@
 -- A text has tokens, and those are ahead of the lexer; or it has a first fault, and what is ahead ends in it.
 use Rattle.std.proofs.Common.{◌≡◌, ◌≢◌, ℕ, zero, suc, ◌+◌, ◌<◌, ◌≤◌, List, [], ◌∷◌, ◌++◌, length, take, drop, Some, None, refl, sym, ap, subst, ◌∙◌, inl, inr, ◌⊎◌, append_assoc, arith, length-append}
 use Rattle.std.proofs.lemmas.List.{append-nil, take-append-drop}
-use Rattle.lin_ldf.specs.Stream.{Ahead, ahead_at, start_of, more, stop, stop_with}
+use Rattle.lin_ldf.specs.Stream.{Ahead, ahead_at, start_of, more, stop, stop_with, token_from}
 use Rattle.lin_ldf.specs.Scanning.{piece_at}
 use Rattle.lin_ldf.specs.Advance.{place_behind, first_place}
 use Rattle.lin_ldf.specs.Tokens.{AreTokensIn, IsFaultIn, BeginsBad, BeginsOpenComment, BeginsOpenText, mark_len, behind_mark}
@@ -14,7 +14,7 @@ use Rattle.lin_description.specs.declared.place.Place.{Place}
 use Rattle.lin_ldf.proofs.CutLaws.{GoesOn, at_start, gap_goes_on, token_goes_on, nothing_left, stands_at}
 use Rattle.lin_ldf.proofs.Pieces.{Found, found}
 use Rattle.lin_ldf.proofs.Ranges.{form_length}
-use Rattle.lin_ldf.proofs.Stream.{token, gap_at, token_at, bad_byte_at, open_comment_at, open_text_at, nothing_ahead}
+use Rattle.lin_ldf.proofs.Stream.{gap_at, token_at, bad_byte_at, open_comment_at, open_text_at, nothing_ahead}
 
 abbrev pub HasTokens : ℕ → List ℕ → List Token → Ahead → Type 0
 HasTokens start text before r = AreTokensIn start text (before ++ r.tokens) × (r.fault ≡ None)
@@ -58,7 +58,7 @@ one_piece start text m later before at place c cs le g (pieces.Token k n) h piec
     let after : List ℕ = drop n (c ∷ cs) in
     let split : p ++ after ≡ c ∷ cs = take-append-drop n (c ∷ cs) in
     let some : 0 < length p = form_length (Some k) p piece.form in
-    let t : Token = token k at (length p) place in
+    let t : Token = token_from k at (length p) place in
     let whole = later (before ++ t ∷ []) (at + length p) (place_behind place p) after (fewer (c ∷ cs) p after m split some le) (token_goes_on text start before at place (c ∷ cs) p after k g (sym split) piece) in
     subst (Outcome start text before) (sym (token_at k at place c cs n (some_bytes n (c ∷ cs) some) h)) (one_more start text before t _ whole)
 one_piece start text m later before at place c cs le g pieces.BadByte h bad =

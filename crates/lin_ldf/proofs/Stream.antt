@@ -2,7 +2,7 @@
 use Rattle.std.proofs.Common.{◌≡◌, ℕ, zero, suc, ◌+◌, ◌-◌, ◌<◌, ◌≤◌, List, [], ◌∷◌, ◌++◌, length, take, drop, Option, Some, None, Ok, refl, sym, ap, subst, ◌∙◌, append_assoc, arith}
 use Rattle.std.proofs.lemmas.List.{drop-drop, length-drop, length-map, length-take}
 use Rattle.lin_ldf.specs.Symbols.{symbol_in, symbols_in}
-use Rattle.lin_ldf.specs.Stream.{Ahead, ahead_at, nothing, more, stop_with, still, Pulls}
+use Rattle.lin_ldf.specs.Stream.{Ahead, ahead_at, nothing, more, stop_with, still, token_from, Pulls}
 use Rattle.lin_ldf.specs.Scanning.{front_piece, piece_at}
 use Rattle.lin_ldf.specs.Advance.{step, place_behind}
 use Rattle.lin_ldf.specs.declared.fault.LdfFault.TheVariants as faults
@@ -29,16 +29,13 @@ gap_at at p c cs (suc n) lt h =
     let same : suc n - 1 ≡ n = omega arith in
     rw (h, ahead_at, same) (passed (suc n) at p (c ∷ cs))
 
-abbrev pub token : TokenKind → ℕ → ℕ → Place → Token
-token kind at n p = record { kind = kind; start = at; end = at + n; line = p.line; column = p.column }
-
 pub token_at : (k : TokenKind) (at : ℕ) (p : Place) (c : ℕ) (cs : List ℕ) (n : ℕ) → 0 < n → piece_at c cs ≡ pieces.Token k n
-    → ahead_at 0 at p (c ∷ cs) ≡ more (token k at (length (take n (c ∷ cs))) p) (ahead_at 0 (at + length (take n (c ∷ cs))) (place_behind p (take n (c ∷ cs))) (drop n (c ∷ cs)))
+    → ahead_at 0 at p (c ∷ cs) ≡ more (token_from k at (length (take n (c ∷ cs))) p) (ahead_at 0 (at + length (take n (c ∷ cs))) (place_behind p (take n (c ∷ cs))) (drop n (c ∷ cs)))
 unfolding ahead_at
 token_at k at p c cs zero lt h = absurd (omega arith)
 token_at k at p c cs (suc n) lt h =
     let same : suc n - 1 ≡ n = omega arith in
-    rw (h, ahead_at, same) (ap (λ (r : Ahead). more (token k at (length (take (suc n) (c ∷ cs))) p) r) (passed (suc n) at p (c ∷ cs)))
+    rw (h, ahead_at, same) (ap (λ (r : Ahead). more (token_from k at (length (take (suc n) (c ∷ cs))) p) r) (passed (suc n) at p (c ∷ cs)))
 
 pub bad_byte_at : (at : ℕ) (p : Place) (c : ℕ) (cs : List ℕ) → piece_at c cs ≡ pieces.BadByte → ahead_at 0 at p (c ∷ cs) ≡ stop_with (faults.BadByte p) p
 unfolding ahead_at
@@ -75,13 +72,13 @@ behind_gap source (c ∷ cs) at n p lt e some within h =
     ∙ ap (λ (r : List ℕ). ahead_at 0 (at + n) (place_behind p (take n (c ∷ cs))) r) (ap (drop n) e ∙ drop-drop n at source))
 
 pub behind_token : (source rest : List ℕ) (at n : ℕ) (k : TokenKind) (p : Place) → at < length source → rest ≡ drop at source → 0 < n → n ≤ length rest → front_piece rest ≡ pieces.Token k n
-    → ahead_at 0 at p (drop at source) ≡ more (token k at n p) (ahead_at 0 (at + n) (place_behind p (take n (drop at source))) (drop (at + n) source))
+    → ahead_at 0 at p (drop at source) ≡ more (token_from k at n p) (ahead_at 0 (at + n) (place_behind p (take n (drop at source))) (drop (at + n) source))
 behind_token source [] at n k p lt e some within h = absurd (omega arith)
 behind_token source (c ∷ cs) at n k p lt e some within h =
     let len : length (take n (c ∷ cs)) ≡ n = omega (arith, length-take n (c ∷ cs)) in
-    subst (λ (r : List ℕ). ahead_at 0 at p r ≡ more (token k at n p) (ahead_at 0 (at + n) (place_behind p (take n r)) (drop (at + n) source))) e
-    (token_at k at p c cs n some h ∙ ap (λ (m : ℕ). more (token k at m p) (ahead_at 0 (at + m) (place_behind p (take n (c ∷ cs))) (drop n (c ∷ cs)))) len
-    ∙ ap (λ (r : List ℕ). more (token k at n p) (ahead_at 0 (at + n) (place_behind p (take n (c ∷ cs))) r)) (ap (drop n) e ∙ drop-drop n at source))
+    subst (λ (r : List ℕ). ahead_at 0 at p r ≡ more (token_from k at n p) (ahead_at 0 (at + n) (place_behind p (take n r)) (drop (at + n) source))) e
+    (token_at k at p c cs n some h ∙ ap (λ (m : ℕ). more (token_from k at m p) (ahead_at 0 (at + m) (place_behind p (take n (c ∷ cs))) (drop n (c ∷ cs)))) len
+    ∙ ap (λ (r : List ℕ). more (token_from k at n p) (ahead_at 0 (at + n) (place_behind p (take n (c ∷ cs))) r)) (ap (drop n) e ∙ drop-drop n at source))
 
 pub at_bad_byte : (source rest : List ℕ) (at : ℕ) (p : Place) → rest ≡ drop at source → front_piece rest ≡ pieces.BadByte → ahead_at 0 at p (drop at source) ≡ stop_with (faults.BadByte p) p
 at_bad_byte source [] at p e h = absurd cc
@@ -111,7 +108,7 @@ nothing_pulled (Some t) old new none h = absurd (none t refl)
 abbrev shown : Scanned → ℕ → Place → ℕ → List ℕ → Ahead
 shown s at p c cs = elim s [
   | pieces.Gap k ↦ ahead_at (k - 1) (at + 1) (step p c) cs
-  | pieces.Token kind k ↦ more (token kind at (length (take k (c ∷ cs))) p) (ahead_at (k - 1) (at + 1) (step p c) cs)
+  | pieces.Token kind k ↦ more (token_from kind at (length (take k (c ∷ cs))) p) (ahead_at (k - 1) (at + 1) (step p c) cs)
   | pieces.BadByte ↦ stop_with (faults.BadByte p) p
   | pieces.OpenComment ↦ stop_with (faults.OpenComment p) p
   | pieces.OpenText ↦ stop_with (faults.OpenText p) p

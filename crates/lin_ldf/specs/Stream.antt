@@ -27,6 +27,11 @@ nothing = record { tokens = []; fault = None }
 abbrev pub more : Token → Ahead → Ahead
 more t r = record { tokens = t ∷ r.tokens; fault = r.fault }
 
+-- a token of so many bytes at this offset and place
+abbrev pub token_from : TokenKind → ℕ → ℕ → Place → Token
+token_from kind at n p =
+    record { kind = kind; start = at; end = at + n; line = p.line; column = p.column }
+
 -- It stands where the lexer finds a fault: no file ends in it, so none is read over it.
 abbrev pub stop : Place → Token
 stop p = record { kind = Other; start = 0; end = 0; line = p.line; column = p.column }
@@ -40,14 +45,8 @@ unfoldable pub ahead_at : ℕ → ℕ → Place → List ℕ → Ahead
 ahead_at n at p [] = nothing
 ahead_at zero at p (c ∷ cs) = elim (piece_at c cs) [
   | pieces.Gap k ↦ ahead_at (k - 1) (at + 1) (step p c) cs
-  | pieces.Token kind k ↦ more
-      (record {
-        kind = kind;
-        start = at;
-        end = at + length (take k (c ∷ cs));
-        line = p.line;
-        column = p.column;
-      }) (ahead_at (k - 1) (at + 1) (step p c) cs)
+  | pieces.Token kind k ↦ more (token_from kind at (length (take k (c ∷ cs))) p)
+      (ahead_at (k - 1) (at + 1) (step p c) cs)
   | pieces.BadByte ↦ stop_with (faults.BadByte p) p
   | pieces.OpenComment ↦ stop_with (faults.OpenComment p) p
   | pieces.OpenText ↦ stop_with (faults.OpenText p) p
@@ -74,6 +73,11 @@ Pulls (Ok (Some t)) old new =
     (still old ≡ more t (still new)) × (t.start ≤ t.end) × (t.end ≤ length old.source.now)
 Pulls (Ok None) old new = still old ≡ nothing
 Pulls (Err e) old new = still old ≡ stop_with e new.place
+
+-- the same of a call that gives some kinds of tokens alone: where it gives none, all is still ahead
+abbrev pub PullsSome : Option Token → Lexer → Lexer → Type 0
+PullsSome (Some t) old new = Pulls (Ok (Some t)) old new
+PullsSome None old new = still old ≡ still new
 
 -- ---- the parser
 

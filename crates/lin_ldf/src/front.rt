@@ -1,14 +1,14 @@
 //! The tokens of a text that are left, and the next one.
 
-ghost use Rattle.std.specs.Prelude.{◌≡◌, ◌≤◌, true, length};
+ghost use Rattle.std.specs.Prelude.{◌≡◌, ◌≤◌, ◌∷◌, true, length};
 ghost use Rattle.lin_ldf.specs.Symbols.{symbols_in};
-ghost use Rattle.lin_ldf.specs.Stream.{IsReady, start_of, symbols_of};
+ghost use Rattle.lin_ldf.specs.Stream.{IsReady, start_of, still, symbols_of};
 ghost use Rattle.lin_ldf.specs.Forms.{has_front, front, tail};
 ghost use Rattle.lin_ldf.specs.UpTo.{front_kind};
 ghost use Rattle.lin_ldf.specs.Words.{place_of};
 
 use crate::lexer::Lexer;
-use crate::token::TokenKind;
+use crate::token::{Token, TokenKind};
 use lin_description::Place;
 
 /// The tokens that are left: the next one's kind, text and place, and the lexer, which stands after
@@ -79,6 +79,24 @@ impl<'a> Front<'a> {
         self.lexer.source.len() - self.lexer.offset + 1
     }
 
+    /// A token that the lexer has passed over is the next one.
+    #[inline(always)]
+    fn stand_at(&mut self, token: Token)
+        requires ready { IsReady self.old.lexer }
+        requires start { token.start ≤ token.end }
+        requires end { token.end ≤ length self.old.lexer.source.now }
+        ensures ready { IsReady self.new.lexer }
+        ensures symbols { symbols_of self.new
+            ≡ symbols_in self.old.lexer.source.now (token ∷ (still self.old.lexer).tokens) }
+    {
+        self.kind = Some(token.kind);
+        self.text = &self.lexer.source[token.start..token.end];
+        self.place = Place {
+            line: token.line,
+            column: token.column,
+        };
+    }
+
     /// The next token is passed over.
     #[tactic(auto, using(crate::proofs::Stream::at_end))]
     #[inline(always)]
@@ -89,14 +107,7 @@ impl<'a> Front<'a> {
     {
         if self.kind.is_some() {
             match self.lexer.next() {
-                Ok(Some(t)) => {
-                    self.kind = Some(t.kind);
-                    self.text = &self.lexer.source[t.start..t.end];
-                    self.place = Place {
-                        line: t.line,
-                        column: t.column,
-                    };
-                }
+                Ok(Some(token)) => self.stand_at(token),
                 Ok(None) => self.kind = None,
                 // (a token that ends no file, and nothing after it)
                 Err(_) => {
@@ -105,6 +116,31 @@ impl<'a> Front<'a> {
                     self.place = self.lexer.place;
                     self.lexer.offset = self.lexer.source.len();
                 }
+            }
+        }
+    }
+
+    /// The same as a call.
+    #[inline(never)]
+    fn advance_by_call(&mut self)
+        requires { IsReady self.old.lexer }
+        ensures ready { IsReady self.new.lexer }
+        ensures tail { symbols_of self.new ≡ tail (symbols_of self.old) }
+    {
+        self.advance();
+    }
+
+    /// The same in less code: one of the common tokens is passed over here, and any other by a call.
+    #[inline(always)]
+    pub fn skip(&mut self)
+        requires { IsReady self.old.lexer }
+        ensures ready { IsReady self.new.lexer }
+        ensures tail { symbols_of self.new ≡ tail (symbols_of self.old) }
+    {
+        if self.kind.is_some() {
+            match self.lexer.next_common() {
+                Some(token) => self.stand_at(token),
+                None => self.advance_by_call(),
             }
         }
     }

@@ -1,21 +1,21 @@
 //! The tokens of an LDF text (LIN 2.2A, section 9, lexical rules): the longest piece at each place.
 
 ghost use Rattle.std.specs.Prelude.{◌≡◌, ◌≢◌, ◌⊎◌, ◌+◌, ◌<◌, ◌≤◌, ◌^◌, ◌==◌, length, take, drop};
-ghost use Rattle.std.specs.Prelude.{List, All, IfOk, IfErr, IsErrAnd, MatchResult, IfSome, not};
+ghost use Rattle.std.specs.Prelude.{List, All, None, false, IfOk, IfErr, IsErrAnd, MatchResult, IfSome, not};
 ghost use Rattle.std.specs.List.{prefix_len};
-ghost use Rattle.lin_ldf.specs.Bytes.{is_separator, is_letter, is_digit, is_hex_digit};
-ghost use Rattle.lin_ldf.specs.Bytes.{is_word_byte, is_bad, is_not_newline};
+ghost use Rattle.lin_ldf.specs.Bytes.{is_digit, is_hex_digit, is_word_byte, is_not_newline};
 ghost use Rattle.lin_ldf.specs.Scanning.{begins, close_at, single, slash_piece, text_piece};
 ghost use Rattle.lin_ldf.specs.Scanning.{has_fraction, has_hex, fraction_len, number_len, piece_at};
-ghost use Rattle.lin_ldf.specs.Scanning.{front_piece, IsWithin};
-ghost use Rattle.lin_ldf.specs.Advance.{first_place, place_behind};
-ghost use Rattle.lin_ldf.specs.Stream.{IsReady, Pulls, start_of, still};
+ghost use Rattle.lin_ldf.specs.Scanning.{front_piece, is_common, IsWithin};
+ghost use Rattle.lin_ldf.specs.Advance.{first_place, place_behind, step};
+ghost use Rattle.lin_ldf.specs.Stream.{IsReady, Pulls, PullsSome, start_of, still, token_from};
 ghost use Rattle.lin_ldf.specs.Tokens.{mark_len, AreTokens, LiesIn, IsLexFault};
 ghost use Rattle.lin_ldf.specs.declared.fault.LdfFault.{LdfFault};
 ghost use Rattle.lin_ldf.specs.declared.fault.LdfFault.TheVariants.{OutOfMemory};
 ghost use Rattle.lin_ldf.specs.declared.token.Token.{Token};
 ghost use Rattle.lin_ldf.specs.declared.lexer.Scanned.TheVariants as pieces;
 
+use crate::classes::{is_alone, is_digit, is_hex_digit, is_letter, is_separator, is_word_byte};
 use crate::fault::LdfFault;
 use crate::token::{Token, TokenKind, same_kind};
 use lin_description::Place;
@@ -31,42 +31,6 @@ enum Scanned {
     BadByte,
     OpenComment,
     OpenText,
-}
-
-fn is_separator(c: u8) -> bool
-    ensures { result ≡ is_separator c }
-{
-    c == b' ' || c == b'\t' || c == b'\r' || c == b'\n'
-}
-
-fn is_letter(c: u8) -> bool
-    ensures { result ≡ is_letter c }
-{
-    (b'A' <= c && c <= b'Z') || (b'a' <= c && c <= b'z') || c == b'_'
-}
-
-fn is_digit(c: u8) -> bool
-    ensures { result ≡ is_digit c }
-{
-    b'0' <= c && c <= b'9'
-}
-
-fn is_hex_digit(c: u8) -> bool
-    ensures { result ≡ is_hex_digit c }
-{
-    is_digit(c) || (b'A' <= c && c <= b'F') || (b'a' <= c && c <= b'f')
-}
-
-fn is_word_byte(c: u8) -> bool
-    ensures { result ≡ is_word_byte c }
-{
-    is_letter(c) || is_digit(c)
-}
-
-fn is_bad(c: u8) -> bool
-    ensures { result ≡ is_bad c }
-{
-    !(b'!' <= c && c <= b'~') && !is_separator(c)
 }
 
 /// The kind of a byte that is a token alone.
@@ -245,25 +209,62 @@ fn text_piece(rest: &[u8]) -> Scanned
     }
 }
 
+/// The piece where it is a separator, a token of one byte or a word. Most are, and take no call.
+#[inline(always)]
+fn common_piece_at(first: u8, rest: &[u8]) -> Option<Scanned>
+    ensures value { IfSome result (λ piece. piece ≡ piece_at first rest.now) }
+    ensures within { IfSome result (λ piece. IsWithin piece (length rest.now + 1)) }
+    ensures none { result ≡ None → is_common first ≡ false }
+{
+    if is_separator(first) {
+        Some(Scanned::Gap(1))
+    } else if is_alone(first) {
+        Some(Scanned::Token(single(first), 1))
+    } else if is_letter(first) {
+        Some(Scanned::Token(TokenKind::Word, word_len(rest) + 1))
+    } else {
+        None
+    }
+}
+
+/// Any other piece.
+#[inline(always)]
+fn rare_piece_at(first: u8, rest: &[u8]) -> Scanned
+    requires { is_common first ≡ false }
+    ensures value { result ≡ piece_at first rest.now }
+    ensures within { IsWithin result (length rest.now + 1) }
+{
+    if is_digit(first) {
+        Scanned::Token(TokenKind::Number, number_len(first, rest))
+    } else if first == b'"' {
+        text_piece(rest)
+    } else if first == b'/' {
+        slash_piece(rest)
+    } else {
+        Scanned::BadByte
+    }
+}
+
+/// The common piece at the front of a text.
+#[inline(always)]
+fn common_piece(text: &[u8]) -> Option<Scanned>
+    ensures value { IfSome result (λ piece. piece ≡ front_piece text.now) }
+    ensures within { IfSome result (λ piece. IsWithin piece (length text.now)) }
+{
+    match text {
+        [first, rest @ ..] => common_piece_at(*first, rest),
+        [] => None,
+    }
+}
+
 #[inline(always)]
 fn piece_at(first: u8, rest: &[u8]) -> Scanned
     ensures value { result ≡ piece_at first rest.now }
     ensures within { IsWithin result (length rest.now + 1) }
 {
-    if is_separator(first) {
-        Scanned::Gap(1)
-    } else if first == b'/' {
-        slash_piece(rest)
-    } else if first == b'"' {
-        text_piece(rest)
-    } else if is_letter(first) {
-        Scanned::Token(TokenKind::Word, word_len(rest) + 1)
-    } else if is_digit(first) {
-        Scanned::Token(TokenKind::Number, number_len(first, rest))
-    } else if is_bad(first) {
-        Scanned::BadByte
-    } else {
-        Scanned::Token(single(first), 1)
+    match common_piece_at(first, rest) {
+        Some(piece) => piece,
+        None => rare_piece_at(first, rest),
     }
 }
 
@@ -283,6 +284,26 @@ fn front_piece(text: &[u8]) -> Scanned
 /// From this many bytes on, a piece is searched for line feeds.
 const LONG: usize = 32;
 
+/// The place after one byte.
+#[inline(always)]
+fn stepped(from: Place, c: u8) -> Place
+    requires line_fits { from.line + 1 < 2 ^ 64 }
+    requires column_fits { from.column + 1 < 2 ^ 64 }
+    ensures { result ≡ step from c }
+{
+    if c == b'\n' {
+        Place {
+            line: from.line + 1,
+            column: 1,
+        }
+    } else {
+        Place {
+            line: from.line,
+            column: from.column + 1,
+        }
+    }
+}
+
 /// The place after a piece that begins at this place.
 fn advanced(from: Place, piece: &[u8]) -> Place
     requires line_fits { from.line + length piece.now < 2 ^ 64 }
@@ -293,17 +314,7 @@ fn advanced(from: Place, piece: &[u8]) -> Place
 {
     let mut place = from;
     for c in piece {
-        place = if *c == b'\n' {
-            Place {
-                line: place.line + 1,
-                column: 1,
-            }
-        } else {
-            Place {
-                line: place.line,
-                column: place.column + 1,
-            }
-        };
+        place = stepped(place, *c);
     }
     place
 }
@@ -343,6 +354,21 @@ fn mark_len(source: &[u8]) -> usize
     }
 }
 
+/// A token of so many bytes at this offset and place.
+#[inline(always)]
+fn token_from(kind: TokenKind, start: usize, size: usize, place: Place) -> Token
+    requires { start + size < 2 ^ 64 }
+    ensures { result ≡ token_from kind start size place }
+{
+    Token {
+        kind,
+        start,
+        end: start + size,
+        line: place.line,
+        column: place.column,
+    }
+}
+
 /// A source that is read token by token: the offset of the next byte, and its line and column.
 #[derive(Clone, Copy)]
 pub struct Lexer<'a> {
@@ -378,7 +404,9 @@ impl<'a> Lexer<'a> {
     {
         let (_, rest) = self.source.split_at(self.offset);
         let (piece, _) = rest.split_at(size);
-        self.place = if size < LONG {
+        self.place = if let [c] = piece {
+            stepped(self.place, *c)
+        } else if size < LONG {
             advanced(self.place, piece)
         } else {
             advanced_by_lines(self.place, piece)
@@ -406,6 +434,34 @@ impl<'a> Lexer<'a> {
         }
     }
 
+    /// The next token where it is a word or a token of one byte, and no comment stands before it; most
+    /// are, and are found without a call.
+    #[inline(always)]
+    pub fn next_common(&mut self) -> Option<Token>
+        requires ready { IsReady self.old }
+        ensures ready { IsReady self.new }
+        ensures source { self.new.source.now ≡ self.old.source.now }
+        ensures pulls { PullsSome result self.old self.new }
+    {
+        // (a copy, which the loop keeps in registers)
+        let mut lexer = *self;
+        while lexer.offset < lexer.source.len() {
+            let (_, rest) = lexer.source.split_at(lexer.offset);
+            match common_piece(rest) {
+                Some(Scanned::Gap(size)) => lexer.pass(size),
+                Some(Scanned::Token(kind, size)) => {
+                    let token = token_from(kind, lexer.offset, size, lexer.place);
+                    lexer.pass_token(kind, size);
+                    *self = lexer;
+                    return Some(token);
+                }
+                _ => break,
+            }
+        }
+        *self = lexer;
+        None
+    }
+
     /// The next token, or nothing at the end; or the fault that stands in its place, and stands
     /// there still at the next call.
     #[tactic(auto, using(crate::proofs::Stream::at_end))]
@@ -417,20 +473,14 @@ impl<'a> Lexer<'a> {
         ensures pulls { Pulls result self.old self.new }
     {
         while self.offset < self.source.len() {
-            let start = self.offset;
             let place = self.place;
-            let (_, rest) = self.source.split_at(start);
+            let (_, rest) = self.source.split_at(self.offset);
             match front_piece(rest) {
                 Scanned::Gap(size) => self.pass(size),
                 Scanned::Token(kind, size) => {
+                    let token = token_from(kind, self.offset, size, place);
                     self.pass_token(kind, size);
-                    return Ok(Some(Token {
-                        kind,
-                        start,
-                        end: start + size,
-                        line: place.line,
-                        column: place.column,
-                    }));
+                    return Ok(Some(token));
                 }
                 Scanned::BadByte => return Err(LdfFault::BadByte(place)),
                 Scanned::OpenComment => return Err(LdfFault::OpenComment(place)),

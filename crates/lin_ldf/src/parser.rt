@@ -1,9 +1,9 @@
 //! The description that an LDF text spells, read token by token.
 
-ghost use Rattle.std.specs.Prelude.{◌≡◌, ◌≢◌, ◌⊎◌, ◌++◌, ◌∷◌, ◌≤◌, [], true, Some, length, IfOk};
+ghost use Rattle.std.specs.Prelude.{◌≡◌, ◌≢◌, ◌⊎◌, ◌++◌, ◌∷◌, ◌≤◌, ◌==◌, ℕ, [], true, Some, length, IfOk};
 ghost use Rattle.std.specs.Prelude.{IsErrAnd, MatchResult};
 ghost use Rattle.std.specs.Str.{bytes_eq};
-ghost use Rattle.std.specs.List.{list_any};
+ghost use Rattle.std.specs.List.{list_all, list_any, zip};
 ghost use Rattle.lin_ldf.specs.Symbols.{symbols_in};
 ghost use Rattle.lin_ldf.specs.Stream.{start_of};
 ghost use Rattle.lin_ldf.specs.Tokens.{IsLexFault};
@@ -51,10 +51,18 @@ impl<'a> Model for Parser<'a> {
     ghost invariant = { λ p. IsReady p.front.lexer };
 }
 
+/// Whether the bytes that stand at the same places are the same.
+fn same_pairs(text: &[u8], word: &[u8]) -> bool
+    ensures { result ≡ list_all (λ (pair : ℕ × ℕ). pair.0 == pair.1) (zip text.now word.now) }
+{
+    text.iter().zip(word).all(|(a, b)| *a == *b)
+}
+
+// (words are short: byte by byte is faster than the search for a difference that `==` makes)
 pub fn is_word(text: &[u8], word: &[u8]) -> bool
     ensures { result ≡ bytes_eq text.now word.now }
 {
-    text == word
+    text.len() == word.len() && same_pairs(text, word)
 }
 
 fn without_quotes(text: &[u8]) -> &[u8]
@@ -131,7 +139,7 @@ impl<'a> Parser<'a> {
         ensures { result ≡ is_word_next word.now self.now }
     {
         match self.front_kind() {
-            Some(next) => same_kind(TokenKind::Word, next) && self.text() == word,
+            Some(next) => same_kind(TokenKind::Word, next) && is_word(self.text(), word),
             None => false,
         }
     }
@@ -150,7 +158,7 @@ impl<'a> Parser<'a> {
     pub fn skip(&mut self)
         ensures { self.new ≡ tail self.old }
     {
-        self.front.advance();
+        self.front.skip();
     }
 
     pub fn mark(&mut self, kind: TokenKind) -> Result<(), LdfFault>

@@ -19,9 +19,9 @@ returns-in-Token-clause-pulls c =
     let within = c.in-Token.ensures.within in
     let passed = c.pass_token in
     let behind = behind_token before.source.now c.split_at.result.1.now before.offset c.in-Token.size c.in-Token.kind before.place (omega arith) c.split_at.ensures.back within.0 within.1 (sym c.in-Token.ensures.value) in (
-      rw (passed.ensures.offset, passed.ensures.place, passed.ensures.source) (sym c.loop-self.invariant.ahead ∙ behind),
-      omega arith,
-      omega (arith, within.1, c.split_at.ensures.back_len, ap (λ (s : List ℕ). length s) c.loop-self.invariant.source),
+      rw (c.token_from-token.ensures, passed.ensures.offset, passed.ensures.place, passed.ensures.source) (sym c.loop-self.invariant.ahead ∙ behind),
+      rw c.token_from-token.ensures (omega arith),
+      rw c.token_from-token.ensures (omega (arith, within.1, c.split_at.ensures.back_len, ap (λ (s : List ℕ). length s) c.loop-self.invariant.source)),
     )
 
 pub returns-in-BadByte-clause-pulls : goal.returns-in-BadByte-clause-pulls

@@ -1,0 +1,8 @@
+use Rattle.std.proofs.Common.{ℕ, eqb, refl, arith}
+use Rattle.lin_ldf.specs.Bytes.{is_letter}
+use Rattle.lin_ldf.proofs.ByteTable.{agree_below, by_class}
+use Rattle.lin_ldf.proofs.classes.is_letter.Goals as goal
+
+pub returns : goal.returns
+unfolding agree_below
+returns c = by_class (λ (k : ℕ). eqb k 76) is_letter c.args.c (omega arith) refl
