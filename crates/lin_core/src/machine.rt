@@ -255,6 +255,7 @@ impl Core {
     /// is done or refused, and logged with its reply, which `newest` then lends. A refused step
     /// changes nothing but the log. An error hands the step back, and nothing is logged or changed:
     /// the log is full, with 4,294,967,295 entries, or there was no memory.
+    #[inline(always)]
     pub fn step(&mut self, by: PortId, step: Step) -> Result<(), Hold>
         ensures stepped { IsStepped self.old by step result self.new }
         ensures full { IsLogFull result ↔ (length self.old.log ≡ 2 ^ 32 - 1) }

@@ -6,7 +6,7 @@ ghost use Rattle.lin_log.specs.Language.{plain};
 ghost use Rattle.lin_log.specs.Words.{event_words, reply_line, reply_words, step_line, text};
 
 use crate::naming::{Naming, Numbers};
-use crate::writing::{put_event, put_number, put_port, put_step};
+use crate::writing::{put_called, put_event, put_port, put_step};
 use lin_core::{Event, Listed, Log, LogEntry, PortId, Reply, Step};
 use lin_text::{TextWriter, WriteFailed};
 use std::io::Write;
@@ -51,7 +51,7 @@ fn put_reply<W: Write>(out: &mut TextWriter<'_, W>, reply: &Reply)
         Reply::Done(events) => put_events(out, events.as_slice()),
         Reply::Refused(refusal) => {
             out.put_text("> refused");
-            put_number(out, refusal.number());
+            put_called(out, None, u64::from(refusal.number()));
             out.put_byte(b'\n');
         }
     }

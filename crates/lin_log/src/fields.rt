@@ -120,6 +120,7 @@ pub(crate) fn is_word(field: &[u8], word: &[u8]) -> bool
 }
 
 /// Whether a field is a number, and no name.
+#[inline(always)]
 pub fn is_number(field: &[u8]) -> bool
     ensures { result ≡ is_number field.now }
 {
@@ -127,6 +128,7 @@ pub fn is_number(field: &[u8]) -> bool
 }
 
 /// The number that 1 to 10 digits spell, if it is at most a limit.
+#[inline(always)]
 pub fn number(word: &[u8], most: u32) -> Option<u32>
     ensures { result ≡ number most word.now }
 {
@@ -148,6 +150,7 @@ pub fn number(word: &[u8], most: u32) -> Option<u32>
 }
 
 /// A field that is a number of 1 to 10 digits, at most a limit.
+#[inline(always)]
 pub fn number_field(alloc: Global, field: &[u8], most: u32) -> Result<u32, LineFault>
     ensures { Gives (λ n. n) result (number_field most field.now) }
 {

@@ -28,6 +28,7 @@ pub fn is_port(field: &[u8]) -> bool
 }
 
 /// The node of a port, by its number, or after `:` by its name.
+#[inline(always)]
 fn port_number<N: Naming>(alloc: Global, names: &N, field: &[u8]) -> Result<u8, LineFault>
     ensures { Gives (λ n. n) result (port_number (N.language names.now) field.now) }
 {
@@ -191,6 +192,7 @@ fn timeout<N: Naming>(alloc: Global, names: &N, word: &[u8], line: &[u8]) -> Res
 }
 
 /// The only field of a line.
+#[inline(always)]
 fn only_field<'a, N: Naming>(
     alloc: Global,
     names: &N,
@@ -207,6 +209,7 @@ fn only_field<'a, N: Naming>(
 }
 
 #[tactic(auto, unfolding(crate::specs::Said::switch_form))]
+#[inline(always)]
 fn switch<N: Naming>(alloc: Global, names: &N, word: &[u8], line: &[u8]) -> Result<Step, LineFault>
     ensures { Gives (λ s. s) result (switch_form (N.language names.now) word.now
         (fields (N.language names.now).free line.now)) }
@@ -219,6 +222,7 @@ fn switch<N: Naming>(alloc: Global, names: &N, word: &[u8], line: &[u8]) -> Resu
 
 /// The node of a step that takes one.
 #[tactic(auto, unfolding(crate::specs::Said::node_form))]
+#[inline(always)]
 fn only_node<N: Naming>(alloc: Global, names: &N, word: &[u8], line: &[u8]) -> Result<u8, LineFault>
     ensures { (step : ℕ → Step) → Gives step result (node_form (N.language names.now) step word.now
         (fields (N.language names.now).free line.now)) }
@@ -229,6 +233,7 @@ fn only_node<N: Naming>(alloc: Global, names: &N, word: &[u8], line: &[u8]) -> R
 
 /// The step, where no field stands after its word.
 #[tactic(auto, unfolding(crate::specs::Said::alone))]
+#[inline(always)]
 fn alone<N: Naming>(
     alloc: Global,
     names: &N,
@@ -320,6 +325,7 @@ pub fn port_step<N: Naming>(
 
 /// The step of a line without its end; none where the line says nothing.
 #[tactic(auto, unfolding(crate::specs::Said::line_says))]
+#[inline(always)]
 pub fn line_step<N: Naming>(
     alloc: Global,
     names: &N,

@@ -18,6 +18,7 @@ use std::io::{Read, Write};
 ///
 /// # Errors
 /// Out of memory; nothing was changed then.
+#[inline(always)]
 pub fn make_step(core: &mut Core, by: PortId, step: Step) -> Result<(), AllocError>
     requires { length core.old.log < 2 ^ 32 - 1 }
     ensures made { OnOk result (core.new.log ≡ core.old.log ++ answered core.old by step ∷ []) }

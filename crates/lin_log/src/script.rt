@@ -77,6 +77,7 @@ impl<'a> ScriptLines<'a> {
     }
 
     /// The step of the next line that says one; none where no line is left that does.
+    #[inline(always)]
     pub(crate) fn next_step(&mut self, alloc: Global) -> Result<Option<(PortId, Step)>, ScriptFault>
         requires { self.old.number + left_of self.old.left ≤ 16777218 }
         ensures step { NextStep result (said self.old) (said self.new) }

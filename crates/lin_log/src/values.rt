@@ -21,6 +21,7 @@ use std::alloc::{AllocError, Global};
 
 /// A node or its host, by its name or its number.
 #[tactic(auto, unfolding(crate::specs::Said::node_field))]
+#[inline(always)]
 pub fn node_field<N: Naming>(alloc: Global, names: &N, field: &[u8]) -> Result<u8, LineFault>
     ensures { Gives (λ n. n) result (node_field (N.language names.now) field.now) }
 {
@@ -35,6 +36,7 @@ pub fn node_field<N: Naming>(alloc: Global, names: &N, field: &[u8]) -> Result<u
 
 /// A signal, by its name or its number.
 #[tactic(auto, unfolding(crate::specs::Said::signal_field))]
+#[inline(always)]
 pub fn signal_field<N: Naming>(alloc: Global, names: &N, field: &[u8]) -> Result<u16, LineFault>
     ensures { Gives (λ n. n) result (signal_field (N.language names.now) field.now) }
 {
@@ -49,6 +51,7 @@ pub fn signal_field<N: Naming>(alloc: Global, names: &N, field: &[u8]) -> Result
 
 /// A schedule table, by its name or its number.
 #[tactic(auto, unfolding(crate::specs::Said::table_field))]
+#[inline(always)]
 pub fn table_field<N: Naming>(alloc: Global, names: &N, field: &[u8]) -> Result<u16, LineFault>
     ensures { Gives (λ n. n) result (table_field (N.language names.now) field.now) }
 {

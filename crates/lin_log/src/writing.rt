@@ -33,26 +33,38 @@ pub fn put_number<W: Write, I: Integer>(out: &mut TextWriter<'_, W>, number: I)
     out.put_number(number);
 }
 
+/// A number. (Most have one digit, which is put at once.)
+#[inline(always)]
+fn put_decimal<W: Write>(out: &mut TextWriter<'_, W>, number: u64)
+    ensures { Grows W.contents out.old out.new (decimal number) }
+{
+    if number < 10 {
+        out.put_byte(b'0' + number as u8);
+    } else {
+        out.put_number(number);
+    }
+}
+
 /// A space, and a name, or the number of what has none.
-#[inline]
-fn put_called<W: Write, I: Integer>(out: &mut TextWriter<'_, W>, name: Option<&[u8]>, number: I)
+#[inline(always)]
+pub(crate) fn put_called<W: Write>(out: &mut TextWriter<'_, W>, name: Option<&[u8]>, number: u64)
     ensures { Grows W.contents out.old out.new
-        (spaced_word (option_map_or (λ w. w.now) name.entry (I.text number))) }
+        (spaced_word (option_map_or (λ w. w.now) name.entry (decimal number))) }
 {
     out.put_byte(b' ');
     match name {
         Some(name) => out.put(name),
-        None => out.put_number(number),
+        None => put_decimal(out, number),
     }
 }
 
 /// A space, and a node's name, or its number where it has none.
-#[inline]
+#[inline(always)]
 pub fn put_node<N: Naming, W: Write>(out: &mut TextWriter<'_, W>, names: &N, node: u8)
     ensures { Grows W.contents out.old out.new
         (spaced_word (word_of (N.language names.now).nodes node)) }
 {
-    put_called(out, names.name_of_node(node), node);
+    put_called(out, names.name_of_node(node), u64::from(node));
 }
 
 /// A space, and a signal's name, or its number where it has none.
@@ -61,7 +73,7 @@ pub fn put_signal<N: Naming, W: Write>(out: &mut TextWriter<'_, W>, names: &N, s
     ensures { Grows W.contents out.old out.new
         (spaced_word (word_of (N.language names.now).signals signal)) }
 {
-    put_called(out, names.name_of_signal(signal), signal);
+    put_called(out, names.name_of_signal(signal), u64::from(signal));
 }
 
 /// A space, and a schedule table's name, or its number where it has none.
@@ -70,11 +82,11 @@ pub fn put_table<N: Naming, W: Write>(out: &mut TextWriter<'_, W>, names: &N, ta
     ensures { Grows W.contents out.old out.new
         (spaced_word (word_of (N.language names.now).tables table)) }
 {
-    put_called(out, names.name_of_table(table), table);
+    put_called(out, names.name_of_table(table), u64::from(table));
 }
 
 /// A letter and a node: after a colon its name, or its number where it has none.
-#[inline]
+#[inline(always)]
 fn put_lettered<N: Naming, W: Write>(out: &mut TextWriter<'_, W>, names: &N, letter: u8, node: u8)
     ensures { Grows W.contents out.old out.new
         (letter ∷ port_number_word (N.language names.now) node) }
@@ -85,7 +97,7 @@ fn put_lettered<N: Naming, W: Write>(out: &mut TextWriter<'_, W>, names: &N, let
             out.put_byte(b':');
             out.put(name);
         }
-        None => out.put_number(node),
+        None => put_decimal(out, u64::from(node)),
     }
 }
 
@@ -124,7 +136,7 @@ pub fn put_value<W: Write>(out: &mut TextWriter<'_, W>, value: &Value)
     ensures { Grows W.contents out.old out.new (spaced_word (value_word value.now)) }
 {
     match value {
-        Value::Scalar(number) => put_number(out, *number),
+        Value::Scalar(number) => put_called(out, None, u64::from(*number)),
         Value::Bytes(bytes) => {
             out.put_text(" x");
             put_hex(out, bytes.as_slice());
@@ -174,7 +186,7 @@ pub fn put_step<N: Naming, W: Write>(out: &mut TextWriter<'_, W>, names: &N, ste
 }
 
 /// A word with the space before it, and a node.
-#[inline]
+#[inline(always)]
 fn put_lone_node<N: Naming, W: Write>(out: &mut TextWriter<'_, W>, names: &N, word: &str, node: u8)
     ensures { Grows W.contents out.old out.new
         (word.now ++ spaced_word (word_of (N.language names.now).nodes node)) }
@@ -216,7 +228,7 @@ fn put_fate<N: Naming, W: Write>(
         ++ spaced_word (decimal number))) }
 {
     put_lone_node(out, names, word, host);
-    put_number(out, number);
+    put_called(out, None, u64::from(number));
 }
 
 /// An event.
@@ -233,7 +245,7 @@ pub fn put_event<N: Naming, W: Write>(out: &mut TextWriter<'_, W>, names: &N, ev
         } => {
             out.put_text(" slot");
             put_table(out, names, *table);
-            put_number(out, *entry);
+            put_called(out, None, u64::from(*entry));
             put_header(out, *header);
         }
         Event::Due { node } => put_lone_node(out, names, " due", *node),

@@ -102,6 +102,25 @@ impl<'a, W: Write> TextWriter<'a, W> {
         }
     }
 
+    /// Writes what waits, and puts two bytes.
+    #[inline(never)]
+    fn put_pair_over(&mut self, first: u8, second: u8)
+        ensures { Grows W.contents self.old self.new (first ∷ second ∷ []) }
+    {
+        self.put_over(&[first, second]);
+    }
+
+    /// Puts two bytes. (Where they don't fit they are handed on by their values, since bytes that
+    /// are lent would have to lie in memory in each case.)
+    #[inline(always)]
+    fn put_pair(&mut self, first: u8, second: u8)
+        ensures { Grows W.contents self.old self.new (first ∷ second ∷ []) }
+    {
+        if self.buffer.try_extend_from_slice(&[first, second]).is_err() {
+            self.put_pair_over(first, second);
+        }
+    }
+
     /// Puts bytes one by one: for a few that is quicker than a copy.
     fn put_few(&mut self, bytes: &[u8])
         ensures { Grows W.contents self.old self.new bytes.now }
@@ -125,7 +144,7 @@ impl<'a, W: Write> TextWriter<'a, W> {
         ensures { Grows W.contents self.old self.new (encode_upper (byte ∷ [])) }
     {
         let from = 2 * usize::from(byte);
-        self.put(&[PAIRS[from], PAIRS[from + 1]]);
+        self.put_pair(PAIRS[from], PAIRS[from + 1]);
     }
 
     /// Puts two digits for each byte, in upper case.

@@ -199,6 +199,7 @@ impl State {
 
     /// Makes a step that isn't refused: the events of it. An error means out of memory, and nothing
     /// is changed.
+    #[inline(always)]
     pub(super) fn make(
         &mut self,
         setup: &Setup,

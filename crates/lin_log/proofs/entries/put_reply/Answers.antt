@@ -8,4 +8,4 @@ returns-in-Done g c = rw c.in-Done.is (same-growth (events-mapped _) (rw c.as_sl
 
 pub returns-in-Refused : goal.returns-in-Refused
 returns-in-Refused g c = rw c.in-Refused.is
-    (grows-last (grows-more c.put_text.ensures (grows-more (rw c.number.ensures at c.put_number.ensures) c.put_byte.ensures)))
+    (grows-last (grows-more c.put_text.ensures (grows-more (rw (c.from.ensures, c.number.ensures) at c.put_called.ensures) c.put_byte.ensures)))

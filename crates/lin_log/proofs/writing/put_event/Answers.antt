@@ -8,7 +8,7 @@ returns-in-Accepted g c = rw c.in-Accepted.is (rw (append_assoc, append_assoc) a
 
 pub returns-in-Slot : goal.returns-in-Slot
 returns-in-Slot g c = rw c.in-Slot.is
-    (grows-more c.put_text.ensures (grows-more c.put_table.ensures (grows-more c.put_number.ensures (grows-last c.put_header.ensures))))
+    (grows-more c.put_text.ensures (grows-more c.put_table.ensures (grows-more (rw c.from.ensures at c.put_called.ensures) (grows-last c.put_header.ensures))))
 
 pub returns-in-Due : goal.returns-in-Due
 returns-in-Due g c = rw c.in-Due.is (grows-last c.put_lone_node.ensures)

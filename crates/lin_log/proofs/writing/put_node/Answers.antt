@@ -6,4 +6,4 @@ use Rattle.lin_log.proofs.writing.put_node.Goals as goal
 
 pub returns : goal.returns
 returns g c =
-    same-growth (ap spaced_word (word-called (g.N.Naming.language c.args.names.now).nodes c.args.node c.name_of_node.result c.name_of_node.ensures)) c.put_called.ensures
+    same-growth (ap spaced_word (word-called (g.N.Naming.language c.args.names.now).nodes c.args.node c.name_of_node.result c.name_of_node.ensures)) (rw c.from.ensures at c.put_called.ensures)

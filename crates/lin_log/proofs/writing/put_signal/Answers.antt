@@ -6,4 +6,4 @@ use Rattle.lin_log.proofs.writing.put_signal.Goals as goal
 
 pub returns : goal.returns
 returns g c =
-    same-growth (ap spaced_word (word-called (g.N.Naming.language c.args.names.now).signals c.args.signal c.name_of_signal.result c.name_of_signal.ensures)) c.put_called.ensures
+    same-growth (ap spaced_word (word-called (g.N.Naming.language c.args.names.now).signals c.args.signal c.name_of_signal.result c.name_of_signal.ensures)) (rw c.from.ensures at c.put_called.ensures)

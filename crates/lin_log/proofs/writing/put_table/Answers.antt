@@ -6,4 +6,4 @@ use Rattle.lin_log.proofs.writing.put_table.Goals as goal
 
 pub returns : goal.returns
 returns g c =
-    same-growth (ap spaced_word (word-called (g.N.Naming.language c.args.names.now).tables c.args.table c.name_of_table.result c.name_of_table.ensures)) c.put_called.ensures
+    same-growth (ap spaced_word (word-called (g.N.Naming.language c.args.names.now).tables c.args.table c.name_of_table.result c.name_of_table.ensures)) (rw c.from.ensures at c.put_called.ensures)

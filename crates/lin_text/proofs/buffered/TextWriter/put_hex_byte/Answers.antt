@@ -8,4 +8,4 @@ pub returns : goal.returns
 unfolding encode_with
 returns g c =
     let p = pairs-at c.args.byte c.ranges.byte.fits in
-    same-growth (rw (c.from-from.ensures, p.0, p.1) refl) c.put.ensures
+    same-growth (rw (c.from-from.ensures, p.0, p.1) refl) c.put_pair.ensures
