@@ -19,14 +19,14 @@ use Rattle.lin_description.specs.declared.description.Sporadic.{Sporadic}
 use Rattle.lin_description.specs.declared.description.Table.{Table}
 use Rattle.lin_description.specs.declared.description.TableEntry.{TableEntry}
 
-abbrev name : List ℕ → ℕ → ℕ → Name
+abbrev pub name : List ℕ → ℕ → ℕ → Name
 name text line column = record { text = text; line = line; column = column }
 
-abbrev number : ℕ → ℕ → ℕ → Number
+abbrev pub number : ℕ → ℕ → ℕ → Number
 number value line column = record { value = value; line = line; column = column }
 
 -- a signal of one line, published by a node
-abbrev signal : ℕ → List ℕ → ℕ → ℕ → List ℕ → Signal
+abbrev pub signal : ℕ → List ℕ → ℕ → ℕ → List ℕ → Signal
 signal line text size init publisher = record {
   name = name text line 1;
   size = number size line 10;
@@ -35,7 +35,7 @@ signal line text size init publisher = record {
   subscribers = name (codes "cem") line 40 ∷ [];
 }
 
-abbrev frame : ℕ → List ℕ → ℕ → List ℕ → List PlacedSignal → Frame
+abbrev pub frame : ℕ → List ℕ → ℕ → List ℕ → List PlacedSignal → Frame
 frame line text id publisher placed = record {
   name = name text line 1;
   id = number id line 10;
@@ -44,41 +44,41 @@ frame line text id publisher placed = record {
   placed = placed;
 }
 
-abbrev placed : ℕ → ℕ → List ℕ → ℕ → PlacedSignal
+abbrev pub placed : ℕ → ℕ → List ℕ → ℕ → PlacedSignal
 placed line column text offset = record { signal = name text line column; offset = number offset line (column + 5) }
 
-abbrev entry : ℕ → List ℕ → ℕ → TableEntry
+abbrev pub entry : ℕ → List ℕ → ℕ → TableEntry
 entry line text delay = record { name = name text line 1; has_group = false; delay = number delay line 10 }
 
-abbrev level : Signal
+abbrev pub level : Signal
 level = signal 6 (codes "level") 4 2 (codes "cem")
 
-abbrev lkey : Signal
+abbrev pub lkey : Signal
 lkey = signal 7 (codes "lkey") 8 0 (codes "lsm")
 
-abbrev light : Frame
+abbrev pub light : Frame
 light = frame 11 (codes "Light") 0 (codes "cem") (placed 11 40 (codes "level") 0 ∷ [])
 
-abbrev left : Frame
+abbrev pub left : Frame
 left = frame 12 (codes "LeftKey") 2 (codes "lsm") (placed 12 40 (codes "lkey") 8 ∷ [])
 
-abbrev keys : EventFrame
+abbrev pub keys : EventFrame
 keys = record { name = name (codes "Keys") 21 1; table = name (codes "Resolve") 21 10; id = number 4 21 20; members = name (codes "LeftKey") 21 30 ∷ [] }
 
-abbrev spor : Sporadic
+abbrev pub spor : Sporadic
 spor = record { name = name (codes "Spor") 16 1; members = name (codes "Light") 16 10 ∷ [] }
 
 abbrev address_of : ℕ → List ℕ → ℕ → Attributes
 address_of line node nad = record { node = name node line 1; protocol = None; configured_nad = Some (number nad line 20); response_error = None }
 
-abbrev main_table : List TableEntry → Table
+abbrev pub main_table : List TableEntry → Table
 main_table entries = record { name = name (codes "Main") 31 1; entries = entries }
 
-abbrev resolve : Table
+abbrev pub resolve : Table
 resolve = record { name = name (codes "Resolve") 41 1; entries = entry 42 (codes "LeftKey") 10000 ∷ [] }
 
 -- the commander, one responder, and a frame of each kind
-abbrev body : Description
+abbrev pub body : Description
 body = record {
   speed = number 19200 4 1;
   master = name (codes "cem") 5 1;

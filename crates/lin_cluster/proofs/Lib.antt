@@ -20,6 +20,9 @@ pub mod FindingsRepeats
 pub mod FindingsRows
 pub mod GoodParts
 pub mod KnownNames
+pub mod LintNodes
+pub mod LintRows
+pub mod LintSets
 pub mod LongSlots
 pub mod Made
 pub mod NamesFound

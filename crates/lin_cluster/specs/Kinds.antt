@@ -22,6 +22,12 @@ use Rattle.lin_cluster.specs.declared.finding.FindingKind.TheVariants.{Represent
 use Rattle.lin_cluster.specs.declared.finding.FindingKind.TheVariants.{RangesOverlap, LogicalTwice}
 use Rattle.lin_cluster.specs.declared.finding.FindingKind.TheVariants.{ValueOutside, ZeroScale}
 use Rattle.lin_cluster.specs.declared.finding.FindingKind.TheVariants.{KindOfSignal}
+use Rattle.lin_cluster.specs.declared.finding.FindingKind.TheVariants.{UnplacedSignal, UnusedFrame}
+use Rattle.lin_cluster.specs.declared.finding.FindingKind.TheVariants.{UnscheduledFrame}
+use Rattle.lin_cluster.specs.declared.finding.FindingKind.TheVariants.{NoSubscriber, OwnSubscriber}
+use Rattle.lin_cluster.specs.declared.finding.FindingKind.TheVariants.{OffTimeBase, NoAddress}
+use Rattle.lin_cluster.specs.declared.finding.FindingKind.TheVariants.{BadResponseError}
+use Rattle.lin_cluster.specs.declared.finding.FindingKind.TheVariants.{BadConfigurable}
 
 abbrev pub number_of : FindingKind → ℕ
 number_of UnknownName = 1
@@ -61,6 +67,15 @@ number_of LogicalTwice = 38
 number_of ValueOutside = 39
 number_of ZeroScale = 40
 number_of KindOfSignal = 41
+number_of UnplacedSignal = 51
+number_of UnusedFrame = 52
+number_of UnscheduledFrame = 53
+number_of NoSubscriber = 54
+number_of OwnSubscriber = 55
+number_of OffTimeBase = 56
+number_of NoAddress = 57
+number_of BadResponseError = 58
+number_of BadConfigurable = 59
 
 -- the names of findings, by their numbers, which begin at 1
 abbrev pub finding_names : List (List ℕ)
@@ -73,7 +88,10 @@ finding_names =
     ∷ codes "InitialNad" ∷ codes "ByteOrder" ∷ codes "HeaderLine" ∷ [] ∷ [] ∷ [] ∷ []
     ∷ codes "BadEncoding" ∷ codes "EncodingTwice" ∷ codes "UnknownEncoding" ∷ codes "UnknownSignal"
     ∷ codes "RepresentedTwice" ∷ codes "MinAboveMax" ∷ codes "RangesOverlap" ∷ codes "LogicalTwice"
-    ∷ codes "ValueOutside" ∷ codes "ZeroScale" ∷ codes "KindOfSignal" ∷ []
+    ∷ codes "ValueOutside" ∷ codes "ZeroScale" ∷ codes "KindOfSignal" ∷ [] ∷ [] ∷ [] ∷ [] ∷ [] ∷ []
+    ∷ [] ∷ [] ∷ [] ∷ codes "UnplacedSignal" ∷ codes "UnusedFrame" ∷ codes "UnscheduledFrame"
+    ∷ codes "NoSubscriber" ∷ codes "OwnSubscriber" ∷ codes "OffTimeBase" ∷ codes "NoAddress"
+    ∷ codes "BadResponseError" ∷ codes "BadConfigurable" ∷ []
 
 abbrev pub finding_name : ℕ → List ℕ
 finding_name number = slice_index_or finding_names number []
@@ -117,6 +135,15 @@ needed_by LogicalTwice = 0
 needed_by ValueOutside = 0
 needed_by ZeroScale = 0
 needed_by KindOfSignal = 0
+needed_by UnplacedSignal = 0
+needed_by UnusedFrame = 0
+needed_by UnscheduledFrame = 0
+needed_by NoSubscriber = 0
+needed_by OwnSubscriber = 0
+needed_by OffTimeBase = 0
+needed_by NoAddress = 0
+needed_by BadResponseError = 0
+needed_by BadConfigurable = 0
 
 -- a finding by its kind, line and column
 abbrev pub finding_at : FindingKind → ℕ → ℕ → Finding

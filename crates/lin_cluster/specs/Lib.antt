@@ -23,3 +23,5 @@ pub mod Known
 pub mod Models
 pub mod Names
 pub mod Fitting
+pub mod LintNames
+pub mod Lint

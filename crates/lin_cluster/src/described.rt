@@ -19,6 +19,8 @@ mod numbers;
 mod signals;
 mod tables;
 
+pub(crate) use errors::subscribes;
+
 /// The parts of the cluster that a description says; an error means out of memory. With them its
 /// caller knows that no list of names is empty.
 pub(crate) fn parts_of(

@@ -6,8 +6,9 @@ ghost use Rattle.lin_cluster.specs.Kinds.{finding_at, finding_name, number_of};
 use lin_description::Place;
 use lin_lists::Many;
 
-/// The kinds of findings, in the order of their numbers, 1 to 26 and 31 to 41. Those from 19 on are
-/// told of texts of the field alone, and those from 31 on of encodings of signals.
+/// The kinds of findings, in the order of their numbers, 1 to 26, 31 to 41 and 51 to 59. Those from 19
+/// on are told of texts of the field alone, those from 31 on of encodings of signals, and those from 51
+/// on of descriptions in which nothing is wrong.
 #[derive(Clone, Copy, Debug, PartialEq, Eq)]
 pub enum FindingKind {
     UnknownName,
@@ -48,10 +49,19 @@ pub enum FindingKind {
     ValueOutside,
     ZeroScale,
     KindOfSignal,
+    UnplacedSignal,
+    UnusedFrame,
+    UnscheduledFrame,
+    NoSubscriber,
+    OwnSubscriber,
+    OffTimeBase,
+    NoAddress,
+    BadResponseError,
+    BadConfigurable,
 }
 
 impl FindingKind {
-    /// The number, 1 to 26 or 31 to 41.
+    /// The number, 1 to 26, 31 to 41 or 51 to 59.
     pub fn number(self) -> u8
         ensures { result ≡ number_of self }
     {
@@ -93,13 +103,22 @@ impl FindingKind {
             FindingKind::ValueOutside => 39,
             FindingKind::ZeroScale => 40,
             FindingKind::KindOfSignal => 41,
+            FindingKind::UnplacedSignal => 51,
+            FindingKind::UnusedFrame => 52,
+            FindingKind::UnscheduledFrame => 53,
+            FindingKind::NoSubscriber => 54,
+            FindingKind::OwnSubscriber => 55,
+            FindingKind::OffTimeBase => 56,
+            FindingKind::NoAddress => 57,
+            FindingKind::BadResponseError => 58,
+            FindingKind::BadConfigurable => 59,
         }
     }
 }
 
-/// What is wrong, and where: the finding's number (1 to 26 or 31 to 41), line and column, and for a slot that
-/// is too short (9) the time in microseconds that it needs; otherwise 0. Findings are ordered by
-/// place, then by number.
+/// What is wrong, and where: the finding's number (1 to 26, 31 to 41 or 51 to 59), line and column, and
+/// for a slot that is too short (9) the time in microseconds that it needs; otherwise 0. Findings are
+/// ordered by place, then by number.
 #[derive(Clone, Copy, Debug, PartialEq, Eq, PartialOrd, Ord)]
 pub struct Finding {
     pub line: u64,
@@ -124,7 +143,7 @@ impl Finding {
         }
     }
 
-    /// The name; only numbers from 1 to 26 and from 31 to 41 have one.
+    /// The name; only numbers from 1 to 26, from 31 to 41 and from 51 to 59 have one.
     pub fn name(&self) -> &'static str
         ensures { result.now ≡ finding_name self.now.number }
     {
@@ -166,6 +185,15 @@ impl Finding {
             39 => "ValueOutside",
             40 => "ZeroScale",
             41 => "KindOfSignal",
+            51 => "UnplacedSignal",
+            52 => "UnusedFrame",
+            53 => "UnscheduledFrame",
+            54 => "NoSubscriber",
+            55 => "OwnSubscriber",
+            56 => "OffTimeBase",
+            57 => "NoAddress",
+            58 => "BadResponseError",
+            59 => "BadConfigurable",
             _ => "",
         }
     }

@@ -28,6 +28,7 @@ use addresses::bad_addresses;
 use declarations::in_declarations;
 use identifiers::bad_identifiers;
 pub(crate) use judged::Judged;
+pub(crate) use known::{carries_frame, is_diagnostic};
 use limits::limits_passed;
 use lin_description::Description;
 use lin_frame::SumKind;
@@ -36,6 +37,7 @@ pub use sizes::is_frame_size;
 pub use slots::{is_speed, needed_us};
 use std::alloc::{AllocError, Global};
 use tables::no_table;
+pub(crate) use walk::{Finds, each};
 pub use walk::{at_name, at_number, push_when};
 
 /// All that is wrong with a description, and the checksum model of each of its frames.

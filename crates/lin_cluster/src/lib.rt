@@ -11,6 +11,7 @@ mod checks;
 mod described;
 mod finding;
 mod findings;
+mod lints;
 mod names;
 mod slot_sizes;
 
@@ -22,5 +23,6 @@ pub use findings::{
 pub use lin_cluster_parts::{
     Cluster, Entry, EventFrame, Line, Node, Parts, Signal, SignalFrame, SporadicFrame, Table,
 };
+pub use lints::{Configurable, lint};
 pub use names::{Named, Numbers, find_by, number_by, numbers_of};
 pub use slot_sizes::SlotSizes;

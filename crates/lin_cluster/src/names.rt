@@ -39,6 +39,13 @@ impl Named for Attributes {
     }
 }
 
+/// Whether two names have the same text.
+pub(crate) fn is_name(name: &Name, other: &Name) -> bool
+    ensures { result ≡ same_name name.now other.now }
+{
+    name.text.as_slice() == other.text.as_slice()
+}
+
 /// Gives a name what it names, where it names nothing yet.
 pub fn add<'a, V: Copy>(
     map: &mut IndexMap<&'a [u8], V>,

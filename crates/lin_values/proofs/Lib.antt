@@ -2,6 +2,8 @@ pub mod AddedRanges
 pub mod CodedAgain
 pub mod CodedSignals
 pub mod CodingOrder
+pub mod ConfiguredRows
+pub mod ConfiguredSteps
 pub mod DecimalLaws
 pub mod DecimalParts
 pub mod Digits

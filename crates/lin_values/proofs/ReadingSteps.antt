@@ -97,11 +97,11 @@ line-takes x h =
 abbrev pub one_statement : List Symbol × Codings → List Symbol × Codings
 one_statement x = with_statement x.0 x.1
 
-tail-keeps : (ts : List Symbol) → length (tail ts) ≤ length ts
+pub tail-keeps : (ts : List Symbol) → length (tail ts) ≤ length ts
 tail-keeps [] = omega arith
 tail-keeps (t ∷ ts) = omega arith
 
-group-keeps : (ts : List Symbol) → length (behind_group ts) ≤ length ts
+pub group-keeps : (ts : List Symbol) → length (behind_group ts) ≤ length ts
 group-keeps ts =
     let p : length (behind_lines (tail ts)) ≤ length (tail ts) = steps-keep (length {A = Symbol}) has_line (behind_line 0) shorter (length (tail ts)) (tail ts) in
     let q : length (behind_closing (behind_lines (tail ts))) ≤ length (behind_lines (tail ts)) = closing-keeps (behind_lines (tail ts)) in

@@ -9,6 +9,7 @@ pub mod Texts
 pub mod Passed
 pub mod Coding
 pub mod Reading
+pub mod Configured
 pub mod Layers
 pub mod Joined
 pub mod Coded

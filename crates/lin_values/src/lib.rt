@@ -11,6 +11,7 @@
 #![tactic(auto)]
 
 mod coded;
+mod configured;
 mod decimals;
 mod encoding;
 mod grammar;
@@ -32,6 +33,7 @@ mod unit;
 mod ways_back;
 
 pub use coded::{Coded, coded_by};
+pub use configured::read_configurables;
 pub use decimals::{Decimal, is_small, physical, put_decimal, units};
 pub use encoding::{Coding, Encoding, Range, Traits};
 pub use items::{CodedLine, CodingType, Codings, Item, PlacedItem};

@@ -11,7 +11,8 @@ ghost use Rattle.lin_cluster.specs.Described.{error_signal, error_signals};
 ghost use Rattle.lin_cluster.specs.Fitting.{FitsNumbers};
 
 use super::nodes::block_of;
-use super::numbers::{is_name, signal_number};
+use super::numbers::signal_number;
+use crate::names::is_name;
 use lin_cluster_parts::{ErrorSignal, Signal, SignalFrame};
 use lin_description::{Description, Name};
 use lin_lists::Many;
@@ -59,7 +60,7 @@ fn error_number(d: &Description, signals: &[Signal], node: u8) -> Option<u16>
     }
 }
 
-fn subscribes(node: &Name, signal: &lin_description::Signal) -> bool
+pub(crate) fn subscribes(node: &Name, signal: &lin_description::Signal) -> bool
     ensures { result ≡ subscribes node.now signal.now }
 {
     signal

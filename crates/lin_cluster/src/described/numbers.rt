@@ -6,14 +6,8 @@ ghost use Rattle.lin_cluster.specs.Described.{node_number, signal_number, frame_
 ghost use Rattle.lin_cluster.specs.Described.{sporadic_number, event_number, table_number};
 ghost use Rattle.lin_cluster.specs.FindingsNames.{same_name};
 
-use crate::names::Named;
+use crate::names::{Named, is_name};
 use lin_description::{Description, Name};
-
-pub(super) fn is_name(name: &Name, other: &Name) -> bool
-    ensures { result ≡ same_name name.now other.now }
-{
-    name.text.as_slice() == other.text.as_slice()
-}
 
 #[tactic(auto, using(crate::proofs::Enumerated::number_within))]
 fn number_among<T: Named>(all: &[T], name: &Name) -> usize

@@ -16,7 +16,7 @@ use lin_description::{Attributes, Description, EventFrame, Frame, Name, Sporadic
 use std::alloc::{AllocError, Global};
 use std::marker::Model;
 
-pub(super) fn is_diagnostic(name: &Name) -> bool
+pub(crate) fn is_diagnostic(name: &Name) -> bool
     ensures { result ≡ is_diagnostic name.now }
 {
     name.text.as_slice() == b"MasterReq".as_slice()
@@ -24,7 +24,7 @@ pub(super) fn is_diagnostic(name: &Name) -> bool
 }
 
 /// Whether the entry is for a frame, and neither a diagnostic nor a configuration entry.
-pub(super) fn carries_frame(entry: &TableEntry) -> bool
+pub(crate) fn carries_frame(entry: &TableEntry) -> bool
     ensures { result ≡ carries_frame entry.now }
 {
     !entry.has_group && !is_diagnostic(&entry.name)

@@ -10,7 +10,7 @@ use lin_description::{Name, Number, Place};
 use std::alloc::{AllocError, Global};
 
 /// What finds what is wrong with an item.
-pub(super) trait Finds<T> {
+pub(crate) trait Finds<T> {
     ghost use Rattle.std.specs.Prelude.{◌≡◌, ◌++◌, OnOk, List};
     ghost use Rattle.lin_cluster.specs.declared.finding.Finding.{Finding};
 
@@ -22,7 +22,7 @@ pub(super) trait Finds<T> {
 }
 
 /// Adds what is wrong with each item, in order; an error means out of memory.
-pub(super) fn each<T, F: Finds<T>>(
+pub(crate) fn each<T, F: Finds<T>>(
     found: &mut Vec<Finding>,
     finder: &F,
     items: &[T],

@@ -1,0 +1,128 @@
+-- Warnings 51 to 59, of a description in which nothing is wrong: what is declared and not used, and
+-- what LIN asks for though a cluster runs without it (LIN 2.2A, section 9.2).
+use Rattle.std.specs.Prelude.{ℕ, ◌%◌, List, [], ◌++◌, length, Option, Some, None, Bool, false}
+use Rattle.std.specs.Prelude.{not, ◌==◌, ◌&&◌, ◌||◌, flat_map, if◌then◌else◌}
+use Rattle.std.specs.Prelude.{IsPermutation, IsSorted}
+use Rattle.std.specs.Option.{option_map_or}
+use Rattle.lin_cluster.specs.Findings.{finding_cmp}
+use Rattle.lin_cluster.specs.FindingsNames.{at_name, at_number, when, same_name, is_node}
+use Rattle.lin_cluster.specs.FindingsNames.{signal_named}
+use Rattle.lin_cluster.specs.LintNames.{is_placed, is_listed, is_scheduled, is_of_text}
+use Rattle.lin_cluster.specs.LintNames.{has_diagnostics, is_addressed, processes}
+use Rattle.lin_cluster.specs.declared.finding.Finding.{Finding}
+use Rattle.lin_cluster.specs.declared.finding.FindingKind.TheVariants.{UnplacedSignal, UnusedFrame}
+use Rattle.lin_cluster.specs.declared.finding.FindingKind.TheVariants.{UnscheduledFrame}
+use Rattle.lin_cluster.specs.declared.finding.FindingKind.TheVariants.{NoSubscriber, OwnSubscriber}
+use Rattle.lin_cluster.specs.declared.finding.FindingKind.TheVariants.{OffTimeBase, NoAddress}
+use Rattle.lin_cluster.specs.declared.finding.FindingKind.TheVariants.{BadResponseError}
+use Rattle.lin_cluster.specs.declared.finding.FindingKind.TheVariants.{BadConfigurable}
+use Rattle.lin_cluster.specs.declared.lints.configurable.Configurable.{Configurable}
+use Rattle.lin_description.specs.declared.description.Attributes.{Attributes}
+use Rattle.lin_description.specs.declared.description.Description.{Description}
+use Rattle.lin_description.specs.declared.description.EventFrame.{EventFrame}
+use Rattle.lin_description.specs.declared.description.Frame.{Frame}
+use Rattle.lin_description.specs.declared.description.Name.{Name}
+use Rattle.lin_description.specs.declared.description.Signal.{Signal}
+use Rattle.lin_description.specs.declared.description.Sporadic.{Sporadic}
+use Rattle.lin_description.specs.declared.description.Table.{Table}
+use Rattle.lin_description.specs.declared.description.TableEntry.{TableEntry}
+
+-- ---- 51 UnplacedSignal: no frame has the signal (section 9.2.4.1)
+
+abbrev pub unplaced_signal : Description → Signal → List Finding
+unplaced_signal d s = when (not (is_placed d s.name.text)) (at_name UnplacedSignal s.name)
+
+-- ---- 52 UnusedFrame: no table has the frame, and no sporadic or event-triggered frame lists it
+-- (sections 9.2.4 and 9.2.5)
+
+abbrev pub unused_frame : Description → Frame → List Finding
+unused_frame d f =
+    when (not (is_scheduled d f.name.text || is_listed d f.name.text)) (at_name UnusedFrame f.name)
+
+-- ---- 53 UnscheduledFrame: no table has the sporadic or event-triggered frame (section 9.2.5)
+
+abbrev pub unscheduled : Description → Name → List Finding
+unscheduled d n = when (not (is_scheduled d n.text)) (at_name UnscheduledFrame n)
+
+abbrev pub unscheduled_sporadic : Description → Sporadic → List Finding
+unscheduled_sporadic d f = unscheduled d f.name
+
+abbrev pub unscheduled_event : Description → EventFrame → List Finding
+unscheduled_event d e = unscheduled d e.name
+
+-- ---- 54 NoSubscriber, 55 OwnSubscriber: a subscriber that publishes the signal itself (section
+-- 9.2.3)
+
+abbrev pub no_subscriber : Signal → List Finding
+no_subscriber s = when (length s.subscribers == 0) (at_name NoSubscriber s.name)
+
+abbrev pub own_subscriber : Name → Name → List Finding
+own_subscriber publisher n = when (same_name n publisher) (at_name OwnSubscriber n)
+
+-- ---- 56 OffTimeBase: a delay that is no multiple of the time base, where that isn't 0 (section
+-- 9.2.5)
+
+abbrev pub is_off : ℕ → ℕ → Bool
+is_off base delay = not (base == 0) && not (delay % base == 0)
+
+abbrev pub off_time_base : Description → TableEntry → List Finding
+off_time_base d e =
+    when (is_off d.time_base.value e.delay.value) (at_number OffTimeBase e.delay)
+
+-- ---- 57 NoAddress: a responder without an address, where a table has a diagnostic frame (section
+-- 9.2.2.2)
+
+abbrev pub no_address : Description → Name → List Finding
+no_address d n = when (has_diagnostics d && not (is_addressed d n.text)) (at_name NoAddress n)
+
+-- ---- 58 BadResponseError: no signal of one bit that the node publishes (section 9.2.2.2)
+
+abbrev pub is_error_bit : Name → Signal → Bool
+is_error_bit node s = same_name s.publisher node && s.size.value == 1
+
+abbrev pub bad_error : Description → Name → Option Name → List Finding
+bad_error d node None = []
+bad_error d node (Some n) =
+    when (not (option_map_or (is_error_bit node) (signal_named d n) false))
+    (at_name BadResponseError n)
+
+abbrev pub bad_response_error : Description → Attributes → List Finding
+bad_response_error d a = bad_error d a.node a.response_error
+
+-- ---- 59 BadConfigurable: no frame of the node (section 9.2.2.2)
+
+abbrev pub bad_configurable : Description → Name → Name → List Finding
+bad_configurable d node n = when (not (processes d node n.text)) (at_name BadConfigurable n)
+
+abbrev pub bad_configurables : Description → Configurable → List Finding
+bad_configurables d c =
+    if is_node d c.node then flat_map (bad_configurable d c.node) c.frames else []
+
+-- ---- the warnings of each declaration
+
+abbrev pub of_signal : Description → Signal → List Finding
+of_signal d s =
+    unplaced_signal d s ++ no_subscriber s ++ flat_map (own_subscriber s.publisher) s.subscribers
+
+abbrev pub of_table : Description → Table → List Finding
+of_table d t = if is_of_text t then flat_map (off_time_base d) t.entries else []
+
+-- ---- the warnings of a description and the configurable frames of its nodes
+
+abbrev pub of_frames : Description → List Finding
+of_frames d =
+    flat_map (unused_frame d) d.frames ++ flat_map (unscheduled_sporadic d) d.sporadic
+    ++ flat_map (unscheduled_event d) d.events
+
+abbrev pub of_nodes : Description → List Finding
+of_nodes d = flat_map (no_address d) d.slaves ++ flat_map (bad_response_error d) d.attributes
+
+abbrev pub lints : Description → List Configurable → List Finding
+lints d cs =
+    flat_map (of_signal d) d.signals ++ of_frames d ++ flat_map (of_table d) d.tables ++ of_nodes d
+    ++ flat_map (bad_configurables d) cs
+
+-- all of them, by line, then by column, then by number
+pub record AreLints (d : Description) (cs : List Configurable) (found : List Finding) : Type 0 where
+  pub all : IsPermutation (lints d cs) found
+  pub ordered : IsSorted finding_cmp found

@@ -1,0 +1,64 @@
+//! Warnings of a description in which nothing is wrong, 51 to 59.
+
+mod configurable;
+mod sets;
+mod uses;
+mod warned;
+
+ghost use Rattle.std.specs.Prelude.{◌≡◌, ◌++◌, IfOk, OnOk};
+ghost use Rattle.lin_cluster.specs.Lint.{lints, of_frames, of_nodes, AreLints};
+
+use crate::finding::Finding;
+use crate::findings::each;
+pub use configurable::Configurable;
+use lin_description::Description;
+use std::alloc::{AllocError, Global};
+use uses::Uses;
+
+fn of_frames(found: &mut Vec<Finding>, uses: &Uses) -> Result<(), AllocError>
+    ensures { OnOk result (found.new.items ≡ found.old.items ++ of_frames uses.now) }
+{
+    let description = uses.description;
+    each(found, uses, description.frames())?;
+    each(found, uses, description.sporadic())?;
+    each(found, uses, description.events())
+}
+
+fn of_nodes(found: &mut Vec<Finding>, uses: &Uses) -> Result<(), AllocError>
+    ensures { OnOk result (found.new.items ≡ found.old.items ++ of_nodes uses.now) }
+{
+    let description = uses.description;
+    each(found, uses, description.slaves())?;
+    each(found, uses, description.attributes())
+}
+
+fn unordered(
+    alloc: Global,
+    description: &Description,
+    configurables: &[Configurable],
+) -> Result<Vec<Finding>, AllocError>
+    ensures { IfOk result (λ found. found.items ≡ lints description.now configurables.now) }
+{
+    let uses = Uses::new(alloc, description)?;
+    let mut found = Vec::new(alloc);
+    each(&mut found, &uses, description.signals())?;
+    of_frames(&mut found, &uses)?;
+    each(&mut found, &uses, description.tables())?;
+    of_nodes(&mut found, &uses)?;
+    each(&mut found, &uses, configurables)?;
+    Ok(found)
+}
+
+/// All that is warned of a description in which nothing is wrong, and of the configurable frames of
+/// its nodes, by place and then by number. An error means out of memory.
+pub fn lint(
+    alloc: Global,
+    description: &Description,
+    configurables: &[Configurable],
+) -> Result<Vec<Finding>, AllocError>
+    ensures { IfOk result (λ found. AreLints description.now configurables.now found.items) }
+{
+    let mut found = unordered(alloc, description, configurables)?;
+    found.sort()?;
+    Ok(found)
+}

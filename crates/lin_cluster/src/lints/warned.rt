@@ -1,0 +1,201 @@
+//! What is warned of each declaration.
+
+ghost use Rattle.std.specs.Prelude.{◌≡◌, ◌++◌, OnOk, false};
+ghost use Rattle.std.specs.Option.{option_map_or};
+ghost use Rattle.lin_cluster.specs.FindingsNames.{signal_named};
+ghost use Rattle.lin_cluster.specs.Lint.{unscheduled, is_off, is_error_bit};
+
+use super::configurable::{Configurable, bad_configurables};
+use super::uses::{Uses, is_of_text};
+use crate::finding::{Finding, FindingKind};
+use crate::findings::{Finds, at_name, at_number, each, push_when};
+use crate::names::is_name;
+use lin_description::{Attributes, EventFrame, Frame, Name, Signal, Sporadic, Table, TableEntry};
+use std::alloc::AllocError;
+
+/// The publisher of a signal, which needs not subscribe it.
+#[derive(Clone, Copy)]
+struct Publisher<'a> {
+    name: &'a Name,
+}
+
+// Own subscriber (55).
+impl<'a> Finds<Name> for Publisher<'a> {
+    ghost use Rattle.lin_cluster.specs.Lint.{own_subscriber};
+
+    ghost finds = { λ p n. own_subscriber p.name.now n };
+
+    fn find(&self, found: &mut Vec<Finding>, name: &Name) -> Result<(), AllocError> {
+        push_when(
+            found,
+            is_name(name, self.name),
+            at_name(FindingKind::OwnSubscriber, name),
+        )
+    }
+}
+
+// Unplaced signal (51), no subscriber (54) and own subscriber (55).
+impl<'a> Finds<Signal> for Uses<'a> {
+    ghost use Rattle.lin_cluster.specs.Lint.{of_signal};
+
+    ghost finds = { of_signal };
+
+    fn find(&self, found: &mut Vec<Finding>, signal: &Signal) -> Result<(), AllocError> {
+        let subscribers = signal.subscribers.as_slice();
+        let publisher = Publisher {
+            name: &signal.publisher,
+        };
+        push_when(
+            found,
+            !self.is_placed(&signal.name),
+            at_name(FindingKind::UnplacedSignal, &signal.name),
+        )?;
+        push_when(
+            found,
+            subscribers.is_empty(),
+            at_name(FindingKind::NoSubscriber, &signal.name),
+        )?;
+        each(found, &publisher, subscribers)
+    }
+}
+
+// Unused frame (52).
+impl<'a> Finds<Frame> for Uses<'a> {
+    ghost use Rattle.lin_cluster.specs.Lint.{unused_frame};
+
+    ghost finds = { unused_frame };
+
+    fn find(&self, found: &mut Vec<Finding>, frame: &Frame) -> Result<(), AllocError> {
+        let is_used = self.is_scheduled(&frame.name) || self.is_listed(&frame.name);
+        push_when(
+            found,
+            !is_used,
+            at_name(FindingKind::UnusedFrame, &frame.name),
+        )
+    }
+}
+
+// Unscheduled frame (53).
+fn unscheduled(found: &mut Vec<Finding>, uses: &Uses, name: &Name) -> Result<(), AllocError>
+    ensures { OnOk result (found.new.items ≡ found.old.items ++ unscheduled uses.now name.now) }
+{
+    push_when(
+        found,
+        !uses.is_scheduled(name),
+        at_name(FindingKind::UnscheduledFrame, name),
+    )
+}
+
+impl<'a> Finds<Sporadic> for Uses<'a> {
+    ghost use Rattle.lin_cluster.specs.Lint.{unscheduled_sporadic};
+
+    ghost finds = { unscheduled_sporadic };
+
+    fn find(&self, found: &mut Vec<Finding>, frame: &Sporadic) -> Result<(), AllocError> {
+        unscheduled(found, self, &frame.name)
+    }
+}
+
+impl<'a> Finds<EventFrame> for Uses<'a> {
+    ghost use Rattle.lin_cluster.specs.Lint.{unscheduled_event};
+
+    ghost finds = { unscheduled_event };
+
+    fn find(&self, found: &mut Vec<Finding>, event: &EventFrame) -> Result<(), AllocError> {
+        unscheduled(found, self, &event.name)
+    }
+}
+
+// Whether a delay is no multiple of the time base.
+fn is_off(base: u32, delay: u32) -> bool
+    ensures { result ≡ is_off base delay }
+{
+    if base == 0 {
+        return false;
+    }
+    !(delay % base == 0)
+}
+
+// Off the time base (56).
+impl<'a> Finds<TableEntry> for Uses<'a> {
+    ghost use Rattle.lin_cluster.specs.Lint.{off_time_base};
+
+    ghost finds = { off_time_base };
+
+    fn find(&self, found: &mut Vec<Finding>, entry: &TableEntry) -> Result<(), AllocError> {
+        push_when(
+            found,
+            is_off(self.description.time_base.value, entry.delay.value),
+            at_number(FindingKind::OffTimeBase, &entry.delay),
+        )
+    }
+}
+
+impl<'a> Finds<Table> for Uses<'a> {
+    ghost use Rattle.lin_cluster.specs.Lint.{of_table};
+
+    ghost finds = { of_table };
+
+    fn find(&self, found: &mut Vec<Finding>, table: &Table) -> Result<(), AllocError> {
+        if is_of_text(table) {
+            each(found, self, table.entries.as_slice())?;
+        }
+        Ok(())
+    }
+}
+
+// A responder: no address (57).
+impl<'a> Finds<Name> for Uses<'a> {
+    ghost use Rattle.lin_cluster.specs.Lint.{no_address};
+
+    ghost finds = { no_address };
+
+    fn find(&self, found: &mut Vec<Finding>, node: &Name) -> Result<(), AllocError> {
+        let is_missing = self.has_diagnostics() && !self.is_addressed(node);
+        push_when(found, is_missing, at_name(FindingKind::NoAddress, node))
+    }
+}
+
+// Whether the name is that of a signal of one bit that the node publishes.
+fn is_error_bit(uses: &Uses, node: &Name, name: &Name) -> bool
+    ensures { result
+        ≡ option_map_or (is_error_bit node.now) (signal_named uses.now name.now) false }
+{
+    match uses.signal(name) {
+        Some(signal) => is_name(&signal.publisher, node) && signal.size.value == 1,
+        None => false,
+    }
+}
+
+// Bad response error (58).
+impl<'a> Finds<Attributes> for Uses<'a> {
+    ghost use Rattle.lin_cluster.specs.Lint.{bad_response_error};
+
+    ghost finds = { bad_response_error };
+
+    fn find(&self, found: &mut Vec<Finding>, block: &Attributes) -> Result<(), AllocError> {
+        match &block.response_error {
+            Some(name) => push_when(
+                found,
+                !is_error_bit(self, &block.node, name),
+                at_name(FindingKind::BadResponseError, name),
+            ),
+            None => Ok(()),
+        }
+    }
+}
+
+// Bad configurable frame (59).
+impl<'a> Finds<Configurable> for Uses<'a> {
+    ghost use Rattle.lin_cluster.specs.Lint.{bad_configurables};
+
+    ghost finds = { bad_configurables };
+
+    fn find(
+        &self,
+        found: &mut Vec<Finding>,
+        configurable: &Configurable,
+    ) -> Result<(), AllocError> {
+        bad_configurables(self.alloc, found, self.description, configurable)
+    }
+}

@@ -1,0 +1,69 @@
+//! Warnings of texts in which nothing is wrong: what `lint` finds, with the lists of configurable
+//! frames that are read from the text.
+
+use crate::samples::{BODY_CLUSTER, HEADER, add_number, add_place, expect_text, joined};
+use lin_cluster::{check, lint};
+use lin_ldf::parse;
+use lin_values::read_configurables;
+use std::alloc::Global;
+use std::process::Abort;
+use std::test::Fail;
+
+/// Each warning as ` line:column number`.
+fn warned(alloc: Global, text: &[u8]) -> Result<Vec<u8>, Fail> {
+    let configurables = read_configurables(alloc, text)?;
+    let warnings = lint(alloc, &parse(alloc, text)?, configurables.as_slice())?;
+    let mut out = Vec::new(alloc);
+    for warning in warnings.as_slice() {
+        out.push(b' ')?;
+        add_place(alloc, &mut out, warning.line, warning.column)?;
+        out.push(b' ')?;
+        add_number(alloc, &mut out, u64::from(warning.number))?;
+    }
+    Ok(out)
+}
+
+/// Nothing is wrong with the text, and this is warned of it.
+fn expect_warnings(rt: &impl Abort, alloc: Global, text: &[u8], want: &str) -> Result<(), Fail> {
+    let _cluster = check(alloc, parse(alloc, text)?)?;
+    expect_text(rt, &warned(alloc, text)?, want.as_bytes(), want);
+    Ok(())
+}
+
+/// Each warning once, from line 6 on.
+const EACH: &[u8] = b"Signals {
+spare: 8, 0, m, s;
+order: 8, 0, m, s, t;
+alone: 8, 0, m;
+echo: 8, 0, s, s, m;
+fault: 1, 0, s, m;
+error: 1, 0, t, m;
+}
+Frames {
+Order: 1, m, 2 { order, 0; alone, 8; }
+Echo: 2, s, 2 { echo, 0; fault, 8; }
+Error: 3, t, 1 { error, 0; }
+}
+Sporadic_frames {
+Orders: Order;
+}
+Node_attributes {
+s { configured_NAD = 1; response_error = order; configurable_frames { Order; Echo = 0x10; Orders; Error; } }
+t { response_error = error; product_id = 1, 2; configurable_frames { Error; Order; } P { { } } }
+}
+Schedule_tables {
+Main { Echo delay 10 ms; Order delay 11 ms; MasterReq delay 10 ms; }
+}
+";
+
+#[test]
+fn each_warning_once(rt: HostRuntime) -> Result<(), Fail> {
+    let text = joined(rt.alloc(), &[HEADER, EACH])?;
+    let want = " 5:45 57 7:1 51 9:1 54 10:16 55 17:1 52 20:1 53 23:42 58 23:99 59 27:38 56";
+    expect_warnings(&rt, rt.alloc(), &text, want)
+}
+
+#[test]
+fn a_cluster_without_warnings(rt: HostRuntime) -> Result<(), Fail> {
+    expect_warnings(&rt, rt.alloc(), BODY_CLUSTER, "")
+}
