@@ -1,5 +1,5 @@
 -- What `read_field`, `settle` and `check_field` say of a text, in the program's words.
-use Rattle.std.proofs.Common.{◌≡◌, ◌≢◌, ◌⊎◌, inl, inr, ℕ, ◌≤◌, List, ◌++◌, take, length, Option, None, IfOk, IfErr, IfSome, Result, Ok, Err, sym, ap, subst, ◌∙◌}
+use Rattle.std.proofs.Common.{◌≡◌, ◌≢◌, ◌⊎◌, inl, inr, ℕ, ◌≤◌, List, ◌++◌, take, length, Option, None, IfOk, IfErr, IfSome, IsPermutation, Result, Ok, Err, sym, ap, subst, ◌∙◌}
 use Rattle.std.proofs.Math.Seq.{take-append_seam}
 use Rattle.lin_ldf.specs.Stream.{start_of}
 use Rattle.lin_ldf.specs.Symbols.{symbols_in}
@@ -9,7 +9,7 @@ use Rattle.lin_ldf.specs.declared.fault.LdfFault.TheVariants as ldf
 use Rattle.lin_ldf.specs.declared.token.Token.{Token}
 use Rattle.lin_cluster.specs.SlotTimes.{NoSlotIsShort}
 use Rattle.lin_field.specs.Bytes.{field_bytes}
-use Rattle.lin_field.specs.Checks.{IsFieldFree}
+use Rattle.lin_field.specs.Checks.{remarks, IsFieldFree}
 use Rattle.lin_field.specs.Describes.{Reads}
 use Rattle.lin_field.specs.Plain.{plain_data, plain_text}
 use Rattle.lin_field.specs.declared.checking.Checked.{Checked}
@@ -20,19 +20,19 @@ use Rattle.lin_field.proofs.Mended.{marks_blanked}
 use Rattle.lin_text.specs.Written.{WritesText}
 use Rattle.lin_text.specs.declared.fault.WriteFailed.{WriteFailed}
 use Rattle.lin_tool.specs.Clusters.{Tells}
-use Rattle.lin_tool.specs.Coding.{coded_read, codings_read, AreWarnings}
-use Rattle.lin_tool.specs.Field.{AnswersChecked, AnswersField, AnswersSettled, CheckFaults, FieldSaysCodings, IsChecked, IsReadOver, IsSettled, IsWrittenPlain, ReadFaults, WritesPlain}
+use Rattle.lin_tool.specs.Coding.{coded_read, linted, sections_read, AreWarnings}
+use Rattle.lin_tool.specs.Field.{AnswersChecked, AnswersField, AnswersSettled, CheckFaults, FieldSaysSections, IsChecked, IsReadOver, IsSettled, IsWrittenPlain, ReadFaults, WritesPlain}
 use Rattle.lin_tool.specs.Reading.{AnswersReading}
 use Rattle.lin_tool.specs.declared.coding.Described.{Described}
-use Rattle.lin_tool.specs.declared.coding.Encodings.{Encodings}
+use Rattle.lin_tool.specs.declared.coding.Extras.{Extras}
+use Rattle.lin_tool.specs.declared.coding.Sections.{Sections}
 use Rattle.lin_tool.specs.declared.describing.Reading.{Reading}
 use Rattle.lin_tool.specs.declared.describing.Reading.TheVariants.{Plain, Field}
 use Rattle.lin_tool.specs.declared.fault.Fault.{Fault}
 use Rattle.lin_tool.specs.declared.fault.Fault.TheVariants as fault
 use Rattle.lin_tool.specs.declared.fault.Fault.TheVariants.{Ldf, Remarks, LdfTooLong, OutOfMemory, ReadFailed}
 use Rattle.lin_tool.proofs.Texts.{answers_unread, answers_untold}
-use Rattle.lin_tool.proofs.Warned.{remarked}
-use Rattle.lin_values.specs.declared.items.Codings.{Codings}
+use Rattle.lin_tool.proofs.Warned.{remarked, reordered}
 
 -- what the program's fault says of the text
 pub tells_field : (text left : List ℕ) (told : Fault) (fault : LdfFault) → Tells told fault
@@ -48,58 +48,60 @@ tells_field text left OutOfMemory fault h only first = tt
 tells_field text left _ fault h only first = absurd h
 
 -- why a text isn't settled is why a reader of it gives no cluster
-pub unsettled : (e : Encodings) (fault : Fault) (text left : List ℕ) (warned : List Remark) (told : Option (List ℕ)) → IfSome told (λ bytes. text ≡ bytes)
-    → length text ≤ 4194304 → AnswersSettled (Err fault) text left → AnswersField e (Err fault) warned told
-unsettled e (Ldf f) text left warned told is short h = (text, is, short, h)
-unsettled e OutOfMemory text left warned told is short h = tt
-unsettled e _ text left warned told is short h = absurd h
+pub unsettled : (x : Extras) (fault : Fault) (text left : List ℕ) (warned : List Remark) (told : Option (List ℕ)) → IfSome told (λ bytes. text ≡ bytes)
+    → length text ≤ 4194304 → AnswersSettled (Err fault) text left → AnswersField x (Err fault) warned told
+unsettled x (Ldf f) text left warned told is short h = (text, is, short, h)
+unsettled x OutOfMemory text left warned told is short h = tt
+unsettled x _ text left warned told is short h = absurd h
 
 -- what is answered to what a text is settled to, where nothing is wrong and its cluster is this one
-pub described_answer : (s : Settled) (checked : Checked) (k : Option Codings) (r : Result Described Fault) (warned : List Remark) → IsChecked s checked
-    → IfOk r (λ d. d.cluster ≡ checked.cluster) → IfOk r (λ d. d.coded ≡ coded_read d.cluster k)
-    → IfOk r (λ d. AreWarnings d.cluster k checked.warnings warned) → IfErr r (λ fault. fault ≡ OutOfMemory) → AnswersChecked s k r warned
-described_answer s checked k (Ok d) warned is cluster coded warnings memory = record {
+pub described_answer : (s : Settled) (checked : Checked) (k : Sections) (rs : List Remark) (r : Result Described Fault) (warned : List Remark)
+    → IsChecked s checked → IsPermutation (linted s.description k.configurables checked.warnings) rs
+    → IfOk r (λ d. d.cluster ≡ checked.cluster) → IfOk r (λ d. d.coded ≡ coded_read d.cluster k.codings)
+    → IfOk r (λ d. AreWarnings d.cluster k.codings rs warned) → IfErr r (λ fault. fault ≡ OutOfMemory) → AnswersChecked s k r warned
+described_answer s checked k rs (Ok d) warned is are cluster coded warnings memory = record {
   free = is.free;
   said = cluster ∙ is.said;
   coded = coded;
-  warnings = remarked s d.cluster k checked.warnings warned is.warnings warnings;
+  warnings = reordered d.cluster k.codings (linted s.description k.configurables (remarks s)) rs warned
+      (remarked s k.configurables checked.warnings rs is.warnings are) warnings;
 }
-described_answer s checked k (Err fault) warned is cluster coded warnings memory = subst (λ f. CheckFaults f s) (sym memory) tt
+described_answer s checked k rs (Err fault) warned is are cluster coded warnings memory = subst (λ f. CheckFaults f s) (sym memory) tt
 
 -- what the sections say of the bytes that are left is what those of the text say
-pub field_says : (e : Encodings) (text left : List ℕ) (k : Option Codings) → IsReadOver text left
-    → k ≡ codings_read e (symbols_in left (start_of left).tokens) → FieldSaysCodings e text k
-field_says e text left k (ts, are, is) says = (
+pub field_says : (x : Extras) (text left : List ℕ) (k : Sections) → IsReadOver text left
+    → k ≡ sections_read x (symbols_in left (start_of left).tokens) → FieldSaysSections x text k
+field_says x text left k (ts, are, is) says = (
   ts,
   are,
-  says ∙ ap (λ bytes. codings_read e (symbols_in bytes (start_of bytes).tokens)) is ∙ ap (codings_read e) (marks_blanked (field_bytes text) ts are),
+  says ∙ ap (λ bytes. sections_read x (symbols_in bytes (start_of bytes).tokens)) is ∙ ap (sections_read x) (marks_blanked (field_bytes text) ts are),
 )
 
 -- and what is answered to what it is settled to
-pub checked : (e : Encodings) (r : Result Described Fault) (text left : List ℕ) (s : Settled) (k : Option Codings) (warned : List Remark) (told : Option (List ℕ))
+pub checked : (x : Extras) (r : Result Described Fault) (text left : List ℕ) (s : Settled) (k : Sections) (warned : List Remark) (told : Option (List ℕ))
     → IfSome told (λ bytes. text ≡ bytes) → length text ≤ 4194304 → IsSettled text s × IsReadOver text left
-    → k ≡ codings_read e (symbols_in left (start_of left).tokens) → AnswersChecked s k r warned → AnswersField e r warned told
-checked e (Ok d) text left s k warned told is short (settled, over) says h =
-    (text, is, short, (s, settled, (k, field_says e text left k over says, h)))
-checked e (Err (Remarks found)) text left s k warned told is short (settled, over) says h = (text, is, short, (s, settled, h))
-checked e (Err OutOfMemory) text left s k warned told is short both says h = tt
-checked e (Err _) text left s k warned told is short both says h = absurd h
+    → k ≡ sections_read x (symbols_in left (start_of left).tokens) → AnswersChecked s k r warned → AnswersField x r warned told
+checked x (Ok d) text left s k warned told is short (settled, over) says h =
+    (text, is, short, (s, settled, (k, field_says x text left k over says, h)))
+checked x (Err (Remarks found)) text left s k warned told is short (settled, over) says h = (text, is, short, (s, settled, h))
+checked x (Err OutOfMemory) text left s k warned told is short both says h = tt
+checked x (Err _) text left s k warned told is short both says h = absurd h
 
-pub field_unread : (e : Encodings) (fault : Fault) (warned : List Remark) (told : Option (List ℕ)) → ReadFaults fault told → AnswersField e (Err fault) warned told
-field_unread e LdfTooLong warned told h = h
-field_unread e OutOfMemory warned told h = tt
-field_unread e ReadFailed warned told h = tt
-field_unread e _ warned told h = absurd h
+pub field_unread : (x : Extras) (fault : Fault) (warned : List Remark) (told : Option (List ℕ)) → ReadFaults fault told → AnswersField x (Err fault) warned told
+field_unread x LdfTooLong warned told h = h
+field_unread x OutOfMemory warned told h = tt
+field_unread x ReadFailed warned told h = tt
+field_unread x _ warned told h = absurd h
 
-field_untold : (e : Encodings) (r : Result Described Fault) (warned : List Remark) (told : Option (List ℕ)) → AnswersField e r warned told
-    → AnswersField e r warned None
-field_untold e (Ok d) warned told (text, is, short, h) = (text, tt, short, h)
-field_untold e (Err (Ldf f)) warned told (text, is, short, h) = (text, tt, short, h)
-field_untold e (Err (Remarks found)) warned told (text, is, short, h) = (text, tt, short, h)
-field_untold e (Err LdfTooLong) warned told h = tt
-field_untold e (Err OutOfMemory) warned told h = tt
-field_untold e (Err ReadFailed) warned told h = tt
-field_untold e (Err _) warned told h = absurd h
+field_untold : (x : Extras) (r : Result Described Fault) (warned : List Remark) (told : Option (List ℕ)) → AnswersField x r warned told
+    → AnswersField x r warned None
+field_untold x (Ok d) warned told (text, is, short, h) = (text, tt, short, h)
+field_untold x (Err (Ldf f)) warned told (text, is, short, h) = (text, tt, short, h)
+field_untold x (Err (Remarks found)) warned told (text, is, short, h) = (text, tt, short, h)
+field_untold x (Err LdfTooLong) warned told h = tt
+field_untold x (Err OutOfMemory) warned told h = tt
+field_untold x (Err ReadFailed) warned told h = tt
+field_untold x (Err _) warned told h = absurd h
 
 -- a list is as long as the room that it was lent
 pub all_lent : (n : ℕ) (xs ys : List ℕ) → length xs ≡ n → take n (xs ++ ys) ≡ xs
@@ -150,20 +152,20 @@ plain_begun old new text left s failed settled over free l same r is h = record 
 }
 
 -- what is answered to some reader
-pub reading_untold : (reading : Reading) (e : Encodings) (r : Result Described Fault) (warned : List Remark) (told : Option (List ℕ))
-    → AnswersReading reading e r warned told → AnswersReading reading e r warned None
-reading_untold Plain e r warned told h = answers_untold e r warned told h
-reading_untold Field e r warned told h = field_untold e r warned told h
+pub reading_untold : (reading : Reading) (x : Extras) (r : Result Described Fault) (warned : List Remark) (told : Option (List ℕ))
+    → AnswersReading reading x r warned told → AnswersReading reading x r warned None
+reading_untold Plain x r warned told h = answers_untold x r warned told h
+reading_untold Field x r warned told h = field_untold x r warned told h
 
 -- where it can't be read
-pub reading_unread : (reading : Reading) (e : Encodings) (fault : Fault) (warned : List Remark) (told : Option (List ℕ)) → ReadFaults fault told
-    → AnswersReading reading e (Err fault) warned told
-reading_unread Plain e fault warned told h = answers_unread e fault warned told h
-reading_unread Field e fault warned told h = field_unread e fault warned told h
+pub reading_unread : (reading : Reading) (x : Extras) (fault : Fault) (warned : List Remark) (told : Option (List ℕ)) → ReadFaults fault told
+    → AnswersReading reading x (Err fault) warned told
+reading_unread Plain x fault warned told h = answers_unread x fault warned told h
+reading_unread Field x fault warned told h = field_unread x fault warned told h
 
 -- no slot of a cluster that is answered is short, where the text isn't read as one of the field
-pub long_slots : (reading : Reading) (e : Encodings) (r : Result Described Fault) (warned : List Remark) (told : Option (List ℕ))
-    → reading ≡ Plain → AnswersReading reading e r warned told → IfOk r (λ d. NoSlotIsShort d.cluster)
-long_slots Plain e (Ok d) warned told plain (text, is, short, h) = h.cluster.long
-long_slots Plain e (Err fault) warned told plain h = tt
-long_slots Field e r warned told plain h = absurd (cc)
+pub long_slots : (reading : Reading) (x : Extras) (r : Result Described Fault) (warned : List Remark) (told : Option (List ℕ))
+    → reading ≡ Plain → AnswersReading reading x r warned told → IfOk r (λ d. NoSlotIsShort d.cluster)
+long_slots Plain x (Ok d) warned told plain (text, is, short, h) = h.cluster.long
+long_slots Plain x (Err fault) warned told plain h = tt
+long_slots Field x r warned told plain h = absurd (cc)

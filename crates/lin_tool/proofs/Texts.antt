@@ -1,21 +1,23 @@
 -- What `parse` and `check` say of a text, in the program's words.
-use Rattle.std.proofs.Common.{◌≡◌, ◌≢◌, ◌⊎◌, inl, inr, ℕ, ◌≤◌, List, [], length, Option, None, IfSome, IfOk, IfErr, Result, Ok, Err, sym, subst, ◌∙◌}
+use Rattle.std.proofs.Common.{◌≡◌, ◌≢◌, ◌⊎◌, inl, inr, ℕ, ◌≤◌, List, [], length, Option, None, IfSome, IfOk, IfErr, IsPermutation, Result, Ok, Err, sym, subst, ◌∙◌}
 use Rattle.lin_ldf.specs.Describes.{Describes}
 use Rattle.lin_ldf.specs.Tokens.{IsLexFault}
 use Rattle.lin_ldf.specs.declared.fault.LdfFault.{LdfFault}
 use Rattle.lin_ldf.specs.declared.fault.LdfFault.TheVariants as ldf
 use Rattle.lin_description.specs.declared.description.Description.{Description}
+use Rattle.lin_cluster.specs.SlotTimes.{NoSlotIsShort}
 use Rattle.lin_cluster_parts.specs.declared.parts.Parts.{Parts}
 use Rattle.lin_field.specs.declared.checking.Remark.{Remark}
-use Rattle.lin_tool.specs.Clusters.{IsClusterOf, Tells, TextFaults}
-use Rattle.lin_tool.specs.Coding.{coded_read, AnswersCoded, AreWarnings, SaysCodings}
+use Rattle.lin_tool.specs.Clusters.{IsSaidBy, Tells, TextFaults}
+use Rattle.lin_tool.specs.Coding.{coded_read, linted, AnswersCoded, AreWarnings, SaysSections}
 use Rattle.lin_tool.specs.Field.{ReadFaults}
 use Rattle.lin_tool.specs.Reading.{AnswersLdf}
 use Rattle.lin_tool.specs.declared.coding.Described.{Described}
-use Rattle.lin_tool.specs.declared.coding.Encodings.{Encodings}
+use Rattle.lin_tool.specs.declared.coding.Extras.{Extras}
+use Rattle.lin_tool.specs.declared.coding.Sections.{Sections}
 use Rattle.lin_tool.specs.declared.fault.Fault.{Fault}
 use Rattle.lin_tool.specs.declared.fault.Fault.TheVariants.{Ldf, Findings, LdfTooLong, OutOfMemory, ReadFailed}
-use Rattle.lin_values.specs.declared.items.Codings.{Codings}
+use Rattle.lin_tool.proofs.Warned.{reordered}
 
 -- what the program's fault says of the text
 pub tells_fault : (text : List ℕ) (told : Fault) (fault : LdfFault) → Tells told fault
@@ -30,41 +32,48 @@ tells_fault text OutOfMemory fault h only first = tt
 tells_fault text _ fault h only first = absurd h
 
 -- what is answered to what was parsed, where its cluster is this one
-pub coded_answer : (e : Encodings) (r : Result Described Fault) (text : List ℕ) (c : Parts) (k : Option Codings) (rs warned : List Remark)
-    → IsClusterOf text c → SaysCodings e text k → rs ≡ [] → IfOk r (λ d. d.cluster ≡ c) → IfOk r (λ d. d.coded ≡ coded_read d.cluster k)
-    → IfOk r (λ d. AreWarnings d.cluster k rs warned) → IfErr r (λ fault. fault ≡ OutOfMemory) → AnswersCoded e r warned text
-coded_answer e (Ok d) text c k rs warned of says none cluster coded warnings memory = record {
-  cluster = subst (IsClusterOf text) (sym cluster) of;
-  codings = k;
+pub coded_answer : (x : Extras) (r : Result Described Fault) (text : List ℕ) (d : Description) (c : Parts) (s : Sections) (none rs warned : List Remark)
+    → Describes text d → IsSaidBy d c → SaysSections x text s → none ≡ [] → IsPermutation (linted d s.configurables none) rs
+    → IfOk r (λ a. a.cluster ≡ c) → IfOk r (λ a. a.coded ≡ coded_read a.cluster s.codings)
+    → IfOk r (λ a. AreWarnings a.cluster s.codings rs warned) → IfErr r (λ fault. fault ≡ OutOfMemory) → AnswersCoded x r warned text
+coded_answer x (Ok a) text d c s none rs warned described of says is are cluster coded warnings memory = record {
+  cluster = record {
+    description = d;
+    described = described;
+    free = of.free;
+    said = cluster ∙ of.said;
+    long = subst NoSlotIsShort (sym cluster) of.long;
+  };
+  sections = s;
   says = says;
   coded = coded;
-  warnings = subst (λ xs. AreWarnings d.cluster k xs warned) none warnings;
+  warnings = reordered a.cluster s.codings (linted d s.configurables []) rs warned (subst (λ xs. IsPermutation (linted d s.configurables xs) rs) is are) warnings;
 }
-coded_answer e (Err fault) text c k rs warned of says none cluster coded warnings memory = subst (λ f. TextFaults f text) (sym memory) tt
+coded_answer x (Err fault) text d c s none rs warned described of says is are cluster coded warnings memory = subst (λ f. TextFaults f text) (sym memory) tt
 
-pub answers_read : (e : Encodings) (r : Result Described Fault) (warned : List Remark) (told : Option (List ℕ)) (text : List ℕ)
-    → IfSome told (λ bytes. text ≡ bytes) → length text ≤ 4194304 → AnswersCoded e r warned text → AnswersLdf e r warned told
-answers_read e (Ok d) warned told text is short h = (text, is, short, h)
-answers_read e (Err (Ldf f)) warned told text is short h = (text, is, short, h)
-answers_read e (Err (Findings found)) warned told text is short h = (text, is, short, h)
-answers_read e (Err OutOfMemory) warned told text is short h = tt
-answers_read e (Err LdfTooLong) warned told text is short h = absurd h
-answers_read e (Err ReadFailed) warned told text is short h = absurd h
-answers_read e (Err _) warned told text is short h = absurd h
+pub answers_read : (x : Extras) (r : Result Described Fault) (warned : List Remark) (told : Option (List ℕ)) (text : List ℕ)
+    → IfSome told (λ bytes. text ≡ bytes) → length text ≤ 4194304 → AnswersCoded x r warned text → AnswersLdf x r warned told
+answers_read x (Ok d) warned told text is short h = (text, is, short, h)
+answers_read x (Err (Ldf f)) warned told text is short h = (text, is, short, h)
+answers_read x (Err (Findings found)) warned told text is short h = (text, is, short, h)
+answers_read x (Err OutOfMemory) warned told text is short h = tt
+answers_read x (Err LdfTooLong) warned told text is short h = absurd h
+answers_read x (Err ReadFailed) warned told text is short h = absurd h
+answers_read x (Err _) warned told text is short h = absurd h
 
-pub answers_unread : (e : Encodings) (fault : Fault) (warned : List Remark) (told : Option (List ℕ)) → ReadFaults fault told
-    → AnswersLdf e (Err fault) warned told
-answers_unread e LdfTooLong warned told h = h
-answers_unread e OutOfMemory warned told h = tt
-answers_unread e ReadFailed warned told h = tt
-answers_unread e _ warned told h = absurd h
+pub answers_unread : (x : Extras) (fault : Fault) (warned : List Remark) (told : Option (List ℕ)) → ReadFaults fault told
+    → AnswersLdf x (Err fault) warned told
+answers_unread x LdfTooLong warned told h = h
+answers_unread x OutOfMemory warned told h = tt
+answers_unread x ReadFailed warned told h = tt
+answers_unread x _ warned told h = absurd h
 
-pub answers_untold : (e : Encodings) (r : Result Described Fault) (warned : List Remark) (told : Option (List ℕ)) → AnswersLdf e r warned told
-    → AnswersLdf e r warned None
-answers_untold e (Ok d) warned told (text, is, short, h) = (text, tt, short, h)
-answers_untold e (Err (Ldf f)) warned told (text, is, short, h) = (text, tt, short, h)
-answers_untold e (Err (Findings found)) warned told (text, is, short, h) = (text, tt, short, h)
-answers_untold e (Err LdfTooLong) warned told h = tt
-answers_untold e (Err OutOfMemory) warned told h = tt
-answers_untold e (Err ReadFailed) warned told h = tt
-answers_untold e (Err _) warned told h = absurd h
+pub answers_untold : (x : Extras) (r : Result Described Fault) (warned : List Remark) (told : Option (List ℕ)) → AnswersLdf x r warned told
+    → AnswersLdf x r warned None
+answers_untold x (Ok d) warned told (text, is, short, h) = (text, tt, short, h)
+answers_untold x (Err (Ldf f)) warned told (text, is, short, h) = (text, tt, short, h)
+answers_untold x (Err (Findings found)) warned told (text, is, short, h) = (text, tt, short, h)
+answers_untold x (Err LdfTooLong) warned told h = tt
+answers_untold x (Err OutOfMemory) warned told h = tt
+answers_untold x (Err ReadFailed) warned told h = tt
+answers_untold x (Err _) warned told h = absurd h

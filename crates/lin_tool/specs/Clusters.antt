@@ -15,6 +15,12 @@ use Rattle.lin_cluster_parts.specs.declared.parts.Parts.{Parts}
 use Rattle.lin_tool.specs.declared.fault.Fault.{Fault}
 use Rattle.lin_tool.specs.declared.fault.Fault.TheVariants.{Ldf, Findings, OutOfMemory}
 
+-- This is the cluster of a description in which nothing is found, so that no slot is short.
+pub record IsSaidBy (description : Description) (answer : Parts) : Type 0 where
+  pub free : IsFree description
+  pub said : answer ≡ parts_of description
+  pub long : NoSlotIsShort answer
+
 -- This is the cluster of what the text describes, in which nothing is found, so that no slot is
 -- short.
 pub record IsClusterOf (text : List ℕ) (answer : Parts) : Type 0 where

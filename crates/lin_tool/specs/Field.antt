@@ -19,13 +19,13 @@ use Rattle.lin_field.specs.declared.checking.Remark.{Remark}
 use Rattle.lin_field.specs.declared.reading.FieldText.{FieldText}
 use Rattle.lin_field.specs.declared.settling.Settled.{Settled}
 use Rattle.lin_text.specs.Written.{WritesText}
-use Rattle.lin_tool.specs.Coding.{coded_read, codings_read, AreWarnings}
+use Rattle.lin_tool.specs.Coding.{coded_read, linted, sections_read, AreWarnings}
 use Rattle.lin_tool.specs.declared.coding.Described.{Described}
-use Rattle.lin_tool.specs.declared.coding.Encodings.{Encodings}
+use Rattle.lin_tool.specs.declared.coding.Extras.{Extras}
+use Rattle.lin_tool.specs.declared.coding.Sections.{Sections}
 use Rattle.lin_tool.specs.declared.fault.Fault.{Fault}
 use Rattle.lin_tool.specs.declared.fault.Fault.TheVariants.{Ldf, Remarks, LdfTooLong, OutOfMemory}
 use Rattle.lin_tool.specs.declared.fault.Fault.TheVariants.{ReadFailed, WriteFailed}
-use Rattle.lin_values.specs.declared.items.Codings.{Codings}
 
 -- these are the bytes of the text where what is read over is spaces
 abbrev pub IsReadOver : List ℕ → List ℕ → Type 0
@@ -71,24 +71,25 @@ abbrev pub ChecksField : Settled → Result Checked Fault → Type 0
 ChecksField s (Ok checked) = IsChecked s checked
 ChecksField s (Err fault) = CheckFaults fault s
 
--- this is its cluster where its sections of encodings say that, and these are the warnings
-pub record IsFieldCluster (s : Settled) (k : Option Codings) (d : Described) (warned : List Remark)
+-- this is its cluster where its sections say that, and these are the warnings
+pub record IsFieldCluster (s : Settled) (k : Sections) (d : Described) (warned : List Remark)
     : Type 0 where
   pub free : IsFieldFree s
   pub said : d.cluster ≡ parts_of s.description
-  pub coded : d.coded ≡ coded_read d.cluster k
-  pub warnings : AreWarnings d.cluster k (remarks s) warned
+  pub coded : d.coded ≡ coded_read d.cluster k.codings
+  pub warnings
+      : AreWarnings d.cluster k.codings (linted s.description k.configurables (remarks s)) warned
 
-abbrev pub AnswersChecked : Settled → Option Codings → Result Described Fault → List Remark
-    → Type 0
+abbrev pub AnswersChecked : Settled → Sections → Result Described Fault → List Remark → Type 0
 AnswersChecked s k (Ok d) warned = IsFieldCluster s k d warned
 AnswersChecked s k (Err fault) warned = CheckFaults fault s
 
--- the sections of a text of the field say this, without the marks that it has too many
-abbrev pub FieldSaysCodings : Encodings → List ℕ → Option Codings → Type 0
-FieldSaysCodings e text k =
+-- the sections of a text of the field say this, without the marks that it has too many, as far as the
+-- extras want them
+abbrev pub FieldSaysSections : Extras → List ℕ → Sections → Type 0
+FieldSaysSections x text k =
     (ts : List Token) × AreTokens (field_bytes text) ts
-    × (k ≡ codings_read e (mended (symbols_in (field_bytes text) ts)))
+    × (k ≡ sections_read x (mended (symbols_in (field_bytes text) ts)))
 
 -- when a reader has this fault: what it has is told, or it isn't
 abbrev pub ReadFaults : Fault → Option (List ℕ) → Type 0
@@ -98,26 +99,26 @@ ReadFaults ReadFailed told = Unit {0}
 ReadFaults _ told = ⊥
 
 -- what is answered to a text of the field that isn't too long, with these warnings
-abbrev pub AnswersFieldText : Encodings → Result Described Fault → List Remark → List ℕ → Type 0
-AnswersFieldText e (Ok d) warned text =
+abbrev pub AnswersFieldText : Extras → Result Described Fault → List Remark → List ℕ → Type 0
+AnswersFieldText x (Ok d) warned text =
     (s : Settled) × IsSettled text s
-    × ((k : Option Codings) × FieldSaysCodings e text k × IsFieldCluster s k d warned)
-AnswersFieldText e (Err (Ldf f)) warned text = IsFieldFault text f
-AnswersFieldText e (Err fault) warned text = (s : Settled) × IsSettled text s × CheckFaults fault s
+    × ((k : Sections) × FieldSaysSections x text k × IsFieldCluster s k d warned)
+AnswersFieldText x (Err (Ldf f)) warned text = IsFieldFault text f
+AnswersFieldText x (Err fault) warned text = (s : Settled) × IsSettled text s × CheckFaults fault s
 
 -- to what the reader has, where that is told
-abbrev pub FieldRead : Encodings → Result Described Fault → List Remark → Option (List ℕ) → Type 0
-FieldRead e result warned told =
+abbrev pub FieldRead : Extras → Result Described Fault → List Remark → Option (List ℕ) → Type 0
+FieldRead x result warned told =
     (text : List ℕ) × IfSome told (λ bytes. text ≡ bytes) × (length text ≤ 4194304)
-    × AnswersFieldText e result warned text
+    × AnswersFieldText x result warned text
 
 -- what is answered to a reader of a text of the field
-abbrev pub AnswersField : Encodings → Result Described Fault → List Remark → Option (List ℕ)
+abbrev pub AnswersField : Extras → Result Described Fault → List Remark → Option (List ℕ)
     → Type 0
-AnswersField e (Ok d) warned told = FieldRead e (Ok d) warned told
-AnswersField e (Err (Ldf f)) warned told = FieldRead e (Err (Ldf f)) warned told
-AnswersField e (Err (Remarks found)) warned told = FieldRead e (Err (Remarks found)) warned told
-AnswersField e (Err fault) warned told = ReadFaults fault told
+AnswersField x (Ok d) warned told = FieldRead x (Ok d) warned told
+AnswersField x (Err (Ldf f)) warned told = FieldRead x (Err (Ldf f)) warned told
+AnswersField x (Err (Remarks found)) warned told = FieldRead x (Err (Remarks found)) warned told
+AnswersField x (Err fault) warned told = ReadFaults fault told
 
 -- of the plain text of what a text of the field is settled to a beginning was written, and after Ok all
 -- of it

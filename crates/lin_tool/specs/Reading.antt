@@ -4,7 +4,7 @@ use Rattle.lin_tool.specs.Coding.{AnswersCoded}
 use Rattle.lin_field.specs.declared.checking.Remark.{Remark}
 use Rattle.lin_tool.specs.Field.{AnswersField, ReadFaults}
 use Rattle.lin_tool.specs.declared.coding.Described.{Described}
-use Rattle.lin_tool.specs.declared.coding.Encodings.{Encodings}
+use Rattle.lin_tool.specs.declared.coding.Extras.{Extras}
 use Rattle.lin_tool.specs.declared.fault.Fault.{Fault}
 use Rattle.lin_tool.specs.declared.fault.Fault.TheVariants.{Ldf, Findings, LdfTooLong, OutOfMemory}
 use Rattle.lin_tool.specs.declared.fault.Fault.TheVariants.{ReadFailed}
@@ -18,21 +18,21 @@ ReadsAll view (Err fault) told = ReadFaults fault told
 
 -- this is answered to a text that isn't too long, with these warnings: to what the reader has, where
 -- that is told
-abbrev pub AnswersRead : Encodings → Result Described Fault → List Remark → Option (List ℕ)
+abbrev pub AnswersRead : Extras → Result Described Fault → List Remark → Option (List ℕ)
     → Type 0
-AnswersRead e result warned told =
+AnswersRead x result warned told =
     (text : List ℕ) × IfSome told (λ bytes. text ≡ bytes) × (length text ≤ 4194304)
-    × AnswersCoded e result warned text
+    × AnswersCoded x result warned text
 
 -- what is answered to a reader of an LDF text
-abbrev pub AnswersLdf : Encodings → Result Described Fault → List Remark → Option (List ℕ) → Type 0
-AnswersLdf e (Ok d) warned told = AnswersRead e (Ok d) warned told
-AnswersLdf e (Err (Ldf f)) warned told = AnswersRead e (Err (Ldf f)) warned told
-AnswersLdf e (Err (Findings found)) warned told = AnswersRead e (Err (Findings found)) warned told
-AnswersLdf e (Err fault) warned told = ReadFaults fault told
+abbrev pub AnswersLdf : Extras → Result Described Fault → List Remark → Option (List ℕ) → Type 0
+AnswersLdf x (Ok d) warned told = AnswersRead x (Ok d) warned told
+AnswersLdf x (Err (Ldf f)) warned told = AnswersRead x (Err (Ldf f)) warned told
+AnswersLdf x (Err (Findings found)) warned told = AnswersRead x (Err (Findings found)) warned told
+AnswersLdf x (Err fault) warned told = ReadFaults fault told
 
 -- what is answered to a reader of an LDF text that is read so
-abbrev pub AnswersReading : Reading → Encodings → Result Described Fault → List Remark
+abbrev pub AnswersReading : Reading → Extras → Result Described Fault → List Remark
     → Option (List ℕ) → Type 0
-AnswersReading Plain e result warned told = AnswersLdf e result warned told
-AnswersReading Field e result warned told = AnswersField e result warned told
+AnswersReading Plain x result warned told = AnswersLdf x result warned told
+AnswersReading Field x result warned told = AnswersField x result warned told

@@ -1,6 +1,6 @@
 //! `linsim check`: lists what a cluster has.
 
-use crate::coding::{Described, Encodings};
+use crate::coding::{Described, Extras};
 use crate::describing::{Reading, cluster_at, read_text};
 use crate::fault::Fault;
 use crate::field::write_field;
@@ -19,11 +19,11 @@ pub fn check<R: AllocGlobal + Files + Input + Print>(
     rt: &R,
     path: &str,
     reading: Reading,
-    encodings: Encodings,
+    extras: Extras,
     lists: Lists,
     notes: &mut Notes<'_>,
 ) -> Result<(), Fault> {
-    let Described { cluster, coded } = cluster_at(rt, path, reading, encodings, notes)?;
+    let Described { cluster, coded } = cluster_at(rt, path, reading, extras, notes)?;
     Ok(write_lists(&cluster, coded.as_ref(), lists, &mut io::writer(rt))?)
 }
 

@@ -1,4 +1,5 @@
-//! What an LDF text says of the values of its signals (LIN 2.2A, section 9.2.6): `--physical`.
+//! What is told of an LDF text beside its cluster: what it says of the values of its signals (LIN
+//! 2.2A, section 9.2.6), with `--physical`; and what is odd in it, with `--lint`.
 
 ghost use Rattle.std.specs.Prelude.{◌≡◌, ◌++◌, true, map, IfOk, IfErr, IsPermutation, IsSorted, List};
 ghost use Rattle.lin_ldf.specs.Stream.{start_of};
@@ -6,16 +7,18 @@ ghost use Rattle.lin_ldf.specs.Symbols.{symbols_in};
 ghost use Rattle.lin_ldf.specs.Tokens.{AreTokens};
 ghost use Rattle.lin_ldf.specs.declared.token.Token.{Token};
 ghost use Rattle.lin_field.specs.Checks.{remark, remark_cmp};
-ghost use Rattle.lin_tool.specs.Coding.{coded_read, codings_read, AreWarnings};
+ghost use Rattle.lin_tool.specs.Coding.{coded_read, codings_read, configurables_read};
+ghost use Rattle.lin_tool.specs.Coding.{linted, sections_read, AreWarnings};
 ghost use Rattle.lin_tool.specs.declared.fault.Fault.TheVariants.{OutOfMemory};
 
 use crate::fault::Fault;
 use crate::notes::Notes;
-use lin_cluster::Finding;
+use lin_cluster::{Configurable, Finding, lint};
 use lin_cluster_parts::Cluster;
+use lin_description::Description;
 use lin_field::Remark;
 use lin_lists::Many;
-use lin_values::{Coded, Codings, coded_by, read_codings};
+use lin_values::{Coded, Codings, coded_by, read_codings, read_configurables};
 use std::alloc::{AllocError, Global};
 
 /// How the sections of encodings are read.
@@ -25,6 +28,22 @@ pub enum Encodings {
     Unread,
     /// What is wrong with them is told as warnings.
     Told,
+}
+
+/// What is told of an LDF text beside its cluster.
+#[derive(Clone, Copy, Debug, Drop, PartialEq)]
+pub struct Extras {
+    pub encodings: Encodings,
+    /// Whether what is odd in a text in which nothing is wrong is told as warnings.
+    pub is_linted: bool,
+}
+
+/// What sections of an LDF text say beside its description, where they are read: those of encodings,
+/// and in the attributes of nodes the lists of configurable frames.
+#[derive(Drop)]
+pub(crate) struct Sections {
+    pub codings: Option<Codings>,
+    pub configurables: Option<Many<Configurable>>,
 }
 
 /// The cluster of an LDF text, and what the values of its signals mean, where that is read.
@@ -37,7 +56,7 @@ pub struct Described {
 /// What the sections of encodings of an LDF text say, where they are read.
 ///
 /// An error means out of memory.
-pub(crate) fn codings_of(
+fn codings_of(
     alloc: Global,
     text: &[u8],
     encodings: Encodings,
@@ -51,6 +70,47 @@ pub(crate) fn codings_of(
         Encodings::Unread => Ok(None),
         Encodings::Told => Ok(Some(read_codings(alloc, text)?)),
     }
+}
+
+/// The lists of configurable frames of an LDF text, where it is linted.
+///
+/// An error means out of memory.
+fn configurables_of(
+    alloc: Global,
+    text: &[u8],
+    is_linted: bool,
+) -> Result<Option<Many<Configurable>>, AllocError>
+    ensures read { IfOk result
+        (λ c. c ≡ configurables_read is_linted (symbols_in text.now (start_of text.now).tokens)) }
+    ensures tokens { (ts : List Token) → AreTokens text.now ts
+        → IfOk result (λ c. c ≡ configurables_read is_linted (symbols_in text.now ts)) }
+{
+    if is_linted {
+        Ok(Some(read_configurables(alloc, text)?))
+    } else {
+        Ok(None)
+    }
+}
+
+/// What sections of an LDF text say that the extras want.
+///
+/// An error means out of memory.
+pub(crate) fn sections_of(
+    alloc: Global,
+    text: &[u8],
+    extras: Extras,
+) -> Result<Sections, AllocError>
+    ensures read { IfOk result
+        (λ s. s ≡ sections_read extras (symbols_in text.now (start_of text.now).tokens)) }
+    ensures tokens { (ts : List Token) → AreTokens text.now ts
+        → IfOk result (λ s. s ≡ sections_read extras (symbols_in text.now ts)) }
+{
+    let codings = codings_of(alloc, text, extras.encodings)?;
+    let configurables = configurables_of(alloc, text, extras.is_linted)?;
+    Ok(Sections {
+        codings,
+        configurables,
+    })
 }
 
 /// Warnings, and findings as such, by place and then by number.
@@ -70,6 +130,27 @@ fn with_findings(warnings: Many<Remark>, findings: &[Finding]) -> Result<Many<Re
     }
     all.sort()?;
     Ok(Many::new(all))
+}
+
+/// Warnings with what is odd in a description, where its text is linted, by place and then by number.
+///
+/// An error means out of memory.
+pub(crate) fn with_lints(
+    alloc: Global,
+    warnings: Many<Remark>,
+    description: &Description,
+    configurables: Option<Many<Configurable>>,
+) -> Result<Many<Remark>, AllocError>
+    requires { IsSorted remark_cmp warnings }
+    ensures all { IfOk result
+        (λ all. IsPermutation (linted description.now configurables warnings) all) }
+    ensures ordered { IfOk result (λ all. IsSorted remark_cmp all) }
+{
+    let Some(configurables) = configurables else {
+        return Ok(warnings);
+    };
+    let found = lint(alloc, description, configurables.as_slice())?;
+    with_findings(warnings, found.as_slice())
 }
 
 /// What the values of a cluster's signals mean by the sections of encodings, where they are read;

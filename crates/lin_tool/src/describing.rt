@@ -4,13 +4,13 @@
 ghost use Rattle.std.specs.Prelude.{◌≡◌, List, ℕ, IfOk, IsSome};
 ghost use Rattle.lin_ldf.specs.Describes.{Describes};
 ghost use Rattle.lin_cluster.specs.SlotTimes.{NoSlotIsShort};
-ghost use Rattle.lin_tool.specs.Clusters.{AnswersParse, AnswersText, Tells};
-ghost use Rattle.lin_tool.specs.Coding.{AnswersCoded, AnswersCodings};
+ghost use Rattle.lin_tool.specs.Clusters.{AnswersParse, AnswersText, IsSaidBy, Tells};
+ghost use Rattle.lin_tool.specs.Coding.{AnswersCoded, AnswersSections};
 ghost use Rattle.lin_tool.specs.Reading.{AnswersLdf, AnswersReading, ReadsAll};
-ghost use Rattle.lin_tool.specs.declared.coding.Encodings.{Encodings};
+ghost use Rattle.lin_tool.specs.declared.coding.Extras.{Extras};
 ghost use Rattle.lin_tool.specs.declared.describing.Reading.TheVariants.{Plain};
 
-use crate::coding::{Described, Encodings, coded_noted, codings_of};
+use crate::coding::{Described, Extras, Sections, coded_noted, sections_of, with_lints};
 use crate::fault::Fault;
 use crate::field::field_of_reader;
 use crate::findings::Findings;
@@ -21,7 +21,6 @@ use lin_description::Description;
 use lin_ldf::{LdfFault, parse};
 use lin_lists::Many;
 use lin_text::{ReadFault, read_whole};
-use lin_values::Codings;
 use std::alloc::Global;
 use std::fs::{self, Files};
 use std::io::Read;
@@ -86,7 +85,8 @@ fn description_of(alloc: Global, text: &[u8]) -> Result<Description, Fault>
 /// # Errors
 /// `Findings` for all the reasons why it says no cluster; `OutOfMemory`.
 fn said_by(alloc: Global, description: Description) -> Result<Cluster, Fault>
-    ensures { (text : List ℕ) → Describes text description → AnswersText result text }
+    ensures said { IfOk result (IsSaidBy description) }
+    ensures answers { (text : List ℕ) → Describes text description → AnswersText result text }
 {
     match check(alloc, description) {
         Ok(cluster) => Ok(cluster),
@@ -116,20 +116,16 @@ pub(crate) fn let_go(text: &mut Vec<u8>) {
     text.shrink_to_fit();
 }
 
-/// What an LDF text describes, and what its sections of encodings say, where they are read.
+/// What an LDF text describes, and what of its sections the extras want.
 ///
 /// # Errors
 /// Those of `description_of`.
-fn parse_text(
-    alloc: Global,
-    text: &[u8],
-    encodings: Encodings,
-) -> Result<(Description, Option<Codings>), Fault>
-    ensures { AnswersCodings encodings result text.now }
+fn parse_text(alloc: Global, text: &[u8], extras: Extras) -> Result<(Description, Sections), Fault>
+    ensures { AnswersSections extras result text.now }
 {
     let description = description_of(alloc, text)?;
-    let codings = codings_of(alloc, text, encodings)?;
-    Ok((description, codings))
+    let sections = sections_of(alloc, text, extras)?;
+    Ok((description, sections))
 }
 
 /// The cluster of what was parsed, and what the values of its signals mean. The notes keep warnings,
@@ -139,32 +135,37 @@ fn parse_text(
 /// That of what was parsed; those of `said_by`.
 fn check_parsed(
     alloc: Global,
-    parsed: Result<(Description, Option<Codings>), Fault>,
+    parsed: Result<(Description, Sections), Fault>,
     text: &[u8],
     notes: &mut Notes<'_>,
 ) -> Result<Described, Fault>
-    ensures { (encodings : Encodings) (source : List ℕ)
-        → AnswersCodings encodings parsed source
-        → AnswersCoded encodings result notes.new.warnings source }
+    ensures { (extras : Extras) (source : List ℕ)
+        → AnswersSections extras parsed source
+        → AnswersCoded extras result notes.new.warnings source }
 {
-    let (description, codings) = parsed?;
-    let cluster = said_by(alloc, description)?;
+    let (description, sections) = parsed?;
+    let Sections {
+        codings,
+        configurables,
+    } = sections;
     let none = Many::new(Vec::new(alloc));
-    coded_noted(alloc, cluster, codings, none, text, notes)
+    let warnings = with_lints(alloc, none, &description, configurables)?;
+    let cluster = said_by(alloc, description)?;
+    coded_noted(alloc, cluster, codings, warnings, text, notes)
 }
 
 /// The cluster that an LDF text describes, as of `cluster_of_text`, and what the values of its signals
-/// mean. The notes keep warnings of its encodings, or tell where it is at fault; where they want no
-/// text, its memory is let go of before the description is checked.
+/// mean. The notes keep the warnings that the extras want, or tell where it is at fault; where they want
+/// no text, its memory is let go of before the description is checked.
 fn cluster_of_bytes(
     alloc: Global,
     mut bytes: Vec<u8>,
-    encodings: Encodings,
+    extras: Extras,
     notes: &mut Notes<'_>,
 ) -> Result<Described, Fault>
-    ensures { AnswersCoded encodings result notes.new.warnings bytes.items }
+    ensures { AnswersCoded extras result notes.new.warnings bytes.items }
 {
-    let parsed = parse_text(alloc, bytes.as_slice(), encodings);
+    let parsed = parse_text(alloc, bytes.as_slice(), extras);
     if !notes.is_text_wanted() {
         let_go(&mut bytes);
     }
@@ -177,8 +178,9 @@ fn cluster_of_bytes(
 }
 
 /// The cluster that the LDF text of a reader describes, and what the values of its signals mean by its
-/// sections of encodings, where they are read. The notes keep what is wrong with these as warnings, by
-/// place and then by number; where the text is at fault, they tell where.
+/// sections of encodings, where they are read. The notes keep what is wrong with these, and what is odd
+/// in the text where it is linted, as warnings, by place and then by number; where the text is at
+/// fault, they tell where.
 ///
 /// # Errors
 /// Those of `read_text`, and of what was read those of `cluster_of_text`.
@@ -186,13 +188,13 @@ fn cluster_of_bytes(
 pub fn cluster_of_reader<R: Read>(
     alloc: Global,
     reader: &mut R,
-    encodings: Encodings,
+    extras: Extras,
     notes: &mut Notes<'_>,
 ) -> Result<Described, Fault>
-    ensures { AnswersLdf encodings result notes.new.warnings (R.remaining reader.old) }
+    ensures { AnswersLdf extras result notes.new.warnings (R.remaining reader.old) }
 {
     let text = read_text(alloc, reader)?;
-    cluster_of_bytes(alloc, text, encodings, notes)
+    cluster_of_bytes(alloc, text, extras, notes)
 }
 
 /// How an LDF text is read.
@@ -210,14 +212,14 @@ fn cluster_read<R: Read>(
     alloc: Global,
     reader: &mut R,
     reading: Reading,
-    encodings: Encodings,
+    extras: Extras,
     notes: &mut Notes<'_>,
 ) -> Result<Described, Fault>
-    ensures { AnswersReading reading encodings result notes.new.warnings (R.remaining reader.old) }
+    ensures { AnswersReading reading extras result notes.new.warnings (R.remaining reader.old) }
 {
     match reading {
-        Reading::Plain => cluster_of_reader(alloc, reader, encodings, notes),
-        Reading::Field => field_of_reader(alloc, reader, encodings, notes),
+        Reading::Plain => cluster_of_reader(alloc, reader, extras, notes),
+        Reading::Field => field_of_reader(alloc, reader, extras, notes),
     }
 }
 
@@ -229,12 +231,12 @@ fn cluster_read<R: Read>(
 pub fn cluster_of_input<R: AllocGlobal + Input>(
     rt: &R,
     reading: Reading,
-    encodings: Encodings,
+    extras: Extras,
     notes: &mut Notes<'_>,
 ) -> Result<Described, Fault>
-    ensures { AnswersReading reading encodings result notes.new.warnings None }
+    ensures { AnswersReading reading extras result notes.new.warnings None }
 {
-    let answer = cluster_read(rt.alloc(), &mut rt.reader(), reading, encodings, notes);
+    let answer = cluster_read(rt.alloc(), &mut rt.reader(), reading, extras, notes);
     notes.add_unread(&answer, None);
     answer
 }
@@ -248,22 +250,22 @@ pub fn cluster_of_file<R: AllocGlobal + Files>(
     rt: &R,
     path: Option<&str>,
     reading: Reading,
-    encodings: Encodings,
+    extras: Extras,
     notes: &mut Notes<'_>,
 ) -> Result<Described, Fault>
     ensures built_in { path.entry ≡ None
-        → AnswersCoded encodings result notes.new.warnings BUILT_IN.now }
+        → AnswersCoded extras result notes.new.warnings BUILT_IN.now }
     ensures file { IsSome path.entry
-        → AnswersReading reading encodings result notes.new.warnings None }
+        → AnswersReading reading extras result notes.new.warnings None }
 {
     match path {
         None => {
-            let parsed = parse_text(rt.alloc(), BUILT_IN, encodings);
+            let parsed = parse_text(rt.alloc(), BUILT_IN, extras);
             check_parsed(rt.alloc(), parsed, BUILT_IN, notes)
         }
         Some(path) => {
             let answer = match fs::open(rt, path) {
-                Ok(mut file) => cluster_read(rt.alloc(), &mut file, reading, encodings, notes),
+                Ok(mut file) => cluster_read(rt.alloc(), &mut file, reading, extras, notes),
                 Err(_) => Err(Fault::ReadFailed),
             };
             notes.add_unread(&answer, Some(path));
@@ -282,14 +284,14 @@ pub fn cluster_at<R: AllocGlobal + Files + Input>(
     rt: &R,
     path: &str,
     reading: Reading,
-    encodings: Encodings,
+    extras: Extras,
     notes: &mut Notes<'_>,
 ) -> Result<Described, Fault>
     ensures { reading ≡ Plain → IfOk result (λ d. NoSlotIsShort d.cluster) }
 {
     if path == "-" {
-        cluster_of_input(rt, reading, encodings, notes)
+        cluster_of_input(rt, reading, extras, notes)
     } else {
-        cluster_of_file(rt, Some(path), reading, encodings, notes)
+        cluster_of_file(rt, Some(path), reading, extras, notes)
     }
 }

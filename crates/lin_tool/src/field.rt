@@ -3,7 +3,7 @@
 ghost use Rattle.lin_tool.specs.Field.{AnswersChecked, AnswersField, AnswersSettled, ChecksField};
 ghost use Rattle.lin_tool.specs.Field.{WritesPlain};
 
-use crate::coding::{Described, Encodings, coded_noted, codings_of};
+use crate::coding::{Described, Extras, Sections, coded_noted, sections_of, with_lints};
 use crate::describing::{Reading, fault_of, let_go, read_text};
 use crate::fault::Fault;
 use crate::findings::Remarks;
@@ -11,7 +11,6 @@ use crate::notes::Notes;
 use lin_field::{
     Checked, FieldFault, Settled, check_field, read_field, read_over_bytes, settle, write_plain,
 };
-use lin_values::Codings;
 use std::alloc::{AllocError, Global};
 use std::io::{Read, Write};
 
@@ -83,14 +82,19 @@ fn settled_noted(
 fn cluster_noted(
     alloc: Global,
     settled: &Settled,
-    codings: Option<Codings>,
+    sections: Sections,
     text: &[u8],
     notes: &mut Notes<'_>,
 ) -> Result<Described, Fault>
-    ensures { AnswersChecked settled.now codings result notes.new.warnings }
+    ensures { AnswersChecked settled.now sections result notes.new.warnings }
 {
+    let Sections {
+        codings,
+        configurables,
+    } = sections;
     match check_settled(alloc, settled) {
         Ok(Checked { cluster, warnings }) => {
+            let warnings = with_lints(alloc, warnings, &settled.description, configurables)?;
             coded_noted(alloc, cluster, codings, warnings, text, notes)
         }
         Err(fault) => {
@@ -104,7 +108,7 @@ fn cluster_noted(
 
 /// The cluster that a text of the field describes, as a reader gives it, and what the values of its
 /// signals mean by its sections of encodings, where they are read. The notes keep its warnings, those
-/// of its encodings among them, by place and then by number; or tell where it is at fault.
+/// that the extras want among them, by place and then by number; or tell where it is at fault.
 ///
 /// # Errors
 /// Those of `read_text`; `Ldf` for the first fault of the text; `Remarks` for all the reasons why it
@@ -113,17 +117,17 @@ fn cluster_noted(
 pub fn field_of_reader<R: Read>(
     alloc: Global,
     reader: &mut R,
-    encodings: Encodings,
+    extras: Extras,
     notes: &mut Notes<'_>,
 ) -> Result<Described, Fault>
-    ensures { AnswersField encodings result notes.new.warnings (R.remaining reader.old) }
+    ensures { AnswersField extras result notes.new.warnings (R.remaining reader.old) }
 {
     let mut bytes = read_text(alloc, reader)?;
     let text = noted_text(alloc, bytes.as_slice(), notes)?;
     let settled = settled_noted(alloc, bytes.as_mut_slice(), text.as_slice(), notes)?;
-    let codings = codings_of(alloc, bytes.as_slice(), encodings)?;
+    let sections = sections_of(alloc, bytes.as_slice(), extras)?;
     let_go(&mut bytes);
-    cluster_noted(alloc, &settled, codings, text.as_slice(), notes)
+    cluster_noted(alloc, &settled, sections, text.as_slice(), notes)
 }
 
 /// Writes a plain LDF text of what a text of the field is settled to.
@@ -142,7 +146,11 @@ pub(crate) fn write_field<W: Write>(
     let mut bytes = bytes;
     let text = noted_text(alloc, bytes.as_slice(), notes)?;
     let settled = settled_noted(alloc, bytes.as_mut_slice(), text.as_slice(), notes)?;
-    match cluster_noted(alloc, &settled, None, text.as_slice(), notes) {
+    let none = Sections {
+        codings: None,
+        configurables: None,
+    };
+    match cluster_noted(alloc, &settled, none, text.as_slice(), notes) {
         Ok(_described) => match write_plain(alloc, &settled, bytes.as_slice(), writer)? {
             Ok(()) => Ok(()),
             Err(_) => Err(Fault::WriteFailed),

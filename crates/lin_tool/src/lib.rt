@@ -37,7 +37,7 @@ mod telling;
 mod wanted;
 
 pub use checking::{check, check_plain};
-pub use coding::{Described, Encodings};
+pub use coding::{Described, Encodings, Extras};
 pub use comparing::{compare, compare_script, first_difference};
 pub use describing::{
     BUILT_IN, Reading, cluster_of_file, cluster_of_input, cluster_of_reader, cluster_of_text,

@@ -29,9 +29,10 @@ pub(crate) static FAULTS: [(&str, &str); 7] = [
     ),
 ];
 
-/// What a finding of this number means, and what to change.
+/// What a finding or a warning of this number means, and what to change.
 pub(crate) fn finding_meaning(number: u8) -> Option<&'static (&'static str, &'static str)> {
     match number {
+        51.. => LINTS.get(usize::from(number) - 51),
         31.. => ENCODINGS.get(usize::from(number) - 31),
         _ => FINDINGS.get(usize::from(number).wrapping_sub(1)),
     }
@@ -209,6 +210,50 @@ static ENCODINGS: [(&str, &str); 11] = [
         "numbers for an array; digits for a scalar whose bits aren't a multiple of 4, or \
          characters for one whose bits aren't a multiple of 8",
         "an encoding of the signal's kind",
+    ),
+];
+
+/// What a warning of a text in which nothing is wrong means, from 51 on, and what to change.
+static LINTS: [(&str, &str); 9] = [
+    (
+        "a signal that no frame has",
+        "place it in a frame of its publisher, or delete it: it is never sent",
+    ),
+    (
+        "a frame for which no table has an entry, and which no sporadic or event-triggered frame \
+         lists",
+        "give it an entry in a table, or delete it: it is never sent",
+    ),
+    (
+        "a sporadic or event-triggered frame for which no table has an entry",
+        "give it an entry in a table; those of the frames that it lists don't send it",
+    ),
+    (
+        "a signal without a subscriber",
+        "name its subscribers after the publisher",
+    ),
+    (
+        "a subscriber that publishes the signal itself",
+        "delete it there: a node has the values of its own signals anyway",
+    ),
+    (
+        "a delay that is no multiple of the time base",
+        "a multiple of the time base: a commander that counts in it can't keep this delay",
+    ),
+    (
+        "a responder without configured_NAD, where a table has an entry MasterReq or SlaveResp",
+        "write configured_NAD, or take the diagnostic entries out",
+    ),
+    (
+        "a response_error that names no signal, or one that the node doesn't publish, or one that \
+         hasn't 1 bit",
+        "name a signal of 1 bit that the node publishes",
+    ),
+    (
+        "a name in the configurable_frames of a node that is of no frame of the node. It has the \
+         frames that it publishes or of which it subscribes a signal, and the sporadic and \
+         event-triggered frames that list one of these",
+        "name a frame of the node, or delete the line",
     ),
 ];
 

@@ -4,7 +4,7 @@
 ghost use Rattle.std.specs.Prelude.{◌≡◌, ◌≤◌, ◌<◌, length, min, max, IfOk};
 ghost use Rattle.lin_tool.specs.Opening.{Opens, opening_of};
 
-use crate::coding::{Described, Encodings};
+use crate::coding::{Described, Encodings, Extras};
 use crate::describing::{Reading, cluster_of_file};
 use crate::fault::Fault;
 use crate::formats::Format;
@@ -65,10 +65,14 @@ pub(crate) fn begin<R: AllocGlobal + Files>(
     ensures { IfOk result (λ it. it.table < length it.cluster.tables) }
 {
     let (file, reading) = (settings.file, settings.reading);
+    let extras = Extras {
+        encodings: Encodings::Unread,
+        is_linted: false,
+    };
     let Described {
         cluster,
         coded: _coded,
-    } = cluster_of_file(rt, file, reading, Encodings::Unread, notes)?;
+    } = cluster_of_file(rt, file, reading, extras, notes)?;
     match opening_table(&cluster, settings.table) {
         Ok(table) => Ok(Opened { cluster, table }),
         Err(fault) => {

@@ -5,7 +5,7 @@ use crate::fakes::{Narrow, Piecewise};
 use crate::samples::{BUILT_IN, LIGHTS};
 use lin_log::run_script;
 use lin_tool::{
-    Described, Encodings, Fault, Format, Lists, Notes, Reading, Wanted, cluster_of_reader,
+    Described, Encodings, Extras, Fault, Format, Lists, Notes, Reading, Wanted, cluster_of_reader,
     cluster_of_text, field_of_reader, opening_table, read_text, replay_script, write_list,
     write_lists, write_shown,
 };
@@ -13,12 +13,30 @@ use std::alloc::Global;
 use std::process::Abort;
 use std::test::Fail;
 
+/// The cluster alone.
+const NO_EXTRAS: Extras = Extras {
+    encodings: Encodings::Unread,
+    is_linted: false,
+};
+
+/// With what the values of signals mean.
+const CODINGS: Extras = Extras {
+    encodings: Encodings::Told,
+    is_linted: false,
+};
+
+/// With that, and with what is odd.
+const ALL: Extras = Extras {
+    encodings: Encodings::Told,
+    is_linted: true,
+};
+
 fn cluster_text(alloc: Global, mut rest: &[u8]) -> Result<Vec<u8>, Fault> {
     let mut notes = Notes::new(alloc, Wanted::default());
     let Described {
         cluster,
         coded: _coded,
-    } = cluster_of_reader(alloc, &mut rest, Encodings::Unread, &mut notes)?;
+    } = cluster_of_reader(alloc, &mut rest, NO_EXTRAS, &mut notes)?;
     let mut text = Vec::new(alloc);
     write_list(&cluster, &mut text)?;
     Ok(text)
@@ -45,7 +63,7 @@ fn field_text(alloc: Global, mut rest: &[u8]) -> Result<(Vec<u8>, usize), Fault>
     let Described {
         cluster,
         coded: _coded,
-    } = field_of_reader(alloc, &mut rest, Encodings::Unread, &mut notes)?;
+    } = field_of_reader(alloc, &mut rest, NO_EXTRAS, &mut notes)?;
     let mut text = Vec::new(alloc);
     write_list(&cluster, &mut text)?;
     Ok((text, notes.warnings.as_slice().len()))
@@ -96,13 +114,13 @@ fn coded_text(
     alloc: Global,
     text: &[u8],
     reading: Reading,
-    encodings: Encodings,
+    extras: Extras,
 ) -> Result<(Vec<u8>, Vec<u8>), Fault> {
     let mut notes = Notes::new(alloc, Wanted::default());
     let mut reader = Piecewise::new(text, 3);
     let described = match reading {
-        Reading::Plain => cluster_of_reader(alloc, &mut reader, encodings, &mut notes),
-        Reading::Field => field_of_reader(alloc, &mut reader, encodings, &mut notes),
+        Reading::Plain => cluster_of_reader(alloc, &mut reader, extras, &mut notes),
+        Reading::Field => field_of_reader(alloc, &mut reader, extras, &mut notes),
     };
     listed(alloc, described, &notes)
 }
@@ -115,14 +133,35 @@ fn encodings_are_read_where_they_are_wanted(rt: HostRuntime) -> Result<(), Fail>
         b"node 0 m -\nnode 1 s -\nsignal 0 a\ntable 0 T 1\ncoding 0 a 8 Temp\nrange 0 0 250 -40 85 degC\nvalue 0 255 255\nvalue 0 255 none\ninitial 0 9 -35.5 degC\n";
     let warning = b"9:94 warning 38 LogicalTwice\n";
     for reading in [Reading::Plain, Reading::Field] {
-        let (lists, told) = coded_text(alloc, CODED, reading, Encodings::Unread)?;
+        let (lists, told) = coded_text(alloc, CODED, reading, NO_EXTRAS)?;
         expect_bytes(&rt, &lists, list, "without encodings", "lists");
         expect_bytes(&rt, &told, b"", "without encodings", "what is told");
-        let (lists, told) = coded_text(alloc, CODED, reading, Encodings::Told)?;
+        let (lists, told) = coded_text(alloc, CODED, reading, CODINGS)?;
         expect_bytes(&rt, &lists, coded, "with encodings", "lists");
         expect_bytes(&rt, &told, warning, "with encodings", "what is told");
-        let fault = coded_text(alloc, &CODED[..200], reading, Encodings::Told);
+        let fault = coded_text(alloc, &CODED[..200], reading, CODINGS);
         assert!(rt; matches!(fault, Err(Fault::Ldf(_))));
+    }
+    Ok(())
+}
+
+/// A text with a signal that no frame has and nobody reads, a name that is of no frame, a delay beside the
+/// time base, and an encoding in which a value stands twice.
+const ODD: &[u8] =
+    b"LIN_description_file;\nLIN_protocol_version = \"2.1\";\nLIN_language_version = \"2.1\";\nLIN_speed = 19.2 kbps;\nNodes { Master: m, 5 ms, 0.1 ms; Slaves: s; }\nSignals { a: 8, 9, m, s; b: 8, 0, s; }\nFrames { A: 0x20, m, 1 { a, 0; } }\nNode_attributes { s { configurable_frames { A; b; } } }\nSchedule_tables { T { A delay 11 ms; } }\nSignal_encoding_types { Temp { logical_value, 255; logical_value, 255; } }\nSignal_representation { Temp: a; }\n";
+
+#[test]
+fn odd_texts_are_told_where_they_are_linted(rt: HostRuntime) -> Result<(), Fail> {
+    let alloc = rt.alloc();
+    let coded = b"10:52 warning 38 LogicalTwice\n";
+    let all =
+        b"6:26 warning 51 UnplacedSignal\n6:26 warning 54 NoSubscriber\n8:48 warning 59 BadConfigurable\n9:31 warning 56 OffTimeBase\n10:52 warning 38 LogicalTwice\n";
+    for reading in [Reading::Plain, Reading::Field] {
+        let (lists, told) = coded_text(alloc, ODD, reading, CODINGS)?;
+        expect_bytes(&rt, &told, coded, "not linted", "what is told");
+        let (linted, told) = coded_text(alloc, ODD, reading, ALL)?;
+        expect_bytes(&rt, &told, all, "linted", "what is told");
+        expect_bytes(&rt, &linted, &lists, "linted", "lists");
     }
     Ok(())
 }
@@ -135,7 +174,7 @@ fn replayed(alloc: Global, script: &[u8]) -> Result<Vec<u8>, Fault> {
     let Described {
         cluster,
         coded: _coded,
-    } = cluster_of_reader(alloc, &mut rest, Encodings::Unread, &mut notes)?;
+    } = cluster_of_reader(alloc, &mut rest, NO_EXTRAS, &mut notes)?;
     let table = opening_table(&cluster, None)?;
     replay_script(
         alloc,
@@ -192,7 +231,7 @@ fn lists_end_where_a_write_fails(rt: HostRuntime) -> Result<(), Fail> {
     let alloc = rt.alloc();
     let mut notes = Notes::new(alloc, Wanted::default());
     let mut rest = CODED;
-    let described = cluster_of_reader(alloc, &mut rest, Encodings::Told, &mut notes)?;
+    let described = cluster_of_reader(alloc, &mut rest, CODINGS, &mut notes)?;
     let Described { cluster, coded } = described;
     let all = Lists {
         frames: true,

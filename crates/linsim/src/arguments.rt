@@ -1,7 +1,7 @@
 //! The command line.
 
 use clap::{Arg, ArgAction, ArgMatches, Command, value_parser};
-use lin_tool::{Encodings, Format, Lists, Reading, Settings, Wanted};
+use lin_tool::{Encodings, Extras, Format, Lists, Reading, Settings, Wanted};
 use std::alloc::{AllocError, Global};
 
 const STATUS_NOTE: &str =
@@ -20,7 +20,7 @@ const LIVE_NOTE: &str =
     "Lines are those of bench scripts, and questions: ? signal NODE SIGNAL, ? waiting NODE, ? idle, ? time, ? asleep, ? next.\nEach is answered before the next is read: the log of its entries, with names if wanted, and a line that begins with #.\n\nExample: linsim live door.ldf < door.bench";
 
 const CHECK_NOTE: &str =
-    "On standard output: node NUMBER NAME NAD (- for none), signal NUMBER NAME, table NUMBER NAME ENTRIES, one a line.\nOn standard error: ldf LINE:COLUMN fault NUMBER NAME for the first fault of the text, or ldf too long above 4,194,304 bytes;\notherwise a line LINE:COLUMN finding NUMBER NAME for each reason why it describes no cluster;\nwith --field also LINE:COLUMN warning NUMBER NAME for what is read otherwise than it stands,\nand with --physical for what is wrong with the encodings of signals.";
+    "On standard output: node NUMBER NAME NAD (- for none), signal NUMBER NAME, table NUMBER NAME ENTRIES, one a line.\nOn standard error: ldf LINE:COLUMN fault NUMBER NAME for the first fault of the text, or ldf too long above 4,194,304 bytes;\notherwise a line LINE:COLUMN finding NUMBER NAME for each reason why it describes no cluster;\nwith --field also LINE:COLUMN warning NUMBER NAME for what is read otherwise than it stands,\nwith --physical for what is wrong with the encodings of signals,\nand with --lint for what is declared and not used, or not as LIN asks for, where nothing is wrong.";
 
 fn file<'a>(alloc: Global) -> Arg<'a> {
     Arg::new(alloc, "file")
@@ -129,12 +129,18 @@ fn plain<'a>(alloc: Global) -> Result<Arg<'a>, AllocError> {
         .conflicts_with("frames")?
         .conflicts_with("slots")?
         .conflicts_with("physical")?
+        .conflicts_with("lint")?
         .conflicts_with("signals")
 }
 
 fn physical<'a>(alloc: Global) -> Arg<'a> {
     let help = "Reads the LDF's encodings of signals, too, with warnings on standard error";
     flag(alloc, "physical", help)
+}
+
+fn linted<'a>(alloc: Global) -> Arg<'a> {
+    let help = "Warns of what is odd in an LDF in which nothing is wrong, too, on standard error";
+    flag(alloc, "lint", help)
 }
 
 fn listed_signals<'a>(alloc: Global) -> Result<Arg<'a>, AllocError> {
@@ -178,6 +184,7 @@ fn check<'a>(alloc: Global) -> Result<Command<'a>, AllocError> {
         .arg(listed_signals(alloc)?)?
         .arg(field(alloc))?
         .arg(physical(alloc))?
+        .arg(linted(alloc))?
         .arg(plain(alloc)?)?
         .arg(places(alloc))?
         .arg(explain(alloc))
@@ -253,11 +260,11 @@ pub(crate) struct Asked<'a> {
 /// What the command line asks for.
 #[derive(Clone, Copy)]
 pub(crate) enum Request<'a> {
-    /// `linsim check FILE [--field] [--frames] [--slots] [--physical [--signals]]`
+    /// `linsim check FILE [--field] [--frames] [--slots] [--physical [--signals]] [--lint]`
     Check {
         file: &'a str,
         reading: Reading,
-        encodings: Encodings,
+        extras: Extras,
         lists: Lists,
     },
     /// `linsim check FILE --field --plain`
@@ -330,12 +337,15 @@ fn reading_of(found: &ArgMatches<'_>) -> Reading {
     }
 }
 
-/// How its sections of encodings are read.
-fn encodings_of(found: &ArgMatches<'_>) -> Encodings {
-    if found.get_flag("physical") {
-        Encodings::Told
-    } else {
-        Encodings::Unread
+/// What is told of it beside its cluster.
+fn extras_of(found: &ArgMatches<'_>) -> Extras {
+    Extras {
+        encodings: if found.get_flag("physical") {
+            Encodings::Told
+        } else {
+            Encodings::Unread
+        },
+        is_linted: found.get_flag("lint"),
     }
 }
 
@@ -375,7 +385,7 @@ fn request_of<'a>(matches: &ArgMatches<'a>) -> Option<Request<'a>> {
         Some(("check", found)) => Some(Request::Check {
             file: found.get_str("file").unwrap_or(""),
             reading: reading_of(found),
-            encodings: encodings_of(found),
+            extras: extras_of(found),
             lists: Lists {
                 frames: found.get_flag("frames"),
                 slots: found.get_flag("slots"),

@@ -37,9 +37,9 @@ fn perform<R: AllocGlobal + Files + Input + Print + Eprint + Threads + Wait, W: 
         Request::Check {
             file,
             reading,
-            encodings,
+            extras,
             lists,
-        } => lin_tool::check(rt, file, reading, encodings, lists, notes),
+        } => lin_tool::check(rt, file, reading, extras, lists, notes),
         Request::CheckPlain(file) => lin_tool::check_plain(rt, file, notes),
         Request::Live(settings) => lin_tool::live(rt, &settings, errors, notes),
         Request::Play { settings, script } => {
