@@ -13,3 +13,4 @@ pub mod Judging
 pub mod Runs
 pub mod HexFields
 pub mod Stays
+pub mod HexPairs

@@ -7,6 +7,7 @@
 //! ```
 #![tactic(auto)]
 
+mod digits;
 mod entries;
 mod fault;
 mod fields;
@@ -21,6 +22,7 @@ mod steps;
 mod values;
 mod writing;
 
+pub use digits::decoded;
 pub use entries::{put_entries, put_event_line, put_step_line, write_log};
 pub use fault::{ReplayFault, ScriptFault};
 pub use fields::{copied, first_field, is_number, is_over, number, number_field};
@@ -33,9 +35,7 @@ pub use reason::{LineFault, Reason};
 pub use replaying::{make_step, replay, run_script};
 pub use script::{first_line, read_bytes, read_script, without_return};
 pub use steps::steps_of;
-pub use values::{
-    bytes_fields, decoded, hex_bytes, node_field, signal_field, table_field, value_field,
-};
+pub use values::{bytes_fields, hex_bytes, node_field, signal_field, table_field, value_field};
 pub use writing::{
     put_bytes, put_event, put_hex, put_node, put_number, put_port, put_signal, put_step, put_table,
     put_value, put_word,

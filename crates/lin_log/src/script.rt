@@ -14,6 +14,7 @@ use crate::naming::Numbers;
 use crate::reason::LineFault;
 use lin_core::{PortId, Step};
 use lin_text::{ReadFault, read_whole};
+use memchr::memchr;
 use std::alloc::Global;
 use std::io::Read;
 
@@ -37,11 +38,10 @@ fn line_length(text: &[u8]) -> usize
     ensures clean { All (λ x. (x == 10) ≡ false) (take result text.now) }
     ensures ends { result < length text.now → slice_index text.now result ≡ 10 }
 {
-    let mut n = 0;
-    while n < text.len() && text[n] != b'\n' {
-        n += 1;
+    match memchr(b'\n', text) {
+        Some(end) => end,
+        None => text.len(),
     }
-    n
 }
 
 /// The first line, without its LF, and the text after that, where there is one.

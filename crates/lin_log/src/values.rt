@@ -9,11 +9,11 @@ ghost use Rattle.lin_log.specs.Said.{hex_bytes};
 ghost use Rattle.lin_log.specs.Said.{hex_number, is_hex_number, node_field, row, signal_field};
 ghost use Rattle.lin_log.specs.Said.{table_field, value_field};
 
+use crate::digits::decoded;
 use crate::fields::{copied, first_field, is_number, is_over, number_field, one};
 use crate::naming::Naming;
 use crate::reason::{LineFault, Reason};
 use arrayvec::ArrayVec;
-use hex::FromHexError;
 use lin_core::{Direction, Payload, named};
 use lin_frame::{Value, ValueBytes};
 use lin_lists::Text;
@@ -61,18 +61,6 @@ pub fn table_field<N: Naming>(alloc: Global, names: &N, field: &[u8]) -> Result<
     match names.table_called(field) {
         Some(table) => Ok(table),
         None => Err(LineFault::Bad(Reason::NoTable(Text::copied(alloc, field)?))),
-    }
-}
-
-/// The bytes of hexadecimal digits, two for each, if they are such.
-pub fn decoded(alloc: Global, digits: &[u8]) -> Result<Option<Vec<u8>>, AllocError>
-    ensures { IfOk result
-        (λ bytes. option_map (λ v. v.items) bytes ≡ result_ok (decode_of digits.now)) }
-{
-    match hex::decode(alloc, digits) {
-        Ok(bytes) => Ok(Some(bytes)),
-        Err(FromHexError::OutOfMemory) => Err(AllocError),
-        Err(_) => Ok(None),
     }
 }
 
