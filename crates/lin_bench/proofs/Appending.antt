@@ -2,7 +2,7 @@
 use Rattle.std.proofs.Common.{◌≡◌, ◌-◌, ◌≤◌, ℕ, List, [], ◌∷◌, ◌++◌, refl, ap, append_assoc, arith, drop, length, slice_index_or, sym, take, Result, Ok, Err}
 use Rattle.std.proofs.lemmas.Grind.{common_steps}
 use Rattle.lin_bench.specs.Fields.{◌>>=◌}
-use Rattle.lin_bench.specs.Lines.{Script, with_line}
+use Rattle.lin_bench.specs.Scripts.{Script, with_line}
 use Rattle.lin_bench.specs.declared.line.Line.{Line}
 use Rattle.lin_bench.specs.declared.reason.Reason.{Reason}
 

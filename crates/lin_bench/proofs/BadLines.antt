@@ -3,7 +3,9 @@ use Rattle.std.proofs.Common.{◌==◌, ◌+◌, ℕ, List, [], ◌∷◌, refl,
 use Rattle.std.specs.List.{slice_split}
 use Rattle.std.specs.Str.Lines.{strip_carriage_return}
 use Rattle.lin_cluster_parts.specs.declared.parts.Parts.{Parts}
-use Rattle.lin_bench.specs.Lines.{Script, bad_from, bad_lines, read, read_line, read_lines, with_bad, with_line, with_said, without_mark}
+use Rattle.lin_values.specs.Coded.{CodedData}
+use Rattle.lin_bench.specs.Words.{read_worded_line}
+use Rattle.lin_bench.specs.Scripts.{Script, bad_from, bad_lines, read, read_lines, with_bad, with_line, with_said, without_mark}
 use Rattle.lin_bench.specs.Read.{AreBadOf}
 use Rattle.lin_bench.specs.declared.line.Line.{Line}
 use Rattle.lin_bench.specs.declared.reason.Reason.{Reason}
@@ -18,11 +20,11 @@ first-with n (Err why) r bad h = (bad, refl)
 first-with n (Ok None) r bad h = h
 first-with n (Ok (Some l)) r bad h = with-line (n, l) r bad h
 
-first-from : (c : Parts) (n : ℕ) (ls : List (List ℕ)) → AreBadOf (read_lines c n ls) (bad_from c n ls)
-first-from c n [] = refl
-first-from c n (l ∷ ls) = first-with n (read_line c (strip_carriage_return l)) (read_lines c (n + 1) ls) (bad_from c (n + 1) ls) (first-from c (n + 1) ls)
+first-from : (c : Parts) (k : Option CodedData) (n : ℕ) (ls : List (List ℕ)) → AreBadOf (read_lines c k n ls) (bad_from c k n ls)
+first-from c k n [] = refl
+first-from c k n (l ∷ ls) = first-with n (read_worded_line c k (strip_carriage_return l)) (read_lines c k (n + 1) ls) (bad_from c k (n + 1) ls) (first-from c k (n + 1) ls)
 
 -- the first bad line is why a script isn't read
-pub first-bad : (c : Parts) (text : List ℕ) → AreBadOf (read c text) (bad_lines c text)
+pub first-bad : (c : Parts) (k : Option CodedData) (text : List ℕ) → AreBadOf (read c k text) (bad_lines c k text)
 unfolding read bad_lines
-first-bad c text = first-from c 1 (slice_split (λ b. b == 10) (without_mark text))
+first-bad c k text = first-from c k 1 (slice_split (λ b. b == 10) (without_mark text))

@@ -1,3 +1,10 @@
+pub mod WordedValues
+pub mod Unwished
+pub mod WordedLines
+pub mod Wordless
+pub mod SpelledArrays
+pub mod AllValues
+pub mod CountedValues
 pub mod Appending
 pub mod BadLines
 pub mod Makes

@@ -16,8 +16,12 @@ use Rattle.lin_log.specs.declared.reason.Reason.{Reason}
 use Rattle.lin_log.proofs.Stays.{texts-stay}
 use Rattle.lin_bench.proofs.Makes.{after-history}
 use Rattle.lin_bench.specs.Fields.{fields}
-use Rattle.lin_bench.specs.Lines.{line_form, of_fields, read, read_line, read_lines, without_mark}
-use Rattle.lin_bench.specs.Plain.{NamedTexts, PlainScripts}
+use Rattle.lin_bench.specs.Lines.{line_form, of_fields, read_line}
+use Rattle.lin_bench.specs.Scripts.{read, read_lines, without_mark}
+use Rattle.lin_values.specs.Coded.{CodedData}
+use Rattle.lin_bench.specs.Plain.{HasNoMarks, NamedTexts, PlainScripts}
+use Rattle.lin_bench.specs.Words.{read_worded_line, worded}
+use Rattle.lin_bench.proofs.Wordless.{wordless}
 use Rattle.lin_bench.specs.Made.{BenchState, course_of, made, said, stepped}
 use Rattle.lin_bench.specs.Played.{come_to, first, in_turn, judged_from, next, with_judgements}
 use Rattle.lin_bench.specs.declared.got.Verdict.TheVariants.{Nothing}
@@ -89,9 +93,37 @@ line-by c l o false true h k e =
     nothing-read c l true k (λ f. absurd (cc)) ∙ ap said_line same
 line-by c l o false false h k e = rw k (all-read c (fields l) o (rw (h, k) at e))
 
+reply-read : (c : Parts) (l : List ℕ) → (slice_index l 0 == 62) ≡ true → read_line c l ≡ Ok None
+unfolding read_line
+reply-read c l h = rw h refl
+
 pub line-read : (c : Parts) (l : List ℕ) (o : Option (PortId × Step)) → line_says (named c) l ≡ Ok o
     → read_line c l ≡ said_line o
 line-read c l o e = line-by c l o (slice_index l 0 == 35) (slice_index l 0 == 62) refl refl e
+
+-- a line of a step says the same where what signals mean is known
+none-worded : (c : Parts) (l : List ℕ) (o : Option (PortId × Step)) (a : Bool) → HasNoMarks c → (slice_index l 0 == 62) ≡ false → (slice_index l 0 == 35) ≡ a
+    → line_says (named c) l ≡ Ok o → worded (fields l) ≡ None
+unfolding line_says
+none-worded c l o true none k h e = ap worded (comment-fields l h) ∙ wordless c [] None none refl
+none-worded c l o false none k h e = wordless c (fields l) o none (rw (h, k) at e)
+
+coded-by : (c : Parts) (k : CodedData) (l : List ℕ) (o : Option (PortId × Step)) (b : Bool) → HasNoMarks c → (slice_index l 0 == 62) ≡ b
+    → line_says (named c) l ≡ Ok o → read_worded_line c (Some k) l ≡ read_line c l
+unfolding read_worded_line
+coded-by c k l o true none h e = rw h (sym (reply-read c l h))
+coded-by c k l o false none h e =
+    let n : worded (fields l) ≡ None = none-worded c l o (slice_index l 0 == 35) none h refl e in
+    rw (h, n) refl
+
+pub worded-line-read : (c : Parts) (k : CodedData) (l : List ℕ) (o : Option (PortId × Step)) → HasNoMarks c → line_says (named c) l ≡ Ok o
+    → read_worded_line c (Some k) l ≡ said_line o
+worded-line-read c k l o none e = coded-by c k l o (slice_index l 0 == 62) none refl e ∙ line-read c l o e
+
+-- ... or isn't
+pub plain-line-read : (c : Parts) (l : List ℕ) (o : Option (PortId × Step)) → line_says (named c) l ≡ Ok o → read_worded_line c None l ≡ said_line o
+unfolding read_worded_line
+plain-line-read c l o e = line-read c l o e
 
 -- ---- lines in order, each with its number
 abbrev pub lines_of : List (ℕ × (PortId × Step)) → List (ℕ × Line)
@@ -102,9 +134,18 @@ abbrev pub steps_of : List (ℕ × (PortId × Step)) → List (PortId × Step)
 steps_of [] = []
 steps_of (t ∷ ts) = t.1 ∷ steps_of ts
 
+-- what signals mean is known and no signal is called as a mark, or it isn't known
+abbrev IsQuiet : Parts → Option CodedData → Type 0
+IsQuiet c None = Unit {0}
+IsQuiet c (Some k) = HasNoMarks c
+
+quiet-read : (c : Parts) (k : Option CodedData) (l : List ℕ) (o : Option (PortId × Step)) → IsQuiet c k → line_says (named c) l ≡ Ok o → read_worded_line c k l ≡ said_line o
+quiet-read c None l o none e = plain-line-read c l o e
+quiet-read c (Some k) l o none e = worded-line-read c k l o none e
+
 record SayLines (c : Parts) (n : ℕ) (ls : List (List ℕ)) (steps : List (PortId × Step)) : Type 0 where
   numbered : List (ℕ × (PortId × Step))
-  reading : read_lines c n ls ≡ Ok (lines_of numbered)
+  reading : (k : Option CodedData) → IsQuiet c k → read_lines c k n ls ≡ Ok (lines_of numbered)
   steps_are : steps ≡ steps_of numbered
 
 more-steps : (c : Parts) (n : ℕ) (l : List ℕ) (ls : List (List ℕ)) (o : Option (PortId × Step)) (r : log.Steps) (steps : List (PortId × Step))
@@ -112,14 +153,18 @@ more-steps : (c : Parts) (n : ℕ) (l : List ℕ) (ls : List (List ℕ)) (o : Op
     → log.with_said n (Ok o) r ≡ Ok steps → SayLines c n (l ∷ ls) steps
 more-steps c n l ls None r steps more h e =
     let q = more steps e in
-    record { numbered = q.numbered; reading = rw (line-read c (strip_carriage_return l) None h, q.reading) refl; steps_are = q.steps_are }
+    record {
+      numbered = q.numbered;
+      reading = λ k quiet. rw (quiet-read c k (strip_carriage_return l) None quiet h, q.reading k quiet) refl;
+      steps_are = q.steps_are;
+    }
 more-steps c n l ls (Some s) (Err bad) steps more h e = absurd (cc)
 more-steps c n l ls (Some s) (Ok ys) steps more h e =
     let q = more ys refl in
     let same : steps ≡ s ∷ ys = cc in
     record {
       numbered = (n, s) ∷ q.numbered;
-      reading = rw (line-read c (strip_carriage_return l) (Some s) h, q.reading) refl;
+      reading = λ k quiet. rw (quiet-read c k (strip_carriage_return l) (Some s) quiet h, q.reading k quiet) refl;
       steps_are = same ∙ ap (λ ss. s ∷ ss) q.steps_are;
     }
 
@@ -130,7 +175,7 @@ lines-by c n l ls steps (Err why) more h e = let no : Err _ ≡ Ok steps = rw h 
 lines-by c n l ls steps (Ok o) more h e = more-steps c n l ls o (steps_from (named c) (n + 1) ls) steps more h (rw h at e)
 
 lines-say : (c : Parts) (n : ℕ) (ls : List (List ℕ)) (steps : List (PortId × Step)) → steps_from (named c) n ls ≡ Ok steps → SayLines c n ls steps
-lines-say c n [] steps e = record { numbered = []; reading = refl; steps_are = cc }
+lines-say c n [] steps e = record { numbered = []; reading = λ k quiet. refl; steps_are = cc }
 lines-say c n (l ∷ ls) steps e =
     lines-by c n l ls steps (line_says (named c) (strip_carriage_return l)) (λ ys k. lines-say c (n + 1) ls ys k) refl e
 
@@ -240,7 +285,8 @@ named-texts c opening capacity text steps e =
     let q = lines-say c 1 (slice_split (λ b. b == 10) text) steps e in
     record {
       lines = lines_of q.numbered;
-      reading = rw (no-mark c text steps e) q.reading;
+      reading = rw (no-mark c text steps e) (q.reading None tt);
+      coded = λ none k. rw (no-mark c text steps e) (q.reading (Some k) none);
       steps_alone =
           ap (λ js. with_judgements js (come_to c opening capacity (lines_of q.numbered))) (unjudged c opening capacity first q.numbered)
           ∙ ap (with_judgements []) (turns c opening capacity first q.numbered refl)

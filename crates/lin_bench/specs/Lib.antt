@@ -4,6 +4,11 @@ pub mod Expectations
 pub mod Rules
 pub mod RuleLines
 pub mod Lines
+pub mod Meant
+pub mod Words
+pub mod Parts
+pub mod Meanings
+pub mod Scripts
 pub mod Read
 pub mod Added
 pub mod Slots

@@ -1,23 +1,30 @@
 -- Texts that say steps alone: those in the language of the cluster's names, as logs with names are,
 -- and the scripts that `replay` reads.
-use Rattle.std.specs.Prelude.{◌≡◌, ℕ, false, List, [], reverse, Ok}
+use Rattle.std.specs.Prelude.{◌≡◌, ℕ, false, List, [], codes, reverse, Ok, Some, None}
 use Rattle.lin_cluster_parts.specs.declared.parts.Parts.{Parts}
 use Rattle.lin_core.specs.Runs.{history}
 use Rattle.lin_core.specs.declared.port.PortId.{PortId}
 use Rattle.lin_core.specs.declared.step.Step.{Step}
-use Rattle.lin_log.specs.Language.{named}
+use Rattle.lin_log.specs.Language.{named, number_named}
 use Rattle.lin_log.specs.Said.{text_says}
 use Rattle.lin_log.specs.Script.{script}
-use Rattle.lin_bench.specs.Lines.{read}
+use Rattle.lin_values.specs.Coded.{CodedData}
+use Rattle.lin_bench.specs.Scripts.{read}
 use Rattle.lin_bench.specs.Played.{first, played}
 use Rattle.lin_bench.specs.declared.line.Line.{Line}
 
--- a bench script that reads well, whose lines come to these steps and to nothing else: they make
--- no slot of their own and expect nothing
+-- no signal is called `=` or `~`, as no identifier is (LIN 2.2A, section 9.2)
+pub record HasNoMarks (c : Parts) : Type 0 where
+  pub equals : number_named (named c).signals (codes "=") ≡ None
+  pub tilde : number_named (named c).signals (codes "~") ≡ None
+
+-- a bench script that reads well, also where what signals mean is known, whose lines come to these
+-- steps and to nothing else: they make no slot of their own and expect nothing
 pub record SaysSteps (c : Parts) (opening : ℕ) (capacity : ℕ) (text : List ℕ)
     (steps : List (PortId × Step)) : Type 0 where
   pub lines : List (ℕ × Line)
-  pub reading : read c text ≡ Ok lines
+  pub reading : read c None text ≡ Ok lines
+  pub coded : HasNoMarks c → (k : CodedData) → read c (Some k) text ≡ Ok lines
   pub steps_alone :
       played false c opening capacity lines
       ≡ Ok (record {

@@ -10,7 +10,8 @@ use Rattle.lin_bench.specs.declared.line.Line.{Line}
 use Rattle.lin_bench.specs.declared.reason.Reason.{Reason}
 use Rattle.lin_bench.specs.declared.reason.Reason.TheVariants.{Step}
 use Rattle.lin_bench.specs.declared.script.LinesLeft.{LinesLeft}
-use Rattle.lin_bench.specs.Lines.{Script, read_lines, with_line}
+use Rattle.lin_values.specs.Coded.{CodedData}
+use Rattle.lin_bench.specs.Scripts.{Script, read_lines, with_line}
 use Rattle.lin_log.specs.Judged.{lines_left}
 use Rattle.lin_cluster_parts.specs.declared.parts.Parts.{Parts}
 
@@ -37,8 +38,8 @@ Reads view (Ok x) said = said ≡ Ok (view x)
 Reads view (Err e) said = ReadFails e said
 
 -- what the lines that are left say
-abbrev pub said : Parts → LinesLeft → Script
-said c lines = read_lines c lines.number (lines_left lines.left)
+abbrev pub said : Parts → Option CodedData → LinesLeft → Script
+said c k lines = read_lines c k lines.number (lines_left lines.left)
 
 -- what asking for the next line answers: of what the lines said, and of what those after it say
 abbrev pub NextLine : Result (Option (ℕ × Line)) ReadFault → Script → Script → Type 0

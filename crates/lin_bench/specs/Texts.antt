@@ -52,6 +52,11 @@ step_reason_text step.SendForm = codes "send takes two nodes and bytes"
 step_reason_text step.WriteForm = codes "write takes a signal and a value"
 step_reason_text step.TimeoutForm = codes "timeout takes down or up"
 
+-- decimals that are next to one that is no value
+abbrev pub near_text : List (List ℕ) → List ℕ
+near_text [] = []
+near_text (t ∷ ts) = codes " (nearest: " ++ t ++ (flat_map (λ u. codes ", " ++ u) ts ++ codes ")")
+
 -- why a line is bad
 abbrev pub reason_text : Reason → List ℕ
 reason_text (reason.Step why) = step_reason_text why
@@ -74,6 +79,12 @@ reason_text reason.EveryForm = codes "every takes a time and a step, or off"
 reason_text reason.EveryStep = codes "every takes a send or a write"
 reason_text reason.ErrorsForm = codes "response_errors takes on or off"
 reason_text reason.NoErrorSignal = codes "no response_error signal"
+reason_text (reason.NoDecimal field) = field ++ codes " is no number"
+reason_text reason.NoWords = codes "no value"
+reason_text (reason.NoValue text signal near) =
+    text ++ (codes " is no value of " ++ signal ++ near_text near)
+reason_text (reason.SeveralValues count text signal) =
+    decimal count ++ (codes " values of " ++ signal ++ (codes " are " ++ text))
 
 -- the line of a bad line
 abbrev pub bad_line_text : ℕ → Reason → List ℕ
@@ -110,6 +121,9 @@ expected_text c (expected.SignalWithin node signal low high) =
     ++ (node_word c node
     ++ (spaced_word (signal_word c signal)
     ++ spaced_word (decimal low ++ (codes ".." ++ decimal high))))
+expected_text c (expected.SignalMeans node signal text values) =
+    codes "signal "
+    ++ (node_word c node ++ (spaced_word (signal_word c signal) ++ (codes " = " ++ text)))
 expected_text c (expected.Waiting host count) =
     codes "waiting " ++ (node_word c host ++ spaced_word (decimal count))
 expected_text c (expected.Message from to bytes) =
@@ -155,6 +169,7 @@ pending_text c (p ∷ ps) = pending_word c p ++ flat_map (other_pending_text c) 
 -- what is so in its place
 abbrev pub got_text : Parts → Got → List ℕ
 got_text c (got.Value value) = value_word value
+got_text c (got.Meaning text) = text
 got_text c (got.Waiting count) = decimal count
 got_text c (got.Message bytes) = hex_word bytes
 got_text c (got.Took time) = decimal time ++ codes " us"

@@ -27,6 +27,7 @@ use Rattle.lin_core.specs.declared.log.LogEntry.{LogEntry}
 use Rattle.lin_core.specs.declared.reply.Refusal.{Refusal}
 use Rattle.lin_core.specs.declared.reply.Reply.{Reply}
 use Rattle.lin_core.specs.declared.reply.Reply.TheVariants.{Done, Refused}
+use Rattle.lin_bench.specs.Meant.{is_among}
 use Rattle.lin_bench.specs.Slots.{pending}
 use Rattle.lin_bench.specs.declared.expected.Carried.{Carried}
 use Rattle.lin_bench.specs.declared.expected.Carried.TheVariants.{Signals, Request, Response}
@@ -281,6 +282,8 @@ unfoldable pub verdict : Parts → List LogEntry → List Noted → List EventKi
     → Option Got
 verdict c past noted taken (expected.Signal node signal value) =
     value_verdict (λ v. same_value v value) (value_seen c past node signal)
+verdict c past noted taken (expected.SignalMeans node signal text values) =
+    value_verdict (is_among values) (value_seen c past node signal)
 verdict c past noted taken (expected.SignalWithin node signal low high) =
     value_verdict (is_within low high) (value_seen c past node signal)
 verdict c past noted taken (expected.Waiting host count) = waiting_verdict c past host count

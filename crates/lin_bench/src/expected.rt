@@ -1,7 +1,9 @@
 //! What is expected.
 
+use crate::meant::MeantValues;
 use lin_core::{Cause, Look, Payload, Refusal};
 use lin_frame::Value;
+use lin_lists::Text;
 
 /// A frame that slots carry.
 #[derive(Clone, Copy, Debug)]
@@ -29,6 +31,13 @@ pub enum Expected {
         signal: u16,
         low: u16,
         high: u16,
+    },
+    /// A node sees a value of a signal that words say, by their text and all these values.
+    SignalMeans {
+        node: u8,
+        signal: u16,
+        text: Text,
+        values: MeantValues,
     },
     /// So many messages of a host wait.
     Waiting {

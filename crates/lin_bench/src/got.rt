@@ -6,7 +6,7 @@ ghost use Rattle.lin_bench.specs.Played.{is_unmet, some_unmet};
 use crate::expected::{Carried, Expected};
 use lin_core::{Cause, Look, Payload, Refusal};
 use lin_frame::Value;
-use lin_lists::Many;
+use lin_lists::{Many, Text};
 
 /// What keeps a cluster from being idle.
 #[derive(Clone, Copy, Debug)]
@@ -22,6 +22,8 @@ pub enum Pending {
 pub enum Got {
     /// The node sees this value of the signal.
     Value(Value),
+    /// The node sees a value of the signal that has this text.
+    Meaning(Text),
     /// So many messages of the host wait.
     Waiting(usize),
     /// The next message has these bytes.

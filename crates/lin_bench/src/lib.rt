@@ -3,7 +3,7 @@
 //!
 //! ```
 //! // a message, the slots that it takes, and what is expected
-//! let lines = read(alloc, &cluster, b"send cem door 3E\nslots idle\nexpect sent cem\n")?;
+//! let lines = read(alloc, &cluster, None, b"send cem door 3E\nslots idle\nexpect sent cem\n")?;
 //! let Played { core, judgements } = play(alloc, cluster, table, capacity, lines, false)?;
 //! write_unmet(core.cluster(), judgements.as_slice(), &mut errors)?;
 //!
@@ -33,18 +33,22 @@ mod law;
 mod line;
 mod lines;
 mod losses;
+mod meanings;
+mod meant;
 mod playing;
 mod reason;
 mod replies;
 mod rule_lines;
 mod ruled;
 mod rules;
+mod said_values;
 mod script;
 mod slots;
 mod strict;
 mod taken;
 mod texts;
 mod verdicts;
+mod words;
 
 pub use bench::Bench;
 pub use expected::{Carried, Expected};
@@ -54,6 +58,8 @@ pub use law::{plain_scripts_say_the_same, rules_alone_add_steps};
 pub use lin_core::Look;
 pub use line::{Disturbance, Extent, Line};
 pub use lines::read_line;
+pub use meanings::{told_meaning, told_meanings};
+pub use meant::MeantValues;
 pub use playing::{Played, play};
 pub use reason::Reason;
 pub use replies::first_refusal;
@@ -63,3 +69,4 @@ pub use texts::{
     put_fields, put_found, put_judged, put_pending, put_reason, put_unmet, put_verdict, put_what,
     write_bad_line, write_unmet,
 };
+pub use words::read_worded_line;

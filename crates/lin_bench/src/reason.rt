@@ -45,4 +45,20 @@ pub enum Reason {
     ErrorsForm,
     /// No responder has a signal by which it tells errors in responses.
     NoErrorSignal,
+    /// A field is no decimal below 1,000,000,000 with at most 24 places.
+    NoDecimal(Text),
+    /// No value behind `=` or `~`.
+    NoWords,
+    /// No value of a signal means this text; decimals that are next to it, where there are such.
+    NoValue {
+        text: Text,
+        signal: Text,
+        near: Many<Text>,
+    },
+    /// Several values of a signal mean this text.
+    SeveralValues {
+        count: u64,
+        text: Text,
+        signal: Text,
+    },
 }

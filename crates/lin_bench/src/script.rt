@@ -1,18 +1,21 @@
 //! Bench scripts.
 
-ghost use Rattle.std.specs.Prelude.{◌≡◌, ◌≤◌, ◌+◌, length, IfOk, IfSome};
+ghost use Rattle.std.specs.Prelude.{◌≡◌, ◌≤◌, ◌+◌, length, option_map, IfOk, IfSome, Option};
+ghost use Rattle.lin_values.specs.Coded.{CodedData};
+ghost use Rattle.lin_bench.specs.Words.{read_worded_line};
 ghost use Rattle.std.specs.Str.Lines.{strip_carriage_return};
 ghost use Rattle.lin_log.specs.Judged.{left_of};
 ghost use Rattle.lin_cluster_parts.specs.declared.parts.Parts.{Parts};
-ghost use Rattle.lin_bench.specs.Lines.{bad_lines, read, read_line, without_mark};
+ghost use Rattle.lin_bench.specs.Scripts.{bad_lines, read, without_mark};
 ghost use Rattle.lin_bench.specs.Read.{AreBadOf, IsWhy, NextLine, Reads, said};
 
 use crate::fault::{LineFault, ReadFault};
 use crate::line::Line;
-use crate::lines::read_line;
 use crate::reason::Reason;
+use crate::words::read_worded_line;
 use lin_cluster_parts::Cluster;
 use lin_log::{first_line, without_return};
+use lin_values::Coded;
 use std::alloc::{AllocError, Global};
 
 /// A text without the mark EF BB BF at its start.
@@ -34,9 +37,9 @@ struct LinesLeft<'a> {
 }
 
 impl<'a> LinesLeft<'a> {
-    #[tactic(auto, unfolding(crate::specs::Lines::read))]
+    #[tactic(auto, unfolding(crate::specs::Scripts::read))]
     fn new(text: &'a [u8]) -> LinesLeft<'a>
-        ensures said { (c : Parts) → said c result ≡ read c text.now }
+        ensures said { (c : Parts) (k : Option CodedData) → said c k result ≡ read c k text.now }
         ensures first { result.number ≡ 1 }
         ensures left { left_of result.left ≤ length text.now + 1 }
     {
@@ -51,9 +54,11 @@ impl<'a> LinesLeft<'a> {
         &mut self,
         alloc: Global,
         cluster: &Cluster,
+        coded: Option<&Coded>,
     ) -> Result<Option<(u64, Line)>, ReadFault>
         requires { self.old.number + left_of self.old.left ≤ 16777218 }
-        ensures line { NextLine result (said cluster.now self.old) (said cluster.now self.new) }
+        ensures line { NextLine result (said cluster.now (option_map (λ k. k.now) coded.entry) self.old)
+            (said cluster.now (option_map (λ k. k.now) coded.entry) self.new) }
         ensures bound { self.new.number + left_of self.new.left
             ≤ self.old.number + left_of self.old.left }
         ensures passed { IfOk result
@@ -64,7 +69,7 @@ impl<'a> LinesLeft<'a> {
             let number = self.number;
             self.left = rest;
             self.number = number + 1;
-            match read_line(alloc, cluster, without_return(line)) {
+            match read_worded_line(alloc, cluster, coded, without_return(line)) {
                 Err(LineFault::Bad(reason)) => {
                     return Err(ReadFault::BadLine {
                         line: number,
@@ -82,19 +87,25 @@ impl<'a> LinesLeft<'a> {
 
 /// What the lines of a bench script say that say something, each with its number, counted from 1
 /// over all lines.
-/// Nodes, signals and schedule tables are those of the cluster. The text has at most 16,777,216
-/// bytes.
+/// Nodes, signals and schedule tables are those of the cluster; values stand in words where what
+/// signals mean is known. The text has at most 16,777,216 bytes.
 ///
 /// # Errors
 /// `BadLine` with the number of the first line that is bad, and why; `OutOfMemory`.
-pub fn read(alloc: Global, cluster: &Cluster, text: &[u8]) -> Result<Vec<(u64, Line)>, ReadFault>
+pub fn read(
+    alloc: Global,
+    cluster: &Cluster,
+    coded: Option<&Coded>,
+    text: &[u8],
+) -> Result<Vec<(u64, Line)>, ReadFault>
     requires { length text.now ≤ 16777216 }
-    ensures said { Reads (λ v. v.items) result (read cluster.now text.now) }
+    ensures said { Reads (λ v. v.items) result
+        (read cluster.now (option_map (λ k. k.now) coded.entry) text.now) }
     ensures few { IfOk result (λ v. length v.items ≤ length text.now + 1) }
 {
     let mut left = LinesLeft::new(text);
     let mut lines = Vec::new(alloc);
-    while let Some(line) = left.next_line(alloc, cluster)? {
+    while let Some(line) = left.next_line(alloc, cluster, coded)? {
         if lines.push(line).is_err() {
             return Err(ReadFault::OutOfMemory);
         }
@@ -103,10 +114,16 @@ pub fn read(alloc: Global, cluster: &Cluster, text: &[u8]) -> Result<Vec<(u64, L
 }
 
 /// Why a line is bad; none where it isn't. An error means out of memory.
-fn why_bad(alloc: Global, cluster: &Cluster, line: &[u8]) -> Result<Option<Reason>, AllocError>
-    ensures { IfOk result (IsWhy (read_line cluster.now (strip_carriage_return line.now))) }
+fn why_bad(
+    alloc: Global,
+    cluster: &Cluster,
+    coded: Option<&Coded>,
+    line: &[u8],
+) -> Result<Option<Reason>, AllocError>
+    ensures { IfOk result (IsWhy (read_worded_line cluster.now
+        (option_map (λ k. k.now) coded.entry) (strip_carriage_return line.now))) }
 {
-    match read_line(alloc, cluster, without_return(line)) {
+    match read_worded_line(alloc, cluster, coded, without_return(line)) {
         Ok(_) => Ok(None),
         Err(LineFault::Bad(reason)) => Ok(Some(reason)),
         Err(LineFault::OutOfMemory) => Err(AllocError),
@@ -116,22 +133,25 @@ fn why_bad(alloc: Global, cluster: &Cluster, line: &[u8]) -> Result<Option<Reaso
 /// The lines of a bench script that are bad, each with its number, counted from 1 over all lines,
 /// and why it is. Nodes, signals and schedule tables are those of the cluster. The text has at most
 /// 16,777,216 bytes. An error means out of memory.
-#[tactic(auto, unfolding(crate::specs::Lines::bad_lines))]
+#[tactic(auto, unfolding(crate::specs::Scripts::bad_lines))]
 pub fn bad_lines(
     alloc: Global,
     cluster: &Cluster,
+    coded: Option<&Coded>,
     text: &[u8],
 ) -> Result<Vec<(u64, Reason)>, AllocError>
     requires { length text.now ≤ 16777216 }
-    ensures lines { IfOk result (λ v. v.items ≡ bad_lines cluster.now text.now) }
-    ensures first { IfOk result (λ v. AreBadOf (read cluster.now text.now) v.items) }
+    ensures lines { IfOk result (λ v. v.items
+        ≡ bad_lines cluster.now (option_map (λ k. k.now) coded.entry) text.now) }
+    ensures first { IfOk result (λ v. AreBadOf
+        (read cluster.now (option_map (λ k. k.now) coded.entry) text.now) v.items) }
 {
     let mut left = Some(without_mark(text));
     let mut number: u64 = 1;
     let mut bad = Vec::new(alloc);
     while let Some(text) = left {
         let (line, rest) = first_line(text);
-        if let Some(reason) = why_bad(alloc, cluster, line)? {
+        if let Some(reason) = why_bad(alloc, cluster, coded, line)? {
             bad.push((number, reason))?;
         }
         left = rest;

@@ -8,6 +8,7 @@ ghost use Rattle.lin_text.specs.Written.{Grows, WritesText};
 ghost use Rattle.lin_bench.specs.Texts.{bad_line_text, expected_text, fields_text, fields_word};
 ghost use Rattle.lin_bench.specs.Texts.{found_text, frame_word, got_text, judged_text, node_word};
 ghost use Rattle.lin_bench.specs.Texts.{other_pending_text, pending_text, said_word};
+ghost use Rattle.lin_bench.specs.Texts.{near_text};
 ghost use Rattle.lin_bench.specs.Texts.{pending_word, reason_text, step_reason_text, unmet_text, verdict_text, what_text};
 
 use crate::expected::{Carried, Expected};
@@ -112,6 +113,25 @@ fn put_step_reason<W: Write>(out: &mut TextWriter<'_, W>, reason: &StepReason)
     }
 }
 
+fn put_all_near<W: Write>(out: &mut TextWriter<'_, W>, texts: &[Text])
+    ensures { Grows W.contents out.old out.new (flat_map (λ u. codes ", " ++ u) texts.now) }
+{
+    for text in texts {
+        put_after(out, ", ", text.as_slice());
+    }
+}
+
+/// Decimals that are next to one that is no value.
+fn put_near<W: Write>(out: &mut TextWriter<'_, W>, texts: &[Text])
+    ensures { Grows W.contents out.old out.new (near_text texts.now) }
+{
+    if let [first, rest @ ..] = texts {
+        put_after(out, " (nearest: ", first.as_slice());
+        put_all_near(out, rest);
+        out.put_text(")");
+    }
+}
+
 /// Why a line is bad.
 pub fn put_reason<W: Write>(out: &mut TextWriter<'_, W>, reason: &Reason)
     ensures { Grows W.contents out.old out.new (reason_text reason.now) }
@@ -154,6 +174,25 @@ pub fn put_reason<W: Write>(out: &mut TextWriter<'_, W>, reason: &Reason)
         Reason::EveryStep => out.put_text("every takes a send or a write"),
         Reason::ErrorsForm => out.put_text("response_errors takes on or off"),
         Reason::NoErrorSignal => out.put_text("no response_error signal"),
+        Reason::NoDecimal(field) => {
+            out.put(field.as_slice());
+            out.put_text(" is no number");
+        }
+        Reason::NoWords => out.put_text("no value"),
+        Reason::NoValue { text, signal, near } => {
+            out.put(text.as_slice());
+            put_after(out, " is no value of ", signal.as_slice());
+            put_near(out, near.as_slice());
+        }
+        Reason::SeveralValues {
+            count,
+            text,
+            signal,
+        } => {
+            out.put_number(*count);
+            put_after(out, " values of ", signal.as_slice());
+            put_after(out, " are ", text.as_slice());
+        }
     }
 }
 
@@ -241,6 +280,17 @@ fn put_expected<W: Write>(out: &mut TextWriter<'_, W>, cluster: &Cluster, expect
             put_number(out, *low);
             out.put_text("..");
             out.put_number(*high);
+        }
+        Expected::SignalMeans {
+            node,
+            signal,
+            text,
+            values: _,
+        } => {
+            out.put_text(" signal");
+            put_node(out, cluster, *node);
+            put_signal(out, cluster, *signal);
+            put_after(out, " = ", text.as_slice());
         }
         Expected::Waiting { host, count } => {
             out.put_text(" waiting");
@@ -368,6 +418,7 @@ fn put_got<W: Write>(out: &mut TextWriter<'_, W>, cluster: &Cluster, got: &Got)
 {
     match got {
         Got::Value(value) => put_value(out, value),
+        Got::Meaning(text) => put_after(out, " ", text.as_slice()),
         Got::Waiting(count) => put_number(out, *count),
         Got::Message(bytes) => put_bytes(out, bytes.as_slice()),
         Got::Took(time) => {

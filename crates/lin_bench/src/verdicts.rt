@@ -5,6 +5,7 @@ ghost use Rattle.lin_core.specs.Core.{past_of};
 ghost use Rattle.lin_bench.specs.Made.{comes};
 ghost use Rattle.lin_bench.specs.Searches.{IsKnown, last_end, last_search, taken_by};
 ghost use Rattle.lin_bench.specs.Making.{course_on};
+ghost use Rattle.lin_bench.specs.Meant.{is_among};
 ghost use Rattle.lin_bench.specs.Slots.{pending};
 ghost use Rattle.lin_bench.specs.Verdicts.{same_kind, done_verdict, idle_verdict, kind_taken, last_event};
 ghost use Rattle.lin_bench.specs.Verdicts.{lost_verdict, message_verdict, newest_reply};
@@ -18,6 +19,7 @@ use crate::carried::last_carried;
 use crate::expected::{Carried, Expected};
 use crate::got::Got;
 use crate::losses::first_loss;
+use crate::meant::MeantValues;
 use crate::ruled::{RuledCore, pending};
 use crate::taken::{EventKind, Place, Search, Taken, event_from, last_event};
 use lin_core::{Cause, Core, Event, Look, Payload, Refusal, Reply, Seen};
@@ -76,6 +78,20 @@ fn signal_within(seen: Option<Value>, low: u16, high: u16) -> Option<Got>
     match seen {
         None => Some(Got::NoNodeOrSignal),
         Some(seen) => if is_within(&seen, low, high) {
+            None
+        } else {
+            Some(Got::Value(seen))
+        },
+    }
+}
+
+/// Whether a value is one that words say.
+fn signal_means(seen: Option<Value>, values: &MeantValues) -> Option<Got>
+    ensures { result ≡ value_verdict (is_among values.now) seen }
+{
+    match seen {
+        None => Some(Got::NoNodeOrSignal),
+        Some(seen) => if values.has(&seen) {
             None
         } else {
             Some(Got::Value(seen))
@@ -502,6 +518,12 @@ pub(crate) fn verdict(
             low,
             high,
         } => Ok(signal_within(value_seen(core, *node, *signal), *low, *high)),
+        Expected::SignalMeans {
+            node,
+            signal,
+            text: _,
+            values,
+        } => Ok(signal_means(value_seen(core, *node, *signal), values)),
         Expected::Waiting { host, count } => Ok(waiting(core, *host, *count)),
         Expected::Message { from, to, bytes } => {
             let kind = EventKind::Messages {

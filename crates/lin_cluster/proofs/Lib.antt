@@ -9,6 +9,7 @@ pub mod DescribedRows
 pub mod DescribedSignals
 pub mod DescribedTables
 pub mod Enumerated
+pub mod FindingsBits
 pub mod FindingsLists
 pub mod FindingsMaps
 pub mod FindingsModels

@@ -28,6 +28,7 @@ use Rattle.lin_cluster.specs.declared.finding.FindingKind.TheVariants.{NoSubscri
 use Rattle.lin_cluster.specs.declared.finding.FindingKind.TheVariants.{OffTimeBase, NoAddress}
 use Rattle.lin_cluster.specs.declared.finding.FindingKind.TheVariants.{BadResponseError}
 use Rattle.lin_cluster.specs.declared.finding.FindingKind.TheVariants.{BadConfigurable}
+use Rattle.lin_cluster.specs.declared.finding.FindingKind.TheVariants.{UnusedEncoding}
 
 abbrev pub number_of : FindingKind → ℕ
 number_of UnknownName = 1
@@ -76,6 +77,7 @@ number_of OffTimeBase = 56
 number_of NoAddress = 57
 number_of BadResponseError = 58
 number_of BadConfigurable = 59
+number_of UnusedEncoding = 60
 
 -- the names of findings, by their numbers, which begin at 1
 abbrev pub finding_names : List (List ℕ)
@@ -91,7 +93,7 @@ finding_names =
     ∷ codes "ValueOutside" ∷ codes "ZeroScale" ∷ codes "KindOfSignal" ∷ [] ∷ [] ∷ [] ∷ [] ∷ [] ∷ []
     ∷ [] ∷ [] ∷ [] ∷ codes "UnplacedSignal" ∷ codes "UnusedFrame" ∷ codes "UnscheduledFrame"
     ∷ codes "NoSubscriber" ∷ codes "OwnSubscriber" ∷ codes "OffTimeBase" ∷ codes "NoAddress"
-    ∷ codes "BadResponseError" ∷ codes "BadConfigurable" ∷ []
+    ∷ codes "BadResponseError" ∷ codes "BadConfigurable" ∷ codes "UnusedEncoding" ∷ []
 
 abbrev pub finding_name : ℕ → List ℕ
 finding_name number = slice_index_or finding_names number []
@@ -144,6 +146,7 @@ needed_by OffTimeBase = 0
 needed_by NoAddress = 0
 needed_by BadResponseError = 0
 needed_by BadConfigurable = 0
+needed_by UnusedEncoding = 0
 
 -- a finding by its kind, line and column
 abbrev pub finding_at : FindingKind → ℕ → ℕ → Finding

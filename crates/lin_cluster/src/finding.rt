@@ -6,7 +6,7 @@ ghost use Rattle.lin_cluster.specs.Kinds.{finding_at, finding_name, number_of};
 use lin_description::Place;
 use lin_lists::Many;
 
-/// The kinds of findings, in the order of their numbers, 1 to 26, 31 to 41 and 51 to 59. Those from 19
+/// The kinds of findings, in the order of their numbers, 1 to 26, 31 to 41 and 51 to 60. Those from 19
 /// on are told of texts of the field alone, those from 31 on of encodings of signals, and those from 51
 /// on of descriptions in which nothing is wrong.
 #[derive(Clone, Copy, Debug, PartialEq, Eq)]
@@ -58,10 +58,11 @@ pub enum FindingKind {
     NoAddress,
     BadResponseError,
     BadConfigurable,
+    UnusedEncoding,
 }
 
 impl FindingKind {
-    /// The number, 1 to 26, 31 to 41 or 51 to 59.
+    /// The number, 1 to 26, 31 to 41 or 51 to 60.
     pub fn number(self) -> u8
         ensures { result ≡ number_of self }
     {
@@ -112,11 +113,12 @@ impl FindingKind {
             FindingKind::NoAddress => 57,
             FindingKind::BadResponseError => 58,
             FindingKind::BadConfigurable => 59,
+            FindingKind::UnusedEncoding => 60,
         }
     }
 }
 
-/// What is wrong, and where: the finding's number (1 to 26, 31 to 41 or 51 to 59), line and column, and
+/// What is wrong, and where: the finding's number (1 to 26, 31 to 41 or 51 to 60), line and column, and
 /// for a slot that is too short (9) the time in microseconds that it needs; otherwise 0. Findings are
 /// ordered by place, then by number.
 #[derive(Clone, Copy, Debug, PartialEq, Eq, PartialOrd, Ord)]
@@ -143,7 +145,7 @@ impl Finding {
         }
     }
 
-    /// The name; only numbers from 1 to 26, from 31 to 41 and from 51 to 59 have one.
+    /// The name; only numbers from 1 to 26, from 31 to 41 and from 51 to 60 have one.
     pub fn name(&self) -> &'static str
         ensures { result.now ≡ finding_name self.now.number }
     {
@@ -194,6 +196,7 @@ impl Finding {
             57 => "NoAddress",
             58 => "BadResponseError",
             59 => "BadConfigurable",
+            60 => "UnusedEncoding",
             _ => "",
         }
     }

@@ -1,8 +1,7 @@
 -- Changes after their times, one group more at a time.
-use Rattle.std.proofs.Common.{◌≡◌, ℕ, suc, ◌+◌, ◌/◌, ◌%◌, ◌^◌, List, [], ◌∷◌, ◌++◌, Option, refl, sym, ap, ◌∙◌, append_assoc, append-nil, flat_map, length, add-one, subst}
+use Rattle.std.proofs.Common.{◌≡◌, ℕ, suc, ◌+◌, ◌/◌, ◌%◌, ◌^◌, List, [], ◌∷◌, ◌++◌, Option, refl, sym, ap, ◌∙◌, append_assoc, append-nil, flat_map, length, subst}
 use Rattle.std.specs.Prelude.{Some, nat_lt, true}
 use Rattle.std.specs.Option.{option_map_or}
-use Rattle.lin_frame.specs.Words.{numbers}
 use Rattle.lin_cluster_parts.specs.Cluster.{line_of}
 use Rattle.lin_cluster_parts.specs.declared.parts.Parts.{Parts}
 use Rattle.lin_core.specs.History.{Slot, done_step, good, open_slot, reply_events, time}
@@ -19,17 +18,13 @@ use Rattle.lin_text.specs.declared.buffered.TextWriter.{TextWriter}
 use Rattle.lin_text.proofs.Growing.{grows-more, grows-nothing, same-growth}
 use Rattle.lin_export.specs.PutsGroups.{PutsGroups}
 use Rattle.lin_export.specs.Track.{shown_slot, slots_in}
-use Rattle.lin_export.specs.Vcd.{Group, binary, counted_all, event_group, frame_changes, groups, heard_group, later, latest, number_change, slot_changes, slot_groups, stamp, step_groups, timed_groups, waits, written_change}
-use Rattle.lin_export.proofs.Rows.{carried-shown, flat-append}
+use Rattle.lin_export.specs.Vcd.{Group, binary, counted_all, event_group, groups, heard_changes, heard_group, later, latest, number_change, slot_changes, slot_groups, stamp, step_groups, timed_groups, waits, written_change}
+use Rattle.lin_values.specs.Coded.{CodedData}
+use Rattle.lin_export.proofs.Rows.{carried-shown}
 
 -- one digit more
 pub binary-next : (bits : List ℕ) (n left k : ℕ) → left ≡ suc k → (bits ++ (48 + n / 2 ^ k % 2) ∷ []) ++ binary k n ≡ bits ++ binary left n
 binary-next bits n left k e = append_assoc bits ((48 + n / 2 ^ k % 2) ∷ []) (binary k n) ∙ ap (λ m. bits ++ binary m n) (sym e)
-
--- the texts of one number more
-pub numbers-more : (f : ℕ → List ℕ) (n : ℕ) → flat_map f (numbers (n + 1)) ≡ flat_map f (numbers n) ++ f n
-numbers-more f n =
-    ap (λ k. flat_map f (numbers k)) (add-one n) ∙ flat-append f (numbers n) (n ∷ []) ∙ ap (λ l. flat_map f (numbers n) ++ l) (append-nil (f n))
 
 pub timed-append : (last : ℕ) (gs hs : List Group) → timed_groups last (gs ++ hs) ≡ timed_groups last gs ++ timed_groups (latest last gs) hs
 timed-append last [] hs = refl
@@ -64,42 +59,42 @@ pub same-groups : {W : Type 0} {contents : W → Option (List ℕ)} {x y : TextW
 same-groups {contents = contents} {x = x} {y = y} {a = a} {b = b} e h = subst (λ (l : List Group). PutsGroups contents x y a b l) e h
 
 -- what is heard of a slot that was seen good and carries a frame
-pub heard-one : (c : Parts) (end : ℕ) (s : Slot) (bytes : List ℕ) (f : ℕ) → good s ≡ Some bytes → carried_frame c s ≡ Some f
-    → heard_group c end s ≡ record { at = end; changes = frame_changes c f bytes } ∷ []
-heard-one c end s bytes f g e = rw (g, e) refl
+pub heard-one : (c : Parts) (k : Option CodedData) (end : ℕ) (s : Slot) (bytes : List ℕ) (f : ℕ) → good s ≡ Some bytes → carried_frame c s ≡ Some f
+    → heard_group c k end s ≡ record { at = end; changes = heard_changes c k bytes f } ∷ []
+heard-one c k end s bytes f g e = rw (g, e) refl
 
 -- the slot that is kept changes what the open one does
-pub heard-shown : (c : Parts) (end : ℕ) (s : Slot) → heard_group c end (shown_slot s) ≡ heard_group c end s
-heard-shown c end s =
-    ap (λ (o : Option ℕ). option_map_or (λ bytes. option_map_or (λ f. record { at = end; changes = frame_changes c f bytes } ∷ []) o []) (good s) [])
+pub heard-shown : (c : Parts) (k : Option CodedData) (end : ℕ) (s : Slot) → heard_group c k end (shown_slot s) ≡ heard_group c k end s
+heard-shown c k end s =
+    ap (λ (o : Option ℕ). option_map_or (λ bytes. option_map_or (λ f. record { at = end; changes = heard_changes c k bytes f } ∷ []) o []) (good s) [])
     (carried-shown c (line_of c s.table s.entry).entry s)
 
-pub slot-shown : (c : Parts) (number at end : ℕ) (s : Slot) → slot_groups c number at end (shown_slot s) ≡ slot_groups c number at end s
-slot-shown c number at end s = ap (λ (gs : List Group). record { at = at; changes = slot_changes number s } ∷ gs) (heard-shown c end s)
+pub slot-shown : (c : Parts) (k : Option CodedData) (number at end : ℕ) (s : Slot) → slot_groups c k number at end (shown_slot s) ≡ slot_groups c k number at end s
+slot-shown c k number at end s = ap (λ (gs : List Group). record { at = at; changes = slot_changes number s } ∷ gs) (heard-shown c k end s)
 
 -- what a step changes by itself
-pub write-groups : (c : Parts) (past : List LogEntry) (end at by signal : ℕ) (v : Value) (step : Step) → step ≡ Write by signal v → nat_lt signal (length c.signals) ≡ true → at ≡ time c past
-    → step_groups c past end step ≡ record { at = at; changes = written_change c signal v } ∷ []
-write-groups c past end at by signal v step is below same = rw (is, below, same) refl
+pub write-groups : (c : Parts) (k : Option CodedData) (past : List LogEntry) (end at by signal : ℕ) (v : Value) (step : Step) → step ≡ Write by signal v → nat_lt signal (length c.signals) ≡ true
+    → at ≡ time c past → step_groups c k past end step ≡ record { at = at; changes = written_change c signal v } ∷ []
+write-groups c k past end at by signal v step is below same = rw (is, below, same) refl
 
-pub finish-groups : (c : Parts) (past : List LogEntry) (end : ℕ) (step : Step) (s : Slot) → step ≡ Finish → open_slot past ≡ Some s
-    → step_groups c past end step ≡ slot_groups c (slots_in past) (time c past) end s
-finish-groups c past end step s is o = rw (is, o) refl
+pub finish-groups : (c : Parts) (k : Option CodedData) (past : List LogEntry) (end : ℕ) (step : Step) (s : Slot) → step ≡ Finish → open_slot past ≡ Some s
+    → step_groups c k past end step ≡ slot_groups c k (slots_in past) (time c past) end s
+finish-groups c k past end step s is o = rw (is, o) refl
 
-pub wake-groups : (c : Parts) (past : List LogEntry) (end : ℕ) (step : Step) (at : ℕ) → step ≡ Wake → at ≡ time c past
-    → step_groups c past end step ≡ record { at = at; changes = number_change 1 5 0 } ∷ []
-wake-groups c past end step at is same = rw (is, same) refl
+pub wake-groups : (c : Parts) (k : Option CodedData) (past : List LogEntry) (end : ℕ) (step : Step) (at : ℕ) → step ≡ Wake → at ≡ time c past
+    → step_groups c k past end step ≡ record { at = at; changes = number_change 1 5 0 } ∷ []
+wake-groups c k past end step at is same = rw (is, same) refl
 
 -- what an entry changes that was done
-groups-of : (c : Parts) (e : LogEntry) (past : List LogEntry) (reply : Reply) (es : List Event) → reply ≡ Done es
-    → option_map_or (step_groups c past (time c (e ∷ past))) (done_step reply e.step) [] ++ flat_map (event_group c (time c (e ∷ past)) (waits (e ∷ past))) (reply_events reply)
-    ≡ step_groups c past (time c (e ∷ past)) e.step ++ flat_map (event_group c (time c (e ∷ past)) (waits (e ∷ past))) es
-groups-of c e past reply es r = rw r refl
+groups-of : (c : Parts) (k : Option CodedData) (e : LogEntry) (past : List LogEntry) (reply : Reply) (es : List Event) → reply ≡ Done es
+    → option_map_or (step_groups c k past (time c (e ∷ past))) (done_step reply e.step) [] ++ flat_map (event_group c (time c (e ∷ past)) (waits (e ∷ past))) (reply_events reply)
+    ≡ step_groups c k past (time c (e ∷ past)) e.step ++ flat_map (event_group c (time c (e ∷ past)) (waits (e ∷ past))) es
+groups-of c k e past reply es r = rw r refl
 
-pub groups-done : (c : Parts) (e : LogEntry) (past : List LogEntry) (es : List Event) (end : ℕ) → e.reply ≡ Done es → end ≡ time c (e ∷ past)
-    → groups c e past ≡ step_groups c past end e.step ++ flat_map (event_group c end (waits (e ∷ past))) es
-groups-done c e past es end r is =
-    groups-of c e past e.reply es r ∙ ap (λ n. step_groups c past n e.step ++ flat_map (event_group c n (waits (e ∷ past))) es) (sym is)
+pub groups-done : (c : Parts) (k : Option CodedData) (e : LogEntry) (past : List LogEntry) (es : List Event) (end : ℕ) → e.reply ≡ Done es → end ≡ time c (e ∷ past)
+    → groups c k e past ≡ step_groups c k past end e.step ++ flat_map (event_group c end (waits (e ∷ past))) es
+groups-done c k e past es end r is =
+    groups-of c k e past e.reply es r ∙ ap (λ n. step_groups c k past n e.step ++ flat_map (event_group c n (waits (e ∷ past))) es) (sym is)
 
 pub counts-done : (e : LogEntry) (past : List LogEntry) (es : List Event) (h : ℕ) → e.reply ≡ Done es → counted_all h es (waits past h) ≡ waits (e ∷ past) h
 counts-done e past es h r = ap (λ (reply : Reply). counted_all h (reply_events reply) (waits past h)) (sym r)

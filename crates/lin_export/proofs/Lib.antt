@@ -6,6 +6,10 @@ mod Times
 pub mod Puttings
 pub mod Rows
 pub mod Lines
+pub mod Places
+pub mod PlainTexts
+pub mod ColumnNames
 pub mod Groups
+mod Hosts
 pub mod Dumps
 pub mod Objects

@@ -8,10 +8,12 @@ use Rattle.lin_core.specs.History.{Slot}
 use Rattle.lin_core.specs.declared.event.Event.{Event}
 use Rattle.lin_core.specs.declared.event.Event.TheVariants as event
 use Rattle.lin_core.specs.declared.event.Seen.TheVariants as seen
-use Rattle.lin_export.specs.Named.{behind, event_lines, frame_words, good_words, named_event, reply_lines, transport}
+use Rattle.lin_export.specs.Named.{behind, event_lines, frame_values, frame_words, good_words, named_event, reply_lines, seen_values, slot_values, transport}
 use Rattle.lin_export.specs.NamedWords.{event_text, line_or_none, named_entry}
 use Rattle.lin_export.specs.Telling.{each_entry}
 use Rattle.lin_export.specs.Track.{shown_slot}
+use Rattle.lin_export.specs.WhereTold.{where_told}
+use Rattle.lin_values.specs.Coded.{CodedData}
 use Rattle.lin_core.specs.declared.log.LogEntry.{LogEntry}
 use Rattle.lin_log.specs.Language.{named}
 use Rattle.lin_log.specs.Words.{line_tail, log_text, reply_line, spaced_word, step_line}
@@ -46,37 +48,75 @@ behind-shown c o (event.Sent host number) = refl
 behind-shown c o (event.Lost host number why) = refl
 behind-shown c o event.Asleep = refl
 
-pub lines-shown : (c : Parts) (o : Option Slot) (es : List Event)
-    → flat_map (event_text c (option_map shown_slot o)) es ≡ flat_map (event_text c o) es
-lines-shown c o es =
-    flat-same (event_text c (option_map shown_slot o)) (event_text c o) es
-    (λ e. ap (λ (b : Option (List (List ℕ))). reply_line (named_event c e) ++ line_or_none b) (behind-shown c o e))
+values-shown : (c : Parts) (k : CodedData) (answer : List ℕ) (s : Slot) → slot_values c k answer (shown_slot s) ≡ slot_values c k answer s
+values-shown c k answer s = ap (λ (o : Option ℕ). option_map_or (frame_values c k answer) o []) (frame-shown c (line_of c s.table s.entry).entry s)
+
+values-good : (c : Parts) (k : CodedData) (o : Option Slot) (answer : List ℕ)
+    → option_map_or (slot_values c k answer) (option_map shown_slot o) [] ≡ option_map_or (slot_values c k answer) o []
+values-good c k None answer = refl
+values-good c k (Some s) answer = values-shown c k answer s
+
+seen-shown : (c : Parts) (k : CodedData) (o : Option Slot) (e : Event) → seen_values c k (option_map shown_slot o) e ≡ seen_values c k o e
+seen-shown c k o (event.Accepted host number) = refl
+seen-shown c k o (event.Slot table entry header) = refl
+seen-shown c k o (event.Due node) = refl
+seen-shown c k o (event.Put node answer) = refl
+seen-shown c k o (event.Seen (seen.Good answer)) = values-good c k o answer
+seen-shown c k o (event.Seen seen.Silent) = refl
+seen-shown c k o (event.Seen seen.NoAnswer) = refl
+seen-shown c k o (event.Seen seen.Damaged) = refl
+seen-shown c k o (event.Seen seen.Collided) = refl
+seen-shown c k o (event.Message from to bytes) = refl
+seen-shown c k o (event.Sent host number) = refl
+seen-shown c k o (event.Lost host number why) = refl
+seen-shown c k o event.Asleep = refl
+
+-- the lines of what values mean that an event tells of a slot
+abbrev values_told : Parts → Option CodedData → Option Slot → Event → List (List (List ℕ))
+values_told c k o e = where_told k (λ d. seen_values c d o e)
+
+told-shown : (c : Parts) (k : Option CodedData) (o : Option Slot) (e : Event) → values_told c k (option_map shown_slot o) e ≡ values_told c k o e
+told-shown c None o e = refl
+told-shown c (Some d) o e = seen-shown c d o e
+
+pub lines-shown : (c : Parts) (k : Option CodedData) (o : Option Slot) (es : List Event)
+    → flat_map (event_text c k (option_map shown_slot o)) es ≡ flat_map (event_text c k o) es
+lines-shown c k o es =
+    flat-same (event_text c k (option_map shown_slot o)) (event_text c k o) es
+    (λ e.
+    ap (λ (b : Option (List (List ℕ))). reply_line (named_event c e) ++ (line_or_none b ++ flat_map reply_line (values_told c k (option_map shown_slot o) e))) (behind-shown c o e)
+    ∙ ap (λ (ls : List (List (List ℕ))). reply_line (named_event c e) ++ (line_or_none (behind c o e) ++ flat_map reply_line ls)) (told-shown c k o e))
 
 -- lines, one after another
 pub one-line : (o : Option (List (List ℕ))) → line_or_none o ≡ flat_map reply_line (option_to_list o)
 one-line None = refl
 one-line (Some ws) = sym (append-nil (reply_line ws))
 
-pub lines-joined : (c : Parts) (o : Option Slot) (es : List Event) (t : Option (List (List ℕ)))
-    → flat_map (event_text c o) es ++ line_or_none t ≡ flat_map reply_line (flat_map (event_lines c o) es ++ option_to_list t)
-lines-joined c o [] t = one-line t
-lines-joined c o (e ∷ es) t =
+event-joined : (c : Parts) (k : Option CodedData) (o : Option Slot) (e : Event) → event_text c k o e ≡ flat_map reply_line (event_lines c k o e)
+event-joined c k o e =
     let first = reply_line (named_event c e) in
     let b = behind c o e in
-    append_assoc (first ++ line_or_none b) (flat_map (event_text c o) es) (line_or_none t)
-    ∙ append_assoc first (line_or_none b) (flat_map (event_text c o) es ++ line_or_none t)
-    ∙ ap (λ l. first ++ (line_or_none b ++ l)) (lines-joined c o es t)
-    ∙ ap (λ l. first ++ (l ++ flat_map reply_line (flat_map (event_lines c o) es ++ option_to_list t))) (one-line b)
-    ∙ ap (λ l. first ++ l) (sym (flat-append reply_line (option_to_list b) (flat_map (event_lines c o) es ++ option_to_list t)))
-    ∙ ap (λ (l : List (List (List ℕ))). first ++ flat_map reply_line l) (sym (append_assoc (option_to_list b) (flat_map (event_lines c o) es) (option_to_list t)))
+    let values = values_told c k o e in
+    ap (λ l. first ++ (l ++ flat_map reply_line values)) (one-line b) ∙ ap (λ l. first ++ l) (sym (flat-append reply_line (option_to_list b) values))
+
+pub lines-joined : (c : Parts) (k : Option CodedData) (o : Option Slot) (es : List Event) (t : Option (List (List ℕ)))
+    → flat_map (event_text c k o) es ++ line_or_none t ≡ flat_map reply_line (flat_map (event_lines c k o) es ++ option_to_list t)
+lines-joined c k o [] t = one-line t
+lines-joined c k o (e ∷ es) t =
+    let lines : List (List (List ℕ)) = event_lines c k o e in
+    append_assoc (event_text c k o e) (flat_map (event_text c k o) es) (line_or_none t)
+    ∙ ap (λ l. l ++ (flat_map (event_text c k o) es ++ line_or_none t)) (event-joined c k o e)
+    ∙ ap (λ l. flat_map reply_line lines ++ l) (lines-joined c k o es t)
+    ∙ sym (flat-append reply_line lines (flat_map (event_lines c k o) es ++ option_to_list t))
+    ∙ ap (λ (l : List (List (List ℕ))). flat_map reply_line l) (sym (append_assoc lines (flat_map (event_lines c k o) es) (option_to_list t)))
 
 -- a log, entry by entry
-pub log-entries : (c : Parts) (past log : List LogEntry)
-    → each_entry (named_entry c) past log ≡ log_text (named c) (reply_lines c) past log
-log-entries c past [] = refl
-log-entries c past (e ∷ es) =
-    append_assoc (step_line (named c) e.port e.step) (flat_map reply_line (reply_lines c e past)) (each_entry (named_entry c) (e ∷ past) es)
-    ∙ ap (λ t. step_line (named c) e.port e.step ++ (flat_map reply_line (reply_lines c e past) ++ t)) (log-entries c (e ∷ past) es)
+pub log-entries : (c : Parts) (k : Option CodedData) (past log : List LogEntry)
+    → each_entry (named_entry c k) past log ≡ log_text (named c) (reply_lines c k) past log
+log-entries c k past [] = refl
+log-entries c k past (e ∷ es) =
+    append_assoc (step_line (named c) e.port e.step) (flat_map reply_line (reply_lines c k e past)) (each_entry (named_entry c k) (e ∷ past) es)
+    ∙ ap (λ t. step_line (named c) e.port e.step ++ (flat_map reply_line (reply_lines c k e past) ++ t)) (log-entries c k (e ∷ past) es)
 
 pub zip-at : {X Y : Type 0} (xs : List X) (ys : List Y) (i : ℕ) (x : X) (y : Y) → i < length xs → i < length ys → get_or (zip xs ys) i (x, y) ≡ (get_or xs i x, get_or ys i y)
 zip-at [] ys i x y h k = absurd (omega arith)

@@ -1,5 +1,5 @@
 -- Texts of JSON, a part at a time.
-use Rattle.std.proofs.Common.{◌≡◌, ◌∙◌, ◌+◌, ◌==◌, ◌<◌, ℕ, zero, suc, List, [], ◌∷◌, ◌++◌, refl, sym, ap, append_assoc, append-nil, add-one, if◌then◌else◌, flat_map, get_or, length, map, take, codes, arith}
+use Rattle.std.proofs.Common.{◌≡◌, ◌∙◌, ◌+◌, ◌==◌, ◌<◌, ◌≤◌, ℕ, zero, suc, List, [], ◌∷◌, ◌++◌, refl, sym, ap, append_assoc, append-nil, add-one, if◌then◌else◌, flat_map, get_or, length, map, take, codes, arith}
 use Rattle.std.specs.Prelude.{Bool, true, false, not, Option, Some, None, option_map}
 use Rattle.std.specs.Fmt.{decimal}
 use Rattle.std.specs.Option.{option_map_or}
@@ -9,7 +9,7 @@ use Rattle.lin_frame.specs.Words.{numbers}
 use Rattle.lin_text.specs.Written.{Grows}
 use Rattle.lin_text.specs.declared.buffered.TextWriter.{TextWriter}
 use Rattle.lin_text.proofs.Growing.{grows-more, same-growth}
-use Rattle.lin_cluster_parts.specs.Cluster.{entry_kind, entry_name, frame_name, line_of, named_table}
+use Rattle.lin_cluster_parts.specs.Cluster.{entry_kind, entry_name, frame_name, line_of, named_table, signal_of}
 use Rattle.lin_cluster_parts.specs.declared.parts.Parts.{Parts}
 use Rattle.lin_core.specs.History.{Slot, good, open_slot, seen_of, reply_events, time}
 use Rattle.lin_core.specs.declared.event.Event.{Event}
@@ -20,8 +20,13 @@ use Rattle.lin_core.specs.declared.reply.Reply.TheVariants.{Done, Refused}
 use Rattle.lin_core.specs.declared.step.Step.{Step}
 use Rattle.lin_core.specs.declared.step.Step.TheVariants.{Finish, Wake}
 use Rattle.lin_export.specs.Csv.{comma}
-use Rattle.lin_export.specs.Jsonl.{answers_member, due_member, frame_member, frame_signals, frame_value, header_member, host_member, hurt_member, is_message_frame, message_member, message_value, number_member, response_members, settled, settled_all, signals_member, slot_line, step_object, time_member}
+use Rattle.lin_export.specs.Jsonl.{answers_member, due_member, frame_meanings, frame_member, frame_signals, frame_value, header_member, host_member, hurt_member, is_message_frame, meaning_members, meaning_text, message_member, message_value, number_member, physical_member, response_members, settled, settled_all, signals_member, slot_line, step_object, time_member}
 use Rattle.lin_export.specs.Track.{hurt_in, shown_slot, slots_in}
+use Rattle.lin_export.specs.WhereTold.{where_told}
+use Rattle.lin_values.specs.Coded.{CodedData}
+use Rattle.lin_values.specs.Meaning.{meaning}
+use Rattle.lin_values.specs.Meant.{Meant}
+use Rattle.lin_frame.specs.declared.value.Value.{Value}
 use Rattle.lin_export.specs.Json.{joined, member, object, object_line, quoted}
 use Rattle.lin_export.proofs.Rows.{Shows, carried-shown, flat-append, frame-shown}
 
@@ -64,6 +69,29 @@ pub joined-numbers : (f : ℕ → List ℕ) (n : ℕ)
 joined-numbers f n =
     ap (λ k. joined (map f (numbers k))) (add-one n) ∙ ap joined (map-append f (numbers n) (n ∷ []))
     ∙ joined-one n (map f (numbers n)) (f n) (sym (length-map (numbers n) f ∙ length-numbers n))
+
+-- what a value means, where it means something, after so many members
+abbrev separated : ℕ → List (List ℕ) → List ℕ
+separated n ms = flat_map (λ m. (if n == 0 then [] else comma []) ++ m) ms
+
+joined-none : (n : ℕ) (ts : List (List ℕ)) → joined (ts ++ []) ≡ joined ts ++ separated n []
+joined-none n ts = ap joined (append-nil ts) ∙ sym (append-nil (joined ts))
+
+joined-by : (n : ℕ) (ts : List (List ℕ)) (o : Option Meant) (says : Meant → List ℕ) → n ≡ length ts
+    → joined (ts ++ option_map_or (λ m. says m ∷ []) o []) ≡ joined ts ++ separated n (option_map_or (λ m. says m ∷ []) o [])
+joined-by n ts None says e = joined-none n ts
+joined-by n ts (Some m) says e = joined-one n ts (says m) e ∙ ap (λ l. joined ts ++ l) (sym (append-nil ((if n == 0 then [] else comma []) ++ says m)))
+
+pub joined-meaning : (c : Parts) (k : CodedData) (s : ℕ) (v : Value) (ts : List (List ℕ)) (n : ℕ) → n ≡ length ts
+    → joined (ts ++ meaning_members c k s v) ≡ joined ts ++ flat_map (λ m. (if n == 0 then [] else comma []) ++ m) (meaning_members c k s v)
+joined-meaning c k s v ts n e = joined-by n ts (meaning k s v) (λ m. member (signal_of c s).name (meaning_text m)) e
+
+one-at_most : (o : Option Meant) (says : Meant → List ℕ) → length (option_map_or (λ m. says m ∷ []) o []) ≤ 1
+one-at_most None says = omega arith
+one-at_most (Some m) says = omega arith
+
+pub meaning-one : (c : Parts) (k : CodedData) (s : ℕ) (v : Value) → length (meaning_members c k s v) ≤ 1
+meaning-one c k s v = one-at_most (meaning k s v) (λ m. member (signal_of c s).name (meaning_text m))
 
 -- members, each after a comma
 pub record PutsMembers {W : Type 0} (contents : W → Option (List ℕ)) (old new : TextWriter W) (members : List (List ℕ)) : Type 0 where
@@ -115,33 +143,45 @@ signals-member-shown c s =
     ap (λ (f : Option ℕ). member (codes "signals") (object (option_map_or (λ answer. option_map_or (frame_signals c answer) f []) (good s) [])))
     (carried-shown c (line_of c s.table s.entry).entry s)
 
--- a slot's line, of which the frame and the signals are given
-abbrev line_with : Parts → ℕ → ℕ → List ℕ → (ℕ → ℕ) → Slot → List ℕ → List ℕ → List ℕ
-line_with c n at bytes last s frame signals =
+meanings-shown : (c : Parts) (k : CodedData) (s : Slot) → physical_member c k (shown_slot s) ≡ physical_member c k s
+meanings-shown c k s =
+    ap (λ (f : Option ℕ). member (codes "physical") (object (option_map_or (λ answer. option_map_or (frame_meanings c k answer) f []) (good s) [])))
+    (carried-shown c (line_of c s.table s.entry).entry s)
+
+physical-shown : (c : Parts) (k : Option CodedData) (s : Slot) → where_told k (λ d. physical_member c d (shown_slot s) ∷ []) ≡ where_told k (λ d. physical_member c d s ∷ [])
+physical-shown c None s = refl
+physical-shown c (Some d) s = ap (λ m. m ∷ []) (meanings-shown c d s)
+
+-- a slot's line, of which the frame, the signals and what these mean are given
+abbrev line_with : Parts → ℕ → ℕ → List ℕ → (ℕ → ℕ) → Slot → List ℕ → List ℕ → List (List ℕ) → List ℕ
+line_with c n at bytes last s frame signals physical =
     object_line (codes "slot")
     (member (codes "slot") (decimal n) ∷ time_member at ∷ member (codes "delay_us") (decimal (line_of c s.table s.entry).delay_us)
     ∷ member (codes "table") (quoted (named_table c s.table).name) ∷ member (codes "entry") (decimal s.entry)
     ∷ member (codes "kind") (quoted (entry_kind (line_of c s.table s.entry).entry)) ∷ frame ∷ header_member s.header
-    ∷ due_member c s.due ∷ answers_member c s.puts ∷ hurt_member s.hurt bytes ∷ (response_members (seen_of s) ++ signals ∷ message_member c last s ∷ []))
+    ∷ due_member c s.due ∷ answers_member c s.puts ∷ hurt_member s.hurt bytes ∷ (response_members (seen_of s) ++ signals ∷ message_member c last s ∷ physical))
 
-pub object-shown : (c : Parts) (n at : ℕ) (bytes : List ℕ) (last : ℕ → ℕ) (s : Slot) → slot_line c n at bytes last (shown_slot s) ≡ slot_line c n at bytes last s
-object-shown c n at bytes last s =
-    ap (λ (f : List ℕ). line_with c n at bytes last s f (signals_member c (shown_slot s))) (frame-member-shown c s)
-    ∙ ap (λ (f : List ℕ). line_with c n at bytes last s (frame_member c s) f) (signals-member-shown c s)
+pub object-shown : (c : Parts) (k : Option CodedData) (n at : ℕ) (bytes : List ℕ) (last : ℕ → ℕ) (s : Slot) → slot_line c k n at bytes last (shown_slot s) ≡ slot_line c k n at bytes last s
+object-shown c k n at bytes last s =
+    let physical : Slot → List (List ℕ) = λ t. where_told k (λ d. physical_member c d t ∷ []) in
+    ap (λ (f : List ℕ). line_with c n at bytes last s f (signals_member c (shown_slot s)) (physical (shown_slot s))) (frame-member-shown c s)
+    ∙ ap (λ (f : List ℕ). line_with c n at bytes last s (frame_member c s) f (physical (shown_slot s))) (signals-member-shown c s)
+    ∙ ap (λ (ms : List (List ℕ)). line_with c n at bytes last s (frame_member c s) (signals_member c s) ms) (physical-shown c k s)
 
 -- what a finish says
-pub finish-object : (c : Parts) (last : ℕ → ℕ) (past : List LogEntry) (step : Step) (t : Slot) → Shows (open_slot past) t → step ≡ Finish
-    → slot_line c (slots_in past) (time c past) (hurt_in past) last t ≡ step_object c last past step
-finish-object c last past step t o e =
-    rw (e, o.is_open) (ap (λ (s : Slot). slot_line c (slots_in past) (time c past) (hurt_in past) last s) o.same ∙ object-shown c (slots_in past) (time c past) (hurt_in past) last o.slot)
+pub finish-object : (c : Parts) (k : Option CodedData) (last : ℕ → ℕ) (past : List LogEntry) (step : Step) (t : Slot) → Shows (open_slot past) t → step ≡ Finish
+    → slot_line c k (slots_in past) (time c past) (hurt_in past) last t ≡ step_object c k last past step
+finish-object c k last past step t o e =
+    rw (e, o.is_open)
+    (ap (λ (s : Slot). slot_line c k (slots_in past) (time c past) (hurt_in past) last s) o.same ∙ object-shown c k (slots_in past) (time c past) (hurt_in past) last o.slot)
 
 none-open : (o : Option Slot) → None ≡ option_map shown_slot o → o ≡ None
 none-open None e = refl
 none-open (Some s) e = absurd (cc)
 
-pub finish-none : (c : Parts) (last : ℕ → ℕ) (past : List LogEntry) (step : Step) → None ≡ option_map shown_slot (open_slot past) → step ≡ Finish
-    → [] ≡ step_object c last past step
-finish-none c last past step o e = rw (e, none-open (open_slot past) o) refl
+pub finish-none : (c : Parts) (k : Option CodedData) (last : ℕ → ℕ) (past : List LogEntry) (step : Step) → None ≡ option_map shown_slot (open_slot past) → step ≡ Finish
+    → [] ≡ step_object c k last past step
+finish-none c k last past step o e = rw (e, none-open (open_slot past) o) refl
 
 -- the numbers of the last messages after an entry
 pub settled-done : (e : LogEntry) (past : List LogEntry) (es : List Event) (h : ℕ) → e.reply ≡ Done es → settled_all h es (settled past h) ≡ settled (e ∷ past) h
@@ -150,6 +190,6 @@ settled-done e past es h r = ap (λ (reply : Reply). settled_all h (reply_events
 pub settled-refused : (e : LogEntry) (past : List LogEntry) (why : Refusal) (h : ℕ) → e.reply ≡ Refused why → settled past h ≡ settled (e ∷ past) h
 settled-refused e past why h r = ap (λ (reply : Reply). settled_all h (reply_events reply) (settled past h)) (sym r)
 
-pub wake-object : (c : Parts) (last : ℕ → ℕ) (past : List LogEntry) (step : Step) (t : ℕ) → t ≡ time c past → step ≡ Wake
-    → object_line (codes "awake") (time_member t ∷ []) ≡ step_object c last past step
-wake-object c last past step t is e = rw (e, is) refl
+pub wake-object : (c : Parts) (k : Option CodedData) (last : ℕ → ℕ) (past : List LogEntry) (step : Step) (t : ℕ) → t ≡ time c past → step ≡ Wake
+    → object_line (codes "awake") (time_member t ∷ []) ≡ step_object c k last past step
+wake-object c k last past step t is e = rw (e, is) refl

@@ -1,32 +1,30 @@
 -- What a slot says, and what the nodes hear of it.
-use Rattle.std.proofs.Common.{◌≡◌, ℕ, List, [], ◌∷◌, ◌++◌, refl, sym, ap, ◌∙◌, append_assoc, length, take, drop, flat_map, map, ◌-◌, zero, suc, ◌+◌, ◌<◌, ◌≤◌, get_or, if◌then◌else◌, arith}
-use Rattle.std.proofs.Math.Seq.{take-suc}
-use Rattle.std.proofs.lemmas.List.{append-nil, map-append, take_all, take_more}
-use Rattle.std.proofs.lemmas.Option.{slice_get-get_or}
+use Rattle.std.proofs.Common.{◌≡◌, ℕ, List, [], ◌∷◌, ◌++◌, refl, sym, ap, ◌∙◌, append_assoc, add-one, length, take, drop, flat_map, map, ◌-◌, zero, suc, ◌+◌, ◌<◌, ◌≤◌, get_or, if◌then◌else◌, arith}
+use Rattle.std.proofs.lemmas.List.{append-nil, take_all, take_more}
 use Rattle.std.specs.Prelude.{Option, Some, None, option_map, slice_get, find, true, false}
 use Rattle.std.specs.Option.{option_map_or, unwrap_or}
 use Rattle.lin_frame.specs.Words.{numbers}
 use Rattle.lin_frame.specs.Bits.{unpacked_value}
 use Rattle.lin_frame.specs.declared.value.Value.{Value}
-use Rattle.lin_frame.specs.declared.value.Value.TheVariants.{Scalar}
 use Rattle.lin_cluster_parts.specs.Cluster.{frame_of, line_of}
 use Rattle.lin_cluster_parts.specs.declared.parts.Parts.{Parts}
 use Rattle.lin_cluster_parts.specs.declared.parts.Signal.{Signal}
 use Rattle.lin_cluster_parts.specs.declared.parts.Entry.{Entry}
 use Rattle.lin_cluster_parts.specs.declared.parts.Entry.TheVariants as entries
 use Rattle.lin_core.specs.History.{Slot, done_step, finished_slot, good, is_finish, is_sleep_slot, open_slot, time}
-use Rattle.lin_core.specs.Signals.{ArePointwise, carried_frame, carried_by, heard_value, place_in, value_in}
+use Rattle.lin_core.specs.Signals.{carried_frame, carried_by, heard_value, place_in, value_in}
 use Rattle.lin_core.specs.declared.event.Event.{Event}
 use Rattle.lin_core.specs.declared.log.LogEntry.{LogEntry}
 use Rattle.lin_core.specs.declared.reply.Reply.{Reply}
 use Rattle.lin_core.specs.declared.reply.Reply.TheVariants.{Done}
 use Rattle.lin_core.specs.declared.step.Step.{Step}
 use Rattle.lin_core.specs.declared.step.Step.TheVariants.{Finish}
-use Rattle.lin_export.specs.Csv.{comma, csv_line, node_name, nodes_cell, row, slot_line, spaced_name, step_row, value_cell}
+use Rattle.lin_export.specs.Csv.{comma, csv_line, node_name, nodes_cell, row, slot_line, spaced_name, step_row}
 use Rattle.lin_export.specs.FirstSlots.{slot_row}
 use Rattle.lin_export.specs.Pcap.{bus_event, finish_packets, goes_to_sleep, packet, slot_packet}
 use Rattle.lin_export.specs.Shown.{slot_frame}
 use Rattle.lin_export.specs.Track.{shown_slot, slots_in}
+use Rattle.lin_values.specs.Coded.{CodedData}
 use Rattle.lin_export.proofs.Slots.{some-same}
 
 -- the slot that is kept shows the open one
@@ -81,31 +79,23 @@ pub line-parts : (first : List ℕ) (xs zs : List (List ℕ))
 line-parts first xs zs =
     ap (λ l. first ++ l) (sym (append_assoc (flat_map comma xs) (flat_map comma zs) (10 ∷ [])) ∙ ap (λ l. l ++ 10 ∷ []) (sym (flat-append comma xs zs)))
 
--- the values of a list are those that a function says of its places
-values-some : (g : ℕ → Value) (vs : List Value) → ArePointwise g vs → (n : ℕ) → n ≤ length vs
-    → flat_map (λ v. comma (value_cell v)) (take n vs) ≡ flat_map comma (map (λ k. value_cell (g k)) (numbers n))
-values-some g vs p zero h = refl
-values-some g vs p (suc n) h =
-    let says : Value → List ℕ = λ v. comma (value_cell v) in
-    let cell : ℕ → List ℕ = λ k. value_cell (g k) in
-    ap (flat_map says) (take-suc vs n (Scalar 0) (omega arith)) ∙ flat-append says (take n vs) (get_or vs n (Scalar 0) ∷ [])
-    ∙ ap (λ l. l ++ (says (get_or vs n (Scalar 0)) ++ [])) (values-some g vs p n (omega arith))
-    ∙ ap (λ (v : Value). flat_map comma (map cell (numbers n)) ++ (says v ++ [])) (p n (get_or vs n (Scalar 0)) (slice_get-get_or vs n (Scalar 0) (omega arith)))
-    ∙ sym (ap (flat_map comma) (map-append cell (numbers n) (n ∷ [])) ∙ flat-append comma (map cell (numbers n)) (cell n ∷ []))
+-- the texts of one number more, and the cells
+pub numbers-more : {A : Type 0} (f : ℕ → List A) (n : ℕ) → flat_map f (numbers (n + 1)) ≡ flat_map f (numbers n) ++ f n
+numbers-more f n =
+    ap (λ k. flat_map f (numbers k)) (add-one n) ∙ flat-append f (numbers n) (n ∷ []) ∙ ap (λ l. flat_map f (numbers n) ++ l) (append-nil (f n))
 
-pub values-all : (g : ℕ → Value) (vs : List Value) (n : ℕ) → ArePointwise g vs → length vs ≡ n
-    → flat_map (λ v. comma (value_cell v)) vs ≡ flat_map comma (map (λ k. value_cell (g k)) (numbers n))
-values-all g vs n p e = ap (flat_map (λ v. comma (value_cell v))) (sym (take_all n vs (omega arith))) ∙ values-some g vs p n (omega arith)
+pub cells-more : (f : ℕ → List (List ℕ)) (n : ℕ) → flat_map comma (flat_map f (numbers (n + 1))) ≡ flat_map comma (flat_map f (numbers n)) ++ flat_map comma (f n)
+cells-more f n = ap (flat_map comma) (numbers-more f n) ∙ flat-append comma (flat_map f (numbers n)) (f n)
 
-row-of : (c : Parts) (e : LogEntry) (past : List LogEntry) (reply : Reply) (step : Step) (events : List Event) (s : Slot)
+row-of : (c : Parts) (k : Option CodedData) (e : LogEntry) (past : List LogEntry) (reply : Reply) (step : Step) (events : List Event) (s : Slot)
     → reply ≡ Done events → step ≡ Finish → open_slot past ≡ Some s
-    → option_map_or (step_row c e past) (done_step reply step) [] ≡ slot_line c (slots_in past) (time c past) s (heard_value c (e ∷ past))
-row-of c e past reply step events s r f o = rw (r, f, o) refl
+    → option_map_or (step_row c k e past) (done_step reply step) [] ≡ slot_line c k (slots_in past) (time c past) s (heard_value c (e ∷ past))
+row-of c k e past reply step events s r f o = rw (r, f, o) refl
 
-pub row-finish : (c : Parts) (e : LogEntry) (past : List LogEntry) (events : List Event) (s : Slot)
+pub row-finish : (c : Parts) (k : Option CodedData) (e : LogEntry) (past : List LogEntry) (events : List Event) (s : Slot)
     → e.reply ≡ Done events → e.step ≡ Finish → open_slot past ≡ Some s
-    → row c e past ≡ slot_line c (slots_in past) (time c past) s (heard_value c (e ∷ past))
-row-finish c e past events s r f o = row-of c e past e.reply e.step events s r f o
+    → row c k e past ≡ slot_line c k (slots_in past) (time c past) s (heard_value c (e ∷ past))
+row-finish c k e past events s r f o = row-of c k e past e.reply e.step events s r f o
 
 -- a slot that puts the cluster to sleep
 pub finish-asleep : (c : Parts) (at end : ℕ) (s : Slot) → is_sleep_slot s ≡ true → end ≡ at + (line_of c s.table s.entry).delay_us
@@ -131,8 +121,8 @@ nodes-first c (p ∷ ps) first h is =
     ap (λ (l : List (ℕ × List ℕ)). node_name c first ++ flat_map (spaced_name c) l) (take_all (length (p ∷ ps) - 1) ps (omega arith))
     ∙ ap (λ (x : ℕ × List ℕ). node_name c x ++ flat_map (spaced_name c) ps) is
 
-pub line-shown : (c : Parts) (n t : ℕ) (s : Slot) (g : ℕ → Value) → slot_line c n t (shown_slot s) g ≡ slot_line c n t s g
-line-shown c n t s g = rw (frame-shown c (line_of c s.table s.entry).entry s) refl
+pub line-shown : (c : Parts) (k : Option CodedData) (n t : ℕ) (s : Slot) (g : ℕ → Value) → slot_line c k n t (shown_slot s) g ≡ slot_line c k n t s g
+line-shown c k n t s g = rw (frame-shown c (line_of c s.table s.entry).entry s) refl
 
 pub row-shown : (c : Parts) (n t : ℕ) (s : Slot) → slot_row c n t (shown_slot s) ≡ slot_row c n t s
 row-shown c n t s = rw (frame-shown c (line_of c s.table s.entry).entry s) refl

@@ -1,13 +1,15 @@
--- A log as lines of values between commas (RFC 4180, with LF alone): nothing needs quotes, since
--- names of LDFs are words.
-use Rattle.std.specs.Prelude.{ℕ, List, [], ◌∷◌, ◌++◌, length, map, flat_map, codes}
+-- A log as lines of values between commas (RFC 4180, with LF alone). Names of LDFs are words, which
+-- need no quotes; what values mean may need them.
+use Rattle.std.specs.Prelude.{ℕ, ◌==◌, ◌||◌, if◌then◌else◌, Bool, List, [], ◌∷◌, ◌++◌, length}
+use Rattle.std.specs.Prelude.{flat_map, codes, Option}
 use Rattle.std.specs.Fmt.{decimal}
+use Rattle.std.specs.List.{list_any}
 use Rattle.std.specs.Option.{option_map_or}
 use Rattle.hex.specs.Hex.{encode_upper}
 use Rattle.lin_frame.specs.Words.{numbers}
 use Rattle.lin_frame.specs.declared.value.Value.{Value}
 use Rattle.lin_frame.specs.declared.value.Value.TheVariants.{Scalar, Bytes}
-use Rattle.lin_cluster_parts.specs.Cluster.{entry_kind, line_of, named_table, node_of}
+use Rattle.lin_cluster_parts.specs.Cluster.{entry_kind, line_of, named_table, node_of, signal_of}
 use Rattle.lin_cluster_parts.specs.declared.parts.Parts.{Parts}
 use Rattle.lin_core.specs.History.{Slot, done, good_bytes, open_slot, seen_of, time}
 use Rattle.lin_core.specs.Signals.{heard_value}
@@ -16,9 +18,13 @@ use Rattle.lin_core.specs.declared.event.Seen.{Seen}
 use Rattle.lin_core.specs.declared.log.LogEntry.{LogEntry}
 use Rattle.lin_core.specs.declared.step.Step.{Step}
 use Rattle.lin_core.specs.declared.step.Step.TheVariants.{Finish}
+use Rattle.lin_values.specs.Coded.{common_unit, encoding_of, CodedData}
+use Rattle.lin_values.specs.Meaning.{meaning}
+use Rattle.lin_values.specs.Shown.{plain_shown}
 use Rattle.lin_export.specs.Shown.{checksum_in, data_of, slot_name}
 use Rattle.lin_export.specs.Telling.{each_entry}
 use Rattle.lin_export.specs.Track.{slots_in}
+use Rattle.lin_export.specs.WhereTold.{where_told}
 
 -- a cell after the mark that stands before it
 abbrev pub marked : List ℕ → List ℕ → List ℕ
@@ -51,11 +57,49 @@ abbrev pub nodes_cell : Parts → List (ℕ × List ℕ) → List ℕ
 nodes_cell c [] = []
 nodes_cell c (put ∷ puts) = node_name c put ++ flat_map (spaced_name c) puts
 
--- the names of the columns: those of each run, then the signals
-abbrev pub head_line : Parts → List ℕ
-head_line c =
+-- ---- what values mean
+-- a text as a cell: where it has a comma or a quote it stands between quotes, its own doubled
+abbrev pub needs_quotes : List ℕ → Bool
+needs_quotes text = list_any (λ b. b == 44 || b == 34) text
+
+abbrev pub doubled : ℕ → List ℕ
+doubled b = if b == 34 then 34 ∷ 34 ∷ [] else b ∷ []
+
+abbrev pub text_cell : List ℕ → List ℕ
+text_cell text = if needs_quotes text then 34 ∷ (flat_map doubled text ++ 34 ∷ []) else text
+
+-- a signal that has an encoding has one column more, whose name has the unit, where all its ranges
+-- have one
+abbrev pub meaning_name : Parts → CodedData → ℕ → List ℕ
+meaning_name c k s =
+    option_map_or
+    (λ unit. (signal_of c s).name ++ (codes " [" ++ (unit ++ codes "]")))
+    (common_unit k s) ((signal_of c s).name ++ codes " value")
+
+abbrev pub meaning_names : Parts → CodedData → ℕ → List (List ℕ)
+meaning_names c k s =
+    option_map_or (λ t. text_cell (meaning_name c k s) ∷ []) (encoding_of k s) []
+
+-- the decimal without its unit, the text without quotes of its own, or nothing
+abbrev pub meaning_cell : CodedData → ℕ → Value → List ℕ
+meaning_cell k s v = option_map_or (λ m. text_cell (plain_shown m)) (meaning k s v) []
+
+abbrev pub meaning_cells : CodedData → ℕ → Value → List (List ℕ)
+meaning_cells k s v = option_map_or (λ t. meaning_cell k s v ∷ []) (encoding_of k s) []
+
+-- ---- the columns of a signal: its name above, its value below
+abbrev pub signal_names : Parts → Option CodedData → ℕ → List (List ℕ)
+signal_names c k s = (signal_of c s).name ∷ where_told k (λ d. meaning_names c d s)
+
+abbrev pub signal_cells : Option CodedData → (ℕ → Value) → ℕ → List (List ℕ)
+signal_cells k values s =
+    value_cell (values s) ∷ where_told k (λ d. meaning_cells d s (values s))
+
+-- the names of the columns: those of each run, then those of the signals
+abbrev pub head_line : Parts → Option CodedData → List ℕ
+head_line c k =
     codes "slot,time_us,delay_us,table,entry,kind,frame,header,nodes,seen,data,checksum"
-    ++ (flat_map comma (map (λ s. s.name) c.signals) ++ 10 ∷ [])
+    ++ (flat_map comma (flat_map (signal_names c k) (numbers (length c.signals))) ++ 10 ∷ [])
 
 -- a slot at a time: its delay, its entry, what that is for, and its header
 abbrev pub schedule_cells : Parts → ℕ → Slot → List (List ℕ)
@@ -84,23 +128,23 @@ slot_cells c at s =
 
 -- the line of a slot by its number, the time at its start, and the values of the signals that are
 -- heard after it
-abbrev pub slot_line : Parts → ℕ → ℕ → Slot → (ℕ → Value) → List ℕ
-slot_line c number at s values =
+abbrev pub slot_line : Parts → Option CodedData → ℕ → ℕ → Slot → (ℕ → Value) → List ℕ
+slot_line c k number at s values =
     csv_line
     (decimal number
-    ∷ (slot_cells c at s ++ map (λ k. value_cell (values k)) (numbers (length c.signals))))
+    ∷ (slot_cells c at s ++ flat_map (signal_cells k values) (numbers (length c.signals))))
 
 -- what an entry that was done says on those before it: the line of the slot that it finishes
-abbrev pub step_row : Parts → LogEntry → List LogEntry → Step → List ℕ
-step_row c e past Finish =
+abbrev pub step_row : Parts → Option CodedData → LogEntry → List LogEntry → Step → List ℕ
+step_row c k e past Finish =
     option_map_or
-    (λ s. slot_line c (slots_in past) (time c past) s (heard_value c (e ∷ past)))
+    (λ s. slot_line c k (slots_in past) (time c past) s (heard_value c (e ∷ past)))
     (open_slot past) []
-step_row c e past step = []
+step_row c k e past step = []
 
-abbrev pub row : Parts → LogEntry → List LogEntry → List ℕ
-row c e past = option_map_or (step_row c e past) (done e) []
+abbrev pub row : Parts → Option CodedData → LogEntry → List LogEntry → List ℕ
+row c k e past = option_map_or (step_row c k e past) (done e) []
 
 -- the table of a log, the oldest entry first
-abbrev pub csv : Parts → List LogEntry → List ℕ
-csv c log = head_line c ++ each_entry (row c) [] log
+abbrev pub csv : Parts → Option CodedData → List LogEntry → List ℕ
+csv c k log = head_line c k ++ each_entry (row c k) [] log

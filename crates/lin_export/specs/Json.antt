@@ -1,6 +1,6 @@
--- Words of JSON (RFC 8259), without spaces. No text needs an escape: names of LDFs are words, and
--- what else stands in texts is letters, digits, `:`, `-` and spaces.
-use Rattle.std.specs.Prelude.{ℕ, List, [], ◌∷◌, ◌++◌, flat_map, codes}
+-- Words of JSON (RFC 8259), without spaces. Names of LDFs are words, and what else stands in texts is
+-- letters, digits, `:`, `-` and spaces, so that only what values mean may need an escape.
+use Rattle.std.specs.Prelude.{ℕ, ◌==◌, ◌||◌, if◌then◌else◌, List, [], ◌∷◌, ◌++◌, flat_map, codes}
 use Rattle.hex.specs.Hex.{encode_upper}
 use Rattle.lin_export.specs.Csv.{comma}
 
@@ -10,6 +10,13 @@ null = codes "null"
 -- a text between quotes, and bytes as one of upper-case digits
 abbrev pub quoted : List ℕ → List ℕ
 quoted text = 34 ∷ (text ++ 34 ∷ [])
+
+-- the bytes of a text without controls: a quote and a backslash stand behind a backslash
+abbrev pub escaped_byte : ℕ → List ℕ
+escaped_byte b = if b == 34 || b == 92 then 92 ∷ b ∷ [] else b ∷ []
+
+abbrev pub escaped : List ℕ → List ℕ
+escaped text = flat_map escaped_byte text
 
 abbrev pub hex_text : List ℕ → List ℕ
 hex_text bytes = quoted (encode_upper bytes)

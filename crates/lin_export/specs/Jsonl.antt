@@ -32,10 +32,15 @@ use Rattle.lin_core.specs.declared.step.Step.{Step}
 use Rattle.lin_core.specs.declared.step.Step.TheVariants.{Send, Finish, Wake}
 use Rattle.lin_log.specs.Language.{named}
 use Rattle.lin_log.specs.Words.{port_word, spaced_word, step_words, value_word}
-use Rattle.lin_export.specs.Json.{array, hex_text, member, null, object, object_line, quoted}
+use Rattle.lin_values.specs.Coded.{CodedData}
+use Rattle.lin_values.specs.Meaning.{meaning}
+use Rattle.lin_values.specs.Meant.{Meant}
+use Rattle.lin_values.specs.Shown.{shown}
+use Rattle.lin_export.specs.Json.{array, escaped, hex_text, member, null, object, object_line, quoted}
 use Rattle.lin_export.specs.Shown.{checksum_in, data_of, slot_name}
 use Rattle.lin_export.specs.Telling.{each_entry}
 use Rattle.lin_export.specs.Track.{hurt_in, slots_in}
+use Rattle.lin_export.specs.WhereTold.{where_told}
 
 -- ---- values
 abbrev pub node_text : Parts → ℕ → List ℕ
@@ -159,16 +164,42 @@ message_member c last s =
     member (codes "message")
     (option_map_or (message_value c last s.header) (slice_get s.puts (length s.puts - 1)) null)
 
+-- what these signals mean, those that mean something
+abbrev pub meaning_text : Meant → List ℕ
+meaning_text m = quoted (escaped (shown m))
+
+abbrev pub meaning_members : Parts → CodedData → ℕ → Value → List (List ℕ)
+meaning_members c k s v =
+    option_map_or (λ m. member (signal_of c s).name (meaning_text m) ∷ []) (meaning k s v) []
+
+abbrev pub place_meanings : Parts → CodedData → List ℕ → ℕ × Place → List (List ℕ)
+place_meanings c k answer p = meaning_members c k p.0 (unpacked_value p.1 (take 8 answer))
+
+abbrev pub frame_meanings : Parts → CodedData → List ℕ → ℕ → List (List ℕ)
+frame_meanings c k answer f =
+    flat_map (place_meanings c k answer) (zip (frame_of c f).signals (frame_of c f).layout.places)
+
+abbrev pub carried_meanings : Parts → CodedData → Slot → List (List ℕ)
+carried_meanings c k s =
+    option_map_or
+    (λ answer. option_map_or (frame_meanings c k answer) (carried_frame c s) []) (good s) []
+
+abbrev pub physical_member : Parts → CodedData → Slot → List ℕ
+physical_member c k s = member (codes "physical") (object (carried_meanings c k s))
+
 -- a slot by its number, the time at its start, the bytes of its disturbance, and the number of the
 -- last message of each host that was sent or lost before
-abbrev pub slot_line : Parts → ℕ → ℕ → List ℕ → (ℕ → ℕ) → Slot → List ℕ
-slot_line c number at bytes last s =
+abbrev pub slot_line : Parts → Option CodedData → ℕ → ℕ → List ℕ → (ℕ → ℕ) → Slot → List ℕ
+slot_line c k number at bytes last s =
     object_line (codes "slot")
     (schedule_members c number at s
     ++ (due_member c s.due
     ∷ answers_member c s.puts
     ∷ hurt_member s.hurt bytes
-    ∷ (response_members (seen_of s) ++ signals_member c s ∷ message_member c last s ∷ [])))
+    ∷ (response_members (seen_of s)
+    ++ signals_member c s
+    ∷ message_member c last s
+    ∷ where_told k (λ d. physical_member c d s ∷ []))))
 
 -- the number of the last message of a host that was sent or lost, and 0 where none was
 abbrev pub settled_after : ℕ → Event → ℕ → ℕ
@@ -235,12 +266,12 @@ event_line c step slot at event = []
 -- ---- entries
 -- what a step that was done says by itself on the entries before it: the slot that it finishes, or
 -- a wake-up
-abbrev pub step_object : Parts → (ℕ → ℕ) → List LogEntry → Step → List ℕ
-step_object c last past Finish =
+abbrev pub step_object : Parts → Option CodedData → (ℕ → ℕ) → List LogEntry → Step → List ℕ
+step_object c k last past Finish =
     option_map_or
-    (slot_line c (slots_in past) (time c past) (hurt_in past) last) (open_slot past) []
-step_object c last past Wake = object_line (codes "awake") (time_member (time c past) ∷ [])
-step_object c last past step = []
+    (slot_line c k (slots_in past) (time c past) (hurt_in past) last) (open_slot past) []
+step_object c k last past Wake = object_line (codes "awake") (time_member (time c past) ∷ [])
+step_object c k last past step = []
 
 -- a step that was refused: its line with names, and the refusal's number and name
 abbrev pub step_text : Parts → PortId → Step → List ℕ
@@ -257,16 +288,16 @@ refused_line c at port step why =
     ∷ [])
 
 -- what an entry with this reply says on those before it; its events come at the time after it
-abbrev pub reply_objects : Parts → LogEntry → List LogEntry → Reply → List ℕ
-reply_objects c e past (Done es) =
-    step_object c (settled past) past e.step
+abbrev pub reply_objects : Parts → Option CodedData → LogEntry → List LogEntry → Reply → List ℕ
+reply_objects c k e past (Done es) =
+    step_object c k (settled past) past e.step
     ++ flat_map (event_line c e.step (slots_in past) (time c (e ∷ past))) es
-reply_objects c e past (Refused why) = refused_line c (time c past) e.port e.step why
+reply_objects c k e past (Refused why) = refused_line c (time c past) e.port e.step why
 
-abbrev pub entry_objects : Parts → LogEntry → List LogEntry → List ℕ
-entry_objects c e past = reply_objects c e past e.reply
+abbrev pub entry_objects : Parts → Option CodedData → LogEntry → List LogEntry → List ℕ
+entry_objects c k e past = reply_objects c k e past e.reply
 
 -- the objects of a log, the oldest entry first, of a run that opened with this table and capacity
-abbrev pub jsonl : Parts → ℕ → ℕ → List LogEntry → List ℕ
-jsonl c opening capacity log =
-    run_line c opening capacity ++ each_entry (entry_objects c) [] log
+abbrev pub jsonl : Parts → Option CodedData → ℕ → ℕ → List LogEntry → List ℕ
+jsonl c k opening capacity log =
+    run_line c opening capacity ++ each_entry (entry_objects c k) [] log

@@ -3,6 +3,7 @@ pub mod Look
 pub mod Open
 pub mod Shown
 pub mod Telling
+pub mod WhereTold
 pub mod Putting
 pub mod Pcap
 pub mod Captured

@@ -1,14 +1,15 @@
 -- A log with names: its text, in which numbers of nodes, signals and tables are names, with lines
--- that say what frames and slots mean.
+-- that say what frames and slots mean, and where that is told what values mean.
 -- A number that names nothing, in a step that is refused, stays a number.
 use Rattle.std.specs.Prelude.{ℕ, ◌+◌, ◌*◌, ◌/◌, ◌%◌, ◌==◌, if◌then◌else◌, List, [], ◌∷◌}
 use Rattle.std.specs.Prelude.{◌++◌, map, flat_map, codes, find, take, zip, slice_index}
-use Rattle.std.specs.Prelude.{Option, Some, None}
+use Rattle.std.specs.Prelude.{Option, Some, None, length, nat_lt}
 use Rattle.std.specs.Option.{option_to_list, option_map_or}
 use Rattle.std.specs.Fmt.{decimal}
 use Rattle.hex.specs.Hex.{encode_upper}
 use Rattle.lin_frame.specs.Bits.{unpacked_value}
 use Rattle.lin_frame.specs.declared.layout.Place.{Place}
+use Rattle.lin_frame.specs.declared.value.Value.{Value}
 use Rattle.lin_cluster_parts.specs.Cluster.{entry_name, frame_name, frame_of, line_of, node_of}
 use Rattle.lin_cluster_parts.specs.Cluster.{signal_of, sporadic_of}
 use Rattle.lin_cluster_parts.specs.declared.parts.Parts.{Parts}
@@ -23,11 +24,15 @@ use Rattle.lin_core.specs.declared.log.LogEntry.{LogEntry}
 use Rattle.lin_core.specs.declared.reply.Reply.{Reply}
 use Rattle.lin_core.specs.declared.reply.Reply.TheVariants.{Done, Refused}
 use Rattle.lin_core.specs.declared.step.Step.{Step}
-use Rattle.lin_core.specs.declared.step.Step.TheVariants.{Finish}
+use Rattle.lin_core.specs.declared.step.Step.TheVariants.{Finish, Write}
 use Rattle.lin_core.specs.Tables.{refusal_number, refusal_word}
 use Rattle.lin_log.specs.Language.{named}
 use Rattle.lin_log.specs.Words.{event_words, log_text, value_word}
+use Rattle.lin_values.specs.Coded.{CodedData}
+use Rattle.lin_values.specs.Meaning.{meaning}
+use Rattle.lin_values.specs.Shown.{shown}
 use Rattle.lin_export.specs.Shown.{slot_frame}
+use Rattle.lin_export.specs.WhereTold.{where_told}
 
 -- the frame of a sporadic entry with a header
 abbrev pub sporadic_frame : Parts → Entry → Option ℕ → Option ℕ
@@ -97,29 +102,65 @@ abbrev pub behind : Parts → Option Slot → Event → Option (List (List ℕ))
 behind c o (event.Seen (Good answer)) = option_map_or (good_words c answer) o None
 behind c o e = None
 
-abbrev pub event_lines : Parts → Option Slot → Event → List (List (List ℕ))
-event_lines c o e = named_event c e ∷ option_to_list (behind c o e)
+-- ---- what values mean
+-- the line of a value of a signal, where it means something
+abbrev pub value_lines : Parts → CodedData → ℕ → Value → List (List (List ℕ))
+value_lines c k s v =
+    option_map_or
+    (λ m. (codes "value" ∷ (signal_of c s).name ∷ shown m ∷ []) ∷ []) (meaning k s v) []
+
+-- the signals of a frame, in the order of the places
+abbrev pub place_values : Parts → CodedData → List ℕ → ℕ × Place → List (List (List ℕ))
+place_values c k answer p = value_lines c k p.0 (unpacked_value p.1 (take 8 answer))
+
+abbrev pub frame_values : Parts → CodedData → List ℕ → ℕ → List (List (List ℕ))
+frame_values c k answer f =
+    flat_map (place_values c k answer) (zip (frame_of c f).signals (frame_of c f).layout.places)
+
+-- those of a slot that was seen good, where it has a frame of signals
+abbrev pub slot_values : Parts → CodedData → List ℕ → Slot → List (List (List ℕ))
+slot_values c k answer s =
+    option_map_or
+    (frame_values c k answer) (slot_frame c (line_of c s.table s.entry).entry s) []
+
+abbrev pub seen_values : Parts → CodedData → Option Slot → Event → List (List (List ℕ))
+seen_values c k o (event.Seen (Good answer)) = option_map_or (slot_values c k answer) o []
+seen_values c k o e = []
+
+-- the value of a write that was done
+abbrev pub written_values : Parts → CodedData → Step → List (List (List ℕ))
+written_values c k (Write by signal v) =
+    if nat_lt signal (length c.signals) then value_lines c k signal v else []
+written_values c k step = []
+
+-- ---- entries
+abbrev pub event_lines : Parts → Option CodedData → Option Slot → Event → List (List (List ℕ))
+event_lines c k o e =
+    named_event c e
+    ∷ (option_to_list (behind c o e) ++ where_told k (λ d. seen_values c d o e))
 
 -- after the lines of a finish, the time in microseconds
 abbrev pub time_words : Step → ℕ → Option (List (List ℕ))
 time_words Finish at = Some (codes "time" ∷ decimal at ∷ [])
 time_words step at = None
 
-abbrev pub lines_of_reply : Parts → LogEntry → List LogEntry → Reply
+abbrev pub lines_of_reply : Parts → Option CodedData → LogEntry → List LogEntry → Reply
     → List (List (List ℕ))
-lines_of_reply c e past (Done events) =
-    flat_map (event_lines c (open_slot past)) events
-    ++ option_to_list (time_words e.step (time c (e ∷ past)))
-lines_of_reply c e past (Refused r) =
+lines_of_reply c k e past (Done events) =
+    where_told k (λ d. written_values c d e.step)
+    ++ (flat_map (event_lines c k (open_slot past)) events
+    ++ option_to_list (time_words e.step (time c (e ∷ past))))
+lines_of_reply c k e past (Refused r) =
     (codes "refused" ∷ decimal (refusal_number r) ∷ refusal_word r ∷ []) ∷ []
 
-abbrev pub reply_lines : Parts → LogEntry → List LogEntry → List (List (List ℕ))
-reply_lines c e past = lines_of_reply c e past e.reply
+abbrev pub reply_lines : Parts → Option CodedData → LogEntry → List LogEntry
+    → List (List (List ℕ))
+reply_lines c k e past = lines_of_reply c k e past e.reply
 
 -- entries with names, the oldest first, each on those before it, which stand the newest first
-abbrev pub named_entries : Parts → List LogEntry → List LogEntry → List ℕ
-named_entries c past entries = log_text (named c) (reply_lines c) past entries
+abbrev pub named_entries : Parts → Option CodedData → List LogEntry → List LogEntry → List ℕ
+named_entries c k past entries = log_text (named c) (reply_lines c k) past entries
 
 -- the log with names, the oldest entry first
-abbrev pub named_log : Parts → List LogEntry → List ℕ
-named_log c log = named_entries c [] log
+abbrev pub named_log : Parts → Option CodedData → List LogEntry → List ℕ
+named_log c k log = named_entries c k [] log

@@ -4,6 +4,7 @@ use Rattle.lin_cluster_parts.specs.declared.parts.Parts.{Parts}
 use Rattle.lin_core.specs.declared.log.LogEntry.{LogEntry}
 use Rattle.lin_text.specs.Written.{Grows}
 use Rattle.lin_text.specs.declared.buffered.TextWriter.{TextWriter}
+use Rattle.lin_values.specs.Coded.{CodedData}
 use Rattle.lin_export.specs.Vcd.{Group, latest, shown_at, timed_groups, waits}
 
 -- Groups were put after a time that stands in the text, which is now another one.
@@ -18,7 +19,7 @@ AreCounts count kept = (h : ℕ) → h < 256 → slice_index kept h ≡ count h
 
 -- What is kept of the entries that were read: the last time in the text, and how many messages of
 -- each host wait.
-pub record KeepsChanges (c : Parts) (past : List LogEntry) (last : ℕ)
+pub record KeepsChanges (c : Parts) (k : Option CodedData) (past : List LogEntry) (last : ℕ)
     (counts : List ℕ) : Type 0 where
-  pub shown : last ≡ shown_at c past
+  pub shown : last ≡ shown_at c k past
   pub waiting : AreCounts (waits past) counts

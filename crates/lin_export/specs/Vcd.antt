@@ -19,8 +19,13 @@ use Rattle.lin_core.specs.declared.event.Event.TheVariants.{Accepted, Sent, Lost
 use Rattle.lin_core.specs.declared.log.LogEntry.{LogEntry}
 use Rattle.lin_core.specs.declared.step.Step.{Step}
 use Rattle.lin_core.specs.declared.step.Step.TheVariants.{Write, Finish, Wake}
+use Rattle.lin_values.specs.Coded.{has_range, CodedData}
+use Rattle.lin_values.specs.Meaning.{meaning}
+use Rattle.lin_values.specs.Meant.{Meant, Physical}
+use Rattle.lin_values.specs.Shown.{plain_shown}
 use Rattle.lin_export.specs.Telling.{each_entry}
 use Rattle.lin_export.specs.Track.{slots_in}
+use Rattle.lin_export.specs.WhereTold.{where_told}
 
 -- the low bits of a number as digits, the highest first
 abbrev pub binary : ℕ → ℕ → List ℕ
@@ -37,7 +42,7 @@ abbrev pub code : ℕ → List ℕ
 code k = if nat_lt k 94 then (33 + k) ∷ [] else (33 + k % 94) ∷ (32 + k / 94) ∷ []
 
 -- the numbers of variables: first the six of the bus, then the signals as they are heard, as they
--- are written, and the hosts
+-- are written, the hosts, and the signals that have a range by what they mean
 abbrev pub heard_number : ℕ → ℕ
 heard_number s = 6 + s
 
@@ -46,6 +51,9 @@ written_number c s = 6 + length c.signals + s
 
 abbrev pub waiting_number : Parts → ℕ → ℕ
 waiting_number c h = 6 + 2 * length c.signals + h
+
+abbrev pub physical_number : Parts → ℕ → ℕ
+physical_number c s = 6 + 2 * length c.signals + nodes c + s
 
 -- a variable takes a value of so many bits, or one that isn't known
 abbrev pub before_code : ℕ → List ℕ → List ℕ
@@ -69,6 +77,24 @@ written_change c s v =
 
 abbrev pub waiting_change : Parts → ℕ → ℕ → List ℕ
 waiting_change c h n = number_change 11 (waiting_number c h) n
+
+-- a variable takes a decimal, exactly, or `nan` where the value means none
+abbrev pub real_word : Meant → List ℕ
+real_word (Physical units unit) = plain_shown (Physical units unit)
+real_word m = codes "nan"
+
+abbrev pub real_value : Option Meant → List ℕ
+real_value m = option_map_or real_word m (codes "nan")
+
+abbrev pub real_line : List ℕ → List ℕ → List ℕ
+real_line variable value = 114 ∷ (value ++ 32 ∷ (variable ++ 10 ∷ []))
+
+abbrev pub real_change : ℕ → Option Meant → List ℕ
+real_change k m = real_line (code k) (real_value m)
+
+abbrev pub physical_change : Parts → CodedData → ℕ → Value → List ℕ
+physical_change c k s v =
+    if has_range k s then real_change (physical_number c s) (meaning k s v) else []
 
 -- the declaration of a variable, and of a scope of them
 abbrev pub text_line : List ℕ → List ℕ
@@ -105,14 +131,26 @@ written_variable c s =
 abbrev pub waiting_variable : Parts → ℕ → List ℕ
 waiting_variable c h = declaration 11 (waiting_number c h) (codes "waiting@" ++ (node_of c h).name)
 
-abbrev pub declarations : Parts → List ℕ
-declarations c =
+-- what signals mean that have a range
+abbrev pub physical_variable : Parts → CodedData → ℕ → List ℕ
+physical_variable c k s =
+    if has_range k s
+    then codes "$var real 64 "
+    ++ (code (physical_number c s) ++ 32 ∷ ((signal_of c s).name ++ text_line (codes " $end")))
+    else []
+
+abbrev pub physical_scope : Parts → CodedData → List ℕ
+physical_scope c k =
+    scope (codes "physical") (flat_map (physical_variable c k) (numbers (length c.signals)))
+
+abbrev pub declarations : Parts → Option CodedData → List ℕ
+declarations c k =
     text_line (codes "$timescale 1 us $end")
     ++ (scope (codes "bus") bus_variables
     ++ (scope (codes "heard") (flat_map (heard_variable c) (numbers (length c.signals)))
     ++ (scope (codes "written") (flat_map (written_variable c) (numbers (length c.signals)))
     ++ (scope (codes "waiting") (flat_map (waiting_variable c) (numbers (nodes c)))
-    ++ text_line (codes "$enddefinitions $end")))))
+    ++ (where_told k (physical_scope c) ++ text_line (codes "$enddefinitions $end"))))))
 
 -- the first value of each variable: the bus has shown nothing and is awake, signals have their
 -- initial values, and no message waits
@@ -125,8 +163,14 @@ first_written c s = written_change c s (signal_of c s).initial
 abbrev pub first_waiting : Parts → ℕ → List ℕ
 first_waiting c h = waiting_change c h 0
 
-abbrev pub first_values : Parts → List ℕ
-first_values c =
+abbrev pub first_physical : Parts → CodedData → ℕ → List ℕ
+first_physical c k s = physical_change c k s (signal_of c s).initial
+
+abbrev pub first_decimals : Parts → CodedData → List ℕ
+first_decimals c k = flat_map (first_physical c k) (numbers (length c.signals))
+
+abbrev pub first_values : Parts → Option CodedData → List ℕ
+first_values c k =
     text_line (codes "#0")
     ++ (text_line (codes "$dumpvars")
     ++ (flat_map unknown (numbers 5)
@@ -134,10 +178,10 @@ first_values c =
     ++ (flat_map (first_heard c) (numbers (length c.signals))
     ++ (flat_map (first_written c) (numbers (length c.signals))
     ++ (flat_map (first_waiting c) (numbers (nodes c))
-    ++ text_line (codes "$end")))))))
+    ++ (where_told k (first_decimals c) ++ text_line (codes "$end"))))))))
 
-abbrev pub head : Parts → List ℕ
-head c = declarations c ++ first_values c
+abbrev pub head : Parts → Option CodedData → List ℕ
+head c k = declarations c k ++ first_values c k
 
 -- how many messages of a host wait, as the events say: at most 2,047
 abbrev pub one_more : ℕ → ℕ
@@ -197,27 +241,38 @@ abbrev pub frame_changes : Parts → ℕ → List ℕ → List ℕ
 frame_changes c f answer =
     flat_map (place_change c answer) (zip (frame_of c f).signals (frame_of c f).layout.places)
 
-abbrev pub heard_group : Parts → ℕ → Slot → List Group
-heard_group c end s =
+-- what they mean, those that have a range
+abbrev pub place_decimal : Parts → CodedData → List ℕ → ℕ × Place → List ℕ
+place_decimal c k answer p = physical_change c k p.0 (unpacked_value p.1 (take 8 answer))
+
+abbrev pub frame_decimals : Parts → List ℕ → ℕ → CodedData → List ℕ
+frame_decimals c answer f k =
+    flat_map (place_decimal c k answer) (zip (frame_of c f).signals (frame_of c f).layout.places)
+
+abbrev pub heard_changes : Parts → Option CodedData → List ℕ → ℕ → List ℕ
+heard_changes c k answer f = frame_changes c f answer ++ where_told k (frame_decimals c answer f)
+
+abbrev pub heard_group : Parts → Option CodedData → ℕ → Slot → List Group
+heard_group c k end s =
     option_map_or
     (λ answer. option_map_or
-    (λ f. record { at = end; changes = frame_changes c f answer } ∷ []) (carried_frame c s) [])
+    (λ f. record { at = end; changes = heard_changes c k answer f } ∷ []) (carried_frame c s) [])
     (good s) []
 
-abbrev pub slot_groups : Parts → ℕ → ℕ → ℕ → Slot → List Group
-slot_groups c number at end s =
-    record { at = at; changes = slot_changes number s } ∷ heard_group c end s
+abbrev pub slot_groups : Parts → Option CodedData → ℕ → ℕ → ℕ → Slot → List Group
+slot_groups c k number at end s =
+    record { at = at; changes = slot_changes number s } ∷ heard_group c k end s
 
 -- what a step that was done changes by itself: a write of a signal, a slot at its start and what is
 -- heard at its end, a wake
-abbrev pub step_groups : Parts → List LogEntry → ℕ → Step → List Group
-step_groups c past end (Write by signal value) =
+abbrev pub step_groups : Parts → Option CodedData → List LogEntry → ℕ → Step → List Group
+step_groups c k past end (Write by signal value) =
     if nat_lt signal (length c.signals)
     then record { at = time c past; changes = written_change c signal value } ∷ [] else []
-step_groups c past end Finish =
-    option_map_or (slot_groups c (slots_in past) (time c past) end) (open_slot past) []
-step_groups c past end Wake = record { at = time c past; changes = number_change 1 5 0 } ∷ []
-step_groups c past end step = []
+step_groups c k past end Finish =
+    option_map_or (slot_groups c k (slots_in past) (time c past) end) (open_slot past) []
+step_groups c k past end Wake = record { at = time c past; changes = number_change 1 5 0 } ∷ []
+step_groups c k past end step = []
 
 abbrev pub count_group : Parts → ℕ → (ℕ → ℕ) → ℕ → List Group
 count_group c at count host = record { at = at; changes = waiting_change c host (count host) } ∷ []
@@ -230,22 +285,22 @@ event_group c at count (Lost host number why) = count_group c at count host
 event_group c at count Asleep = record { at = at; changes = number_change 1 5 1 } ∷ []
 event_group c at count event = []
 
-abbrev pub groups : Parts → LogEntry → List LogEntry → List Group
-groups c e past =
-    option_map_or (step_groups c past (time c (e ∷ past))) (done e) []
+abbrev pub groups : Parts → Option CodedData → LogEntry → List LogEntry → List Group
+groups c k e past =
+    option_map_or (step_groups c k past (time c (e ∷ past))) (done e) []
     ++ flat_map (event_group c (time c (e ∷ past)) (waits (e ∷ past))) (events e)
 
 -- the last time that stands in the text
-abbrev pub shown_at : Parts → List LogEntry → ℕ
-shown_at c [] = 0
-shown_at c (e ∷ past) = latest (shown_at c past) (groups c e past)
+abbrev pub shown_at : Parts → Option CodedData → List LogEntry → ℕ
+shown_at c k [] = 0
+shown_at c k (e ∷ past) = latest (shown_at c k past) (groups c k e past)
 
-abbrev pub entry_changes : Parts → LogEntry → List LogEntry → List ℕ
-entry_changes c e past = timed_groups (shown_at c past) (groups c e past)
+abbrev pub entry_changes : Parts → Option CodedData → LogEntry → List LogEntry → List ℕ
+entry_changes c k e past = timed_groups (shown_at c k past) (groups c k e past)
 
 -- the changes of a log, the oldest entry first, and the time of its end
-abbrev pub last_time : Parts → List LogEntry → List ℕ
-last_time c past = stamp (shown_at c past) (time c past)
+abbrev pub last_time : Parts → Option CodedData → List LogEntry → List ℕ
+last_time c k past = stamp (shown_at c k past) (time c past)
 
-abbrev pub vcd : Parts → List LogEntry → List ℕ
-vcd c log = head c ++ (each_entry (entry_changes c) [] log ++ last_time c (reverse log))
+abbrev pub vcd : Parts → Option CodedData → List LogEntry → List ℕ
+vcd c k log = head c k ++ (each_entry (entry_changes c k) [] log ++ last_time c k (reverse log))

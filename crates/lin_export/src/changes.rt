@@ -1,16 +1,20 @@
 //! Changes of values, as lines (IEEE 1364-2005, section 18).
 
-ghost use Rattle.std.specs.Prelude.{◌≡◌, ◌≤◌, ◌<◌, ◌*◌, length, flat_map};
+ghost use Rattle.std.specs.Prelude.{◌≡◌, ◌≤◌, ◌<◌, ◌*◌, length, flat_map, option_map};
 ghost use Rattle.lin_cluster_parts.specs.Cluster.{signal_of};
 ghost use Rattle.lin_text.specs.Written.{Grows};
 ghost use Rattle.lin_export.specs.Vcd.{before_code, binary, change, code, digits, heard_change};
 ghost use Rattle.lin_export.specs.Vcd.{heard_number, number_change, unknown, waiting_change};
 ghost use Rattle.lin_export.specs.Vcd.{waiting_number, written_change, written_number};
+ghost use Rattle.lin_export.specs.Vcd.{physical_change, physical_number, real_change, real_value};
+ghost use Rattle.lin_export.specs.Vcd.{real_word};
+ghost use Rattle.lin_values.specs.Meaning.{meant};
 
 use arrayvec::ArrayVec;
 use lin_cluster_parts::Cluster;
 use lin_frame::Value;
 use lin_text::TextWriter;
+use lin_values::{Coded, Meaning, put_decimal};
 use std::io::Write;
 
 /// The number of the variable of the first signal.
@@ -168,6 +172,70 @@ pub(crate) fn put_heard<W: Write>(
         heard_number(signal),
         value_digits(size, value).as_slice(),
     );
+}
+
+/// The number of the variable of what a signal means.
+pub(crate) fn physical_number(cluster: &Cluster, signal: u16) -> u16
+    requires { signal < length cluster.now.signals }
+    ensures number { result ≡ physical_number cluster.now signal }
+    ensures few { result < 4096 }
+{
+    FIRST + 2 * cluster.signals() as u16 + cluster.nodes() as u16 + signal
+}
+
+/// A decimal, or `nan`.
+fn put_meaning<W: Write>(out: &mut TextWriter<'_, W>, meaning: &Meaning<'_>)
+    ensures { Grows W.contents out.old out.new (real_word (meant meaning.now)) }
+{
+    match meaning {
+        Meaning::Physical(value, _) => put_decimal(out, value.decimal()),
+        Meaning::Named(_) | Meaning::Number(_) | Meaning::Digits(_) | Meaning::Letters(_) => {
+            out.put(b"nan")
+        }
+    }
+}
+
+fn put_real_value<W: Write>(out: &mut TextWriter<'_, W>, meaning: Option<Meaning<'_>>)
+    ensures { Grows W.contents out.old out.new (real_value (option_map meant meaning.entry)) }
+{
+    match meaning {
+        Some(meaning) => put_meaning(out, &meaning),
+        None => out.put(b"nan"),
+    }
+}
+
+/// A variable takes a decimal, or `nan`.
+fn put_real<W: Write>(out: &mut TextWriter<'_, W>, variable: u16, meaning: Option<Meaning<'_>>)
+    requires { variable < 4096 }
+    ensures { Grows W.contents out.old out.new
+        (real_change variable (option_map meant meaning.entry)) }
+{
+    out.put_byte(b'r');
+    put_real_value(out, meaning);
+    out.put_byte(b' ');
+    put_code(out, variable);
+    out.put_byte(b'\n');
+}
+
+/// What a value of a signal means, where it has a range.
+pub(crate) fn put_physical<W: Write>(
+    out: &mut TextWriter<'_, W>,
+    cluster: &Cluster,
+    coded: &Coded,
+    signal: u16,
+    value: &Value,
+)
+    requires { signal < length cluster.now.signals }
+    ensures { Grows W.contents out.old out.new
+        (physical_change cluster.now coded.now signal value.now) }
+{
+    if coded.has_range(signal) {
+        put_real(
+            out,
+            physical_number(cluster, signal),
+            coded.meaning(signal, value),
+        );
+    }
 }
 
 /// A signal is given a value.

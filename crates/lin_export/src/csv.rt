@@ -1,19 +1,23 @@
 //! Logs as lines of values between commas.
 
-ghost use Rattle.std.specs.Prelude.{◌≡◌, ℕ, [], length, flat_map, map};
+ghost use Rattle.std.specs.Prelude.{◌≡◌, ◌<◌, ℕ, [], length, flat_map, map};
+ghost use Rattle.lin_frame.specs.Words.{numbers};
 ghost use Rattle.lin_core.specs.Signals.{heard_value, ArePointwise};
 ghost use Rattle.lin_frame.specs.declared.value.Value.{Value};
 ghost use Rattle.lin_text.specs.Written.{Grows, WritesText};
 ghost use Rattle.lin_export.specs.Cells.{cell_text};
 ghost use Rattle.lin_export.specs.Csv.{comma, csv, head_line, hex_cell, marked};
 ghost use Rattle.lin_export.specs.Csv.{node_name, nodes_cell, response_cells, row, schedule_cells};
+ghost use Rattle.lin_export.specs.Csv.{signal_cells, signal_names};
 ghost use Rattle.lin_export.specs.Csv.{slot_cells, slot_line, spaced_name, value_cell};
 ghost use Rattle.lin_export.specs.Look.{looks};
 ghost use Rattle.lin_export.specs.Open.{slot_in};
+ghost use Rattle.lin_export.specs.WhereTold.{told};
 
 use crate::fault::ExportFault;
 use crate::format::{Format, write_as};
 use crate::hearing::hear_slot;
+use crate::meaning_cells::{put_meaning_cells, put_meaning_names};
 use crate::naming::{node_name, slot_name, table_name};
 use crate::slot::{Look, OpenSlot, byte_at};
 use crate::track::Track;
@@ -21,6 +25,7 @@ use lin_cluster_parts::Cluster;
 use lin_core::{Listed, Log, LogEntry, Reply, Step, initial_values};
 use lin_frame::{Answer, Value};
 use lin_text::TextWriter;
+use lin_values::Coded;
 use std::alloc::Global;
 use std::io::Write;
 
@@ -80,30 +85,69 @@ fn put_value<W: Write>(out: &mut TextWriter<'_, W>, value: &Value)
     }
 }
 
-fn put_values<W: Write>(out: &mut TextWriter<'_, W>, values: &[Value])
-    ensures { Grows W.contents out.old out.new
-        (flat_map (λ value. comma (value_cell value)) values.now) }
+/// The cells of a signal with a value: that, and where that is told what it means.
+fn put_signal<W: Write>(
+    out: &mut TextWriter<'_, W>,
+    coded: Option<&Coded>,
+    signal: u16,
+    value: &Value,
+)
+    ensures { (g : ℕ → Value) → value.now ≡ g signal
+        → Grows W.contents out.old out.new (flat_map comma
+        (signal_cells (told coded.entry) g signal)) }
 {
-    for value in values {
-        put_value(out, value);
+    put_value(out, value);
+    put_meaning_cells(out, coded, signal, value);
+}
+
+fn put_values<W: Write>(
+    out: &mut TextWriter<'_, W>,
+    cluster: &Cluster,
+    coded: Option<&Coded>,
+    values: &[Value],
+)
+    requires { length values.now ≡ length cluster.now.signals }
+    ensures { (g : ℕ → Value) → ArePointwise g values.now
+        → Grows W.contents out.old out.new (flat_map comma
+        (flat_map (signal_cells (told coded.entry) g) (numbers (length cluster.now.signals)))) }
+{
+    for signal in 0..cluster.signals() as u16 {
+        put_signal(out, coded, signal, &values[usize::from(signal)]);
     }
 }
 
-fn put_signal_names<W: Write>(out: &mut TextWriter<'_, W>, cluster: &Cluster)
-    ensures { Grows W.contents out.old out.new
-        (flat_map comma (map (λ s. s.name) cluster.now.signals)) }
+/// The name of a signal's column, and of that of what it means.
+fn put_signal_name<W: Write>(
+    out: &mut TextWriter<'_, W>,
+    cluster: &Cluster,
+    coded: Option<&Coded>,
+    signal: u16,
+)
+    requires { signal < length cluster.now.signals }
+    ensures { Grows W.contents out.old out.new (flat_map comma
+        (signal_names cluster.now (told coded.entry) signal)) }
+{
+    put_next(out, b",", Cell::Text(cluster.signal_name(signal)));
+    put_meaning_names(out, cluster, coded, signal);
+}
+
+fn put_signal_names<W: Write>(out: &mut TextWriter<'_, W>, cluster: &Cluster, coded: Option<&Coded>)
+    ensures { Grows W.contents out.old out.new (flat_map comma
+        (flat_map (signal_names cluster.now (told coded.entry))
+        (numbers (length cluster.now.signals)))) }
 {
     for signal in 0..cluster.signals() as u16 {
-        put_next(out, b",", Cell::Text(cluster.signal_name(signal)));
+        put_signal_name(out, cluster, coded, signal);
     }
 }
 
 /// The names of the columns.
-fn put_head<W: Write>(out: &mut TextWriter<'_, W>, cluster: &Cluster)
-    ensures { Grows W.contents out.old out.new (head_line cluster.now) }
+fn put_head<W: Write>(out: &mut TextWriter<'_, W>, cluster: &Cluster, coded: Option<&Coded>)
+    ensures { Grows W.contents out.old out.new
+        (head_line cluster.now (told coded.entry)) }
 {
     out.put(b"slot,time_us,delay_us,table,entry,kind,frame,header,nodes,seen,data,checksum");
-    put_signal_names(out, cluster);
+    put_signal_names(out, cluster, coded);
     out.put_byte(b'\n');
 }
 
@@ -212,6 +256,7 @@ pub(crate) fn put_slot<'a, W: Write>(
 fn put_line<'a, W: Write>(
     out: &mut TextWriter<'_, W>,
     cluster: &'a Cluster,
+    coded: Option<&Coded>,
     track: &Track,
     slot: &OpenSlot,
     values: &[Value],
@@ -219,24 +264,26 @@ fn put_line<'a, W: Write>(
     requires { length values.now ≡ length cluster.now.signals }
     ensures { (g : ℕ → Value) → ArePointwise g values.now
         → Grows W.contents out.old out.new
-        (slot_line cluster.now track.now.slots track.now.time (slot_in slot.now) g) }
+        (slot_line cluster.now (told coded.entry) track.now.slots
+        track.now.time (slot_in slot.now) g) }
 {
     put_cell(out, Cell::Number(track.slots()));
     put_slot(out, b",", cluster, track.time(), slot);
-    put_values(out, values);
+    put_values(out, cluster, coded, values);
     out.put_byte(b'\n');
 }
 
-/// A table, and the values of the signals that are heard.
+/// A table, the values of the signals that are heard, and where that is told what signals mean.
 #[derive(Drop)]
-struct Sheet {
+struct Sheet<'a> {
     values: Vec<Value>,
+    coded: Option<&'a Coded>,
 }
 
-impl Format for Sheet {
-    ghost begins = { λ f c. head_line c };
+impl Format for Sheet<'_> {
+    ghost begins = { λ f c. head_line c (told f.coded) };
 
-    ghost says = { λ f c. row c };
+    ghost says = { λ f c. row c (told f.coded) };
 
     ghost ends = { λ f c past. [] };
 
@@ -245,7 +292,7 @@ impl Format for Sheet {
     ghost keeps = { λ f c past. ArePointwise (heard_value c past) f.values.items };
 
     fn put_head<W: Write>(&self, out: &mut TextWriter<'_, W>, cluster: &Cluster) {
-        put_head(out, cluster);
+        put_head(out, cluster, self.coded);
     }
 
     fn put_entry<W: Write>(
@@ -263,7 +310,14 @@ impl Format for Sheet {
         };
         if let Some(slot) = track.slot() {
             hear_slot(&mut self.values, cluster, slot);
-            put_line(out, cluster, track, slot, self.values.as_slice());
+            put_line(
+                out,
+                cluster,
+                self.coded,
+                track,
+                slot,
+                self.values.as_slice(),
+            );
         }
     }
 
@@ -272,7 +326,8 @@ impl Format for Sheet {
 
 /// Writes the table of a log: a line with the names of the columns, and one per finished slot, with
 /// its number from 0, its times in microseconds, its entry, its response, and the values of all
-/// signals that are heard after it (RFC 4180, with LF alone).
+/// signals that are heard after it (RFC 4180, with LF alone). With what signals mean, each that has
+/// an encoding has one column more.
 ///
 /// It goes through a buffer of fixed size, and takes memory for a value of each signal and for
 /// what is kept of one slot. The writer isn't flushed.
@@ -285,12 +340,13 @@ impl Format for Sheet {
 pub fn write_csv<W: Write>(
     alloc: Global,
     cluster: &Cluster,
+    coded: Option<&Coded>,
     log: &Log,
     writer: &mut W,
 ) -> Result<(), ExportFault>
     ensures { WritesText (W.contents writer.old) (W.contents writer.new) result
-        (csv cluster.now log.now.entries) }
+        (csv cluster.now (told coded.entry) log.now.entries) }
 {
     let values = initial_values(alloc, cluster)?;
-    write_as(&mut Sheet { values }, alloc, cluster, log, writer)
+    write_as(&mut Sheet { values, coded }, alloc, cluster, log, writer)
 }

@@ -1,6 +1,7 @@
 //! Logs as objects of JSON, one a line.
 
-ghost use Rattle.std.specs.Prelude.{◌≡◌, ◌<◌, ⊤, ℕ, [], List, flat_map, map, slice_index};
+ghost use Rattle.std.specs.Prelude.{◌≡◌, ◌<◌, ⊤, ℕ, [], List, flat_map, map};
+ghost use Rattle.std.specs.Prelude.{slice_index};
 ghost use Rattle.lin_cluster_parts.specs.Cluster.{nodes};
 ghost use Rattle.lin_core.specs.declared.log.LogEntry.{LogEntry};
 ghost use Rattle.lin_frame.specs.Words.{numbers};
@@ -14,6 +15,7 @@ ghost use Rattle.lin_export.specs.Jsonl.{sending_members, settled_all, step_obje
 ghost use Rattle.lin_export.specs.Members.{member_shown};
 ghost use Rattle.lin_export.specs.PutsGroups.{AreCounts};
 ghost use Rattle.lin_export.specs.Track.{track_of};
+ghost use Rattle.lin_export.specs.WhereTold.{told};
 
 use crate::fault::ExportFault;
 use crate::format::{Format, write_as};
@@ -28,6 +30,7 @@ use lin_cluster_parts::Cluster;
 use lin_core::{Cause, Event, Listed, Log, LogEntry, PortId, Refusal, Reply, Step};
 use lin_log::{put_port, put_step as put_step_words};
 use lin_text::TextWriter;
+use lin_values::Coded;
 use std::alloc::Global;
 use std::io::Write;
 
@@ -92,18 +95,20 @@ fn put_run<W: Write>(out: &mut TextWriter<'_, W>, cluster: &Cluster, opening: u1
 fn put_step<W: Write>(
     out: &mut TextWriter<'_, W>,
     cluster: &Cluster,
+    coded: Option<&Coded>,
     track: &Track,
     last: &[u32; HOSTS],
     step: &Step,
 )
     ensures { (past : List LogEntry) → track.now ≡ track_of cluster.now past
         → (count : ℕ → ℕ) → AreCounts count last.now
-        → Grows W.contents out.old out.new (step_object cluster.now count past step.now) }
+        → Grows W.contents out.old out.new
+        (step_object cluster.now (told coded.entry) count past step.now) }
 {
     match step {
         Step::Finish => {
             if let Some(slot) = track.slot() {
-                put_slot(out, cluster, track, last, slot);
+                put_slot(out, cluster, coded, track, last, slot);
             }
         }
         Step::Wake => put_object_line(out, "awake", &[Member::Number("time_us", track.time())]),
@@ -360,19 +365,20 @@ fn settle_all(last: &mut [u32; HOSTS], events: &[Event])
     }
 }
 
-/// The objects of a run: the table that it opened with, the capacity of the queues, and the number
-/// of the last message of each host that was sent or lost.
+/// The objects of a run: the table that it opened with, the capacity of the queues, the number of
+/// the last message of each host that was sent or lost, and where that is told what signals mean.
 #[derive(Drop)]
-struct Objects {
+struct Objects<'a> {
     opening: u16,
     capacity: usize,
     last: [u32; HOSTS],
+    coded: Option<&'a Coded>,
 }
 
-impl Format for Objects {
+impl Format for Objects<'_> {
     ghost begins = { λ f c. run_line c f.opening f.capacity };
 
-    ghost says = { λ f c. entry_objects c };
+    ghost says = { λ f c. entry_objects c (told f.coded) };
 
     ghost ends = { λ f c past. [] };
 
@@ -394,7 +400,7 @@ impl Format for Objects {
         match &entry.reply {
             Reply::Done(events) => {
                 let at = track.time_behind(cluster, entry);
-                put_step(out, cluster, track, &self.last, &entry.step);
+                put_step(out, cluster, self.coded, track, &self.last, &entry.step);
                 put_events(
                     out,
                     cluster,
@@ -424,7 +430,7 @@ impl Format for Objects {
 /// run. Then there is one per finished slot, with its schedule entry, its responses and the values
 /// of its signals, one for each message that was accepted, arrived, was sent or lost, one for each
 /// sleep and wake-up, and one for each step that was refused. Each has a type and all its keys, in
-/// their order.
+/// their order. With what signals mean, a slot has one key more with that.
 ///
 /// It goes through a buffer of fixed size, and takes memory for what is kept of one slot. The
 /// writer isn't flushed.
@@ -437,18 +443,21 @@ impl Format for Objects {
 pub fn write_jsonl<W: Write>(
     alloc: Global,
     cluster: &Cluster,
+    coded: Option<&Coded>,
     opening: u16,
     capacity: usize,
     log: &Log,
     writer: &mut W,
 ) -> Result<(), ExportFault>
     ensures { WritesText (W.contents writer.old) (W.contents writer.new) result
-        (jsonl cluster.now opening capacity log.now.entries) }
+        (jsonl cluster.now (told coded.entry) opening capacity
+        log.now.entries) }
 {
     let mut objects = Objects {
         opening,
         capacity,
         last: none_settled(),
+        coded,
     };
     write_as(&mut objects, alloc, cluster, log, writer)
 }

@@ -1,12 +1,13 @@
 //! What holds of every history, as it is written in other forms.
 
-ghost use Rattle.std.specs.Prelude.{ℕ, List};
+ghost use Rattle.std.specs.Prelude.{ℕ, List, Option};
 ghost use Rattle.lin_core.specs.Runs.{history};
 ghost use Rattle.lin_core.specs.declared.port.PortId.{PortId};
 ghost use Rattle.lin_core.specs.declared.step.Step.{Step};
 ghost use Rattle.lin_export.specs.Captured.{IsCaptured};
 ghost use Rattle.lin_export.specs.Dumped.{IsDumped};
 ghost use Rattle.lin_cluster_parts.specs.declared.parts.Parts.{Parts};
+ghost use Rattle.lin_values.specs.Coded.{CodedData};
 
 use lin_cluster_parts::Cluster;
 
@@ -18,10 +19,10 @@ pub fn captures_what_was_seen()
 {}
 
 /// The last value of each signal in a dump, as it is heard and as it is written, is the one that
-/// the core has.
+/// the core has; where it is told what values mean, its last decimal is what the heard one means.
 pub fn dumps_last_values(cluster: &Cluster)
-    ensures { (opening capacity : ℕ) (steps : List (PortId × Step))
-        → IsDumped cluster.now (history cluster.now opening capacity steps) }
+    ensures { (k : Option CodedData) (opening capacity : ℕ) (steps : List (PortId × Step))
+        → IsDumped cluster.now k (history cluster.now opening capacity steps) }
 {
     cluster.sound();
 }

@@ -17,9 +17,11 @@ ghost use Rattle.lin_export.specs.Named.{who_word};
 ghost use Rattle.lin_export.specs.NamedWords.{event_text, line_or_none, named_entry};
 ghost use Rattle.lin_export.specs.Open.{slot_in};
 ghost use Rattle.lin_export.specs.Track.{track_of};
+ghost use Rattle.lin_export.specs.WhereTold.{told};
 
 use crate::fault::ExportFault;
 use crate::format::{Format, put_entries, write_as};
+use crate::named_values::{put_seen, put_written};
 use crate::naming::node_name;
 use crate::slot::{OpenSlot, byte_at};
 use crate::track::Track;
@@ -28,6 +30,7 @@ use lin_core::{Event, Listed, Log, LogEntry, Refusal, Reply, Seen, Step, frame_u
 use lin_frame::{Answer, unpack};
 use lin_log::{Word, put_line, put_step_line, put_words, value_word};
 use lin_text::TextWriter;
+use lin_values::Coded;
 use std::alloc::{AllocError, Global};
 use std::io::Write;
 
@@ -228,27 +231,33 @@ fn put_behind<W: Write>(
 fn put_lines<W: Write>(
     out: &mut TextWriter<'_, W>,
     cluster: &Cluster,
+    coded: Option<&Coded>,
     slot: &Option<OpenSlot>,
     event: &Event,
 )
     ensures { Grows W.contents out.old out.new
-        (event_text cluster.now (option_map slot_in slot.now) event.now) }
+        (event_text cluster.now (told coded.entry)
+        (option_map slot_in slot.now) event.now) }
 {
     put_event(out, cluster, event);
     put_behind(out, cluster, slot, event);
+    put_seen(out, cluster, coded, slot, event);
 }
 
 fn put_events<W: Write>(
     out: &mut TextWriter<'_, W>,
     cluster: &Cluster,
+    coded: Option<&Coded>,
     slot: &Option<OpenSlot>,
     events: &[Event],
 )
     ensures { Grows W.contents out.old out.new
-        (flat_map (event_text cluster.now (option_map slot_in slot.now)) events.now) }
+        (flat_map
+        (event_text cluster.now (told coded.entry)
+        (option_map slot_in slot.now)) events.now) }
 {
     for event in events {
-        put_lines(out, cluster, slot, event);
+        put_lines(out, cluster, coded, slot, event);
     }
 }
 
@@ -277,14 +286,16 @@ fn put_time<W: Write>(out: &mut TextWriter<'_, W>, step: &Step, time: u64)
     }
 }
 
-/// A log with names.
+/// A log with names, and where that is told with what values mean.
 #[derive(Drop)]
-struct NamedLog;
+struct NamedLog<'a> {
+    coded: Option<&'a Coded>,
+}
 
-impl Format for NamedLog {
+impl Format for NamedLog<'_> {
     ghost begins = { λ f c. [] };
 
-    ghost says = { λ f c. named_entry c };
+    ghost says = { λ f c. named_entry c (told f.coded) };
 
     ghost ends = { λ f c past. [] };
 
@@ -304,7 +315,8 @@ impl Format for NamedLog {
         put_step_line(out, cluster, entry.port, &entry.step);
         match &entry.reply {
             Reply::Done(events) => {
-                put_events(out, cluster, track.slot(), events.as_slice());
+                put_written(out, cluster, self.coded, &entry.step);
+                put_events(out, cluster, self.coded, track.slot(), events.as_slice());
                 put_time(out, &entry.step, track.time_behind(cluster, entry));
             }
             Reply::Refused(refusal) => put_refusal(out, *refusal),
@@ -315,7 +327,8 @@ impl Format for NamedLog {
 }
 
 /// Writes the log with names: its text, in which numbers of nodes, signals and tables are names,
-/// and what frames and slots mean on lines of its own, so that it says the same steps.
+/// and what frames and slots mean on lines of its own, so that it says the same steps. With what
+/// signals mean, the values of frames and writes have lines with that, too.
 ///
 /// It goes through a buffer of fixed size, and takes memory for what is kept of one slot. The
 /// writer isn't flushed.
@@ -328,13 +341,14 @@ impl Format for NamedLog {
 pub fn write_named<W: Write>(
     alloc: Global,
     cluster: &Cluster,
+    coded: Option<&Coded>,
     log: &Log,
     writer: &mut W,
 ) -> Result<(), ExportFault>
     ensures { WritesText (W.contents writer.old) (W.contents writer.new) result
-        (named_log cluster.now log.now.entries) }
+        (named_log cluster.now (told coded.entry) log.now.entries) }
 {
-    write_as(&mut NamedLog, alloc, cluster, log, writer)
+    write_as(&mut NamedLog { coded }, alloc, cluster, log, writer)
 }
 
 /// Writes the entries of a log from one on with names; the track is that of the entries before it,
@@ -342,18 +356,19 @@ pub fn write_named<W: Write>(
 fn write_entries<W: Write>(
     track: &mut Track,
     cluster: &Cluster,
+    coded: Option<&Coded>,
     log: &Log,
     from: usize,
     writer: &mut W,
 ) -> Result<(), ExportFault>
     requires { track.old ≡ track_of cluster.now (reverse (take from log.now.entries)) }
     ensures text { WritesText (W.contents writer.old) (W.contents writer.new) result
-        (named_entries cluster.now (reverse (take from log.now.entries))
-        (drop from log.now.entries)) }
+        (named_entries cluster.now (told coded.entry)
+        (reverse (take from log.now.entries)) (drop from log.now.entries)) }
     ensures track { OnOk result (track.new ≡ track_of cluster.now (reverse log.now.entries)) }
 {
     let mut out = TextWriter::new(writer);
-    let put = put_entries(&mut NamedLog, &mut out, track, cluster, log, from);
+    let put = put_entries(&mut NamedLog { coded }, &mut out, track, cluster, log, from);
     out.finish()?;
     put?;
     Ok(())
@@ -368,17 +383,18 @@ pub fn named_text(
     alloc: Global,
     track: &mut Track,
     cluster: &Cluster,
+    coded: Option<&Coded>,
     log: &Log,
     from: usize,
 ) -> Result<Vec<u8>, AllocError>
     requires { track.old ≡ track_of cluster.now (reverse (take from log.now.entries)) }
     ensures text { IfOk result (λ text. text.items
-        ≡ named_entries cluster.now (reverse (take from log.now.entries))
-        (drop from log.now.entries)) }
+        ≡ named_entries cluster.now (told coded.entry)
+        (reverse (take from log.now.entries)) (drop from log.now.entries)) }
     ensures track { OnOk result (track.new ≡ track_of cluster.now (reverse log.now.entries)) }
 {
     let mut text = Vec::new(alloc);
-    match write_entries(track, cluster, log, from, &mut text) {
+    match write_entries(track, cluster, coded, log, from, &mut text) {
         Ok(()) => Ok(text),
         Err(_) => Err(AllocError),
     }

@@ -13,10 +13,12 @@ ghost use Rattle.lin_export.specs.Look.{looks};
 ghost use Rattle.lin_export.specs.Members.{member_shown};
 ghost use Rattle.lin_export.specs.Open.{slot_in};
 ghost use Rattle.lin_export.specs.PutsGroups.{AreCounts};
+ghost use Rattle.lin_export.specs.WhereTold.{told};
 
 use crate::json::{
     Member, put_first, put_key, put_member, put_members, put_quoted, put_separator, put_type,
 };
+use crate::meanings::put_physical;
 use crate::naming::{node_name, slot_name, table_name};
 use crate::slot::{Look, OpenSlot, byte_at};
 use crate::track::Track;
@@ -26,6 +28,7 @@ use lin_core::Listed;
 use lin_frame::{Answer, Value, unpack};
 use lin_log::{put_shown, value_word};
 use lin_text::TextWriter;
+use lin_values::Coded;
 use std::io::Write;
 
 /// The name of a node.
@@ -296,14 +299,15 @@ fn put_message<W: Write>(
 pub(crate) fn put_slot<'a, W: Write>(
     out: &mut TextWriter<'_, W>,
     cluster: &'a Cluster,
+    coded: Option<&Coded>,
     track: &Track,
     last: &[u32; HOSTS],
     slot: &OpenSlot,
 )
     ensures { (count : ℕ → ℕ) → AreCounts count last.now
         → Grows W.contents out.old out.new
-        (slot_line cluster.now track.now.slots track.now.time track.now.hurt count
-        (slot_in slot.now)) }
+        (slot_line cluster.now (told coded.entry) track.now.slots
+        track.now.time track.now.hurt count (slot_in slot.now)) }
 {
     put_type(out, "slot");
     put_schedule(out, cluster, track.slots(), track.time(), slot);
@@ -313,5 +317,6 @@ pub(crate) fn put_slot<'a, W: Write>(
     put_response(out, slot.look());
     put_signals(out, cluster, slot);
     put_message(out, cluster, last, slot);
+    put_physical(out, cluster, coded, slot);
     out.put(b"}\n");
 }

@@ -8,15 +8,18 @@ ghost use Rattle.lin_text.specs.Written.{Grows};
 ghost use Rattle.lin_export.specs.Vcd.{bus_variables, declarations, declaration, first_heard};
 ghost use Rattle.lin_export.specs.Vcd.{first_values, first_waiting, first_written, head};
 ghost use Rattle.lin_export.specs.Vcd.{heard_variable, opening, unknown, waiting_variable};
+ghost use Rattle.lin_export.specs.Vcd.{first_decimals, physical_scope, physical_variable};
 ghost use Rattle.lin_export.specs.Vcd.{written_variable};
+ghost use Rattle.lin_export.specs.WhereTold.{told, where_told};
 
 use crate::changes::{
-    heard_number, put_code, put_heard, put_number, put_unknown, put_waiting, put_written,
-    signal_size, waiting_number, written_number,
+    heard_number, physical_number, put_code, put_heard, put_number, put_physical, put_unknown,
+    put_waiting, put_written, signal_size, waiting_number, written_number,
 };
 use crate::naming::node_name;
 use lin_cluster_parts::Cluster;
 use lin_text::TextWriter;
+use lin_values::Coded;
 use std::io::Write;
 
 /// Begins the declaration of a variable, up to its name.
@@ -111,8 +114,55 @@ fn put_waiting_variables<W: Write>(out: &mut TextWriter<'_, W>, cluster: &Cluste
     }
 }
 
-fn put_declarations<W: Write>(out: &mut TextWriter<'_, W>, cluster: &Cluster)
-    ensures { Grows W.contents out.old out.new (declarations cluster.now) }
+/// Declares what a signal means, where it has a range.
+fn put_physical_variable<W: Write>(
+    out: &mut TextWriter<'_, W>,
+    cluster: &Cluster,
+    coded: &Coded,
+    signal: u16,
+)
+    requires { signal < length cluster.now.signals }
+    ensures { Grows W.contents out.old out.new
+        (physical_variable cluster.now coded.now signal) }
+{
+    if coded.has_range(signal) {
+        out.put(b"$var real 64 ");
+        put_code(out, physical_number(cluster, signal));
+        out.put_byte(b' ');
+        out.put(cluster.signal_name(signal));
+        out.put(b" $end\n");
+    }
+}
+
+fn put_physical_variables<W: Write>(out: &mut TextWriter<'_, W>, cluster: &Cluster, coded: &Coded)
+    ensures { Grows W.contents out.old out.new
+        (flat_map (physical_variable cluster.now coded.now)
+        (numbers (length cluster.now.signals))) }
+{
+    for signal in 0..cluster.signals() as u16 {
+        put_physical_variable(out, cluster, coded, signal);
+    }
+}
+
+/// The scope of what signals mean, where that is told.
+fn put_physical_scope<W: Write>(
+    out: &mut TextWriter<'_, W>,
+    cluster: &Cluster,
+    coded: Option<&Coded>,
+)
+    ensures { Grows W.contents out.old out.new
+        (where_told (told coded.entry) (physical_scope cluster.now)) }
+{
+    if let Some(coded) = coded {
+        out.put(b"$scope module physical $end\n");
+        put_physical_variables(out, cluster, coded);
+        out.put(b"$upscope $end\n");
+    }
+}
+
+fn put_declarations<W: Write>(out: &mut TextWriter<'_, W>, cluster: &Cluster, coded: Option<&Coded>)
+    ensures { Grows W.contents out.old out.new
+        (declarations cluster.now (told coded.entry)) }
 {
     out.put(b"$timescale 1 us $end\n");
     out.put(b"$scope module bus $end\n");
@@ -127,6 +177,7 @@ fn put_declarations<W: Write>(out: &mut TextWriter<'_, W>, cluster: &Cluster)
     out.put(b"$scope module waiting $end\n");
     put_waiting_variables(out, cluster);
     out.put(b"$upscope $end\n");
+    put_physical_scope(out, cluster, coded);
     out.put(b"$enddefinitions $end\n");
 }
 
@@ -165,8 +216,31 @@ fn put_waiting_values<W: Write>(out: &mut TextWriter<'_, W>, cluster: &Cluster)
     }
 }
 
-fn put_first_values<W: Write>(out: &mut TextWriter<'_, W>, cluster: &Cluster)
-    ensures { Grows W.contents out.old out.new (first_values cluster.now) }
+fn put_physical_values<W: Write>(out: &mut TextWriter<'_, W>, cluster: &Cluster, coded: &Coded)
+    ensures { Grows W.contents out.old out.new (first_decimals cluster.now coded.now) }
+{
+    for signal in 0..cluster.signals() as u16 {
+        put_physical(out, cluster, coded, signal, cluster.initial(signal));
+    }
+}
+
+/// What the first values mean, where that is told.
+fn put_first_decimals<W: Write>(
+    out: &mut TextWriter<'_, W>,
+    cluster: &Cluster,
+    coded: Option<&Coded>,
+)
+    ensures { Grows W.contents out.old out.new
+        (where_told (told coded.entry) (first_decimals cluster.now)) }
+{
+    if let Some(coded) = coded {
+        put_physical_values(out, cluster, coded);
+    }
+}
+
+fn put_first_values<W: Write>(out: &mut TextWriter<'_, W>, cluster: &Cluster, coded: Option<&Coded>)
+    ensures { Grows W.contents out.old out.new
+        (first_values cluster.now (told coded.entry)) }
 {
     out.put(b"#0\n");
     out.put(b"$dumpvars\n");
@@ -175,13 +249,19 @@ fn put_first_values<W: Write>(out: &mut TextWriter<'_, W>, cluster: &Cluster)
     put_heard_values(out, cluster);
     put_written_values(out, cluster);
     put_waiting_values(out, cluster);
+    put_first_decimals(out, cluster, coded);
     out.put(b"$end\n");
 }
 
 /// Puts what stands before all changes.
-pub(crate) fn put_head<W: Write>(out: &mut TextWriter<'_, W>, cluster: &Cluster)
-    ensures { Grows W.contents out.old out.new (head cluster.now) }
+pub(crate) fn put_head<W: Write>(
+    out: &mut TextWriter<'_, W>,
+    cluster: &Cluster,
+    coded: Option<&Coded>,
+)
+    ensures { Grows W.contents out.old out.new
+        (head cluster.now (told coded.entry)) }
 {
-    put_declarations(out, cluster);
-    put_first_values(out, cluster);
+    put_declarations(out, cluster, coded);
+    put_first_values(out, cluster, coded);
 }

@@ -11,9 +11,11 @@ ghost use Rattle.lin_export.specs.Track.{track_of};
 ghost use Rattle.lin_export.specs.Vcd.{count_after, counted_all, count_group, entry_changes};
 ghost use Rattle.lin_export.specs.Vcd.{event_group, frame_changes, head, header_change};
 ghost use Rattle.lin_export.specs.Vcd.{heard_group, last_time, later, one_more};
+ghost use Rattle.lin_export.specs.Vcd.{frame_decimals, heard_changes};
 ghost use Rattle.lin_export.specs.Vcd.{slot_changes, slot_groups, stamp, step_groups, vcd};
+ghost use Rattle.lin_export.specs.WhereTold.{told, where_told};
 
-use crate::changes::{put_heard, put_number, put_unknown, put_waiting, put_written};
+use crate::changes::{put_heard, put_number, put_physical, put_unknown, put_waiting, put_written};
 use crate::fault::ExportFault;
 use crate::format::{Format, write_as};
 use crate::slot::{Look, OpenSlot};
@@ -23,6 +25,7 @@ use lin_cluster_parts::Cluster;
 use lin_core::{Event, Listed, Log, LogEntry, Reply, Step};
 use lin_frame::{Answer, unpack};
 use lin_text::TextWriter;
+use lin_values::Coded;
 use std::alloc::Global;
 use std::io::Write;
 
@@ -86,16 +89,72 @@ fn put_frame<W: Write>(out: &mut TextWriter<'_, W>, cluster: &Cluster, frame: u1
     }
 }
 
+/// What the signals of a frame mean that have a range.
+fn put_frame_decimals<W: Write>(
+    out: &mut TextWriter<'_, W>,
+    cluster: &Cluster,
+    coded: &Coded,
+    frame: u16,
+    answer: &Answer,
+)
+    requires { frame < length cluster.now.frames }
+    ensures { Grows W.contents out.old out.new
+        (frame_decimals cluster.now answer.now frame coded.now) }
+{
+    cluster.sound();
+    let data = answer.data();
+    let layout = cluster.layout(frame);
+    let signals = cluster.frame_signals(frame);
+    for place in 0..signals.len() {
+        let value = unpack(layout, &data, place);
+        put_physical(out, cluster, coded, signals[place], &value);
+    }
+}
+
+/// The same, where what values mean is told.
+fn put_told_decimals<W: Write>(
+    out: &mut TextWriter<'_, W>,
+    cluster: &Cluster,
+    coded: Option<&Coded>,
+    frame: u16,
+    answer: &Answer,
+)
+    requires { frame < length cluster.now.frames }
+    ensures { Grows W.contents out.old out.new
+        (where_told (told coded.entry) (frame_decimals cluster.now answer.now frame)) }
+{
+    if let Some(coded) = coded {
+        put_frame_decimals(out, cluster, coded, frame, answer);
+    }
+}
+
+/// The signals of a frame, and where that is told what they mean.
+fn put_heard_changes<W: Write>(
+    out: &mut TextWriter<'_, W>,
+    cluster: &Cluster,
+    coded: Option<&Coded>,
+    frame: u16,
+    answer: &Answer,
+)
+    requires { frame < length cluster.now.frames }
+    ensures { Grows W.contents out.old out.new
+        (heard_changes cluster.now (told coded.entry) answer.now frame) }
+{
+    put_frame(out, cluster, frame, answer);
+    put_told_decimals(out, cluster, coded, frame, answer);
+}
+
 /// What the nodes hear at the end of a slot.
 fn put_heard_frame<W: Write>(
     out: &mut TextWriter<'_, W>,
     last: &mut u64,
     cluster: &Cluster,
+    coded: Option<&Coded>,
     end: u64,
     slot: &OpenSlot,
 )
     ensures { PutsGroups W.contents out.old out.new last.old last.new
-        (heard_group cluster.now end (slot_in slot.now)) }
+        (heard_group cluster.now (told coded.entry) end (slot_in slot.now)) }
 {
     let Look::Good(answer) = slot.look() else {
         return;
@@ -104,7 +163,7 @@ fn put_heard_frame<W: Write>(
         return;
     };
     put_stamp(out, last, end);
-    put_frame(out, cluster, frame, answer);
+    put_heard_changes(out, cluster, coded, frame, answer);
 }
 
 /// A slot that ends.
@@ -112,16 +171,18 @@ fn put_finish<W: Write>(
     out: &mut TextWriter<'_, W>,
     last: &mut u64,
     cluster: &Cluster,
+    coded: Option<&Coded>,
     track: &Track,
     end: u64,
     slot: &OpenSlot,
 )
     ensures { PutsGroups W.contents out.old out.new last.old last.new
-        (slot_groups cluster.now track.now.slots track.now.time end (slot_in slot.now)) }
+        (slot_groups cluster.now (told coded.entry) track.now.slots
+        track.now.time end (slot_in slot.now)) }
 {
     put_stamp(out, last, track.time());
     put_slot(out, track.slots(), slot);
-    put_heard_frame(out, last, cluster, end, slot);
+    put_heard_frame(out, last, cluster, coded, end, slot);
 }
 
 /// What a step that was done changes by itself.
@@ -129,13 +190,14 @@ fn put_step<W: Write>(
     out: &mut TextWriter<'_, W>,
     last: &mut u64,
     cluster: &Cluster,
+    coded: Option<&Coded>,
     track: &Track,
     end: u64,
     step: &Step,
 )
     ensures { (past : List LogEntry) → track.now ≡ track_of cluster.now past
         → PutsGroups W.contents out.old out.new last.old last.new
-        (step_groups cluster.now past end step.now) }
+        (step_groups cluster.now (told coded.entry) past end step.now) }
 {
     match step {
         Step::Write {
@@ -150,7 +212,7 @@ fn put_step<W: Write>(
         }
         Step::Finish => {
             if let Some(slot) = track.slot() {
-                put_finish(out, last, cluster, track, end, slot);
+                put_finish(out, last, cluster, coded, track, end, slot);
             }
         }
         Step::Wake => {
@@ -278,26 +340,29 @@ fn put_events<W: Write>(
     }
 }
 
-/// A dump of changes: the last time in it, and how many messages of each host wait.
+/// A dump of changes: the last time in it, how many messages of each host wait, and where that is
+/// told what signals mean.
 #[derive(Drop)]
-struct Dump {
+struct Dump<'a> {
     last: u64,
     counts: [u16; HOSTS],
+    coded: Option<&'a Coded>,
 }
 
-impl Format for Dump {
-    ghost begins = { λ f c. head c };
+impl Format for Dump<'_> {
+    ghost begins = { λ f c. head c (told f.coded) };
 
-    ghost says = { λ f c. entry_changes c };
+    ghost says = { λ f c. entry_changes c (told f.coded) };
 
-    ghost ends = { λ f c. last_time c };
+    ghost ends = { λ f c. last_time c (told f.coded) };
 
     ghost fits = { λ f c. ⊤ };
 
-    ghost keeps = { λ f c past. KeepsChanges c past f.last f.counts };
+    ghost keeps = { λ f c past.
+        KeepsChanges c (told f.coded) past f.last f.counts };
 
     fn put_head<W: Write>(&self, out: &mut TextWriter<'_, W>, cluster: &Cluster) {
-        put_head(out, cluster);
+        put_head(out, cluster, self.coded);
     }
 
     fn put_entry<W: Write>(
@@ -311,7 +376,15 @@ impl Format for Dump {
             return;
         };
         let end = track.time_behind(cluster, entry);
-        put_step(out, &mut self.last, cluster, track, end, &entry.step);
+        put_step(
+            out,
+            &mut self.last,
+            cluster,
+            self.coded,
+            track,
+            end,
+            &entry.step,
+        );
         count_all(&mut self.counts, events.as_slice());
         put_events(
             out,
@@ -331,7 +404,8 @@ impl Format for Dump {
 /// Writes the changes of a log over time, in microseconds: what the bus shows of each slot from its
 /// start, the values of signals as they are heard from the end of the slot, those that their
 /// publishers write, and how many messages of each host wait (IEEE 1364-2005, section 18, value
-/// change dump).
+/// change dump). With what signals mean, those that have a range also have a variable of decimals
+/// each, as they are heard.
 ///
 /// It goes through a buffer of fixed size, and takes memory for what is kept of one slot. The
 /// writer isn't flushed.
@@ -344,15 +418,17 @@ impl Format for Dump {
 pub fn write_vcd<W: Write>(
     alloc: Global,
     cluster: &Cluster,
+    coded: Option<&Coded>,
     log: &Log,
     writer: &mut W,
 ) -> Result<(), ExportFault>
     ensures { WritesText (W.contents writer.old) (W.contents writer.new) result
-        (vcd cluster.now log.now.entries) }
+        (vcd cluster.now (told coded.entry) log.now.entries) }
 {
     let mut dump = Dump {
         last: 0,
         counts: no_counts(),
+        coded,
     };
     write_as(&mut dump, alloc, cluster, log, writer)
 }

@@ -1,5 +1,6 @@
 -- A transcript is an input of lines again, which come to the same log.
 use Rattle.std.proofs.Common.{◌≡◌, ◌∙◌, ℕ, ◌+◌, ◌==◌, ◌≤◌, Bool, true, false, not, nat_le, List, [], ◌∷◌, ◌++◌, refl, sym, ap, subst, arith, codes, filter, flat_map, length, map, reverse, slice_index, Option, Some, None, option_map, Result, Ok, Err, if◌then◌else◌}
+use Rattle.std.specs.Prelude.{IfSome}
 use Rattle.std.specs.List.{All, AllByRecursion, onto_first, slice_split, take_while}
 use Rattle.std.specs.Str.{bytes_eq}
 use Rattle.std.specs.Str.Lines.{strip_carriage_return}
@@ -21,7 +22,11 @@ use Rattle.lin_log.specs.Words.{log_text, reply_line, step_line}
 use Rattle.lin_log.proofs.Runs.{steps_of-reverse}
 use Rattle.lin_export.specs.Named.{reply_lines}
 use Rattle.lin_bench.specs.Fields.{fields}
-use Rattle.lin_bench.specs.Lines.{Script, line_form, of_fields, read, read_line, read_lines, with_said, without_mark}
+use Rattle.lin_values.specs.Coded.{CodedData}
+use Rattle.lin_bench.specs.Lines.{line_form, of_fields, read_line}
+use Rattle.lin_bench.specs.Plain.{SaysSteps}
+use Rattle.lin_bench.specs.Scripts.{Script, read, read_lines, with_said, without_mark}
+use Rattle.lin_bench.specs.Words.{read_worded_line, worded}
 use Rattle.lin_bench.specs.Made.{made}
 use Rattle.lin_bench.specs.Strict.{entries_since, first_refusal}
 use Rattle.lin_bench.specs.declared.got.Verdict.{Verdict}
@@ -33,14 +38,14 @@ use Rattle.lin_live.proofs.Growth.{Keeps, kept-made}
 use Rattle.lin_live.proofs.Plays.{live-is-play}
 use Rattle.lin_live.specs.Lines.{but_last, last_line, last_one, lines, pieces}
 use Rattle.lin_live.specs.Play.{IsPlain, asks, in_hand_of, nothing}
-use Rattle.lin_live.specs.Told.{HandData, entries_text, heard_as, reply, steps_ending, told, unmarked, verdict_ending}
+use Rattle.lin_live.specs.Told.{HandData, entries_text, heard_as, in_words, reply, shown_coding, steps_ending, told, unmarked, verdict_ending}
 use Rattle.lin_live.specs.Transcript.{after, most_bytes, short, transcript}
 use Rattle.lin_live.specs.declared.format.AnswerFormat.{AnswerFormat}
 use Rattle.lin_live.specs.declared.format.AnswerFormat.TheVariants.{Log, Named}
 use Rattle.lin_live.specs.declared.heard.Heard.{Heard}
 use Rattle.lin_live.specs.declared.heard.Heard.TheVariants.{Ask, Make}
 use Rattle.lin_live.specs.declared.reason.Reason.{Reason}
-use Rattle.lin_laws.specs.Transcripts.{AreShort, IsTranscript, TranscriptsAreInputs, anew, log_of}
+use Rattle.lin_laws.specs.Transcripts.{AreShort, FitsCluster, IsTranscript, TranscriptsAreInputs, anew, log_of}
 use Rattle.lin_laws.proofs.LogLines.{plain_replies}
 use Rattle.lin_laws.proofs.Scripts.{strip-first, transcripts-are-bench-scripts}
 
@@ -64,7 +69,7 @@ told-history h (Ok (Some (Make line))) k =
 after-history : (h : HandData) (ls : List (List ℕ)) → HasHistory h → HasHistory (after reply h ls)
 after-history h [] k = k
 after-history h (line ∷ more) k =
-    after-history (reply h (short line)).0 more (told-history (record h { begun = true }) (heard_as h.cluster (unmarked h (short line))) k)
+    after-history (reply h (short line)).0 more (told-history (record h { begun = true }) (heard_as h.cluster h.coded (unmarked h (short line))) k)
 
 -- what stays of a bench in hand
 abbrev Stays : HandData → HandData → Type 0
@@ -79,7 +84,7 @@ told-stays h (Ok (Some (Make line))) = (refl, refl, refl)
 after-stays : (h : HandData) (ls : List (List ℕ)) → Stays h (after reply h ls)
 after-stays h [] = (refl, refl, refl)
 after-stays h (line ∷ more) =
-    let one = told-stays (record h { begun = true }) (heard_as h.cluster (unmarked h (short line))) in
+    let one = told-stays (record h { begun = true }) (heard_as h.cluster h.coded (unmarked h (short line))) in
     let rest = after-stays (reply h (short line)).0 more in
     (rest.0 ∙ one.0, rest.1 ∙ one.1, rest.2 ∙ one.2)
 
@@ -123,8 +128,8 @@ line-by : (c : Parts) (line : List ℕ) (said : Option Line) (t : Bool) → (sli
 line-by c line said true h e = reply-asks line h
 line-by c line said false h e = fields-ask c (fields line) said e
 
-line-asks : (c : Parts) (line : List ℕ) (said : Option Line) → read_line c line ≡ Ok said → asks (fields line) ≡ false
-unfolding read_line
+line-asks : (c : Parts) (line : List ℕ) (said : Option Line) → read_worded_line c None line ≡ Ok said → asks (fields line) ≡ false
+unfolding read_worded_line read_line
 line-asks c line said e = line-by c line said (slice_index line 0 == 62) refl e
 
 reading-goes : (n : ℕ) (r : Result (Option Line) ScriptReason) (more : Script) (said : List (ℕ × Line)) → with_said n r more ≡ Ok said
@@ -137,10 +142,10 @@ reading-goes n (Ok (Some l)) (Err bad) said e = absurd (cc)
 abbrev IsShort : List ℕ → Type 0
 IsShort p = length (strip_carriage_return p) ≤ most_bytes
 
-all-plain : (c : Parts) (n : ℕ) (ps : List (List ℕ)) (said : List (ℕ × Line)) → AllByRecursion IsShort ps → read_lines c n ps ≡ Ok said → AllByRecursion IsPlain ps
+all-plain : (c : Parts) (n : ℕ) (ps : List (List ℕ)) (said : List (ℕ × Line)) → AllByRecursion IsShort ps → read_lines c None n ps ≡ Ok said → AllByRecursion IsPlain ps
 all-plain c n [] said k e = tt
 all-plain c n (p ∷ ps) said k e =
-    let r = reading-goes n (read_line c (strip_carriage_return p)) (read_lines c (n + 1) ps) said e in
+    let r = reading-goes n (read_worded_line c None (strip_carriage_return p)) (read_lines c None (n + 1) ps) said e in
     ((k.0, line-asks c (strip_carriage_return p) r.0.0 r.0.1), all-plain c (n + 1) ps r.1.0 k.1 r.1.1)
 
 -- ---- how a transcript begins: with no mark
@@ -155,13 +160,13 @@ step-begins l Bus s a b rest = (98, _, refl, (refl, refl, refl))
 step-begins l (Host n) s a b rest = (104, _, refl, (refl, refl, refl))
 step-begins l (Node n) s a b rest = (110, _, refl, (refl, refl, refl))
 
-entries-begin : (f : AnswerFormat) (c : Parts) (past es : List LogEntry) (last rest : List ℕ) → Begins (last ++ rest) → Begins ((entries_text f c past es ++ last) ++ rest)
-entries-begin Log c past [] last rest b = b
-entries-begin Named c past [] last rest b = b
-entries-begin Log c past (e ∷ es) last rest b =
+entries-begin : (f : AnswerFormat) (c : Parts) (k : Option CodedData) (past es : List LogEntry) (last rest : List ℕ) → Begins (last ++ rest) → Begins ((entries_text f c k past es ++ last) ++ rest)
+entries-begin Log c k past [] last rest b = b
+entries-begin Named c k past [] last rest b = b
+entries-begin Log c k past (e ∷ es) last rest b =
     step-begins plain e.port e.step (flat_map reply_line (plain_replies e []) ++ log_text plain plain_replies (e ∷ []) es) last rest
-entries-begin Named c past (e ∷ es) last rest b =
-    step-begins (named c) e.port e.step (flat_map reply_line (reply_lines c e past) ++ log_text (named c) (reply_lines c) (e ∷ past) es) last rest
+entries-begin Named c k past (e ∷ es) last rest b =
+    step-begins (named c) e.port e.step (flat_map reply_line (reply_lines c k e past) ++ log_text (named c) (reply_lines c k) (e ∷ past) es) last rest
 
 steps-begin : (o : Option Refusal) (rest : List ℕ) → Begins (steps_ending o ++ rest)
 steps-begin None rest = (35, _, refl, (refl, refl, refl))
@@ -178,14 +183,14 @@ last-begins h (Err why) rest = (35, _, refl, (refl, refl, refl))
 last-begins h (Ok None) rest = (35, _, refl, (refl, refl, refl))
 last-begins h (Ok (Some (Ask asked))) rest = (35, _, refl, (refl, refl, refl))
 last-begins h (Ok (Some (Make line))) rest =
-    let m = made h.cluster h.opening h.capacity h.bench line in verdict-begins h.cluster m.1 (entries_since h.bench.past m.0.past) rest
+    let m = made h.cluster h.opening h.capacity h.bench line in verdict-begins h.cluster (in_words h.coded m.1) (entries_since h.bench.past m.0.past) rest
 
 transcript-begins : (h : HandData) (line : List ℕ) (more : List (List ℕ)) → Begins (transcript reply h (line ∷ more))
 transcript-begins h line more =
     let begun = record h { begun = true } in
-    let said = heard_as h.cluster (unmarked h (short line)) in
+    let said = heard_as h.cluster h.coded (unmarked h (short line)) in
     let rest = transcript reply (reply h (short line)).0 more in
-    entries-begin h.format h.cluster h.bench.past (told begun said).1.entries (told begun said).1.last_line rest (last-begins begun said rest)
+    entries-begin h.format h.cluster (shown_coding h) h.bench.past (told begun said).1.entries (told begun said).1.last_line rest (last-begins begun said rest)
 
 -- a text that begins so, and a line of it, has no mark
 no-mark : (t : List ℕ) → (slice_index t 0 == 239) ≡ false → without_mark t ≡ t
@@ -201,9 +206,13 @@ told-begun h (Ok None) b = b
 told-begun h (Ok (Some (Ask asked))) b = b
 told-begun h (Ok (Some (Make line))) b = b
 
+nothing-read : (c : Parts) (k : Option CodedData) → read_worded_line c k [] ≡ Ok None
+unfolding read_worded_line read_line worded
+nothing-read c None = refl
+nothing-read c (Some k) = refl
+
 nothing-said : (h : HandData) → h.begun ≡ true → (reply h (short [])).0 ≡ h
-unfolding read_line
-nothing-said h b = rw b refl
+nothing-said h b = rw (b, nothing-read h.cluster h.coded) refl
 
 not-empty : (x : ℕ) (xs : List ℕ) → (length (x ∷ xs) == 0) ≡ false
 not-empty x xs = grind (arith, common_steps)
@@ -220,7 +229,7 @@ lines-same : (h : HandData) → h.begun ≡ true → (p : List ℕ) (ps : List (
 lines-same h b p [] = last-same h b p
 lines-same h b p (q ∷ qs) =
     let line = short (strip_carriage_return p) in
-    lines-same (reply h line).0 (told-begun (record h { begun = true }) (heard_as h.cluster (unmarked h line)) refl) q qs
+    lines-same (reply h line).0 (told-begun (record h { begun = true }) (heard_as h.cluster h.coded (unmarked h line)) refl) q qs
 
 pieces-same : (h : HandData) → h.begun ≡ true → (t : List ℕ) (ps : List (List ℕ)) (p : List ℕ) (qs : List (List ℕ)) → ps ≡ p ∷ qs → ps ≡ pieces t
     → after reply h (lines t) ≡ after reply h (map strip_carriage_return (pieces t))
@@ -248,17 +257,22 @@ marked-by true line h = ap Some h
 marked-by false line h = refl
 
 begun-same : (h : HandData) (ls : List (List ℕ)) (x : ℕ) → (x == 239) ≡ false → HasFirst x ls
-    → after reply (anew h) ls ≡ after reply (in_hand_of h.format h.cluster h.opening h.capacity nothing) ls
+    → after reply (anew h) ls ≡ after reply (in_hand_of h.format h.coded h.is_physical h.cluster h.opening h.capacity nothing) ls
 begun-same h ls x k b =
-    let k1 : HandData = in_hand_of h.format h.cluster h.opening h.capacity nothing in
+    let k1 : HandData = in_hand_of h.format h.coded h.is_physical h.cluster h.opening h.capacity nothing in
     let line = b.0 in
     let unmarked-line : option_map without_mark (short line) ≡ short line =
     marked-by (nat_le (length line) most_bytes) line (no-mark line (ap (λ (n : ℕ). n == 239) b.3 ∙ k)) in
     ap (after reply (anew h)) b.2
-    ∙ ap (λ o. after reply (told k1 (heard_as h.cluster o)).0 b.1) unmarked-line
+    ∙ ap (λ o. after reply (told k1 (heard_as h.cluster h.coded o)).0 b.1) unmarked-line
     ∙ ap (after reply k1) (sym b.2)
 
 -- ---- a transcript
+reads-coded : (c : Parts) (opening capacity : ℕ) (t : List ℕ) (steps : List (PortId × Step)) (k : Option CodedData) → IfSome k (FitsCluster c)
+    → (says : SaysSteps c opening capacity t steps) → read c k t ≡ Ok says.lines
+reads-coded c opening capacity t steps None fits says = says.reading
+reads-coded c opening capacity t steps (Some k) fits says = says.coded fits.no_marks k
+
 abbrev Again : HandData → List (List ℕ) → HandData → Type 0
 Again h ls k = (reverse k.bench.past ≡ log_of h ls) × (k.was_bad ≡ false)
 
@@ -267,13 +281,16 @@ again-by : (h : HandData) (ls : List (List ℕ)) → IsTranscript h ls → All F
 unfolding read
 again-by h ls t fits shorts b =
     let text = transcript reply h ls in
-    let k1 : HandData = in_hand_of h.format h.cluster h.opening h.capacity nothing in
+    let k1 : HandData = in_hand_of h.format h.coded h.is_physical h.cluster h.opening h.capacity nothing in
     let says = transcripts-are-bench-scripts h ls h.opening h.capacity t fits in
-    let reading : read_lines h.cluster 1 (pieces text) ≡ Ok says.lines =
-    ap (λ (u : List ℕ). read_lines h.cluster 1 (pieces u)) (sym (begins-unmarked text b)) ∙ says.reading in
+    let plain : read_lines h.cluster None 1 (pieces text) ≡ Ok says.lines =
+    ap (λ (u : List ℕ). read_lines h.cluster None 1 (pieces u)) (sym (begins-unmarked text b)) ∙ says.reading in
+    let reading : read_lines h.cluster h.coded 1 (pieces text) ≡ Ok says.lines =
+    ap (λ (u : List ℕ). read_lines h.cluster h.coded 1 (pieces u)) (sym (begins-unmarked text b))
+    ∙ reads-coded h.cluster h.opening h.capacity text (steps_of (log_of h ls)) h.coded t.coded says in
     let some = pieces-some text in
-    let played = live-is-play h.format h.cluster h.opening h.capacity (pieces text) says.lines _
-    (all-plain h.cluster 1 (pieces text) says.lines shorts reading) reading says.steps_alone in
+    let played = live-is-play h.format h.coded h.is_physical h.cluster h.opening h.capacity (pieces text) says.lines _
+    (all-plain h.cluster 1 (pieces text) says.lines shorts plain) reading says.steps_alone in
     let first-line : HasFirst b.0 (lines text) = subst (λ (u : List ℕ). HasFirst b.0 (lines u)) (sym b.2) (lines-first b.0 b.1 b.3) in
     let same = begun-same h (lines text) b.0 b.3.0 first-line ∙ pieces-same k1 refl text (pieces text) some.0 some.1 some.2 refl ∙ played in (
       ap (λ (k : HandData). reverse k.bench.past) same ∙ ap reverse (log-again h ls t),

@@ -11,6 +11,10 @@ pub mod Reasons
 pub mod StepForms
 pub mod ScriptForms
 pub mod LineForms
+pub mod WordedForms
+pub mod HeardForms
+pub mod JudgedWords
+pub mod OneLines
 pub mod Transcripts
 pub mod Scripts
 pub mod Inputs

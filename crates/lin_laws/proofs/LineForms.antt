@@ -1,5 +1,7 @@
--- The forms of rules, of lines and of questions: of a line without LF, no reason why it is bad has one.
-use Rattle.std.proofs.Common.{ℕ, true, List, [], ◌∷◌, refl, codes, drop, nat_le, length, Option, Some, None, option_map, Result, Ok, Err}
+-- The forms of rules, of lines and of questions: of a line without LF, no reason why it is bad has one,
+-- and nothing that it expects.
+use Rattle.std.proofs.Common.{ℕ, true, List, [], ◌∷◌, refl, codes, Option, Some, None, option_map, Result, Ok, Err}
+use Rattle.std.specs.Prelude.{IfSome}
 use Rattle.std.specs.List.{AllByRecursion}
 use Rattle.lin_cluster_parts.specs.declared.parts.ErrorSignal.{ErrorSignal}
 use Rattle.lin_cluster_parts.specs.declared.parts.Parts.{Parts}
@@ -9,30 +11,27 @@ use Rattle.lin_core.specs.declared.step.Step.TheVariants.{Send, Write}
 use Rattle.lin_log.specs.Language.{named}
 use Rattle.lin_log.specs.declared.reason.Reason.{Reason as StepReason}
 use Rattle.lin_bench.specs.Fields.{fields}
-use Rattle.lin_bench.specs.Lines.{count_form, forget_form, idle_form, leave_form, line_form, node_fields, of_fields, read_line, slot_form, slots_form, time_form, until_line, without_mark}
+use Rattle.lin_bench.specs.Lines.{count_form, forget_form, idle_form, leave_form, line_form, node_fields, of_fields, read_line, slot_form, slots_form, time_form, until_line}
 use Rattle.lin_bench.specs.RuleLines.{answer_form, answers_form, answers_in_turn, answers_of, cut, errors_form, errors_on, every_fields, every_form, fields_before, is_word, parts_fields, pattern_fields, repeated_step, responder_field, rows_and_wait, sends_or_writes, timeouts_fields, timeouts_form, wait_field, when_by, when_fields, when_form, when_of}
-use Rattle.lin_bench.specs.Texts.{fields_text}
+use Rattle.lin_bench.specs.Texts.{fields_text, reason_text}
 use Rattle.lin_bench.specs.declared.line.Extent.{Extent}
 use Rattle.lin_bench.specs.declared.line.Extent.TheVariants as slots
 use Rattle.lin_bench.specs.declared.line.Line.{Line}
+use Rattle.lin_bench.specs.declared.line.Line.TheVariants as line
 use Rattle.lin_bench.specs.declared.reason.Reason.{Reason}
 use Rattle.lin_bench.specs.declared.reason.Reason.TheVariants as reason
 use Rattle.lin_bench.specs.declared.rules.Answer.{Answer}
 use Rattle.lin_live.specs.Asked.{lone_question, question, signal_question, waiting_question, word_question}
 use Rattle.lin_live.specs.Asked.{of_step as asked_step}
-use Rattle.lin_live.specs.Heard.{heard, heard_in, of_script}
-use Rattle.lin_live.specs.Lines.{HasNoLf}
-use Rattle.lin_live.specs.Told.{HandData, heard_as, reason_text, unmarked}
-use Rattle.lin_live.specs.Transcript.{most_bytes, short}
+use Rattle.lin_live.specs.Told.{reason_text as live_text}
 use Rattle.lin_live.specs.declared.question.Question.{Question}
 use Rattle.lin_live.specs.declared.question.Question.TheVariants as asked
 use Rattle.lin_live.specs.declared.reason.Reason.{Reason as LiveReason}
 use Rattle.lin_live.specs.declared.reason.Reason.TheVariants as live
-use Rattle.lin_laws.proofs.Remarks.{bytes-clean}
-use Rattle.lin_laws.proofs.Reasons.{AreClean, Clean, Fine, IfClean, bad, both, drop-clean, each-way, fields-clean, fine, found-fine, if-fine, line-fields, split-fields, then-fine}
+use Rattle.lin_laws.proofs.Reasons.{Any, AreClean, Clean, Fine, IfClean, bad, both, each-way, fields-clean, fine, found-fine, good, if-fine, line-fields, split-fields, then-fine, then-good}
 use Rattle.lin_laws.proofs.StepForms.{FineStep, not-bytes, port_step-fine, step-fine, takes}
 use Rattle.lin_laws.proofs.StepForms.{node-fine as step-node, signal-fine as step-signal}
-use Rattle.lin_laws.proofs.ScriptForms.{FineLine, bytes-fine, count-fine, expectation-fine, node-fine, number-fine, of-step, rows, until-fine}
+use Rattle.lin_laws.proofs.ScriptForms.{CleanWords, FineLine, bytes-fine, count-fine, expectation-fine, node-fine, number-fine, of-step, rows, until-fine}
 
 -- ---- patterns and answers
 pattern-fine : (fs : List (List ℕ)) → AreClean fs → FineLine (pattern_fields fs)
@@ -139,26 +138,38 @@ errors-fine : (c : Parts) (fs : List (List ℕ)) → FineLine (errors_form c fs)
 unfolding errors_form
 errors-fine c fs = if-fine _ (errors_on-fine c.errors) (if-fine _ (fine _) (bad reason.ErrorsForm refl))
 
+-- ---- lines, of which no expected words have an LF
+abbrev pub CleanLine : Line → Type 0
+CleanLine (line.Until extent what) = CleanWords what
+CleanLine (line.Expect what) = CleanWords what
+CleanLine said = Unit {0}
+
+abbrev FineRead : Result Line Reason → Type 0
+FineRead r = Fine Line Reason reason_text CleanLine r
+
+abbrev pub FineSaid : Result (Option Line) Reason → Type 0
+FineSaid r = Fine (Option Line) Reason reason_text (λ o. IfSome o CleanLine) r
+
 -- ---- slots
-idle-fine : (fs : List (List ℕ)) → AreClean fs → FineLine (idle_form fs)
-idle-fine [] h = fine _
-idle-fine (f ∷ []) h = then-fine (count-fine f h.0) (λ n. fine _)
+idle-fine : (fs : List (List ℕ)) → AreClean fs → FineRead (idle_form fs)
+idle-fine [] h = good _ tt
+idle-fine (f ∷ []) h = then-fine (count-fine f h.0) (λ n. good _ tt)
 idle-fine fs h = bad _ refl
 
 module _ (c : Parts) where
-  until_line-fine : (extent : ℕ → Extent) (f : List ℕ) (fs : List (List ℕ)) → Clean f → AreClean fs → FineLine (until_line c extent f fs)
-  until_line-fine extent f fs h k = then-fine (count-fine f h) (λ n. then-fine (until-fine c fs k) (λ what. fine _))
+  until_line-fine : (extent : ℕ → Extent) (f : List ℕ) (fs : List (List ℕ)) → Clean f → AreClean fs → FineRead (until_line c extent f fs)
+  until_line-fine extent f fs h k = then-fine (count-fine f h) (λ n. then-good (until-fine c fs k) (λ what w. good _ w))
 
-  time-fine : (f : List ℕ) (fs : List (List ℕ)) → Clean f → AreClean fs → FineLine (time_form c f fs)
-  time-fine f [] h k = then-fine (count-fine f h) (λ n. fine _)
+  time-fine : (f : List ℕ) (fs : List (List ℕ)) → Clean f → AreClean fs → FineRead (time_form c f fs)
+  time-fine f [] h k = then-fine (count-fine f h) (λ n. good _ tt)
   time-fine f (word ∷ fs) h k = if-fine _ (until_line-fine slots.Milliseconds f fs h k.1) (bad reason.SlotsForm refl)
 
-  count_form-fine : (f : List ℕ) (fs : List (List ℕ)) → Clean f → AreClean fs → FineLine (count_form c f fs)
-  count_form-fine f [] h k = then-fine (count-fine f h) (λ n. fine _)
+  count_form-fine : (f : List ℕ) (fs : List (List ℕ)) → Clean f → AreClean fs → FineRead (count_form c f fs)
+  count_form-fine f [] h k = then-fine (count-fine f h) (λ n. good _ tt)
   count_form-fine f (word ∷ fs) h k =
       if-fine _ (until_line-fine slots.Count f fs h k.1) (if-fine _ (time-fine f fs h k.1) (bad reason.SlotsForm refl))
 
-  slots-fine : (fs : List (List ℕ)) → AreClean fs → FineLine (slots_form c fs)
+  slots-fine : (fs : List (List ℕ)) → AreClean fs → FineRead (slots_form c fs)
   unfolding slots_form
   slots-fine [] h = bad _ refl
   slots-fine (f ∷ fs) h = if-fine _ (idle-fine fs h.1) (count_form-fine f fs h.0 h.1)
@@ -179,42 +190,42 @@ module _ (c : Parts) where
       (if-fine _ (leave-fine fs h.1) (bad (reason.SlotForm word) h.0))
 
   -- ---- lines
-  forget-fine : (fs : List (List ℕ)) → FineLine (forget_form fs)
-  forget-fine [] = fine _
+  forget-fine : (fs : List (List ℕ)) → FineRead (forget_form fs)
+  forget-fine [] = good _ tt
   forget-fine (f ∷ fs) = bad _ (takes (codes "forget") 0 refl)
 
-  line-fine : (word : List ℕ) (fs : List (List ℕ)) → Clean word → AreClean fs → FineLine (line_form c word fs)
+  line-fine : (word : List ℕ) (fs : List (List ℕ)) → Clean word → AreClean fs → FineRead (line_form c word fs)
   unfolding line_form
   line-fine word fs w h =
-      if-fine _ (then-fine (of-step _ (port_step-fine (named c) word fs w h)) (λ s. fine _))
+      if-fine _ (then-fine (of-step _ (port_step-fine (named c) word fs w h)) (λ s. good _ tt))
       (if-fine _ (slots-fine fs h)
-      (if-fine _ (then-fine (slot-fine fs h) (λ how. fine _))
-      (if-fine _ (then-fine (expectation-fine c fs h) (λ what. fine _))
+      (if-fine _ (then-fine (slot-fine fs h) (λ how. good _ tt))
+      (if-fine _ (then-good (expectation-fine c fs h) (λ what w. good _ w))
       (if-fine _ (forget-fine fs)
-      (if-fine _ (then-fine (when-fine c fs h) (λ rule. fine _))
-      (if-fine _ (then-fine (timeouts-fine fs h) (λ rule. fine _))
-      (if-fine _ (then-fine (every-fine c fs h) (λ rule. fine _))
-      (if-fine _ (then-fine (errors-fine c fs) (λ rule. fine _))
-      (then-fine (of-step _ (step-fine (named c) word fs w h)) (λ step. fine _))))))))))
+      (if-fine _ (then-fine (when-fine c fs h) (λ rule. good _ tt))
+      (if-fine _ (then-fine (timeouts-fine fs h) (λ rule. good _ tt))
+      (if-fine _ (then-fine (every-fine c fs h) (λ rule. good _ tt))
+      (if-fine _ (then-fine (errors-fine c fs) (λ rule. good _ tt))
+      (then-fine (of-step _ (step-fine (named c) word fs w h)) (λ step. good _ tt))))))))))
 
-  of_fields-fine : (fs : List (List ℕ)) → AreClean fs → FineLine (of_fields c fs)
-  of_fields-fine [] h = fine _
-  of_fields-fine (word ∷ fs) h = then-fine (line-fine word fs h.0 h.1) (λ l. fine _)
+  of_fields-fine : (fs : List (List ℕ)) → AreClean fs → FineSaid (of_fields c fs)
+  of_fields-fine [] h = good _ tt
+  of_fields-fine (word ∷ fs) h = then-good (line-fine word fs h.0 h.1) (λ l w. good _ w)
 
-  read-fine : (line : List ℕ) → Clean line → FineLine (read_line c line)
+  pub read-fine : (line : List ℕ) → Clean line → FineSaid (read_line c line)
   unfolding read_line
-  read-fine line h = if-fine _ (fine _) (of_fields-fine (fields line) (line-fields true line h))
+  read-fine line h = if-fine _ (good _ tt) (of_fields-fine (fields line) (line-fields true line h))
 
--- ---- questions, and what is heard
+-- ---- questions
 abbrev pub FineAsked : {A : Type 0} → Result A LiveReason → Type 0
-FineAsked {A} r = Fine A LiveReason reason_text r
+FineAsked {A} r = Fine A LiveReason live_text Any r
 
 of-step-asked : {A : Type 0} (r : Result A StepReason) → FineStep r → FineAsked (asked_step r)
 of-step-asked (Ok x) h = fine x
 of-step-asked (Err why) h = bad (live.Script (reason.Step why)) h.said
 
 module _ (c : Parts) (all : List (List ℕ)) (a : AreClean all) where
-  no-question : {A : Type 0} → Fine A LiveReason reason_text (Err (live.UnknownQuestion all))
+  no-question : {A : Type 0} → Fine A LiveReason live_text Any (Err (live.UnknownQuestion all))
   no-question = bad _ (fields-clean all a)
 
   signal_question-fine : (fs : List (List ℕ)) → AreClean fs → FineAsked (signal_question c all fs)
@@ -241,34 +252,7 @@ module _ (c : Parts) (all : List (List ℕ)) (a : AreClean all) where
       (if-fine _ (lone_question-fine asked.Asleep fs)
       (if-fine _ (lone_question-fine asked.Next fs) no-question)))))
 
-question-fine : (c : Parts) (fs : List (List ℕ)) → AreClean fs → FineAsked (question c fs)
+pub question-fine : (c : Parts) (fs : List (List ℕ)) → AreClean fs → FineAsked (question c fs)
 unfolding question
 question-fine c [] h = bad _ refl
 question-fine c (word ∷ fs) h = word_question-fine c (word ∷ fs) h word fs h.1
-
-script-fine : (r : Result (Option Line) Reason) → FineLine r → FineAsked (of_script r)
-script-fine (Ok None) h = fine _
-script-fine (Ok (Some line)) h = fine _
-script-fine (Err why) h = bad (live.Script why) h.said
-
-heard_in-fine : (c : Parts) (line : List ℕ) (fs : List (List ℕ)) → Clean line → AreClean fs → FineAsked (heard_in c line fs)
-heard_in-fine c line [] h k = script-fine _ (read-fine c line h)
-heard_in-fine c line (word ∷ fs) h k =
-    if-fine _ (then-fine (question-fine c fs k.1) (λ asked. fine _)) (script-fine _ (read-fine c line h))
-
-heard-fine : (c : Parts) (line : List ℕ) → Clean line → FineAsked (heard c line)
-heard-fine c line h = heard_in-fine c line (fields line) h (line-fields true line h)
-
--- ---- a line as it is answered: whole, and without a mark where it is the first
-heard_as-fine : (c : Parts) (o : Option (List ℕ)) → IfClean o → FineAsked (heard_as c o)
-heard_as-fine c None h = bad live.TooLong refl
-heard_as-fine c (Some line) h = heard-fine c line h
-
-mark-clean : (o : Option (List ℕ)) → IfClean o → IfClean (option_map without_mark o)
-mark-clean None h = tt
-mark-clean (Some line) h = each-way Clean _ (drop 3 line) line (drop-clean 3 line h) h
-
-pub said-fine : (h : HandData) (line : List ℕ) → HasNoLf line → FineAsked (heard_as h.cluster (unmarked h (short line)))
-said-fine h line a =
-    let whole = each-way IfClean (nat_le (length line) most_bytes) (Some line) None (bytes-clean line a) tt in
-    heard_as-fine h.cluster (unmarked h (short line)) (each-way IfClean h.begun (short line) _ whole (mark-clean (short line) whole))

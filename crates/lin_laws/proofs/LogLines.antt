@@ -1,5 +1,6 @@
 -- The lines of logs: none begins with `#`.
-use Rattle.std.proofs.Common.{◌≡◌, ◌∙◌, ℕ, ◌==◌, Bool, true, false, List, [], ◌∷◌, ◌++◌, refl, sym, ap, subst, append_assoc, append-nil, flat_map, nat_lt, reverse, codes, if◌then◌else◌, arith}
+use Rattle.std.proofs.Common.{◌≡◌, ◌∙◌, ℕ, ◌==◌, Bool, true, false, List, [], ◌∷◌, ◌++◌, refl, sym, ap, subst, append_assoc, append-nil, flat_map, nat_lt, reverse, codes, if◌then◌else◌, arith, Option}
+use Rattle.std.specs.Prelude.{IfSome}
 use Rattle.std.specs.Fmt.{decimal}
 use Rattle.std.proofs.lemmas.List.{reverse-append}
 use Rattle.std.proofs.lemmas.List.Elements.{All-cons, All-head, All-nil, All-tail}
@@ -20,11 +21,12 @@ use Rattle.lin_log.specs.Words.{line_tail, log_text, port_number_word, port_word
 use Rattle.lin_log.proofs.Items.{joined}
 use Rattle.lin_log.proofs.Logs.{entry_text, quiet-events, text-entries}
 use Rattle.lin_log.proofs.Quiet.{line-end, quiet-called, quiet-decimal, quiet-hex, quiet-spaced}
+use Rattle.lin_values.specs.Coded.{CodedData}
 use Rattle.lin_export.specs.Named.{reply_lines}
 use Rattle.lin_live.specs.Told.{entries_text}
 use Rattle.lin_live.specs.declared.format.AnswerFormat.{AnswerFormat}
 use Rattle.lin_live.specs.declared.format.AnswerFormat.TheVariants.{Log, Named}
-use Rattle.lin_laws.specs.NamedScripts.{HasFrameNames}
+use Rattle.lin_laws.specs.NamedScripts.{AreOneLine, HasFrameNames}
 use Rattle.lin_laws.specs.Transcripts.{ended}
 use Rattle.lin_laws.proofs.Remarks.{Stays, quiet-clean, stays-both, stays-line, stays-nothing}
 use Rattle.std.proofs.lemmas.Grind.{flat_map-append}
@@ -116,9 +118,10 @@ plain-quiet (Refused r) =
     let q : are_quiet ws ≡ true = rw (quiet-decimal (refusal_number r)) refl in
     All-cons (λ ws. are_quiet ws ≡ true) ws [] q (All-nil (λ ws. are_quiet ws ≡ true))
 
-pub entries-stay : (f : AnswerFormat) (c : Parts) → HasNames (named c) → HasFrameNames c → (past es : List LogEntry) → Stays (entries_text f c past es)
-entries-stay Log c a b past es = log-stays plain plain_replies plain-names (λ e p. plain-quiet e.reply) [] es
-entries-stay Named c a b past es = log-stays (named c) (reply_lines c) a (λ e p. reply-quiet c a b e p e.reply) past es
+pub entries-stay : (f : AnswerFormat) (c : Parts) (k : Option CodedData) → HasNames (named c) → HasFrameNames c → IfSome k AreOneLine → (past es : List LogEntry)
+    → Stays (entries_text f c k past es)
+entries-stay Log c k a b one past es = log-stays plain plain_replies plain-names (λ e p. plain-quiet e.reply) [] es
+entries-stay Named c k a b one past es = log-stays (named c) (reply_lines c k) a (λ e p. reply-quiet c k a b one e p e.reply) past es
 
 -- ---- entries, and then more
 back-to-front : (e : LogEntry) (es past : List LogEntry) → reverse (e ∷ es) ++ past ≡ reverse es ++ e ∷ past
@@ -139,7 +142,7 @@ text-append : (xs ys : List LogEntry) → text (xs ++ ys) ≡ text xs ++ text ys
 text-append xs ys =
     sym (text-entries (xs ++ ys)) ∙ flat_map-append entry_text xs ys ∙ ap (λ t. t ++ flat_map entry_text ys) (text-entries xs) ∙ ap (λ t. text xs ++ t) (text-entries ys)
 
-pub entries-append : (f : AnswerFormat) (c : Parts) (past xs ys : List LogEntry)
-    → entries_text f c past (xs ++ ys) ≡ entries_text f c past xs ++ entries_text f c (reverse xs ++ past) ys
-entries-append Log c past xs ys = text-append xs ys
-entries-append Named c past xs ys = log-append (named c) (reply_lines c) past xs ys
+pub entries-append : (f : AnswerFormat) (c : Parts) (k : Option CodedData) (past xs ys : List LogEntry)
+    → entries_text f c k past (xs ++ ys) ≡ entries_text f c k past xs ++ entries_text f c k (reverse xs ++ past) ys
+entries-append Log c k past xs ys = text-append xs ys
+entries-append Named c k past xs ys = log-append (named c) (reply_lines c k) past xs ys

@@ -8,6 +8,6 @@ use Rattle.lin_laws.specs.NamedScripts.{NamedLogs}
 use Rattle.lin_laws.proofs.Replies.{reply-quiet}
 
 pub named-logs : NamedLogs
-named-logs c log opening capacity a b fits =
-    named-texts c opening capacity (named_log c log) (steps_of log)
-    (texts-again (named c) (reply_lines c) log a (λ e past. reply-quiet c a b e past e.reply) fits)
+named-logs c k log opening capacity a b one fits =
+    named-texts c opening capacity (named_log c k log) (steps_of log)
+    (texts-again (named c) (reply_lines c k) log a (λ e past. reply-quiet c k a b one e past e.reply) fits)

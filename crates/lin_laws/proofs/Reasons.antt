@@ -2,6 +2,7 @@
 use Rattle.std.proofs.Common.{◌≡◌, ℕ, Bool, true, false, List, [], ◌∷◌, ◌++◌, refl, drop, filter, flat_map, reverse, subst, sym, take, zero, suc, Option, Some, None, Result, Ok, Err, if◌then◌else◌}
 use Rattle.std.specs.Fmt.{decimal}
 use Rattle.std.specs.List.{AllByRecursion, onto_first, slice_split}
+use Rattle.std.specs.Option.{option_map_or}
 use Rattle.std.proofs.lemmas.Grind.{reverse_onto}
 use Rattle.std.proofs.lemmas.Bool.{and_parts}
 use Rattle.lin_log.specs.Said.{fields, is_gap, is_text}
@@ -79,7 +80,7 @@ filter-clean : (p : List ℕ → Bool) (fs : List (List ℕ)) → AreClean fs �
 filter-clean p [] h = tt
 filter-clean p (f ∷ fs) h = each-way AreClean (p f) _ _ (h.0, filter-clean p fs h.1) (filter-clean p fs h.1)
 
-take-clean : (n : ℕ) (fs : List (List ℕ)) → AreClean fs → AreClean (take n fs)
+pub take-clean : (n : ℕ) (fs : List (List ℕ)) → AreClean fs → AreClean (take n fs)
 take-clean zero fs h = tt
 take-clean (suc n) [] h = tt
 take-clean (suc n) (f ∷ fs) h = (h.0, take-clean n fs h.1)
@@ -87,7 +88,7 @@ take-clean (suc n) (f ∷ fs) h = (h.0, take-clean n fs h.1)
 pub line-fields : (free : Bool) (line : List ℕ) → Clean line → AreClean (fields free line)
 line-fields free line h = take-clean _ _ (filter-clean is_text _ (split-line (is_gap free) line h))
 
-append-clean : (fs gs : List (List ℕ)) → AreClean fs → AreClean gs → AreClean (fs ++ gs)
+pub append-clean : (fs gs : List (List ℕ)) → AreClean fs → AreClean gs → AreClean (fs ++ gs)
 append-clean [] gs h k = k
 append-clean (f ∷ fs) gs h k = (h.0, append-clean fs gs h.1 k)
 
@@ -95,13 +96,16 @@ pub reverse-clean : (fs : List (List ℕ)) → AreClean fs → AreClean (reverse
 reverse-clean [] h = tt
 reverse-clean (f ∷ fs) h = subst AreClean (sym (reverse_onto fs f [])) (append-clean (reverse fs) (f ∷ []) (reverse-clean fs h.1) (h.0, tt))
 
--- ---- what is said, or why it isn't, of which a text has no LF
-abbrev Said : {A W : Type 0} → (W → List ℕ) → Result A W → Type 0
-Said text (Ok x) = Unit {0}
-Said text (Err why) = Clean (text why)
+-- ---- what is said, of which something holds, or why it isn't, of which a text has no LF
+abbrev Said : {A W : Type 0} → (W → List ℕ) → (A → Type 0) → Result A W → Type 0
+Said text holds (Ok x) = holds x
+Said text holds (Err why) = Clean (text why)
 
-pub record Fine (A W : Type 0) (text : W → List ℕ) (r : Result A W) : Type 0 where
-  pub said : Said text r
+pub record Fine (A W : Type 0) (text : W → List ℕ) (holds : A → Type 0) (r : Result A W) : Type 0 where
+  pub said : Said text holds r
+
+abbrev pub Any : {A : Type 0} → A → Type 0
+Any x = Unit {0}
 
 abbrev next : {A B W : Type 0} → Result A W → (A → Result B W) → Result B W
 next (Ok x) f = f x
@@ -111,21 +115,34 @@ abbrev found : {A W : Type 0} → Option A → W → Result A W
 found None why = Err why
 found (Some x) why = Ok x
 
-pub fine : {A W : Type 0} {text : W → List ℕ} (x : A) → Fine A W text (Ok x)
+pub good : {A W : Type 0} {text : W → List ℕ} {P : A → Type 0} (x : A) → P x → Fine A W text P (Ok x)
+good x h = record { said = h }
+
+pub fine : {A W : Type 0} {text : W → List ℕ} (x : A) → Fine A W text Any (Ok x)
 fine x = record { said = tt }
 
-pub bad : {A W : Type 0} {text : W → List ℕ} (why : W) → Clean (text why) → Fine A W text (Err why)
+pub bad : {A W : Type 0} {text : W → List ℕ} {P : A → Type 0} (why : W) → Clean (text why) → Fine A W text P (Err why)
 bad why h = record { said = h }
 
-pub then-fine : {A B W : Type 0} {text : W → List ℕ} {r : Result A W} {f : A → Result B W}
-    → Fine A W text r → ((x : A) → Fine B W text (f x)) → Fine B W text (next r f)
-then-fine {r = Ok x} h k = k x
-then-fine {r = Err why} h k = record { said = h.said }
+pub then-good : {A B W : Type 0} {text : W → List ℕ} {P : A → Type 0} {Q : B → Type 0} {r : Result A W} {f : A → Result B W}
+    → Fine A W text P r → ((x : A) → P x → Fine B W text Q (f x)) → Fine B W text Q (next r f)
+then-good {r = Ok x} h k = k x h.said
+then-good {r = Err why} h k = record { said = h.said }
 
-pub found-fine : {A W : Type 0} {text : W → List ℕ} (o : Option A) (why : W) → Clean (text why) → Fine A W text (found o why)
+pub then-fine : {A B W : Type 0} {text : W → List ℕ} {P : A → Type 0} {Q : B → Type 0} {r : Result A W} {f : A → Result B W}
+    → Fine A W text P r → ((x : A) → Fine B W text Q (f x)) → Fine B W text Q (next r f)
+then-fine h k = then-good h (λ x _. k x)
+
+pub found-fine : {A W : Type 0} {text : W → List ℕ} (o : Option A) (why : W) → Clean (text why) → Fine A W text Any (found o why)
 found-fine None why h = record { said = h }
 found-fine (Some x) why h = record { said = tt }
 
-pub if-fine : {A W : Type 0} {text : W → List ℕ} {a b : Result A W} (t : Bool) → Fine A W text a → Fine A W text b → Fine A W text (if t then a else b)
+pub if-fine : {A W : Type 0} {text : W → List ℕ} {P : A → Type 0} {a b : Result A W} (t : Bool) → Fine A W text P a → Fine A W text P b
+    → Fine A W text P (if t then a else b)
 if-fine true h k = h
 if-fine false h k = k
+
+pub option-fine : {A W X : Type 0} {text : W → List ℕ} {P : A → Type 0} {other : Result A W} {f : X → Result A W} (o : Option X)
+    → ((x : X) → Fine A W text P (f x)) → Fine A W text P other → Fine A W text P (option_map_or f o other)
+option-fine None h k = k
+option-fine (Some x) h k = h x

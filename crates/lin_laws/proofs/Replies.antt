@@ -1,5 +1,6 @@
 -- The lines of replies with names, which hold no end of a line within.
-use Rattle.std.proofs.Common.{◌≡◌, ◌+◌, ◌*◌, ◌/◌, ◌%◌, ◌<◌, ◌≤◌, ◌==◌, ◌++◌, ℕ, zero, suc, List, [], ◌∷◌, Bool, true, false, nat_lt, refl, sym, ap, subst, arith, append_assoc, append-nil, Option, Some, None, length, slice_index, slice_index_or, flat_map, map, take, zip, codes, if◌then◌else◌}
+use Rattle.std.proofs.Common.{◌≡◌, ◌+◌, ◌*◌, ◌/◌, ◌%◌, ◌<◌, ◌≤◌, ◌==◌, ◌++◌, ℕ, zero, suc, List, [], ◌∷◌, Bool, true, false, nat_lt, refl, sym, ap, arith, Option, Some, None, length, slice_index, slice_index_or, flat_map, map, take, zip, codes, if◌then◌else◌}
+use Rattle.std.specs.Prelude.{IfSome}
 use Rattle.std.specs.Fmt.{decimal}
 use Rattle.std.specs.List.{All}
 use Rattle.std.specs.Option.{option_map_or, option_to_list}
@@ -33,15 +34,20 @@ use Rattle.lin_core.specs.declared.reply.Refusal.TheVariants as refusal
 use Rattle.lin_core.specs.declared.reply.Reply.{Reply}
 use Rattle.lin_core.specs.declared.reply.Reply.TheVariants.{Done, Refused}
 use Rattle.lin_core.specs.declared.step.Step.{Step}
-use Rattle.lin_core.specs.declared.step.Step.TheVariants.{Finish}
+use Rattle.lin_core.specs.declared.step.Step.TheVariants.{Finish, Write}
 use Rattle.lin_log.specs.Language.{named}
 use Rattle.lin_log.specs.Laws.{HasNames, IsQuiet, are_quiet, is_name, is_quiet}
 use Rattle.lin_log.specs.Words.{event_words, value_word}
 use Rattle.lin_log.proofs.Items.{item-name, joined}
 use Rattle.lin_log.proofs.Quiet.{quiet-decimal, quiet-encoded, quiet-event, quiet-hex, quiet-visible}
-use Rattle.lin_export.specs.Named.{behind, control_words, event_lines, frame_words, good_words, lines_of_reply, named_event, signal_words, slot_names, sporadic_frame, time_words, transport, transport_words, who_word}
+use Rattle.lin_export.specs.Named.{behind, control_words, event_lines, frame_values, frame_words, good_words, lines_of_reply, named_event, place_values, seen_values, signal_words, slot_values, slot_names, sporadic_frame, time_words, transport, transport_words, value_lines, who_word, written_values}
 use Rattle.lin_export.specs.Shown.{slot_frame}
-use Rattle.lin_laws.specs.NamedScripts.{HasFrameNames}
+use Rattle.lin_export.specs.WhereTold.{where_told}
+use Rattle.lin_values.specs.Coded.{CodedData}
+use Rattle.lin_values.specs.Meaning.{meaning}
+use Rattle.lin_values.specs.Meant.{Meant}
+use Rattle.lin_values.specs.Shown.{shown}
+use Rattle.lin_laws.specs.NamedScripts.{AreOneLine, HasFrameNames, IsOneLine}
 
 quiet-name : (name : List ℕ) → is_name name ≡ true → is_quiet name ≡ true
 quiet-name name h = quiet-visible name (item-name name h).0.visible
@@ -172,24 +178,71 @@ behind-quiet c a b o e = tt
 abbrev AreQuiet : List (List (List ℕ)) → Type 0
 AreQuiet lines = All (λ ws. are_quiet ws ≡ true) lines
 
-all-may : (o : Option (List (List ℕ))) (more : List (List (List ℕ))) → MayBeQuiet o → AreQuiet more → AreQuiet (option_to_list o ++ more)
-all-may None more p q = q
-all-may (Some ws) more p q = All-cons (λ ws. are_quiet ws ≡ true) ws more p q
-
 time-quiet : (s : Step) (at : ℕ) → MayBeQuiet (time_words s at)
 time-quiet Finish at = word-and-number (codes "time") at refl
 time-quiet s at = tt
 
-events-quiet : (c : Parts) → HasNames (named c) → HasFrameNames c → (o : Option Slot) (es : List Event) (more : List (List (List ℕ)))
-    → AreQuiet more → AreQuiet (flat_map (event_lines c o) es ++ more)
-events-quiet c a b o [] more q = q
-events-quiet c a b o (e ∷ es) more q =
-    let own : List (List (List ℕ)) = option_to_list (behind c o e) in
-    let others : List (List (List ℕ)) = flat_map (event_lines c o) es in
-    let p : AreQuiet (own ++ (others ++ more)) =
-    all-may (behind c o e) (others ++ more) (behind-quiet c a b o e) (events-quiet c a b o es more q) in
-    subst (λ (l : List (List (List ℕ))). AreQuiet (named_event c e ∷ l)) (sym (append_assoc own others more))
-    (All-cons (λ ws. are_quiet ws ≡ true) (named_event c e) (own ++ (others ++ more)) (event-quiet c a b e) p)
+abbrev IsQuietLine : List (List ℕ) → Type 0
+IsQuietLine ws = are_quiet ws ≡ true
+
+quiet-both : (xs ys : List (List (List ℕ))) → AreQuiet xs → AreQuiet ys → AreQuiet (xs ++ ys)
+quiet-both [] ys p q = q
+quiet-both (x ∷ xs) ys p q =
+    All-cons IsQuietLine x (xs ++ ys) (All-head IsQuietLine x xs p) (quiet-both xs ys (All-tail IsQuietLine x xs p) q)
+
+quiet-each : {A : Type 0} (f : A → List (List (List ℕ))) (xs : List A) → ((x : A) → AreQuiet (f x)) → AreQuiet (flat_map f xs)
+quiet-each f [] h = All-nil IsQuietLine
+quiet-each f (x ∷ xs) h = quiet-both (f x) (flat_map f xs) (h x) (quiet-each f xs h)
+
+one-quiet : (o : Option (List (List ℕ))) → MayBeQuiet o → AreQuiet (option_to_list o)
+one-quiet None h = All-nil IsQuietLine
+one-quiet (Some ws) h = All-cons IsQuietLine ws [] h (All-nil IsQuietLine)
+
+-- ---- what values mean
+meant-quiet : (name : List ℕ) (o : Option Meant) → is_quiet name ≡ true → IfSome o IsOneLine
+    → AreQuiet (option_map_or (λ (m : Meant). (codes "value" ∷ name ∷ shown m ∷ []) ∷ []) o [])
+meant-quiet name None h k = All-nil IsQuietLine
+meant-quiet name (Some m) h k = one-quiet (Some (codes "value" ∷ name ∷ shown m ∷ [])) (rw (h, k) refl)
+
+module _ (c : Parts) (a : HasNames (named c)) (d : CodedData) (one : AreOneLine d) where
+  value_lines-quiet : (s : ℕ) (v : Value) → AreQuiet (value_lines c d s v)
+  value_lines-quiet s v = meant-quiet (signal_of c s).name (meaning d s v) (signal-name c a s) (one s v)
+
+  frame_values-quiet : (answer : List ℕ) (f : ℕ) → AreQuiet (frame_values c d answer f)
+  frame_values-quiet answer f =
+      quiet-each (place_values c d answer) (zip (frame_of c f).signals (frame_of c f).layout.places)
+      (λ p. value_lines-quiet p.0 (unpacked_value p.1 (take 8 answer)))
+
+  told-by : {X : Type 0} (f : X → List (List (List ℕ))) (o : Option X) → ((x : X) → AreQuiet (f x)) → AreQuiet (option_map_or f o [])
+  told-by f None h = All-nil IsQuietLine
+  told-by f (Some x) h = h x
+
+  slot_values-quiet : (answer : List ℕ) (s : Slot) → AreQuiet (slot_values c d answer s)
+  slot_values-quiet answer s = told-by (frame_values c d answer) (slot_frame c (line_of c s.table s.entry).entry s) (frame_values-quiet answer)
+
+  seen_values-quiet : (o : Option Slot) (e : Event) → AreQuiet (seen_values c d o e)
+  seen_values-quiet o (event.Seen (seen.Good answer)) = told-by (slot_values c d answer) o (slot_values-quiet answer)
+  seen_values-quiet o e = All-nil IsQuietLine
+
+  written-by : (t : Bool) (s : ℕ) (v : Value) → AreQuiet (if t then value_lines c d s v else [])
+  written-by true s v = value_lines-quiet s v
+  written-by false s v = All-nil IsQuietLine
+
+  written_values-quiet : (s : Step) → AreQuiet (written_values c d s)
+  written_values-quiet (Write by signal v) = written-by (nat_lt signal (length c.signals)) signal v
+  written_values-quiet s = All-nil IsQuietLine
+
+where-quiet : (k : Option CodedData) (says : CodedData → List (List (List ℕ))) → IfSome k AreOneLine → ((d : CodedData) → AreOneLine d → AreQuiet (says d))
+    → AreQuiet (where_told k says)
+where-quiet None says one h = All-nil IsQuietLine
+where-quiet (Some d) says one h = h d one
+
+module _ (c : Parts) (k : Option CodedData) (a : HasNames (named c)) (b : HasFrameNames c) (one : IfSome k AreOneLine) where
+  lines-quiet : (o : Option Slot) (e : Event) → AreQuiet (event_lines c k o e)
+  lines-quiet o e =
+      All-cons IsQuietLine (named_event c e) (option_to_list (behind c o e) ++ where_told k (λ d. seen_values c d o e)) (event-quiet c a b e)
+      (quiet-both (option_to_list (behind c o e)) (where_told k (λ d. seen_values c d o e)) (one-quiet (behind c o e) (behind-quiet c a b o e))
+      (where-quiet k (λ d. seen_values c d o e) one (λ d q. seen_values-quiet c a d q o e)))
 
 pub refusal-quiet : (r : Refusal) → is_quiet (refusal_word r) ≡ true
 refusal-quiet refusal.NoSuchNode = refl
@@ -211,13 +264,16 @@ refusal-quiet refusal.NothingOnWire = refl
 refusal-quiet refusal.PassesCheck = refl
 refusal-quiet refusal.NoTransfer = refl
 
-pub reply-quiet : (c : Parts) → HasNames (named c) → HasFrameNames c → (e : LogEntry) (past : List LogEntry) (r : Reply)
-    → IsQuiet (lines_of_reply c e past r)
-reply-quiet c a b e past (Done events) =
+pub reply-quiet : (c : Parts) (k : Option CodedData) → HasNames (named c) → HasFrameNames c → IfSome k AreOneLine → (e : LogEntry) (past : List LogEntry) (r : Reply)
+    → IsQuiet (lines_of_reply c k e past r)
+reply-quiet c k a b one e past (Done events) =
     let t = time_words e.step (time c (e ∷ past)) in
-    let last : AreQuiet (option_to_list t) = rw append-nil at (all-may t [] (time-quiet e.step (time c (e ∷ past))) (All-nil (λ ws. are_quiet ws ≡ true))) in
-    events-quiet c a b (open_slot past) events (option_to_list t) last
-reply-quiet c a b e past (Refused r) =
+    let lines = flat_map (event_lines c k (open_slot past)) events in
+    quiet-both (where_told k (λ d. written_values c d e.step)) (lines ++ option_to_list t)
+    (where-quiet k (λ d. written_values c d e.step) one (λ d q. written_values-quiet c a d q e.step))
+    (quiet-both lines (option_to_list t) (quiet-each (event_lines c k (open_slot past)) events (lines-quiet c k a b one (open_slot past)))
+    (one-quiet t (time-quiet e.step (time c (e ∷ past)))))
+reply-quiet c k a b one e past (Refused r) =
     let ws : List (List ℕ) = codes "refused" ∷ decimal (refusal_number r) ∷ refusal_word r ∷ [] in
     let q : are_quiet ws ≡ true = rw (quiet-decimal (refusal_number r), refusal-quiet r) refl in
-    All-cons (λ ws. are_quiet ws ≡ true) ws [] q (All-nil (λ ws. are_quiet ws ≡ true))
+    one-quiet (Some ws) q

@@ -16,12 +16,12 @@ use Rattle.lin_bench.specs.declared.expected.Expected.{Expected}
 use Rattle.lin_bench.specs.declared.expected.Expected.TheVariants as expected
 use Rattle.lin_bench.specs.declared.reason.Reason.{Reason}
 use Rattle.lin_bench.specs.declared.reason.Reason.TheVariants as reason
-use Rattle.lin_laws.proofs.Reasons.{AreClean, Clean, Fine, IfClean, bad, both, cons-clean, drop-clean, each-way, fields-clean, fine, found-fine, if-fine, reverse-clean, then-fine}
+use Rattle.lin_laws.proofs.Reasons.{Any, AreClean, Clean, Fine, IfClean, bad, both, cons-clean, drop-clean, each-way, fields-clean, fine, found-fine, good, if-fine, reverse-clean, then-fine}
 use Rattle.lin_laws.proofs.StepForms.{FineStep}
 use Rattle.lin_laws.proofs.StepForms.{bytes-fine as step-bytes, node-fine as step-node, number-fine as step-number, signal-fine as step-signal, table-fine as step-table, value-fine as step-value}
 
 abbrev pub FineLine : {A : Type 0} → Result A Reason → Type 0
-FineLine {A} r = Fine A Reason reason_text r
+FineLine {A} r = Fine A Reason reason_text Any r
 
 pub of-step : {A : Type 0} (r : Result A StepReason) → FineStep r → FineLine (of_step r)
 of-step (Ok x) h = fine x
@@ -101,81 +101,89 @@ refusal-fine f h =
     if-fine _ (then-fine (number-fine 18 f h) (λ n. found-fine (numbered refusal_number refusals n) reason.TooSmall refl))
     (found-fine (word_named refusal_word refusals f) (reason.NoRefusal f) h)
 
+-- the words of what is expected have no LF in them
+abbrev pub CleanWords : Expected → Type 0
+CleanWords (expected.SignalMeans node signal text values) = Clean text
+CleanWords what = Unit {0}
+
+abbrev pub FineExpected : Result Expected Reason → Type 0
+FineExpected r = Fine Expected Reason reason_text CleanWords r
+
 -- the fields after `expect`
 module _ (c : Parts) (all : List (List ℕ)) (a : AreClean all) where
-  no-form : {A : Type 0} → Fine A Reason reason_text (Err (reason.UnknownExpectation all))
+  no-form : FineExpected (Err (reason.UnknownExpectation all))
   no-form = bad _ (fields-clean all a)
 
-  signal_value-fine : (node signal : ℕ) (v : List ℕ) (o : Option (List ℕ × List ℕ)) → Clean v → AreEnds o → FineLine (signal_value c node signal v o)
-  signal_value-fine node signal v None h k = then-fine (value-fine c v h) (λ value. fine _)
-  signal_value-fine node signal v (Some ends) h k = then-fine (range-fine c v ends.0 ends.1 h k.0 k.1) (λ range. fine _)
+  signal_value-fine : (node signal : ℕ) (v : List ℕ) (o : Option (List ℕ × List ℕ)) → Clean v → AreEnds o → FineExpected (signal_value c node signal v o)
+  signal_value-fine node signal v None h k = then-fine (value-fine c v h) (λ value. good _ tt)
+  signal_value-fine node signal v (Some ends) h k = then-fine (range-fine c v ends.0 ends.1 h k.0 k.1) (λ range. good _ tt)
 
-  signal_form-fine : (fs : List (List ℕ)) → AreClean fs → FineLine (signal_form c all fs)
+  signal_form-fine : (fs : List (List ℕ)) → AreClean fs → FineExpected (signal_form c all fs)
   signal_form-fine (n ∷ s ∷ v ∷ []) h =
       then-fine (node-fine c n h.0)
       (λ node. then-fine (signal-fine c s h.1.0) (λ signal. signal_value-fine node signal v (range_ends v) h.1.1.0 (ends v h.1.1.0)))
   signal_form-fine fs h = no-form
 
-  waiting-fine : (fs : List (List ℕ)) → AreClean fs → FineLine (waiting_form c all fs)
-  waiting-fine (n ∷ k ∷ []) h = then-fine (node-fine c n h.0) (λ host. then-fine (number-fine 1024 k h.1.0) (λ count. fine _))
+  waiting-fine : (fs : List (List ℕ)) → AreClean fs → FineExpected (waiting_form c all fs)
+  waiting-fine (n ∷ k ∷ []) h = then-fine (node-fine c n h.0) (λ host. then-fine (number-fine 1024 k h.1.0) (λ count. good _ tt))
   waiting-fine fs h = no-form
 
-  bytes_form-fine : (from to : ℕ) (p : List (List ℕ) × Option (List ℕ)) → AreRows p → FineLine (bytes_form c from to p)
-  bytes_form-fine from to (rows, None) h = then-fine (bytes-fine c rows h.0) (λ bytes. fine _)
-  bytes_form-fine from to (rows, Some n) h = then-fine (bytes-fine c rows h.0) (λ bytes. then-fine (count-fine n h.1) (λ most. fine _))
+  bytes_form-fine : (from to : ℕ) (p : List (List ℕ) × Option (List ℕ)) → AreRows p → FineExpected (bytes_form c from to p)
+  bytes_form-fine from to (rows, None) h = then-fine (bytes-fine c rows h.0) (λ bytes. good _ tt)
+  bytes_form-fine from to (rows, Some n) h = then-fine (bytes-fine c rows h.0) (λ bytes. then-fine (count-fine n h.1) (λ most. good _ tt))
 
-  message-fine : (fs : List (List ℕ)) → AreClean fs → FineLine (message_form c all fs)
+  message-fine : (fs : List (List ℕ)) → AreClean fs → FineExpected (message_form c all fs)
   message-fine (from ∷ to ∷ f ∷ fs) h =
       then-fine (node-fine c from h.0)
       (λ sender. then-fine (node-fine c to h.1.0)
       (λ receiver. bytes_form-fine sender receiver (rows_and_time (codes "within") (f ∷ fs)) (rows (codes "within") (f ∷ fs) h.1.1)))
   message-fine fs h = no-form
 
-  sent-fine : (fs : List (List ℕ)) → AreClean fs → FineLine (sent_form c all fs)
-  sent-fine (n ∷ []) h = then-fine (node-fine c n h.0) (λ host. fine _)
+  sent-fine : (fs : List (List ℕ)) → AreClean fs → FineExpected (sent_form c all fs)
+  sent-fine (n ∷ []) h = then-fine (node-fine c n h.0) (λ host. good _ tt)
   sent-fine fs h = no-form
 
-  lost-fine : (fs : List (List ℕ)) → AreClean fs → FineLine (lost_form c all fs)
+  lost-fine : (fs : List (List ℕ)) → AreClean fs → FineExpected (lost_form c all fs)
   lost-fine (n ∷ why ∷ []) h =
       then-fine (node-fine c n h.0)
-      (λ host. then-fine (found-fine (word_named cause_word causes why) (reason.UnknownExpectation all) (fields-clean all a)) (λ how. fine _))
+      (λ host. then-fine (found-fine (word_named cause_word causes why) (reason.UnknownExpectation all) (fields-clean all a)) (λ how. good _ tt))
   lost-fine fs h = no-form
 
-  frame_form-fine : (fs : List (List ℕ)) → AreClean fs → FineLine (frame_form c all fs)
+  frame_form-fine : (fs : List (List ℕ)) → AreClean fs → FineExpected (frame_form c all fs)
   frame_form-fine [] h = no-form
-  frame_form-fine (f ∷ []) h = then-fine (frame-fine c f h.0) (λ frame. fine _)
-  frame_form-fine (f ∷ g ∷ fs) h = then-fine (frame-fine c f h.0) (λ frame. then-fine (bytes-fine c (g ∷ fs) h.1) (λ bytes. fine _))
+  frame_form-fine (f ∷ []) h = then-fine (frame-fine c f h.0) (λ frame. good _ tt)
+  frame_form-fine (f ∷ g ∷ fs) h = then-fine (frame-fine c f h.0) (λ frame. then-fine (bytes-fine c (g ∷ fs) h.1) (λ bytes. good _ tt))
 
-  seen-fine : (fs : List (List ℕ)) → FineLine (seen_form all fs)
-  seen-fine (word ∷ []) = then-fine (found-fine (word_named look_word looks word) (reason.UnknownExpectation all) (fields-clean all a)) (λ how. fine _)
+  seen-fine : (fs : List (List ℕ)) → FineExpected (seen_form all fs)
+  seen-fine (word ∷ []) = then-fine (found-fine (word_named look_word looks word) (reason.UnknownExpectation all) (fields-clean all a)) (λ how. good _ tt)
   seen-fine fs = no-form
 
-  slot-expected : (fs : List (List ℕ)) → AreClean fs → FineLine (slot_expected c all fs)
-  slot-expected (t ∷ e ∷ []) h = then-fine (table-fine c t h.0) (λ table. then-fine (number-fine 1023 e h.1.0) (λ entry. fine _))
+  slot-expected : (fs : List (List ℕ)) → AreClean fs → FineExpected (slot_expected c all fs)
+  slot-expected (t ∷ e ∷ []) h = then-fine (table-fine c t h.0) (λ table. then-fine (number-fine 1023 e h.1.0) (λ entry. good _ tt))
   slot-expected fs h = no-form
 
-  refused-fine : (fs : List (List ℕ)) → AreClean fs → FineLine (refused_form all fs)
-  refused-fine (f ∷ []) h = then-fine (refusal-fine f h.0) (λ why. fine _)
+  refused-fine : (fs : List (List ℕ)) → AreClean fs → FineExpected (refused_form all fs)
+  refused-fine (f ∷ []) h = then-fine (refusal-fine f h.0) (λ why. good _ tt)
   refused-fine fs h = no-form
 
-  lone-fine : (what : Expected) (fs : List (List ℕ)) → FineLine (lone_form all what fs)
-  lone-fine what [] = fine _
-  lone-fine what (f ∷ fs) = no-form
+  lone-fine : (what : Expected) → CleanWords what → (fs : List (List ℕ)) → FineExpected (lone_form all what fs)
+  lone-fine what w [] = good _ w
+  lone-fine what w (f ∷ fs) = no-form
 
-  no_message-fine : (fs : List (List ℕ)) → AreClean fs → FineLine (no_message_form c all fs)
-  no_message-fine (from ∷ to ∷ []) h = then-fine (node-fine c from h.0) (λ sender. then-fine (node-fine c to h.1.0) (λ receiver. fine _))
+  no_message-fine : (fs : List (List ℕ)) → AreClean fs → FineExpected (no_message_form c all fs)
+  no_message-fine (from ∷ to ∷ []) h = then-fine (node-fine c from h.0) (λ sender. then-fine (node-fine c to h.1.0) (λ receiver. good _ tt))
   no_message-fine fs h = no-form
 
-  no_lost-fine : (fs : List (List ℕ)) → AreClean fs → FineLine (no_lost_form c all fs)
-  no_lost-fine [] h = fine _
-  no_lost-fine (n ∷ []) h = then-fine (node-fine c n h.0) (λ host. fine _)
+  no_lost-fine : (fs : List (List ℕ)) → AreClean fs → FineExpected (no_lost_form c all fs)
+  no_lost-fine [] h = good _ tt
+  no_lost-fine (n ∷ []) h = then-fine (node-fine c n h.0) (λ host. good _ tt)
   no_lost-fine fs h = no-form
 
-  no-fine : (fs : List (List ℕ)) → AreClean fs → FineLine (no_form c all fs)
+  no-fine : (fs : List (List ℕ)) → AreClean fs → FineExpected (no_form c all fs)
   no-fine [] h = no-form
   no-fine (word ∷ fs) h = if-fine _ (no_message-fine fs h.1) (if-fine _ (no_lost-fine fs h.1) no-form)
 
-  word-fine : (word : List ℕ) (fs : List (List ℕ)) → AreClean fs → FineLine (word_expectation c all word fs)
+  word-fine : (word : List ℕ) (fs : List (List ℕ)) → AreClean fs → FineExpected (word_expectation c all word fs)
   word-fine word fs h =
       if-fine _ (signal_form-fine fs h)
       (if-fine _ (waiting-fine fs h)
@@ -186,22 +194,22 @@ module _ (c : Parts) (all : List (List ℕ)) (a : AreClean all) where
       (if-fine _ (seen-fine fs)
       (if-fine _ (frame_form-fine fs h)
       (if-fine _ (slot-expected fs h)
-      (if-fine _ (lone-fine expected.Done fs)
+      (if-fine _ (lone-fine expected.Done tt fs)
       (if-fine _ (refused-fine fs h)
-      (if-fine _ (lone-fine expected.Asleep fs)
-      (if-fine _ (lone-fine expected.Awake fs) no-form))))))))))))
+      (if-fine _ (lone-fine expected.Asleep tt fs)
+      (if-fine _ (lone-fine expected.Awake tt fs) no-form))))))))))))
 
-as-until : (r : Result Expected Reason) → FineLine r → FineLine (as_until r)
-as-until (Ok x) h = fine x
+as-until : (r : Result Expected Reason) → FineExpected r → FineExpected (as_until r)
+as-until (Ok x) h = good x h.said
 as-until (Err (reason.UnknownExpectation fs)) h = bad (reason.UnknownUntil fs) h.said
 as-until (Err why) h = h
 
-pub expectation-fine : (c : Parts) (fs : List (List ℕ)) → AreClean fs → FineLine (expectation c fs)
+pub expectation-fine : (c : Parts) (fs : List (List ℕ)) → AreClean fs → FineExpected (expectation c fs)
 unfolding expectation
 expectation-fine c [] h = bad _ refl
 expectation-fine c (word ∷ fs) h = word-fine c (word ∷ fs) h word fs h.1
 
-pub until-fine : (c : Parts) (fs : List (List ℕ)) → AreClean fs → FineLine (until_form c fs)
+pub until-fine : (c : Parts) (fs : List (List ℕ)) → AreClean fs → FineExpected (until_form c fs)
 unfolding until_form
 until-fine c [] h = bad _ refl
 until-fine c (word ∷ fs) h =

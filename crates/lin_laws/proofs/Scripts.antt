@@ -1,5 +1,6 @@
 -- A text says what it says without its lines that begin with `#`; so a transcript says its log's steps.
 use Rattle.std.proofs.Common.{◌≡◌, ◌∙◌, ℕ, ◌+◌, ◌==◌, ◌-◌, Bool, true, false, not, List, [], ◌∷◌, ◌++◌, refl, sym, ap, append-nil, append_assoc, arith, filter, flat_map, length, slice_index, suc, take, Option, Some, None, Result, Ok, Err, if◌then◌else◌}
+use Rattle.std.specs.Prelude.{IfSome}
 use Rattle.std.specs.List.{All, AllByRecursion}
 use Rattle.std.specs.Str.Lines.{strip_carriage_return}
 use Rattle.std.proofs.lemmas.Grind.{common_steps}
@@ -15,21 +16,22 @@ use Rattle.lin_log.specs.Said.{Steps, line_says, steps_from, text_says, with_sai
 use Rattle.lin_log.specs.Script.{script, without_reason}
 use Rattle.lin_log.specs.declared.reason.Reason.{Reason}
 use Rattle.lin_log.proofs.Texts.{texts-again}
+use Rattle.lin_values.specs.Coded.{CodedData}
 use Rattle.lin_export.specs.Named.{reply_lines}
 use Rattle.lin_bench.proofs.Steps.{named-texts, plain-scripts}
 use Rattle.lin_bench.specs.Plain.{SaysSteps}
 use Rattle.lin_live.proofs.Cuts.{pieces-clean, pieces-some}
 use Rattle.lin_live.specs.Lines.{HasNoLf, pieces}
-use Rattle.lin_live.specs.Told.{HandData, entries_text, reply}
+use Rattle.lin_live.specs.Told.{HandData, entries_text, reply, shown_coding}
 use Rattle.lin_live.specs.Transcript.{transcript}
 use Rattle.lin_live.specs.declared.format.AnswerFormat.{AnswerFormat}
 use Rattle.lin_live.specs.declared.format.AnswerFormat.TheVariants.{Log, Named}
-use Rattle.lin_laws.specs.NamedScripts.{HasFrameNames}
+use Rattle.lin_laws.specs.NamedScripts.{AreOneLine, HasFrameNames}
 use Rattle.lin_laws.specs.Transcripts.{IsTranscript, TranscriptsAreBenchScripts, TranscriptsAreScripts, ended, is_said, log_of, without_remarks}
 use Rattle.lin_laws.proofs.LogLines.{plain-names, plain-quiet, plain_replies}
 use Rattle.lin_laws.proofs.Remarks.{with_ends}
 use Rattle.lin_laws.proofs.Replies.{reply-quiet}
-use Rattle.lin_laws.proofs.Transcripts.{transcripts-are-logs}
+use Rattle.lin_laws.proofs.Transcripts.{fits-one, shown-one, transcripts-are-logs}
 
 -- ---- lines that say nothing
 strip-by : (t : Bool) (x : ℕ) (xs : List ℕ) (n : ℕ) → slice_index (if t then take (suc n) (x ∷ xs) else x ∷ xs) 0 ≡ x
@@ -119,17 +121,18 @@ abbrev pub told_in : AnswerFormat → Parts → Language
 told_in Log c = plain
 told_in Named c = named c
 
-entries-say : (f : AnswerFormat) (c : Parts) (log : List LogEntry) → HasNames (named c) → HasFrameNames c → All FitsEntry log
-    → text_says (told_in f c) (entries_text f c [] log) ≡ Ok (steps_of log)
-entries-say Log c log a b fits = texts-again plain plain_replies log plain-names (λ e past. plain-quiet e.reply) fits
-entries-say Named c log a b fits = texts-again (named c) (reply_lines c) log a (λ e past. reply-quiet c a b e past e.reply) fits
+entries-say : (f : AnswerFormat) (c : Parts) (k : Option CodedData) (log : List LogEntry) → HasNames (named c) → HasFrameNames c → IfSome k AreOneLine → All FitsEntry log
+    → text_says (told_in f c) (entries_text f c k [] log) ≡ Ok (steps_of log)
+entries-say Log c k log a b one fits = texts-again plain plain_replies log plain-names (λ e past. plain-quiet e.reply) fits
+entries-say Named c k log a b one fits = texts-again (named c) (reply_lines c k) log a (λ e past. reply-quiet c k a b one e past e.reply) fits
 
 pub transcript-says : (h : HandData) (ls : List (List ℕ)) → IsTranscript h ls → All FitsEntry (log_of h ls)
     → text_says (told_in h.format h.cluster) (transcript reply h ls) ≡ Ok (steps_of (log_of h ls))
 transcript-says h ls t fits =
     let l = told_in h.format h.cluster in
     remarks-say-nothing l (transcript reply h ls) (steps_of (log_of h ls))
-    (ap (text_says l) (transcripts-are-logs h ls t) ∙ entries-say h.format h.cluster (log_of h ls) t.names t.frames fits)
+    (ap (text_says l) (transcripts-are-logs h ls t)
+    ∙ entries-say h.format h.cluster (shown_coding h) (log_of h ls) t.names t.frames (shown-one h (fits-one h.cluster h.coded t.coded)) fits)
 
 pub transcripts-are-scripts : TranscriptsAreScripts
 unfolding script

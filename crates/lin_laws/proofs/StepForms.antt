@@ -9,11 +9,11 @@ use Rattle.lin_log.specs.Said.{◌>>=◌, alone, array_form, bytes_fields, calle
 use Rattle.lin_log.specs.declared.reason.Reason.{Reason as StepReason}
 use Rattle.lin_log.specs.declared.reason.Reason.TheVariants as step
 use Rattle.lin_bench.specs.Texts.{fields_text, step_reason_text}
-use Rattle.lin_laws.proofs.Reasons.{AreClean, Clean, Fine, bad, both, decimal-clean, drop-clean, each-way, fields-clean, fine, found-fine, if-fine, then-fine}
+use Rattle.lin_laws.proofs.Reasons.{Any, AreClean, Clean, Fine, bad, both, decimal-clean, drop-clean, each-way, fields-clean, fine, found-fine, if-fine, then-fine}
 
 -- ---- steps
 abbrev pub FineStep : {A : Type 0} → Result A StepReason → Type 0
-FineStep {A} r = Fine A StepReason step_reason_text r
+FineStep {A} r = Fine A StepReason step_reason_text Any r
 
 no-number : (f : List ℕ) (most : ℕ) → Clean f → Clean (step_reason_text (step.NoNumber f most))
 no-number f most h = both f _ h (decimal-clean most)

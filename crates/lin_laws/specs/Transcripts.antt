@@ -1,6 +1,6 @@
 -- Transcripts of lines on a bench in hand, as texts.
 use Rattle.std.specs.Prelude.{◌≡◌, ◌≤◌, ℕ, ◌==◌, Bool, false, not, filter, flat_map, List, [], ◌∷◌}
-use Rattle.std.specs.Prelude.{◌++◌, length, map, Ok, reverse, slice_index}
+use Rattle.std.specs.Prelude.{◌++◌, length, map, Ok, reverse, slice_index, IfSome}
 use Rattle.std.specs.List.{All, AllByRecursion}
 use Rattle.std.specs.Str.Lines.{strip_carriage_return}
 use Rattle.lin_core.specs.Runs.{steps_of}
@@ -8,14 +8,16 @@ use Rattle.lin_core.specs.declared.log.LogEntry.{LogEntry}
 use Rattle.lin_log.specs.Language.{named}
 use Rattle.lin_log.specs.Laws.{FitsEntry, HasNames}
 use Rattle.lin_log.specs.Script.{script}
-use Rattle.lin_bench.specs.Plain.{SaysSteps}
+use Rattle.lin_cluster_parts.specs.declared.parts.Parts.{Parts}
+use Rattle.lin_values.specs.Coded.{CodedData}
+use Rattle.lin_bench.specs.Plain.{HasNoMarks, SaysSteps}
 use Rattle.lin_live.specs.Answers.{answers}
 use Rattle.lin_live.specs.Lines.{HasNoLf, but_last, lines, pieces, tail}
 use Rattle.lin_live.specs.Play.{in_hand_of, nothing}
-use Rattle.lin_live.specs.Told.{HandData, entries_text, reply}
+use Rattle.lin_live.specs.Told.{HandData, entries_text, reply, shown_coding}
 use Rattle.lin_live.specs.Transcript.{after, most_bytes, transcript}
 use Rattle.lin_live.specs.declared.format.AnswerFormat.TheVariants.{Log}
-use Rattle.lin_laws.specs.NamedScripts.{HasFrameNames}
+use Rattle.lin_laws.specs.NamedScripts.{AreOneLine, HasFrameNames}
 
 -- the lines of a text, each with the LF that ends it, and what stands after the last LF
 abbrev pub ended : List ℕ → List ℕ
@@ -31,11 +33,17 @@ is_said line = not (slice_index line 0 == 35)
 abbrev pub without_remarks : List ℕ → List ℕ
 without_remarks bytes = flat_map (λ line. line) (filter is_said (lines_with_ends bytes))
 
+-- no text of what values mean has an end of a line in it, and no signal is called as a mark
+pub record FitsCluster (c : Parts) (k : CodedData) : Type 0 where
+  pub one_line : AreOneLine k
+  pub no_marks : HasNoMarks c
+
 -- names are words, and a bench in hand that begins has answered lines, bad ones too, without an LF
 -- in them
 pub record IsTranscript (h : HandData) (ls : List (List ℕ)) : Type 0 where
   pub names : HasNames (named h.cluster)
   pub frames : HasFrameNames h.cluster
+  pub coded : IfSome h.coded (FitsCluster h.cluster)
   pub begins : h.bench.past ≡ []
   pub lines : AllByRecursion HasNoLf ls
 
@@ -45,7 +53,8 @@ log_of h ls = reverse (after reply h ls).bench.past
 -- without the lines that begin with `#`, a transcript is the text of the log, byte for byte
 abbrev pub TranscriptsAreLogs : Type 0
 TranscriptsAreLogs = (h : HandData) (ls : List (List ℕ)) → IsTranscript h ls
-    → without_remarks (transcript reply h ls) ≡ entries_text h.format h.cluster [] (log_of h ls)
+    → without_remarks (transcript reply h ls)
+    ≡ entries_text h.format h.cluster (shown_coding h) [] (log_of h ls)
 
 -- a transcript by numbers is a script of its run
 abbrev pub TranscriptsAreScripts : Type 0
@@ -60,9 +69,12 @@ TranscriptsAreBenchScripts = (h : HandData) (ls : List (List ℕ)) (opening capa
     → IsTranscript h ls → All FitsEntry (log_of h ls)
     → SaysSteps h.cluster opening capacity (transcript reply h ls) (steps_of (log_of h ls))
 
--- a bench in hand that begins, with the same cluster and settings and without rules
+-- a bench in hand that begins, with the same cluster, meanings and settings and without rules
 abbrev pub anew : HandData → HandData
-anew h = record (in_hand_of h.format h.cluster h.opening h.capacity nothing) { begun = false }
+anew h =
+    record (in_hand_of h.format h.coded h.is_physical h.cluster h.opening h.capacity nothing) {
+      begun = false;
+    }
 
 -- no line of an input is longer than is read
 abbrev pub AreShort : List ℕ → Type 0

@@ -1,6 +1,6 @@
 //! What holds of logs with names, of transcripts, and of plain LDF texts.
 
-ghost use Rattle.lin_laws.specs.NamedScripts.{NamedLogs, NamedLogsOfTexts};
+ghost use Rattle.lin_laws.specs.NamedScripts.{CodingsAreOneLine, NamedLogs, NamedLogsOfTexts};
 ghost use Rattle.lin_laws.specs.Texts.{PlainTextsAreRead, PlainTextsSayTheSame};
 ghost use Rattle.lin_laws.specs.Transcripts.{LastLinesAreRemarks, LinesHaveNoLf};
 ghost use Rattle.lin_laws.specs.Transcripts.{TranscriptsAreBenchScripts, TranscriptsAreLogs};
@@ -8,10 +8,12 @@ ghost use Rattle.lin_laws.specs.Transcripts.{TranscriptsAreInputs, TranscriptsAr
 
 /// A log with names is a bench script of the log's own steps: it has no bad line, makes no slots
 /// of its own, and expects nothing. It holds wherever names are words and no two nodes, signals or
-/// schedule tables have the same one, and so of each cluster that an LDF text describes.
+/// schedule tables have the same one, and so of each cluster that an LDF text describes; where the
+/// log tells what values mean, no text of that has an end of a line in it, as none of an LDF text has.
 pub fn named_logs_say_the_same()
     ensures of_words { NamedLogs }
     ensures of_texts { NamedLogsOfTexts }
+    ensures of_codings { CodingsAreOneLine }
 {}
 
 /// Without the lines that begin with `#`, the transcript of lines on a bench in hand that begins is
@@ -21,7 +23,8 @@ pub fn named_logs_say_the_same()
 /// bytes of the log's entries are within their types, as each `LogEntry` has them. Each answer ends
 /// with one line that begins with `#`. All this holds of lines without an LF in them, bad ones too,
 /// and the lines of each input have none; wherever names are words and no two nodes, signals or
-/// schedule tables have the same one.
+/// schedule tables have the same one. Where what signals mean is known, no text of that has an end of
+/// a line in it, and no signal is called `=` or `~`.
 pub fn transcripts_are_logs()
     ensures logs { TranscriptsAreLogs }
     ensures scripts { TranscriptsAreScripts }

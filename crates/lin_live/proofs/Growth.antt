@@ -15,7 +15,7 @@ use Rattle.lin_bench.specs.declared.got.Verdict.TheVariants.{SlotLimit}
 use Rattle.lin_bench.specs.declared.line.Line.{Line}
 use Rattle.lin_bench.specs.declared.line.Line.TheVariants as line
 use Rattle.lin_live.specs.Answers.{AnswersAreTheLog, AnswersAreWritten, answers, answers_text}
-use Rattle.lin_live.specs.Told.{HandData, answer_text, answered, heard_as, told, unmarked}
+use Rattle.lin_live.specs.Told.{HandData, answer_text, answered, heard_as, shown_coding, told, unmarked}
 use Rattle.lin_bench.specs.Strict.{entries_since}
 use Rattle.lin_live.specs.Transcript.{short}
 use Rattle.lin_live.specs.declared.heard.Heard.{Heard}
@@ -106,15 +106,19 @@ answers-are-the-log h (line ∷ more) =
     let a = answered h (short line) in
     let rest = flat_map (λ b. b.entries) (answers a.0 more) in
     answers-are-the-log a.0 more
-    ∙ ap (λ l. l ++ rest) (told-grown (record h { begun = true }) (heard_as h.cluster (unmarked h (short line))))
+    ∙ ap (λ l. l ++ rest) (told-grown (record h { begun = true }) (heard_as h.cluster h.coded (unmarked h (short line))))
     ∙ append_assoc (reverse h.bench.past) a.1.entries rest
 
--- an answer changes neither how entries are told nor the cluster
-pub told-kept : (h : HandData) (said : Result (Option Heard) Reason) → ((told h said).0.format ≡ h.format) × ((told h said).0.cluster ≡ h.cluster)
-told-kept h (Err why) = (refl, refl)
-told-kept h (Ok None) = (refl, refl)
-told-kept h (Ok (Some (Ask asked))) = (refl, refl)
-told-kept h (Ok (Some (Make line))) = (refl, refl)
+-- an answer changes neither how entries are told, nor the cluster, nor what signals mean
+pub told-kept : (h : HandData) (said : Result (Option Heard) Reason)
+    → ((told h said).0.format ≡ h.format) × ((told h said).0.cluster ≡ h.cluster) × ((told h said).0.coded ≡ h.coded) × ((told h said).0.is_physical ≡ h.is_physical)
+told-kept h (Err why) = (refl, refl, refl, refl)
+told-kept h (Ok None) = (refl, refl, refl, refl)
+told-kept h (Ok (Some (Ask asked))) = (refl, refl, refl, refl)
+told-kept h (Ok (Some (Make line))) = (refl, refl, refl, refl)
+
+shown-by : (a h : HandData) → a.coded ≡ h.coded → a.is_physical ≡ h.is_physical → shown_coding a ≡ shown_coding h
+shown-by a h e f = rw (e, f) refl
 
 past-grown : (past later es : List LogEntry) → reverse later ≡ reverse past ++ es → later ≡ reverse es ++ past
 past-grown past later es e =
@@ -123,13 +127,14 @@ past-grown past later es e =
 pub answers-are-written : AnswersAreWritten
 answers-are-written h [] = refl
 answers-are-written h (line ∷ more) =
-    let said = heard_as h.cluster (unmarked h (short line)) in
+    let said = heard_as h.cluster h.coded (unmarked h (short line)) in
     let b = record h { begun = true } in
     let a = told b said in
     let same = told-kept b said in
     let past = past-grown h.bench.past a.0.bench.past a.1.entries (told-grown b said) in
     ap (λ l. answer_text h a.1 ++ l)
     (answers-are-written a.0 more
-    ∙ ap (λ f. answers_text f a.0.cluster a.0.bench.past (answers a.0 more)) same.0
-    ∙ ap (λ c. answers_text h.format c a.0.bench.past (answers a.0 more)) same.1
-    ∙ ap (λ p. answers_text h.format h.cluster p (answers a.0 more)) past)
+    ∙ ap (λ f. answers_text f a.0.cluster (shown_coding a.0) a.0.bench.past (answers a.0 more)) same.0
+    ∙ ap (λ c. answers_text h.format c (shown_coding a.0) a.0.bench.past (answers a.0 more)) same.1
+    ∙ ap (λ k. answers_text h.format h.cluster k a.0.bench.past (answers a.0 more)) (shown-by a.0 h same.2 same.3)
+    ∙ ap (λ p. answers_text h.format h.cluster (shown_coding h) p (answers a.0 more)) past)

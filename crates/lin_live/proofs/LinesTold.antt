@@ -16,7 +16,7 @@ use Rattle.lin_bench.specs.declared.line.Line.{Line}
 use Rattle.lin_live.specs.Hand.{IsFollowed, earlier, hand_data}
 use Rattle.lin_text.specs.Written.{WritesText}
 use Rattle.lin_live.specs.Serving.{Tells}
-use Rattle.lin_live.specs.Told.{HandData, after_line, entries_text, is_limit, is_unmet, verdict_ending, written}
+use Rattle.lin_live.specs.Told.{HandData, after_line, entries_text, in_words, is_limit, is_unmet, shown_coding, verdict_ending, written}
 use Rattle.lin_live.specs.declared.format.AnswerFormat.TheVariants.{Log, Named}
 use Rattle.lin_live.specs.declared.fault.Fault.{Fault}
 use Rattle.lin_live.specs.declared.fault.Fault.TheVariants.{WriteFailed}
@@ -27,7 +27,7 @@ use Rattle.lin_live.proofs.Growth.{Grown, grown-made}
 abbrev pub telling : HandData → ℕ → Verdict → HandData × List ℕ
 telling h from v = (
   h,
-  entries_text h.format h.cluster (earlier from h.bench.past) (drop from (reverse h.bench.past))
+  entries_text h.format h.cluster (shown_coding h) (earlier from h.bench.past) (drop from (reverse h.bench.past))
       ++ verdict_ending h.cluster v (drop from (reverse h.bench.past)),
 )
 
@@ -40,10 +40,10 @@ earlier-was past later g =
     ∙ reverse-reverse past
 
 line-told : (h : HandData) (m : BenchState × Verdict) → Grown h.bench.past m.0.past
-    → telling (after_line h m).0 (length h.bench.past) m.1 ≡ written h (after_line h m)
+    → telling (after_line h m).0 (length h.bench.past) (in_words h.coded m.1) ≡ written h (after_line h m)
 line-told h m g =
     let es = drop (length h.bench.past) (reverse m.0.past) in
-    ap (λ p. ((after_line h m).0, entries_text h.format h.cluster p es ++ verdict_ending h.cluster m.1 es)) (earlier-was h.bench.past m.0.past g)
+    ap (λ p. ((after_line h m).0, entries_text h.format h.cluster (shown_coding h) p es ++ verdict_ending h.cluster (in_words h.coded m.1) es)) (earlier-was h.bench.past m.0.past g)
 
 -- ---- a line was made on a bench
 
@@ -54,6 +54,8 @@ made_hand a new v = record {
   cluster = new.core.cluster;
   opening = new.core.opening;
   capacity = new.core.capacity;
+  coded = a.coded;
+  is_physical = a.is_physical;
   bench = state_of (renewed new);
   begun = a.begun;
   was_bad = a.was_bad || is_limit v;
@@ -98,20 +100,22 @@ same-core : (a : Inside) (new : BenchData) (v : Verdict) → new.core.cluster �
 same-core a new v e f g = rw (e, f, g) refl
 
 -- the line is told from the next entry of the log on
-pub line-told-so : (a : Inside) (before new : BenchData) (line : Line) (v : Verdict) (from : ℕ) (u : HandData)
+pub line-told-so : (a : Inside) (before new : BenchData) (line : Line) (v w : Verdict) (from : ℕ) (u : HandData)
     → before ≡ renewed a.bench → MakesLine before line (Ok v) new → from ≡ length a.bench.core.log → u ≡ made_hand a new v
-    → telling u from v ≡ written (hand_data a) (after_line (hand_data a) (made_on (renewed a.bench) line))
-line-told-so a before new line v from u is makes is_from is_u =
+    → w ≡ in_words a.coded v
+    → telling u from w ≡ written (hand_data a) (after_line (hand_data a) (made_on (renewed a.bench) line))
+line-told-so a before new line v w from u is makes is_from is_u is_w =
     let h = hand_data a in
     let m = made_on (renewed a.bench) line in
     let all = line-made a before new line v is makes in
     let alike = makes.1 in
-    ap (λ x. telling x from v)
+    ap (λ x. telling x from w)
     (is_u
     ∙ same-core a new v (alike.0 ∙ ap (λ (b : BenchData). b.core.cluster) is) (alike.1 ∙ ap (λ (b : BenchData). b.core.opening) is) (alike.2 ∙ ap (λ (b : BenchData). b.core.capacity) is)
     ∙ ap (λ (x : BenchState × Verdict). (after_line h x).0) all)
-    ∙ ap (λ n. telling (after_line h m).0 n v) (is_from ∙ sym (length-reverse a.bench.core.log))
-    ∙ ap (λ x. telling (after_line h m).0 (length h.bench.past) x) (ap (λ (x : BenchState × Verdict). x.1) all)
+    ∙ ap (λ n. telling (after_line h m).0 n w) (is_from ∙ sym (length-reverse a.bench.core.log))
+    ∙ ap (λ x. telling (after_line h m).0 (length h.bench.past) x)
+    (is_w ∙ ap (λ (x : BenchState × Verdict). in_words a.coded x.1) all)
     ∙ line-told h m (grown-made h.cluster h.opening h.capacity h.bench line)
 
 -- ---- the text of entries, as the code has it
@@ -120,7 +124,7 @@ pub log-told : (h : HandData) (from : ℕ) (v : Verdict) (core : CoreData) → h
 log-told h from v core f c l = rw (f, c, l) refl
 
 pub names-told : (h : HandData) (from : ℕ) (v : Verdict) (core : CoreData) (told : List ℕ) → h.format ≡ Named → core.cluster ≡ h.cluster → core.log ≡ reverse h.bench.past
-    → told ≡ named_entries core.cluster (reverse (take from core.log)) (drop from core.log)
+    → told ≡ named_entries core.cluster (shown_coding h) (reverse (take from core.log)) (drop from core.log)
     → told ++ verdict_ending core.cluster v (drop from core.log) ≡ (telling h from v).1
 names-told h from v core told f c l e = rw (f, e, c, l) refl
 

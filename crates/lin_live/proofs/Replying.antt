@@ -2,9 +2,10 @@
 use Rattle.std.proofs.Common.{◌≡◌, ◌∙◌, ◌<◌, ◌-◌, ◌^◌, ◌++◌, ℕ, true, List, [], Option, Result, Ok, Err, ap, length, refl, subst, sym}
 use Rattle.lin_cluster_parts.specs.declared.parts.Parts.{Parts}
 use Rattle.lin_core.specs.declared.log.LogEntry.{LogEntry}
+use Rattle.lin_values.specs.Coded.{CodedData}
 use Rattle.lin_live.specs.Hand.{hand_data}
 use Rattle.lin_live.specs.Serving.{Replies, Tells}
-use Rattle.lin_live.specs.Told.{HandData, IsFull, ending, entries_text, heard_as, reply, says, told, unmarked, written}
+use Rattle.lin_live.specs.Told.{HandData, IsFull, ending, entries_text, heard_as, reply, says, shown_coding, told, unmarked, written}
 use Rattle.lin_live.specs.declared.format.AnswerFormat.{AnswerFormat}
 use Rattle.lin_live.specs.declared.format.AnswerFormat.TheVariants.{Log, Named}
 use Rattle.lin_live.specs.declared.fault.Fault.{Fault}
@@ -23,14 +24,14 @@ tells-anyway p full t old new (Err LogFull) h = absurd h.1
 tells-anyway p full t old new (Err ReadFailed) h = h
 
 -- no entry, and a last line
-none-told : (f : AnswerFormat) (c : Parts) (past : List LogEntry) → entries_text f c past [] ≡ []
-none-told Log c past = refl
-none-told Named c past = refl
+none-told : (f : AnswerFormat) (c : Parts) (k : Option CodedData) (past : List LogEntry) → entries_text f c k past [] ≡ []
+none-told Log c k past = refl
+none-told Named c k past = refl
 
 pub tells-words : (h u : HandData) (words : List ℕ) (full : Type 0) (t : HandData) (old new : Option (List ℕ)) (result : Result Unit Fault)
     → Tells (u, ending words) full t old new result → Tells (written h (u, says words)) full t old new result
 tells-words h u words full t old new result k =
-    subst (λ l. Tells (u, l ++ ending words) full t old new result) (sym (none-told h.format h.cluster h.bench.past)) k
+    subst (λ l. Tells (u, l ++ ending words) full t old new result) (sym (none-told h.format h.cluster (shown_coding h) h.bench.past)) k
 
 -- a bench in hand to which there was a line
 abbrev pub begun_data : Inside → HandData
@@ -39,12 +40,12 @@ begun_data a = record (hand_data a) { begun = true }
 -- telling what a line says, which is this
 pub replies-so : (a : Inside) (s : HandData) (line heard : Option (List ℕ)) (said : Result (Option Heard) Reason)
     (t : HandData) (old new : Option (List ℕ)) (result : Result Unit Fault)
-    → hand_data a ≡ s → heard ≡ unmarked s line → heard_as a.bench.core.cluster heard ≡ said
+    → hand_data a ≡ s → heard ≡ unmarked s line → heard_as a.bench.core.cluster a.coded heard ≡ said
     → Tells (written (begun_data a) (told (begun_data a) said)) (2 ^ 32 - 1 < length (told (begun_data a) said).0.bench.past) t old new result
     → Replies reply IsFull s t old new line result
 replies-so a s line heard said t old new result is_a is_heard is_said h =
     let here : heard ≡ unmarked (hand_data a) line = is_heard ∙ ap (λ v. unmarked v line) (sym is_a) in
     let is : reply (hand_data a) line ≡ written (begun_data a) (told (begun_data a) said) =
-    ap (λ r. written (begun_data a) (told (begun_data a) r)) (ap (heard_as a.bench.core.cluster) (sym here) ∙ is_said) in
+    ap (λ r. written (begun_data a) (told (begun_data a) r)) (ap (heard_as a.bench.core.cluster a.coded) (sym here) ∙ is_said) in
     subst (λ v. Replies reply IsFull v t old new line result) is_a
     (subst (λ (p : HandData × List ℕ). Tells p (2 ^ 32 - 1 < length p.0.bench.past) t old new result) (sym is) h)

@@ -1,8 +1,9 @@
 -- The answers to lines: what they tell, together, and how they are written.
-use Rattle.std.specs.Prelude.{◌≡◌, ℕ, List, [], ◌∷◌, ◌++◌, flat_map, reverse}
+use Rattle.std.specs.Prelude.{◌≡◌, ℕ, List, [], ◌∷◌, ◌++◌, flat_map, reverse, Option}
 use Rattle.lin_cluster_parts.specs.declared.parts.Parts.{Parts}
+use Rattle.lin_values.specs.Coded.{CodedData}
 use Rattle.lin_core.specs.declared.log.LogEntry.{LogEntry}
-use Rattle.lin_live.specs.Told.{Answer, HandData, answered, entries_text, reply}
+use Rattle.lin_live.specs.Told.{Answer, HandData, answered, entries_text, reply, shown_coding}
 use Rattle.lin_live.specs.Transcript.{after, short, transcript}
 use Rattle.lin_live.specs.declared.format.AnswerFormat.{AnswerFormat}
 
@@ -18,13 +19,13 @@ AnswersAreTheLog = (h : HandData) (ls : List (List ℕ))
     ≡ reverse h.bench.past ++ flat_map (λ a. a.entries) (answers h ls)
 
 -- the texts of answers, each on the log of those before it
-abbrev pub answers_text : AnswerFormat → Parts → List LogEntry → List Answer → List ℕ
-answers_text f c past [] = []
-answers_text f c past (a ∷ more) =
-    (entries_text f c past a.entries ++ a.last_line)
-    ++ answers_text f c (reverse a.entries ++ past) more
+abbrev pub answers_text : AnswerFormat → Parts → Option CodedData → List LogEntry → List Answer → List ℕ
+answers_text f c k past [] = []
+answers_text f c k past (a ∷ more) =
+    (entries_text f c k past a.entries ++ a.last_line)
+    ++ answers_text f c k (reverse a.entries ++ past) more
 
 -- a transcript has nothing but the texts of entries, and a last line for each line
 abbrev pub AnswersAreWritten : Type 0
 AnswersAreWritten = (h : HandData) (ls : List (List ℕ))
-    → transcript reply h ls ≡ answers_text h.format h.cluster h.bench.past (answers h ls)
+    → transcript reply h ls ≡ answers_text h.format h.cluster (shown_coding h) h.bench.past (answers h ls)

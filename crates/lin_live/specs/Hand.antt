@@ -1,5 +1,6 @@
 -- What contracts see of a bench in hand.
-use Rattle.std.specs.Prelude.{◌≡◌, ℕ, List, IfSome, false, reverse, take}
+use Rattle.std.specs.Prelude.{◌≡◌, ℕ, Bool, false, List, IfSome, Option, reverse, take}
+use Rattle.lin_values.specs.Coded.{CodedData}
 use Rattle.lin_core.specs.Core.{CoreData}
 use Rattle.lin_core.specs.declared.log.LogEntry.{LogEntry}
 use Rattle.lin_bench.specs.Bench.{fresh, renewed, state_of}
@@ -18,6 +19,8 @@ hand_data a = record {
   cluster = a.bench.core.cluster;
   opening = a.bench.core.opening;
   capacity = a.bench.core.capacity;
+  coded = a.coded;
+  is_physical = a.is_physical;
   bench = state_of (renewed a.bench);
   begun = a.begun;
   was_bad = a.was_bad;
@@ -33,12 +36,14 @@ abbrev pub IsFollowed : Inside → Type 0
 IsFollowed a = IfSome a.track (λ t. t ≡ track_of a.bench.core.cluster (reverse a.bench.core.log))
 
 -- a bench in hand on which no line was made
-abbrev pub begins : AnswerFormat → CoreData → HandData
-begins format core = record {
+abbrev pub begins : AnswerFormat → Option CodedData → Bool → CoreData → HandData
+begins format coded is_physical core = record {
   format = format;
   cluster = core.cluster;
   opening = core.opening;
   capacity = core.capacity;
+  coded = coded;
+  is_physical = is_physical;
   bench = state_of (fresh core);
   begun = false;
   was_bad = false;

@@ -4,7 +4,8 @@ use Rattle.std.specs.Prelude.{codes}
 use Rattle.std.specs.Str.{bytes_eq}
 use Rattle.lin_cluster_parts.specs.declared.parts.Parts.{Parts}
 use Rattle.lin_bench.specs.Fields.{fields}
-use Rattle.lin_bench.specs.Lines.{read_line}
+use Rattle.lin_values.specs.Coded.{CodedData}
+use Rattle.lin_bench.specs.Words.{read_worded_line}
 use Rattle.lin_bench.specs.declared.line.Line.{Line}
 use Rattle.lin_bench.specs.declared.reason.Reason.{Reason as ScriptReason}
 use Rattle.lin_live.specs.Asked.{◌>>=◌, IsAskable, question}
@@ -19,15 +20,16 @@ of_script (Ok (Some line)) = Ok (Some (Make line))
 of_script (Err why) = Err (Script why)
 
 -- by the first field, what is asked by those after a `?`, or what a bench script says
-abbrev pub heard_in : Parts → List ℕ → List (List ℕ) → Result (Option Heard) Reason
-heard_in c line [] = of_script (read_line c line)
-heard_in c line (word ∷ fs) =
+abbrev pub heard_in : Parts → Option CodedData → List ℕ → List (List ℕ)
+    → Result (Option Heard) Reason
+heard_in c k line [] = of_script (read_worded_line c k line)
+heard_in c k line (word ∷ fs) =
     if bytes_eq word (codes "?") then question c fs >>= (λ asked. Ok (Some (Ask asked)))
-    else of_script (read_line c line)
+    else of_script (read_worded_line c k line)
 
 -- what a line says, nothing where it has no field or begins with `>`
-abbrev pub heard : Parts → List ℕ → Result (Option Heard) Reason
-heard c line = heard_in c line (fields line)
+abbrev pub heard : Parts → Option CodedData → List ℕ → Result (Option Heard) Reason
+heard c k line = heard_in c k line (fields line)
 
 -- a question is for what is there
 abbrev pub IsHeard : Parts → Heard → Type 0

@@ -1,12 +1,13 @@
 -- Lines in hand and bench scripts.
-use Rattle.std.specs.Prelude.{◌≡◌, ℕ, ◌≤◌, Bool, true, false, List, [], ◌∷◌, length, map, Ok}
+use Rattle.std.specs.Prelude.{◌≡◌, ℕ, ◌≤◌, Bool, true, false, List, [], ◌∷◌, length, map, Ok, Option}
 use Rattle.std.specs.Prelude.{codes}
 use Rattle.std.specs.List.{AllByRecursion}
 use Rattle.std.specs.Str.{bytes_eq}
 use Rattle.std.specs.Str.Lines.{strip_carriage_return}
 use Rattle.lin_cluster_parts.specs.declared.parts.Parts.{Parts}
 use Rattle.lin_bench.specs.Fields.{fields}
-use Rattle.lin_bench.specs.Lines.{read_lines}
+use Rattle.lin_values.specs.Coded.{CodedData}
+use Rattle.lin_bench.specs.Scripts.{read_lines}
 use Rattle.lin_bench.specs.Played.{Run, first, played, some_unmet}
 use Rattle.lin_bench.specs.Slots.{slot_limit}
 use Rattle.lin_bench.specs.declared.line.Line.{Line}
@@ -26,12 +27,14 @@ IsPlain line =
     × (asks (fields (strip_carriage_return line)) ≡ false)
 
 -- the bench in hand that a play has come to (a byte order mark would be a part of the next line)
-abbrev pub in_hand_of : AnswerFormat → Parts → ℕ → ℕ → Run → HandData
-in_hand_of format c opening capacity run = record {
+abbrev pub in_hand_of : AnswerFormat → Option CodedData → Bool → Parts → ℕ → ℕ → Run → HandData
+in_hand_of format k is_physical c opening capacity run = record {
   format = format;
   cluster = c;
   opening = opening;
   capacity = capacity;
+  coded = k;
+  is_physical = is_physical;
   bench = record run.bench { left = slot_limit };
   begun = true;
   was_bad = false;
@@ -46,9 +49,10 @@ nothing = record { bench = first; judgements = [] }
 -- hand, to the bench that its play comes to, with the same log; an expectation isn't met in one
 -- exactly where one isn't met in the other.
 abbrev pub LiveIsPlay : Type 0
-LiveIsPlay = (format : AnswerFormat) (c : Parts) (opening capacity : ℕ) (ls : List (List ℕ))
+LiveIsPlay = (format : AnswerFormat) (k : Option CodedData) (is_physical : Bool) (c : Parts)
+    (opening capacity : ℕ) (ls : List (List ℕ))
     (said : List (ℕ × Line)) (run : Run)
-    → AllByRecursion IsPlain ls → read_lines c 1 ls ≡ Ok said
+    → AllByRecursion IsPlain ls → read_lines c k 1 ls ≡ Ok said
     → played false c opening capacity said ≡ Ok run
-    → after reply (in_hand_of format c opening capacity nothing) (map strip_carriage_return ls)
-    ≡ in_hand_of format c opening capacity run
+    → after reply (in_hand_of format k is_physical c opening capacity nothing) (map strip_carriage_return ls)
+    ≡ in_hand_of format k is_physical c opening capacity run

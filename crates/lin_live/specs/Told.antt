@@ -1,8 +1,7 @@
 -- What a bench in hand answers to a line: the text of the entries that the line makes, and then one
 -- line that begins with `#`.
 use Rattle.std.specs.Prelude.{ℕ, ◌-◌, ◌^◌, ◌<◌, Bool, true, false, ◌||◌, if◌then◌else◌, List, []}
-use Rattle.std.specs.Prelude.{◌∷◌, ◌++◌, flat_map, length, Option, Some, None}
-use Rattle.std.specs.Prelude.{option_map}
+use Rattle.std.specs.Prelude.{◌∷◌, ◌++◌, flat_map, length, Option, Some, None, option_map}
 use Rattle.std.specs.Prelude.{Result, Ok, Err, codes}
 use Rattle.std.specs.Option.{option_map_or}
 use Rattle.std.specs.Fmt.{decimal}
@@ -17,7 +16,12 @@ use Rattle.lin_core.specs.declared.log.LogEntry.{LogEntry}
 use Rattle.lin_core.specs.declared.reply.Refusal.{Refusal}
 use Rattle.lin_log.specs.Words.{spaced_word, text, value_word}
 use Rattle.lin_export.specs.Named.{named_entries, slot_names}
-use Rattle.lin_bench.specs.Lines.{without_mark}
+use Rattle.lin_frame.specs.declared.value.Value.{Value as RawValue}
+use Rattle.lin_values.specs.Coded.{CodedData}
+use Rattle.lin_values.specs.Meaning.{told_meaning as meaning_of}
+use Rattle.lin_values.specs.Shown.{shown as meaning_text}
+use Rattle.lin_bench.specs.Meanings.{told_meaning}
+use Rattle.lin_bench.specs.Scripts.{without_mark}
 use Rattle.lin_bench.specs.Made.{BenchState, made}
 use Rattle.lin_bench.specs.Slots.{pending, slot_limit}
 use Rattle.lin_bench.specs.Strict.{entries_since, first_refusal}
@@ -83,31 +87,41 @@ next_text c opening past =
     (λ (s : ℕ × ℕ × Option ℕ). slot_text c (s.0, s.1) s.2)
     (next_slot c opening past) (codes "open")
 
+-- a value of a signal, and where that is told what it means
+abbrev pub seen_text : Option CodedData → ℕ → RawValue → List ℕ
+seen_text k signal value =
+    value_word value
+    ++ option_map_or (λ m. spaced_word (meaning_text m)) (meaning_of k signal value) []
+
 -- given also the answers that are noted
-abbrev pub value_text : Parts → ℕ → List LogEntry → List Noted → Question → List ℕ
-value_text c opening past noted (Signal node signal) = value_word (value_at c past node signal)
-value_text c opening past noted (Waiting host) = decimal (length (waiting c past host))
-value_text c opening past noted Idle = idle_text c (pending c past noted)
-value_text c opening past noted Time = decimal (time c past)
-value_text c opening past noted Asleep = if asleep past then codes "asleep" else codes "awake"
-value_text c opening past noted Next = next_text c opening past
+abbrev pub value_text : Parts → Option CodedData → ℕ → List LogEntry → List Noted → Question → List ℕ
+value_text c k opening past noted (Signal node signal) = seen_text k signal (value_at c past node signal)
+value_text c k opening past noted (Waiting host) = decimal (length (waiting c past host))
+value_text c k opening past noted Idle = idle_text c (pending c past noted)
+value_text c k opening past noted Time = decimal (time c past)
+value_text c k opening past noted Asleep = if asleep past then codes "asleep" else codes "awake"
+value_text c k opening past noted Next = next_text c opening past
 
 -- a value as it is said
 abbrev pub value_shown : Parts → Value → List ℕ
 value_shown c (shown.Signal value) = value_word value
+value_shown c (shown.Meant value text) = value_word value ++ spaced_word text.items
 value_shown c (shown.Number n) = decimal n
 value_shown c (shown.Pending all) = idle_text c all
 value_shown c (shown.Asleep is) = if is then codes "asleep" else codes "awake"
 value_shown c shown.Open = codes "open"
 value_shown c (shown.Slot table entry header) = slot_text c (table, entry) header
 
--- ---- what is kept: how entries are told, a bench whose next line may make 1,000,000 slots, whether
--- there was a line, whether one was bad or met that limit, and whether an expectation wasn't met
+-- ---- what is kept: how entries are told, what signals mean where that is known, whether values are
+-- told as that too, a bench whose next line may make 1,000,000 slots, whether there was a line, whether
+-- one was bad or met that limit, and whether an expectation wasn't met
 pub record HandData : Type 0 where
   pub format : AnswerFormat
   pub cluster : Parts
   pub opening : ℕ
   pub capacity : ℕ
+  pub coded : Option CodedData
+  pub is_physical : Bool
   pub bench : BenchState
   pub begun : Bool
   pub was_bad : Bool
@@ -130,6 +144,15 @@ pub record Answer : Type 0 where
 abbrev pub says : List ℕ → Answer
 says words = record { entries = []; last_line = ending words }
 
+-- what signals mean, where values are told as that
+abbrev pub shown_coding : HandData → Option CodedData
+shown_coding h = if h.is_physical then h.coded else None
+
+-- where what is expected in words isn't so, what the value means
+abbrev pub in_words : Option CodedData → Verdict → Verdict
+in_words None v = v
+in_words (Some k) v = told_meaning k v
+
 -- a line was made
 abbrev pub after_line : HandData → BenchState × Verdict → HandData × Answer
 after_line h m =
@@ -140,7 +163,7 @@ after_line h m =
         was_bad = h.was_bad || is_limit m.1;
         was_unmet = h.was_unmet || is_unmet m.1;
       },
-      record { entries = es; last_line = verdict_ending h.cluster m.1 es },
+      record { entries = es; last_line = verdict_ending h.cluster (in_words h.coded m.1) es },
     )
 
 -- what something that was heard makes of what is kept, and the answer
@@ -148,31 +171,35 @@ abbrev pub told : HandData → Result (Option Heard) Reason → HandData × Answ
 told h (Err why) =
     (record h { was_bad = true }, says (codes "bad line: " ++ reason_text why))
 told h (Ok None) = (h, says (codes "ok"))
-told h (Ok (Some (Ask asked))) =
-    (h, says (codes "is " ++ value_text h.cluster h.opening h.bench.past h.bench.rules.noted asked))
+told h (Ok (Some (Ask asked))) = (
+  h,
+  says (codes "is "
+      ++ value_text h.cluster (shown_coding h) h.opening h.bench.past h.bench.rules.noted asked),
+)
 told h (Ok (Some (Make line))) = after_line h (made h.cluster h.opening h.capacity h.bench line)
 
 -- what a line says, and none that is too long
-abbrev pub heard_as : Parts → Option (List ℕ) → Result (Option Heard) Reason
-heard_as c None = Err TooLong
-heard_as c (Some line) = heard c line
+abbrev pub heard_as : Parts → Option CodedData → Option (List ℕ) → Result (Option Heard) Reason
+heard_as c k None = Err TooLong
+heard_as c k (Some line) = heard c k line
 
 -- the first line may begin with a byte order mark, which belongs to no line
 abbrev pub unmarked : HandData → Option (List ℕ) → Option (List ℕ)
 unmarked h line = if h.begun then line else option_map without_mark line
 
 abbrev pub answered : HandData → Option (List ℕ) → HandData × Answer
-answered h line = told (record h { begun = true }) (heard_as h.cluster (unmarked h line))
+answered h line = told (record h { begun = true }) (heard_as h.cluster h.coded (unmarked h line))
 
 -- entries as they are told, the oldest first, on those before them: as the log's own text, or as the
 -- log with names
-abbrev pub entries_text : AnswerFormat → Parts → List LogEntry → List LogEntry → List ℕ
-entries_text Log c past entries = text entries
-entries_text Named c past entries = named_entries c past entries
+abbrev pub entries_text : AnswerFormat → Parts → Option CodedData → List LogEntry → List LogEntry
+    → List ℕ
+entries_text Log c k past entries = text entries
+entries_text Named c k past entries = named_entries c k past entries
 
 -- an answer is written as the text of its entries, and then its last line
 abbrev pub answer_text : HandData → Answer → List ℕ
-answer_text h a = entries_text h.format h.cluster h.bench.past a.entries ++ a.last_line
+answer_text h a = entries_text h.format h.cluster (shown_coding h) h.bench.past a.entries ++ a.last_line
 
 abbrev pub written : HandData → HandData × Answer → HandData × List ℕ
 written h a = (a.0, answer_text h a.1)

@@ -1,16 +1,16 @@
 //! A bench in hand.
 
 ghost use Rattle.std.specs.Prelude.{◌≡◌, ◌<◌, ◌≤◌, ◌-◌, ◌^◌, ◌++◌, ◌||◌, [], IfOk, IfSome, codes};
-ghost use Rattle.std.specs.Prelude.{drop, length, option_map, reverse, true};
-ghost use Rattle.lin_bench.specs.Lines.{without_mark};
+ghost use Rattle.std.specs.Prelude.{None, drop, if◌then◌else◌, length, option_map, reverse, true};
+ghost use Rattle.lin_bench.specs.Scripts.{without_mark};
 ghost use Rattle.lin_export.specs.Track.{track_of};
 ghost use Rattle.lin_live.specs.Asked.{Gives, IsAskable};
 ghost use Rattle.lin_live.specs.Hand.{earlier};
 ghost use Rattle.lin_live.specs.Serving.{Tells};
 ghost use Rattle.lin_live.specs.Heard.{IsHeard};
-ghost use Rattle.lin_live.specs.Told.{HandData, IsFull, ending, entries_text, heard_as, is_limit};
-ghost use Rattle.lin_live.specs.Told.{is_unmet, reason_text, reply, told, unmarked, value_text};
-ghost use Rattle.lin_live.specs.Told.{verdict_ending, written};
+ghost use Rattle.lin_live.specs.Told.{HandData, IsFull, ending, entries_text, heard_as, in_words};
+ghost use Rattle.lin_live.specs.Told.{is_limit, is_unmet, reason_text, reply, shown_coding, told};
+ghost use Rattle.lin_live.specs.Told.{unmarked, value_text, verdict_ending, written};
 ghost use Rattle.lin_live.specs.declared.heard.Heard.TheVariants.{Make};
 
 use crate::answering::Answering;
@@ -21,21 +21,26 @@ use crate::question::Question;
 use crate::reason::{LineFault, Reason};
 use crate::telling::{with_names, write_bad, write_line, write_ok, write_told_line, write_value};
 use crate::value::value_of;
-use lin_bench::{Bench, Line, Verdict, without_mark};
+use lin_bench::{Bench, Line, Verdict, told_meaning, without_mark};
 use lin_core::{Core, Log};
 use lin_export::Track;
-use std::alloc::Global;
+use lin_values::Coded;
+use std::alloc::{AllocError, Global};
 use std::io::Write;
 use std::marker::Model;
 
 /// A bench that answers lines: those of bench scripts, each by the entries that it makes and by what
 /// it came to, and questions. Contracts see how it tells entries, the cluster, what the core was
-/// opened with, the log, what expectations took, whether there was a line, and whether one was bad
-/// or an expectation not met.
+/// opened with, what signals mean and whether that is told, the log, what expectations took, whether
+/// there was a line, and whether one was bad or an expectation not met.
 #[derive(Drop)]
 pub struct Hand {
     bench: Bench,
     format: AnswerFormat,
+    /// What signals mean, where that is known.
+    coded: Option<Coded>,
+    /// Whether values are told as what they mean, too.
+    is_physical: bool,
     /// What is kept of the log for telling further entries with names, where it is at hand.
     track: Option<Track>,
     /// Whether there was a line.
@@ -84,17 +89,35 @@ fn without_its_mark(line: Option<&[u8]>) -> Option<&[u8]>
     Some(without_mark(line?))
 }
 
+/// What signals mean, where values are told as that.
+fn told_coding(coded: Option<&Coded>, is_physical: bool) -> Option<&Coded>
+    ensures { option_map (λ k. k.now) result
+        ≡ (if is_physical then option_map (λ k. k.now) coded.entry else None) }
+{
+    if is_physical { coded } else { None }
+}
+
 impl Hand {
     ghost use Rattle.lin_live.specs.Hand.{begins};
 
     /// A bench over a core with an empty log, on which no line was made, and which tells entries so.
-    pub fn new(alloc: Global, core: Core, format: AnswerFormat) -> Hand
+    /// Where what signals mean is known, lines may say values in words, and where `is_physical`
+    /// values are told as that, too.
+    pub fn new(
+        alloc: Global,
+        core: Core,
+        format: AnswerFormat,
+        coded: Option<Coded>,
+        is_physical: bool,
+    ) -> Hand
         requires { core.log ≡ [] }
-        ensures { result ≡ begins format core }
+        ensures { result ≡ begins format coded is_physical core }
     {
         Hand {
             bench: Bench::new(alloc, core),
             format,
+            coded,
+            is_physical,
             track: None,
             begun: false,
             was_bad: false,
@@ -137,12 +160,18 @@ impl Hand {
 
     /// What a line says; none stands for one that is too long.
     fn hear(&self, alloc: Global, line: Option<&[u8]>) -> Result<Option<Heard>, LineFault>
-        ensures heard { Gives result (heard_as self.now.cluster (option_map (λ l. l.now) line.entry)) }
+        ensures heard { Gives result
+            (heard_as self.now.cluster self.now.coded (option_map (λ l. l.now) line.entry)) }
         ensures askable { IfOk result (λ said. IfSome said (IsHeard self.now.cluster)) }
     {
         match line {
             None => Err(LineFault::Bad(Reason::TooLong)),
-            Some(line) => hear(alloc, self.bench.core().cluster(), line),
+            Some(line) => hear(
+                alloc,
+                self.bench.core().cluster(),
+                self.coded.as_ref(),
+                line,
+            ),
         }
     }
 
@@ -173,12 +202,13 @@ impl Hand {
         requires { IsAskable self.now.cluster question }
         ensures { Tells (
           self.now,
-          ending (codes "is " ++ value_text self.now.cluster
+          ending (codes "is " ++ value_text self.now.cluster (shown_coding self.now)
               self.now.opening self.now.bench.past self.now.bench.rules.noted question),
         )
             ⊥ self.now (W.contents writer.old) (W.contents writer.new) result }
     {
-        let value = value_of(alloc, &self.bench, question)?;
+        let coded = told_coding(self.coded.as_ref(), self.is_physical);
+        let value = value_of(alloc, &self.bench, coded, question)?;
         write_value(writer, self.bench.core().cluster(), &value)?;
         Ok(())
     }
@@ -209,7 +239,7 @@ impl Hand {
             ≡ track_of self.old.cluster (earlier from self.old.bench.past)) }
         ensures { Tells (
           self.old,
-          entries_text self.old.format self.old.cluster
+          entries_text self.old.format self.old.cluster (shown_coding self.old)
               (earlier from self.old.bench.past) (drop from (reverse self.old.bench.past))
               ++ verdict_ending self.old.cluster verdict.now
               (drop from (reverse self.old.bench.past)),
@@ -220,12 +250,23 @@ impl Hand {
         match self.format {
             AnswerFormat::Log => write_line(writer, core, from, verdict)?,
             AnswerFormat::Named => {
-                let (text, track) = with_names(alloc, core, track, from)?;
+                let coded = told_coding(self.coded.as_ref(), self.is_physical);
+                let (text, track) = with_names(alloc, core, coded, track, from)?;
                 write_told_line(writer, core, from, text.as_slice(), verdict)?;
                 self.track = Some(track);
             }
         }
         Ok(())
+    }
+
+    /// A verdict; where what is expected in words isn't so, with what the value means.
+    fn in_words(&self, alloc: Global, verdict: Verdict) -> Result<Verdict, AllocError>
+        ensures { IfOk result (λ v. v ≡ in_words self.now.coded verdict) }
+    {
+        match &self.coded {
+            Some(coded) => told_meaning(alloc, coded, verdict),
+            None => Ok(verdict),
+        }
     }
 
     /// Makes a line, and tells its entries and what it came to.
@@ -239,7 +280,8 @@ impl Hand {
         self.bench.renew_slots();
         let verdict = self.bench.make(alloc, line)?;
         self.keep(&verdict);
-        self.tell(alloc, track, from, &verdict, writer)
+        let told = self.in_words(alloc, verdict)?;
+        self.tell(alloc, track, from, &told, writer)
     }
 }
 

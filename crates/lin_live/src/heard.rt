@@ -1,16 +1,18 @@
 //! What a line says to a bench in hand.
 
 ghost use Rattle.std.specs.Prelude.{IfOk, IfSome};
-ghost use Rattle.lin_bench.specs.Lines.{read_line};
+ghost use Rattle.lin_bench.specs.Words.{read_worded_line};
+ghost use Rattle.lin_export.specs.WhereTold.{told};
 ghost use Rattle.lin_live.specs.Asked.{Gives};
 ghost use Rattle.lin_live.specs.Heard.{IsHeard, heard, of_script};
 
 use crate::asking::question;
 use crate::question::Question;
 use crate::reason::LineFault;
-use lin_bench::{Line, read_line};
+use lin_bench::{Line, read_worded_line};
 use lin_cluster_parts::Cluster;
 use lin_log::first_field;
+use lin_values::Coded;
 use std::alloc::Global;
 
 /// A question, or what a line of a bench script says.
@@ -21,29 +23,41 @@ pub enum Heard {
 }
 
 /// What a line of a bench script says.
-fn script_line(alloc: Global, cluster: &Cluster, line: &[u8]) -> Result<Option<Heard>, LineFault>
-    ensures heard { Gives result (of_script (read_line cluster.now line.now)) }
+fn script_line(
+    alloc: Global,
+    cluster: &Cluster,
+    coded: Option<&Coded>,
+    line: &[u8],
+) -> Result<Option<Heard>, LineFault>
+    ensures heard { Gives result
+        (of_script (read_worded_line cluster.now (told coded.entry) line.now)) }
     ensures askable { IfOk result (λ said. IfSome said (IsHeard cluster.now)) }
 {
-    match read_line(alloc, cluster, line)? {
+    match read_worded_line(alloc, cluster, coded, line)? {
         None => Ok(None),
         Some(line) => Ok(Some(Heard::Make(line))),
     }
 }
 
 /// What a line without its end says; nothing where it has no field or begins with `>`. Nodes,
-/// signals and schedule tables are those of the cluster, and those that are asked for are there.
+/// signals and schedule tables are those of the cluster, and those that are asked for are there;
+/// values may stand in words where what signals mean is known.
 ///
 /// # Errors
 /// `Bad` with why the line is; `OutOfMemory`.
-pub fn hear(alloc: Global, cluster: &Cluster, line: &[u8]) -> Result<Option<Heard>, LineFault>
-    ensures heard { Gives result (heard cluster.now line.now) }
+pub fn hear(
+    alloc: Global,
+    cluster: &Cluster,
+    coded: Option<&Coded>,
+    line: &[u8],
+) -> Result<Option<Heard>, LineFault>
+    ensures heard { Gives result (heard cluster.now (told coded.entry) line.now) }
     ensures askable { IfOk result (λ said. IfSome said (IsHeard cluster.now)) }
 {
     match first_field(cluster, line) {
         Some((word, rest)) if word == b"?".as_slice() => {
             Ok(Some(Heard::Ask(question(alloc, cluster, rest)?)))
         }
-        _ => script_line(alloc, cluster, line),
+        _ => script_line(alloc, cluster, coded, line),
     }
 }

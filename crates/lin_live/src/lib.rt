@@ -1,7 +1,7 @@
 //! A bench in hand, and a loop that answers each line of a reader on a writer before it reads on.
 //!
 //! ```
-//! let mut hand = Hand::new(alloc, core, AnswerFormat::Log);
+//! let mut hand = Hand::new(alloc, core, AnswerFormat::Log, None, false);
 //! // answers each line of standard input, until it ends
 //! live(alloc, &mut hand, &mut reader, &mut writer)?;
 //! ```

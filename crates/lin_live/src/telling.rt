@@ -4,6 +4,7 @@ ghost use Rattle.std.specs.Prelude.{◌≡◌, ◌++◌, ◌≤◌, IfOk, IfSome
 ghost use Rattle.std.specs.Prelude.{reverse, take};
 ghost use Rattle.lin_export.specs.Named.{named_entries};
 ghost use Rattle.lin_export.specs.Track.{track_of};
+ghost use Rattle.lin_export.specs.WhereTold.{told};
 ghost use Rattle.lin_log.specs.Words.{spaced_word, text};
 ghost use Rattle.lin_text.specs.Written.{Grows, WritesText};
 ghost use Rattle.lin_live.specs.Told.{ending, idle_text, reason_text};
@@ -19,6 +20,7 @@ use lin_core::{Core, Event, Listed, Log, Refusal};
 use lin_export::{Track, named_text, put_slot_names};
 use lin_log::{put_entries, put_number, put_table, put_value, put_word};
 use lin_text::{TextWriter, WriteFailed};
+use lin_values::Coded;
 use std::alloc::{AllocError, Global};
 use std::io::Write;
 
@@ -110,6 +112,11 @@ fn put_answer<W: Write>(out: &mut TextWriter<'_, W>, cluster: &Cluster, value: &
 {
     match value {
         Value::Signal(value) => put_value(out, value),
+        Value::Meant(value, text) => {
+            put_value(out, value);
+            out.put_byte(b' ');
+            out.put(text.as_slice());
+        }
         Value::Number(number) => put_number(out, *number),
         Value::Pending(pending) => {
             out.put_byte(b' ');
@@ -203,23 +210,24 @@ pub(crate) fn write_line<W: Write>(
 pub(crate) fn with_names(
     alloc: Global,
     core: &Core,
+    coded: Option<&Coded>,
     track: Option<Track>,
     from: usize,
 ) -> Result<(Vec<u8>, Track), AllocError>
     requires there { from ≤ length core.now.log }
     requires track { IfSome track (λ track.
         track ≡ track_of core.now.cluster (reverse (take from core.now.log))) }
-    ensures text { IfOk result (λ told. told.0.items
-        ≡ named_entries core.now.cluster (reverse (take from core.now.log))
-        (drop from core.now.log)) }
-    ensures track { IfOk result (λ told.
-        told.1 ≡ track_of core.now.cluster (reverse core.now.log)) }
+    ensures text { IfOk result (λ made. made.0.items
+        ≡ named_entries core.now.cluster (told coded.entry)
+        (reverse (take from core.now.log)) (drop from core.now.log)) }
+    ensures track { IfOk result (λ made.
+        made.1 ≡ track_of core.now.cluster (reverse core.now.log)) }
 {
     let mut track = match track {
         Some(track) => track,
         None => Track::up_to(alloc, core.cluster(), core.log(), from)?,
     };
-    let text = named_text(alloc, &mut track, core.cluster(), core.log(), from)?;
+    let text = named_text(alloc, &mut track, core.cluster(), coded, core.log(), from)?;
     Ok((text, track))
 }
 

@@ -1,14 +1,17 @@
 //! What is said to questions.
 
 ghost use Rattle.std.specs.Prelude.{◌≡◌, IfOk};
+ghost use Rattle.lin_cluster_parts.specs.declared.parts.Parts.{Parts};
 ghost use Rattle.lin_core.specs.Core.{past_of};
+ghost use Rattle.lin_export.specs.WhereTold.{told};
 ghost use Rattle.lin_live.specs.Asked.{IsAskable};
-ghost use Rattle.lin_live.specs.Told.{next_text, value_shown, value_text};
+ghost use Rattle.lin_live.specs.Told.{next_text, seen_text, value_shown, value_text};
 
 use crate::question::Question;
 use lin_bench::{Bench, Pending};
 use lin_core::Core;
 use lin_lists::Many;
+use lin_values::{Coded, shown};
 use std::alloc::{AllocError, Global};
 
 /// What is said to a question.
@@ -16,6 +19,8 @@ use std::alloc::{AllocError, Global};
 pub(crate) enum Value {
     /// A node sees this value of a signal.
     Signal(lin_frame::Value),
+    /// A node sees this value of a signal, and it has this text.
+    Meant(lin_frame::Value, Vec<u8>),
     /// So many messages wait, or so many microseconds have passed.
     Number(u64),
     /// What waits, and what is noted.
@@ -49,20 +54,39 @@ fn next(core: &Core) -> Value
     }
 }
 
+/// A value of a signal, and where that is told what it means.
+fn seen(
+    alloc: Global,
+    coded: Option<&Coded>,
+    signal: u16,
+    value: lin_frame::Value,
+) -> Result<Value, AllocError>
+    ensures { (c : Parts) → IfOk result
+        (λ said. value_shown c said ≡ seen_text (told coded.entry) signal value) }
+{
+    if let Some(coded) = coded
+        && let Some(meaning) = coded.meaning(signal, &value)
+    {
+        return Ok(Value::Meant(value, shown(alloc, &meaning)?));
+    }
+    Ok(Value::Signal(value))
+}
+
 /// What is said to a question on a bench.
 pub(crate) fn value_of(
     alloc: Global,
     bench: &Bench,
+    coded: Option<&Coded>,
     question: Question,
 ) -> Result<Value, AllocError>
     requires { IsAskable bench.now.core.cluster question }
     ensures { IfOk result (λ value. value_shown bench.now.core.cluster value
-        ≡ value_text bench.now.core.cluster bench.now.core.opening (past_of bench.now.core)
-        bench.now.rules.noted question) }
+        ≡ value_text bench.now.core.cluster (told coded.entry) bench.now.core.opening
+        (past_of bench.now.core) bench.now.rules.noted question) }
 {
     let core = bench.core();
     match question {
-        Question::Signal { node, signal } => Ok(Value::Signal(core.signal(node, signal))),
+        Question::Signal { node, signal } => seen(alloc, coded, signal, core.signal(node, signal)),
         Question::Waiting { host } => Ok(Value::Number(core.waiting(host) as u64)),
         Question::Idle => Ok(Value::Pending(Many::new(bench.pending(alloc)?))),
         Question::Time => Ok(Value::Number(core.time())),

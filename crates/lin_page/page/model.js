@@ -22,7 +22,7 @@ function readRun(text) {
 			event() { group[a] = {id: b, table: d, frames: e}; },
 			slot() { tables[n].lines[a] = {name: b, kind: c, delay: +e[0]}; },
 			physical() { signals[n].maps.push({lo: a, hi: b, k: c, o: +d, unit: un(e[0])}); },
-			logical() { signals[n].maps.push({lo: a, hi: a, text: un(b)}); },
+			logical() { signals[n].maps.push({lo: a, hi: a, text: un(b) || a}); },
 		}[w] || (() => 0))();
 	}
 	let s, old, step, time = 0, i = 0;

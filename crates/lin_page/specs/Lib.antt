@@ -1,2 +1,4 @@
+pub mod Fields
+pub mod Meanings
 pub mod Page
 pub mod Told

@@ -1,10 +1,9 @@
 -- The page of a run: what its cluster has and the log itself, between the pieces of a page whose
 -- scripts draw them.
-use Rattle.std.specs.Prelude.{ℕ, ◌==◌, nat_lt, Bool, true, false, not, ◌&&◌, if◌then◌else◌}
+use Rattle.std.specs.Prelude.{ℕ, ◌==◌, Bool, true, false, if◌then◌else◌, Option}
 use Rattle.std.specs.Prelude.{List, [], ◌∷◌, ◌++◌, length, flat_map, reverse, sum_by, codes}
 use Rattle.std.specs.List.{count_by}
 use Rattle.std.specs.Fmt.{decimal}
-use Rattle.hex.specs.Hex.{encode_upper}
 use Rattle.lin_frame.specs.Words.{numbers}
 use Rattle.lin_cluster_parts.specs.Cluster.{frames_with, signal_of}
 use Rattle.lin_cluster_parts.specs.declared.parts.Parts.{Parts}
@@ -24,18 +23,10 @@ use Rattle.lin_export.specs.FirstSlots.{first_slots}
 use Rattle.lin_bench.specs.Played.{is_unmet}
 use Rattle.lin_bench.specs.Texts.{unmet_text}
 use Rattle.lin_bench.specs.declared.got.Judgement.{Judgement}
+use Rattle.lin_page.specs.Fields.{field}
+use Rattle.lin_page.specs.Meanings.{coded_lines}
+use Rattle.lin_values.specs.Coded.{CodedData}
 use Rattle.lin_page.specs.declared.pieces.TheConstants.{HEAD, MIDDLE, TAIL}
-
--- a text as one field: printable bytes but `%`, `&` and `<` stand for themselves, each other byte is
--- `%` and two digits
-abbrev pub is_plain : ℕ → Bool
-is_plain b = nat_lt 32 b && nat_lt b 127 && not (b == 37) && not (b == 38) && not (b == 60)
-
-abbrev pub escaped : ℕ → List ℕ
-escaped b = if is_plain b then b ∷ [] else 37 ∷ encode_upper (b ∷ [])
-
-abbrev pub field : List ℕ → List ℕ
-field text = 34 ∷ flat_map escaped text
 
 -- what stands before the listing of the cluster: the version of these lines, the LDF's name and the
 -- speed
@@ -52,9 +43,10 @@ alone_line c s =
     then line (codes "alone" ∷ decimal s ∷ value_word (signal_of c s).initial ∷ []) else []
 
 -- what stands between the listing and the log
-abbrev pub log_head : Parts → List ℕ
-log_head c =
-    flat_map (alone_line c) (numbers (length c.signals)) ++ line (codes "log" ∷ [])
+abbrev pub log_head : Parts → Option CodedData → List ℕ
+log_head c k =
+    flat_map (alone_line c) (numbers (length c.signals))
+    ++ (coded_lines c k ++ line (codes "log" ∷ []))
 
 -- a judgement after so many entries, where it isn't met
 abbrev pub unmet_line : Parts → Judgement → List ℕ
@@ -102,12 +94,13 @@ summary c log =
     ++ (codes "</p>" ++ 10 ∷ [])
 
 -- what stands up to the end of the log
-abbrev pub log_page : Parts → List ℕ → List LogEntry → List ℕ
-log_page c file log =
-    page_head c file ++ listing c ++ frames c ++ slots c ++ log_head c ++ text log
+abbrev pub log_page : Parts → Option CodedData → List ℕ → List LogEntry → List ℕ
+log_page c k file log =
+    page_head c file ++ listing c ++ frames c ++ slots c ++ log_head c k ++ text log
 
--- the page of a log of a cluster, with the name of its LDF and the judgements of its play
-abbrev pub page : Parts → List ℕ → List LogEntry → List Judgement → List ℕ
-page c file log judgements =
-    log_page c file log ++ (flat_map (unmet_line c) judgements ++ MIDDLE.now ++ summary c log)
+-- the page of a log of a cluster, with what its values mean, the name of its LDF and the judgements
+-- of its play
+abbrev pub page : Parts → Option CodedData → List ℕ → List LogEntry → List Judgement → List ℕ
+page c k file log judgements =
+    log_page c k file log ++ (flat_map (unmet_line c) judgements ++ MIDDLE.now ++ summary c log)
     ++ first_slots c log ++ TAIL.now

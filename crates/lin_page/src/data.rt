@@ -1,16 +1,19 @@
 //! The lines that a page has beside the log: what its script needs to read it.
 
 ghost use Rattle.std.specs.Prelude.{◌<◌, flat_map, length};
+ghost use Rattle.lin_export.specs.WhereTold.{told};
 ghost use Rattle.lin_frame.specs.Words.{numbers};
 ghost use Rattle.lin_text.specs.Written.{Grows, WritesText};
 ghost use Rattle.lin_page.specs.Page.{alone_line, log_head, page_head, unmet_line};
 
 use crate::field::put_field;
+use crate::meanings::put_coded;
 use crate::pieces::HEAD;
 use lin_bench::{Judgement, is_unmet, put_unmet};
 use lin_cluster_parts::Cluster;
 use lin_log::{put_number, put_value};
 use lin_text::{TextWriter, WriteFailed};
+use lin_values::Coded;
 use std::io::Write;
 
 /// Writes what stands before the listing of the cluster.
@@ -61,12 +64,17 @@ fn put_all_alone<W: Write>(out: &mut TextWriter<'_, W>, cluster: &Cluster)
 ///
 /// # Errors
 /// `WriteFailed`; what was written then is the beginning of it.
-pub(crate) fn write_log_head<W: Write>(cluster: &Cluster, writer: &mut W) -> Result<(), WriteFailed>
-    ensures { WritesText (W.contents writer.old) (W.contents writer.new) result
-        (log_head cluster.now) }
+pub(crate) fn write_log_head<W: Write>(
+    cluster: &Cluster,
+    coded: Option<&Coded>,
+    writer: &mut W,
+) -> Result<(), WriteFailed>
+    ensures { WritesText (W.contents writer.old) (W.contents writer.new) result (log_head cluster.now
+        (told coded.entry)) }
 {
     let mut out = TextWriter::new(writer);
     put_all_alone(&mut out, cluster);
+    put_coded(&mut out, cluster, coded);
     out.put_text("log\n");
     out.finish()
 }

@@ -2,7 +2,7 @@
 
 ghost use Rattle.std.specs.Prelude.{◌≡◌, ◌∷◌, flat_map};
 ghost use Rattle.lin_text.specs.Written.{Grows};
-ghost use Rattle.lin_page.specs.Page.{escaped, field, is_plain};
+ghost use Rattle.lin_page.specs.Fields.{escaped, field, is_plain};
 
 use lin_text::TextWriter;
 use std::io::Write;

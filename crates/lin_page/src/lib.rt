@@ -3,12 +3,13 @@
 //!
 //! ```
 //! let mut page = Vec::new(alloc);
-//! write_page(alloc, &core, b"door.ldf", &[], &mut page)?;
+//! write_page(alloc, &core, None, b"door.ldf", &[], &mut page)?;
 //! ```
 #![tactic(auto)]
 
 mod data;
 mod field;
+mod meanings;
 mod page;
 mod pieces;
 mod summary;

@@ -1,6 +1,7 @@
 //! The page of a run.
 
 ghost use Rattle.std.specs.Prelude.{◌++◌, flat_map};
+ghost use Rattle.lin_export.specs.WhereTold.{told};
 ghost use Rattle.lin_text.specs.Written.{WritesText};
 ghost use Rattle.lin_page.specs.Page.{log_page, page, summary, unmet_line};
 
@@ -13,6 +14,7 @@ use lin_export::{ExportFault, write_first_slots};
 use lin_listing::{write_frames, write_list, write_slots};
 use lin_log::write_log;
 use lin_text::{TextWriter, WriteFailed, write_out};
+use lin_values::Coded;
 use std::alloc::Global;
 use std::io::Write;
 
@@ -20,16 +22,22 @@ use std::io::Write;
 ///
 /// # Errors
 /// `WriteFailed`; what was written then is the beginning of it.
-fn write_log_page<W: Write>(core: &Core, file: &[u8], writer: &mut W) -> Result<(), WriteFailed>
+fn write_log_page<W: Write>(
+    core: &Core,
+    coded: Option<&Coded>,
+    file: &[u8],
+    writer: &mut W,
+) -> Result<(), WriteFailed>
     ensures { WritesText (W.contents writer.old) (W.contents writer.new) result
-        (log_page core.now.cluster file.now core.now.log) }
+        (log_page core.now.cluster (told coded.entry)
+        file.now core.now.log) }
 {
     let cluster = core.cluster();
     write_head(cluster, file, writer)?;
     write_list(cluster, writer)?;
     write_frames(cluster, writer)?;
     write_slots(cluster, writer)?;
-    write_log_head(cluster, writer)?;
+    write_log_head(cluster, coded, writer)?;
     write_log(core.log(), writer)
 }
 
@@ -55,7 +63,7 @@ fn write_middle<W: Write>(
 }
 
 /// Writes the page of a run for browsers, one file that asks for nothing else: the name of its LDF
-/// as it was given, what its cluster has, its log, and the judgements of its play that aren't met, which
+/// as it was given, what its cluster has, what its values mean where that is known, its log, and the judgements of its play that aren't met, which
 /// the page's scripts draw; and for readers without scripts a summary and the first 200 slots.
 ///
 /// Names of LDFs are words and the rest are numbers and words, so that of all that is written only
@@ -72,14 +80,16 @@ fn write_middle<W: Write>(
 pub fn write_page<W: Write>(
     alloc: Global,
     core: &Core,
+    coded: Option<&Coded>,
     file: &[u8],
     judgements: &[Judgement],
     writer: &mut W,
 ) -> Result<(), ExportFault>
     ensures { WritesText (W.contents writer.old) (W.contents writer.new) result
-        (page core.now.cluster file.now core.now.log judgements.now) }
+        (page core.now.cluster (told coded.entry)
+        file.now core.now.log judgements.now) }
 {
-    write_log_page(core, file, writer)?;
+    write_log_page(core, coded, file, writer)?;
     write_middle(core, judgements, writer)?;
     write_first_slots(alloc, core.cluster(), core.log(), writer)?;
     write_out(writer, TAIL.as_bytes())?;

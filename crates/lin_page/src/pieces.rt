@@ -116,7 +116,7 @@ function readRun(text) {
 \t\t\tevent() { group[a] = {id: b, table: d, frames: e}; },
 \t\t\tslot() { tables[n].lines[a] = {name: b, kind: c, delay: +e[0]}; },
 \t\t\tphysical() { signals[n].maps.push({lo: a, hi: b, k: c, o: +d, unit: un(e[0])}); },
-\t\t\tlogical() { signals[n].maps.push({lo: a, hi: a, text: un(b)}); },
+\t\t\tlogical() { signals[n].maps.push({lo: a, hi: a, text: un(b) || a}); },
 \t\t}[w] || (() => 0))();
 \t}
 \tlet s, old, step, time = 0, i = 0;

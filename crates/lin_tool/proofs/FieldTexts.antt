@@ -55,18 +55,18 @@ unsettled x OutOfMemory text left warned told is short h = tt
 unsettled x _ text left warned told is short h = absurd h
 
 -- what is answered to what a text is settled to, where nothing is wrong and its cluster is this one
-pub described_answer : (s : Settled) (checked : Checked) (k : Sections) (rs : List Remark) (r : Result Described Fault) (warned : List Remark)
-    → IsChecked s checked → IsPermutation (linted s.description k.configurables checked.warnings) rs
+pub described_answer : (x : Extras) (s : Settled) (checked : Checked) (k : Sections) (rs : List Remark) (r : Result Described Fault) (warned : List Remark)
+    → IsChecked s checked → IsPermutation (linted s.description k.configurables k.codings checked.warnings) rs
     → IfOk r (λ d. d.cluster ≡ checked.cluster) → IfOk r (λ d. d.coded ≡ coded_read d.cluster k.codings)
-    → IfOk r (λ d. AreWarnings d.cluster k.codings rs warned) → IfErr r (λ fault. fault ≡ OutOfMemory) → AnswersChecked s k r warned
-described_answer s checked k rs (Ok d) warned is are cluster coded warnings memory = record {
+    → IfOk r (λ d. AreWarnings x.encodings d.cluster k.codings rs warned) → IfErr r (λ fault. fault ≡ OutOfMemory) → AnswersChecked x s k r warned
+described_answer x s checked k rs (Ok d) warned is are cluster coded warnings memory = record {
   free = is.free;
   said = cluster ∙ is.said;
   coded = coded;
-  warnings = reordered d.cluster k.codings (linted s.description k.configurables (remarks s)) rs warned
-      (remarked s k.configurables checked.warnings rs is.warnings are) warnings;
+  warnings = reordered x.encodings d.cluster k.codings (linted s.description k.configurables k.codings (remarks s)) rs warned
+      (remarked s k.configurables k.codings checked.warnings rs is.warnings are) warnings;
 }
-described_answer s checked k rs (Err fault) warned is are cluster coded warnings memory = subst (λ f. CheckFaults f s) (sym memory) tt
+described_answer x s checked k rs (Err fault) warned is are cluster coded warnings memory = subst (λ f. CheckFaults f s) (sym memory) tt
 
 -- what the sections say of the bytes that are left is what those of the text say
 pub field_says : (x : Extras) (text left : List ℕ) (k : Sections) → IsReadOver text left
@@ -80,7 +80,7 @@ field_says x text left k (ts, are, is) says = (
 -- and what is answered to what it is settled to
 pub checked : (x : Extras) (r : Result Described Fault) (text left : List ℕ) (s : Settled) (k : Sections) (warned : List Remark) (told : Option (List ℕ))
     → IfSome told (λ bytes. text ≡ bytes) → length text ≤ 4194304 → IsSettled text s × IsReadOver text left
-    → k ≡ sections_read x (symbols_in left (start_of left).tokens) → AnswersChecked s k r warned → AnswersField x r warned told
+    → k ≡ sections_read x (symbols_in left (start_of left).tokens) → AnswersChecked x s k r warned → AnswersField x r warned told
 checked x (Ok d) text left s k warned told is short (settled, over) says h =
     (text, is, short, (s, settled, (k, field_says x text left k over says, h)))
 checked x (Err (Remarks found)) text left s k warned told is short (settled, over) says h = (text, is, short, (s, settled, h))

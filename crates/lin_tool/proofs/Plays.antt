@@ -3,18 +3,19 @@ use Rattle.std.proofs.Common.{◌≡◌, ◌≤◌, refl, inl, inr, ℕ, Bool, l
 use Rattle.std.specs.Borrow.{Bor}
 use Rattle.std.specs.Io.KnownBytes.{Appends, Keeps}
 use Rattle.lin_text.specs.Written.{WritesText}
-use Rattle.lin_bench.specs.Lines.{Script, read}
+use Rattle.lin_bench.specs.Scripts.{Script, read}
 use Rattle.lin_bench.specs.Played.{Run, played}
 use Rattle.lin_cluster_parts.specs.declared.parts.Parts.{Parts}
 use Rattle.lin_bench.specs.declared.line.Line.{Line}
-use Rattle.lin_tool.specs.Playing.{IsUnread, PlaysScript, Says, WritesPlayed, run_as, told_text}
+use Rattle.lin_values.specs.Coded.{CodedData}
+use Rattle.lin_tool.specs.Playing.{IsUnread, PlaysScript, Says, WritesPlayed, in_words, run_as, told_text}
 use Rattle.lin_tool.specs.declared.fault.Fault.{Fault}
 use Rattle.lin_tool.specs.declared.fault.Fault.TheVariants.{BadBenchLine, OutOfMemory, Unmet, WriteFailed}
 use Rattle.lin_tool.specs.declared.formats.Format.{Format}
 
-pub says : (c : Parts) (told : Option (List ℕ)) (bytes : List ℕ) (said : Script) → IfSome told (λ b. bytes ≡ b) → length bytes ≤ 16777216 → read c bytes ≡ said
-    → Says c told said
-says c told bytes said known short all = record { bytes = bytes; known = known; short = short; all = all }
+pub says : (c : Parts) (k : Option CodedData) (told : Option (List ℕ)) (bytes : List ℕ) (said : Script) → IfSome told (λ b. bytes ≡ b) → length bytes ≤ 16777216 → read c k bytes ≡ said
+    → Says c k told said
+says c k told bytes said known short all = record { bytes = bytes; known = known; short = short; all = all }
 
 -- what was kept at first
 keeps-more : (a b c : Option (List ℕ)) → Keeps a b → Keeps b c → Keeps a c
@@ -38,37 +39,38 @@ writes-after {a = a} {b = b} {c = c} h k = record {
   all = k.all;
 }
 
-keeps-same : (a : Option (List ℕ)) → Keeps a a
+pub keeps-same : (a : Option (List ℕ)) → Keeps a a
 keeps-same None = tt
 keeps-same (Some x) = refl
 
 -- a script whose lines weren't read
-fails : (format : Format) (named : Option (Bor (List ℕ))) (strict : Bool) (c : Parts) (opening capacity : ℕ) (fault : Fault)
+fails : (format : Format) (k : Option CodedData) (shows : Bool) (named : Option (Bor (List ℕ))) (strict : Bool) (c : Parts) (opening capacity : ℕ) (fault : Fault)
     (told old silent heard : Option (List ℕ)) (bytes : List ℕ) → IfSome told (λ b. bytes ≡ b) → length bytes ≤ 16777216
-    → IsUnread named c bytes fault silent heard → PlaysScript format named strict c opening capacity (Err fault) told old old silent heard
-fails format named strict c opening capacity (BadBenchLine n outcome) told old silent heard bytes known short (why, is, text) =
+    → IsUnread named c k bytes fault silent heard → PlaysScript format k shows named strict c opening capacity (Err fault) told old old silent heard
+fails format k shows named strict c opening capacity (BadBenchLine n outcome) told old silent heard bytes known short (why, is, text) =
     (why, record { bytes = bytes; known = known; short = short; all = is }, keeps-same old, text)
-fails format named strict c opening capacity OutOfMemory told old silent heard bytes known short h = inl (keeps-same old, h)
-fails format named strict c opening capacity fault told old silent heard bytes known short h = absurd h
+fails format k shows named strict c opening capacity OutOfMemory told old silent heard bytes known short h = inl (keeps-same old, h)
+fails format k shows named strict c opening capacity fault told old silent heard bytes known short h = absurd h
 
-pub unread : (format : Format) (named : Option (Bor (List ℕ))) (strict : Bool) (c : Parts) (opening capacity : ℕ) (fault : Fault)
+pub unread : (format : Format) (k : Option CodedData) (shows : Bool) (named : Option (Bor (List ℕ))) (strict : Bool) (c : Parts) (opening capacity : ℕ) (fault : Fault)
     (told old silent heard : Option (List ℕ)) (bytes text : List ℕ) → text ≡ bytes → IfSome told (λ b. bytes ≡ b) → length bytes ≤ 16777216
-    → IsUnread named c text fault silent heard → PlaysScript format named strict c opening capacity (Err fault) told old old silent heard
-unread format named strict c opening capacity fault told old silent heard bytes text same known short h =
-    fails format named strict c opening capacity fault told old silent heard text (subst (λ (t : List ℕ). IfSome told (λ b. t ≡ b)) (sym same) known) (rw same short) h
+    → IsUnread named c k text fault silent heard → PlaysScript format k shows named strict c opening capacity (Err fault) told old old silent heard
+unread format k shows named strict c opening capacity fault told old silent heard bytes text same known short h =
+    fails format k shows named strict c opening capacity fault told old silent heard text (subst (λ (t : List ℕ). IfSome told (λ b. t ≡ b)) (sym same) known) (rw same short) h
 
 -- a run of these lines was written, where nothing was told before
-pub plays : (format : Format) (named : Option (Bor (List ℕ))) (strict : Bool) (c : Parts) (opening capacity : ℕ) (result : Result Unit Fault)
-    (told old new silent mid heard : Option (List ℕ)) (ls : List (ℕ × Line)) (run : Run) → Says c told (Ok ls) → played strict c opening capacity ls ≡ Ok run
+pub plays : (format : Format) (k : Option CodedData) (shows : Bool) (named : Option (Bor (List ℕ))) (strict : Bool) (c : Parts) (opening capacity : ℕ) (result : Result Unit Fault)
+    (told old new silent mid heard : Option (List ℕ)) (ls : List (ℕ × Line)) (run : Run) → Says c k told (Ok ls) → played strict c opening capacity ls ≡ Ok run
     → Keeps silent mid
-    → WritesPlayed format (run_as format c opening capacity run) run.judgements (told_text named strict c (reverse run.bench.past) run.judgements) result old new mid heard
-    → PlaysScript format named strict c opening capacity result told old new silent heard
-plays format named strict c opening capacity (Ok done) told old new silent mid heard ls run says comes kept (shown, met, (outcome, said)) =
+    → WritesPlayed format (run_as format k shows c opening capacity run) (in_words k run.judgements)
+    (told_text named strict c (reverse run.bench.past) (in_words k run.judgements)) result old new mid heard
+    → PlaysScript format k shows named strict c opening capacity result told old new silent heard
+plays format k shows named strict c opening capacity (Ok done) told old new silent mid heard ls run says comes kept (shown, met, (outcome, said)) =
     (run, (ls, says, comes), (shown, met, (outcome, writes-after kept said)))
-plays format named strict c opening capacity (Err (Unmet outcome)) told old new silent mid heard ls run says comes kept (shown, missed, said) =
+plays format k shows named strict c opening capacity (Err (Unmet outcome)) told old new silent mid heard ls run says comes kept (shown, missed, said) =
     (run, (ls, says, comes), (shown, missed, writes-after kept said))
-plays format named strict c opening capacity (Err WriteFailed) told old new silent mid heard ls run says comes kept (begun, quiet) =
+plays format k shows named strict c opening capacity (Err WriteFailed) told old new silent mid heard ls run says comes kept (begun, quiet) =
     (run, (ls, says, comes), (begun, keeps-more silent mid heard kept quiet))
-plays format named strict c opening capacity (Err OutOfMemory) told old new silent mid heard ls run says comes kept (other, begun, quiet) =
+plays format k shows named strict c opening capacity (Err OutOfMemory) told old new silent mid heard ls run says comes kept (other, begun, quiet) =
     inr (run, (ls, says, comes), (other, begun, keeps-more silent mid heard kept quiet))
-plays format named strict c opening capacity (Err _) told old new silent mid heard ls run says comes kept h = absurd h
+plays format k shows named strict c opening capacity (Err _) told old new silent mid heard ls run says comes kept h = absurd h

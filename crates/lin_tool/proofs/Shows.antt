@@ -14,6 +14,7 @@ use Rattle.lin_bench.specs.declared.got.Judgement.{Judgement}
 use Rattle.lin_export.specs.Vcd.{vcd}
 use Rattle.lin_export.specs.declared.fault.ExportFault.{ExportFault}
 use Rattle.lin_export.specs.declared.fault.ExportFault.TheVariants as export
+use Rattle.lin_values.specs.Coded.{CodedData}
 use Rattle.lin_tool.specs.Formats.{Begins, export_fault, log_as}
 use Rattle.lin_tool.specs.Replaying.{IsLogOf, Replays, Stops, replay_fault}
 use Rattle.lin_tool.specs.declared.formats.Format.{Format}
@@ -30,12 +31,12 @@ begins old new whole fault h = (h.part, h.rest, h.whole, h.written)
 
 -- a dump of a log over the same cluster
 pub shows-dump : {E : Type 0} (old new : Option (List ℕ)) (result : Result Unit E)
-    (a b : Parts) (opening capacity : ℕ) (xs ys : List LogEntry) (js : List Judgement) → a ≡ b → xs ≡ ys
-    → WritesText old new result (vcd a xs)
-    → WritesText old new result (log_as Vcd b opening capacity ys js)
-shows-dump old new result a b opening capacity xs ys js cluster log h =
-    let P : List LogEntry → Type 0 = λ l. WritesText old new result (vcd a l) in
-    let Q : Parts → Type 0 = λ c. WritesText old new result (vcd c ys) in
+    (a b : Parts) (k : Option CodedData) (opening capacity : ℕ) (xs ys : List LogEntry) (js : List Judgement) → a ≡ b → xs ≡ ys
+    → WritesText old new result (vcd a k xs)
+    → WritesText old new result (log_as Vcd b k opening capacity ys js)
+shows-dump old new result a b k opening capacity xs ys js cluster log h =
+    let P : List LogEntry → Type 0 = λ l. WritesText old new result (vcd a k l) in
+    let Q : Parts → Type 0 = λ c. WritesText old new result (vcd c k ys) in
     subst Q cluster (subst P log h)
 
 -- the log of a script whose bytes were read
@@ -48,24 +49,24 @@ log-of c opening capacity (Some b) bytes log is said script made =
     let P : List ℕ → Type 0 = λ x. IsScriptOf x said in (said, subst P is script, made)
 
 -- writing stopped early
-pub stopped : (format : Format) (c : Parts) (opening capacity : ℕ)
+pub stopped : (format : Format) (k : Option CodedData) (c : Parts) (opening capacity : ℕ)
     (told old new : Option (List ℕ)) (fault : ExportFault)
-    → (format ≡ Log → fault ≡ export.WriteFailed) → Stops format c opening capacity told old new
-    → Replays format c opening capacity (Err (export_fault fault)) told old new
-stopped format c opening capacity told old new export.OutOfMemory memory stops =
+    → (format ≡ Log → fault ≡ export.WriteFailed) → Stops format k c opening capacity told old new
+    → Replays format k c opening capacity (Err (export_fault fault)) told old new
+stopped format k c opening capacity told old new export.OutOfMemory memory stops =
     inr ((λ is. let bad : export.OutOfMemory ≡ export.WriteFailed = memory is in cc), stops)
-stopped format c opening capacity told old new export.WriteFailed memory stops = stops
+stopped format k c opening capacity told old new export.WriteFailed memory stops = stops
 
 -- a replay that stopped early, in the log's own text
-pub replay-stopped : {X : Type 0} (c : Parts) (opening capacity : ℕ) (view : X → List LogEntry)
+pub replay-stopped : {X : Type 0} (k : Option CodedData) (c : Parts) (opening capacity : ℕ) (view : X → List LogEntry)
     (fault : ReplayFault) (told old new : Option (List ℕ))
     → IsReplay c opening capacity view (Err fault) told old new
-    → Replays Log c opening capacity (Err (replay_fault fault)) told old new
-replay-stopped c opening capacity view (replay.Script (script.BadLine n)) told old new h = h
-replay-stopped c opening capacity view (replay.Script script.TooLong) told old new h = h
-replay-stopped c opening capacity view (replay.Script script.ReadFailed) told old new h = h.1
-replay-stopped c opening capacity view (replay.Script script.OutOfMemory) told old new h = inl h.1
-replay-stopped c opening capacity view replay.OutOfMemory told old new h = inl h
-replay-stopped c opening capacity view replay.WriteFailed told old new h =
+    → Replays Log k c opening capacity (Err (replay_fault fault)) told old new
+replay-stopped k c opening capacity view (replay.Script (script.BadLine n)) told old new h = h
+replay-stopped k c opening capacity view (replay.Script script.TooLong) told old new h = h
+replay-stopped k c opening capacity view (replay.Script script.ReadFailed) told old new h = h.1
+replay-stopped k c opening capacity view (replay.Script script.OutOfMemory) told old new h = inl h.1
+replay-stopped k c opening capacity view replay.OutOfMemory told old new h = inl h
+replay-stopped k c opening capacity view replay.WriteFailed told old new h =
     let (said, read, part, rest, whole, written) = h in
     (log_of c opening capacity said, (said, read, refl), (part, rest, whole, written))

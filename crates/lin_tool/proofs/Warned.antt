@@ -1,8 +1,9 @@
 -- Warnings, and among them what is wrong with encodings, and what is odd in a text.
-use Rattle.std.proofs.Common.{◌≡◌, List, ◌++◌, Option, Some, IfOk, Result, Ok, Err, true, map, subst}
+use Rattle.std.proofs.Common.{◌≡◌, ◌∙◌, refl, sym, ap, append-nil, append_assoc, List, [], ◌++◌, Option, Some, None, IfOk, Result, Ok, Err, true, map, subst}
 use Rattle.std.specs.Prelude.{IsPermutation, IsSorted}
-use Rattle.std.proofs.lemmas.List.Sorted.{IsPermutation-trans, IsPermutation-map, IsPermutation-append_left, IsPermutation-append_right}
-use Rattle.lin_cluster.specs.Lint.{lints, AreLints}
+use Rattle.std.proofs.lemmas.List.{map-append}
+use Rattle.std.proofs.lemmas.List.Sorted.{IsPermutation-refl, IsPermutation-trans, IsPermutation-map, IsPermutation-append_left, IsPermutation-append_right}
+use Rattle.lin_cluster.specs.Lint.{lints}
 use Rattle.lin_cluster.specs.declared.finding.Finding.{Finding}
 use Rattle.lin_cluster_parts.specs.declared.parts.Parts.{Parts}
 use Rattle.lin_cluster.specs.declared.lints.configurable.Configurable.{Configurable}
@@ -10,7 +11,10 @@ use Rattle.lin_description.specs.declared.description.Description.{Description}
 use Rattle.lin_field.specs.Checks.{remark, remark_cmp, remarks, AreRemarks}
 use Rattle.lin_field.specs.declared.checking.Remark.{Remark}
 use Rattle.lin_field.specs.declared.settling.Settled.{Settled}
-use Rattle.lin_tool.specs.Coding.{codings_told, linted, lints_told, AreWarnings}
+use Rattle.lin_tool.specs.Coding.{codings_told, linted, lints_told, told_of, unused_told, AreWarnings}
+use Rattle.lin_tool.specs.declared.coding.Encodings.{Encodings}
+use Rattle.lin_tool.specs.declared.coding.Encodings.TheVariants.{Unread, Read, Told}
+use Rattle.lin_values.specs.Unused.{AreUnused}
 use Rattle.lin_values.specs.Warnings.{warnings}
 use Rattle.lin_values.specs.declared.items.Codings.{Codings}
 
@@ -20,32 +24,73 @@ pub joined : (rs all : List Remark) (fs found : List Finding) → IsPermutation 
 joined rs all fs found are h = IsPermutation-trans (rs ++ map (remark true) fs) (rs ++ map (remark true) found) all
     (IsPermutation-append_right rs (map (remark true) fs) (map (remark true) found) (IsPermutation-map (remark true) fs found are)) h
 
--- so does what is odd in a description
-pub linted_answer : {E : Type 0} (d : Description) (cs read : List Configurable) (rs : List Remark) (found told : List Finding) (r : Result (List Remark) E)
-    → read ≡ cs → AreLints d read found → told ≡ found → IfOk r (λ all. IsPermutation (rs ++ map (remark true) told) all)
-    → IfOk r (λ all. IsPermutation (linted d (Some cs) rs) all)
-linted_answer d cs read rs found told (Ok all) same are is h =
-    joined rs all (lints d cs) found (subst (λ k. IsPermutation (lints d k) found) same are.all) (subst (λ fs. IsPermutation (rs ++ map (remark true) fs) all) is h)
-linted_answer d cs read rs found told (Err e) same are is h = tt
+-- what is odd in a description does, and then the encodings that no signal has
+pub linted_all : (d : Description) (cs : List Configurable) (k : Option Codings) (rs odd all : List Remark) (found unused : List Finding)
+    → IsPermutation (lints d cs) found → IsPermutation (rs ++ map (remark true) found) odd
+    → IsPermutation (unused_told d k) unused → IsPermutation (odd ++ map (remark true) unused) all
+    → IsPermutation (linted d (Some cs) k rs) all
+linted_all d cs k rs odd all found unused are h those g =
+    let first : List Remark = map (remark true) (lints d cs) in
+    let second : List Remark = map (remark true) (unused_told d k) in
+    let before : IsPermutation (rs ++ first) odd = joined rs odd (lints d cs) found are h in
+    let after : IsPermutation (odd ++ second) all = joined odd all (unused_told d k) unused those g in
+    let both : IsPermutation ((rs ++ first) ++ second) all =
+    IsPermutation-trans ((rs ++ first) ++ second) (odd ++ second) all (IsPermutation-append_left second (rs ++ first) odd before) after in
+    subst (λ xs. IsPermutation xs all)
+    (append_assoc rs first second ∙ ap (λ xs. rs ++ xs) (sym (map-append (remark true) (lints d cs) (unused_told d k)))) both
 
--- so does what is wrong with encodings
-pub told : (c : Parts) (k : Codings) (rs all : List Remark) (found : List Finding) → IsPermutation (warnings c k) found
-    → IsPermutation (rs ++ map (remark true) found) all → IsSorted remark_cmp all → AreWarnings c (Some k) rs all
-told c k rs all found are h ordered = record {
-  all = joined rs all (warnings c k) found are h;
+pub linted_answer : {E : Type 0} (d : Description) (cs read : List Configurable) (k : Option Codings) (rs odd : List Remark) (found told unused heard : List Finding)
+    (r : Result (List Remark) E) → read ≡ cs → IsPermutation (lints d read) found → told ≡ found → IsPermutation (rs ++ map (remark true) told) odd
+    → IsPermutation (unused_told d k) unused → heard ≡ unused → IfOk r (λ all. IsPermutation (odd ++ map (remark true) heard) all)
+    → IfOk r (λ all. IsPermutation (linted d (Some cs) k rs) all)
+linted_answer d cs read k rs odd found told unused heard (Ok all) same are is h those also g =
+    linted_all d cs k rs odd all found unused (subst (λ c. IsPermutation (lints d c) found) same are)
+    (subst (λ fs. IsPermutation (rs ++ map (remark true) fs) odd) is h) those (subst (λ fs. IsPermutation (odd ++ map (remark true) fs) all) also g)
+linted_answer d cs read k rs odd found told unused heard (Err e) same are is h those also g = tt
+
+-- the encodings that no signal has are those that were found
+pub unused_found : {A E : Type 0} (f : A → List Finding) (d : Description) (k : Codings) (r : Result A E) → IfOk r (λ v. AreUnused d k (f v))
+    → IfOk r (λ v. IsPermutation (unused_told d (Some k)) (f v))
+unused_found f d k (Ok v) h = h.all
+unused_found f d k (Err e) h = tt
+
+-- what is told of findings doesn't depend on their order
+pub told_permuted : (e : Encodings) (fs found : List Finding) → IsPermutation fs found → IsPermutation (told_of e fs) (told_of e found)
+told_permuted Unread fs found are = IsPermutation-refl []
+told_permuted Read fs found are = IsPermutation-refl []
+told_permuted Told fs found are = are
+
+-- where encodings aren't read, nothing is told of them
+none_told : (e : Encodings) → told_of e [] ≡ []
+none_told Unread = refl
+none_told Read = refl
+none_told Told = refl
+
+pub untold : (e : Encodings) (c : Parts) (rs : List Remark) → IsSorted remark_cmp rs → AreWarnings e c None rs rs
+untold e c rs ordered = record {
+  all = subst (λ xs. IsPermutation xs rs) (sym (append-nil rs) ∙ ap (λ fs. rs ++ map (remark true) fs) (sym (none_told e))) (IsPermutation-refl rs);
+  ordered = ordered;
+}
+
+-- what is wrong with encodings does
+pub told : (e : Encodings) (c : Parts) (k : Codings) (rs all : List Remark) (found : List Finding) → IsPermutation (warnings c k) found
+    → IsPermutation (rs ++ map (remark true) (told_of e found)) all → IsSorted remark_cmp all → AreWarnings e c (Some k) rs all
+told e c k rs all found are h ordered = record {
+  all = joined rs all (told_of e (warnings c k)) (told_of e found) (told_permuted e (warnings c k) found are) h;
   ordered = ordered;
 }
 
 -- and the warnings that it joins may stand in any order
-pub reordered : (c : Parts) (k : Option Codings) (qs rs warned : List Remark) → IsPermutation qs rs → AreWarnings c k rs warned → AreWarnings c k qs warned
-reordered c k qs rs warned are h = record {
-  all = IsPermutation-trans (qs ++ map (remark true) (codings_told c k)) (rs ++ map (remark true) (codings_told c k)) warned
-      (IsPermutation-append_left (map (remark true) (codings_told c k)) qs rs are) h.all;
+pub reordered : (e : Encodings) (c : Parts) (k : Option Codings) (qs rs warned : List Remark) → IsPermutation qs rs → AreWarnings e c k rs warned
+    → AreWarnings e c k qs warned
+reordered e c k qs rs warned are h = record {
+  all = IsPermutation-trans (qs ++ map (remark true) (codings_told e c k)) (rs ++ map (remark true) (codings_told e c k)) warned
+      (IsPermutation-append_left (map (remark true) (codings_told e c k)) qs rs are) h.all;
   ordered = h.ordered;
 }
 
 -- what is odd joins the remarks on what a text of the field is settled to
-pub remarked : (s : Settled) (cs : Option (List Configurable)) (rs all : List Remark) → AreRemarks s rs → IsPermutation (linted s.description cs rs) all
-    → IsPermutation (linted s.description cs (remarks s)) all
-remarked s cs rs all are h = IsPermutation-trans (linted s.description cs (remarks s)) (linted s.description cs rs) all
-    (IsPermutation-append_left (map (remark true) (lints_told s.description cs)) (remarks s) rs are.all) h
+pub remarked : (s : Settled) (cs : Option (List Configurable)) (k : Option Codings) (rs all : List Remark) → AreRemarks s rs
+    → IsPermutation (linted s.description cs k rs) all → IsPermutation (linted s.description cs k (remarks s)) all
+remarked s cs k rs all are h = IsPermutation-trans (linted s.description cs k (remarks s)) (linted s.description cs k rs) all
+    (IsPermutation-append_left (map (remark true) (lints_told s.description cs k)) (remarks s) rs are.all) h

@@ -17,20 +17,26 @@ use Rattle.lin_field.specs.declared.checking.Remark.{Remark}
 use Rattle.lin_tool.specs.Clusters.{IsClusterOf, TextFaults}
 use Rattle.lin_tool.specs.declared.coding.Described.{Described}
 use Rattle.lin_tool.specs.declared.coding.Encodings.{Encodings}
-use Rattle.lin_tool.specs.declared.coding.Encodings.TheVariants.{Unread, Told}
+use Rattle.lin_tool.specs.declared.coding.Encodings.TheVariants.{Unread, Read, Told}
 use Rattle.lin_tool.specs.declared.coding.Extras.{Extras}
 use Rattle.lin_tool.specs.declared.coding.Sections.{Sections}
 use Rattle.lin_tool.specs.declared.fault.Fault.{Fault}
 use Rattle.lin_values.specs.Coded.{coded, CodedData}
 use Rattle.lin_values.specs.Configured.{configurables}
 use Rattle.lin_values.specs.Reading.{codings}
+use Rattle.lin_values.specs.Unused.{unused_encodings}
 use Rattle.lin_values.specs.Warnings.{warnings}
 use Rattle.lin_values.specs.declared.items.Codings.{Codings}
 
+-- whether the sections of encodings are read, as they are where a text is linted
+abbrev pub are_read : Encodings → Bool → Bool
+are_read Unread is_linted = is_linted
+are_read Read is_linted = true
+are_read Told is_linted = true
+
 -- what the sections of encodings among tokens say, where they are read
-abbrev pub codings_read : Encodings → List Symbol → Option Codings
-codings_read Unread ts = None
-codings_read Told ts = Some (codings ts)
+abbrev pub codings_read : Bool → List Symbol → Option Codings
+codings_read is_read ts = if is_read then Some (codings ts) else None
 
 -- the lists of configurable frames among them, where a text is linted
 abbrev pub configurables_read : Bool → List Symbol → Option (List Configurable)
@@ -40,7 +46,7 @@ configurables_read is_linted ts = if is_linted then Some (configurables ts) else
 abbrev pub sections_read : Extras → List Symbol → Sections
 sections_read x ts =
     record {
-      codings = codings_read x.encodings ts;
+      codings = codings_read (are_read x.encodings x.is_linted) ts;
       configurables = configurables_read x.is_linted ts;
     }
 
@@ -48,21 +54,33 @@ sections_read x ts =
 abbrev pub coded_read : Parts → Option Codings → Option CodedData
 coded_read c k = option_map (coded c) k
 
--- what is wrong with the sections of encodings
-abbrev pub codings_told : Parts → Option Codings → List Finding
-codings_told c k = option_map_or (warnings c) k []
+-- what is told of what is found in the sections of encodings
+abbrev pub told_of : Encodings → List Finding → List Finding
+told_of Unread found = []
+told_of Read found = []
+told_of Told found = found
 
--- what is odd in a description, where its text is linted
-abbrev pub lints_told : Description → Option (List Configurable) → List Finding
-lints_told d cs = option_map_or (lints d) cs []
+-- what is wrong with them
+abbrev pub codings_told : Encodings → Parts → Option Codings → List Finding
+codings_told e c k = told_of e (option_map_or (warnings c) k [])
+
+-- the encodings that no signal has
+abbrev pub unused_told : Description → Option Codings → List Finding
+unused_told d k = option_map_or (unused_encodings d) k []
+
+-- what is odd in a description and its encodings, where its text is linted
+abbrev pub lints_told : Description → Option (List Configurable) → Option Codings → List Finding
+lints_told d cs k = option_map_or (λ c. lints d c ++ unused_told d k) cs []
 
 -- warnings with that
-abbrev pub linted : Description → Option (List Configurable) → List Remark → List Remark
-linted d cs rs = rs ++ map (remark true) (lints_told d cs)
+abbrev pub linted : Description → Option (List Configurable) → Option Codings → List Remark
+    → List Remark
+linted d cs k rs = rs ++ map (remark true) (lints_told d cs k)
 
 -- these are warnings with what is wrong with encodings: by place, then by number
-pub record AreWarnings (c : Parts) (k : Option Codings) (rs warned : List Remark) : Type 0 where
-  pub all : IsPermutation (rs ++ map (remark true) (codings_told c k)) warned
+pub record AreWarnings (e : Encodings) (c : Parts) (k : Option Codings) (rs warned : List Remark)
+    : Type 0 where
+  pub all : IsPermutation (rs ++ map (remark true) (codings_told e c k)) warned
   pub ordered : IsSorted remark_cmp warned
 
 -- ---- plain texts
@@ -85,8 +103,8 @@ pub record IsCodedCluster (x : Extras) (text : List ℕ) (d : Described) (warned
   pub says : SaysSections x text sections
   pub coded : d.coded ≡ coded_read d.cluster sections.codings
   pub warnings
-      : AreWarnings d.cluster sections.codings
-      (linted cluster.description sections.configurables []) warned
+      : AreWarnings x.encodings d.cluster sections.codings
+      (linted cluster.description sections.configurables sections.codings []) warned
 
 -- what is answered to an LDF text, with these warnings
 abbrev pub AnswersCoded : Extras → Result Described Fault → List Remark → List ℕ → Type 0

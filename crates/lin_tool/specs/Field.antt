@@ -72,17 +72,19 @@ ChecksField s (Ok checked) = IsChecked s checked
 ChecksField s (Err fault) = CheckFaults fault s
 
 -- this is its cluster where its sections say that, and these are the warnings
-pub record IsFieldCluster (s : Settled) (k : Sections) (d : Described) (warned : List Remark)
-    : Type 0 where
+pub record IsFieldCluster (x : Extras) (s : Settled) (k : Sections) (d : Described)
+    (warned : List Remark) : Type 0 where
   pub free : IsFieldFree s
   pub said : d.cluster ≡ parts_of s.description
   pub coded : d.coded ≡ coded_read d.cluster k.codings
   pub warnings
-      : AreWarnings d.cluster k.codings (linted s.description k.configurables (remarks s)) warned
+      : AreWarnings x.encodings d.cluster k.codings
+      (linted s.description k.configurables k.codings (remarks s)) warned
 
-abbrev pub AnswersChecked : Settled → Sections → Result Described Fault → List Remark → Type 0
-AnswersChecked s k (Ok d) warned = IsFieldCluster s k d warned
-AnswersChecked s k (Err fault) warned = CheckFaults fault s
+abbrev pub AnswersChecked : Extras → Settled → Sections → Result Described Fault → List Remark
+    → Type 0
+AnswersChecked x s k (Ok d) warned = IsFieldCluster x s k d warned
+AnswersChecked x s k (Err fault) warned = CheckFaults fault s
 
 -- the sections of a text of the field say this, without the marks that it has too many, as far as the
 -- extras want them
@@ -102,7 +104,7 @@ ReadFaults _ told = ⊥
 abbrev pub AnswersFieldText : Extras → Result Described Fault → List Remark → List ℕ → Type 0
 AnswersFieldText x (Ok d) warned text =
     (s : Settled) × IsSettled text s
-    × ((k : Sections) × FieldSaysSections x text k × IsFieldCluster s k d warned)
+    × ((k : Sections) × FieldSaysSections x text k × IsFieldCluster x s k d warned)
 AnswersFieldText x (Err (Ldf f)) warned text = IsFieldFault text f
 AnswersFieldText x (Err fault) warned text = (s : Settled) × IsSettled text s × CheckFaults fault s
 

@@ -13,6 +13,7 @@ use Rattle.lin_export.specs.Vcd.{vcd}
 use Rattle.lin_export.specs.declared.fault.ExportFault.{ExportFault}
 use Rattle.lin_export.specs.declared.fault.ExportFault.TheVariants as export
 use Rattle.lin_page.specs.Page.{page}
+use Rattle.lin_values.specs.Coded.{CodedData}
 use Rattle.lin_tool.specs.Junit.{junit}
 use Rattle.lin_tool.specs.declared.fault.Fault.{Fault}
 use Rattle.lin_tool.specs.declared.fault.Fault.TheVariants.{OutOfMemory, WriteFailed}
@@ -21,16 +22,18 @@ use Rattle.lin_tool.specs.declared.formats.Format.TheVariants.{Log, Named, Csv, 
 use Rattle.lin_tool.specs.declared.formats.Format.TheVariants.{Vcd, Html, Junit}
 
 -- a log in a format, of a run that opened with this table and this capacity of the queues; a picture
--- and a report also have the judgements of a play
-abbrev pub log_as : Format → Parts → ℕ → ℕ → List LogEntry → List Judgement → List ℕ
-log_as Log c opening capacity log js = text log
-log_as Named c opening capacity log js = named_log c log
-log_as Csv c opening capacity log js = csv c log
-log_as Jsonl c opening capacity log js = jsonl c opening capacity log
-log_as Pcap c opening capacity log js = pcap c log
-log_as Vcd c opening capacity log js = vcd c log
-log_as (Html file) c opening capacity log js = page c file.now log js
-log_as (Junit file) c opening capacity log js = junit file.now c log js
+-- and a report also have the judgements of a play, and the log with names, a table, objects, a dump and
+-- a picture what signals mean, where that is told
+abbrev pub log_as : Format → Parts → Option CodedData → ℕ → ℕ → List LogEntry → List Judgement
+    → List ℕ
+log_as Log c k opening capacity log js = text log
+log_as Named c k opening capacity log js = named_log c k log
+log_as Csv c k opening capacity log js = csv c k log
+log_as Jsonl c k opening capacity log js = jsonl c k opening capacity log
+log_as Pcap c k opening capacity log js = pcap c log
+log_as Vcd c k opening capacity log js = vcd c k log
+log_as (Html file) c k opening capacity log js = page c k file.now log js
+log_as (Junit file) c k opening capacity log js = junit file.now c log js
 
 -- a beginning of a text was written
 abbrev pub Begins : Option (List ℕ) → Option (List ℕ) → List ℕ → Type 0

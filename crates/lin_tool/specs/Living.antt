@@ -1,6 +1,7 @@
 -- What the program's live answers.
-use Rattle.std.specs.Prelude.{◌≡◌, ℕ, false, if◌then◌else◌, List, [], Option, Result, Ok, Err}
+use Rattle.std.specs.Prelude.{◌≡◌, ℕ, Bool, false, if◌then◌else◌, List, [], Option, Result, Ok, Err}
 use Rattle.lin_cluster_parts.specs.declared.parts.Parts.{Parts}
+use Rattle.lin_values.specs.Coded.{CodedData}
 use Rattle.lin_bench.specs.Rules.{no_rules}
 use Rattle.lin_bench.specs.Slots.{slot_limit}
 use Rattle.lin_live.specs.Serving.{IsLive}
@@ -20,12 +21,14 @@ live_fault live.OutOfMemory = OutOfMemory
 live_fault live.LogFull = LogFull
 
 -- a bench in hand over a cluster, on which no line was made
-abbrev pub in_hand : AnswerFormat → Parts → ℕ → ℕ → HandData
-in_hand format c opening capacity = record {
+abbrev pub in_hand : AnswerFormat → Option CodedData → Bool → Parts → ℕ → ℕ → HandData
+in_hand format k is_physical c opening capacity = record {
   format = format;
   cluster = c;
   opening = opening;
   capacity = capacity;
+  coded = k;
+  is_physical = is_physical;
   bench = record { past = []; rules = no_rules; taken = []; left = slot_limit };
   begun = false;
   was_bad = false;

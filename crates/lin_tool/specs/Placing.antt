@@ -9,7 +9,8 @@ use Rattle.lin_cluster_parts.specs.declared.parts.Parts.{Parts}
 use Rattle.lin_core.specs.History.{Slot, open_slot, time}
 use Rattle.lin_core.specs.declared.log.LogEntry.{LogEntry}
 use Rattle.lin_export.specs.Track.{slots_in}
-use Rattle.lin_bench.specs.Lines.{bad_lines}
+use Rattle.lin_values.specs.Coded.{CodedData}
+use Rattle.lin_bench.specs.Scripts.{bad_lines}
 use Rattle.lin_bench.specs.Played.{is_unmet}
 use Rattle.lin_bench.specs.Texts.{bad_line_text, judged_text, reason_text, unmet_text}
 use Rattle.lin_bench.specs.declared.got.Judgement.{Judgement}
@@ -52,9 +53,10 @@ placed_unmet file c log j =
 
 -- what is said of a script's bad lines: all of them after the file's name, or without a name the
 -- first one
-abbrev pub bad_text : Option (Bor (List ℕ)) → Parts → List ℕ → ℕ → Reason → List ℕ
-bad_text None c text n why = bad_line_text n why
-bad_text (Some file) c text n why = flat_map (placed_bad file.now) (bad_lines c text)
+abbrev pub bad_text : Option (Bor (List ℕ)) → Parts → Option CodedData → List ℕ → ℕ → Reason
+    → List ℕ
+bad_text None c k text n why = bad_line_text n why
+bad_text (Some file) c k text n why = flat_map (placed_bad file.now) (bad_lines c k text)
 
 -- what is said of the judgements of a play that aren't met
 abbrev pub missed_text : Option (Bor (List ℕ)) → Parts → List LogEntry → List Judgement → List ℕ

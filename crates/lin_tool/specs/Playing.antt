@@ -1,12 +1,14 @@
 -- What the program's play answers.
-use Rattle.std.specs.Prelude.{◌≡◌, ◌≢◌, ◌⊎◌, ◌++◌, ℕ, ◌≤◌, Bool, true, false, if◌then◌else◌, List, [], length, reverse, Option, IfSome}
-use Rattle.std.specs.Prelude.{Result, Ok, Err}
+use Rattle.std.specs.Prelude.{◌≡◌, ◌≢◌, ◌⊎◌, ◌++◌, ℕ, ◌≤◌, Bool, true, false, if◌then◌else◌}
+use Rattle.std.specs.Prelude.{List, [], length, reverse, Option, Some, None, IfSome, Result, Ok, Err}
 use Rattle.std.specs.Borrow.{Bor}
 use Rattle.std.specs.Io.KnownBytes.{Appends, Keeps}
 use Rattle.lin_text.specs.Written.{WritesText}
 use Rattle.lin_cluster_parts.specs.declared.parts.Parts.{Parts}
 use Rattle.lin_log.specs.declared.fault.ScriptFault.TheVariants as script
-use Rattle.lin_bench.specs.Lines.{Script, read}
+use Rattle.lin_values.specs.Coded.{CodedData}
+use Rattle.lin_bench.specs.Scripts.{Script, read}
+use Rattle.lin_bench.specs.Meanings.{with_meanings}
 use Rattle.lin_bench.specs.Played.{Run, played, some_unmet}
 use Rattle.lin_bench.specs.Plays.{Overfills, has_rule}
 use Rattle.lin_bench.specs.declared.fault.PlayFault.{PlayFault}
@@ -34,21 +36,33 @@ play_fault play.LogFull = LogFull
 play_fault play.OutOfMemory = OutOfMemory
 
 -- A bench script of some bytes says this; where the reader tells bytes, they are those.
-pub record Says (c : Parts) (told : Option (List ℕ)) (said : Script) : Type 0 where
+pub record Says (c : Parts) (k : Option CodedData) (told : Option (List ℕ)) (said : Script)
+    : Type 0 where
   pub bytes : List ℕ
   pub known : IfSome told (λ b. bytes ≡ b)
   pub short : length bytes ≤ 16777216
-  pub all : read c bytes ≡ said
+  pub all : read c k bytes ≡ said
 
 -- the lines of a bench script, played strictly or not, come to this
-abbrev pub ComesTo : Bool → Parts → ℕ → ℕ → Option (List ℕ) → Result Run ℕ → Type 0
-ComesTo strict c opening capacity told end =
-    (ls : List (ℕ × Line)) × Says c told (Ok ls) × (played strict c opening capacity ls ≡ end)
+abbrev pub ComesTo : Bool → Option CodedData → Parts → ℕ → ℕ → Option (List ℕ) → Result Run ℕ
+    → Type 0
+ComesTo strict k c opening capacity told end =
+    (ls : List (ℕ × Line)) × Says c k told (Ok ls) × (played strict c opening capacity ls ≡ end)
 
--- the log of a run in a format
-abbrev pub run_as : Format → Parts → ℕ → ℕ → Run → List ℕ
-run_as format c opening capacity run =
-    log_as format c opening capacity (reverse run.bench.past) run.judgements
+-- judgements; where what values mean is known, with that
+abbrev pub in_words : Option CodedData → List Judgement → List Judgement
+in_words None js = js
+in_words (Some k) js = with_meanings k js
+
+-- what signals mean, where values are shown as that
+abbrev pub shown_coding : Option CodedData → Bool → Option CodedData
+shown_coding k is_physical = if is_physical then k else None
+
+-- the log of a run in a format, with what signals mean, where that is shown
+abbrev pub run_as : Format → Option CodedData → Bool → Parts → ℕ → ℕ → Run → List ℕ
+run_as format k is_physical c opening capacity run =
+    log_as format c (shown_coding k is_physical) opening capacity (reverse run.bench.past)
+    (in_words k run.judgements)
 
 -- a text was written, as far as the writer took it
 abbrev pub Tells : Option (List ℕ) → Option (List ℕ) → List ℕ → Type 0
@@ -76,40 +90,53 @@ WritesPlayed format whole js text (Err OutOfMemory) old new silent heard =
 WritesPlayed format whole js text (Err _) old new silent heard = ⊥
 
 -- the lines of a bench script came to a run, and this was written of it
-abbrev pub WritesRunOf : Format → Option (Bor (List ℕ)) → Bool → Parts → ℕ → ℕ → Result Unit Fault
-    → Option (List ℕ) → Option (List ℕ) → Option (List ℕ) → Option (List ℕ) → Option (List ℕ) → Type 0
-WritesRunOf format named strict c opening capacity result told old new silent heard =
-    (run : Run) × ComesTo strict c opening capacity told (Ok run)
-    × WritesPlayed format (run_as format c opening capacity run) run.judgements
-    (told_text named strict c (reverse run.bench.past) run.judgements) result old new silent heard
+abbrev pub WritesRunOf : Format → Option CodedData → Bool → Option (Bor (List ℕ)) → Bool → Parts
+    → ℕ → ℕ → Result Unit Fault → Option (List ℕ) → Option (List ℕ) → Option (List ℕ)
+    → Option (List ℕ) → Option (List ℕ) → Type 0
+WritesRunOf format k shows named strict c opening capacity result told old new silent heard =
+    (run : Run) × ComesTo strict k c opening capacity told (Ok run)
+    × WritesPlayed format (run_as format k shows c opening capacity run) (in_words k run.judgements)
+    (told_text named strict c (reverse run.bench.past) (in_words k run.judgements)) result old new
+    silent heard
 
 -- What a play in this format answers, what the writer took (from old to new), and what the writer
 -- of errors took (from silent to heard). Of a log that was written, all judgements are met exactly
 -- where the answer is Ok.
-abbrev pub PlaysScript : Format → Option (Bor (List ℕ)) → Bool → Parts → ℕ → ℕ → Result Unit Fault
-    → Option (List ℕ) → Option (List ℕ) → Option (List ℕ) → Option (List ℕ) → Option (List ℕ) → Type 0
-PlaysScript format named strict c opening capacity (Ok done) told old new silent heard =
-    WritesRunOf format named strict c opening capacity (Ok done) told old new silent heard
-PlaysScript format named strict c opening capacity (Err (Unmet outcome)) told old new silent heard =
-    WritesRunOf format named strict c opening capacity (Err (Unmet outcome)) told old new silent heard
-PlaysScript format named strict c opening capacity (Err (BadBenchLine n outcome)) told old new silent heard =
-    (why : Reason) × (it : Says c told (Err (n, why))) × Keeps old new
-    × WritesText silent heard outcome (bad_text named c it.bytes n why)
-PlaysScript format named strict c opening capacity (Err (SlotLimit n)) told old new silent heard =
-    ComesTo strict c opening capacity told (Err n) × Keeps old new × Keeps silent heard
-PlaysScript format named strict c opening capacity (Err LogFull) told old new silent heard =
-    (ls : List (ℕ × Line)) × Says c told (Ok ls) × Overfills c opening capacity ls
+abbrev pub PlaysScript : Format → Option CodedData → Bool → Option (Bor (List ℕ)) → Bool → Parts
+    → ℕ → ℕ → Result Unit Fault → Option (List ℕ) → Option (List ℕ) → Option (List ℕ)
+    → Option (List ℕ) → Option (List ℕ) → Type 0
+PlaysScript format k shows named strict c opening capacity (Ok done) told old new silent heard =
+    WritesRunOf format k shows named strict c opening capacity (Ok done) told old new silent heard
+PlaysScript format k shows named strict c opening capacity
+    (Err (Unmet outcome)) told old new silent heard =
+    WritesRunOf format k shows named strict c opening capacity (Err (Unmet outcome))
+    told old new silent heard
+PlaysScript format k shows named strict c opening capacity
+    (Err (BadBenchLine n outcome)) told old new silent heard =
+    (why : Reason) × (it : Says c k told (Err (n, why))) × Keeps old new
+    × WritesText silent heard outcome (bad_text named c k it.bytes n why)
+PlaysScript format k shows named strict c opening capacity
+    (Err (SlotLimit n)) told old new silent heard =
+    ComesTo strict k c opening capacity told (Err n) × Keeps old new × Keeps silent heard
+PlaysScript format k shows named strict c opening capacity (Err LogFull) told old new silent heard =
+    (ls : List (ℕ × Line)) × Says c k told (Ok ls) × Overfills c opening capacity ls
     × (has_rule ls ≡ true) × Keeps old new × Keeps silent heard
-PlaysScript format named strict c opening capacity (Err ScriptTooLong) told old new silent heard =
+PlaysScript format k shows named strict c opening capacity
+    (Err ScriptTooLong) told old new silent heard =
     IsRefused script.TooLong told old new × Keeps silent heard
-PlaysScript format named strict c opening capacity (Err ReadFailed) told old new silent heard =
+PlaysScript format k shows named strict c opening capacity
+    (Err ReadFailed) told old new silent heard =
     Keeps old new × Keeps silent heard
-PlaysScript format named strict c opening capacity (Err OutOfMemory) told old new silent heard =
+PlaysScript format k shows named strict c opening capacity
+    (Err OutOfMemory) told old new silent heard =
     (Keeps old new × Keeps silent heard)
-    ⊎ WritesRunOf format named strict c opening capacity (Err OutOfMemory) told old new silent heard
-PlaysScript format named strict c opening capacity (Err WriteFailed) told old new silent heard =
-    WritesRunOf format named strict c opening capacity (Err WriteFailed) told old new silent heard
-PlaysScript format named strict c opening capacity (Err _) told old new silent heard = ⊥
+    ⊎ WritesRunOf format k shows named strict c opening capacity (Err OutOfMemory)
+    told old new silent heard
+PlaysScript format k shows named strict c opening capacity
+    (Err WriteFailed) told old new silent heard =
+    WritesRunOf format k shows named strict c opening capacity (Err WriteFailed)
+    told old new silent heard
+PlaysScript format k shows named strict c opening capacity (Err _) told old new silent heard = ⊥
 
 -- what telling bad lines by this text answers
 abbrev pub TellsBad : {E F : Type 0} → Result (Result Unit F) E → List ℕ → Option (List ℕ)
@@ -118,20 +145,20 @@ TellsBad (Ok outcome) text silent heard = WritesText silent heard outcome text
 TellsBad (Err fault) text silent heard = Keeps silent heard
 
 -- what the writer of errors took where the lines of a bench script aren't read
-abbrev pub IsUnread : Option (Bor (List ℕ)) → Parts → List ℕ → Fault → Option (List ℕ)
-    → Option (List ℕ) → Type 0
-IsUnread named c text (BadBenchLine n outcome) silent heard =
-    (why : Reason) × (read c text ≡ Err (n, why))
-    × WritesText silent heard outcome (bad_text named c text n why)
-IsUnread named c text OutOfMemory silent heard = Keeps silent heard
-IsUnread named c text _ silent heard = ⊥
+abbrev pub IsUnread : Option (Bor (List ℕ)) → Parts → Option CodedData → List ℕ → Fault
+    → Option (List ℕ) → Option (List ℕ) → Type 0
+IsUnread named c k text (BadBenchLine n outcome) silent heard =
+    (why : Reason) × (read c k text ≡ Err (n, why))
+    × WritesText silent heard outcome (bad_text named c k text n why)
+IsUnread named c k text OutOfMemory silent heard = Keeps silent heard
+IsUnread named c k text _ silent heard = ⊥
 
 -- what reading the lines of a bench script answers, and what the writer of errors took
-abbrev pub ReadsLines : {X : Type 0} → Option (Bor (List ℕ)) → Parts → List ℕ
-    → (X → List (ℕ × Line)) → Result X Fault → Option (List ℕ) → Option (List ℕ) → Type 0
-ReadsLines named c text view (Ok x) silent heard =
-    (read c text ≡ Ok (view x)) × Keeps silent heard
-ReadsLines named c text view (Err fault) silent heard = IsUnread named c text fault silent heard
+abbrev pub ReadsLines : {X : Type 0} → Option (Bor (List ℕ)) → Parts → Option CodedData
+    → List ℕ → (X → List (ℕ × Line)) → Result X Fault → Option (List ℕ) → Option (List ℕ) → Type 0
+ReadsLines named c k text view (Ok x) silent heard =
+    (read c k text ≡ Ok (view x)) × Keeps silent heard
+ReadsLines named c k text view (Err fault) silent heard = IsUnread named c k text fault silent heard
 
 -- what judging these answers, of which this is told
 abbrev pub Judges : Result Unit Fault → List Judgement → List ℕ

@@ -1,13 +1,12 @@
 -- What reading an LDF text answers, and the cluster of what was read.
-use Rattle.std.specs.Prelude.{◌≡◌, ℕ, ◌<◌, ◌≤◌, List, length, Option, IfSome, Result, Ok, Err}
+use Rattle.std.specs.Prelude.{◌≡◌, ℕ, ◌≤◌, List, length, Option, IfSome, Result, Ok, Err}
 use Rattle.lin_tool.specs.Coding.{AnswersCoded}
 use Rattle.lin_field.specs.declared.checking.Remark.{Remark}
 use Rattle.lin_tool.specs.Field.{AnswersField, ReadFaults}
 use Rattle.lin_tool.specs.declared.coding.Described.{Described}
 use Rattle.lin_tool.specs.declared.coding.Extras.{Extras}
 use Rattle.lin_tool.specs.declared.fault.Fault.{Fault}
-use Rattle.lin_tool.specs.declared.fault.Fault.TheVariants.{Ldf, Findings, LdfTooLong, OutOfMemory}
-use Rattle.lin_tool.specs.declared.fault.Fault.TheVariants.{ReadFailed}
+use Rattle.lin_tool.specs.declared.fault.Fault.TheVariants.{Ldf, Findings}
 use Rattle.lin_tool.specs.declared.describing.Reading.{Reading}
 use Rattle.lin_tool.specs.declared.describing.Reading.TheVariants.{Plain, Field}
 

@@ -10,6 +10,7 @@ use Rattle.lin_log.specs.declared.fault.ScriptFault.{ScriptFault}
 use Rattle.lin_log.specs.declared.fault.ScriptFault.TheVariants as script
 use Rattle.lin_log.specs.declared.fault.ReplayFault.{ReplayFault}
 use Rattle.lin_log.specs.declared.fault.ReplayFault.TheVariants as replay
+use Rattle.lin_values.specs.Coded.{CodedData}
 use Rattle.lin_tool.specs.Formats.{Begins, log_as}
 use Rattle.lin_tool.specs.declared.fault.Fault.{Fault}
 use Rattle.lin_tool.specs.declared.fault.Fault.TheVariants.{BadLine, ScriptTooLong, OutOfMemory}
@@ -42,26 +43,26 @@ abbrev pub IsRefused : ScriptFault → Option (List ℕ) → Option (List ℕ) �
 IsRefused fault told old new = IfSome told (ScriptFaults fault) × Keeps old new
 
 -- of the log in this format a beginning was written
-abbrev pub Stops : Format → Parts → ℕ → ℕ
+abbrev pub Stops : Format → Option CodedData → Parts → ℕ → ℕ
     → Option (List ℕ) → Option (List ℕ) → Option (List ℕ) → Type 0
-Stops format c opening capacity told old new =
+Stops format k c opening capacity told old new =
     (log : List LogEntry) × IsLogOf c opening capacity told log
-    × Begins old new (log_as format c opening capacity log [])
+    × Begins old new (log_as format c k opening capacity log [])
 
 -- What a replay in this format answers, and what the writer took. (The log's own text takes no
 -- memory: where there isn't enough, nothing of it was written.)
-abbrev pub Replays : Format → Parts → ℕ → ℕ → Result Unit Fault
+abbrev pub Replays : Format → Option CodedData → Parts → ℕ → ℕ → Result Unit Fault
     → Option (List ℕ) → Option (List ℕ) → Option (List ℕ) → Type 0
-Replays format c opening capacity (Ok done) told old new =
+Replays format k c opening capacity (Ok done) told old new =
     (log : List LogEntry) × IsLogOf c opening capacity told log
-    × Appends old new (log_as format c opening capacity log [])
-Replays format c opening capacity (Err (BadLine n)) told old new =
+    × Appends old new (log_as format c k opening capacity log [])
+Replays format k c opening capacity (Err (BadLine n)) told old new =
     IsRefused (script.BadLine n) told old new
-Replays format c opening capacity (Err ScriptTooLong) told old new =
+Replays format k c opening capacity (Err ScriptTooLong) told old new =
     IsRefused script.TooLong told old new
-Replays format c opening capacity (Err ReadFailed) told old new = Keeps old new
-Replays format c opening capacity (Err OutOfMemory) told old new =
-    Keeps old new ⊎ ((format ≢ Log) × Stops format c opening capacity told old new)
-Replays format c opening capacity (Err WriteFailed) told old new =
-    Stops format c opening capacity told old new
-Replays format c opening capacity (Err _) told old new = ⊥
+Replays format k c opening capacity (Err ReadFailed) told old new = Keeps old new
+Replays format k c opening capacity (Err OutOfMemory) told old new =
+    Keeps old new ⊎ ((format ≢ Log) × Stops format k c opening capacity told old new)
+Replays format k c opening capacity (Err WriteFailed) told old new =
+    Stops format k c opening capacity told old new
+Replays format k c opening capacity (Err _) told old new = ⊥

@@ -2,13 +2,14 @@
 //! 2.2A, section 9.2.6), with `--physical`; and what is odd in it, with `--lint`.
 
 ghost use Rattle.std.specs.Prelude.{◌≡◌, ◌++◌, true, map, IfOk, IfErr, IsPermutation, IsSorted, List};
+ghost use Rattle.std.specs.Prelude.{option_map};
 ghost use Rattle.lin_ldf.specs.Stream.{start_of};
 ghost use Rattle.lin_ldf.specs.Symbols.{symbols_in};
 ghost use Rattle.lin_ldf.specs.Tokens.{AreTokens};
 ghost use Rattle.lin_ldf.specs.declared.token.Token.{Token};
 ghost use Rattle.lin_field.specs.Checks.{remark, remark_cmp};
-ghost use Rattle.lin_tool.specs.Coding.{coded_read, codings_read, configurables_read};
-ghost use Rattle.lin_tool.specs.Coding.{linted, sections_read, AreWarnings};
+ghost use Rattle.lin_tool.specs.Coding.{are_read, coded_read, codings_read, configurables_read};
+ghost use Rattle.lin_tool.specs.Coding.{linted, sections_read, told_of, unused_told, AreWarnings};
 ghost use Rattle.lin_tool.specs.declared.fault.Fault.TheVariants.{OutOfMemory};
 
 use crate::fault::Fault;
@@ -18,14 +19,16 @@ use lin_cluster_parts::Cluster;
 use lin_description::Description;
 use lin_field::Remark;
 use lin_lists::Many;
-use lin_values::{Coded, Codings, coded_by, read_codings, read_configurables};
+use lin_values::{Coded, Codings, coded_by, read_codings, read_configurables, unused_encodings};
 use std::alloc::{AllocError, Global};
 
 /// How the sections of encodings are read.
 #[derive(Clone, Copy, Debug, Drop, PartialEq)]
 pub enum Encodings {
-    /// They aren't.
+    /// They aren't, unless the text is linted.
     Unread,
+    /// They are, and nothing is told of them.
+    Read,
     /// What is wrong with them is told as warnings.
     Told,
 }
@@ -34,7 +37,8 @@ pub enum Encodings {
 #[derive(Clone, Copy, Debug, Drop, PartialEq)]
 pub struct Extras {
     pub encodings: Encodings,
-    /// Whether what is odd in a text in which nothing is wrong is told as warnings.
+    /// Whether what is odd in a text in which nothing is wrong is told as warnings, encodings that no
+    /// signal has among it.
     pub is_linted: bool,
 }
 
@@ -53,22 +57,29 @@ pub struct Described {
     pub coded: Option<Coded>,
 }
 
+/// Whether the sections of encodings are read.
+fn are_read(extras: Extras) -> bool
+    ensures { result ≡ are_read extras.encodings extras.is_linted }
+{
+    match extras.encodings {
+        Encodings::Unread => extras.is_linted,
+        Encodings::Read | Encodings::Told => true,
+    }
+}
+
 /// What the sections of encodings of an LDF text say, where they are read.
 ///
 /// An error means out of memory.
-fn codings_of(
-    alloc: Global,
-    text: &[u8],
-    encodings: Encodings,
-) -> Result<Option<Codings>, AllocError>
+fn codings_of(alloc: Global, text: &[u8], is_read: bool) -> Result<Option<Codings>, AllocError>
     ensures read { IfOk result
-        (λ k. k ≡ codings_read encodings (symbols_in text.now (start_of text.now).tokens)) }
+        (λ k. k ≡ codings_read is_read (symbols_in text.now (start_of text.now).tokens)) }
     ensures tokens { (ts : List Token) → AreTokens text.now ts
-        → IfOk result (λ k. k ≡ codings_read encodings (symbols_in text.now ts)) }
+        → IfOk result (λ k. k ≡ codings_read is_read (symbols_in text.now ts)) }
 {
-    match encodings {
-        Encodings::Unread => Ok(None),
-        Encodings::Told => Ok(Some(read_codings(alloc, text)?)),
+    if is_read {
+        Ok(Some(read_codings(alloc, text)?))
+    } else {
+        Ok(None)
     }
 }
 
@@ -105,7 +116,7 @@ pub(crate) fn sections_of(
     ensures tokens { (ts : List Token) → AreTokens text.now ts
         → IfOk result (λ s. s ≡ sections_read extras (symbols_in text.now ts)) }
 {
-    let codings = codings_of(alloc, text, extras.encodings)?;
+    let codings = codings_of(alloc, text, are_read(extras))?;
     let configurables = configurables_of(alloc, text, extras.is_linted)?;
     Ok(Sections {
         codings,
@@ -132,7 +143,25 @@ fn with_findings(warnings: Many<Remark>, findings: &[Finding]) -> Result<Many<Re
     Ok(Many::new(all))
 }
 
-/// Warnings with what is odd in a description, where its text is linted, by place and then by number.
+/// The encodings that no signal of a description has, where these are read.
+///
+/// An error means out of memory.
+fn unused_of(
+    alloc: Global,
+    description: &Description,
+    codings: Option<&Codings>,
+) -> Result<Vec<Finding>, AllocError>
+    ensures { IfOk result (λ found. IsPermutation
+        (unused_told description.now (option_map (λ k. k.now) codings.entry)) found.items) }
+{
+    match codings {
+        Some(codings) => unused_encodings(alloc, description, codings),
+        None => Ok(Vec::new(alloc)),
+    }
+}
+
+/// Warnings with what is odd in a description and its encodings, where its text is linted, by place
+/// and then by number.
 ///
 /// An error means out of memory.
 pub(crate) fn with_lints(
@@ -140,43 +169,69 @@ pub(crate) fn with_lints(
     warnings: Many<Remark>,
     description: &Description,
     configurables: Option<Many<Configurable>>,
+    codings: Option<&Codings>,
 ) -> Result<Many<Remark>, AllocError>
     requires { IsSorted remark_cmp warnings }
-    ensures all { IfOk result
-        (λ all. IsPermutation (linted description.now configurables warnings) all) }
+    ensures all { IfOk result (λ all. IsPermutation
+        (linted description.now configurables (option_map (λ k. k.now) codings.entry) warnings)
+        all) }
     ensures ordered { IfOk result (λ all. IsSorted remark_cmp all) }
 {
     let Some(configurables) = configurables else {
         return Ok(warnings);
     };
     let found = lint(alloc, description, configurables.as_slice())?;
-    with_findings(warnings, found.as_slice())
+    let odd = with_findings(warnings, found.as_slice())?;
+    let unused = unused_of(alloc, description, codings)?;
+    with_findings(odd, unused.as_slice())
+}
+
+/// Warnings with what is wrong with encodings, where that is told, by place and then by number.
+///
+/// An error means out of memory.
+fn with_told(
+    warnings: Many<Remark>,
+    found: &[Finding],
+    encodings: Encodings,
+) -> Result<Many<Remark>, AllocError>
+    requires { IsSorted remark_cmp warnings }
+    ensures all { IfOk result
+        (λ all. IsPermutation (warnings ++ map (remark true) (told_of encodings found.now)) all) }
+    ensures ordered { IfOk result (λ all. IsSorted remark_cmp all) }
+{
+    match encodings {
+        Encodings::Unread | Encodings::Read => Ok(warnings),
+        Encodings::Told => with_findings(warnings, found),
+    }
 }
 
 /// What the values of a cluster's signals mean by the sections of encodings, where they are read;
-/// and warnings with what is wrong with these, by place and then by number.
+/// and warnings with what is wrong with these, where that is told, by place and then by number.
 ///
 /// An error means out of memory.
+#[tactic(auto, using(crate::proofs::Warned::untold))]
 fn coded_with(
     alloc: Global,
     cluster: &Cluster,
     codings: Option<Codings>,
+    encodings: Encodings,
     warnings: Many<Remark>,
 ) -> Result<(Option<Coded>, Many<Remark>), AllocError>
     requires { IsSorted remark_cmp warnings }
     ensures coded { IfOk result (λ r. r.0 ≡ coded_read cluster.now codings) }
-    ensures warnings { IfOk result (λ r. AreWarnings cluster.now codings warnings r.1) }
+    ensures warnings { IfOk result
+        (λ r. AreWarnings encodings cluster.now codings warnings r.1) }
 {
     let Some(codings) = codings else {
         return Ok((None, warnings));
     };
     let (coded, found) = coded_by(alloc, cluster, codings)?;
-    let all = with_findings(warnings, found.as_slice())?;
+    let all = with_told(warnings, found.as_slice(), encodings)?;
     Ok((Some(coded), all))
 }
 
 /// A cluster, and what the values of its signals mean by the sections of encodings, where they are
-/// read. The notes keep the warnings of its text with those of its encodings.
+/// read. The notes keep the warnings of its text with those of its encodings, where these are told.
 ///
 /// # Errors
 /// `OutOfMemory`.
@@ -184,6 +239,7 @@ pub(crate) fn coded_noted(
     alloc: Global,
     cluster: Cluster,
     codings: Option<Codings>,
+    encodings: Encodings,
     warnings: Many<Remark>,
     text: &[u8],
     notes: &mut Notes<'_>,
@@ -192,10 +248,10 @@ pub(crate) fn coded_noted(
     ensures cluster { IfOk result (λ d. d.cluster ≡ cluster) }
     ensures coded { IfOk result (λ d. d.coded ≡ coded_read d.cluster codings) }
     ensures warnings { IfOk result
-        (λ d. AreWarnings d.cluster codings warnings notes.new.warnings) }
+        (λ d. AreWarnings encodings d.cluster codings warnings notes.new.warnings) }
     ensures memory { IfErr result (λ fault. fault ≡ OutOfMemory) }
 {
-    let (coded, warnings) = coded_with(alloc, &cluster, codings, warnings)?;
+    let (coded, warnings) = coded_with(alloc, &cluster, codings, encodings, warnings)?;
     notes.add_remarks(alloc, text, warnings.as_slice())?;
     notes.keep_warnings(warnings);
     Ok(Described { cluster, coded })

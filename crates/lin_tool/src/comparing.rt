@@ -85,7 +85,11 @@ pub fn compare<R: AllocGlobal + Files + Input>(
     settings: &Settings<'_>,
     notes: &mut Notes<'_>,
 ) -> Result<(), Fault> {
-    let Opened { cluster, table } = begin(rt, settings, notes)?;
+    let Opened {
+        cluster,
+        table,
+        coded: _coded,
+    } = begin(rt, settings, false, notes)?;
     let answer = compare_script(
         rt.alloc(),
         cluster,

@@ -7,7 +7,6 @@ ghost use Rattle.lin_cluster.specs.SlotTimes.{NoSlotIsShort};
 ghost use Rattle.lin_tool.specs.Clusters.{AnswersParse, AnswersText, IsSaidBy, Tells};
 ghost use Rattle.lin_tool.specs.Coding.{AnswersCoded, AnswersSections};
 ghost use Rattle.lin_tool.specs.Reading.{AnswersLdf, AnswersReading, ReadsAll};
-ghost use Rattle.lin_tool.specs.declared.coding.Extras.{Extras};
 ghost use Rattle.lin_tool.specs.declared.describing.Reading.TheVariants.{Plain};
 
 use crate::coding::{Described, Extras, Sections, coded_noted, sections_of, with_lints};
@@ -136,11 +135,11 @@ fn parse_text(alloc: Global, text: &[u8], extras: Extras) -> Result<(Description
 fn check_parsed(
     alloc: Global,
     parsed: Result<(Description, Sections), Fault>,
+    extras: Extras,
     text: &[u8],
     notes: &mut Notes<'_>,
 ) -> Result<Described, Fault>
-    ensures { (extras : Extras) (source : List ℕ)
-        → AnswersSections extras parsed source
+    ensures { (source : List ℕ) → AnswersSections extras parsed source
         → AnswersCoded extras result notes.new.warnings source }
 {
     let (description, sections) = parsed?;
@@ -149,9 +148,17 @@ fn check_parsed(
         configurables,
     } = sections;
     let none = Many::new(Vec::new(alloc));
-    let warnings = with_lints(alloc, none, &description, configurables)?;
+    let warnings = with_lints(alloc, none, &description, configurables, codings.as_ref())?;
     let cluster = said_by(alloc, description)?;
-    coded_noted(alloc, cluster, codings, warnings, text, notes)
+    coded_noted(
+        alloc,
+        cluster,
+        codings,
+        extras.encodings,
+        warnings,
+        text,
+        notes,
+    )
 }
 
 /// The cluster that an LDF text describes, as of `cluster_of_text`, and what the values of its signals
@@ -169,7 +176,7 @@ fn cluster_of_bytes(
     if !notes.is_text_wanted() {
         let_go(&mut bytes);
     }
-    let answer = check_parsed(alloc, parsed, bytes.as_slice(), notes);
+    let answer = check_parsed(alloc, parsed, extras, bytes.as_slice(), notes);
     if let Err(fault) = &answer {
         notes.add_text(alloc, Reading::Plain, bytes.as_slice(), fault)?;
     }
@@ -261,7 +268,7 @@ pub fn cluster_of_file<R: AllocGlobal + Files>(
     match path {
         None => {
             let parsed = parse_text(rt.alloc(), BUILT_IN, extras);
-            check_parsed(rt.alloc(), parsed, BUILT_IN, notes)
+            check_parsed(rt.alloc(), parsed, extras, BUILT_IN, notes)
         }
         Some(path) => {
             let answer = match fs::open(rt, path) {

@@ -3,7 +3,7 @@
 ghost use Rattle.lin_tool.specs.Field.{AnswersChecked, AnswersField, AnswersSettled, ChecksField};
 ghost use Rattle.lin_tool.specs.Field.{WritesPlain};
 
-use crate::coding::{Described, Extras, Sections, coded_noted, sections_of, with_lints};
+use crate::coding::{Described, Encodings, Extras, Sections, coded_noted, sections_of, with_lints};
 use crate::describing::{Reading, fault_of, let_go, read_text};
 use crate::fault::Fault;
 use crate::findings::Remarks;
@@ -83,10 +83,11 @@ fn cluster_noted(
     alloc: Global,
     settled: &Settled,
     sections: Sections,
+    extras: Extras,
     text: &[u8],
     notes: &mut Notes<'_>,
 ) -> Result<Described, Fault>
-    ensures { AnswersChecked settled.now sections result notes.new.warnings }
+    ensures { AnswersChecked extras settled.now sections result notes.new.warnings }
 {
     let Sections {
         codings,
@@ -94,8 +95,22 @@ fn cluster_noted(
     } = sections;
     match check_settled(alloc, settled) {
         Ok(Checked { cluster, warnings }) => {
-            let warnings = with_lints(alloc, warnings, &settled.description, configurables)?;
-            coded_noted(alloc, cluster, codings, warnings, text, notes)
+            let warnings = with_lints(
+                alloc,
+                warnings,
+                &settled.description,
+                configurables,
+                codings.as_ref(),
+            )?;
+            coded_noted(
+                alloc,
+                cluster,
+                codings,
+                extras.encodings,
+                warnings,
+                text,
+                notes,
+            )
         }
         Err(fault) => {
             if let Fault::Remarks(remarks) = &fault {
@@ -127,7 +142,7 @@ pub fn field_of_reader<R: Read>(
     let settled = settled_noted(alloc, bytes.as_mut_slice(), text.as_slice(), notes)?;
     let sections = sections_of(alloc, bytes.as_slice(), extras)?;
     let_go(&mut bytes);
-    cluster_noted(alloc, &settled, sections, text.as_slice(), notes)
+    cluster_noted(alloc, &settled, sections, extras, text.as_slice(), notes)
 }
 
 /// Writes a plain LDF text of what a text of the field is settled to.
@@ -146,11 +161,15 @@ pub(crate) fn write_field<W: Write>(
     let mut bytes = bytes;
     let text = noted_text(alloc, bytes.as_slice(), notes)?;
     let settled = settled_noted(alloc, bytes.as_mut_slice(), text.as_slice(), notes)?;
-    let none = Sections {
+    let sections = Sections {
         codings: None,
         configurables: None,
     };
-    match cluster_noted(alloc, &settled, none, text.as_slice(), notes) {
+    let extras = Extras {
+        encodings: Encodings::Unread,
+        is_linted: false,
+    };
+    match cluster_noted(alloc, &settled, sections, extras, text.as_slice(), notes) {
         Ok(_described) => match write_plain(alloc, &settled, bytes.as_slice(), writer)? {
             Ok(()) => Ok(()),
             Err(_) => Err(Fault::WriteFailed),

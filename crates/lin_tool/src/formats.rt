@@ -3,6 +3,7 @@
 ghost use Rattle.std.specs.Prelude.{◌≡◌, IfErr};
 ghost use Rattle.lin_export.specs.declared.fault.ExportFault.TheVariants.{WriteFailed};
 ghost use Rattle.lin_text.specs.Written.{WritesText};
+ghost use Rattle.lin_export.specs.WhereTold.{told};
 ghost use Rattle.lin_tool.specs.Formats.{log_as};
 ghost use Rattle.lin_tool.specs.declared.formats.Format.TheVariants.{Log};
 
@@ -12,6 +13,7 @@ use lin_core::Core;
 use lin_export::{ExportFault, write_csv, write_jsonl, write_named, write_pcap, write_vcd};
 use lin_log::write_log;
 use lin_page::write_page;
+use lin_values::Coded;
 use std::alloc::Global;
 use std::io::Write;
 
@@ -39,6 +41,7 @@ pub enum Format<'a> {
 
 /// Writes the log of a core in a format; the core opened with the schedule table `table` and the
 /// capacity `capacity`, which objects tell; a picture and a report also have the judgements of a play.
+/// With what signals mean, the log with names, tables, objects, dumps and pictures tell that, too.
 /// A log's own text takes no memory, and the others take little.
 ///
 /// # Errors
@@ -48,13 +51,14 @@ pub fn write_shown<W: Write>(
     alloc: Global,
     format: Format<'_>,
     core: &Core,
+    coded: Option<&Coded>,
     table: u16,
     capacity: usize,
     judgements: &[Judgement],
     writer: &mut W,
 ) -> Result<(), ExportFault>
     ensures text { WritesText (W.contents writer.old) (W.contents writer.new) result
-        (log_as format.entry core.now.cluster table capacity core.now.log judgements.now) }
+        (log_as format.entry core.now.cluster (told coded.entry) table capacity core.now.log judgements.now) }
     ensures memory { format.entry ≡ Log → IfErr result (λ fault. fault ≡ WriteFailed) }
 {
     let cluster = core.cluster();
@@ -64,12 +68,12 @@ pub fn write_shown<W: Write>(
             Ok(()) => Ok(()),
             Err(_) => Err(ExportFault::WriteFailed),
         },
-        Format::Named => write_named(alloc, cluster, log, writer),
-        Format::Csv => write_csv(alloc, cluster, log, writer),
-        Format::Jsonl => write_jsonl(alloc, cluster, table, capacity, log, writer),
+        Format::Named => write_named(alloc, cluster, coded, log, writer),
+        Format::Csv => write_csv(alloc, cluster, coded, log, writer),
+        Format::Jsonl => write_jsonl(alloc, cluster, coded, table, capacity, log, writer),
         Format::Pcap => write_pcap(alloc, cluster, log, writer),
-        Format::Vcd => write_vcd(alloc, cluster, log, writer),
-        Format::Html(file) => write_page(alloc, core, file, judgements, writer),
+        Format::Vcd => write_vcd(alloc, cluster, coded, log, writer),
+        Format::Html(file) => write_page(alloc, core, coded, file, judgements, writer),
         Format::Junit(file) => write_junit(alloc, file, cluster, log, judgements, writer),
     }
 }

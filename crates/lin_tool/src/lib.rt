@@ -5,7 +5,8 @@
 //! let mut notes = Notes::new(alloc, wanted);
 //! let cluster = cluster_of_text(alloc, text)?;
 //! let table = opening_table(&cluster, Some("diag"))?;
-//! replay_script(alloc, cluster, table, 16, Format::Log, &mut reader, &mut writer)?;
+//! let (reader, writer) = (&mut reader, &mut writer);
+//! replay_script(alloc, cluster, table, 16, Format::Log, None, reader, writer, &mut notes)?;
 //! ```
 #![tactic(auto)]
 

@@ -14,6 +14,7 @@ use crate::opening::{Opened, Settings, begin, within_limits};
 use lin_cluster_parts::Cluster;
 use lin_core::Core;
 use lin_live::{AnswerFormat, Hand};
+use lin_values::Coded;
 use std::alloc::Global;
 use std::fs::Files;
 use std::io::{self, Read, Write};
@@ -32,7 +33,8 @@ fn ending(hand: &Hand, done: Result<(), lin_live::Fault>) -> Result<(), Fault>
 }
 
 /// A bench in hand over a cluster, on which no line was made, and which tells entries so. It begins
-/// with the schedule table `table`; each host may have `capacity` messages waiting, 1 to 1,024.
+/// with the schedule table `table`; each host may have `capacity` messages waiting, 1 to 1,024. Lines
+/// may say values in words where what signals mean is known; where it is wanted, answers tell it.
 ///
 /// # Errors
 /// `OutOfMemory`.
@@ -42,14 +44,17 @@ pub fn bench_in_hand(
     table: u16,
     capacity: usize,
     format: AnswerFormat,
+    coded: Option<Coded>,
+    is_physical: bool,
 ) -> Result<Hand, Fault>
     requires table { table < length cluster.tables }
     requires capacity { (1 ≤ capacity) × (capacity ≤ 1024) }
-    ensures hand { IfOk result (λ hand. hand ≡ in_hand format cluster table capacity) }
+    ensures hand { IfOk result
+        (λ hand. hand ≡ in_hand format coded is_physical cluster table capacity) }
     ensures memory { IfErr result (λ fault. fault ≡ NoMemory) }
 {
     match Core::new(alloc, cluster, table, capacity) {
-        Ok(core) => Ok(Hand::new(alloc, core, format)),
+        Ok(core) => Ok(Hand::new(alloc, core, format, coded, is_physical)),
         Err(_) => Err(Fault::OutOfMemory),
     }
 }
@@ -103,11 +108,23 @@ pub fn live<R: AllocGlobal + Files + Input + Print, E: Write>(
     errors: &mut E,
     notes: &mut Notes<'_>,
 ) -> Result<(), Fault> {
-    let Opened { cluster, table } = begin(rt, settings, notes)?;
+    let Opened {
+        cluster,
+        table,
+        coded,
+    } = begin(rt, settings, true, notes)?;
     notes.tell_warnings(errors);
     let capacity = within_limits(settings.capacity);
     let format = answer_format(settings.format);
-    let hand = bench_in_hand(rt.alloc(), cluster, table, capacity, format)?;
+    let hand = bench_in_hand(
+        rt.alloc(),
+        cluster,
+        table,
+        capacity,
+        format,
+        coded,
+        settings.is_physical,
+    )?;
     let answer = answer_lines(
         rt.alloc(),
         hand,

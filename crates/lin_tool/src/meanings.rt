@@ -214,7 +214,7 @@ static ENCODINGS: [(&str, &str); 11] = [
 ];
 
 /// What a warning of a text in which nothing is wrong means, from 51 on, and what to change.
-static LINTS: [(&str, &str); 9] = [
+static LINTS: [(&str, &str); 10] = [
     (
         "a signal that no frame has",
         "place it in a frame of its publisher, or delete it: it is never sent",
@@ -254,6 +254,12 @@ static LINTS: [(&str, &str); 9] = [
          frames that it publishes or of which it subscribes a signal, and the sporadic and \
          event-triggered frames that list one of these",
         "name a frame of the node, or delete the line",
+    ),
+    (
+        "a type of Signal_encoding_types that no signal has. A signal has the first type with the \
+         name of the first line of Signal_representation that names the signal, so that no signal \
+         has a later type of the same name",
+        "name its signals in Signal_representation, or delete it",
     ),
 ];
 

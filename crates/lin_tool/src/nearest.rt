@@ -37,7 +37,8 @@ static WORDS: [&str; 21] = [
 ];
 
 /// What `expect` and `until` take.
-const FORMS: &str = "signal NODE SIGNAL VALUE (LOW..HIGH), waiting NODE K, message FROM TO BYTES \
+const FORMS: &str =
+    "signal NODE SIGNAL VALUE (LOW..HIGH, = TEXT), waiting NODE K, message FROM TO BYTES \
                      (within N ms), sent NODE, lost NODE damaged (timedout, slept), seen silent (none, good, \
                      damaged, collided), frame NAME (BYTES), slot TABLE ENTRY, asleep, awake";
 

@@ -10,6 +10,7 @@ use crate::fault::Fault;
 use crate::formats::Format;
 use crate::notes::Notes;
 use lin_cluster_parts::Cluster;
+use lin_values::Coded;
 use std::fs::Files;
 
 /// What a run begins with, and how its log is written.
@@ -25,6 +26,8 @@ pub struct Settings<'a> {
     pub capacity: u16,
     /// The format of the log.
     pub format: Format<'a>,
+    /// Whether values are written as what they mean, too, and what is wrong with encodings is told.
+    pub is_physical: bool,
     /// Whether a play is strict: refused steps of which the script doesn't speak aren't met either.
     pub is_strict: bool,
 }
@@ -45,36 +48,54 @@ pub fn opening_table(cluster: &Cluster, name: Option<&str>) -> Result<u16, Fault
     }
 }
 
-/// The cluster that a run begins with, and the number of its schedule table.
+/// The cluster that a run begins with, the number of its schedule table, and what the values of its
+/// signals mean, where that is read.
 #[derive(Drop)]
 pub(crate) struct Opened {
     pub(crate) cluster: Cluster,
     pub(crate) table: u16,
+    pub(crate) coded: Option<Coded>,
 }
 
-/// What a run of these settings begins with. Where there is no such
-/// table, the notes tell the names of those that there are.
+impl Settings<'_> {
+    /// How a run reads the sections of encodings, which it reads in any case where lines may say
+    /// values in words.
+    fn encodings(&self, has_words: bool) -> Encodings {
+        if self.is_physical {
+            Encodings::Told
+        } else if has_words {
+            Encodings::Read
+        } else {
+            Encodings::Unread
+        }
+    }
+}
+
+/// What a run of these settings begins with, whose lines may say values in words. Where there is no
+/// such table, the notes tell the names of those that there are.
 ///
 /// # Errors
 /// Those of `cluster_of_file` and `opening_table`.
 pub(crate) fn begin<R: AllocGlobal + Files>(
     rt: &R,
     settings: &Settings<'_>,
+    has_words: bool,
     notes: &mut Notes<'_>,
 ) -> Result<Opened, Fault>
     ensures { IfOk result (λ it. it.table < length it.cluster.tables) }
 {
     let (file, reading) = (settings.file, settings.reading);
     let extras = Extras {
-        encodings: Encodings::Unread,
+        encodings: settings.encodings(has_words),
         is_linted: false,
     };
-    let Described {
-        cluster,
-        coded: _coded,
-    } = cluster_of_file(rt, file, reading, extras, notes)?;
+    let Described { cluster, coded } = cluster_of_file(rt, file, reading, extras, notes)?;
     match opening_table(&cluster, settings.table) {
-        Ok(table) => Ok(Opened { cluster, table }),
+        Ok(table) => Ok(Opened {
+            cluster,
+            table,
+            coded,
+        }),
         Err(fault) => {
             notes.add_tables(&cluster);
             Err(fault)

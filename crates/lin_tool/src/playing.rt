@@ -4,8 +4,10 @@
 ghost use Rattle.std.specs.Prelude.{◌≡◌, ◌≢◌, ◌≤◌, ◌<◌, [], length, IfOk};
 ghost use Rattle.std.specs.Io.KnownBytes.{Keeps};
 ghost use Rattle.lin_text.specs.Written.{WritesText};
+ghost use Rattle.lin_export.specs.WhereTold.{told};
 ghost use Rattle.lin_tool.specs.Formats.{log_as};
 ghost use Rattle.lin_tool.specs.Placing.{bad_text, missed_text};
+ghost use Rattle.lin_tool.specs.Playing.{in_words, shown_coding};
 ghost use Rattle.lin_tool.specs.Playing.{Judges, PlaysScript, ReadsLines, TellsBad, WritesPlayed, told_text};
 
 use crate::fault::Fault;
@@ -16,12 +18,14 @@ use crate::placing::{write_bad_lines, write_placed_unmet};
 use crate::tally::write_tally;
 use lin_bench::{
     Judgement, Line, Played, ReadFault, Reason, bad_lines, play as play_lines, read, some_unmet,
-    write_bad_line, write_unmet,
+    told_meanings, write_bad_line, write_unmet,
 };
 use lin_cluster_parts::Cluster;
 use lin_core::Core;
+use lin_lists::Many;
 use lin_log::read_bytes;
 use lin_text::WriteFailed;
+use lin_values::Coded;
 use std::alloc::{AllocError, Global};
 use std::fs::{self, Files};
 use std::io::{self, Read, Write};
@@ -35,6 +39,7 @@ use std::mem;
 fn tell_bad<E: Write>(
     alloc: Global,
     cluster: &Cluster,
+    coded: Option<&Coded>,
     bytes: &[u8],
     named: Option<&str>,
     first: (u64, Reason),
@@ -42,7 +47,8 @@ fn tell_bad<E: Write>(
     notes: &mut Notes<'_>,
 ) -> Result<Result<(), WriteFailed>, AllocError>
     requires { length bytes.now ≤ 16777216 }
-    ensures { TellsBad result (bad_text named.entry cluster.now bytes.now first.0 first.1)
+    ensures { TellsBad result
+        (bad_text named.entry cluster.now (told coded.entry) bytes.now first.0 first.1)
         (E.contents errors.old) (E.contents errors.new) }
 {
     match named {
@@ -53,7 +59,7 @@ fn tell_bad<E: Write>(
             Ok(told)
         }
         Some(file) => {
-            let bad = bad_lines(alloc, cluster, bytes)?;
+            let bad = bad_lines(alloc, cluster, coded, bytes)?;
             let told = write_bad_lines(file, bad.as_slice(), errors);
             notes.add_bench_lines(alloc, bytes, cluster, bad.as_slice());
             Ok(told)
@@ -69,21 +75,22 @@ fn tell_bad<E: Write>(
 fn bench_lines<E: Write>(
     alloc: Global,
     cluster: &Cluster,
+    coded: Option<&Coded>,
     bytes: &[u8],
     named: Option<&str>,
     errors: &mut E,
     notes: &mut Notes<'_>,
 ) -> Result<Vec<(u64, Line)>, Fault>
     requires { length bytes.now ≤ 16777216 }
-    ensures lines { ReadsLines named.entry cluster.now bytes.now (λ v. v.items) result
+    ensures lines { ReadsLines named.entry cluster.now (told coded.entry) bytes.now (λ v. v.items) result
         (E.contents errors.old) (E.contents errors.new) }
     ensures few { IfOk result (λ v. length v.items ≤ 16777217) }
 {
-    match read(alloc, cluster, bytes) {
+    match read(alloc, cluster, coded, bytes) {
         Ok(lines) => Ok(lines),
         Err(ReadFault::BadLine { line, reason }) => {
             let first = (line, reason);
-            let told = tell_bad(alloc, cluster, bytes, named, first, errors, notes)?;
+            let told = tell_bad(alloc, cluster, coded, bytes, named, first, errors, notes)?;
             Err(Fault::BadBenchLine { line, told })
         }
         Err(ReadFault::OutOfMemory) => Err(Fault::OutOfMemory),
@@ -165,6 +172,7 @@ fn put_played<W: Write, E: Write>(
     alloc: Global,
     format: Format<'_>,
     core: &Core,
+    coded: Option<&Coded>,
     table: u16,
     capacity: usize,
     named: Option<&str>,
@@ -174,14 +182,39 @@ fn put_played<W: Write, E: Write>(
     errors: &mut E,
 ) -> Result<(), Fault>
     ensures { WritesPlayed format.entry
-        (log_as format.entry core.now.cluster table capacity core.now.log judgements.now)
+        (log_as format.entry core.now.cluster (told coded.entry) table capacity core.now.log judgements.now)
         judgements.now
         (told_text named.entry is_strict core.now.cluster core.now.log judgements.now) result
         (W.contents writer.old) (W.contents writer.new)
         (E.contents errors.old) (E.contents errors.new) }
 {
-    write_shown(alloc, format, core, table, capacity, judgements, writer)?;
+    write_shown(
+        alloc, format, core, coded, table, capacity, judgements, writer,
+    )?;
     judge(core, named, is_strict, judgements, errors)
+}
+
+/// What was judged; where words were expected, with what values mean.
+///
+/// An error means out of memory.
+fn in_words(
+    alloc: Global,
+    coded: Option<&Coded>,
+    judgements: Many<Judgement>,
+) -> Result<Many<Judgement>, AllocError>
+    ensures { IfOk result (λ js. js ≡ in_words (told coded.entry) judgements) }
+{
+    match coded {
+        Some(coded) => told_meanings(alloc, coded, judgements),
+        None => Ok(judgements),
+    }
+}
+
+/// What signals mean, where values are shown as that.
+fn shown(coded: Option<&Coded>, is_physical: bool) -> Option<&Coded>
+    ensures { told result ≡ shown_coding (told coded.entry) is_physical }
+{
+    if is_physical { coded } else { None }
 }
 
 /// Reads a bench script, makes the steps that its lines say over a cluster, and writes their log in
@@ -189,6 +222,8 @@ fn put_played<W: Write, E: Write>(
 /// Where the script has a name, these lines begin with it, each bad line has one, and that of a
 /// judgement ends with the last slot that was finished, and the time. Where the play is strict, as
 /// `lin_bench::play` says, a line of numbers is the last. The notes tell which steps were refused.
+/// Where what signals mean is known, lines may say values in words; where it is shown, the log tells
+/// it, as of `write_shown`.
 ///
 /// It begins with the schedule table `table`; each host may have `capacity` messages waiting, 1 to
 /// 1,024. (The core's memory is left to the end of the program: it would be let go of entry by
@@ -205,6 +240,8 @@ pub fn play_script<R: Read, W: Write, E: Write>(
     table: u16,
     capacity: usize,
     format: Format<'_>,
+    coded: Option<&Coded>,
+    is_physical: bool,
     named: Option<&str>,
     is_strict: bool,
     reader: &mut R,
@@ -214,20 +251,30 @@ pub fn play_script<R: Read, W: Write, E: Write>(
 ) -> Result<(), Fault>
     requires table { table < length cluster.tables }
     requires capacity { (1 ≤ capacity) × (capacity ≤ 1024) }
-    ensures { PlaysScript format.entry named.entry is_strict cluster table capacity result
+    ensures { PlaysScript format.entry (told coded.entry) is_physical named.entry is_strict cluster table capacity result
         (R.remaining reader.old)
         (W.contents writer.old) (W.contents writer.new)
         (E.contents errors.old) (E.contents errors.new) }
 {
     let bytes = read_bytes(alloc, reader)?;
-    let lines = bench_lines(alloc, &cluster, bytes.as_slice(), named, errors, notes)?;
+    let lines = bench_lines(
+        alloc,
+        &cluster,
+        coded,
+        bytes.as_slice(),
+        named,
+        errors,
+        notes,
+    )?;
     let Played { core, judgements } = play_lines(
         alloc, cluster, table, capacity, lines, is_strict,
     )?;
+    let judgements = in_words(alloc, coded, judgements)?;
     let judged = put_played(
         alloc,
         format,
         &core,
+        shown(coded, is_physical),
         table,
         capacity,
         named,
@@ -253,12 +300,19 @@ fn play_read<R: AllocGlobal + Print, S: Read, E: Write>(
 ) -> Result<(), Fault>
     requires { opened.table < length opened.cluster.tables }
 {
+    let Opened {
+        cluster,
+        table,
+        coded,
+    } = opened;
     play_script(
         rt.alloc(),
-        opened.cluster,
-        opened.table,
+        cluster,
+        table,
         within_limits(settings.capacity),
         settings.format,
+        coded.as_ref(),
+        settings.is_physical,
         notes.script(),
         settings.is_strict,
         script,
@@ -283,7 +337,7 @@ pub fn play<R: AllocGlobal + Files + Input + Print, E: Write>(
     errors: &mut E,
     notes: &mut Notes<'_>,
 ) -> Result<(), Fault> {
-    let opened = begin(rt, settings, notes)?;
+    let opened = begin(rt, settings, true, notes)?;
     notes.tell_warnings(errors);
     notes.begin_script();
     let answer = match script {

@@ -1,7 +1,9 @@
 //! `linsim replay`: makes the steps of a script and writes their log, in its own text or in another
 //! format.
 
-ghost use Rattle.std.specs.Prelude.{◌≤◌, ◌<◌, length};
+ghost use Rattle.std.specs.Prelude.{◌≤◌, ◌<◌, length, Option};
+ghost use Rattle.lin_export.specs.WhereTold.{told};
+ghost use Rattle.lin_values.specs.Coded.{CodedData};
 ghost use Rattle.lin_tool.specs.Replaying.{Replays};
 ghost use Rattle.lin_tool.specs.declared.formats.Format.TheVariants.{Log};
 
@@ -12,6 +14,7 @@ use crate::opening::{Opened, Settings, begin, within_limits};
 use crate::scripts::noted_run;
 use lin_cluster_parts::Cluster;
 use lin_log::read_bytes;
+use lin_values::Coded;
 use std::alloc::Global;
 use std::fs::Files;
 use std::io::{self, Read, Write};
@@ -29,7 +32,7 @@ fn replay_log<R: Read, W: Write>(
 ) -> Result<(), Fault>
     requires table { table < length cluster.tables }
     requires capacity { (1 ≤ capacity) × (capacity ≤ 1024) }
-    ensures { Replays Log cluster table capacity result
+    ensures { (k : Option CodedData) → Replays Log k cluster table capacity result
         (R.remaining reader.old) (W.contents writer.old) (W.contents writer.new) }
 {
     let core = lin_log::replay(alloc, cluster, table, capacity, reader, writer)?;
@@ -37,8 +40,8 @@ fn replay_log<R: Read, W: Write>(
     Ok(())
 }
 
-/// Reads a script, makes its steps over a cluster, and writes their log in a format. The notes tell
-/// which steps were refused.
+/// Reads a script, makes its steps over a cluster, and writes their log in a format, with what signals
+/// mean as of `write_shown`. The notes tell which steps were refused.
 ///
 /// It begins with the schedule table `table`; each host may have `capacity` messages waiting, 1 to
 /// 1,024. (The core's memory is left to the end of the program: it would be let go of entry by
@@ -55,13 +58,14 @@ pub fn replay_script<R: Read, W: Write>(
     table: u16,
     capacity: usize,
     format: Format<'_>,
+    coded: Option<&Coded>,
     reader: &mut R,
     writer: &mut W,
     notes: &mut Notes<'_>,
 ) -> Result<(), Fault>
     requires table { table < length cluster.tables }
     requires capacity { (1 ≤ capacity) × (capacity ≤ 1024) }
-    ensures { Replays format.entry cluster table capacity result
+    ensures { Replays format.entry (told coded.entry) cluster table capacity result
         (R.remaining reader.old) (W.contents writer.old) (W.contents writer.new) }
 {
     if format == Format::Log && !notes.is_explained() {
@@ -69,7 +73,7 @@ pub fn replay_script<R: Read, W: Write>(
     }
     let bytes = read_bytes(alloc, reader)?;
     let core = noted_run(alloc, cluster, table, capacity, bytes.as_slice(), notes)?;
-    let written = write_shown(alloc, format, &core, table, capacity, &[], writer);
+    let written = write_shown(alloc, format, &core, coded, table, capacity, &[], writer);
     notes.add_refusals(core.log());
     mem::forget(core);
     match written {
@@ -89,13 +93,18 @@ pub fn replay<R: AllocGlobal + Files + Input + Print>(
     settings: &Settings<'_>,
     notes: &mut Notes<'_>,
 ) -> Result<(), Fault> {
-    let Opened { cluster, table } = begin(rt, settings, notes)?;
+    let Opened {
+        cluster,
+        table,
+        coded,
+    } = begin(rt, settings, false, notes)?;
     let answer = replay_script(
         rt.alloc(),
         cluster,
         table,
         within_limits(settings.capacity),
         settings.format,
+        coded.as_ref(),
         &mut rt.reader(),
         &mut io::writer(rt),
         notes,

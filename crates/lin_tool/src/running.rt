@@ -6,6 +6,7 @@ ghost use Rattle.lin_cluster_parts.specs.Cluster.{nodes};
 ghost use Rattle.lin_core.specs.declared.port.PortId.TheVariants.{Bus};
 ghost use Rattle.lin_threads.specs.Steps.{logged};
 ghost use Rattle.lin_threads.specs.Runs.{bus_steps};
+ghost use Rattle.lin_export.specs.WhereTold.{told};
 ghost use Rattle.lin_tool.specs.Formats.{log_as};
 ghost use Rattle.lin_tool.specs.Running.{ReadsHosts, WritesRun};
 
@@ -19,6 +20,7 @@ use lin_core::Core;
 use lin_threads::{
     Ended, HostStep, HostTask, Plan, RunReport, ScriptTask, run_cluster, split, wire,
 };
+use lin_values::Coded;
 use std::alloc::{AllocError, Global};
 use std::fs::Files;
 use std::io::{self, Read, Write};
@@ -134,6 +136,7 @@ fn put_report<W: Write>(
     alloc: Global,
     format: Format<'_>,
     report: &RunReport,
+    coded: Option<&Coded>,
     table: u16,
     capacity: usize,
     writer: &mut W,
@@ -141,10 +144,19 @@ fn put_report<W: Write>(
     requires table { report.now.core.opening ≡ table }
     requires capacity { report.now.core.capacity ≡ capacity }
     ensures { WritesRun format.entry
-        (log_as format.entry report.now.core.cluster table capacity report.now.core.log [])
+        (log_as format.entry report.now.core.cluster (told coded.entry) table capacity report.now.core.log [])
         report.now.ended.items (W.contents writer.old) (W.contents writer.new) result }
 {
-    write_shown(alloc, format, &report.core, table, capacity, &[], writer)?;
+    write_shown(
+        alloc,
+        format,
+        &report.core,
+        coded,
+        table,
+        capacity,
+        &[],
+        writer,
+    )?;
     if report.ended.contains(&Ended::Limit) {
         return Err(Fault::TaskLimit);
     }
@@ -163,7 +175,11 @@ fn run_over<R: AllocGlobal + Input + Print + Eprint + Threads + Wait>(
 ) -> Result<(), Fault>
     requires { opened.table < length opened.cluster.tables }
 {
-    let Opened { cluster, table } = opened;
+    let Opened {
+        cluster,
+        table,
+        coded,
+    } = opened;
     let mut reader = rt.reader();
     let lists = host_steps(rt.alloc(), &mut reader, cluster.nodes(), notes)?;
     if is_watched {
@@ -174,7 +190,15 @@ fn run_over<R: AllocGlobal + Input + Print + Eprint + Threads + Wait>(
     let mut writer = io::writer(rt);
     let alloc = rt.alloc();
     let format = settings.format;
-    let written = put_report(alloc, format, &report, table, capacity, &mut writer);
+    let written = put_report(
+        alloc,
+        format,
+        &report,
+        coded.as_ref(),
+        table,
+        capacity,
+        &mut writer,
+    );
     notes.add_refusals(report.core.log());
     mem::forget(report);
     written
@@ -198,7 +222,7 @@ pub fn run<R: AllocGlobal + Files + Input + Print + Eprint + Threads + Wait>(
     is_watched: bool,
     notes: &mut Notes<'_>,
 ) -> Result<(), Fault> {
-    let opened = begin(rt, settings, notes)?;
+    let opened = begin(rt, settings, false, notes)?;
     let answer = run_over(rt, opened, settings, slots, is_watched, notes);
     notes.add_unread(&answer, None);
     answer

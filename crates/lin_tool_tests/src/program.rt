@@ -6,8 +6,8 @@ use crate::samples::{BUILT_IN, LIGHTS};
 use lin_log::run_script;
 use lin_tool::{
     Described, Encodings, Extras, Fault, Format, Lists, Notes, Reading, Wanted, cluster_of_reader,
-    cluster_of_text, field_of_reader, opening_table, read_text, replay_script, write_list,
-    write_lists, write_shown,
+    cluster_of_text, field_of_reader, opening_table, play_script, read_text, replay_script,
+    write_list, write_lists, write_shown,
 };
 use std::alloc::Global;
 use std::process::Abort;
@@ -28,6 +28,12 @@ const CODINGS: Extras = Extras {
 /// With that, and with what is odd.
 const ALL: Extras = Extras {
     encodings: Encodings::Told,
+    is_linted: true,
+};
+
+/// With what is odd alone.
+const LINTED: Extras = Extras {
+    encodings: Encodings::Unread,
     is_linted: true,
 };
 
@@ -146,22 +152,26 @@ fn encodings_are_read_where_they_are_wanted(rt: HostRuntime) -> Result<(), Fail>
 }
 
 /// A text with a signal that no frame has and nobody reads, a name that is of no frame, a delay beside the
-/// time base, and an encoding in which a value stands twice.
+/// time base, an encoding in which a value stands twice, and one that no signal has.
 const ODD: &[u8] =
-    b"LIN_description_file;\nLIN_protocol_version = \"2.1\";\nLIN_language_version = \"2.1\";\nLIN_speed = 19.2 kbps;\nNodes { Master: m, 5 ms, 0.1 ms; Slaves: s; }\nSignals { a: 8, 9, m, s; b: 8, 0, s; }\nFrames { A: 0x20, m, 1 { a, 0; } }\nNode_attributes { s { configurable_frames { A; b; } } }\nSchedule_tables { T { A delay 11 ms; } }\nSignal_encoding_types { Temp { logical_value, 255; logical_value, 255; } }\nSignal_representation { Temp: a; }\n";
+    b"LIN_description_file;\nLIN_protocol_version = \"2.1\";\nLIN_language_version = \"2.1\";\nLIN_speed = 19.2 kbps;\nNodes { Master: m, 5 ms, 0.1 ms; Slaves: s; }\nSignals { a: 8, 9, m, s; b: 8, 0, s; }\nFrames { A: 0x20, m, 1 { a, 0; } }\nNode_attributes { s { configurable_frames { A; b; } } }\nSchedule_tables { T { A delay 11 ms; } }\nSignal_encoding_types { Temp { logical_value, 255; logical_value, 255; } Old { } }\nSignal_representation { Temp: a; }\n";
 
 #[test]
 fn odd_texts_are_told_where_they_are_linted(rt: HostRuntime) -> Result<(), Fail> {
     let alloc = rt.alloc();
     let coded = b"10:52 warning 38 LogicalTwice\n";
     let all =
-        b"6:26 warning 51 UnplacedSignal\n6:26 warning 54 NoSubscriber\n8:48 warning 59 BadConfigurable\n9:31 warning 56 OffTimeBase\n10:52 warning 38 LogicalTwice\n";
+        b"6:26 warning 51 UnplacedSignal\n6:26 warning 54 NoSubscriber\n8:48 warning 59 BadConfigurable\n9:31 warning 56 OffTimeBase\n10:52 warning 38 LogicalTwice\n10:74 warning 60 UnusedEncoding\n";
+    let odd =
+        b"6:26 warning 51 UnplacedSignal\n6:26 warning 54 NoSubscriber\n8:48 warning 59 BadConfigurable\n9:31 warning 56 OffTimeBase\n10:74 warning 60 UnusedEncoding\n";
     for reading in [Reading::Plain, Reading::Field] {
         let (lists, told) = coded_text(alloc, ODD, reading, CODINGS)?;
         expect_bytes(&rt, &told, coded, "not linted", "what is told");
         let (linted, told) = coded_text(alloc, ODD, reading, ALL)?;
         expect_bytes(&rt, &told, all, "linted", "what is told");
         expect_bytes(&rt, &linted, &lists, "linted", "lists");
+        let (_lists, told) = coded_text(alloc, ODD, reading, LINTED)?;
+        expect_bytes(&rt, &told, odd, "linted alone", "what is told");
     }
     Ok(())
 }
@@ -182,6 +192,7 @@ fn replayed(alloc: Global, script: &[u8]) -> Result<Vec<u8>, Fault> {
         table,
         16,
         Format::Log,
+        None,
         &mut reader,
         &mut text,
         &mut notes,
@@ -199,6 +210,59 @@ fn script_is_replayed(rt: HostRuntime) {
     expect_bytes(&rt, &log, wanted, "a script", "a log");
     let bad = replayed(rt.alloc(), b"bus open\nbus shut\n");
     assert!(rt; matches!(bad, Err(Fault::BadLine { line: 2 })));
+}
+
+/// Values in words over the text with an encoding, of which one isn't met.
+const WORDS: &[u8] =
+    b"write a = -35.0degC\nwrite a ~ 0.3\nslot\nexpect signal s a = 0.3 +- 0.2 degC\nexpect signal s a = none\n";
+
+/// What a play of a bench script says on standard error, over a text whose encodings are read so.
+fn told_of_play(
+    alloc: Global,
+    script: &[u8],
+    encodings: Encodings,
+) -> Result<(Result<(), Fault>, Vec<u8>), Fault> {
+    let mut notes = Notes::new(alloc, Wanted::default());
+    let mut rest = CODED;
+    let extras = Extras {
+        encodings,
+        is_linted: false,
+    };
+    let Described { cluster, coded } = cluster_of_reader(alloc, &mut rest, extras, &mut notes)?;
+    let table = opening_table(&cluster, None)?;
+    let mut reader = script;
+    let mut log = Vec::new(alloc);
+    let mut errors = Vec::new(alloc);
+    let done = play_script(
+        alloc,
+        cluster,
+        table,
+        16,
+        Format::Named,
+        coded.as_ref(),
+        encodings == Encodings::Told,
+        None,
+        false,
+        &mut reader,
+        &mut log,
+        &mut errors,
+        &mut notes,
+    );
+    Ok((done, errors))
+}
+
+#[test]
+fn values_in_words_are_played_where_encodings_are_read(rt: HostRuntime) -> Result<(), Fail> {
+    let alloc = rt.alloc();
+    for encodings in [Encodings::Read, Encodings::Told] {
+        let (done, told) = told_of_play(alloc, WORDS, encodings)?;
+        assert!(rt; matches!(done, Err(Fault::Unmet { .. })));
+        let unmet = b"script 5 expected signal s a = none: 0.5 degC\n";
+        expect_bytes(&rt, &told, unmet, "values in words", "what is told");
+    }
+    let (done, _told) = told_of_play(alloc, WORDS, Encodings::Unread)?;
+    assert!(rt; matches!(done, Err(Fault::BadBenchLine { line: 1, .. })));
+    Ok(())
 }
 
 /// What is read of an LDF text, one byte a read, where reads fail after so many bytes.
@@ -272,14 +336,14 @@ fn formats_end_where_a_write_fails(rt: HostRuntime) -> Result<(), Fail> {
         Format::Html(b"door.ldf"),
     ] {
         let mut whole = Vec::new(alloc);
-        write_shown(alloc, format, &core, table, 16, &[], &mut whole)?;
+        write_shown(alloc, format, &core, None, table, 16, &[], &mut whole)?;
         // (a page is long: some of its beginnings)
         for good in (0..whole.len()).step_by(1 + whole.len() / 4096) {
             let mut writer = Narrow {
                 taken: Vec::new(alloc),
                 left: good,
             };
-            let written = write_shown(alloc, format, &core, table, 16, &[], &mut writer);
+            let written = write_shown(alloc, format, &core, None, table, 16, &[], &mut writer);
             assert!(rt; written.is_err());
             let wanted = &whole[..good];
             expect_bytes(&rt, &writer.taken, wanted, "a beginning", "a format");

@@ -41,5 +41,6 @@ pub mod SoughtParts
 pub mod Spacing
 pub mod SpelledSteps
 pub mod SpelledValues
+pub mod UnusedEncodings
 pub mod WaysBack
 pub mod Wide

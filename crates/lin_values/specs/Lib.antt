@@ -18,6 +18,7 @@ pub mod Traits
 pub mod ItemNumbers
 pub mod Warnings
 pub mod Gathered
+pub mod Unused
 pub mod Meaning
 pub mod Raws
 pub mod Nearest

@@ -30,6 +30,7 @@ mod sought;
 mod spelled;
 mod texts;
 mod unit;
+mod unused;
 mod ways_back;
 
 pub use coded::{Coded, coded_by};
@@ -43,3 +44,4 @@ pub use meaning::{Meaning, put_meaning, put_plain, shown};
 pub use numbers::{number_and_unit, read_decimal};
 pub use raws::Raws;
 pub use reading::read_codings;
+pub use unused::unused_encodings;

@@ -82,9 +82,10 @@ impl Raws {
         is_coded(self.coded, value) || in_spans(self.spans.as_slice(), value)
     }
 
-    /// How many there are.
+    /// How many there are: each number of a span, and the one that is coded.
     pub fn count(&self) -> u64
-        ensures { result ≡ count_of self.now.spans self.now.coded }
+        ensures count { result ≡ count_of self.now.spans self.now.coded }
+        ensures once { AreRaws self.now.spans self.now.coded }
     {
         let mut count = u64::from(self.coded.is_some());
         for span in self.spans.as_slice() {

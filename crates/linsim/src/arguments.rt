@@ -14,7 +14,7 @@ const RUN_NOTE: &str =
     "The script's steps are the hosts' own: sends, writes and closes, each by its host's port. They are put while the slots run,\nso where a step stands among the slots isn't fixed; the log, read by replay, is written again.";
 
 const PLAY_NOTE: &str =
-    "A bench script has the steps of replay's scripts, and lines of its own: slot, slots N, slots N ms, slots N until WHAT,\nslots idle, slot hurt BYTES, slot leave NODE.., expect WHAT, forget; and rules, which are in force from their line on:\nwhen NODE PATTERN answer BYTES (silent), timeouts N ms, every N ms STEP, response_errors on. Nodes, signals and schedule\ntables stand by their names or numbers. A bad line, and each expectation that isn't met, is a line on standard error; the\nlog is written before expectations are told. The format junit is a report of what was judged, and not of the log.\n\nExample: linsim play door.ldf door.bench > door.log";
+    "A bench script has the steps of replay's scripts, and lines of its own: slot, slots N, slots N ms, slots N until WHAT,\nslots idle, slot hurt BYTES, slot leave NODE.., expect WHAT, forget; and rules, which are in force from their line on:\nwhen NODE PATTERN answer BYTES (silent), timeouts N ms, every N ms STEP, response_errors on. Nodes, signals and schedule\ntables stand by their names or numbers, values by numbers, or in words behind = or ~: write S = 5 degC. A bad line,\nand each expectation that isn't met, is a line on standard error; the log is written before expectations are told.\nThe format junit is a report of what was judged, and not of the log.\n\nExample: linsim play door.ldf door.bench > door.log";
 
 const LIVE_NOTE: &str =
     "Lines are those of bench scripts, and questions: ? signal NODE SIGNAL, ? waiting NODE, ? idle, ? time, ? asleep, ? next.\nEach is answered before the next is read: the log of its entries, with names if wanted, and a line that begins with #.\n\nExample: linsim live door.ldf < door.bench";
@@ -138,6 +138,12 @@ fn physical<'a>(alloc: Global) -> Arg<'a> {
     flag(alloc, "physical", help)
 }
 
+fn meanings<'a>(alloc: Global) -> Arg<'a> {
+    let help =
+        "Writes values of signals as what the LDF's encodings say they mean, too, with warnings on standard error";
+    flag(alloc, "physical", help)
+}
+
 fn linted<'a>(alloc: Global) -> Arg<'a> {
     let help = "Warns of what is odd in an LDF in which nothing is wrong, too, on standard error";
     flag(alloc, "lint", help)
@@ -169,6 +175,7 @@ fn replay<'a>(alloc: Global) -> Result<Command<'a>, AllocError> {
         .arg(format(alloc, FORMATS.as_slice()))?
         .arg(same(alloc)?)?
         .arg(field(alloc))?
+        .arg(meanings(alloc))?
         .arg(explain(alloc))
 }
 
@@ -202,6 +209,7 @@ fn run<'a>(alloc: Global) -> Result<Command<'a>, AllocError> {
         .arg(capacity(alloc))?
         .arg(format(alloc, FORMATS.as_slice()))?
         .arg(field(alloc))?
+        .arg(meanings(alloc))?
         .arg(explain(alloc))
 }
 
@@ -217,6 +225,7 @@ fn play<'a>(alloc: Global) -> Result<Command<'a>, AllocError> {
         .arg(capacity(alloc))?
         .arg(format(alloc, PLAY_FORMATS.as_slice()))?
         .arg(field(alloc))?
+        .arg(meanings(alloc))?
         .arg(script_places(alloc))?
         .arg(strict(alloc))?
         .arg(explain(alloc))
@@ -233,6 +242,7 @@ fn live<'a>(alloc: Global) -> Result<Command<'a>, AllocError> {
         .arg(capacity(alloc))?
         .arg(format(alloc, ANSWER_FORMATS.as_slice()))?
         .arg(field(alloc))?
+        .arg(meanings(alloc))?
         .arg(explain(alloc))
 }
 
@@ -269,19 +279,20 @@ pub(crate) enum Request<'a> {
     },
     /// `linsim check FILE --field --plain`
     CheckPlain(&'a str),
-    /// `linsim live FILE [--table T] [--capacity N] [--to log|named]`
+    /// `linsim live FILE [--table T] [--capacity N] [--to log|named] [--physical]`
     Live(Settings<'a>),
-    /// `linsim play FILE [SCRIPT] [--table T] [--capacity N] [--to FORMAT] [--where] [--strict]`;
+    /// `linsim play FILE [SCRIPT] [--table T] [--capacity N] [--to FORMAT] [--physical] [--where]
+    /// [--strict]`;
     /// without a script's file it is read from standard input.
     Play {
         settings: Settings<'a>,
         script: Option<&'a str>,
     },
-    /// `linsim replay [FILE] [--table T] [--capacity N] [--to FORMAT]`
+    /// `linsim replay [FILE] [--table T] [--capacity N] [--to FORMAT] [--physical]`
     Replay(Settings<'a>),
     /// `linsim replay [FILE] [--table T] [--capacity N] --same`
     Compare(Settings<'a>),
-    /// `linsim run FILE --slots N [--table T] [--capacity N] [--to FORMAT]`
+    /// `linsim run FILE --slots N [--table T] [--capacity N] [--to FORMAT] [--physical]`
     Run {
         settings: Settings<'a>,
         slots: u32,
@@ -358,6 +369,7 @@ fn settings_of<'a>(found: &ArgMatches<'a>) -> Settings<'a> {
         table: found.get_str("table"),
         capacity: found.get_one::<u16>("capacity").unwrap_or(16),
         format: format_of(found.get_str("to"), file),
+        is_physical: found.get_flag("physical"),
         is_strict: false,
     }
 }

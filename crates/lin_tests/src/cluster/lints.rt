@@ -1,26 +1,30 @@
 //! Warnings of texts in which nothing is wrong: what `lint` finds, with the lists of configurable
-//! frames that are read from the text.
+//! frames that are read from the text, and the encodings that no signal has.
 
 use crate::samples::{BODY_CLUSTER, HEADER, add_number, add_place, expect_text, joined};
-use lin_cluster::{check, lint};
+use lin_cluster::{Finding, check, lint};
 use lin_ldf::parse;
-use lin_values::read_configurables;
+use lin_values::{read_codings, read_configurables, unused_encodings};
 use std::alloc::Global;
 use std::process::Abort;
 use std::test::Fail;
 
 /// Each warning as ` line:column number`.
-fn warned(alloc: Global, text: &[u8]) -> Result<Vec<u8>, Fail> {
-    let configurables = read_configurables(alloc, text)?;
-    let warnings = lint(alloc, &parse(alloc, text)?, configurables.as_slice())?;
+fn listed(alloc: Global, warnings: &[Finding]) -> Result<Vec<u8>, Fail> {
     let mut out = Vec::new(alloc);
-    for warning in warnings.as_slice() {
+    for warning in warnings {
         out.push(b' ')?;
         add_place(alloc, &mut out, warning.line, warning.column)?;
         out.push(b' ')?;
         add_number(alloc, &mut out, u64::from(warning.number))?;
     }
     Ok(out)
+}
+
+fn warned(alloc: Global, text: &[u8]) -> Result<Vec<u8>, Fail> {
+    let configurables = read_configurables(alloc, text)?;
+    let warnings = lint(alloc, &parse(alloc, text)?, configurables.as_slice())?;
+    listed(alloc, warnings.as_slice())
 }
 
 /// Nothing is wrong with the text, and this is warned of it.
@@ -66,4 +70,37 @@ fn each_warning_once(rt: HostRuntime) -> Result<(), Fail> {
 #[test]
 fn a_cluster_without_warnings(rt: HostRuntime) -> Result<(), Fail> {
     expect_warnings(&rt, rt.alloc(), BODY_CLUSTER, "")
+}
+
+/// Behind `EACH`, from line 29 on: an encoding of no signal's name, one of two signals, two of one
+/// name, and one of a signal that has another.
+const ENCODINGS: &[u8] = b"Signal_encoding_types {
+Nobody { bcd_value; }
+Percent { physical_value, 0, 255, 0.5, 0; }
+State { logical_value, 0; }
+State { logical_value, 1; }
+Late { ascii_value; }
+}
+Signal_representation {
+Percent: order, alone;
+State: fault, ghost;
+Late: alone;
+Nobody: ghost;
+}
+";
+
+#[test]
+fn encodings_that_no_signal_has(rt: HostRuntime) -> Result<(), Fail> {
+    let alloc = rt.alloc();
+    let text = joined(alloc, &[HEADER, EACH, ENCODINGS])?;
+    let codings = read_codings(alloc, &text)?;
+    let warnings = unused_encodings(alloc, &parse(alloc, &text)?, &codings)?;
+    let want = " 30:1 60 33:1 60 34:1 60";
+    expect_text(
+        &rt,
+        &listed(alloc, warnings.as_slice())?,
+        want.as_bytes(),
+        want,
+    );
+    Ok(())
 }

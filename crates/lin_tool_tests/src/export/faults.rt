@@ -90,11 +90,11 @@ fn write_form<W: Write>(
     let cluster = core.cluster();
     let log = core.log();
     match form {
-        Form::Named => write_named(alloc, cluster, log, writer),
-        Form::Csv => write_csv(alloc, cluster, log, writer),
-        Form::Jsonl => write_jsonl(alloc, cluster, 0, 16, log, writer),
+        Form::Named => write_named(alloc, cluster, None, log, writer),
+        Form::Csv => write_csv(alloc, cluster, None, log, writer),
+        Form::Jsonl => write_jsonl(alloc, cluster, None, 0, 16, log, writer),
         Form::Pcap => write_pcap(alloc, cluster, log, writer),
-        Form::Vcd => write_vcd(alloc, cluster, log, writer),
+        Form::Vcd => write_vcd(alloc, cluster, None, log, writer),
         Form::FirstSlots => write_first_slots(alloc, cluster, log, writer),
     }
 }

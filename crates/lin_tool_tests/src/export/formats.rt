@@ -22,16 +22,16 @@ struct Sample<'a> {
 fn expect_formats(rt: &impl Abort, alloc: Global, sample: &Sample<'_>) -> Result<(), Fail> {
     let core = run(alloc, sample.ldf, sample.log)?;
     let mut named = Vec::new(alloc);
-    write_named(alloc, core.cluster(), core.log(), &mut named)?;
+    write_named(alloc, core.cluster(), None, core.log(), &mut named)?;
     expect_bytes(rt, &named, sample.named, sample.name, "named");
     let mut csv = Vec::new(alloc);
-    write_csv(alloc, core.cluster(), core.log(), &mut csv)?;
+    write_csv(alloc, core.cluster(), None, core.log(), &mut csv)?;
     expect_bytes(rt, &csv, sample.csv, sample.name, "csv");
     let mut pcap = Vec::new(alloc);
     write_pcap(alloc, core.cluster(), core.log(), &mut pcap)?;
     expect_bytes(rt, &pcap, sample.pcap, sample.name, "pcap");
     let mut vcd = Vec::new(alloc);
-    write_vcd(alloc, core.cluster(), core.log(), &mut vcd)?;
+    write_vcd(alloc, core.cluster(), None, core.log(), &mut vcd)?;
     expect_bytes(rt, &vcd, sample.vcd, sample.name, "vcd");
     Ok(())
 }

@@ -9,7 +9,7 @@ returns-in-Waiting g c = rw c.in-Waiting.is (grows-more c.put_text-in-Waiting.en
 
 pub returns-in-Message : goal.returns-in-Message
 returns-in-Message g c = rw c.in-Message.is
-    (grows-more c.put_text-in-Message.ensures (grows-more c.put_node-in-Message.ensures (grows-more c.put_node-in-Message-2.ensures (rw c.as_slice.ensures at c.put_bytes.ensures))))
+    (grows-more c.put_text-in-Message.ensures (grows-more c.put_node-in-Message.ensures (grows-more c.put_node-in-Message-2.ensures (rw c.as_slice-in-Message.ensures at c.put_bytes.ensures))))
 
 pub returns-in-Sent : goal.returns-in-Sent
 returns-in-Sent g c = rw c.in-Sent.is (grows-more c.put_text-in-Sent.ensures c.put_node-in-Sent.ensures)
@@ -47,3 +47,8 @@ returns-in-Some g c = rw (c.in-NoLost.is, c.in-Some.is) (grows-more c.put_text-i
 
 pub returns-in-Frame : goal.returns-in-Frame
 returns-in-Frame g c = rw c.in-Frame.is (grows-more c.put_text-in-Frame.ensures (grows-more c.put_frame.ensures c.put_said.ensures))
+
+pub returns-in-SignalMeans : goal.returns-in-SignalMeans
+returns-in-SignalMeans g c = rw c.in-SignalMeans.is
+    (grows-more c.put_text-in-SignalMeans.ensures (grows-more c.put_node-in-SignalMeans.ensures (grows-more c.put_signal-in-SignalMeans.ensures
+    (rw c.as_slice.ensures at c.put_after.ensures))))

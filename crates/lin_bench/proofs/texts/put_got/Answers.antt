@@ -33,3 +33,6 @@ returns-in-LostOf g c = rw c.in-LostOf.is
 
 pub returns-in-Frame : goal.returns-in-Frame
 returns-in-Frame g c = rw c.in-Frame.is (grows-more c.put_frame.ensures (rw c.as_slice-in-Frame.ensures at c.put_bytes-in-Frame.ensures))
+
+pub returns-in-Meaning : goal.returns-in-Meaning
+returns-in-Meaning g c = rw c.in-Meaning.is (rw c.as_slice.ensures at c.put_after.ensures)

@@ -38,3 +38,21 @@ returns-in-ErrorsForm g c = rw c.in-ErrorsForm.is c.put_text-in-ErrorsForm.ensur
 
 pub returns-in-NoErrorSignal : goal.returns-in-NoErrorSignal
 returns-in-NoErrorSignal g c = rw c.in-NoErrorSignal.is c.put_text-in-NoErrorSignal.ensures
+
+pub returns-in-NoDecimal : goal.returns-in-NoDecimal
+returns-in-NoDecimal g c = rw c.in-NoDecimal.is
+    (grows-more (rw c.as_slice-in-NoDecimal.ensures at c.put-in-NoDecimal.ensures) c.put_text-in-NoDecimal.ensures)
+
+pub returns-in-NoWords : goal.returns-in-NoWords
+returns-in-NoWords g c = rw c.in-NoWords.is c.put_text-in-NoWords.ensures
+
+pub returns-in-NoValue : goal.returns-in-NoValue
+returns-in-NoValue g c = rw c.in-NoValue.is
+    (grows-more (rw c.as_slice-in-NoValue.ensures at c.put-in-NoValue.ensures)
+    (grows-more (rw c.as_slice-in-NoValue-2.ensures at c.put_after-in-NoValue.ensures) (rw c.as_slice-in-NoValue-3.ensures at c.put_near.ensures)))
+
+pub returns-in-SeveralValues : goal.returns-in-SeveralValues
+returns-in-SeveralValues g c = rw c.in-SeveralValues.is
+    (grows-more c.put_number.ensures
+    (grows-more (rw c.as_slice-in-SeveralValues.ensures at c.put_after-in-SeveralValues.ensures)
+    (rw c.as_slice-in-SeveralValues-2.ensures at c.put_after-in-SeveralValues-2.ensures)))

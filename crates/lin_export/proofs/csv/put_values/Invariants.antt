@@ -1,7 +1,12 @@
-use Rattle.std.proofs.Common.{take, flat_map}
+use Rattle.std.proofs.Common.{ℕ, flat_map}
+use Rattle.lin_frame.specs.Words.{numbers}
+use Rattle.lin_frame.specs.declared.value.Value.{Value}
+use Rattle.lin_core.specs.Signals.{ArePointwise}
 use Rattle.lin_text.specs.Written.{Grows}
-use Rattle.lin_export.specs.Csv.{comma, value_cell}
+use Rattle.lin_export.specs.Csv.{comma, signal_cells}
+use Rattle.lin_export.specs.WhereTold.{told}
 use Rattle.lin_export.proofs.csv.put_values.Given as goal
 
-abbrev pub invariant-loop-value : goal.invariant-loop-value
-invariant-loop-value g l = Grows g.W.Write.contents l.initial.out l.out (flat_map (λ value. comma (value_cell value)) (take l.value-index l.values))
+abbrev pub invariant-loop-signal : goal.invariant-loop-signal
+invariant-loop-signal g l =
+    (says : ℕ → Value) → ArePointwise says l.values → Grows g.W.Write.contents l.initial.out l.out (flat_map comma (flat_map (signal_cells (told l.coded) says) (numbers l.signal)))

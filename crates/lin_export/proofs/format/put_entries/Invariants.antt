@@ -1,4 +1,4 @@
-use Rattle.std.proofs.Common.{◌≡◌, ◌*◌, ◌≤◌, ◌++◌, ℕ, List, drop}
+use Rattle.std.proofs.Common.{◌≡◌, ◌++◌, ℕ, List, drop}
 use Rattle.lin_text.specs.Written.{Grows}
 use Rattle.lin_export.proofs.Tellings.{before}
 use Rattle.lin_export.specs.Telling.{each_entry}

@@ -7,4 +7,5 @@ returns g c =
     (grows-more (grows-more c.put-2.ensures (grows-more c.put_bus_variables.ensures c.put-3.ensures))
     (grows-more (grows-more c.put-4.ensures (grows-more c.put_heard_variables.ensures c.put-5.ensures))
     (grows-more (grows-more c.put-6.ensures (grows-more c.put_written_variables.ensures c.put-7.ensures))
-    (grows-more (grows-more c.put-8.ensures (grows-more c.put_waiting_variables.ensures c.put-9.ensures)) c.put-10.ensures))))
+    (grows-more (grows-more c.put-8.ensures (grows-more c.put_waiting_variables.ensures c.put-9.ensures))
+    (grows-more c.put_physical_scope.ensures c.put-10.ensures)))))

@@ -7,4 +7,4 @@ returns g c =
     (grows-more c.put-2.ensures
     (grows-more c.put_unknowns.ensures
     (grows-more c.put_number.ensures
-    (grows-more c.put_heard_values.ensures (grows-more c.put_written_values.ensures (grows-more c.put_waiting_values.ensures c.put-3.ensures))))))
+    (grows-more c.put_heard_values.ensures (grows-more c.put_written_values.ensures (grows-more c.put_waiting_values.ensures (grows-more c.put_first_decimals.ensures c.put-3.ensures)))))))

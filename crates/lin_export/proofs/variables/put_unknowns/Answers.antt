@@ -1,7 +1,7 @@
 use Rattle.std.proofs.Common.{sym}
 use Rattle.lin_text.proofs.Growing.{grows-more, same-growth}
 use Rattle.lin_export.specs.Vcd.{unknown}
-use Rattle.lin_export.proofs.Groups.{numbers-more}
+use Rattle.lin_export.proofs.Rows.{numbers-more}
 use Rattle.lin_export.proofs.variables.put_unknowns.Goals as goal
 
 pub loop-variable-preserved : goal.loop-variable-preserved

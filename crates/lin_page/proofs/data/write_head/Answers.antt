@@ -1,7 +1,7 @@
 use Rattle.std.proofs.Common.{◌∙◌, ◌∷◌, ◌++◌, [], ap, append_assoc, flat_map, rules, sym}
 use Rattle.std.specs.Prelude.{codes}
 use Rattle.lin_text.proofs.Growing.{grows-more, same-growth, text-written}
-use Rattle.lin_page.specs.Page.{escaped}
+use Rattle.lin_page.specs.Fields.{escaped}
 use Rattle.lin_page.specs.declared.pieces.TheConstants.{HEAD}
 use Rattle.lin_page.proofs.data.write_head.Goals as goal
 

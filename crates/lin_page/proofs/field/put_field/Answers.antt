@@ -1,7 +1,7 @@
 use Rattle.std.proofs.Common.{◌≡◌, ap, arith, flat_map, sym, take}
 use Rattle.std.proofs.lemmas.Grind.{common_steps}
 use Rattle.lin_text.proofs.Growing.{grows-more, same-growth, texts-next}
-use Rattle.lin_page.specs.Page.{escaped}
+use Rattle.lin_page.specs.Fields.{escaped}
 use Rattle.lin_page.proofs.field.put_field.Goals as goal
 
 pub loop-byte-preserved : goal.loop-byte-preserved

@@ -1,6 +1,6 @@
 use Rattle.std.proofs.Common.{take, flat_map}
 use Rattle.lin_text.specs.Written.{Grows}
-use Rattle.lin_page.specs.Page.{escaped}
+use Rattle.lin_page.specs.Fields.{escaped}
 use Rattle.lin_page.proofs.field.put_field.Given as goal
 
 abbrev pub invariant-loop-byte : goal.invariant-loop-byte

@@ -1,4 +1,5 @@
 use Rattle.std.proofs.Common.{refl}
+use Rattle.lin_export.specs.WhereTold.{told}
 use Rattle.lin_log.specs.Words.{text}
 use Rattle.lin_listing.specs.Frames.{frames}
 use Rattle.lin_listing.specs.Listing.{listing}
@@ -12,7 +13,7 @@ returns-in_err-write_head g c =
     let x = c.args.core.now.cluster in
     let failed = c.from_residual.ensures.0 in
     written-short (text c.args.core.now.log) failed refl
-    (written-short (log_head x) failed refl
+    (written-short (log_head x (told c.args.coded)) failed refl
     (written-short (slots x) failed refl
     (written-short (frames x) failed refl
     (written-short (listing x) failed refl
@@ -24,7 +25,7 @@ returns-in_err-write_list g c =
     let failed = c.from_residual-in_err-write_list.ensures.0 in
     let s1 = rw c.in_ok-write_head.was at (rw c.cluster-cluster.ensures at c.write_head.ensures) in
     written-short (text c.args.core.now.log) failed refl
-    (written-short (log_head x) failed refl
+    (written-short (log_head x (told c.args.coded)) failed refl
     (written-short (slots x) failed refl
     (written-short (frames x) failed refl
     (writes-more s1 (rw c.cluster-cluster.ensures at c.write_list.ensures)))))
@@ -36,7 +37,7 @@ returns-in_err-write_frames g c =
     let s1 = rw c.in_ok-write_head.was at (rw c.cluster-cluster.ensures at c.write_head.ensures) in
     let s2 = writes-more s1 (rw c.in_ok-write_list.was at (rw c.cluster-cluster.ensures at c.write_list.ensures)) in
     written-short (text c.args.core.now.log) failed refl
-    (written-short (log_head x) failed refl
+    (written-short (log_head x (told c.args.coded)) failed refl
     (written-short (slots x) failed refl
     (writes-more s2 (rw c.cluster-cluster.ensures at c.write_frames.ensures))))
 
@@ -48,7 +49,7 @@ returns-in_err-write_slots g c =
     let s2 = writes-more s1 (rw c.in_ok-write_list.was at (rw c.cluster-cluster.ensures at c.write_list.ensures)) in
     let s3 = writes-more s2 (rw c.in_ok-write_frames.was at (rw c.cluster-cluster.ensures at c.write_frames.ensures)) in
     written-short (text c.args.core.now.log) failed refl
-    (written-short (log_head x) failed refl
+    (written-short (log_head x (told c.args.coded)) failed refl
     (writes-more s3 (rw c.cluster-cluster.ensures at c.write_slots.ensures)))
 
 pub returns-in_err-write_log_head : goal.returns-in_err-write_log_head

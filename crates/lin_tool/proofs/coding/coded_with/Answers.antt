@@ -8,5 +8,5 @@ pub returns-clause-warnings : goal.returns-clause-warnings
 returns-clause-warnings c =
     let x = c.args.cluster.now in
     let found = subst (IsPermutation (warnings x c.in-Some.codings)) (sym c.as_slice.ensures) c.in_ok-coded.ensures.warnings in
-    subst (λ k. AreWarnings x k c.args.warnings c.in_ok-all.all) (sym c.in-Some.is)
-    (told x c.in-Some.codings c.args.warnings c.in_ok-all.all c.as_slice.result.now found c.in_ok-all.ensures.all c.in_ok-all.ensures.ordered)
+    subst (λ k. AreWarnings c.args.encodings x k c.args.warnings c.in_ok-all.all) (sym c.in-Some.is)
+    (told c.args.encodings x c.in-Some.codings c.args.warnings c.in_ok-all.all c.as_slice.result.now found c.in_ok-all.ensures.all c.in_ok-all.ensures.ordered)

@@ -1,10 +1,16 @@
-use Rattle.std.proofs.Common.{◌∙◌}
+use Rattle.std.proofs.Common.{◌∙◌, Option, IsPermutation, subst}
+use Rattle.lin_tool.specs.Coding.{linted}
 use Rattle.lin_tool.proofs.Texts.{coded_answer}
+use Rattle.lin_values.specs.declared.items.Codings.{Codings}
 use Rattle.lin_tool.proofs.describing.check_parsed.Goals as goal
 
 pub returns : goal.returns
-returns c = λ extras source h.
+returns c = λ source h.
     let (described, says) = rw c.in_ok-description.was at h in
-    coded_answer extras c.coded_noted.result source c.in_ok-description.description c.in_ok-cluster.cluster c.in_ok-description.sections c.new-none.result
+    let odd : IsPermutation (linted c.in_ok-description.description c.in_ok-description.sections.configurables c.in_ok-description.sections.codings c.new-none.result)
+    c.in_ok-warnings.warnings =
+    subst (λ (k : Option Codings). IsPermutation (linted c.in_ok-description.description c.in_ok-description.sections.configurables k c.new-none.result)
+    c.in_ok-warnings.warnings) c.as_ref.ensures.value c.in_ok-warnings.ensures.all in
+    coded_answer c.args.extras c.coded_noted.result source c.in_ok-description.description c.in_ok-cluster.cluster c.in_ok-description.sections c.new-none.result
     c.in_ok-warnings.warnings c.coded_noted.new.notes.warnings described c.in_ok-cluster.ensures.said says (c.new-none.ensures ∙ c.new.ensures.items)
-    c.in_ok-warnings.ensures.all c.coded_noted.ensures.cluster c.coded_noted.ensures.coded c.coded_noted.ensures.warnings c.coded_noted.ensures.memory
+    odd c.coded_noted.ensures.cluster c.coded_noted.ensures.coded c.coded_noted.ensures.warnings c.coded_noted.ensures.memory

@@ -1,8 +1,14 @@
+use Rattle.std.proofs.Common.{Option, IsPermutation, subst}
+use Rattle.lin_tool.specs.Coding.{linted}
 use Rattle.lin_tool.proofs.FieldTexts.{described_answer}
+use Rattle.lin_values.specs.declared.items.Codings.{Codings}
 use Rattle.lin_tool.proofs.field.cluster_noted.Goals as goal
 
 pub returns-in_ok-warnings-in-Ok : goal.returns-in_ok-warnings-in-Ok
 returns-in_ok-warnings-in-Ok c =
-    described_answer c.args.settled.now c.in-Ok.field-0 c.args.sections c.in_ok-warnings-in-Ok.warnings c.coded_noted.result c.coded_noted.new.notes.warnings
-    c.in-Ok.ensures c.in_ok-warnings-in-Ok.ensures.all
+    let odd : IsPermutation (linted c.args.settled.now.description c.args.sections.configurables c.args.sections.codings c.in-Ok.field-0.warnings) c.in_ok-warnings-in-Ok.warnings =
+    subst (λ (k : Option Codings). IsPermutation (linted c.args.settled.now.description c.args.sections.configurables k c.in-Ok.field-0.warnings) c.in_ok-warnings-in-Ok.warnings)
+    c.as_ref.ensures.value c.in_ok-warnings-in-Ok.ensures.all in
+    described_answer c.args.extras c.args.settled.now c.in-Ok.field-0 c.args.sections c.in_ok-warnings-in-Ok.warnings c.coded_noted.result c.coded_noted.new.notes.warnings
+    c.in-Ok.ensures odd
     c.coded_noted.ensures.cluster c.coded_noted.ensures.coded c.coded_noted.ensures.warnings c.coded_noted.ensures.memory

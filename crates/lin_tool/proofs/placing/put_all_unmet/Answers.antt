@@ -1,6 +1,6 @@
-use Rattle.std.proofs.Common.{◌≡◌, ◌∙◌, ap, arith}
+use Rattle.std.proofs.Common.{◌∙◌, ap, arith}
 use Rattle.lin_text.proofs.Growing.{grows-next, grows-nothing}
-use Rattle.lin_tool.specs.Placing.{moment_of, past_at, placed_unmet}
+use Rattle.lin_tool.specs.Placing.{moment_of, placed_unmet}
 use Rattle.lin_tool.proofs.placing.put_all_unmet.Goals as goal
 
 pub loop-one-init : goal.loop-one-init

@@ -1,4 +1,4 @@
-use Rattle.std.proofs.Common.{sym, ap}
+use Rattle.std.proofs.Common.{ap}
 use Rattle.lin_text.proofs.Growing.{grows-more, same-growth}
 use Rattle.lin_tool.specs.Placing.{moment_text}
 use Rattle.lin_tool.specs.declared.placing.Moment.{Moment}

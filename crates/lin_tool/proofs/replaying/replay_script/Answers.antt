@@ -15,5 +15,5 @@ returns g c =
     let script = rw c.as_slice.ensures.value at read in
     let log = log-of _ _ _ _ _ _ c.in_ok-bytes.ensures.0 said script made in
     let part = rw c.in_ok-core.ensures.core.0 at c.in-Err.ensures.text in
-    rw c.from.ensures (stopped _ _ _ _ _ _ _ c.in-Err.fault c.in-Err.ensures.memory
+    rw c.from.ensures (stopped _ _ _ _ _ _ _ _ c.in-Err.fault c.in-Err.ensures.memory
     (c.in_ok-core.core.log, log, begins _ _ _ _ part))

@@ -1,4 +1,4 @@
-use Rattle.std.proofs.Common.{◌∙◌, sym, arith, length}
+use Rattle.std.proofs.Common.{arith, length}
 use Rattle.lin_core.specs.Core.{past_of}
 use Rattle.lin_core.specs.Links.{waiting}
 use Rattle.lin_tool.proofs.Tallies.{sum-number}

@@ -1,11 +1,11 @@
-use Rattle.std.proofs.Common.{◌≡◌, ◌+◌, ◌≤◌}
+use Rattle.std.proofs.Common.{◌≡◌, ◌+◌, ◌≤◌, option_map}
 use Rattle.lin_log.specs.Judged.{left_of}
 use Rattle.lin_bench.specs.Read.{said}
 use Rattle.lin_bench.proofs.script.LinesLeft.next_line.Given as goal
 
 abbrev pub invariant-loop-self : goal.invariant-loop-self
 invariant-loop-self l = record {
-  same : said l.cluster l.self ≡ said l.cluster l.fn.self;
+  same : said l.cluster (option_map (λ k. k.now) l.coded) l.self ≡ said l.cluster (option_map (λ k. k.now) l.coded) l.fn.self;
   bound : l.self.number + left_of l.self.left ≤ l.fn.self.number + left_of l.fn.self.left;
   later : l.fn.self.number ≤ l.self.number;
   few : l.fn.self.number + left_of l.fn.self.left ≤ 16777218;

@@ -4,6 +4,7 @@ use Rattle.lin_core.specs.declared.event.Event.{Event}
 use Rattle.lin_core.specs.declared.reply.Reply.{Reply}
 use Rattle.lin_text.proofs.Growing.{grows-more, same-growth}
 use Rattle.lin_export.specs.Jsonl.{reply_objects, settled, settled_all}
+use Rattle.lin_export.specs.WhereTold.{told}
 use Rattle.lin_export.proofs.Objects.{settled-done}
 use Rattle.lin_export.proofs.jsonl.ObjectsFormat.put_entry.Goals as goal
 
@@ -19,5 +20,5 @@ pub returns-in-Done-clause-text : goal.returns-in-Done-clause-text
 returns-in-Done-clause-text g c = λ past is kept.
     let x = c.args.cluster.now in
     let e = c.args.entry.now in
-    same-growth (ap (λ (r : Reply). reply_objects x e past r) (sym c.in-Done.is))
+    same-growth (ap (λ (r : Reply). reply_objects x (told c.args.self.now.coded) e past r) (sym c.in-Done.is))
     (grows-more (c.put_step.ensures past is (settled past) kept) (rw (c.slots.ensures, is, c.time_behind-at.ensures past is, c.as_slice.ensures) at c.put_events.ensures))

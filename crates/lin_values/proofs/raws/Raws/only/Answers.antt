@@ -8,7 +8,7 @@ use Rattle.lin_values.proofs.raws.Raws.only.Goals as goal
 pub returns-then-count-ne1-clause-other : goal.returns-then-count-ne1-clause-other
 returns-then-count-ne1-clause-other c = λ e.
     subst (λ (r : RawsData). ((v : Value) → has r v ≡ false) ⊎ ((v : Value) × (w : Value) × (v ≢ w) × (has r v ≡ true) × (has r w ≡ true))) c.self.view_is
-    (none-or-two c.self.inside.spans c.self.inside.coded c.self.invariant (λ h. c.if-count-ne1.true (c.count.ensures ∙ ap (λ (r : RawsData). count_of r.spans r.coded) (sym c.self.view_is) ∙ h)))
+    (none-or-two c.self.inside.spans c.self.inside.coded c.self.invariant (λ h. c.if-count-ne1.true (c.count.ensures.count ∙ ap (λ (r : RawsData). count_of r.spans r.coded) (sym c.self.view_is) ∙ h)))
 
 pub returns-in-None-clause-only : goal.returns-in-None-clause-only
 returns-in-None-clause-only c = λ v.

@@ -1,0 +1,15 @@
+-- Fields that ask for no value in words.
+use Rattle.std.proofs.Common.{◌≡◌, ◌∙◌, ◌&&◌, ℕ, List, Bool, true, false, cond, refl, ap, Some, None}
+use Rattle.std.specs.Prelude.{codes}
+use Rattle.std.specs.Str.{bytes_eq}
+use Rattle.lin_bench.specs.Words.{is_expect, is_write, wish_of}
+use Rattle.lin_bench.specs.declared.words.Wish.TheVariants.{Write, Nearest, Expect}
+
+pub and-none : (a b : Bool) → b ≡ false → a && b ≡ false
+and-none true b e = e
+and-none false b e = refl
+
+pub unwished : (before : List (List ℕ)) (mark : List ℕ) → is_write before ≡ false → is_expect before ≡ false → wish_of before mark ≡ None
+unwished before mark w e =
+    ap (λ b. cond b (Some (cond (bytes_eq mark (codes "~")) Nearest Write)) (cond (bytes_eq mark (codes "=") && is_expect before) (Some Expect) None)) w
+    ∙ ap (λ b. cond b (Some Expect) None) (and-none (bytes_eq mark (codes "=")) (is_expect before) e)

@@ -1,0 +1,53 @@
+-- What bench scripts say.
+use Rattle.std.specs.Prelude.{ℕ, ◌+◌, ◌==◌, ◌&&◌, if◌then◌else◌, List, [], ◌∷◌, drop, slice_index}
+use Rattle.std.specs.Prelude.{Option, Some, None, Result, Ok, Err}
+use Rattle.std.specs.List.{slice_split}
+use Rattle.std.specs.Str.Lines.{strip_carriage_return}
+use Rattle.lin_cluster_parts.specs.declared.parts.Parts.{Parts}
+use Rattle.lin_values.specs.Coded.{CodedData}
+use Rattle.lin_bench.specs.Words.{read_worded_line}
+use Rattle.lin_bench.specs.declared.line.Line.{Line}
+use Rattle.lin_bench.specs.declared.reason.Reason.{Reason}
+
+-- the lines that say something, with their numbers, or the first that is bad
+abbrev pub Script : Type 0
+Script = Result (List (ℕ × Line)) (ℕ × Reason)
+
+abbrev pub with_line : ℕ × Line → Script → Script
+with_line l (Ok ls) = Ok (l ∷ ls)
+with_line l (Err bad) = Err bad
+
+abbrev pub with_said : ℕ → Result (Option Line) Reason → Script → Script
+with_said n (Err why) more = Err (n, why)
+with_said n (Ok None) more = more
+with_said n (Ok (Some l)) more = with_line (n, l) more
+
+-- what lines from number n on say; one CR before a line's end is dropped
+abbrev pub read_lines : Parts → Option CodedData → ℕ → List (List ℕ) → Script
+read_lines c k n [] = Ok []
+read_lines c k n (l ∷ ls) =
+    with_said n (read_worded_line c k (strip_carriage_return l)) (read_lines c k (n + 1) ls)
+
+-- the bad lines from number n on, with their numbers
+abbrev pub with_bad : ℕ → Result (Option Line) Reason → List (ℕ × Reason) → List (ℕ × Reason)
+with_bad n (Err why) more = (n, why) ∷ more
+with_bad n (Ok said) more = more
+
+abbrev pub bad_from : Parts → Option CodedData → ℕ → List (List ℕ) → List (ℕ × Reason)
+bad_from c k n [] = []
+bad_from c k n (l ∷ ls) =
+    with_bad n (read_worded_line c k (strip_carriage_return l)) (bad_from c k (n + 1) ls)
+
+-- a text without the mark EF BB BF at its start
+abbrev pub without_mark : List ℕ → List ℕ
+without_mark text =
+    if slice_index text 0 == 0xEF && slice_index text 1 == 0xBB && slice_index text 2 == 0xBF
+    then drop 3 text else text
+
+-- what a bench script says, or its first bad line, counted from 1 over all lines
+unfoldable pub read : Parts → Option CodedData → List ℕ → Script
+read c k text = read_lines c k 1 (slice_split (λ b. b == 10) (without_mark text))
+
+-- all bad lines of a bench script, counted from 1 over all lines
+unfoldable pub bad_lines : Parts → Option CodedData → List ℕ → List (ℕ × Reason)
+bad_lines c k text = bad_from c k 1 (slice_split (λ b. b == 10) (without_mark text))

@@ -1,0 +1,323 @@
+//! The values of signals that words say: the one that is written, and those that are expected.
+
+ghost use Rattle.std.specs.Prelude.{◌≡◌, ◌++◌, ◌≤◌, ◌<◌, ◌^◌, [], IfOk, Ok, OnOk, unsigned_abs};
+ghost use Rattle.std.specs.Option.{option_map_or};
+ghost use Rattle.lin_values.specs.Meaning.{meant};
+ghost use Rattle.lin_values.specs.Raws.{values_of};
+ghost use Rattle.lin_values.specs.Read.{number_and_unit};
+ghost use Rattle.lin_values.specs.Shown.{plain_shown};
+ghost use Rattle.lin_bench.specs.Fields.{words};
+ghost use Rattle.lin_bench.specs.Read.{Gives};
+ghost use Rattle.lin_bench.specs.Texts.{fields_text};
+ghost use Rattle.lin_bench.specs.Words.{around, begins_number, between, decimal_field, decimal_fields};
+ghost use Rattle.lin_bench.specs.Words.{expected_values, from_to, is_bad_number, near_number};
+ghost use Rattle.lin_bench.specs.Words.{near_words, nearest_value, no_value, only_value, why_none};
+ghost use Rattle.lin_bench.specs.declared.fault.LineFault.{LineFault};
+ghost use Rattle.lin_bench.specs.declared.reason.Reason.{Reason};
+
+use crate::fault::LineFault;
+use crate::meant::MeantValues;
+use crate::reason::Reason;
+use lin_frame::Value;
+use lin_lists::{Many, Text};
+use lin_text::TextWriter;
+use lin_values::{Coded, Meaning, is_small, number_and_unit, put_plain, read_decimal, units};
+use std::alloc::{AllocError, Global};
+
+/// What a line says in words: the number and the field of the signal, the text of the words, and the
+/// first of them.
+#[derive(Clone, Copy)]
+pub(crate) struct Said<'a> {
+    pub(crate) signal: u16,
+    pub(crate) field: &'a [u8],
+    pub(crate) text: &'a [u8],
+    pub(crate) first: &'a [u8],
+}
+
+/// Fields with one space between two.
+pub(crate) fn joined(alloc: Global, fields: &[&[u8]]) -> Result<Vec<u8>, AllocError>
+    ensures { IfOk result (λ text. text.items ≡ fields_text (words fields.now)) }
+{
+    let mut text = Vec::new(alloc);
+    let [first, others @ ..] = fields else {
+        return Ok(text);
+    };
+    text.extend_from_slice(*first)?;
+    for field in others {
+        text.push(b' ')?;
+        text.extend_from_slice(*field)?;
+    }
+    Ok(text)
+}
+
+/// Whether a text begins like a number.
+fn begins_number(text: &[u8]) -> bool
+    ensures { result ≡ begins_number text.now }
+{
+    match text {
+        [b'-' | b'+', c, ..] => c.is_ascii_digit(),
+        [c, ..] => c.is_ascii_digit(),
+        [] => false,
+    }
+}
+
+/// That a field is no number.
+fn no_decimal(alloc: Global, field: &[u8]) -> Result<LineFault, AllocError>
+    ensures { IfOk result (λ fault. fault ≡ LineFault.Bad (Reason.NoDecimal field.now)) }
+{
+    Ok(LineFault::Bad(Reason::NoDecimal(Text::copied(alloc, field)?)))
+}
+
+/// The text of a meaning without its unit and without quotes.
+fn plain_text(alloc: Global, meaning: &Meaning<'_>) -> Result<Vec<u8>, AllocError>
+    ensures { IfOk result (λ text. text.items ≡ plain_shown (meant meaning.now)) }
+{
+    let mut text = Vec::new(alloc);
+    let mut out = TextWriter::new(&mut text);
+    put_plain(&mut out, meaning);
+    match out.finish() {
+        Ok(()) => Ok(text),
+        Err(_) => Err(AllocError),
+    }
+}
+
+/// Adds the text, without unit, of what a raw value of a signal means.
+fn add_near(
+    alloc: Global,
+    coded: &Coded,
+    signal: u16,
+    raw: Option<u16>,
+    texts: &mut Vec<Text>,
+) -> Result<(), AllocError>
+    ensures { OnOk result (texts.new.items ≡ texts.old.items ++ near_words coded.now signal raw) }
+{
+    let Some(raw) = raw else {
+        return Ok(());
+    };
+    if let Some(meaning) = coded.meaning(signal, &Value::Scalar(raw)) {
+        let text = plain_text(alloc, &meaning)?;
+        texts.push(Text::copied(alloc, text.as_slice())?)?;
+    }
+    Ok(())
+}
+
+/// What is next to a text's number among the values of a signal.
+fn near_text(
+    alloc: Global,
+    coded: &Coded,
+    signal: u16,
+    text: &[u8],
+) -> Result<Many<Text>, AllocError>
+    ensures { IfOk result (λ texts. texts
+        ≡ option_map_or (near_number coded.now signal) (number_and_unit text.now) []) }
+{
+    let mut texts = Vec::new(alloc);
+    if let Some((number, unit)) = number_and_unit(text) {
+        let (below, above) = coded.neighbours(signal, number, unit);
+        add_near(alloc, coded, signal, below, &mut texts)?;
+        add_near(alloc, coded, signal, above, &mut texts)?;
+    }
+    Ok(Many::new(texts))
+}
+
+/// That no value of a signal is meant by words.
+fn no_value(alloc: Global, coded: &Coded, said: Said<'_>) -> Result<LineFault, AllocError>
+    ensures { IfOk result (λ fault. fault ≡ LineFault.Bad
+        (no_value coded.now said.entry.signal said.entry.field.now said.entry.text.now)) }
+{
+    Ok(LineFault::Bad(Reason::NoValue {
+        text: Text::copied(alloc, said.text)?,
+        signal: Text::copied(alloc, said.field)?,
+        near: near_text(alloc, coded, said.signal, said.text)?,
+    }))
+}
+
+/// Whether a text begins like a number and is none within the limits.
+fn is_bad_number(text: &[u8]) -> bool
+    ensures { result ≡ is_bad_number text.now }
+{
+    match number_and_unit(text) {
+        Some((number, _)) => !is_small(number),
+        None => begins_number(text),
+    }
+}
+
+/// Why words say no value.
+fn why_none(alloc: Global, coded: &Coded, said: Said<'_>) -> Result<LineFault, AllocError>
+    ensures { IfOk result (λ fault. fault ≡ LineFault.Bad (why_none coded.now said.entry.signal
+        said.entry.field.now said.entry.text.now said.entry.first.now)) }
+{
+    if is_bad_number(said.text) {
+        no_decimal(alloc, said.first)
+    } else {
+        no_value(alloc, coded, said)
+    }
+}
+
+/// The one value that words say.
+pub(crate) fn only_value(alloc: Global, coded: &Coded, said: Said<'_>) -> Result<Value, LineFault>
+    ensures { Gives (λ v. v) result (only_value coded.now said.entry.signal
+        said.entry.field.now said.entry.text.now said.entry.first.now
+        (values_of coded.now said.entry.signal said.entry.text.now)) }
+{
+    let values = MeantValues::of_text(alloc, coded, said.signal, said.text)?;
+    if let Some(value) = values.only() {
+        return Ok(value);
+    }
+    let count = values.count();
+    if count == 0 {
+        return Err(why_none(alloc, coded, said)?);
+    }
+    Err(LineFault::Bad(Reason::SeveralValues {
+        count,
+        text: Text::copied(alloc, said.text)?,
+        signal: Text::copied(alloc, said.field)?,
+    }))
+}
+
+/// The value nearest to the number that words say.
+pub(crate) fn nearest_value(
+    alloc: Global,
+    coded: &Coded,
+    said: Said<'_>,
+) -> Result<Value, LineFault>
+    ensures { Gives (λ v. v) result (nearest_value coded.now said.entry.signal
+        said.entry.field.now said.entry.text.now said.entry.first.now) }
+{
+    let Some((number, unit)) = number_and_unit(said.text) else {
+        return Err(no_decimal(alloc, said.first)?);
+    };
+    if !is_small(number) {
+        return Err(no_decimal(alloc, said.first)?);
+    }
+    match coded.nearest(said.signal, number, unit) {
+        Some(raw) => Ok(Value::Scalar(raw)),
+        None => Err(no_value(alloc, coded, said)?),
+    }
+}
+
+/// A decimal within the limits, in units of 10 ^ -24, by its field.
+fn decimal_field(alloc: Global, field: &[u8]) -> Result<i128, LineFault>
+    ensures same { Gives (λ z. z) result (decimal_field field.now) }
+    ensures small { IfOk result (λ z. unsigned_abs z < 10 ^ 33) }
+{
+    match read_decimal(field) {
+        Some(number) if is_small(number) => Ok(units(number)),
+        _ => Err(no_decimal(alloc, field)?),
+    }
+}
+
+/// A decimal within the limits, in units of 10 ^ -24, and a unit, by their fields and these joined.
+fn decimal_fields<'a>(
+    alloc: Global,
+    text: &'a [u8],
+    fields: &[&[u8]],
+) -> Result<(i128, &'a [u8]), LineFault>
+    requires { text.now ≡ fields_text (words fields.now) }
+    ensures same { Gives (λ p. (p.0, p.1.now)) result (decimal_fields (words fields.now)) }
+    ensures small { IfOk result (λ p. unsigned_abs p.0 < 10 ^ 33) }
+{
+    let [first, ..] = fields else {
+        return Err(LineFault::Bad(Reason::NoWords));
+    };
+    match number_and_unit(text) {
+        Some((number, unit)) if is_small(number) => Ok((units(number), unit)),
+        _ => Err(no_decimal(alloc, *first)?),
+    }
+}
+
+/// The values of a signal from one decimal to another, which a text says.
+fn between(
+    alloc: Global,
+    coded: &Coded,
+    said: Said<'_>,
+    low: i128,
+    high: i128,
+    unit: &[u8],
+) -> Result<MeantValues, LineFault>
+    requires low { unsigned_abs low ≤ 10 ^ 38 }
+    requires high { unsigned_abs high ≤ 10 ^ 38 }
+    ensures { Gives (λ m. m) result
+        (between coded.now said.entry.signal said.entry.text.now low high unit.now) }
+{
+    if low > high {
+        return Err(LineFault::Bad(Reason::NoRange(Text::copied(alloc, said.text)?)));
+    }
+    Ok(MeantValues::within(alloc, coded, said.signal, low, high, unit)?)
+}
+
+/// The values of a signal within a tolerance of a decimal.
+fn around(
+    alloc: Global,
+    coded: &Coded,
+    said: Said<'_>,
+    first: &[u8],
+    others: &[&[u8]],
+) -> Result<MeantValues, LineFault>
+    ensures { Gives (λ m. m) result
+        (around coded.now said.entry.signal said.entry.text.now first.now (words others.now)) }
+{
+    let middle = decimal_field(alloc, first)?;
+    let rest = joined(alloc, others)?;
+    let (tolerance, unit) = decimal_fields(alloc, rest.as_slice(), others)?;
+    between(
+        alloc,
+        coded,
+        said,
+        middle - tolerance,
+        middle + tolerance,
+        unit,
+    )
+}
+
+/// The values of a signal from one decimal to another.
+fn from_to(
+    alloc: Global,
+    coded: &Coded,
+    said: Said<'_>,
+    first: &[u8],
+    others: &[&[u8]],
+) -> Result<MeantValues, LineFault>
+    ensures { Gives (λ m. m) result
+        (from_to coded.now said.entry.signal said.entry.text.now first.now (words others.now)) }
+{
+    let low = decimal_field(alloc, first)?;
+    let rest = joined(alloc, others)?;
+    let (high, unit) = decimal_fields(alloc, rest.as_slice(), others)?;
+    between(alloc, coded, said, low, high, unit)
+}
+
+/// The values of a signal with the text of words.
+fn by_text(alloc: Global, coded: &Coded, said: Said<'_>) -> Result<MeantValues, LineFault>
+    ensures { Gives (λ m. m) result
+        (Ok (values_of coded.now said.entry.signal said.entry.text.now)) }
+{
+    Ok(MeantValues::of_text(alloc, coded, said.signal, said.text)?)
+}
+
+/// The values of a signal that words say: those of a text, those within a tolerance of a decimal, or
+/// those from one decimal to another.
+#[tactic(auto, unfolding(crate::specs::Words::expected_values))]
+pub(crate) fn expected_values(
+    alloc: Global,
+    coded: &Coded,
+    said: Said<'_>,
+    all: &[&[u8]],
+) -> Result<MeantValues, LineFault>
+    requires { said.text.now ≡ fields_text (words all.now) }
+    ensures { Gives (λ m. m) result (expected_values coded.now said.entry.signal (words all.now)) }
+{
+    let [first, mark, others @ ..] = all else {
+        return by_text(alloc, coded, said);
+    };
+    if !begins_number(*first) {
+        return by_text(alloc, coded, said);
+    }
+    if *mark == b"+-".as_slice() {
+        return around(alloc, coded, said, *first, others);
+    }
+    if *mark == b"..".as_slice() {
+        return from_to(alloc, coded, said, *first, others);
+    }
+    by_text(alloc, coded, said)
+}

@@ -1,0 +1,11 @@
+use Rattle.std.proofs.Common.{◌++◌, ap, flat_map}
+use Rattle.lin_frame.specs.declared.value.Value.{Value}
+use Rattle.lin_text.proofs.Growing.{grows-more, same-growth}
+use Rattle.lin_export.specs.Csv.{comma, meaning_cells, value_cell}
+use Rattle.lin_export.specs.WhereTold.{told, where_told}
+use Rattle.lin_export.proofs.csv.put_signal.Goals as goal
+
+pub returns : goal.returns
+returns g c = λ says is.
+    same-growth (ap (λ (v : Value). comma (value_cell v) ++ flat_map comma (where_told (told c.args.coded) (λ d. meaning_cells d c.args.signal v))) is)
+    (grows-more c.put_value.ensures c.put_meaning_cells.ensures)

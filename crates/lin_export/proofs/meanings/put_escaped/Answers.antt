@@ -1,0 +1,8 @@
+use Rattle.std.proofs.Common.{sym, arith}
+use Rattle.lin_text.proofs.Growing.{grows-more, same-growth, texts-next}
+use Rattle.lin_export.specs.Json.{escaped_byte}
+use Rattle.lin_export.proofs.meanings.put_escaped.Goals as goal
+
+pub loop-byte-preserved : goal.loop-byte-preserved
+loop-byte-preserved g c =
+    same-growth (sym (texts-next escaped_byte c.args.text.now c.loop-byte.byte-index 0 (omega arith))) (grows-more c.loop-byte.invariant c.put_escaped_byte.ensures)

@@ -1,0 +1,148 @@
+//! What values mean, as lines of a log with names.
+
+ghost use Rattle.std.specs.Prelude.{◌<◌, flat_map, length, option_map};
+ghost use Rattle.lin_log.specs.Words.{reply_line};
+ghost use Rattle.lin_text.specs.Written.{Grows};
+ghost use Rattle.lin_export.specs.Named.{frame_values, seen_values, slot_values, value_lines};
+ghost use Rattle.lin_export.specs.Named.{written_values};
+ghost use Rattle.lin_export.specs.Open.{slot_in};
+ghost use Rattle.lin_export.specs.WhereTold.{told, where_told};
+
+use crate::slot::OpenSlot;
+use lin_cluster_parts::Cluster;
+use lin_core::{Event, Seen, Step};
+use lin_frame::{Answer, Value, unpack};
+use lin_text::TextWriter;
+use lin_values::{Coded, put_meaning};
+use std::io::Write;
+
+/// The line of what a value of a signal means, where it means something.
+fn put_value<W: Write>(
+    out: &mut TextWriter<'_, W>,
+    cluster: &Cluster,
+    coded: &Coded,
+    signal: u16,
+    value: &Value,
+)
+    requires { signal < length cluster.now.signals }
+    ensures { Grows W.contents out.old out.new
+        (flat_map reply_line (value_lines cluster.now coded.now signal value.now)) }
+{
+    if let Some(meaning) = coded.meaning(signal, value) {
+        out.put(b"> value ");
+        out.put(cluster.signal_name(signal));
+        out.put_byte(b' ');
+        put_meaning(out, &meaning);
+        out.put_byte(b'\n');
+    }
+}
+
+/// What the signals of a frame mean.
+fn put_frame_values<W: Write>(
+    out: &mut TextWriter<'_, W>,
+    cluster: &Cluster,
+    coded: &Coded,
+    frame: u16,
+    answer: &Answer,
+)
+    requires { frame < length cluster.now.frames }
+    ensures { Grows W.contents out.old out.new
+        (flat_map reply_line (frame_values cluster.now coded.now answer.now frame)) }
+{
+    cluster.sound();
+    let data = answer.data();
+    let layout = cluster.layout(frame);
+    let signals = cluster.frame_signals(frame);
+    for place in 0..signals.len() {
+        let value = unpack(layout, &data, place);
+        put_value(out, cluster, coded, signals[place], &value);
+    }
+}
+
+/// What the signals of a slot mean that was seen good.
+fn put_slot_values<W: Write>(
+    out: &mut TextWriter<'_, W>,
+    cluster: &Cluster,
+    coded: &Coded,
+    slot: &OpenSlot,
+    answer: &Answer,
+)
+    ensures { Grows W.contents out.old out.new (flat_map reply_line
+        (slot_values cluster.now coded.now answer.now (slot_in slot.now))) }
+{
+    if let Some(frame) = slot.frame(cluster) {
+        put_frame_values(out, cluster, coded, frame, answer);
+    }
+}
+
+/// What values mean that an event tells of the open slot.
+fn put_event_values<W: Write>(
+    out: &mut TextWriter<'_, W>,
+    cluster: &Cluster,
+    coded: &Coded,
+    slot: &Option<OpenSlot>,
+    event: &Event,
+)
+    ensures { Grows W.contents out.old out.new (flat_map reply_line
+        (seen_values cluster.now coded.now (option_map slot_in slot.now) event.now)) }
+{
+    if let Event::Seen(Seen::Good(answer)) = event
+        && let Some(slot) = slot
+    {
+        put_slot_values(out, cluster, coded, slot, answer);
+    }
+}
+
+/// The same, where what values mean is told.
+pub(crate) fn put_seen<W: Write>(
+    out: &mut TextWriter<'_, W>,
+    cluster: &Cluster,
+    coded: Option<&Coded>,
+    slot: &Option<OpenSlot>,
+    event: &Event,
+)
+    ensures { Grows W.contents out.old out.new (flat_map reply_line
+        (where_told (told coded.entry)
+        (λ d. seen_values cluster.now d (option_map slot_in slot.now) event.now))) }
+{
+    if let Some(coded) = coded {
+        put_event_values(out, cluster, coded, slot, event);
+    }
+}
+
+/// What the value of a write means.
+fn put_written_values<W: Write>(
+    out: &mut TextWriter<'_, W>,
+    cluster: &Cluster,
+    coded: &Coded,
+    step: &Step,
+)
+    ensures { Grows W.contents out.old out.new
+        (flat_map reply_line (written_values cluster.now coded.now step.now)) }
+{
+    if let Step::Write {
+        by: _,
+        signal,
+        value,
+    } = step
+        && usize::from(*signal) < cluster.signals()
+    {
+        put_value(out, cluster, coded, *signal, value);
+    }
+}
+
+/// The same, where what values mean is told.
+pub(crate) fn put_written<W: Write>(
+    out: &mut TextWriter<'_, W>,
+    cluster: &Cluster,
+    coded: Option<&Coded>,
+    step: &Step,
+)
+    ensures { Grows W.contents out.old out.new (flat_map reply_line
+        (where_told (told coded.entry)
+        (λ d. written_values cluster.now d step.now))) }
+{
+    if let Some(coded) = coded {
+        put_written_values(out, cluster, coded, step);
+    }
+}
