@@ -10,7 +10,7 @@ import os
 import tarfile
 import zipfile
 
-NAME, VERSION = "linsim", "0.1.0"
+NAME, VERSION = "linsim", "0.2.0"
 HERE = os.path.dirname(os.path.dirname(os.path.abspath(__file__)))
 INFO = f"{NAME}-{VERSION}.dist-info"
 METADATA = f"""Metadata-Version: 2.1

@@ -249,7 +249,7 @@ fn live<'a>(alloc: Global) -> Result<Command<'a>, AllocError> {
 /// What the program takes.
 fn command<'a>(alloc: Global) -> Result<Command<'a>, AllocError> {
     Command::new(alloc, "linsim")
-        .version("0.1.0")
+        .version("0.2.0")
         .about("Simulates a LIN cluster with its schedules and its diagnostic transport")
         .after_help(STATUS_NOTE)
         .subcommand_required(true)
