@@ -79,6 +79,19 @@ error-of-another = refl
 pub unknown-error : lints (record whole { attributes = tells (codes "faults") ∷ [] }) [] ≡ finding_at BadResponseError 26 40 ∷ []
 unknown-error = refl
 
+-- of a responder of SAE J2602 also a status byte, but no signal of 4 bits
+abbrev of_j2602 : List ℕ → Attributes
+of_j2602 text = record (tells text) { protocol = Some (codes "J2602_1_1.0") }
+
+pub status-byte : lints (record whole { attributes = of_j2602 (codes "lkey") ∷ [] }) [] ≡ []
+status-byte = refl
+
+pub bit-of-j2602 : lints (record whole { attributes = of_j2602 (codes "fault") ∷ [] }) [] ≡ []
+bit-of-j2602 = refl
+
+pub half-a-status-byte : lints (record whole { signals = (record level { subscribers = name (codes "lsm") 6 40 ∷ [] }) ∷ signal 7 (codes "lkey") 4 0 (codes "lsm") ∷ fault ∷ []; attributes = of_j2602 (codes "lkey") ∷ [] }) [] ≡ finding_at BadResponseError 26 40 ∷ []
+half-a-status-byte = refl
+
 -- where the responder doesn't subscribe the commander's signal
 pub bad-configurable : lints (record whole { signals = (record level { subscribers = name (codes "rsm") 6 40 ∷ [] }) ∷ lkey ∷ fault ∷ [] }) (listed (codes "Light")) ≡ finding_at BadConfigurable 27 5 ∷ []
 bad-configurable = refl

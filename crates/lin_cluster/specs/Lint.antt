@@ -2,7 +2,8 @@
 -- what LIN asks for though a cluster runs without it (LIN 2.2A, section 9.2).
 use Rattle.std.specs.Prelude.{ℕ, ◌%◌, List, [], ◌++◌, length, Option, Some, None, Bool, false}
 use Rattle.std.specs.Prelude.{not, ◌==◌, ◌&&◌, ◌||◌, flat_map, if◌then◌else◌}
-use Rattle.std.specs.Prelude.{IsPermutation, IsSorted}
+use Rattle.std.specs.Prelude.{IsPermutation, IsSorted, codes, nat_eq}
+use Rattle.std.specs.List.{starts_with}
 use Rattle.std.specs.Option.{option_map_or}
 use Rattle.lin_cluster.specs.Findings.{finding_cmp}
 use Rattle.lin_cluster.specs.FindingsNames.{at_name, at_number, when, same_name, is_node}
@@ -75,19 +76,27 @@ off_time_base d e =
 abbrev pub no_address : Description → Name → List Finding
 no_address d n = when (has_diagnostics d && not (is_addressed d n.text)) (at_name NoAddress n)
 
--- ---- 58 BadResponseError: no signal of one bit that the node publishes (section 9.2.2.2)
+-- ---- 58 BadResponseError: no signal of one bit that the node publishes (section 9.2.2.2). A node
+-- of SAE J2602 may name its status byte too, whose upper three bits are the error state (J2602-1)
 
-abbrev pub is_error_bit : Name → Signal → Bool
-is_error_bit node s = same_name s.publisher node && s.size.value == 1
+-- whether a node's attributes tell a version of SAE J2602
+abbrev pub is_j2602 : Attributes → Bool
+is_j2602 a = option_map_or (λ v. starts_with nat_eq v (codes "J2602")) a.protocol false
 
-abbrev pub bad_error : Description → Name → Option Name → List Finding
-bad_error d node None = []
-bad_error d node (Some n) =
-    when (not (option_map_or (is_error_bit node) (signal_named d n) false))
+abbrev pub has_error_size : Attributes → ℕ → Bool
+has_error_size a size = size == 1 || is_j2602 a && size == 8
+
+abbrev pub is_response_error : Attributes → Signal → Bool
+is_response_error a s = same_name s.publisher a.node && has_error_size a s.size.value
+
+abbrev pub bad_error : Description → Attributes → Option Name → List Finding
+bad_error d a None = []
+bad_error d a (Some n) =
+    when (not (option_map_or (is_response_error a) (signal_named d n) false))
     (at_name BadResponseError n)
 
 abbrev pub bad_response_error : Description → Attributes → List Finding
-bad_response_error d a = bad_error d a.node a.response_error
+bad_response_error d a = bad_error d a a.response_error
 
 -- ---- 59 BadConfigurable: no frame of the node (section 9.2.2.2)
 

@@ -3,7 +3,8 @@
 ghost use Rattle.std.specs.Prelude.{◌≡◌, ◌++◌, OnOk, false};
 ghost use Rattle.std.specs.Option.{option_map_or};
 ghost use Rattle.lin_cluster.specs.FindingsNames.{signal_named};
-ghost use Rattle.lin_cluster.specs.Lint.{unscheduled, is_off, is_error_bit};
+ghost use Rattle.lin_cluster.specs.Lint.{unscheduled, is_off, is_j2602, has_error_size};
+ghost use Rattle.lin_cluster.specs.Lint.{is_response_error};
 
 use super::configurable::{Configurable, bad_configurables};
 use super::uses::{Uses, is_of_text};
@@ -156,13 +157,32 @@ impl<'a> Finds<Name> for Uses<'a> {
     }
 }
 
-// Whether the name is that of a signal of one bit that the node publishes.
-fn is_error_bit(uses: &Uses, node: &Name, name: &Name) -> bool
+// Whether a node's attributes tell a version of SAE J2602.
+fn is_j2602(block: &Attributes) -> bool
+    ensures { result ≡ is_j2602 block.now }
+{
+    match &block.protocol {
+        Some(version) => version.as_slice().starts_with(b"J2602".as_slice()),
+        None => false,
+    }
+}
+
+// A bit, or the status byte of a node of SAE J2602.
+fn has_error_size(block: &Attributes, size: u32) -> bool
+    ensures { result ≡ has_error_size block.now size }
+{
+    size == 1 || is_j2602(block) && size == 8
+}
+
+// Whether the name is that of a signal of such a size that the node publishes.
+fn is_response_error(uses: &Uses, block: &Attributes, name: &Name) -> bool
     ensures { result
-        ≡ option_map_or (is_error_bit node.now) (signal_named uses.now name.now) false }
+        ≡ option_map_or (is_response_error block.now) (signal_named uses.now name.now) false }
 {
     match uses.signal(name) {
-        Some(signal) => is_name(&signal.publisher, node) && signal.size.value == 1,
+        Some(signal) => {
+            is_name(&signal.publisher, &block.node) && has_error_size(block, signal.size.value)
+        }
         None => false,
     }
 }
@@ -177,7 +197,7 @@ impl<'a> Finds<Attributes> for Uses<'a> {
         match &block.response_error {
             Some(name) => push_when(
                 found,
-                !is_error_bit(self, &block.node, name),
+                !is_response_error(self, block, name),
                 at_name(FindingKind::BadResponseError, name),
             ),
             None => Ok(()),
