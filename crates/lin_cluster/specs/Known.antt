@@ -3,6 +3,8 @@
 use Rattle.std.specs.Prelude.{◌≡◌, ℕ, List, Option, Bool, map}
 use Rattle.std.specs.List.{list_any}
 use Rattle.std.specs.Option.{option_map, option_or}
+use Rattle.lin_cluster_parts.specs.declared.parts.Signal as cluster
+use Rattle.lin_cluster.specs.Described.{signals_of}
 use Rattle.lin_cluster.specs.FindingsNames.{frame_named, sporadic_named, event_named}
 use Rattle.lin_cluster.specs.FindingsNames.{is_event_entry}
 use Rattle.lin_cluster.specs.FindingsNodes.{node_of}
@@ -45,6 +47,12 @@ IsKnown d slaves blocks signals frames sporadic events tables told =
     × AreFrameNumbers d frames sporadic events
     × NumbersFirst (λ t. t.name) d.tables tables
     × (told ≡ has_version_1 d)
+
+-- the signals that a description says, and their numbers
+abbrev pub AreNumberedSignals : {S : Type 0} → Description → List cluster.Signal
+    → IndexMap (Bor (List ℕ)) ℕ S → Type 0
+AreNumberedSignals d signals numbers =
+    (signals ≡ signals_of d) × NumbersFirst (λ s. s.name) d.signals numbers
 
 -- what is asked of a signal wherever a frame places it
 abbrev pub signal_facts : Description → Signal → SignalFacts

@@ -1,6 +1,6 @@
 //! The cluster that an LDF description says: a function for each kind of part. These are called
-//! where nothing was found, so that every number fits; names are looked up one by one, since a
-//! cluster's limits are small.
+//! where nothing was found, so that every number fits. Names are looked up one by one, since a
+//! cluster's limits are small; but for those of signals, of which there may be 1,024.
 
 ghost use Rattle.std.specs.Prelude.{◌≡◌, map, IfOk, OnOk};
 ghost use Rattle.lin_cluster.specs.Described.{parts_of};
@@ -10,6 +10,7 @@ ghost use Rattle.lin_cluster.specs.Models.{frame_model};
 use lin_cluster_parts::Parts;
 use lin_description::Description;
 use lin_frame::SumKind;
+use signals::NumberedSignals;
 use std::alloc::{AllocError, Global};
 
 mod errors;
@@ -33,12 +34,12 @@ pub(crate) fn parts_of(
     ensures parts { IfOk result (λ parts. parts ≡ parts_of d.now) }
     ensures members { OnOk result (HasMembers d.now) }
 {
-    let signals = signals::signals_of(alloc, d, d.signals())?;
-    let frames = frames::frames_of(alloc, d, signals.as_slice(), models, d.frames())?;
-    let errors = errors::error_signals(alloc, d, signals.as_slice(), frames.as_slice())?;
+    let signals = NumberedSignals::new(alloc, d)?;
+    let frames = frames::frames_of(alloc, d, &signals, models, d.frames())?;
+    let errors = errors::error_signals(alloc, d, &signals, frames.as_slice())?;
     Ok(Parts {
         nodes: nodes::nodes_of(alloc, d, d.slaves())?,
-        signals,
+        signals: signals.into_signals(),
         frames,
         sporadic: frames::sporadic_frames_of(alloc, d, d.sporadic())?,
         events: frames::events_of(alloc, d, models, d.events())?,

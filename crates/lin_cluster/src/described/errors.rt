@@ -4,14 +4,14 @@ ghost use Rattle.std.specs.Prelude.{◌≡◌, ◌≤◌, IfOk, false, length, m
 ghost use Rattle.std.specs.Prelude.{slice_index_or};
 ghost use Rattle.std.specs.List.{list_any};
 ghost use Rattle.std.specs.Option.{option_copied, option_map_or};
-ghost use Rattle.lin_cluster.specs.Described.{signals_of, frames_of, response_error};
+ghost use Rattle.lin_cluster.specs.Described.{frames_of, response_error};
 ghost use Rattle.lin_cluster.specs.Described.{is_error_signal, error_named, error_number, subscribes};
 ghost use Rattle.lin_cluster.specs.Described.{is_concerned, is_concerned_by, frames_concerning};
 ghost use Rattle.lin_cluster.specs.Described.{error_signal, error_signals};
 ghost use Rattle.lin_cluster.specs.Fitting.{FitsNumbers};
 
 use super::nodes::block_of;
-use super::numbers::signal_number;
+use super::signals::NumberedSignals;
 use crate::names::is_name;
 use lin_cluster_parts::{ErrorSignal, Signal, SignalFrame};
 use lin_description::{Description, Name};
@@ -35,27 +35,26 @@ fn is_error_signal(node: u8, signal: &Signal) -> bool
 }
 
 // The number of the signal with this name, where it may tell errors.
-fn error_named(d: &Description, signals: &[Signal], node: u8, name: &Name) -> Option<u16>
-    requires few { length d.now.signals ≤ 1024 }
-    requires all { signals.now ≡ signals_of d.now }
-    ensures { result ≡ error_named d.now node name.now }
+fn error_named(signals: &NumberedSignals, node: u8, name: &Name) -> Option<u16>
+    requires { length signals.now.signals ≤ 1024 }
+    ensures { result ≡ error_named signals.now node name.now }
 {
-    let number = signal_number(d, name);
-    match signals.get(usize::from(number)) {
+    let number = signals.number(name);
+    match signals.as_slice().get(usize::from(number)) {
         Some(signal) if is_error_signal(node, signal) => Some(number),
         _ => None,
     }
 }
 
 // The number of the signal by which a node tells errors.
-fn error_number(d: &Description, signals: &[Signal], node: u8) -> Option<u16>
+fn error_number(d: &Description, signals: &NumberedSignals, node: u8) -> Option<u16>
     requires few_slaves { length d.now.slaves ≤ 15 }
     requires few { length d.now.signals ≤ 1024 }
-    requires all { signals.now ≡ signals_of d.now }
+    requires all { signals.now ≡ d.now }
     ensures { result ≡ error_number d.now node }
 {
     match response_error(d, node) {
-        Some(name) => error_named(d, signals, node, name),
+        Some(name) => error_named(signals, node, name),
         None => None,
     }
 }
@@ -142,13 +141,13 @@ fn frames_concerning(
 fn error_signal(
     alloc: Global,
     d: &Description,
-    signals: &[Signal],
+    signals: &NumberedSignals,
     frames: &[SignalFrame],
     node: u8,
     name: &Name,
 ) -> Result<Option<ErrorSignal>, AllocError>
     requires few { FitsNumbers d.now }
-    requires signals { signals.now ≡ signals_of d.now }
+    requires signals { signals.now ≡ d.now }
     requires frames { frames.now ≡ frames_of d.now }
     ensures { IfOk result (λ made. made ≡ error_signal d.now (node, name.now)) }
 {
@@ -169,11 +168,11 @@ fn error_signal(
 pub(super) fn error_signals(
     alloc: Global,
     d: &Description,
-    signals: &[Signal],
+    signals: &NumberedSignals,
     frames: &[SignalFrame],
 ) -> Result<Many<ErrorSignal>, AllocError>
     requires few { FitsNumbers d.now }
-    requires signals { signals.now ≡ signals_of d.now }
+    requires signals { signals.now ≡ d.now }
     requires frames { frames.now ≡ frames_of d.now }
     ensures { IfOk result (λ all. all ≡ error_signals d.now) }
 {

@@ -3,15 +3,16 @@
 ghost use Rattle.std.specs.Prelude.{◌≡◌, ◌==◌, ◌<◌, ◌≤◌, ◌^◌, ℕ, All, IfOk, OnOk, length, map};
 ghost use Rattle.std.specs.List.{enumerate_from, list_any};
 ghost use Rattle.lin_frame.specs.Frame.{pid};
-ghost use Rattle.lin_cluster.specs.Described.{frame_number, signal_number, signals_of};
+ghost use Rattle.lin_cluster.specs.Described.{frame_number, signal_number};
 ghost use Rattle.lin_cluster.specs.Described.{described_place, described_layout, described_frame};
 ghost use Rattle.lin_cluster.specs.Described.{frames_of, members_of, sporadic_frames_of};
 ghost use Rattle.lin_cluster.specs.Described.{described_sporadic, described_event, events_of};
 ghost use Rattle.lin_cluster.specs.Fitting.{FitsFrame, FitsNumbers};
 ghost use Rattle.lin_cluster.specs.Models.{frame_model, model_named, first_model};
 
-use super::numbers::{frame_number, node_number, signal_number, table_number};
-use lin_cluster_parts::{EventFrame, Signal, SignalFrame, SporadicFrame};
+use super::numbers::{frame_number, node_number, table_number};
+use super::signals::NumberedSignals;
+use lin_cluster_parts::{EventFrame, SignalFrame, SporadicFrame};
 use lin_description::{Description, Frame, Name, PlacedSignal, Sporadic};
 use lin_frame::{FrameId, Layout, Place, SumKind, protected};
 use lin_lists::{Many, Text};
@@ -52,14 +53,14 @@ fn is_member(d: &Description, events: &[lin_description::EventFrame], frame: u16
     false
 }
 
-fn place_of(d: &Description, signals: &[Signal], placed: &PlacedSignal) -> Place
-    requires few { length d.now.signals ≤ 1024 }
-    requires all { signals.now ≡ signals_of d.now }
+fn place_of(signals: &NumberedSignals, placed: &PlacedSignal) -> Place
+    requires few { length signals.now.signals ≤ 1024 }
     requires fits { placed.now.offset.value < 2 ^ 8 }
-    ensures { result ≡ described_place d.now placed.now }
+    ensures { result ≡ described_place signals.now placed.now }
 {
     let offset = placed.offset.value as u8;
-    match signals.get(usize::from(signal_number(d, &placed.signal))) {
+    let number = signals.number(&placed.signal);
+    match signals.as_slice().get(usize::from(number)) {
         Some(signal) => signal.place_at(offset),
         None => Place {
             offset,
@@ -71,34 +72,32 @@ fn place_of(d: &Description, signals: &[Signal], placed: &PlacedSignal) -> Place
 
 fn places_of(
     alloc: Global,
-    d: &Description,
-    signals: &[Signal],
+    signals: &NumberedSignals,
     placed: &[PlacedSignal],
 ) -> Result<Many<Place>, AllocError>
-    requires few { length d.now.signals ≤ 1024 }
-    requires all { signals.now ≡ signals_of d.now }
+    requires few { length signals.now.signals ≤ 1024 }
     requires fit { All (λ p. p.offset.value < 2 ^ 8) placed.now }
-    ensures { IfOk result (λ places. places ≡ map (described_place d.now) placed.now) }
+    ensures { IfOk result (λ places. places ≡ map (described_place signals.now) placed.now) }
 {
     let mut places = Vec::new(alloc);
     for one in placed {
-        places.push(place_of(d, signals, one))?;
+        places.push(place_of(signals, one))?;
     }
     Ok(Many::new(places))
 }
 
 fn signals_in(
     alloc: Global,
-    d: &Description,
+    signals: &NumberedSignals,
     placed: &[PlacedSignal],
 ) -> Result<Many<u16>, AllocError>
-    requires few { length d.now.signals ≤ 1024 }
+    requires few { length signals.now.signals ≤ 1024 }
     ensures { IfOk result
-        (λ numbers. numbers ≡ map (λ p. signal_number d.now p.signal) placed.now) }
+        (λ numbers. numbers ≡ map (λ p. signal_number signals.now p.signal) placed.now) }
 {
     let mut numbers = Vec::new(alloc);
     for one in placed {
-        numbers.push(signal_number(d, &one.signal))?;
+        numbers.push(signals.number(&one.signal))?;
     }
     Ok(Many::new(numbers))
 }
@@ -106,12 +105,12 @@ fn signals_in(
 fn layout_of(
     alloc: Global,
     d: &Description,
-    signals: &[Signal],
+    signals: &NumberedSignals,
     number: u16,
     frame: &Frame,
 ) -> Result<Layout, AllocError>
     requires few { FitsNumbers d.now }
-    requires all { signals.now ≡ signals_of d.now }
+    requires all { signals.now ≡ d.now }
     requires fits { FitsFrame frame.now }
     ensures { IfOk result (λ layout. layout ≡ described_layout d.now (number, frame.now)) }
 {
@@ -124,20 +123,20 @@ fn layout_of(
     Ok(Layout {
         len: frame.size.value as u8,
         pid,
-        places: places_of(alloc, d, signals, frame.placed.as_slice())?,
+        places: places_of(alloc, signals, frame.placed.as_slice())?,
     })
 }
 
 fn frame_of(
     alloc: Global,
     d: &Description,
-    signals: &[Signal],
+    signals: &NumberedSignals,
     model: SumKind,
     number: u16,
     frame: &Frame,
 ) -> Result<SignalFrame, AllocError>
     requires few { FitsNumbers d.now }
-    requires all { signals.now ≡ signals_of d.now }
+    requires all { signals.now ≡ d.now }
     requires model { model ≡ frame_model d.now frame.now }
     requires fits { FitsFrame frame.now }
     ensures { IfOk result (λ made. made ≡ described_frame d.now (number, frame.now)) }
@@ -148,20 +147,20 @@ fn frame_of(
         model,
         publisher: node_number(d, &frame.publisher),
         layout: layout_of(alloc, d, signals, number, frame)?,
-        signals: signals_in(alloc, d, frame.placed.as_slice())?,
+        signals: signals_in(alloc, signals, frame.placed.as_slice())?,
     })
 }
 
 pub(super) fn frames_of(
     alloc: Global,
     d: &Description,
-    signals: &[Signal],
+    signals: &NumberedSignals,
     models: &[SumKind],
     frames: &[Frame],
 ) -> Result<Many<SignalFrame>, AllocError>
     requires few { FitsNumbers d.now }
     requires few_frames { length frames.now ≤ 60 }
-    requires all { signals.now ≡ signals_of d.now }
+    requires all { signals.now ≡ d.now }
     requires fit { All FitsFrame frames.now }
     requires models { models.now ≡ map (frame_model d.now) frames.now }
     ensures { IfOk result

@@ -2,7 +2,7 @@
 
 ghost use Rattle.std.specs.Prelude.{◌≡◌, ◌≤◌, length};
 ghost use Rattle.std.specs.List.{position_or_len};
-ghost use Rattle.lin_cluster.specs.Described.{node_number, signal_number, frame_number};
+ghost use Rattle.lin_cluster.specs.Described.{node_number, frame_number};
 ghost use Rattle.lin_cluster.specs.Described.{sporadic_number, event_number, table_number};
 ghost use Rattle.lin_cluster.specs.FindingsNames.{same_name};
 
@@ -29,14 +29,6 @@ pub(super) fn node_number(d: &Description, name: &Name) -> u8
     } else {
         1 + number_among(d.slaves(), name) as u8
     }
-}
-
-/// The number of a signal.
-pub(super) fn signal_number(d: &Description, name: &Name) -> u16
-    requires { length d.now.signals ≤ 1024 }
-    ensures { result ≡ signal_number d.now name.now }
-{
-    number_among(d.signals(), name) as u16
 }
 
 /// The number of a frame.

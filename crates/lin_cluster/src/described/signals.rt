@@ -1,16 +1,18 @@
 //! The signals that a description says.
 
 ghost use Rattle.std.specs.Prelude.{◌≡◌, ◌<◌, ◌≤◌, ◌^◌, All, IfOk, length, map};
-ghost use Rattle.lin_cluster.specs.Described.{initial_of, described_signal};
+ghost use Rattle.lin_cluster.specs.Described.{initial_of, described_signal, signals_of, signal_number};
 ghost use Rattle.lin_cluster.specs.Fitting.{FitsInitial, FitsSignal};
 
 use super::numbers::node_number;
+use crate::names::{Numbers, number_by, numbers_of};
 use arrayvec::ArrayVec;
 use lin_cluster_parts::Signal;
-use lin_description::{Description, Init, Number};
+use lin_description::{Description, Init, Name, Number};
 use lin_frame::{Value, ValueBytes};
 use lin_lists::{Many, Text};
 use std::alloc::{AllocError, Global};
+use std::marker::Model;
 
 fn bytes_of(items: &[Number]) -> ArrayVec<u8, 8>
     requires few { length items.now ≤ 8 }
@@ -51,7 +53,7 @@ fn signal_of(
     })
 }
 
-pub(super) fn signals_of(
+fn signals_of(
     alloc: Global,
     d: &Description,
     signals: &[lin_description::Signal],
@@ -65,4 +67,66 @@ pub(super) fn signals_of(
         made.push(signal_of(alloc, d, signal)?)?;
     }
     Ok(Many::new(made))
+}
+
+/// The signals that a description says, and their numbers by their names: there are up to 1,024, and
+/// each place in a frame names one. Contracts see the description.
+#[derive(Drop)]
+pub(super) struct NumberedSignals<'a> {
+    description: &'a Description,
+    signals: Many<Signal>,
+    numbers: Numbers<'a>,
+}
+
+impl<'a> Model for NumberedSignals<'a> {
+    ghost use Rattle.lin_cluster.specs.Known.{AreNumberedSignals};
+    ghost use Rattle.lin_description.specs.declared.description.Description.{Description};
+
+    ghost Value = { Description };
+
+    ghost view = { λ s. s.description.now };
+
+    ghost invariant = { λ s. AreNumberedSignals s.description.now s.signals s.numbers.map };
+}
+
+impl<'a> NumberedSignals<'a> {
+    /// An error means out of memory.
+    pub(super) fn new(
+        alloc: Global,
+        description: &'a Description,
+    ) -> Result<NumberedSignals<'a>, AllocError>
+        requires few { length description.now.slaves ≤ 15 }
+        requires fits { All FitsSignal description.now.signals }
+        ensures { IfOk result (λ s. s ≡ description.now) }
+    {
+        let signals = signals_of(alloc, description, description.signals())?;
+        let numbers = numbers_of(alloc, description.signals())?;
+        Ok(NumberedSignals {
+            description,
+            signals,
+            numbers,
+        })
+    }
+
+    /// The number of the signal with this name, or the one after the last.
+    #[tactic(auto, using(crate::proofs::Enumerated::number_within))]
+    pub(super) fn number(&self, name: &Name) -> u16
+        requires { length self.now.signals ≤ 1024 }
+        ensures { result ≡ signal_number self.now name.now }
+    {
+        number_by(&self.numbers, self.description.signals(), name) as u16
+    }
+
+    pub(super) fn as_slice(&self) -> &[Signal]
+        ensures { result.now ≡ signals_of self.now }
+    {
+        self.signals.as_slice()
+    }
+
+    pub(super) fn into_signals(self) -> Many<Signal>
+        ensures { result ≡ signals_of self.entry }
+    {
+        let NumberedSignals { signals, .. } = self;
+        signals
+    }
 }
