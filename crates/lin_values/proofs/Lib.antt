@@ -41,6 +41,8 @@ pub mod SoughtParts
 pub mod Spacing
 pub mod SpelledSteps
 pub mod SpelledValues
+pub mod Unmentioned
+pub mod UnmentionedSections
 pub mod UnusedEncodings
 pub mod WaysBack
 pub mod Wide

@@ -46,3 +46,12 @@ module _ {X : Type 0} (measure : X → ℕ) (test : X → Bool) (step : X → X)
             let more : measure (steps_while n test step (step x)) ≤ measure (step x) = steps-keep n (step x) in omega arith
         | false ↦ λ e. omega arith
       ] refl
+
+-- what each step keeps
+pub steps-hold : {X : Type 0} (P : X → Type 0) (test : X → Bool) (step : X → X) → ((x : X) → P x → P (step x)) → (n : ℕ) (x : X) → P x → P (steps_while n test step x)
+steps-hold P test step keeps zero x holds = holds
+steps-hold P test step keeps (suc n) x holds =
+    elim (test x) as (λ b. P (cond b (steps_while n test step (step x)) x)) [
+      | true ↦ steps-hold P test step keeps n (step x) (keeps x holds)
+      | false ↦ holds
+    ]

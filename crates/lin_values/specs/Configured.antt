@@ -32,9 +32,14 @@ with_attribute x =
 abbrev pub listed_names : List Symbol → List Symbol × List Name
 listed_names ts = repeated with_attribute (tail ts, [])
 
+-- the frames of a node more, if it lists any
+abbrev pub listed : Name → List Name → List Configurable → List Configurable
+listed node [] cs = cs
+listed node (n ∷ ns) cs = cs ++ record { node = node; frames = n ∷ ns } ∷ []
+
 abbrev pub with_listed : Name → List Symbol × List Name → List Configurable
     → List Symbol × List Configurable
-with_listed node read cs = (read.0, cs ++ record { node = node; frames = read.1 } ∷ [])
+with_listed node read cs = (read.0, listed node read.1 cs)
 
 -- the attributes of a node, which begin with its name
 abbrev pub with_block : List Symbol × List Configurable → List Symbol × List Configurable

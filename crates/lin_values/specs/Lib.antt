@@ -7,6 +7,7 @@ pub mod Real
 pub mod Spelled
 pub mod Texts
 pub mod Passed
+pub mod Mentioned
 pub mod Coding
 pub mod Reading
 pub mod Configured

@@ -13,6 +13,7 @@ ghost use Rattle.lin_values.specs.Configured.{with_statement};
 ghost use Rattle.lin_values.specs.Passed.{has_line};
 
 use crate::lines::{has_line, pass_closing, pass_group, pass_line};
+use crate::mentioned::mentions;
 use lin_cluster::Configurable;
 use lin_description::{Name, Place};
 use lin_ldf::{Parser, TokenKind};
@@ -84,7 +85,7 @@ fn listed_names(parser: &mut Parser<'_>) -> Result<Vec<Name>, AllocError>
     Ok(names)
 }
 
-/// The attributes of a node.
+/// The attributes of a node, which count where they list a frame.
 fn add_block(parser: &mut Parser<'_>, all: &mut Vec<Configurable>) -> Result<(), AllocError>
     requires { has_line parser.old ≡ true }
     ensures { OnOk result ((parser.new, all.new.items) ≡ with_block (parser.old, all.old.items)) }
@@ -95,8 +96,11 @@ fn add_block(parser: &mut Parser<'_>, all: &mut Vec<Configurable>) -> Result<(),
         pass_line(parser);
         return Ok(());
     }
-    let frames = Many::new(listed_names(parser)?);
-    all.push(Configurable { node, frames })?;
+    let names = listed_names(parser)?;
+    if !names.is_empty() {
+        let frames = Many::new(names);
+        all.push(Configurable { node, frames })?;
+    }
     Ok(())
 }
 
@@ -137,8 +141,9 @@ fn add_statement(parser: &mut Parser<'_>, all: &mut Vec<Configurable>) -> Result
     }
 }
 
-/// The frames that the attributes of each node list as configurable (LIN 2.2A, section 9.2.2.2), for
-/// `lint`: a list, which may be empty, for each block of attributes.
+/// The frames that the attributes of nodes list as configurable (LIN 2.2A, section 9.2.2.2), for
+/// `lint`: for each block of attributes that lists any. A text that doesn't mention such a list is
+/// only searched for the word.
 ///
 /// The text is one that was read as an LDF text; of any other the tokens before the first fault of
 /// its tokens are read. An error means out of memory.
@@ -148,8 +153,11 @@ pub fn read_configurables(alloc: Global, source: &[u8]) -> Result<Many<Configura
     ensures tokens { (ts : List Token) → AreTokens source.now ts
         → IfOk result (λ c. c ≡ configurables (symbols_in source.now ts)) }
 {
-    let mut parser = Parser::new(alloc, source);
     let mut all = Vec::new(alloc);
+    if !mentions(source, b"configurable_frames") {
+        return Ok(Many::new(all));
+    }
+    let mut parser = Parser::new(alloc, source);
     while parser.front_kind().is_some() {
         add_statement(&mut parser, &mut all)?;
     }

@@ -21,6 +21,7 @@ mod layers;
 mod limits;
 mod lines;
 mod meaning;
+mod mentioned;
 mod nearest;
 mod numbers;
 mod raws;

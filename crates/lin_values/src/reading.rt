@@ -1,19 +1,20 @@
 //! The two sections of encodings, read from a text. What is in no form is noted, and passed over.
 
-ghost use Rattle.std.specs.Prelude.{◌≡◌, IfOk, List, OnOk, true};
+ghost use Rattle.std.specs.Prelude.{◌≡◌, IfOk, List, OnOk, false, true};
 ghost use Rattle.lin_ldf.specs.Forms.{Gives, has_front};
 ghost use Rattle.lin_ldf.specs.Symbols.{symbols_in};
 ghost use Rattle.lin_ldf.specs.Stream.{start_of};
 ghost use Rattle.lin_ldf.specs.Tokens.{AreTokens};
 ghost use Rattle.lin_ldf.specs.declared.token.Token.{Token};
 ghost use Rattle.lin_values.specs.Passed.{has_line};
-ghost use Rattle.lin_values.specs.Reading.{IsOrBad, codings, found_of, with_item, with_items};
-ghost use Rattle.lin_values.specs.Reading.{with_line, with_lines, with_statement, with_type};
-ghost use Rattle.lin_values.specs.Reading.{with_types};
+ghost use Rattle.lin_values.specs.Reading.{IsOrBad, codings, found_of, nothing_read, with_item};
+ghost use Rattle.lin_values.specs.Reading.{with_items, with_line, with_lines, with_statement};
+ghost use Rattle.lin_values.specs.Reading.{with_type, with_types};
 
 use crate::grammar::{coded_line, item, type_head};
 use crate::items::{CodedLine, CodingType, Codings, PlacedItem};
 use crate::lines::{has_line, pass_closing, pass_group, pass_line};
+use crate::mentioned::mentions;
 use lin_description::Place;
 use lin_ldf::{LdfFault, Parser, TokenKind};
 use lin_lists::Many;
@@ -169,9 +170,38 @@ fn add_statement(parser: &mut Parser<'_>, found: &mut Found) -> Result<(), Alloc
     }
 }
 
+/// Whether a text may have one of the two sections.
+fn may_have_sections(source: &[u8]) -> bool
+    ensures { (ts : List Token) → result ≡ false
+        → codings (symbols_in source.now ts) ≡ nothing_read }
+{
+    mentions(source, b"Signal_encoding_types") || mentions(source, b"Signal_representation")
+}
+
+/// What the two sections of a text say.
+fn found_in(alloc: Global, source: &[u8]) -> Result<Found, AllocError>
+    ensures { IfOk result
+        (λ f. found_of f ≡ codings (symbols_in source.now (start_of source.now).tokens)) }
+{
+    let mut found = Found {
+        types: Vec::new(alloc),
+        lines: Vec::new(alloc),
+        bad: Vec::new(alloc),
+    };
+    if !may_have_sections(source) {
+        return Ok(found);
+    }
+    let mut parser = Parser::new(alloc, source);
+    while parser.front_kind().is_some() {
+        add_statement(&mut parser, &mut found)?;
+    }
+    Ok(found)
+}
+
 /// What the sections `Signal_encoding_types` and `Signal_representation` of an LDF text say (LIN
 /// 2.2A, section 9.2.6), wherever they stand among its sections. It is never a fault: a line that is
-/// in no form is noted, and reading goes on behind the next semicolon of its depth.
+/// in no form is noted, and reading goes on behind the next semicolon of its depth. A text that
+/// doesn't mention the sections is only searched for their words.
 ///
 /// The text is one that was read as an LDF text; of any other the tokens before the first fault of
 /// its tokens are read. An error means out of memory.
@@ -181,16 +211,7 @@ pub fn read_codings(alloc: Global, source: &[u8]) -> Result<Codings, AllocError>
     ensures tokens { (ts : List Token) → AreTokens source.now ts
         → IfOk result (λ c. c ≡ codings (symbols_in source.now ts)) }
 {
-    let mut parser = Parser::new(alloc, source);
-    let mut found = Found {
-        types: Vec::new(alloc),
-        lines: Vec::new(alloc),
-        bad: Vec::new(alloc),
-    };
-    while parser.front_kind().is_some() {
-        add_statement(&mut parser, &mut found)?;
-    }
-    let Found { types, lines, bad } = found;
+    let Found { types, lines, bad } = found_in(alloc, source)?;
     Ok(Codings {
         types: Many::new(types),
         lines: Many::new(lines),

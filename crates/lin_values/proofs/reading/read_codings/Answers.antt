@@ -1,23 +1,12 @@
-use Rattle.std.proofs.Common.{◌≡◌, ◌∙◌, List, ap, sym}
-use Rattle.lin_ldf.specs.Symbols.{Symbol, symbols_in}
+use Rattle.std.proofs.Common.{◌≡◌, ◌∙◌, ap}
+use Rattle.lin_ldf.specs.Symbols.{symbols_in}
 use Rattle.lin_ldf.specs.Stream.{start_of}
-use Rattle.lin_values.specs.Reading.{codings, found_of, nothing_read}
-use Rattle.lin_values.specs.declared.items.Codings.{Codings}
-use Rattle.lin_values.proofs.ReadingSteps.{statements_from, statement-more, statement-less, statements-done, is-left, tokens-are}
+use Rattle.lin_values.specs.Reading.{codings}
+use Rattle.lin_values.proofs.ReadingSteps.{tokens-are}
 use Rattle.lin_values.proofs.reading.read_codings.Goals as goal
 
-pub loop-parser-preserved : goal.loop-parser-preserved
-loop-parser-preserved c =
-    statement-more (c.loop-parser.parser, found_of c.loop-parser.found) (c.add_statement.new.parser, found_of c.add_statement.new.found) (statements_from (symbols_in c.args.source.now (start_of c.args.source.now).tokens, nothing_read)) (is-left c.loop-parser.parser c.front_kind.result c.is_some.result c.front_kind.ensures c.is_some.ensures ∙ c.loop-parser-test.true) c.in_ok-add_statement.ensures c.loop-parser.invariant
-
-pub loop-parser-smaller : goal.loop-parser-smaller
-loop-parser-smaller c =
-    statement-less (c.loop-parser.parser, found_of c.loop-parser.found) (c.add_statement.new.parser, found_of c.add_statement.new.found) (is-left c.loop-parser.parser c.front_kind.result c.is_some.result c.front_kind.ensures c.is_some.ensures ∙ c.loop-parser-test.true) c.in_ok-add_statement.ensures
-
-all-read : (c : goal.After-new-6) → record { types = c.new-4.result; lines = c.new-5.result; bad = c.new-6.result } ≡ codings (symbols_in c.args.source.now (start_of c.args.source.now).tokens)
-all-read c =
-    let done = statements-done (c.loop-parser.parser, found_of c.loop-parser.found) (statements_from (symbols_in c.args.source.now (start_of c.args.source.now).tokens, nothing_read)) (is-left c.loop-parser.parser c.front_kind.result c.is_some.result c.front_kind.ensures c.is_some.ensures ∙ c.loop-parser-test.false) c.loop-parser.invariant in
-    rw (c.new-4.ensures, c.new-5.ensures, c.new-6.ensures) (sym (ap (λ (x : List Symbol × Codings). x.1) done))
+all-read : (c : goal.After-new-3) → record { types = c.new.result; lines = c.new-2.result; bad = c.new-3.result } ≡ codings (symbols_in c.args.source.now (start_of c.args.source.now).tokens)
+all-read c = rw (c.new.ensures, c.new-2.ensures, c.new-3.ensures) c.in_ok-types.ensures
 
 pub returns : goal.returns
 returns c = record {

@@ -3,7 +3,7 @@ use Rattle.lin_ldf.specs.Symbols.{symbols_in}
 use Rattle.lin_ldf.specs.Stream.{start_of}
 use Rattle.lin_values.specs.Reading.{found_of, nothing_read}
 use Rattle.lin_values.proofs.ReadingSteps.{statements_from}
-use Rattle.lin_values.proofs.reading.read_codings.Given as goal
+use Rattle.lin_values.proofs.reading.found_in.Given as goal
 
 abbrev pub invariant-loop-parser : goal.invariant-loop-parser
 invariant-loop-parser l = statements_from (l.parser, found_of l.found) ≡ statements_from (symbols_in l.fn.source (start_of l.fn.source).tokens, nothing_read)
