@@ -246,7 +246,7 @@ static LINTS: [(&str, &str); 10] = [
     ),
     (
         "a response_error that names no signal, or one that the node doesn't publish, or one that \
-         hasn't 1 bit",
+         hasn't 1 bit (or 8, where the node's LIN_protocol begins with J2602)",
         "name a signal of 1 bit that the node publishes",
     ),
     (
