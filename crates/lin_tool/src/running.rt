@@ -76,7 +76,7 @@ fn undisturbed(alloc: Global, slots: u32, nodes: usize) -> Result<Plan, AllocErr
 
 /// Runs the tasks, one for each host, as planned. (The core is owned here alone, since letting one
 /// go is long to prove.)
-fn run_tasks<R: AllocGlobal + Threads + Wait>(
+fn run_tasks<R: AllocGlobal + Threads + Wait + Copy + Send + 'static>(
     rt: &R,
     cluster: Cluster,
     table: u16,
@@ -101,7 +101,7 @@ fn run_tasks<R: AllocGlobal + Threads + Wait>(
 }
 
 /// Runs a task for the steps of each host.
-fn run_steps<R: AllocGlobal + Threads + Wait>(
+fn run_steps<R: AllocGlobal + Threads + Wait + Copy + Send + 'static>(
     rt: &R,
     cluster: Cluster,
     table: u16,
@@ -165,7 +165,7 @@ fn put_report<W: Write>(
 
 /// Runs the steps on standard input over a cluster. (The cluster is owned here, and the core
 /// above.)
-fn run_over<R: AllocGlobal + Input + Print + Eprint + Threads + Wait>(
+fn run_over<R: AllocGlobal + Input + Print + Eprint + Threads + Wait + Copy + Send + 'static>(
     rt: &R,
     opened: Opened,
     settings: &Settings<'_>,
@@ -215,7 +215,9 @@ fn run_over<R: AllocGlobal + Input + Print + Eprint + Threads + Wait>(
 /// `NoThread`; `LogFull`. Nothing was written then. `WriteFailed`, and in a format other than the
 /// log's own text `OutOfMemory`, where what was written is the beginning of the whole. `TaskLimit`,
 /// after all was written.
-pub fn run<R: AllocGlobal + Files + Input + Print + Eprint + Threads + Wait>(
+pub fn run<
+    R: AllocGlobal + Files + Input + Print + Eprint + Threads + Wait + Copy + Send + 'static,
+>(
     rt: &R,
     settings: &Settings<'_>,
     slots: u32,

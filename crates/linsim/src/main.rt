@@ -26,7 +26,10 @@ struct Terminals {
 
 /// Does what is asked for; where standard error is watched, a run says there that it begins. A play
 /// says there what is wrong with its script.
-fn perform<R: AllocGlobal + Files + Input + Print + Eprint + Threads + Wait, W: Write>(
+fn perform<
+    R: AllocGlobal + Files + Input + Print + Eprint + Threads + Wait + Copy + Send + 'static,
+    W: Write,
+>(
     rt: &R,
     request: Request<'_>,
     is_watched: bool,
@@ -64,12 +67,10 @@ fn is_read(request: Request<'_>) -> bool {
 
 /// Does what is asked for, writes what is to be said of a fault on standard error, and gives the
 /// exit status.
-fn answer<R: AllocGlobal + Files + Input + Print + Eprint + Threads + Wait, W: Write>(
-    rt: &R,
-    asked: Asked<'_>,
-    terminals: Terminals,
-    errors: &mut W,
-) -> ExitCode {
+fn answer<
+    R: AllocGlobal + Files + Input + Print + Eprint + Threads + Wait + Copy + Send + 'static,
+    W: Write,
+>(rt: &R, asked: Asked<'_>, terminals: Terminals, errors: &mut W) -> ExitCode {
     let Asked { request, wanted } = asked;
     if wanted.explained && terminals.input && is_read(request) {
         let _ = eprintln!(rt; "linsim: reads from the terminal, up to its end (Ctrl-D)");
@@ -105,11 +106,10 @@ fn unread<R: Eprint>(rt: &R, error: &io::Error) -> Result<ExitCode, Fault> {
     Ok(ExitCode::from(COMMAND_LINE))
 }
 
-fn run<R: AllocGlobal + Env + Files + Input + Print + Eprint + Threads + Wait, W: Write>(
-    rt: &R,
-    terminals: Terminals,
-    errors: &mut W,
-) -> Result<ExitCode, Fault> {
+fn run<
+    R: AllocGlobal + Env + Files + Input + Print + Eprint + Threads + Wait + Copy + Send + 'static,
+    W: Write,
+>(rt: &R, terminals: Terminals, errors: &mut W) -> Result<ExitCode, Fault> {
     let alloc = rt.alloc();
     let words: Vec<String> = match std::env::args(rt) {
         Ok(all) => all.collect(alloc)?,
