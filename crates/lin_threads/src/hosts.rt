@@ -8,12 +8,13 @@ use crate::shared::Shared;
 use crate::starting::Finished;
 use crate::tasks::{HostTask, Turn};
 use std::alloc::Global;
-use std::sync::Arc;
+use std::sync::{Arc, Wait};
 use std::thread;
 
 /// Gives a task its turns on its port: until it is done, or had as many as it may take, or the run
-/// ends early.
+/// ends early. The thread of an idle task sleeps until the run's slots are over.
 fn take_turns(
+    rt: &impl Wait,
     mut task: Box<dyn HostTask + Send>,
     port: &mut HostPort,
     shared: &Shared,
@@ -28,6 +29,7 @@ fn take_turns(
         let over = shared.is_over();
         match task.turn(port, over) {
             Turn::Done => return Ended::Done,
+            Turn::Again if !over && task.is_idle() => shared.sleep_host(rt, port.number),
             Turn::Again => thread::yield_now(),
         }
     }
@@ -36,6 +38,7 @@ fn take_turns(
 
 /// The whole of a host's thread.
 pub(crate) fn run_task(
+    rt: &impl Wait,
     task: Box<dyn HostTask + Send>,
     mut port: HostPort,
     shared: Arc<Shared, Global>,
@@ -43,7 +46,7 @@ pub(crate) fn run_task(
 ) -> Finished
     ensures { IsFurther (host_state port) (receipt_state result.receipt) }
 {
-    let ended = take_turns(task, &mut port, &shared, turns);
+    let ended = take_turns(rt, task, &mut port, &shared, turns);
     let receipt = port.end();
     shared.end();
     Finished { receipt, ended }

@@ -11,8 +11,11 @@ use crate::shared::Shared;
 use crate::starting::Finished;
 use lin_core::Event;
 use std::alloc::Global;
-use std::sync::Arc;
+use std::sync::{Arc, Wait};
 use std::thread;
+
+/// How often a node's thread looks for a note in vain, and gives way, before it sleeps.
+const LOOKS: u32 = 16;
 
 /// Whether a note says that the node is due.
 fn is_due(note: &Note) -> bool
@@ -67,30 +70,51 @@ fn answer_note(port: &mut NodePort, shared: &Shared, leave: &[u32], due: u64, no
     due + 1
 }
 
+/// Gives way to other threads, or sleeps until the node is woken where it has looked in vain often
+/// enough. How often it has looked in vain since it last slept.
+fn rest(rt: &impl Wait, shared: &Shared, number: u8, looks: u32) -> u32 {
+    if looks < LOOKS {
+        thread::yield_now();
+        looks + 1
+    } else {
+        shared.sleep_node(rt, number);
+        0
+    }
+}
+
 /// Answers each slot in which the node is due, or leaves its response out where its list has the
 /// number of that slot among those in which it was due; until the run's slots are over and no note
 /// is left.
-fn answer_all(port: &mut NodePort, shared: &Shared, leave: &[u32])
+fn answer_all(rt: &impl Wait, port: &mut NodePort, shared: &Shared, leave: &[u32])
     ensures further { IsFurther (node_state port.old) (node_state port.new) }
     ensures listed { (due : ℕ) × FollowsList leave.now due port.old (node_state port.new) }
 {
     let mut due = 0;
+    let mut looks = 0;
     for _ in 0..u64::MAX {
         let over = shared.is_over();
         match port.take() {
-            Some(note) => due = answer_note(port, shared, leave, due, note),
+            Some(note) => {
+                due = answer_note(port, shared, leave, due, note);
+                looks = 0;
+            }
             None if over => return,
-            None => thread::yield_now(),
+            None => looks = rest(rt, shared, port.number, looks),
         }
     }
 }
 
 /// The whole of a node's thread.
-pub(crate) fn run_node(mut port: NodePort, leave: Vec<u32>, shared: Arc<Shared, Global>) -> Finished
+pub(crate) fn run_node(
+    rt: &impl Wait,
+    mut port: NodePort,
+    leave: Vec<u32>,
+    shared: Arc<Shared, Global>,
+) -> Finished
     ensures further { IsFurther (node_state port) (receipt_state result.receipt) }
     ensures listed { (due : ℕ) × FollowsList leave.items due port (receipt_state result.receipt) }
 {
-    answer_all(&mut port, &shared, leave.as_slice());
+    answer_all(rt, &mut port, &shared, leave.as_slice());
     let receipt = port.end();
     shared.end();
     Finished {

@@ -117,7 +117,7 @@ struct Players {
 }
 
 /// Starts the threads, makes the slots, and makes rounds until all threads have ended.
-fn drive<R: Threads + Wait>(
+fn drive<R: Threads + Wait + Copy + Send + 'static>(
     rt: &R,
     alloc: Global,
     pump: &mut Pump,
@@ -145,14 +145,21 @@ fn drive<R: Threads + Wait>(
     } = players;
     start_hosts(rt, threads, hosts, tasks, plan.turns, shared)?;
     start_nodes(rt, threads, nodes, plan.leave, shared)?;
-    all_slots(alloc, pump, plan.slots, plan.rounds, plan.hurt.as_slice())?;
+    all_slots(
+        alloc,
+        pump,
+        shared,
+        plan.slots,
+        plan.rounds,
+        plan.hurt.as_slice(),
+    )?;
     shared.finish();
     make_last_rounds(rt, pump, shared, threads.len() as u64)
 }
 
 /// Runs the threads and the slots, and settles each port. All memory is asked for before the first
 /// thread starts.
-fn run<R: Threads + Wait>(
+fn run<R: Threads + Wait + Copy + Send + 'static>(
     rt: &R,
     alloc: Global,
     pump: &mut Pump,
@@ -175,7 +182,8 @@ fn run<R: Threads + Wait>(
 {
     let tasks = players.tasks.len();
     let ports = players.hosts.len() + players.nodes.len();
-    let Ok(shared) = Arc::new(alloc, Shared::new()) else {
+    let shared = Shared::new(alloc, tasks, players.nodes.len())?;
+    let Ok(shared) = Arc::new(alloc, shared) else {
         return Err(RunFault::OutOfMemory);
     };
     let mut threads = Vec::with_capacity(alloc, ports)?;
@@ -202,7 +210,7 @@ fn run<R: Threads + Wait>(
 ///
 /// The ports must be those of this pump, with one task and one list of left-out slots per node.
 /// After each fault all threads have ended.
-pub fn run_cluster<R: Threads + Wait>(
+pub fn run_cluster<R: Threads + Wait + Copy + Send + 'static>(
     rt: &R,
     alloc: Global,
     mut pump: Pump,

@@ -89,4 +89,9 @@ impl HostTask for ScriptTask {
             Turn::Again
         }
     }
+
+    /// Whether no step is left.
+    fn is_idle(&self) -> bool {
+        self.is_empty()
+    }
 }

@@ -6,7 +6,8 @@ ghost use Rattle.lin_threads.specs.Runs.{Advances, MakesAtMost, bus_steps, damag
 
 use crate::ports::Pump;
 use crate::runs::RunFault;
-use lin_core::{Payload, Step};
+use crate::shared::Shared;
+use lin_core::{Payload, PortId, Step};
 use std::alloc::Global;
 use std::thread;
 
@@ -21,9 +22,17 @@ fn own(pump: &mut Pump, step: Step) -> Result<(), RunFault>
     }
 }
 
+/// Wakes each node whose port was given notes since it was last woken.
+fn wake_told(pump: &Pump, shared: &Shared) {
+    let nodes = pump.core().cluster().nodes() as u8;
+    for number in 0..nodes {
+        shared.wake_node(number, pump.given(PortId::Node(number)));
+    }
+}
+
 /// Makes rounds until one was made and each node that is due has answered or left its response out,
 /// or until so many were made.
-fn make_rounds(pump: &mut Pump, rounds: u32) -> Result<(), RunFault>
+fn make_rounds(pump: &mut Pump, shared: &Shared, rounds: u32) -> Result<(), RunFault>
     ensures advances { OnOk result (Advances pump.old pump.new []) }
     ensures most { OnOk result (MakesAtMost rounds pump.old pump.new) }
     ensures stops { IfErr result (λ e. StopsFor pump.old pump.new e) }
@@ -35,6 +44,7 @@ fn make_rounds(pump: &mut Pump, rounds: u32) -> Result<(), RunFault>
         if pump.core().undecided() == 0 {
             return Ok(());
         }
+        wake_told(pump, shared);
         thread::yield_now();
     }
     Ok(())
@@ -60,6 +70,7 @@ fn hurt_slot(alloc: Global, pump: &mut Pump, number: u32, hurt: &[u32]) -> Resul
 fn one_slot(
     alloc: Global,
     pump: &mut Pump,
+    shared: &Shared,
     number: u32,
     rounds: u32,
     hurt: &[u32],
@@ -68,7 +79,7 @@ fn one_slot(
     ensures stops { IfErr result (λ e. StopsFor pump.old pump.new e) }
 {
     own(pump, Step::Open)?;
-    make_rounds(pump, rounds)?;
+    make_rounds(pump, shared, rounds)?;
     hurt_slot(alloc, pump, number, hurt)?;
     own(pump, Step::Finish)
 }
@@ -77,6 +88,7 @@ fn one_slot(
 pub(crate) fn all_slots(
     alloc: Global,
     pump: &mut Pump,
+    shared: &Shared,
     slots: u32,
     rounds: u32,
     hurt: &[u32],
@@ -85,7 +97,7 @@ pub(crate) fn all_slots(
     ensures stops { IfErr result (λ e. StopsFor pump.old pump.new e) }
 {
     for number in 0..slots {
-        one_slot(alloc, pump, number, rounds, hurt)?;
+        one_slot(alloc, pump, shared, number, rounds, hurt)?;
     }
     Ok(())
 }

@@ -18,7 +18,7 @@ use crate::shared::Shared;
 use crate::tasks::HostTask;
 use std::alloc::Global;
 use std::snapshot::Snapshot;
-use std::sync::Arc;
+use std::sync::{Arc, Wait};
 use std::thread;
 use std::thread::{Promise, PromisedHandle, Threads};
 
@@ -50,8 +50,8 @@ impl Promise<Finished> for Keeps {
 pub(crate) type Handle = PromisedHandle<Finished, Keeps>;
 
 /// Starts the thread of a host.
-fn start_host(
-    rt: &impl Threads,
+fn start_host<R: Threads + Wait + Copy + Send + 'static>(
+    rt: &R,
     port: HostPort,
     task: Box<dyn HostTask + Send>,
     turns: u32,
@@ -61,13 +61,14 @@ fn start_host(
     ensures list { IfOk result (λ h. list_lent h.promise ≡ None) }
     ensures refused { IfErr result (λ e. e ≡ NoThread) }
 {
+    let own = *rt;
     let promise = Keeps::Host(Snapshot::of(&port));
     let started = thread::spawn_with(
         rt,
         promise,
         move || -> Finished
             ensures { IsFurther (host_state port) (receipt_state result.receipt) }
-        { run_task(task, port, shared, turns) },
+        { run_task(&own, task, port, shared, turns) },
     );
     match started {
         Ok(handle) => Ok(handle),
@@ -76,8 +77,8 @@ fn start_host(
 }
 
 /// Starts the thread of a node.
-fn start_node(
-    rt: &impl Threads,
+fn start_node<R: Threads + Wait + Copy + Send + 'static>(
+    rt: &R,
     port: NodePort,
     leave: Vec<u32>,
     shared: Arc<Shared, Global>,
@@ -86,6 +87,7 @@ fn start_node(
     ensures list { IfOk result (λ h. list_lent h.promise ≡ Some (port, leave.items)) }
     ensures refused { IfErr result (λ e. e ≡ NoThread) }
 {
+    let own = *rt;
     let promise = Keeps::Node(Snapshot::of(&port), Snapshot::of(&leave));
     let started = thread::spawn_with(
         rt,
@@ -94,7 +96,7 @@ fn start_node(
             ensures further { IsFurther (node_state port) (receipt_state result.receipt) }
             ensures listed { (due : ℕ)
                 × FollowsList leave.items due port (receipt_state result.receipt) }
-        { run_node(port, leave, shared) },
+        { run_node(&own, port, leave, shared) },
     );
     match started {
         Ok(handle) => Ok(handle),
@@ -113,8 +115,8 @@ fn another(shared: &Arc<Shared, Global>) -> Result<Arc<Shared, Global>, RunFault
 }
 
 /// Starts the threads of hosts.
-pub(crate) fn start_hosts(
-    rt: &impl Threads,
+pub(crate) fn start_hosts<R: Threads + Wait + Copy + Send + 'static>(
+    rt: &R,
     started: &mut Vec<Handle>,
     ports: Vec<HostPort>,
     tasks: Vec<Box<dyn HostTask + Send>>,
@@ -142,8 +144,8 @@ pub(crate) fn start_hosts(
 }
 
 /// Starts the threads of nodes.
-pub(crate) fn start_nodes(
-    rt: &impl Threads,
+pub(crate) fn start_nodes<R: Threads + Wait + Copy + Send + 'static>(
+    rt: &R,
     started: &mut Vec<Handle>,
     ports: Vec<NodePort>,
     leave: Vec<Vec<u32>>,

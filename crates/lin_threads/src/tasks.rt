@@ -20,4 +20,9 @@ pub trait HostTask: Drop {
     /// taken before.
     fn turn(&mut self, port: &mut HostPort, over: bool) -> Turn
         ensures port { Continues port.old port.new };
+
+    /// Whether it needs no turn until the run's slots are over.
+    fn is_idle(&self) -> bool {
+        false
+    }
 }

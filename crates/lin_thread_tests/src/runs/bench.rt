@@ -91,7 +91,7 @@ fn put_send(
 }
 
 /// Runs tasks on the ports of a core.
-pub fn run<R: Abort + Threads + Wait>(
+pub fn run<R: Abort + Threads + Wait + Copy + Send + 'static>(
     rt: &R,
     alloc: Global,
     core: Core,
@@ -129,7 +129,7 @@ pub fn script(alloc: Global, to: u8, bytes: &[u8]) -> Result<ScriptTask, Fail> {
 }
 
 /// Runs a task that puts sends of single bytes for each of the two hosts.
-pub fn run_scripts<R: Abort + Threads + Wait>(
+pub fn run_scripts<R: Abort + Threads + Wait + Copy + Send + 'static>(
     rt: &R,
     alloc: Global,
     core: Core,

@@ -38,7 +38,7 @@ impl HostTask for Meeting {
 }
 
 /// Both tasks see that the other one has come, each in its first turn.
-fn both_meet<R: Abort + Threads + Wait>(
+fn both_meet<R: Abort + Threads + Wait + Copy + Send + 'static>(
     rt: &R,
     alloc: Global,
     numbers: &Numbers,

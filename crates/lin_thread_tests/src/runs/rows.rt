@@ -21,7 +21,7 @@ const EACH_DUE: &[u32] = &[
 
 /// A run of forty slots, the third damaged, in which three messages are sent and one back, and the
 /// responder leaves out its response to this many of the slots in which it is due.
-fn expect_faulty_run<R: Abort + Threads + Wait>(
+fn expect_faulty_run<R: Abort + Threads + Wait + Copy + Send + 'static>(
     rt: &R,
     alloc: Global,
     leave: &'static [u32],

@@ -1,6 +1,6 @@
 //! Tasks that take all turns that they get, and that wait for the rounds after the last slot.
 
-use crate::runs::bench::{NUMBERS, Numbers, expect_ended, expect_log, run, script};
+use crate::runs::bench::{NUMBERS, Numbers, expect_ended, expect_log, run, run_scripts, script};
 use crate::samples::{DOOR_CLUSTER, core_on};
 use lin_core::Event;
 use lin_threads::{Ended, HostPort, HostTask, Note, ScriptTask, Turn};
@@ -44,6 +44,21 @@ fn task_that_never_ends(rt: HostRuntime) -> Result<(), Fail> {
     assert_eq!(rt; report.ended.len(), 2);
     assert_eq!(rt; report.ended[1], Ended::Limit);
     assert_eq!(rt; turns.load(Ordering::SeqCst), 10);
+    Ok(())
+}
+
+/// A task with nothing left sleeps: four turns are enough for a run of 2,000 slots.
+#[test]
+fn tasks_with_nothing_left_take_no_turns(rt: HostRuntime) -> Result<(), Fail> {
+    let alloc = rt.alloc();
+    let numbers = Numbers {
+        slots: 2_000,
+        turns: 4,
+        ..NUMBERS
+    };
+    let core = core_on(&rt, alloc, DOOR_CLUSTER, 0)?;
+    let report = run_scripts(&rt, alloc, core, [&[1], &[]], &numbers)?;
+    expect_ended(&rt, &report, [Ended::Done, Ended::Done], "nothing left");
     Ok(())
 }
 

@@ -7,14 +7,14 @@ use Rattle.lin_threads.proofs.nodes.answer_all.Goals as goal
 use Rattle.lin_threads.proofs.nodes.answer_all.Goals.{in-Some, in-None-2}
 
 pub loop-init : goal.loop-init
-loop-init c = record { further = further_refl _; listed = follows_refl c.args.leave.now c.args.port.now; few = omega arith }
+loop-init g c = record { further = further_refl _; listed = follows_refl c.args.leave.now c.args.port.now; few = omega arith }
 
 pub returns-in-None-clause-listed : goal.returns-in-None-clause-listed
-returns-in-None-clause-listed c =
+returns-in-None-clause-listed g c =
     (c.loop.due, follows_same c.args.leave.now c.loop.due c.args.port.now (node_state c.loop.port) (node_state c.take.new.self) c.take.ensures.put c.in-None.ensures.none c.loop.invariant.listed)
 
 pub loop-preserved : goal.loop-preserved
-loop-preserved c =
+loop-preserved g c =
     let leave = c.args.leave.now in
     let port = c.args.port.now in
     let inv = c.loop.invariant in

@@ -4,7 +4,7 @@ use Rattle.lin_threads.specs.States.{IsFurther, node_state}
 use Rattle.lin_threads.proofs.nodes.answer_all.Given as goal
 
 abbrev pub invariant-loop : goal.invariant-loop
-invariant-loop l = record {
+invariant-loop g l = record {
   further : IsFurther (node_state l.initial.port) (node_state l.port);
   listed : FollowsList l.leave l.due l.initial.port (node_state l.port);
   few : l.due ≤ l.counter;

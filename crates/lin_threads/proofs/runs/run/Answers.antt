@@ -41,3 +41,25 @@ returns-clause-ended g c =
     let a = threads.ok in
     let b = p.hosts.ok in
     omega (arith, c.truncate.ensures.len, c.join_all.ensures.ended, c.requires.tasks)
+
+pub join_all-requires-clause-room : goal.join_all-requires-clause-room
+join_all-requires-clause-room g c =
+    let p = c.args.players in
+    let threads = c.drive.new.threads in
+    let count = lent_count threads.items p.hosts.items p.nodes.items c.in_default-drive.ensures.lent in
+    let a = threads.ok in
+    let b = p.hosts.ok in
+    let n = p.nodes.ok in (
+      omega (arith, c.in_ok-receipts.ensures.capacity, c.len.ensures, c.len-2.ensures),
+      omega (arith, c.in_ok-ended.ensures.capacity, c.len.ensures, c.len-2.ensures),
+    )
+
+pub settle_all-requires-clause-room : goal.settle_all-requires-clause-room
+settle_all-requires-clause-room g c =
+    let p = c.args.players in
+    let threads = c.drive.new.threads in
+    let count = lent_count threads.items p.hosts.items p.nodes.items c.in_default-drive.ensures.lent in
+    let a = threads.ok in
+    let b = p.hosts.ok in
+    let n = p.nodes.ok in
+    omega (arith, c.in_ok-settled.ensures.capacity, c.join_all.ensures.count, c.len.ensures, c.len-2.ensures)
