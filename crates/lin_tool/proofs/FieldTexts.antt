@@ -57,7 +57,7 @@ unsettled x _ text left warned told is short h = absurd h
 -- what is answered to what a text is settled to, where nothing is wrong and its cluster is this one
 pub described_answer : (x : Extras) (s : Settled) (checked : Checked) (k : Sections) (rs : List Remark) (r : Result Described Fault) (warned : List Remark)
     → IsChecked s checked → IsPermutation (linted s.description k.configurables k.codings checked.warnings) rs
-    → IfOk r (λ d. d.cluster ≡ checked.cluster) → IfOk r (λ d. d.coded ≡ coded_read d.cluster k.codings)
+    → IfOk r (λ d. d.cluster ≡ checked.cluster) → IfOk r (λ d. d.coded ≡ coded_read x.encodings d.cluster k.codings)
     → IfOk r (λ d. AreWarnings x.encodings d.cluster k.codings rs warned) → IfErr r (λ fault. fault ≡ OutOfMemory) → AnswersChecked x s k r warned
 described_answer x s checked k rs (Ok d) warned is are cluster coded warnings memory = record {
   free = is.free;

@@ -34,7 +34,7 @@ tells_fault text _ fault h only first = absurd h
 -- what is answered to what was parsed, where its cluster is this one
 pub coded_answer : (x : Extras) (r : Result Described Fault) (text : List ℕ) (d : Description) (c : Parts) (s : Sections) (none rs warned : List Remark)
     → Describes text d → IsSaidBy d c → SaysSections x text s → none ≡ [] → IsPermutation (linted d s.configurables s.codings none) rs
-    → IfOk r (λ a. a.cluster ≡ c) → IfOk r (λ a. a.coded ≡ coded_read a.cluster s.codings)
+    → IfOk r (λ a. a.cluster ≡ c) → IfOk r (λ a. a.coded ≡ coded_read x.encodings a.cluster s.codings)
     → IfOk r (λ a. AreWarnings x.encodings a.cluster s.codings rs warned) → IfErr r (λ fault. fault ≡ OutOfMemory) → AnswersCoded x r warned text
 coded_answer x (Ok a) text d c s none rs warned described of says is are cluster coded warnings memory = record {
   cluster = record {

@@ -1,6 +1,7 @@
 -- Warnings, and among them what is wrong with encodings, and what is odd in a text.
 use Rattle.std.proofs.Common.{◌≡◌, ◌∙◌, refl, sym, ap, append-nil, append_assoc, List, [], ◌++◌, Option, Some, None, IfOk, Result, Ok, Err, true, map, subst}
 use Rattle.std.specs.Prelude.{IsPermutation, IsSorted}
+use Rattle.std.specs.Option.{option_map_or}
 use Rattle.std.proofs.lemmas.List.{map-append}
 use Rattle.std.proofs.lemmas.List.Sorted.{IsPermutation-refl, IsPermutation-trans, IsPermutation-map, IsPermutation-append_left, IsPermutation-append_right}
 use Rattle.lin_cluster.specs.Lint.{lints}
@@ -11,7 +12,7 @@ use Rattle.lin_description.specs.declared.description.Description.{Description}
 use Rattle.lin_field.specs.Checks.{remark, remark_cmp, remarks, AreRemarks}
 use Rattle.lin_field.specs.declared.checking.Remark.{Remark}
 use Rattle.lin_field.specs.declared.settling.Settled.{Settled}
-use Rattle.lin_tool.specs.Coding.{codings_told, linted, lints_told, told_of, unused_told, AreWarnings}
+use Rattle.lin_tool.specs.Coding.{codings_kept, codings_told, linted, lints_told, told_of, unused_told, AreWarnings}
 use Rattle.lin_tool.specs.declared.coding.Encodings.{Encodings}
 use Rattle.lin_tool.specs.declared.coding.Encodings.TheVariants.{Unread, Read, Told}
 use Rattle.lin_values.specs.Unused.{AreUnused}
@@ -66,17 +67,21 @@ none_told Unread = refl
 none_told Read = refl
 none_told Told = refl
 
-pub untold : (e : Encodings) (c : Parts) (rs : List Remark) → IsSorted remark_cmp rs → AreWarnings e c None rs rs
-untold e c rs ordered = record {
-  all = subst (λ xs. IsPermutation xs rs) (sym (append-nil rs) ∙ ap (λ fs. rs ++ map (remark true) fs) (sym (none_told e))) (IsPermutation-refl rs);
+pub untold : (e : Encodings) (c : Parts) (k : Option Codings) (rs : List Remark) → codings_kept e k ≡ None → IsSorted remark_cmp rs
+    → AreWarnings e c k rs rs
+untold e c k rs nothing ordered = record {
+  all = subst (λ (kept : Option Codings). IsPermutation (rs ++ map (remark true) (told_of e (option_map_or (warnings c) kept []))) rs) (sym nothing)
+      (subst (λ xs. IsPermutation xs rs) (sym (append-nil rs) ∙ ap (λ fs. rs ++ map (remark true) fs) (sym (none_told e))) (IsPermutation-refl rs));
   ordered = ordered;
 }
 
 -- what is wrong with encodings does
-pub told : (e : Encodings) (c : Parts) (k : Codings) (rs all : List Remark) (found : List Finding) → IsPermutation (warnings c k) found
-    → IsPermutation (rs ++ map (remark true) (told_of e found)) all → IsSorted remark_cmp all → AreWarnings e c (Some k) rs all
-told e c k rs all found are h ordered = record {
-  all = joined rs all (told_of e (warnings c k)) (told_of e found) (told_permuted e (warnings c k) found are) h;
+pub told : (e : Encodings) (c : Parts) (k : Option Codings) (kept : Codings) (rs all : List Remark) (found : List Finding) → codings_kept e k ≡ Some kept
+    → IsPermutation (warnings c kept) found → IsPermutation (rs ++ map (remark true) (told_of e found)) all → IsSorted remark_cmp all
+    → AreWarnings e c k rs all
+told e c k kept rs all found is are h ordered = record {
+  all = subst (λ (ks : Option Codings). IsPermutation (rs ++ map (remark true) (told_of e (option_map_or (warnings c) ks []))) all) (sym is)
+      (joined rs all (told_of e (warnings c kept)) (told_of e found) (told_permuted e (warnings c kept) found are) h);
   ordered = ordered;
 }
 

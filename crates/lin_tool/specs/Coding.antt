@@ -50,9 +50,15 @@ sections_read x ts =
       configurables = configurables_read x.is_linted ts;
     }
 
+-- what of that is kept, and not read for a lint alone
+abbrev pub codings_kept : Encodings → Option Codings → Option Codings
+codings_kept Unread k = None
+codings_kept Read k = k
+codings_kept Told k = k
+
 -- what the values of a cluster's signals mean by that
-abbrev pub coded_read : Parts → Option Codings → Option CodedData
-coded_read c k = option_map (coded c) k
+abbrev pub coded_read : Encodings → Parts → Option Codings → Option CodedData
+coded_read e c k = option_map (coded c) (codings_kept e k)
 
 -- what is told of what is found in the sections of encodings
 abbrev pub told_of : Encodings → List Finding → List Finding
@@ -62,7 +68,7 @@ told_of Told found = found
 
 -- what is wrong with them
 abbrev pub codings_told : Encodings → Parts → Option Codings → List Finding
-codings_told e c k = told_of e (option_map_or (warnings c) k [])
+codings_told e c k = told_of e (option_map_or (warnings c) (codings_kept e k) [])
 
 -- the encodings that no signal has
 abbrev pub unused_told : Description → Option Codings → List Finding
@@ -101,7 +107,7 @@ pub record IsCodedCluster (x : Extras) (text : List ℕ) (d : Described) (warned
   pub cluster : IsClusterOf text d.cluster
   pub sections : Sections
   pub says : SaysSections x text sections
-  pub coded : d.coded ≡ coded_read d.cluster sections.codings
+  pub coded : d.coded ≡ coded_read x.encodings d.cluster sections.codings
   pub warnings
       : AreWarnings x.encodings d.cluster sections.codings
       (linted cluster.description sections.configurables sections.codings []) warned

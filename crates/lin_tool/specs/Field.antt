@@ -76,7 +76,7 @@ pub record IsFieldCluster (x : Extras) (s : Settled) (k : Sections) (d : Describ
     (warned : List Remark) : Type 0 where
   pub free : IsFieldFree s
   pub said : d.cluster ≡ parts_of s.description
-  pub coded : d.coded ≡ coded_read d.cluster k.codings
+  pub coded : d.coded ≡ coded_read x.encodings d.cluster k.codings
   pub warnings
       : AreWarnings x.encodings d.cluster k.codings
       (linted s.description k.configurables k.codings (remarks s)) warned

@@ -8,8 +8,8 @@ ghost use Rattle.lin_ldf.specs.Symbols.{symbols_in};
 ghost use Rattle.lin_ldf.specs.Tokens.{AreTokens};
 ghost use Rattle.lin_ldf.specs.declared.token.Token.{Token};
 ghost use Rattle.lin_field.specs.Checks.{remark, remark_cmp};
-ghost use Rattle.lin_tool.specs.Coding.{are_read, coded_read, codings_read, configurables_read};
-ghost use Rattle.lin_tool.specs.Coding.{linted, sections_read, told_of, unused_told, AreWarnings};
+ghost use Rattle.lin_tool.specs.Coding.{are_read, coded_read, codings_kept, codings_read};
+ghost use Rattle.lin_tool.specs.Coding.{configurables_read, linted, sections_read, told_of, unused_told, AreWarnings};
 ghost use Rattle.lin_tool.specs.declared.fault.Fault.TheVariants.{OutOfMemory};
 
 use crate::fault::Fault;
@@ -205,7 +205,17 @@ fn with_told(
     }
 }
 
-/// What the values of a cluster's signals mean by the sections of encodings, where they are read;
+/// What the sections of encodings say, where they aren't read for a lint alone.
+fn kept(codings: Option<Codings>, encodings: Encodings) -> Option<Codings>
+    ensures { result ≡ codings_kept encodings codings }
+{
+    match encodings {
+        Encodings::Unread => None,
+        Encodings::Read | Encodings::Told => codings,
+    }
+}
+
+/// What the values of a cluster's signals mean by the sections of encodings, where they are kept;
 /// and warnings with what is wrong with these, where that is told, by place and then by number.
 ///
 /// An error means out of memory.
@@ -218,11 +228,11 @@ fn coded_with(
     warnings: Many<Remark>,
 ) -> Result<(Option<Coded>, Many<Remark>), AllocError>
     requires { IsSorted remark_cmp warnings }
-    ensures coded { IfOk result (λ r. r.0 ≡ coded_read cluster.now codings) }
+    ensures coded { IfOk result (λ r. r.0 ≡ coded_read encodings cluster.now codings) }
     ensures warnings { IfOk result
         (λ r. AreWarnings encodings cluster.now codings warnings r.1) }
 {
-    let Some(codings) = codings else {
+    let Some(codings) = kept(codings, encodings) else {
         return Ok((None, warnings));
     };
     let (coded, found) = coded_by(alloc, cluster, codings)?;
@@ -246,7 +256,7 @@ pub(crate) fn coded_noted(
 ) -> Result<Described, Fault>
     requires { IsSorted remark_cmp warnings }
     ensures cluster { IfOk result (λ d. d.cluster ≡ cluster) }
-    ensures coded { IfOk result (λ d. d.coded ≡ coded_read d.cluster codings) }
+    ensures coded { IfOk result (λ d. d.coded ≡ coded_read encodings d.cluster codings) }
     ensures warnings { IfOk result
         (λ d. AreWarnings encodings d.cluster codings warnings notes.new.warnings) }
     ensures memory { IfErr result (λ fault. fault ≡ OutOfMemory) }
