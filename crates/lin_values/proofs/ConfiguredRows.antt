@@ -31,26 +31,32 @@ word text column = token kinds.Word text column
 abbrev name : List ℕ → ℕ → Name
 name text column = record { text = text; line = 1; column = column }
 
--- configurable_frames { Order; Echo = 0x10; }
-abbrev listing : List Symbol
-listing =
-    word (codes "configurable_frames") 0 ∷ open_brace ∷ word (codes "Order") 5 ∷ semicolon ∷ word (codes "Echo") 6 ∷ equals ∷ number ∷ semicolon
-    ∷ close_brace ∷ []
+-- Order; Echo = 0x10;
+abbrev both : List Symbol
+both = word (codes "Order") 5 ∷ semicolon ∷ word (codes "Echo") 6 ∷ equals ∷ number ∷ semicolon ∷ []
 
--- lsm { configured_NAD = 0x10; configurable_frames { Order; Echo = 0x10; } }
-abbrev block : List Symbol
-block = word (codes "lsm") 2 ∷ open_brace ∷ word (codes "configured_NAD") 0 ∷ equals ∷ number ∷ semicolon ∷ (listing ++ close_brace ∷ [])
+-- configurable_frames { .. }
+abbrev listing : List Symbol → List Symbol
+listing frames = word (codes "configurable_frames") 0 ∷ open_brace ∷ (frames ++ close_brace ∷ [])
 
-abbrev section : List ℕ → List Symbol
-section text = word text 0 ∷ open_brace ∷ (block ++ close_brace ∷ [])
+-- lsm { configured_NAD = 0x10; configurable_frames { .. } }
+abbrev block : List Symbol → List Symbol
+block frames = word (codes "lsm") 2 ∷ open_brace ∷ word (codes "configured_NAD") 0 ∷ equals ∷ number ∷ semicolon ∷ (listing frames ++ close_brace ∷ [])
+
+abbrev section : List ℕ → List Symbol → List Symbol
+section title frames = word title 0 ∷ open_brace ∷ (block frames ++ close_brace ∷ [])
 
 -- after a line of the header
-abbrev text : List ℕ → List Symbol
-text sections = word (codes "LIN_description_file") 0 ∷ semicolon ∷ section sections
+abbrev text : List ℕ → List Symbol → List Symbol
+text title frames = word (codes "LIN_description_file") 0 ∷ semicolon ∷ section title frames
 
-pub both-forms : configurables (text (codes "Node_attributes")) ≡ record { node = name (codes "lsm") 2; frames = name (codes "Order") 5 ∷ name (codes "Echo") 6 ∷ [] } ∷ []
+pub both-forms : configurables (text (codes "Node_attributes") both) ≡ record { node = name (codes "lsm") 2; frames = name (codes "Order") 5 ∷ name (codes "Echo") 6 ∷ [] } ∷ []
 both-forms = refl
 
+-- a node whose list is empty isn't named
+pub no-frame : configurables (text (codes "Node_attributes") []) ≡ []
+no-frame = refl
+
 -- in another section it is no list
-pub another-section : configurables (text (codes "Others")) ≡ []
+pub another-section : configurables (text (codes "Others") both) ≡ []
 another-section = refl
