@@ -1,7 +1,7 @@
 -- Steps that rules add, made on a core.
 use Rattle.std.proofs.Common.{◌≡◌, ◌∙◌, ℕ, true, false, List, [], ◌∷◌, ◌++◌, reverse, length, refl, sym, ap, arith, is_some, Result, Ok, Err, Some}
 use Rattle.std.proofs.lemmas.List.{length-reverse, reverse-append, reverse-reverse}
-use Rattle.lin_cluster_parts.specs.declared.parts.Parts.{Parts}
+use Rattle.lin_parts.specs.declared.parts.Parts.{Parts}
 use Rattle.lin_core.specs.Core.{CoreData, IsAlike, answered, past_of}
 use Rattle.lin_core.specs.History.{Slot, finished_slot, open_slot}
 use Rattle.lin_core.specs.Replies.{may}

@@ -1,6 +1,6 @@
 -- Slots and lines on a bench.
 use Rattle.std.proofs.Common.{◌≡◌, ◌∙◌, ℕ, ◌+◌, ◌-◌, Bool, true, false, nat_lt, le-ltb, List, [], ◌∷◌, refl, ap, arith, ltb-false, ltb-true, Option, Some, None, Result, Ok, Err}
-use Rattle.lin_cluster_parts.specs.declared.parts.Parts.{Parts}
+use Rattle.lin_parts.specs.declared.parts.Parts.{Parts}
 use Rattle.lin_core.specs.Core.{CoreData, past_of}
 use Rattle.lin_core.specs.History.{time}
 use Rattle.lin_core.specs.declared.port.PortId.{PortId}

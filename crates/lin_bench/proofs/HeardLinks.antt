@@ -2,8 +2,8 @@
 use Rattle.std.proofs.Common.{◌≡◌, ◌∙◌, ℕ, ◌==◌, nat_lt, Bool, true, false, List, [], ◌∷◌, ◌++◌, reverse, length, map, refl, sym, ap, is_some, cond, Option, Some, None, slice_index}
 use Rattle.std.specs.Option.{option_map_or}
 use Rattle.std.proofs.lemmas.List.{reverse-append}
-use Rattle.lin_cluster_parts.specs.Cluster.{nad}
-use Rattle.lin_cluster_parts.specs.declared.parts.Parts.{Parts}
+use Rattle.lin_parts.specs.Cluster.{nad}
+use Rattle.lin_parts.specs.declared.parts.Parts.{Parts}
 use Rattle.lin_core.specs.Core.{CoreData, answered, past_of}
 use Rattle.lin_core.specs.History.{Slot, done, done_step, events, finished_slot, good, good_bytes, is_finish, open_slot, seen_by, time}
 use Rattle.lin_core.specs.Replies.{finish_events, link_at, may, reply}

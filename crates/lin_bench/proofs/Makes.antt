@@ -1,7 +1,7 @@
 -- Steps that are made on a core, with those that rules add.
 use Rattle.std.proofs.Common.{◌≡◌, ◌∙◌, ℕ, suc, ◌+◌, ◌-◌, ◌<◌, ◌≤◌, false, List, [], ◌∷◌, ◌++◌, reverse, length, get_or, refl, sym, ap, arith, append_assoc, is_some, Result, Ok, Err}
 use Rattle.std.proofs.lemmas.List.{reverse-append, reverse-reverse}
-use Rattle.lin_cluster_parts.specs.declared.parts.Parts.{Parts}
+use Rattle.lin_parts.specs.declared.parts.Parts.{Parts}
 use Rattle.lin_core.specs.Core.{CoreData, IsAlike, answered, past_of}
 use Rattle.lin_core.specs.History.{finished_slot, is_finish}
 use Rattle.lin_core.specs.Runs.{entry_of, history}

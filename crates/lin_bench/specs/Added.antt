@@ -6,8 +6,8 @@ use Rattle.std.specs.Prelude.{slice_index, Option, Some, None, is_some}
 use Rattle.std.specs.Option.{option_map_or}
 use Rattle.lin_frame.specs.Words.{numbers}
 use Rattle.lin_transport.specs.Transport.{functional}
-use Rattle.lin_cluster_parts.specs.Cluster.{nad, nodes}
-use Rattle.lin_cluster_parts.specs.declared.parts.Parts.{Parts}
+use Rattle.lin_parts.specs.Cluster.{nad, nodes}
+use Rattle.lin_parts.specs.declared.parts.Parts.{Parts}
 use Rattle.lin_core.specs.History.{Slot, events, finished_slot, good, time}
 use Rattle.lin_core.specs.Links.{Link, put_on}
 use Rattle.lin_core.specs.Replies.{begun_on, link_at}

@@ -1,8 +1,8 @@
 -- What a core keeps for its rules, and what making the steps that they add answers.
 use Rattle.std.specs.Prelude.{◌≡◌, Bool, true, false, ℕ, ◌<◌, ◌-◌, ◌^◌, List, [], ◌∷◌, ◌++◌, length, Option}
 use Rattle.std.specs.Prelude.{if◌then◌else◌, slice_index, Some, None, Result, Ok, Err}
-use Rattle.lin_cluster_parts.specs.Cluster.{nodes}
-use Rattle.lin_cluster_parts.specs.declared.parts.Parts.{Parts}
+use Rattle.lin_parts.specs.Cluster.{nodes}
+use Rattle.lin_parts.specs.declared.parts.Parts.{Parts}
 use Rattle.lin_core.specs.Core.{CoreData, IsAlike, answered, past_of}
 use Rattle.lin_core.specs.History.{Slot, good_bytes, open_slot}
 use Rattle.lin_core.specs.Replies.{link_at, may}

@@ -6,10 +6,10 @@ use Rattle.std.specs.Prelude.{option_map}
 use Rattle.std.specs.Option.{option_map_or}
 use Rattle.lin_frame.specs.declared.value.Value.{Value}
 use Rattle.lin_frame.specs.declared.value.Value.TheVariants.{Scalar, Bytes}
-use Rattle.lin_cluster_parts.specs.Cluster.{has_signal, line_of, nad}
-use Rattle.lin_cluster_parts.specs.Rules.{is_event}
-use Rattle.lin_cluster_parts.specs.declared.parts.ErrorSignal.{ErrorSignal}
-use Rattle.lin_cluster_parts.specs.declared.parts.Parts.{Parts}
+use Rattle.lin_parts.specs.Cluster.{has_signal, line_of, nad}
+use Rattle.lin_parts.specs.Rules.{is_event}
+use Rattle.lin_parts.specs.declared.parts.ErrorSignal.{ErrorSignal}
+use Rattle.lin_parts.specs.declared.parts.Parts.{Parts}
 use Rattle.lin_core.specs.History.{Slot, finished_slot, good, header_is, is_in, seen_of}
 use Rattle.lin_core.specs.Signals.{carried_frame, heard_value, value}
 use Rattle.lin_core.specs.declared.event.Seen.{Seen}

@@ -1,7 +1,7 @@
 -- Texts that say steps alone: those in the language of the cluster's names, as logs with names are,
 -- and the scripts that `replay` reads.
 use Rattle.std.specs.Prelude.{◌≡◌, ℕ, false, List, [], codes, reverse, Ok, Some, None}
-use Rattle.lin_cluster_parts.specs.declared.parts.Parts.{Parts}
+use Rattle.lin_parts.specs.declared.parts.Parts.{Parts}
 use Rattle.lin_core.specs.Runs.{history}
 use Rattle.lin_core.specs.declared.port.PortId.{PortId}
 use Rattle.lin_core.specs.declared.step.Step.{Step}

@@ -13,7 +13,7 @@ use Rattle.lin_bench.specs.declared.script.LinesLeft.{LinesLeft}
 use Rattle.lin_values.specs.Coded.{CodedData}
 use Rattle.lin_bench.specs.Scripts.{Script, read_lines, with_line}
 use Rattle.lin_log.specs.Judged.{lines_left}
-use Rattle.lin_cluster_parts.specs.declared.parts.Parts.{Parts}
+use Rattle.lin_parts.specs.declared.parts.Parts.{Parts}
 
 -- a fault of a line of steps
 abbrev pub step_fault : StepFault → LineFault

@@ -1,6 +1,6 @@
 -- What rules add, and what they leave alone.
 use Rattle.std.specs.Prelude.{◌≡◌, ℕ, List, []}
-use Rattle.lin_cluster_parts.specs.declared.parts.Parts.{Parts}
+use Rattle.lin_parts.specs.declared.parts.Parts.{Parts}
 use Rattle.lin_core.specs.declared.log.LogEntry.{LogEntry}
 use Rattle.lin_core.specs.declared.port.PortId.{PortId}
 use Rattle.lin_core.specs.declared.reply.Reply.{Reply}

@@ -10,7 +10,7 @@ ghost use Rattle.lin_bench.specs.Rules.{whens_with};
 
 use crate::rules::{Answer, Noted, Part, Pattern, When};
 use lin_core::{Event, Payload};
-use lin_lists::Many;
+use lin_text::Many;
 use std::alloc::{AllocError, Global};
 
 fn fits_byte(byte: Option<u8>, other: u8) -> bool

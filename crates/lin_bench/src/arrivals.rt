@@ -4,7 +4,7 @@ ghost use Rattle.std.specs.Prelude.{◌≡◌, ◌&&◌, ◌+◌, ◌-◌, ◌<�
 ghost use Rattle.std.specs.Prelude.{slice_index_or as get_or, take};
 ghost use Rattle.std.specs.List.{list_any};
 ghost use Rattle.std.specs.Option.{unwrap_or};
-ghost use Rattle.lin_cluster_parts.specs.declared.parts.Parts.{Parts};
+ghost use Rattle.lin_parts.specs.declared.parts.Parts.{Parts};
 ghost use Rattle.lin_core.specs.History.{Slot, did, events, is_finish, slot_after_event, slot_after_events, time};
 ghost use Rattle.lin_core.specs.declared.log.LogEntry.{LogEntry};
 ghost use Rattle.lin_bench.specs.Arrivals.{place_of, slot_left, time_left, whole};
@@ -13,8 +13,8 @@ ghost use Rattle.lin_bench.specs.Verdicts.{is_of, last_time, times_taken};
 
 use crate::replies::{is_done, is_finish};
 use crate::taken::{EventKind, Place, events_of, skipped};
-use lin_cluster_parts::Cluster;
 use lin_core::{Event, Log, LogEntry, Step};
+use lin_parts::Cluster;
 
 /// What a walk back over the entries of a log keeps: the time in microseconds of the slots that ended
 /// behind, whether it has seen the finish of a slot and not its open, the table and the entry of that

@@ -2,8 +2,8 @@
 
 ghost use Rattle.std.specs.Prelude.{◌≡◌, ◌==◌, ◌<◌, ◌≤◌, List, All, find, length, map, option_map, reverse, take, slice_index_or, true, ◌∷◌, IfOk, IfSome, OnOk};
 ghost use Rattle.std.specs.List.{list_any};
-ghost use Rattle.lin_cluster_parts.specs.Cluster.{frame_of, line_of};
-ghost use Rattle.lin_cluster_parts.specs.Rules.{IsEntry};
+ghost use Rattle.lin_parts.specs.Cluster.{frame_of, line_of};
+ghost use Rattle.lin_parts.specs.Rules.{IsEntry};
 ghost use Rattle.lin_core.specs.History.{Slot, did, is_finish, no_slot, slot_after_event, slot_after_events};
 ghost use Rattle.lin_core.specs.declared.log.LogEntry.{LogEntry};
 ghost use Rattle.lin_bench.specs.Carried.{EndsAt, IsKept, is_open, shape, shape_in};
@@ -13,8 +13,8 @@ ghost use Rattle.lin_core.specs.Signals.{carried_by};
 use crate::expected::Carried;
 use crate::replies::{is_done, is_finish};
 use crate::taken::events_of;
-use lin_cluster_parts::{Cluster, Entry};
 use lin_core::{Event, Log, LogEntry, Step, frame_under};
+use lin_parts::{Cluster, Entry};
 use std::alloc::{AllocError, Global};
 
 /// A slot that is open at a place in a log: its entry, its header, and the nodes that put responses.

@@ -2,7 +2,7 @@
 
 ghost use Rattle.std.specs.Prelude.{◌≡◌, ◌<◌, [], false, true, if◌then◌else◌, length, slice_index, ℕ, Some};
 ghost use Rattle.std.specs.Option.{option_map_or};
-ghost use Rattle.lin_cluster_parts.specs.Cluster.{nad, nodes};
+ghost use Rattle.lin_parts.specs.Cluster.{nad, nodes};
 ghost use Rattle.lin_core.specs.Core.{CoreData};
 ghost use Rattle.lin_core.specs.History.{Slot, good, header_and_first};
 ghost use Rattle.lin_core.specs.declared.link.Direction.TheVariants.{Down, Up};
@@ -11,8 +11,8 @@ ghost use Rattle.lin_transport.specs.Transport.{looks_at};
 ghost use Rattle.lin_bench.specs.Adding.{AreEnds, IsAfterFinish, IsHeard, end_of};
 
 use crate::replies::{first_byte, good_bytes};
-use lin_cluster_parts::Cluster;
 use lin_core::{Core, Direction, MASTER_REQUEST, NODES, SLAVE_RESPONSE};
+use lin_parts::Cluster;
 use lin_transport::FUNCTIONAL;
 
 /// When the slots of the last good frames of the links to each node and from it ended, in

@@ -3,8 +3,8 @@
 ghost use Rattle.std.specs.Prelude.{◌≡◌, ◌<◌, ◌++◌, false, filter_map, length, true, IfOk, List};
 ghost use Rattle.std.specs.Prelude.{OnOk, Some};
 ghost use Rattle.std.specs.Option.{option_map_or};
-ghost use Rattle.lin_cluster_parts.specs.Cluster.{has_signal, nodes};
-ghost use Rattle.lin_cluster_parts.specs.Rules.{IsErrorSignal, is_event};
+ghost use Rattle.lin_parts.specs.Cluster.{has_signal, nodes};
+ghost use Rattle.lin_parts.specs.Rules.{IsErrorSignal, is_event};
 ghost use Rattle.lin_core.specs.Core.{past_of};
 ghost use Rattle.lin_core.specs.History.{Slot, events, good, header_is, is_in, seen_of};
 ghost use Rattle.lin_core.specs.Runs.{entry_of};
@@ -19,10 +19,10 @@ ghost use Rattle.lin_bench.specs.Errors.{is_number, is_told, set_after, set_to, 
 
 use crate::carried::{OpenSlot, entry_at, has, open_after, signals_in};
 use crate::replies::{good_bytes, is_damaged};
-use lin_cluster_parts::{Cluster, Entry, ErrorSignal};
 use lin_core::{Core, LogEntry, MASTER_REQUEST, PortId, SLAVE_RESPONSE, Step};
 use lin_frame::Value;
-use lin_lists::Many;
+use lin_parts::{Cluster, Entry, ErrorSignal};
+use lin_text::Many;
 use std::alloc::{AllocError, Global};
 
 /// What of a slot that has ended decides which errors are told.

@@ -18,10 +18,10 @@ use crate::fields::{
     rows_and_time, rows_bytes, signal_field, table_field, value_field,
 };
 use crate::reason::Reason;
-use lin_cluster_parts::Cluster;
 use lin_core::{Refusal, named, numbered};
-use lin_lists::Text;
 use lin_log::{copied, first_field, is_number, is_over};
+use lin_parts::Cluster;
+use lin_text::Text;
 use std::alloc::{AllocError, Global};
 
 /// A refusal, by its number or its name.

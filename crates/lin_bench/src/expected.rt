@@ -3,7 +3,7 @@
 use crate::meant::MeantValues;
 use lin_core::{Cause, Look, Payload, Refusal};
 use lin_frame::Value;
-use lin_lists::Text;
+use lin_text::Text;
 
 /// A frame that slots carry.
 #[derive(Clone, Copy, Debug)]

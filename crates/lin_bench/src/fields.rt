@@ -13,11 +13,11 @@ ghost use Rattle.lin_bench.specs.Read.{Gives};
 use crate::expected::Carried;
 use crate::fault::LineFault;
 use crate::reason::Reason;
-use lin_cluster_parts::Cluster;
 use lin_core::Payload;
 use lin_frame::Value;
-use lin_lists::{Many, Text};
 use lin_log::{Reason as StepReason, decoded, first_field, hex_bytes, is_number};
+use lin_parts::Cluster;
+use lin_text::{Many, Text};
 use std::alloc::{AllocError, Global};
 
 /// The fields of a line.

@@ -6,7 +6,7 @@ ghost use Rattle.lin_bench.specs.Played.{is_unmet, some_unmet};
 use crate::expected::{Carried, Expected};
 use lin_core::{Cause, Look, Payload, Refusal};
 use lin_frame::Value;
-use lin_lists::{Many, Text};
+use lin_text::{Many, Text};
 
 /// What keeps a cluster from being idle.
 #[derive(Clone, Copy, Debug)]

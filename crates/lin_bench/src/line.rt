@@ -3,7 +3,7 @@
 use crate::expected::Expected;
 use crate::rules::Rule;
 use lin_core::{Payload, PortId, Step};
-use lin_lists::Many;
+use lin_text::Many;
 
 /// How one slot is disturbed.
 #[derive(Drop)]

@@ -13,10 +13,10 @@ use crate::fields::{bytes_fields, count_field, node_field};
 use crate::line::{Disturbance, Extent, Line};
 use crate::reason::Reason;
 use crate::rule_lines::{every, response_errors, timeouts, when};
-use lin_cluster_parts::Cluster;
 use lin_core::PortId;
-use lin_lists::{Many, Text};
 use lin_log::{first_field, is_over, is_port, port_step, step};
+use lin_parts::Cluster;
+use lin_text::{Many, Text};
 use std::alloc::Global;
 
 /// How many slots are made where no message waits any more, and no number says how many at most.

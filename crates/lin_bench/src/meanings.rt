@@ -7,7 +7,7 @@ ghost use Rattle.lin_bench.specs.Meanings.{told_meaning, with_meaning, with_mean
 use crate::expected::Expected;
 use crate::got::{Got, Judged, Judgement, Verdict};
 use lin_frame::Value;
-use lin_lists::{Many, Text};
+use lin_text::{Many, Text};
 use lin_values::{Coded, shown};
 use std::alloc::{AllocError, Global};
 

@@ -9,9 +9,9 @@ use crate::fault::{MakeFault, PlayFault};
 use crate::got::{Judged, Judgement, Verdict};
 use crate::line::Line;
 use crate::strict::{expects_something, left_out, speaks_of_last, strictly};
-use lin_cluster_parts::Cluster;
 use lin_core::{Core, Log};
-use lin_lists::Many;
+use lin_parts::Cluster;
+use lin_text::Many;
 use std::alloc::{AllocError, Global};
 
 /// A bench script that was played.

@@ -1,6 +1,6 @@
 //! Why a line is bad.
 
-use lin_lists::{Many, Text};
+use lin_text::{Many, Text};
 
 /// Why a line of a bench script is bad. The fields are as they stand in the line.
 #[derive(Debug, Drop)]

@@ -18,10 +18,10 @@ use crate::fault::LineFault;
 use crate::fields::{copied_fields, count_field, fields, node_field, number_field, rows_and_time};
 use crate::reason::Reason;
 use crate::rules::{Answer, Every, Part, Pattern, Rule, When};
-use lin_cluster_parts::Cluster;
 use lin_core::{PortId, Step};
-use lin_lists::{Many, Text};
 use lin_log::{Reason as StepReason, first_field, is_port, number, port_step, step};
+use lin_parts::Cluster;
+use lin_text::{Many, Text};
 use std::alloc::{AllocError, Global};
 
 /// The most that a wait may be, in milliseconds.

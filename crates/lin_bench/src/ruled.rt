@@ -2,7 +2,7 @@
 
 ghost use Rattle.std.specs.Prelude.{◌≡◌, ◌<◌, ◌==◌, ◌++◌, ◌∷◌, [], count_by, false, filter, if◌then◌else◌, is_some, length, map, true, IfOk, List, None, OnOk};
 ghost use Rattle.std.specs.List.{list_any};
-ghost use Rattle.lin_cluster_parts.specs.Cluster.{nad, nodes};
+ghost use Rattle.lin_parts.specs.Cluster.{nad, nodes};
 ghost use Rattle.lin_core.specs.Core.{past_of};
 ghost use Rattle.lin_core.specs.History.{Slot, open_slot, time};
 ghost use Rattle.lin_core.specs.Replies.{link_at};
@@ -28,7 +28,7 @@ use crate::replies::{is_done, is_finish, went_to_all};
 use crate::rules::{Noted, Repeated, Rule, Rules};
 use crate::slots::hosts_waiting;
 use lin_core::{Core, Direction, Hold, PortId, Reply, Step};
-use lin_lists::Many;
+use lin_text::Many;
 use std::alloc::{AllocError, Global};
 use std::marker::Model;
 use std::mem;

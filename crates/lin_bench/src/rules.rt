@@ -1,7 +1,7 @@
 //! Rules, which lines say and which are in force for the lines after them.
 
 use lin_core::{Payload, PortId, Step};
-use lin_lists::Many;
+use lin_text::Many;
 
 /// Which messages a rule is for: those of these bytes, none of which stands for any byte.
 #[derive(Drop)]

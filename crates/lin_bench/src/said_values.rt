@@ -19,8 +19,7 @@ use crate::fault::LineFault;
 use crate::meant::MeantValues;
 use crate::reason::Reason;
 use lin_frame::Value;
-use lin_lists::{Many, Text};
-use lin_text::TextWriter;
+use lin_text::{Many, Text, TextWriter};
 use lin_values::{Coded, Meaning, is_small, number_and_unit, put_plain, read_decimal, units};
 use std::alloc::{AllocError, Global};
 

@@ -5,7 +5,7 @@ ghost use Rattle.lin_values.specs.Coded.{CodedData};
 ghost use Rattle.lin_bench.specs.Words.{read_worded_line};
 ghost use Rattle.std.specs.Str.Lines.{strip_carriage_return};
 ghost use Rattle.lin_log.specs.Judged.{left_of};
-ghost use Rattle.lin_cluster_parts.specs.declared.parts.Parts.{Parts};
+ghost use Rattle.lin_parts.specs.declared.parts.Parts.{Parts};
 ghost use Rattle.lin_bench.specs.Scripts.{bad_lines, read, without_mark};
 ghost use Rattle.lin_bench.specs.Read.{AreBadOf, IsWhy, NextLine, Reads, said};
 
@@ -13,8 +13,8 @@ use crate::fault::{LineFault, ReadFault};
 use crate::line::Line;
 use crate::reason::Reason;
 use crate::words::read_worded_line;
-use lin_cluster_parts::Cluster;
 use lin_log::{first_line, without_return};
+use lin_parts::Cluster;
 use lin_values::Coded;
 use std::alloc::{AllocError, Global};
 

@@ -14,14 +14,13 @@ ghost use Rattle.lin_bench.specs.Texts.{pending_word, reason_text, step_reason_t
 use crate::expected::{Carried, Expected};
 use crate::got::{Got, Judged, Judgement, Pending, is_unmet};
 use crate::reason::Reason;
-use lin_cluster_parts::Cluster;
 use lin_core::{Listed, Payload};
-use lin_lists::Text;
 use lin_log::{
     Reason as StepReason, put_bytes, put_node, put_number, put_signal, put_table, put_value,
     put_word,
 };
-use lin_text::{TextWriter, WriteFailed};
+use lin_parts::Cluster;
+use lin_text::{Text, TextWriter, WriteFailed};
 use std::io::Write;
 
 /// A text and bytes after it.

@@ -24,7 +24,7 @@ use crate::ruled::{RuledCore, pending};
 use crate::taken::{EventKind, Place, Search, Taken, event_from, last_event};
 use lin_core::{Cause, Core, Event, Look, Payload, Refusal, Reply, Seen};
 use lin_frame::Value;
-use lin_lists::Many;
+use lin_text::Many;
 use std::alloc::{AllocError, Global};
 
 fn same_value(a: &Value, b: &Value) -> bool

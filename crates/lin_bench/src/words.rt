@@ -18,11 +18,10 @@ use crate::lines::read_line;
 use crate::meant::MeantValues;
 use crate::reason::Reason;
 use crate::said_values::{Said, expected_values, joined, nearest_value, only_value};
-use lin_cluster_parts::Cluster;
 use lin_frame::Value;
-use lin_lists::Text;
 use lin_log::{put_shown, value_word};
-use lin_text::TextWriter;
+use lin_parts::Cluster;
+use lin_text::{Text, TextWriter};
 use lin_values::Coded;
 use std::alloc::{AllocError, Global};
 

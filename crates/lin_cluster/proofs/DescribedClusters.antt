@@ -4,15 +4,15 @@ use Rattle.std.specs.Prelude.{All, IfSome}
 use Rattle.std.specs.List.{list_any}
 use Rattle.std.proofs.Math.Pow.{pow_mono}
 use Rattle.std.proofs.lemmas.Bool.{and_parts, leb-true, ltb-true, ltb-false, eqb-true, or_parts, not-true}
-use Rattle.lin_description.specs.declared.description.Description.{Description}
-use Rattle.lin_description.specs.declared.description.Init.{Init}
-use Rattle.lin_description.specs.declared.description.Init.TheVariants.{Scalar, Array}
-use Rattle.lin_description.specs.declared.description.Number.{Number}
+use Rattle.lin_parts.specs.declared.description.Description.{Description}
+use Rattle.lin_parts.specs.declared.description.Init.{Init}
+use Rattle.lin_parts.specs.declared.description.Init.TheVariants.{Scalar, Array}
+use Rattle.lin_parts.specs.declared.description.Number.{Number}
 use Rattle.lin_cluster.specs.Described.{described_nad, parts_of}
 use Rattle.lin_cluster.specs.Findings.{IsSound}
 use Rattle.lin_cluster.specs.Sizes as sizes
 use Rattle.lin_cluster.specs.Fitting.{FitsInitial, FitsSignal, FitsFrame, FitsParts, HasMembers}
-use Rattle.lin_cluster_parts.specs.Rules.{AreTimes, IsCluster, IsAddress}
+use Rattle.lin_parts.specs.Rules.{AreTimes, IsCluster, IsAddress}
 use Rattle.lin_cluster.proofs.DescribedErrors.{described-errors}
 use Rattle.lin_cluster.proofs.DescribedEvents.{described-sporadic, described-events}
 use Rattle.lin_cluster.proofs.DescribedFrames.{described-frames}

@@ -6,12 +6,12 @@ use Rattle.std.specs.Option.{option_map, option_map_or}
 use Rattle.std.proofs.lemmas.Bool.{and_parts, eqb-true, not-true}
 use Rattle.std.proofs.lemmas.List.{map-id}
 use Rattle.std.proofs.lemmas.List.Elements.{All-nil, All-cons, All-head, All-tail, filter_map-append}
-use Rattle.lin_description.specs.declared.description.Description.{Description}
-use Rattle.lin_description.specs.declared.description.Name.{Name}
-use Rattle.lin_cluster_parts.specs.Cluster.{signal_of}
-use Rattle.lin_cluster_parts.specs.Rules.{IsErrorSignal, is_array}
-use Rattle.lin_cluster_parts.specs.declared.parts.Signal.{Signal}
-use Rattle.lin_cluster_parts.proofs.Carrying.{kept_below}
+use Rattle.lin_parts.specs.declared.description.Description.{Description}
+use Rattle.lin_parts.specs.declared.description.Name.{Name}
+use Rattle.lin_parts.specs.Cluster.{signal_of}
+use Rattle.lin_parts.specs.Rules.{IsErrorSignal, is_array}
+use Rattle.lin_parts.specs.declared.parts.Signal.{Signal}
+use Rattle.lin_parts.proofs.Carrying.{kept_below}
 use Rattle.lin_cluster.specs.Described.{signals_of, frames_of, subscribes, is_concerned_by, is_error_signal, error_named, error_signal, error_signal_at, error_signals, parts_of, response_error, signal_number}
 use Rattle.lin_cluster.proofs.Enumerated.{mapped_more}
 use Rattle.lin_cluster.proofs.KnownNames.{nodes-count}

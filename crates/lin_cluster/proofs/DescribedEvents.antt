@@ -10,30 +10,30 @@ use Rattle.std.proofs.lemmas.List.{length-map, get_or-take, length-take-le, get_
 use Rattle.std.proofs.lemmas.List.Elements.{All-map}
 use Rattle.lin_frame.specs.declared.sums.SumKind.{SumKind}
 use Rattle.lin_frame.specs.declared.sums.SumKind.TheVariants.{Classic, Enhanced}
-use Rattle.lin_description.specs.declared.description.Description.{Description}
-use Rattle.lin_description.specs.declared.description.EventFrame as declared_event
-use Rattle.lin_description.specs.declared.description.Name.{Name}
-use Rattle.lin_description.specs.declared.description.TableEntry.{TableEntry}
-use Rattle.lin_cluster_parts.specs.Cluster.{frame_of, table_of}
+use Rattle.lin_parts.specs.declared.description.Description.{Description}
+use Rattle.lin_parts.specs.declared.description.EventFrame as declared_event
+use Rattle.lin_parts.specs.declared.description.Name.{Name}
+use Rattle.lin_parts.specs.declared.description.TableEntry.{TableEntry}
+use Rattle.lin_parts.specs.Cluster.{frame_of, table_of}
 use Rattle.lin_cluster.specs.Described.{node_number, frame_number, sporadic_number, event_number, table_number, described_sporadic, described_event, described_entry, described_line, described_table, parts_of}
 use Rattle.lin_cluster.specs.FindingsNames.{is_node, same_name, sporadic_named, event_named, is_event_entry}
 use Rattle.lin_cluster.specs.Members.{is_responders, is_bad_member, has_publisher, differs_from_first, is_in_front, is_mixed}
 use Rattle.lin_cluster.specs.Fitting.{HasMembers}
 use Rattle.lin_cluster.specs.Models.{frame_model, model_named, first_model, differ}
-use Rattle.lin_cluster_parts.specs.Rules.{AreSporadic, AreEvents, IsCommanders, IsResponders, HaveOwnPublishers, HaveOneSize, is_event}
-use Rattle.lin_cluster_parts.specs.declared.parts.Entry.TheVariants.{Frame, Sporadic as SporadicEntry, Event, MasterReq, SlaveResp, Quiet}
-use Rattle.lin_cluster_parts.specs.declared.parts.EventFrame.{EventFrame}
-use Rattle.lin_cluster_parts.specs.declared.parts.Line.{Line}
-use Rattle.lin_cluster_parts.specs.declared.parts.SignalFrame.{SignalFrame}
-use Rattle.lin_cluster_parts.specs.declared.parts.SporadicFrame.{SporadicFrame}
-use Rattle.lin_cluster_parts.specs.declared.parts.Table.{Table}
+use Rattle.lin_parts.specs.Rules.{AreSporadic, AreEvents, IsCommanders, IsResponders, HaveOwnPublishers, HaveOneSize, is_event}
+use Rattle.lin_parts.specs.declared.parts.Entry.TheVariants.{Frame, Sporadic as SporadicEntry, Event, MasterReq, SlaveResp, Quiet}
+use Rattle.lin_parts.specs.declared.parts.EventFrame.{EventFrame}
+use Rattle.lin_parts.specs.declared.parts.Line.{Line}
+use Rattle.lin_parts.specs.declared.parts.SignalFrame.{SignalFrame}
+use Rattle.lin_parts.specs.declared.parts.SporadicFrame.{SporadicFrame}
+use Rattle.lin_parts.specs.declared.parts.Table.{Table}
 use Rattle.lin_cluster.proofs.DescribedTables.{frames-count}
 use Rattle.lin_cluster.proofs.GoodParts.{GoodMember, GoodEvent, the_frame, good-frames, good-sporadics, good-events, within-limits}
 use Rattle.lin_cluster.proofs.KnownNames.{no_table, commander, not-commander, same-node, frame-found, frame-part}
 use Rattle.lin_cluster.proofs.NamesFound.{found-at, found-past}
 use Rattle.lin_cluster.proofs.NothingElse.{NothingElse}
 use Rattle.lin_cluster.proofs.NothingIn.{none-has}
-use Rattle.lin_cluster_parts.proofs.Pairs.{pairs-map}
+use Rattle.lin_parts.proofs.Pairs.{pairs-map}
 
 -- ---- the frame that a member means
 

@@ -13,27 +13,27 @@ use Rattle.lin_frame.specs.Bits.{has_good_size, lies_in, are_apart, all_apart, i
 use Rattle.lin_frame.specs.Frame.{pid}
 use Rattle.lin_frame.specs.declared.layout.Layout.{Layout}
 use Rattle.lin_frame.specs.declared.layout.Place.{Place}
-use Rattle.lin_description.specs.declared.description.Description.{Description}
-use Rattle.lin_description.specs.declared.description.EventFrame.{EventFrame}
-use Rattle.lin_description.specs.declared.description.Frame.{Frame}
-use Rattle.lin_description.specs.declared.description.Name.{Name}
-use Rattle.lin_description.specs.declared.description.PlacedSignal.{PlacedSignal}
-use Rattle.lin_description.specs.declared.description.Signal as declared_signal
-use Rattle.lin_cluster_parts.specs.Cluster.{nodes}
+use Rattle.lin_parts.specs.declared.description.Description.{Description}
+use Rattle.lin_parts.specs.declared.description.EventFrame.{EventFrame}
+use Rattle.lin_parts.specs.declared.description.Frame.{Frame}
+use Rattle.lin_parts.specs.declared.description.Name.{Name}
+use Rattle.lin_parts.specs.declared.description.PlacedSignal.{PlacedSignal}
+use Rattle.lin_parts.specs.declared.description.Signal as declared_signal
+use Rattle.lin_parts.specs.Cluster.{nodes}
 use Rattle.lin_cluster.specs.Described.{initial_of, described_signal, node_number, signal_number, frame_number, frames_of, is_member, described_place, described_layout, described_frame, parts_of}
 use Rattle.lin_cluster.specs.Sizes as sizes
 use Rattle.lin_cluster.specs.Overlaps as overlaps
 use Rattle.lin_cluster.specs.FindingsNames.{is_node, same_name}
 use Rattle.lin_cluster.specs.Members.{is_in_front, has_publisher, differs_from_first}
-use Rattle.lin_cluster_parts.specs.Rules.{AreFrames, IsSignalAt, is_array, place_at}
-use Rattle.lin_cluster_parts.specs.declared.parts.Signal.{Signal}
-use Rattle.lin_cluster_parts.specs.declared.parts.SignalFrame.{SignalFrame}
+use Rattle.lin_parts.specs.Rules.{AreFrames, IsSignalAt, is_array, place_at}
+use Rattle.lin_parts.specs.declared.parts.Signal.{Signal}
+use Rattle.lin_parts.specs.declared.parts.SignalFrame.{SignalFrame}
 use Rattle.lin_cluster.proofs.DescribedSignals.{good-size}
 use Rattle.lin_cluster.proofs.GoodParts.{GoodSignal, GoodFrame, GoodPlaced, good-signals, good-frames, good-events, the_frame}
 use Rattle.lin_cluster.proofs.KnownNames.{no_frame, nodes-count, node-within, node-same, the_signal, signal-at, signal-part, same-signal}
 use Rattle.lin_cluster.proofs.NothingElse.{NothingElse}
 use Rattle.lin_cluster.proofs.NothingIn.{to-each, none-has, zip-of-maps}
-use Rattle.lin_cluster_parts.proofs.Pairs.{pairs-first, pairs-rest, pairs-map}
+use Rattle.lin_parts.proofs.Pairs.{pairs-first, pairs-rest, pairs-map}
 
 -- a place by its signal
 abbrev placed_at : PlacedSignal → declared_signal.Signal → Place

@@ -6,26 +6,26 @@ use Rattle.std.proofs.lemmas.Bool.{ltb-false, lt-ltb, le-leb, eq-eqb, and_from, 
 use Rattle.std.proofs.lemmas.List.{map-append}
 use Rattle.std.proofs.lemmas.List.Elements.{All-map}
 use Rattle.lin_frame.specs.Frame.{pid}
-use Rattle.lin_description.specs.declared.description.Description.{Description}
-use Rattle.lin_description.specs.declared.description.EventFrame as declared_event
-use Rattle.lin_description.specs.declared.description.Frame.{Frame}
-use Rattle.lin_description.specs.declared.description.Number.{Number}
+use Rattle.lin_parts.specs.declared.description.Description.{Description}
+use Rattle.lin_parts.specs.declared.description.EventFrame as declared_event
+use Rattle.lin_parts.specs.declared.description.Frame.{Frame}
+use Rattle.lin_parts.specs.declared.description.Number.{Number}
 use Rattle.lin_cluster.specs.Described.{frame_number, is_member, described_frame, described_event, events_of, parts_of}
 use Rattle.lin_cluster.specs.Identifiers.{ids, bad_id, is_up_to, is_repeated, id_twice}
 use Rattle.lin_cluster.specs.FindingsNames.{at_number}
-use Rattle.lin_cluster_parts.specs.Rules.{AreIdentifiers, CarriesSignals, HasOwnPid, is_listed, pids}
-use Rattle.lin_cluster_parts.specs.declared.parts.EventFrame.{EventFrame}
-use Rattle.lin_cluster_parts.specs.declared.parts.SignalFrame.{SignalFrame}
+use Rattle.lin_parts.specs.Rules.{AreIdentifiers, CarriesSignals, HasOwnPid, is_listed, pids}
+use Rattle.lin_parts.specs.declared.parts.EventFrame.{EventFrame}
+use Rattle.lin_parts.specs.declared.parts.SignalFrame.{SignalFrame}
 use Rattle.lin_cluster.proofs.DescribedFrames.{each-frame}
 use Rattle.lin_cluster.proofs.DescribedTables.{frames-count}
 use Rattle.lin_cluster.proofs.GoodParts.{good-frames, good-events, small-id}
-use Rattle.lin_cluster_parts.proofs.Identifiers.{all-carry}
+use Rattle.lin_parts.proofs.Identifiers.{all-carry}
 use Rattle.lin_cluster.proofs.KnownNames.{no_frame, frame-part}
 use Rattle.lin_cluster.proofs.NothingElse.{NothingElse}
 use Rattle.lin_cluster.specs.declared.finding.FindingKind.TheVariants.{BadId, IdTwice}
 use Rattle.lin_cluster.proofs.NothingIn.{IsShort, in-each, when-not, any-of-map, two-counted}
-use Rattle.lin_cluster_parts.proofs.Pairs.{pairs-map}
-use Rattle.lin_cluster_parts.proofs.SoundClusters.{pid-low}
+use Rattle.lin_parts.proofs.Pairs.{pairs-map}
+use Rattle.lin_parts.proofs.SoundClusters.{pid-low}
 
 -- ---- no identifier twice
 

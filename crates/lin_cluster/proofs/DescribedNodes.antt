@@ -10,23 +10,23 @@ use Rattle.std.proofs.lemmas.List.Sums.{passes_at_first}
 use Rattle.std.proofs.lemmas.List.Folds.{list_any_at}
 use Rattle.std.proofs.lemmas.List.FromFn.{get_or-enumerate_from, length-enumerate_from}
 use Rattle.std.specs.Option.{option_map}
-use Rattle.lin_description.specs.declared.description.Attributes.{Attributes}
-use Rattle.lin_description.specs.declared.description.Description.{Description}
-use Rattle.lin_description.specs.declared.description.Name.{Name}
-use Rattle.lin_description.specs.declared.description.Number.{Number}
+use Rattle.lin_parts.specs.declared.description.Attributes.{Attributes}
+use Rattle.lin_parts.specs.declared.description.Description.{Description}
+use Rattle.lin_parts.specs.declared.description.Name.{Name}
+use Rattle.lin_parts.specs.declared.description.Number.{Number}
 use Rattle.lin_cluster.specs.Described.{node_number, is_block_of, configured_nad, described_nad, responder, nodes_of, parts_of}
 use Rattle.lin_cluster.specs.Addresses.{address, addresses, bad_nad, nad_twice}
 use Rattle.lin_cluster.specs.FindingsNames.{is_responder, at_number}
 use Rattle.lin_cluster.specs.Fitting.{HasMembers}
-use Rattle.lin_cluster_parts.specs.Rules.{AreNodes, IsAddress, HaveOwnAddresses}
-use Rattle.lin_cluster_parts.specs.declared.parts.Node.{Node}
+use Rattle.lin_parts.specs.Rules.{AreNodes, IsAddress, HaveOwnAddresses}
+use Rattle.lin_parts.specs.declared.parts.Node.{Node}
 use Rattle.lin_cluster.proofs.GoodParts.{within-limits}
 use Rattle.lin_cluster.proofs.KnownNames.{no_name, nodes-count}
 use Rattle.lin_cluster.proofs.NamesFound.{found-at, found-past}
 use Rattle.lin_cluster.proofs.NothingElse.{NothingElse}
 use Rattle.lin_cluster.specs.declared.finding.FindingKind.TheVariants.{BadNad, NadTwice}
 use Rattle.lin_cluster.proofs.NothingIn.{IsShort, AreShort, in-each, when-not, of-each, from-each, none-has}
-use Rattle.lin_cluster_parts.proofs.Pairs.{pairs-cons, pairs-map, pairs-first, pairs-rest}
+use Rattle.lin_parts.proofs.Pairs.{pairs-cons, pairs-map, pairs-first, pairs-rest}
 
 -- ---- what is mapped where it is something
 

@@ -5,23 +5,23 @@ use Rattle.std.specs.Prelude.{codes, drop, Some, None, map, slice_index_or}
 use Rattle.lin_frame.specs.declared.sums.SumKind.{SumKind}
 use Rattle.lin_frame.specs.declared.sums.SumKind.TheVariants.{Classic, Enhanced}
 use Rattle.lin_frame.specs.declared.value.Value.TheVariants as values
-use Rattle.lin_description.specs.declared.description.Attributes.{Attributes}
-use Rattle.lin_description.specs.declared.description.Description.{Description}
-use Rattle.lin_description.specs.declared.description.EventFrame as declared_event
-use Rattle.lin_description.specs.declared.description.Frame as declared_frame
-use Rattle.lin_description.specs.declared.description.Init.{Init}
-use Rattle.lin_description.specs.declared.description.Init.TheVariants as inits
-use Rattle.lin_description.specs.declared.description.Name.{Name}
-use Rattle.lin_description.specs.declared.description.Number.{Number}
-use Rattle.lin_description.specs.declared.description.PlacedSignal.{PlacedSignal}
-use Rattle.lin_description.specs.declared.description.Signal as declared_signal
-use Rattle.lin_description.specs.declared.description.Table as declared_table
-use Rattle.lin_description.specs.declared.description.TableEntry.{TableEntry}
-use Rattle.lin_cluster_parts.specs.Cluster.{frame_of, line_of}
+use Rattle.lin_parts.specs.declared.description.Attributes.{Attributes}
+use Rattle.lin_parts.specs.declared.description.Description.{Description}
+use Rattle.lin_parts.specs.declared.description.EventFrame as declared_event
+use Rattle.lin_parts.specs.declared.description.Frame as declared_frame
+use Rattle.lin_parts.specs.declared.description.Init.{Init}
+use Rattle.lin_parts.specs.declared.description.Init.TheVariants as inits
+use Rattle.lin_parts.specs.declared.description.Name.{Name}
+use Rattle.lin_parts.specs.declared.description.Number.{Number}
+use Rattle.lin_parts.specs.declared.description.PlacedSignal.{PlacedSignal}
+use Rattle.lin_parts.specs.declared.description.Signal as declared_signal
+use Rattle.lin_parts.specs.declared.description.Table as declared_table
+use Rattle.lin_parts.specs.declared.description.TableEntry.{TableEntry}
+use Rattle.lin_parts.specs.Cluster.{frame_of, line_of}
 use Rattle.lin_cluster.specs.Described.{parts_of, nodes_of, signals_of, frames_of, sporadic_frames_of, events_of, error_signals, frame_number, node_number}
 use Rattle.lin_cluster.specs.Models.{is_version_1}
-use Rattle.lin_cluster_parts.specs.declared.parts.Entry.TheVariants.{Frame, Sporadic as SporadicEntry, Event, SlaveResp, Quiet}
-use Rattle.lin_cluster_parts.specs.declared.parts.SignalFrame.{SignalFrame}
+use Rattle.lin_parts.specs.declared.parts.Entry.TheVariants.{Frame, Sporadic as SporadicEntry, Event, SlaveResp, Quiet}
+use Rattle.lin_parts.specs.declared.parts.SignalFrame.{SignalFrame}
 
 abbrev name : List ℕ → Name
 name text = record { text = text; line = 1; column = 1 }

@@ -6,15 +6,15 @@ use Rattle.std.proofs.lemmas.Bool.{and_parts, and_right, eqb-true, eq-eqb}
 use Rattle.std.proofs.lemmas.List.{length-map}
 use Rattle.std.proofs.lemmas.List.Elements.{All-map}
 use Rattle.lin_frame.specs.Bits.{fits_place, has_good_size}
-use Rattle.lin_description.specs.declared.description.Description.{Description}
-use Rattle.lin_description.specs.declared.description.Init.{Init}
-use Rattle.lin_description.specs.declared.description.Init.TheVariants as inits
-use Rattle.lin_description.specs.declared.description.Number.{Number}
-use Rattle.lin_cluster_parts.specs.Cluster.{nodes}
+use Rattle.lin_parts.specs.declared.description.Description.{Description}
+use Rattle.lin_parts.specs.declared.description.Init.{Init}
+use Rattle.lin_parts.specs.declared.description.Init.TheVariants as inits
+use Rattle.lin_parts.specs.declared.description.Number.{Number}
+use Rattle.lin_parts.specs.Cluster.{nodes}
 use Rattle.lin_cluster.specs.Described.{initial_of, described_signal, parts_of}
 use Rattle.lin_cluster.specs.Sizes as sizes
-use Rattle.lin_cluster_parts.specs.Rules.{AreSignals, is_array, place_at}
-use Rattle.lin_cluster_parts.specs.declared.parts.Signal.{Signal}
+use Rattle.lin_parts.specs.Rules.{AreSignals, is_array, place_at}
+use Rattle.lin_parts.specs.declared.parts.Signal.{Signal}
 use Rattle.lin_cluster.proofs.GoodParts.{good-signals, within-limits}
 use Rattle.lin_cluster.proofs.KnownNames.{nodes-count, node-within}
 use Rattle.lin_cluster.proofs.NothingElse.{NothingElse}

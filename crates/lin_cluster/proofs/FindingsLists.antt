@@ -9,7 +9,7 @@ use Rattle.std.proofs.lemmas.List.FromFn.{length-enumerate_from, get_or-enumerat
 use Rattle.std.proofs.lemmas.Option.{slice_get_past}
 use Rattle.lin_cluster.specs.Limits.{past}
 use Rattle.lin_cluster.specs.declared.finding.Finding.{Finding}
-use Rattle.lin_description.specs.declared.description.Name.{Name}
+use Rattle.lin_parts.specs.declared.description.Name.{Name}
 
 -- with one more of the items of a list, each with its place
 pub each_more : {A B : Type 0} (f : ℕ × A → List B) (xs : List A) (i : ℕ) (d : A) → i < length xs → flat_map f (take (i + 1) (enumerate_from 0 xs)) ≡ flat_map f (take i (enumerate_from 0 xs)) ++ f (i, get_or xs i d)

@@ -9,11 +9,11 @@ use Rattle.lin_cluster.specs.FindingsNames.{is_node, same_name, signal_named}
 use Rattle.lin_cluster.specs.Known.{frame_facts}
 use Rattle.lin_cluster.specs.Models.{carries_to_lin_1, frame_model, has_lin_1, has_version_1, is_classic, is_lin_1, tells_version_1}
 use Rattle.lin_cluster.specs.declared.findings.facts.FrameFacts.{FrameFacts}
-use Rattle.lin_description.specs.declared.description.Description.{Description}
-use Rattle.lin_description.specs.declared.description.Frame.{Frame}
-use Rattle.lin_description.specs.declared.description.Name.{Name}
-use Rattle.lin_description.specs.declared.description.PlacedSignal.{PlacedSignal}
-use Rattle.lin_description.specs.declared.description.Signal.{Signal}
+use Rattle.lin_parts.specs.declared.description.Description.{Description}
+use Rattle.lin_parts.specs.declared.description.Frame.{Frame}
+use Rattle.lin_parts.specs.declared.description.Name.{Name}
+use Rattle.lin_parts.specs.declared.description.PlacedSignal.{PlacedSignal}
+use Rattle.lin_parts.specs.declared.description.Signal.{Signal}
 
 found-fails : {X : Type 0} (p t : X → Bool) (xs : List X) → list_any t xs ≡ false → option_map_or t (find p xs) false ≡ false
 found-fails p t [] e = refl

@@ -14,9 +14,9 @@ use Rattle.lin_cluster.specs.Members.{has_publisher}
 use Rattle.lin_cluster.proofs.KnownNames.{alike, node-same, same-node}
 use Rattle.lin_cluster.specs.declared.finding.FindingKind.TheVariants.{WrongPublisher}
 use Rattle.lin_cluster.proofs.NamesFound.{same-text, text-same, within-any, past-any}
-use Rattle.lin_description.specs.declared.description.Description.{Description}
-use Rattle.lin_description.specs.declared.description.Frame.{Frame}
-use Rattle.lin_description.specs.declared.description.Name.{Name}
+use Rattle.lin_parts.specs.declared.description.Description.{Description}
+use Rattle.lin_parts.specs.declared.description.Frame.{Frame}
+use Rattle.lin_parts.specs.declared.description.Name.{Name}
 
 known-by : (b any : Bool) (k : ℕ) → b ≡ false → any ≡ true → Some (1 + k) ≡ cond (b || any) (Some (cond (not b) (1 + k) 0)) None
 known-by true any k e f = absurd (cc)

@@ -17,8 +17,8 @@ use Rattle.lin_cluster.specs.declared.findings.ranges.Ranges.{Ranges}
 use Rattle.lin_cluster.proofs.KnownNames.{same-number}
 use Rattle.lin_cluster.proofs.Made.{some-made}
 use Rattle.lin_cluster.proofs.NamesFound.{found-within}
-use Rattle.lin_description.specs.declared.description.Description.{Description}
-use Rattle.lin_description.specs.declared.description.PlacedSignal.{PlacedSignal}
+use Rattle.lin_parts.specs.declared.description.Description.{Description}
+use Rattle.lin_parts.specs.declared.description.PlacedSignal.{PlacedSignal}
 
 either : (a b : Bool) → (a || b) ≡ true → (a ≡ true) ⊎ (b ≡ true)
 either true b h = inl refl

@@ -6,7 +6,7 @@ use Rattle.std.proofs.lemmas.List.Sums.{count_by_more_no, count_by_more_yes}
 use Rattle.lin_cluster.specs.Identifiers.{is_up_to}
 use Rattle.lin_cluster.specs.FindingsRepeats.{has_one, has_two, is_use}
 use Rattle.lin_cluster.specs.declared.findings.repeats.Uses.{Uses}
-use Rattle.lin_description.specs.declared.description.Number.{Number}
+use Rattle.lin_parts.specs.declared.description.Number.{Number}
 
 pub same_number : (m n : ℕ) → nat_eq m n ≡ true → m ≡ n
 same_number m n h = grind (arith, nat_tests)

@@ -3,15 +3,15 @@ use Rattle.std.proofs.Common.{◌≡◌, ◌<◌, ◌≤◌, ◌==◌, nat_lt, �
 use Rattle.std.specs.Prelude.{Option, Some, None, All, is_some, flat_map, slice_get}
 use Rattle.std.specs.List.{list_any, enumerate_from}
 use Rattle.std.proofs.lemmas.Bool.{not-false, ltb-false}
-use Rattle.lin_description.specs.declared.description.Description.{Description}
-use Rattle.lin_description.specs.declared.description.EventFrame.{EventFrame}
-use Rattle.lin_description.specs.declared.description.Frame.{Frame}
-use Rattle.lin_description.specs.declared.description.Name.{Name}
-use Rattle.lin_description.specs.declared.description.PlacedSignal.{PlacedSignal}
-use Rattle.lin_description.specs.declared.description.Signal.{Signal}
-use Rattle.lin_description.specs.declared.description.Sporadic.{Sporadic}
-use Rattle.lin_description.specs.declared.description.Table.{Table}
-use Rattle.lin_description.specs.declared.description.TableEntry.{TableEntry}
+use Rattle.lin_parts.specs.declared.description.Description.{Description}
+use Rattle.lin_parts.specs.declared.description.EventFrame.{EventFrame}
+use Rattle.lin_parts.specs.declared.description.Frame.{Frame}
+use Rattle.lin_parts.specs.declared.description.Name.{Name}
+use Rattle.lin_parts.specs.declared.description.PlacedSignal.{PlacedSignal}
+use Rattle.lin_parts.specs.declared.description.Signal.{Signal}
+use Rattle.lin_parts.specs.declared.description.Sporadic.{Sporadic}
+use Rattle.lin_parts.specs.declared.description.Table.{Table}
+use Rattle.lin_parts.specs.declared.description.TableEntry.{TableEntry}
 use Rattle.std.specs.Str.{bytes_eq}
 use Rattle.std.specs.Option.{option_map_or}
 use Rattle.lin_cluster.specs.Described.{signal_number, frame_number, table_number}
@@ -29,7 +29,7 @@ use Rattle.lin_cluster.specs.Tables.{empty_table, nested_at}
 use Rattle.lin_cluster.specs.declared.finding.FindingKind.TheVariants.{UnknownName, WrongPublisher, BadId, BadSize, SignalOutside, SignalsOverlap, BadInit, ZeroDelay, BadEventFrame, BadSporadic, NestedCollision, EmptyTable, LimitPassed, MixedChecksum}
 use Rattle.lin_cluster.proofs.KnownNames.{no_frame, no_table, the_signal, signal-within, signal-at, frame-found, table-within, table-found}
 use Rattle.lin_cluster.proofs.NamesFound.{found-within}
-use Rattle.lin_cluster_parts.proofs.Pairs.{all-front, all-back, all-of-map}
+use Rattle.lin_parts.proofs.Pairs.{all-front, all-back, all-of-map}
 use Rattle.lin_cluster.proofs.NothingElse.{NothingElse}
 use Rattle.lin_cluster.proofs.NothingIn.{IsShort, AreShort, two-parts, three-parts, four-parts, in-each, when-not, within-limit, of-each, none-has}
 

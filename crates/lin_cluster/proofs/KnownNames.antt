@@ -6,15 +6,15 @@ use Rattle.std.specs.Str.{bytes_eq}
 use Rattle.std.proofs.lemmas.Bool.{eqb-true, eq-eqb}
 use Rattle.std.proofs.lemmas.List.{get_or-map, length-map}
 use Rattle.std.proofs.lemmas.List.FromFn.{length-enumerate_from, get_or-enumerate_from}
-use Rattle.lin_description.specs.declared.description.Description.{Description}
-use Rattle.lin_description.specs.declared.description.Init.TheVariants as inits
-use Rattle.lin_description.specs.declared.description.Frame as declared_frame
-use Rattle.lin_description.specs.declared.description.Name.{Name}
-use Rattle.lin_description.specs.declared.description.Number.{Number}
-use Rattle.lin_description.specs.declared.description.PlacedSignal.{PlacedSignal}
-use Rattle.lin_description.specs.declared.description.Signal as declared_signal
-use Rattle.lin_description.specs.declared.description.Table as declared_table
-use Rattle.lin_cluster_parts.specs.Cluster.{nodes, signal_of, frame_of}
+use Rattle.lin_parts.specs.declared.description.Description.{Description}
+use Rattle.lin_parts.specs.declared.description.Init.TheVariants as inits
+use Rattle.lin_parts.specs.declared.description.Frame as declared_frame
+use Rattle.lin_parts.specs.declared.description.Name.{Name}
+use Rattle.lin_parts.specs.declared.description.Number.{Number}
+use Rattle.lin_parts.specs.declared.description.PlacedSignal.{PlacedSignal}
+use Rattle.lin_parts.specs.declared.description.Signal as declared_signal
+use Rattle.lin_parts.specs.declared.description.Table as declared_table
+use Rattle.lin_parts.specs.Cluster.{nodes, signal_of, frame_of}
 use Rattle.lin_cluster.specs.Described.{node_names, node_number, signal_number, frame_number, table_number, responder, described_signal, described_frame, parts_of}
 use Rattle.lin_cluster.specs.FindingsNames.{is_node, signal_named, frame_named, table_named, same_name}
 use Rattle.lin_cluster.proofs.NamesFound.{number_by, same-text, text-same, has-text, one-text, any-within, found-within, found-at}

@@ -8,9 +8,9 @@ use Rattle.lin_cluster.specs.Lint.{bad_configurable, bad_configurables}
 use Rattle.lin_cluster.specs.LintNames.{concerns_by, frames_by, is_frame_of, is_subscribed, lists_by, processes}
 use Rattle.lin_cluster.specs.declared.finding.FindingKind.TheVariants.{BadConfigurable}
 use Rattle.lin_cluster.specs.declared.lints.configurable.Configurable.{Configurable}
-use Rattle.lin_description.specs.declared.description.Description.{Description}
-use Rattle.lin_description.specs.declared.description.Frame.{Frame}
-use Rattle.lin_description.specs.declared.description.Name.{Name}
+use Rattle.lin_parts.specs.declared.description.Description.{Description}
+use Rattle.lin_parts.specs.declared.description.Frame.{Frame}
+use Rattle.lin_parts.specs.declared.description.Name.{Name}
 
 -- the names of frames, added to none, by the names of the signals that the node subscribes
 pub frames_added : (d : Description) (node : Name) (signals : List ℕ → Bool) (none one : Bool) (fs : List Frame) (q : List ℕ) → ((r : List ℕ) → signals r ≡ is_subscribed d node r) → none ≡ false → one ≡ (none || list_any (λ f. concerns_by signals node f && bytes_eq f.name.text q) fs) → fs ≡ d.frames → one ≡ is_frame_of d node q

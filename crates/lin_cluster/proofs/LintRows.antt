@@ -6,10 +6,10 @@ use Rattle.lin_cluster.specs.Kinds.{finding_at}
 use Rattle.lin_cluster.specs.Lint.{lints}
 use Rattle.lin_cluster.specs.declared.finding.FindingKind.TheVariants.{UnplacedSignal, UnusedFrame, UnscheduledFrame, NoSubscriber, OwnSubscriber, OffTimeBase, NoAddress, BadResponseError, BadConfigurable}
 use Rattle.lin_cluster.specs.declared.lints.configurable.Configurable.{Configurable}
-use Rattle.lin_description.specs.declared.description.Attributes.{Attributes}
-use Rattle.lin_description.specs.declared.description.Description.{Description}
-use Rattle.lin_description.specs.declared.description.Frame.{Frame}
-use Rattle.lin_description.specs.declared.description.Signal.{Signal}
+use Rattle.lin_parts.specs.declared.description.Attributes.{Attributes}
+use Rattle.lin_parts.specs.declared.description.Description.{Description}
+use Rattle.lin_parts.specs.declared.description.Frame.{Frame}
+use Rattle.lin_parts.specs.declared.description.Signal.{Signal}
 use Rattle.lin_cluster.proofs.FindingsRows.{name, number, signal, frame, placed, entry, main_table, body, level, lkey, light, left, resolve}
 
 -- a bit that the responder publishes

@@ -8,11 +8,11 @@ use Rattle.std.proofs.Math.Dec.{eqb-suc-zero}
 use Rattle.std.proofs.lemmas.Bool.{ltb-false}
 use Rattle.std.proofs.lemmas.List.{get_or-map, length-map}
 use Rattle.std.proofs.lemmas.List.Elements.{All-head, All-map, All-tail}
-use Rattle.lin_description.specs.declared.description.Description.{Description}
-use Rattle.lin_description.specs.declared.description.EventFrame as declared_event
-use Rattle.lin_description.specs.declared.description.Name.{Name}
-use Rattle.lin_description.specs.declared.description.Sporadic as declared_sporadic
-use Rattle.lin_description.specs.declared.description.TableEntry.{TableEntry}
+use Rattle.lin_parts.specs.declared.description.Description.{Description}
+use Rattle.lin_parts.specs.declared.description.EventFrame as declared_event
+use Rattle.lin_parts.specs.declared.description.Name.{Name}
+use Rattle.lin_parts.specs.declared.description.Sporadic as declared_sporadic
+use Rattle.lin_parts.specs.declared.description.TableEntry.{TableEntry}
 use Rattle.lin_cluster.specs.Described.{described_entry, described_event, described_line, described_sporadic, described_table, event_number, frame_number, members_of, parts_of, sporadic_number}
 use Rattle.lin_cluster.specs.Findings.{IsFree}
 use Rattle.lin_cluster.specs.FindingsNames.{carries_frame, event_named, frame_named, is_any_frame, sporadic_named, at_name}
@@ -25,15 +25,15 @@ use Rattle.lin_cluster.proofs.GoodParts.{GoodLine, good-events, good-frames, goo
 use Rattle.lin_cluster.proofs.KnownNames.{frame-found, no_frame, no_name, no_number}
 use Rattle.lin_cluster.proofs.NamesFound.{found-at, found-within}
 use Rattle.lin_cluster.proofs.NothingElse.{NothingElse, nothing-else, free-is-sound, no-short-slots}
-use Rattle.lin_cluster_parts.specs.Cluster.{event_of, sporadic_of}
-use Rattle.lin_cluster_parts.specs.Rules.{IsCluster}
-use Rattle.lin_cluster_parts.specs.declared.parts.Entry.{Entry}
-use Rattle.lin_cluster_parts.specs.declared.parts.Entry.TheVariants.{Frame, Sporadic, Event, MasterReq, SlaveResp, Quiet}
-use Rattle.lin_cluster_parts.specs.declared.parts.EventFrame.{EventFrame}
-use Rattle.lin_cluster_parts.specs.declared.parts.Line.{Line}
-use Rattle.lin_cluster_parts.specs.declared.parts.Parts.{Parts}
-use Rattle.lin_cluster_parts.specs.declared.parts.SporadicFrame.{SporadicFrame}
-use Rattle.lin_cluster_parts.specs.declared.parts.Table.{Table}
+use Rattle.lin_parts.specs.Cluster.{event_of, sporadic_of}
+use Rattle.lin_parts.specs.Rules.{IsCluster}
+use Rattle.lin_parts.specs.declared.parts.Entry.{Entry}
+use Rattle.lin_parts.specs.declared.parts.Entry.TheVariants.{Frame, Sporadic, Event, MasterReq, SlaveResp, Quiet}
+use Rattle.lin_parts.specs.declared.parts.EventFrame.{EventFrame}
+use Rattle.lin_parts.specs.declared.parts.Line.{Line}
+use Rattle.lin_parts.specs.declared.parts.Parts.{Parts}
+use Rattle.lin_parts.specs.declared.parts.SporadicFrame.{SporadicFrame}
+use Rattle.lin_parts.specs.declared.parts.Table.{Table}
 
 -- ---- the data bytes of a slot are those by which the description is judged
 

@@ -19,11 +19,11 @@ use Rattle.lin_cluster.specs.declared.finding.Finding.{Finding}
 use Rattle.lin_cluster.specs.declared.finding.FindingKind.TheVariants.{UnknownName, WrongPublisher, SignalOutside, BadEventFrame, BadSporadic, MixedChecksum}
 use Rattle.lin_cluster.specs.declared.findings.facts.FrameFacts.{FrameFacts}
 use Rattle.lin_cluster.specs.declared.findings.facts.SignalFacts.{SignalFacts}
-use Rattle.lin_description.specs.declared.description.Description.{Description}
-use Rattle.lin_description.specs.declared.description.Frame.{Frame}
-use Rattle.lin_description.specs.declared.description.Name.{Name}
-use Rattle.lin_description.specs.declared.description.PlacedSignal.{PlacedSignal}
-use Rattle.lin_description.specs.declared.description.Signal.{Signal}
+use Rattle.lin_parts.specs.declared.description.Description.{Description}
+use Rattle.lin_parts.specs.declared.description.Frame.{Frame}
+use Rattle.lin_parts.specs.declared.description.Name.{Name}
+use Rattle.lin_parts.specs.declared.description.PlacedSignal.{PlacedSignal}
+use Rattle.lin_parts.specs.declared.description.Signal.{Signal}
 use Rattle.lin_cluster.proofs.FindingsNodes.{publishes, published-same, commanders, no-commander, wrong-by}
 
 -- ---- tests of what is made of something

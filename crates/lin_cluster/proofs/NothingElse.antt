@@ -12,8 +12,8 @@ use Rattle.lin_cluster.specs.Slots.{short_slot_at, zero_delay}
 use Rattle.lin_cluster.specs.UnknownNames.{unknown_entry}
 use Rattle.lin_cluster.specs.Tables.{empty_table, no_table}
 use Rattle.lin_cluster.specs.declared.finding.Finding.{Finding}
-use Rattle.lin_description.specs.declared.description.Description.{Description}
-use Rattle.lin_description.specs.declared.description.Table.{Table}
+use Rattle.lin_parts.specs.declared.description.Description.{Description}
+use Rattle.lin_parts.specs.declared.description.Table.{Table}
 use Rattle.lin_cluster.proofs.NothingIn.{IsShort, two-parts, three-parts, four-parts, in-each}
 
 pub record OfEachPart (P : Finding → Type 0) (d : Description) : Type 0 where

@@ -10,8 +10,8 @@ use Rattle.lin_cluster.specs.FindingsNames.{when, at_name}
 use Rattle.lin_cluster.specs.Limits.{past}
 use Rattle.lin_cluster.specs.declared.finding.Finding.{Finding}
 use Rattle.lin_cluster.specs.declared.finding.FindingKind.TheVariants.{LimitPassed}
-use Rattle.lin_cluster_parts.proofs.Pairs.{all-front, all-back}
-use Rattle.lin_description.specs.declared.description.Name.{Name}
+use Rattle.lin_parts.proofs.Pairs.{all-front, all-back}
+use Rattle.lin_parts.specs.declared.description.Name.{Name}
 
 -- slots that are too short (9), and no other finding
 abbrev pub IsShort : Finding → Type 0

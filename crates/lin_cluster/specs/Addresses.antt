@@ -5,9 +5,9 @@ use Rattle.std.specs.List.{list_any, enumerate_from}
 use Rattle.lin_cluster.specs.FindingsNames.{at_number, when, is_responder}
 use Rattle.lin_cluster.specs.declared.finding.FindingKind.TheVariants.{BadNad, NadTwice}
 use Rattle.lin_cluster.specs.declared.finding.Finding.{Finding}
-use Rattle.lin_description.specs.declared.description.Attributes.{Attributes}
-use Rattle.lin_description.specs.declared.description.Description.{Description}
-use Rattle.lin_description.specs.declared.description.Number.{Number}
+use Rattle.lin_parts.specs.declared.description.Attributes.{Attributes}
+use Rattle.lin_parts.specs.declared.description.Description.{Description}
+use Rattle.lin_parts.specs.declared.description.Number.{Number}
 
 -- ---- 11 BadNad, 12 NadTwice
 

@@ -4,7 +4,7 @@ use Rattle.lin_cluster.specs.Findings.{candidates, AreFindings}
 use Rattle.lin_cluster.specs.declared.finding.CheckFault.{CheckFault}
 use Rattle.lin_cluster.specs.declared.finding.CheckFault.TheVariants.{Findings, OutOfMemory}
 use Rattle.lin_cluster.specs.declared.finding.Finding.{Finding}
-use Rattle.lin_description.specs.declared.description.Description.{Description}
+use Rattle.lin_parts.specs.declared.description.Description.{Description}
 
 -- all that is found, which is something, and no other list is that; out of memory says nothing of
 -- the description

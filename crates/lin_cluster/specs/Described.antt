@@ -13,32 +13,32 @@ use Rattle.lin_frame.specs.declared.layout.Place.{Place}
 use Rattle.lin_frame.specs.declared.sums.SumKind.TheVariants.{Enhanced}
 use Rattle.lin_frame.specs.declared.value.Value.{Value}
 use Rattle.lin_frame.specs.declared.value.Value.TheVariants as values
-use Rattle.lin_description.specs.declared.description.Attributes.{Attributes}
-use Rattle.lin_description.specs.declared.description.Description.{Description}
-use Rattle.lin_description.specs.declared.description.EventFrame as declared_event
-use Rattle.lin_description.specs.declared.description.Frame as declared_frame
-use Rattle.lin_description.specs.declared.description.Init.{Init}
-use Rattle.lin_description.specs.declared.description.Init.TheVariants as inits
-use Rattle.lin_description.specs.declared.description.Name.{Name}
-use Rattle.lin_description.specs.declared.description.PlacedSignal.{PlacedSignal}
-use Rattle.lin_description.specs.declared.description.Signal as declared_signal
-use Rattle.lin_description.specs.declared.description.Sporadic as declared_sporadic
-use Rattle.lin_description.specs.declared.description.Table as declared_table
-use Rattle.lin_description.specs.declared.description.TableEntry.{TableEntry}
+use Rattle.lin_parts.specs.declared.description.Attributes.{Attributes}
+use Rattle.lin_parts.specs.declared.description.Description.{Description}
+use Rattle.lin_parts.specs.declared.description.EventFrame as declared_event
+use Rattle.lin_parts.specs.declared.description.Frame as declared_frame
+use Rattle.lin_parts.specs.declared.description.Init.{Init}
+use Rattle.lin_parts.specs.declared.description.Init.TheVariants as inits
+use Rattle.lin_parts.specs.declared.description.Name.{Name}
+use Rattle.lin_parts.specs.declared.description.PlacedSignal.{PlacedSignal}
+use Rattle.lin_parts.specs.declared.description.Signal as declared_signal
+use Rattle.lin_parts.specs.declared.description.Sporadic as declared_sporadic
+use Rattle.lin_parts.specs.declared.description.Table as declared_table
+use Rattle.lin_parts.specs.declared.description.TableEntry.{TableEntry}
 use Rattle.lin_cluster.specs.Models.{frame_model, first_model}
 use Rattle.lin_cluster.specs.FindingsNames.{same_name}
-use Rattle.lin_cluster_parts.specs.Rules.{is_array, place_at}
-use Rattle.lin_cluster_parts.specs.declared.parts.Entry.{Entry}
-use Rattle.lin_cluster_parts.specs.declared.parts.Entry.TheVariants as entries
-use Rattle.lin_cluster_parts.specs.declared.parts.ErrorSignal.{ErrorSignal}
-use Rattle.lin_cluster_parts.specs.declared.parts.EventFrame.{EventFrame}
-use Rattle.lin_cluster_parts.specs.declared.parts.Line.{Line}
-use Rattle.lin_cluster_parts.specs.declared.parts.Node.{Node}
-use Rattle.lin_cluster_parts.specs.declared.parts.Parts.{Parts}
-use Rattle.lin_cluster_parts.specs.declared.parts.Signal.{Signal}
-use Rattle.lin_cluster_parts.specs.declared.parts.SignalFrame.{SignalFrame}
-use Rattle.lin_cluster_parts.specs.declared.parts.SporadicFrame.{SporadicFrame}
-use Rattle.lin_cluster_parts.specs.declared.parts.Table.{Table}
+use Rattle.lin_parts.specs.Rules.{is_array, place_at}
+use Rattle.lin_parts.specs.declared.parts.Entry.{Entry}
+use Rattle.lin_parts.specs.declared.parts.Entry.TheVariants as entries
+use Rattle.lin_parts.specs.declared.parts.ErrorSignal.{ErrorSignal}
+use Rattle.lin_parts.specs.declared.parts.EventFrame.{EventFrame}
+use Rattle.lin_parts.specs.declared.parts.Line.{Line}
+use Rattle.lin_parts.specs.declared.parts.Node.{Node}
+use Rattle.lin_parts.specs.declared.parts.Parts.{Parts}
+use Rattle.lin_parts.specs.declared.parts.Signal.{Signal}
+use Rattle.lin_parts.specs.declared.parts.SignalFrame.{SignalFrame}
+use Rattle.lin_parts.specs.declared.parts.SporadicFrame.{SporadicFrame}
+use Rattle.lin_parts.specs.declared.parts.Table.{Table}
 
 -- ---- numbers of names
 

@@ -9,7 +9,7 @@ use Rattle.lin_cluster.specs.declared.finding.Finding.{Finding}
 use Rattle.lin_cluster.specs.declared.finding.FindingKind.TheVariants.{UnknownName, BadEventFrame}
 use Rattle.lin_cluster.specs.declared.finding.FindingKind.TheVariants.{MixedChecksum}
 use Rattle.lin_cluster.specs.declared.findings.facts.FrameFacts.{FrameFacts}
-use Rattle.lin_description.specs.declared.description.Name.{Name}
+use Rattle.lin_parts.specs.declared.description.Name.{Name}
 
 -- by the first member where that is a frame, and whether a node has published a member before it
 abbrev pub is_bad_after : Option FrameFacts → (ℕ → Bool) → FrameFacts → Bool

@@ -6,9 +6,9 @@ use Rattle.lin_cluster.specs.Described.{node_number}
 use Rattle.lin_cluster.specs.FindingsNames.{at_name, when, is_node, signal_named}
 use Rattle.lin_cluster.specs.declared.finding.FindingKind.TheVariants.{WrongPublisher}
 use Rattle.lin_cluster.specs.declared.finding.Finding.{Finding}
-use Rattle.lin_description.specs.declared.description.Description.{Description}
-use Rattle.lin_description.specs.declared.description.Name.{Name}
-use Rattle.lin_description.specs.declared.description.PlacedSignal.{PlacedSignal}
+use Rattle.lin_parts.specs.declared.description.Description.{Description}
+use Rattle.lin_parts.specs.declared.description.Name.{Name}
+use Rattle.lin_parts.specs.declared.description.PlacedSignal.{PlacedSignal}
 
 -- the number of the node with this name, where there is one: the commander's is 0
 abbrev pub node_of : Description → Name → Option ℕ

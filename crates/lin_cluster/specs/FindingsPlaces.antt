@@ -13,8 +13,8 @@ use Rattle.lin_cluster.specs.declared.finding.FindingKind.TheVariants.{SignalOut
 use Rattle.lin_cluster.specs.declared.findings.facts.SignalFacts.{SignalFacts}
 use Rattle.lin_cluster.specs.declared.findings.numbers.Numbers.{Numbers}
 use Rattle.lin_cluster.specs.declared.findings.ranges.Ranges.{Ranges}
-use Rattle.lin_description.specs.declared.description.Frame.{Frame}
-use Rattle.lin_description.specs.declared.description.PlacedSignal.{PlacedSignal}
+use Rattle.lin_parts.specs.declared.description.Frame.{Frame}
+use Rattle.lin_parts.specs.declared.description.PlacedSignal.{PlacedSignal}
 
 -- whether a number is in the set
 abbrev pub has_number : Numbers → ℕ → Bool

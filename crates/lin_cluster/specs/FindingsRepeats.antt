@@ -5,7 +5,7 @@ use Rattle.std.specs.Option.{option_map_or}
 use Rattle.indexmap.specs.IndexMap.{IndexMap, get}
 use Rattle.lin_cluster.specs.Identifiers.{is_up_to}
 use Rattle.lin_cluster.specs.declared.findings.repeats.Uses.{Uses}
-use Rattle.lin_description.specs.declared.description.Number.{Number}
+use Rattle.lin_parts.specs.declared.description.Number.{Number}
 
 -- whether up to the place of a number there is one with its value, and whether there are two
 abbrev pub has_one : Option Uses → Number → Bool

@@ -1,11 +1,11 @@
 -- When the numbers of a description fit the types of a cluster's parts, as they do where nothing is
 -- found.
 use Rattle.std.specs.Prelude.{ℕ, ◌<◌, ◌≤◌, ◌^◌, length, All, IfSome}
-use Rattle.lin_description.specs.declared.description.Description.{Description}
-use Rattle.lin_description.specs.declared.description.Frame.{Frame}
-use Rattle.lin_description.specs.declared.description.Init.{Init}
-use Rattle.lin_description.specs.declared.description.Init.TheVariants.{Scalar, Array}
-use Rattle.lin_description.specs.declared.description.Signal.{Signal}
+use Rattle.lin_parts.specs.declared.description.Description.{Description}
+use Rattle.lin_parts.specs.declared.description.Frame.{Frame}
+use Rattle.lin_parts.specs.declared.description.Init.{Init}
+use Rattle.lin_parts.specs.declared.description.Init.TheVariants.{Scalar, Array}
+use Rattle.lin_parts.specs.declared.description.Signal.{Signal}
 use Rattle.lin_cluster.specs.Described.{described_nad}
 
 abbrev pub FitsInitial : Init → Type 0

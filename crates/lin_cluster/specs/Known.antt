@@ -3,7 +3,7 @@
 use Rattle.std.specs.Prelude.{◌≡◌, ℕ, List, Option, Bool, map}
 use Rattle.std.specs.List.{list_any}
 use Rattle.std.specs.Option.{option_map, option_or}
-use Rattle.lin_cluster_parts.specs.declared.parts.Signal as cluster
+use Rattle.lin_parts.specs.declared.parts.Signal as cluster
 use Rattle.lin_cluster.specs.Described.{signals_of}
 use Rattle.lin_cluster.specs.FindingsNames.{frame_named, sporadic_named, event_named}
 use Rattle.lin_cluster.specs.FindingsNames.{is_event_entry}
@@ -17,10 +17,10 @@ use Rattle.indexmap.specs.IndexMap.{IndexMap}
 use denote.Ref.{Bor}
 use Rattle.lin_cluster.specs.declared.findings.facts.FrameFacts.{FrameFacts}
 use Rattle.lin_cluster.specs.declared.findings.facts.SignalFacts.{SignalFacts}
-use Rattle.lin_description.specs.declared.description.Description.{Description}
-use Rattle.lin_description.specs.declared.description.Frame.{Frame}
-use Rattle.lin_description.specs.declared.description.Name.{Name}
-use Rattle.lin_description.specs.declared.description.Signal.{Signal}
+use Rattle.lin_parts.specs.declared.description.Description.{Description}
+use Rattle.lin_parts.specs.declared.description.Frame.{Frame}
+use Rattle.lin_parts.specs.declared.description.Name.{Name}
+use Rattle.lin_parts.specs.declared.description.Signal.{Signal}
 
 -- the numbers of the responders, and of the blocks of attributes, by the names of nodes
 abbrev pub AreNodeNumbers : {S T : Type 0} → Description → IndexMap (Bor (List ℕ)) ℕ S

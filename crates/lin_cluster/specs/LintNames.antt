@@ -7,11 +7,11 @@ use denote.Ref.{Bor}
 use Rattle.lin_cluster.specs.Described.{subscribes}
 use Rattle.lin_cluster.specs.FindingsNames.{carries_frame, is_diagnostic, same_name}
 use Rattle.lin_cluster.specs.Names.{NumbersFirst}
-use Rattle.lin_description.specs.declared.description.Description.{Description}
-use Rattle.lin_description.specs.declared.description.Frame.{Frame}
-use Rattle.lin_description.specs.declared.description.Name.{Name}
-use Rattle.lin_description.specs.declared.description.Table.{Table}
-use Rattle.lin_description.specs.declared.description.TableEntry.{TableEntry}
+use Rattle.lin_parts.specs.declared.description.Description.{Description}
+use Rattle.lin_parts.specs.declared.description.Frame.{Frame}
+use Rattle.lin_parts.specs.declared.description.Name.{Name}
+use Rattle.lin_parts.specs.declared.description.Table.{Table}
+use Rattle.lin_parts.specs.declared.description.TableEntry.{TableEntry}
 
 -- whether a set has this text
 abbrev pub has_text : {V S : Type 0} → IndexMap (Bor (List ℕ)) V S → List ℕ → Bool

@@ -10,10 +10,10 @@ use Rattle.lin_cluster.specs.Models.{model_named, first_model, differ}
 use Rattle.lin_cluster.specs.declared.finding.FindingKind.TheVariants.{BadEventFrame, BadSporadic}
 use Rattle.lin_cluster.specs.declared.finding.FindingKind.TheVariants.{MixedChecksum}
 use Rattle.lin_cluster.specs.declared.finding.Finding.{Finding}
-use Rattle.lin_description.specs.declared.description.Description.{Description}
-use Rattle.lin_description.specs.declared.description.Frame.{Frame}
-use Rattle.lin_description.specs.declared.description.Name.{Name}
-use Rattle.lin_description.specs.declared.description.PlacedSignal.{PlacedSignal}
+use Rattle.lin_parts.specs.declared.description.Description.{Description}
+use Rattle.lin_parts.specs.declared.description.Frame.{Frame}
+use Rattle.lin_parts.specs.declared.description.Name.{Name}
+use Rattle.lin_parts.specs.declared.description.PlacedSignal.{PlacedSignal}
 
 -- ---- 13 BadEventFrame
 

@@ -7,12 +7,12 @@ use Rattle.std.specs.Option.{option_map, option_map_or}
 use Rattle.lin_frame.specs.declared.sums.SumKind.{SumKind}
 use Rattle.lin_frame.specs.declared.sums.SumKind.TheVariants.{Classic, Enhanced}
 use Rattle.lin_cluster.specs.FindingsNames.{same_name, is_node, signal_named, frame_named}
-use Rattle.lin_description.specs.declared.description.Attributes.{Attributes}
-use Rattle.lin_description.specs.declared.description.Description.{Description}
-use Rattle.lin_description.specs.declared.description.Frame.{Frame}
-use Rattle.lin_description.specs.declared.description.Name.{Name}
-use Rattle.lin_description.specs.declared.description.PlacedSignal.{PlacedSignal}
-use Rattle.lin_description.specs.declared.description.Signal.{Signal}
+use Rattle.lin_parts.specs.declared.description.Attributes.{Attributes}
+use Rattle.lin_parts.specs.declared.description.Description.{Description}
+use Rattle.lin_parts.specs.declared.description.Frame.{Frame}
+use Rattle.lin_parts.specs.declared.description.Name.{Name}
+use Rattle.lin_parts.specs.declared.description.PlacedSignal.{PlacedSignal}
+use Rattle.lin_parts.specs.declared.description.Signal.{Signal}
 
 -- whether a version of the protocol is one of LIN 1.x
 abbrev pub is_version_1 : List ℕ → Bool

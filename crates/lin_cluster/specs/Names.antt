@@ -3,7 +3,7 @@ use Rattle.std.specs.Prelude.{◌≡◌, ℕ, List}
 use Rattle.std.specs.List.{position_from}
 use Rattle.std.specs.Str.{bytes_eq}
 use Rattle.indexmap.specs.IndexMap.{IndexMap, get_by}
-use Rattle.lin_description.specs.declared.description.Name.{Name}
+use Rattle.lin_parts.specs.declared.description.Name.{Name}
 use denote.Ref.{Bor}
 
 -- under each text the map has the number of the first item with this text

@@ -5,11 +5,11 @@ use Rattle.std.specs.List.{list_any}
 use Rattle.lin_cluster.specs.FindingsNames.{at_number, at_place, when}
 use Rattle.lin_cluster.specs.declared.finding.FindingKind.TheVariants.{BadSize, BadInit}
 use Rattle.lin_cluster.specs.declared.finding.Finding.{Finding}
-use Rattle.lin_description.specs.declared.description.Frame.{Frame}
-use Rattle.lin_description.specs.declared.description.Init.{Init}
-use Rattle.lin_description.specs.declared.description.Init.TheVariants.{Scalar, Array}
-use Rattle.lin_description.specs.declared.description.Signal.{Signal}
-use Rattle.lin_description.specs.declared.place.Place.{Place}
+use Rattle.lin_parts.specs.declared.description.Frame.{Frame}
+use Rattle.lin_parts.specs.declared.description.Init.{Init}
+use Rattle.lin_parts.specs.declared.description.Init.TheVariants.{Scalar, Array}
+use Rattle.lin_parts.specs.declared.description.Signal.{Signal}
+use Rattle.lin_parts.specs.declared.place.Place.{Place}
 
 -- ---- 5 BadSize
 

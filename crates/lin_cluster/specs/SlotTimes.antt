@@ -1,12 +1,12 @@
 -- What the slots of a cluster need (ISO 17987-3, frame slots).
 use Rattle.std.specs.Prelude.{◌≤◌, ℕ, List, All, max, fold, slice_index}
 use Rattle.lin_cluster.specs.Slots.{needed_us}
-use Rattle.lin_cluster_parts.specs.Cluster.{event_of, frame_of, sporadic_of}
-use Rattle.lin_cluster_parts.specs.declared.parts.Entry.{Entry}
-use Rattle.lin_cluster_parts.specs.declared.parts.Entry.TheVariants.{Frame, Sporadic, Event}
-use Rattle.lin_cluster_parts.specs.declared.parts.Entry.TheVariants.{MasterReq}
-use Rattle.lin_cluster_parts.specs.declared.parts.Entry.TheVariants.{SlaveResp, Quiet}
-use Rattle.lin_cluster_parts.specs.declared.parts.Parts.{Parts}
+use Rattle.lin_parts.specs.Cluster.{event_of, frame_of, sporadic_of}
+use Rattle.lin_parts.specs.declared.parts.Entry.{Entry}
+use Rattle.lin_parts.specs.declared.parts.Entry.TheVariants.{Frame, Sporadic, Event}
+use Rattle.lin_parts.specs.declared.parts.Entry.TheVariants.{MasterReq}
+use Rattle.lin_parts.specs.declared.parts.Entry.TheVariants.{SlaveResp, Quiet}
+use Rattle.lin_parts.specs.declared.parts.Parts.{Parts}
 
 abbrev pub frame_bytes : Parts → ℕ → ℕ
 frame_bytes c f = (frame_of c f).layout.len

@@ -10,9 +10,9 @@ use Rattle.lin_cluster.specs.FindingsNames.{event_named, carries_frame}
 use Rattle.lin_cluster.specs.Sizes.{is_frame_size}
 use Rattle.lin_cluster.specs.declared.finding.FindingKind.TheVariants.{SlotTooShort, ZeroDelay}
 use Rattle.lin_cluster.specs.declared.finding.Finding.{Finding}
-use Rattle.lin_description.specs.declared.description.Description.{Description}
-use Rattle.lin_description.specs.declared.description.Name.{Name}
-use Rattle.lin_description.specs.declared.description.TableEntry.{TableEntry}
+use Rattle.lin_parts.specs.declared.description.Description.{Description}
+use Rattle.lin_parts.specs.declared.description.Name.{Name}
+use Rattle.lin_parts.specs.declared.description.TableEntry.{TableEntry}
 
 -- ---- 9 SlotTooShort
 

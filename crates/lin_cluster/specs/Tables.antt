@@ -6,9 +6,9 @@ use Rattle.lin_cluster.specs.FindingsNames.{at_name, when, table_named, is_event
 use Rattle.lin_cluster.specs.Kinds.{finding_at}
 use Rattle.lin_cluster.specs.declared.finding.FindingKind.TheVariants.{NestedCollision, EmptyTable}
 use Rattle.lin_cluster.specs.declared.finding.Finding.{Finding}
-use Rattle.lin_description.specs.declared.description.Description.{Description}
-use Rattle.lin_description.specs.declared.description.EventFrame.{EventFrame}
-use Rattle.lin_description.specs.declared.description.Table.{Table}
+use Rattle.lin_parts.specs.declared.description.Description.{Description}
+use Rattle.lin_parts.specs.declared.description.EventFrame.{EventFrame}
+use Rattle.lin_parts.specs.declared.description.Table.{Table}
 
 -- ---- 15 NestedCollision: the resolving table has an event-triggered entry
 

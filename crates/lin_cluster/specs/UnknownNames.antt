@@ -5,11 +5,11 @@ use Rattle.lin_cluster.specs.FindingsNames.{at_name, when, is_node, signal_named
 use Rattle.lin_cluster.specs.FindingsNames.{is_any_frame, carries_frame}
 use Rattle.lin_cluster.specs.declared.finding.FindingKind.TheVariants.{UnknownName}
 use Rattle.lin_cluster.specs.declared.finding.Finding.{Finding}
-use Rattle.lin_description.specs.declared.description.Description.{Description}
-use Rattle.lin_description.specs.declared.description.EventFrame.{EventFrame}
-use Rattle.lin_description.specs.declared.description.Name.{Name}
-use Rattle.lin_description.specs.declared.description.PlacedSignal.{PlacedSignal}
-use Rattle.lin_description.specs.declared.description.TableEntry.{TableEntry}
+use Rattle.lin_parts.specs.declared.description.Description.{Description}
+use Rattle.lin_parts.specs.declared.description.EventFrame.{EventFrame}
+use Rattle.lin_parts.specs.declared.description.Name.{Name}
+use Rattle.lin_parts.specs.declared.description.PlacedSignal.{PlacedSignal}
+use Rattle.lin_parts.specs.declared.description.TableEntry.{TableEntry}
 
 -- ---- 1 UnknownName
 

@@ -11,10 +11,10 @@ ghost use Rattle.lin_cluster.specs.declared.finding.CheckFault.TheVariants.{OutO
 use crate::described::parts_of;
 use crate::finding::{CheckFault, Finding};
 use crate::findings::{Examined, examine};
-use lin_cluster_parts::Cluster;
-use lin_description::Description;
 use lin_frame::SumKind;
-use lin_lists::Many;
+use lin_parts::Cluster;
+use lin_parts::description::Description;
+use lin_text::Many;
 use std::alloc::{AllocError, Global};
 
 impl From<AllocError> for CheckFault {

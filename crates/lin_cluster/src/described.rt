@@ -7,9 +7,9 @@ ghost use Rattle.lin_cluster.specs.Described.{parts_of};
 ghost use Rattle.lin_cluster.specs.Fitting.{FitsParts, HasMembers};
 ghost use Rattle.lin_cluster.specs.Models.{frame_model};
 
-use lin_cluster_parts::Parts;
-use lin_description::Description;
 use lin_frame::SumKind;
+use lin_parts::Parts;
+use lin_parts::description::Description;
 use signals::NumberedSignals;
 use std::alloc::{AllocError, Global};
 

@@ -3,8 +3,8 @@
 ghost use Rattle.std.specs.Prelude.{◌≡◌};
 ghost use Rattle.lin_cluster.specs.Kinds.{finding_at, finding_name, number_of};
 
-use lin_description::Place;
-use lin_lists::Many;
+use lin_parts::Place;
+use lin_text::Many;
 
 /// The kinds of findings, in the order of their numbers, 1 to 26, 31 to 41 and 51 to 60. Those from 19
 /// on are told of texts of the field alone, those from 31 on of encodings of signals, and those from 51

@@ -20,7 +20,7 @@ pub use finding::{CheckFault, Finding, FindingKind};
 pub use findings::{
     Examined, Repeats, at_name, at_number, examine, is_frame_size, is_speed, needed_us, push_when,
 };
-pub use lin_cluster_parts::{
+pub use lin_parts::{
     Cluster, Entry, EventFrame, Line, Node, Parts, Signal, SignalFrame, SporadicFrame, Table,
 };
 pub use lints::{Configurable, lint};

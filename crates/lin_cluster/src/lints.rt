@@ -11,7 +11,7 @@ ghost use Rattle.lin_cluster.specs.Lint.{lints, of_frames, of_nodes, AreLints};
 use crate::finding::Finding;
 use crate::findings::each;
 pub use configurable::Configurable;
-use lin_description::Description;
+use lin_parts::description::Description;
 use std::alloc::{AllocError, Global};
 use uses::Uses;
 

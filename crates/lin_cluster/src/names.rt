@@ -10,12 +10,12 @@ ghost use Rattle.lin_cluster.specs.FindingsNames.{same_name};
 ghost use Rattle.lin_cluster.specs.Names.{NumbersFirst};
 
 use indexmap::IndexMap;
-use lin_description::{Attributes, Name};
+use lin_parts::description::{Attributes, Name};
 use std::alloc::{AllocError, Global};
 
 /// What is declared with a name.
 pub trait Named {
-    ghost use Rattle.lin_description.specs.declared.description.Name.{Name};
+    ghost use Rattle.lin_parts.specs.declared.description.Name.{Name};
 
     ghost name_of: { Self → Name };
 

@@ -5,7 +5,7 @@ ghost use Rattle.lin_cluster.specs.FindingsNames.{frame_named};
 ghost use Rattle.lin_cluster.specs.Slots.{slot_size};
 
 use crate::findings::Judged;
-use lin_description::{Description, Name, TableEntry};
+use lin_parts::description::{Description, Name, TableEntry};
 use std::alloc::{AllocError, Global};
 use std::marker::Model;
 
@@ -22,7 +22,7 @@ impl<'a> Drop for SlotSizes<'a> {
 }
 
 impl<'a> Model for SlotSizes<'a> {
-    ghost use Rattle.lin_description.specs.declared.description.Description.{Description};
+    ghost use Rattle.lin_parts.specs.declared.description.Description.{Description};
 
     ghost Value = { Description };
 

@@ -10,7 +10,7 @@ use Rattle.lin_transport.specs.Words.{with_last}
 use Rattle.lin_transport.specs.Transport.{frames, begins, functional, Ear, Heard, looks_at, messages_to}
 use Rattle.lin_transport.specs.Transport.Heard.{Frame, Reset}
 use Rattle.lin_frame.specs.Words.{numbers}
-use Rattle.lin_cluster_parts.specs.Cluster.{nad, nodes}
+use Rattle.lin_parts.specs.Cluster.{nad, nodes}
 use Rattle.lin_core.specs.History.{Slot, open_slot, finished_slot, done, did, seen_of, good_under}
 use Rattle.lin_core.specs.History.{header_is, is_sleep_mark, LogEntry, Step, Parts}
 use Rattle.lin_core.specs.declared.step.Step.TheVariants.{Send, Timeout}

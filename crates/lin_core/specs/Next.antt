@@ -1,6 +1,6 @@
 -- Promises rest on this: which slot comes next.
 use Rattle.std.specs.Prelude.{ℕ, if◌then◌else◌, List, Option, Some, None, is_some}
-use Rattle.lin_cluster_parts.specs.Cluster.{line_of}
+use Rattle.lin_parts.specs.Cluster.{line_of}
 use Rattle.lin_core.specs.History.{open_slot, LogEntry, Parts}
 use Rattle.lin_core.specs.Slots.{header, next_due}
 

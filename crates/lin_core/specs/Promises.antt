@@ -1,6 +1,6 @@
 -- Promises rest on this: the laws, each as one statement over the history of a log.
 use Rattle.std.specs.Prelude.{◌≡◌, ℕ, ⊤, true, List, [], ◌∷◌, is_some, map}
-use Rattle.lin_cluster_parts.specs.Cluster.{nad}
+use Rattle.lin_parts.specs.Cluster.{nad}
 use Rattle.lin_core.specs.Defined.{AreDefined, TellsDue}
 use Rattle.lin_core.specs.History.{done, events, LogEntry, Parts}
 use Rattle.lin_core.specs.Law.{InOrder, NoneLost, NoSendAfterClose, ReadsAll, ReadsSent, Stays}

@@ -8,8 +8,8 @@ use Rattle.lin_frame.specs.Words.{numbers}
 use Rattle.lin_frame.specs.Frame.{is_answer}
 use Rattle.lin_frame.specs.Bits.{fits_place}
 use Rattle.lin_transport.specs.Transport.{functional}
-use Rattle.lin_cluster_parts.specs.Cluster.{nodes, nad, line_of, signal_of}
-use Rattle.lin_cluster_parts.specs.Rules.{place_at}
+use Rattle.lin_parts.specs.Cluster.{nodes, nad, line_of, signal_of}
+use Rattle.lin_parts.specs.Rules.{place_at}
 use Rattle.lin_core.specs.History.{Slot as OpenSlot, open_slot, asleep, is_host_closed, seen_of}
 use Rattle.lin_core.specs.History.{is_in, is_sleep_slot, has_decided, LogEntry, Step, Parts}
 use Rattle.lin_core.specs.Links.{Link, Sending, Fate, accepted_from, host_of, same_link, waiting}

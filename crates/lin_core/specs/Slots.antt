@@ -10,11 +10,11 @@ use Rattle.lin_frame.specs.Frame.{classic, answer_of}
 use Rattle.lin_frame.specs.declared.sums.SumKind.{SumKind}
 use Rattle.lin_frame.specs.declared.sums.SumKind.TheVariants.{Classic}
 use Rattle.lin_transport.specs.Transport.{frame}
-use Rattle.lin_cluster_parts.specs.Cluster.{nad, nodes, frame_of, sporadic_of, event_of}
-use Rattle.lin_cluster_parts.specs.declared.parts.Entry.{Entry}
-use Rattle.lin_cluster_parts.specs.declared.parts.Entry.TheVariants.{Frame, Sporadic, Event}
-use Rattle.lin_cluster_parts.specs.declared.parts.Entry.TheVariants.{MasterReq}
-use Rattle.lin_cluster_parts.specs.declared.parts.Entry.TheVariants.{SlaveResp, Quiet}
+use Rattle.lin_parts.specs.Cluster.{nad, nodes, frame_of, sporadic_of, event_of}
+use Rattle.lin_parts.specs.declared.parts.Entry.{Entry}
+use Rattle.lin_parts.specs.declared.parts.Entry.TheVariants.{Frame, Sporadic, Event}
+use Rattle.lin_parts.specs.declared.parts.Entry.TheVariants.{MasterReq}
+use Rattle.lin_parts.specs.declared.parts.Entry.TheVariants.{SlaveResp, Quiet}
 use Rattle.lin_schedule.specs.Schedule.{Move, standing, due}
 use Rattle.lin_schedule.specs.Schedule.Move.{Slot as SlotMove, Switch as SwitchMove, Restart}
 use Rattle.lin_core.specs.History.{Slot, is_sleep_asked, done, finished_slot, good_under, is_clash}

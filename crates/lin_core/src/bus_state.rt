@@ -3,14 +3,14 @@
 ghost use Rattle.std.specs.Prelude.{◌≡◌, ◌==◌, ◌<◌, true, false, None, Some, if◌then◌else◌};
 ghost use Rattle.std.specs.Prelude.{option_map, slice_index};
 ghost use Rattle.std.specs.Option.{option_map_or};
-ghost use Rattle.lin_cluster_parts.specs.Cluster.{nad, nodes};
+ghost use Rattle.lin_parts.specs.Cluster.{nad, nodes};
 ghost use Rattle.lin_core.specs.History.{good_under};
 ghost use Rattle.lin_core.specs.kept.Slots.{slot_in};
 ghost use Rattle.lin_core.specs.kept.Bus.{bus_after};
 ghost use Rattle.lin_core.specs.Slots.{node_with};
 
 use crate::slot::{MASTER_REQUEST, OpenSlot};
-use lin_cluster_parts::Cluster;
+use lin_parts::Cluster;
 
 /// The greatest address of a responder that a frame selects (ISO 17987-2, node addresses).
 const LAST_ADDRESS: u8 = 125;

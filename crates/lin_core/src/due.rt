@@ -5,12 +5,12 @@ ghost use Rattle.std.specs.Prelude.{◌≡◌, ◌==◌, ◌&&◌, ◌||◌, ◌
 ghost use Rattle.std.specs.Prelude.{slice_index_or, false};
 ghost use Rattle.std.specs.List.{list_any};
 ghost use Rattle.lin_frame.specs.Words.{numbers};
-ghost use Rattle.lin_cluster_parts.specs.Cluster.{frame_of, nodes};
+ghost use Rattle.lin_parts.specs.Cluster.{frame_of, nodes};
 ghost use Rattle.lin_core.specs.kept.Slots.{header_of, is_due_of, HasDue};
 
 use crate::slot::{MASTER_REQUEST, NODES, SLAVE_RESPONSE};
 use arrayvec::ArrayVec;
-use lin_cluster_parts::Cluster;
+use lin_parts::Cluster;
 use lin_schedule::Due;
 
 /// Whether the commander has something to request: a message waits, or sleep is asked.

@@ -2,8 +2,8 @@
 //! included.
 
 ghost use Rattle.std.specs.Prelude.{ℕ, List};
-ghost use Rattle.lin_cluster_parts.specs.Sound.{IsSound};
-ghost use Rattle.lin_cluster_parts.specs.declared.parts.Parts.{Parts};
+ghost use Rattle.lin_parts.specs.Sound.{IsSound};
+ghost use Rattle.lin_parts.specs.declared.parts.Parts.{Parts};
 ghost use Rattle.lin_core.specs.Promises.{CarriesFrames, StaysClosed, DeliversExactly};
 ghost use Rattle.lin_core.specs.Promises.{FatesAreFinal, LosesNothing, PutsInOrder};
 ghost use Rattle.lin_core.specs.Runs.{history};

@@ -22,8 +22,8 @@ use crate::signals::Signals;
 use crate::slot::Slot;
 use crate::state::State;
 use crate::step::Step;
-use lin_cluster_parts::Cluster;
 use lin_frame::Value;
+use lin_parts::Cluster;
 use lin_schedule::Walker;
 use std::alloc::{AllocError, Global};
 use std::marker::Model;
@@ -101,7 +101,7 @@ impl Core {
     ghost use Rattle.std.specs.Prelude.{slice_index_or};
     ghost use Rattle.lin_core.specs.Promises.{CarriesFrames, DeliversExactly, FatesAreFinal};
     ghost use Rattle.lin_core.specs.Promises.{LosesNothing, PutsInOrder, StaysClosed};
-    ghost use Rattle.lin_cluster_parts.specs.Cluster.{nodes};
+    ghost use Rattle.lin_parts.specs.Cluster.{nodes};
     ghost use Rattle.lin_core.specs.History.{asleep, header_and_first, open_slot, time, undecided_count};
     ghost use Rattle.std.specs.Prelude.{option_map};
     ghost use Rattle.lin_core.specs.Signals.{value_at};

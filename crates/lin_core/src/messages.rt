@@ -2,7 +2,7 @@
 
 ghost use Rattle.std.specs.Prelude.{◌≡◌, ◌<◌, ◌⊎◌, Some, is_some, true};
 ghost use Rattle.std.specs.Option.{unwrap_or};
-ghost use Rattle.lin_cluster_parts.specs.Cluster.{nad, nodes};
+ghost use Rattle.lin_parts.specs.Cluster.{nad, nodes};
 ghost use Rattle.lin_core.specs.kept.Hosts.{message_at, bytes_next, HasNext};
 ghost use Rattle.lin_core.specs.Links.{address, is_to_all};
 
@@ -10,7 +10,7 @@ use crate::host::Host;
 use crate::link::Link;
 use crate::log::Log;
 use crate::step::Step;
-use lin_cluster_parts::Cluster;
+use lin_parts::Cluster;
 use lin_transport::{FUNCTIONAL, Sender};
 
 /// A message, lent from the entry of the log that accepted it: the link that it goes over, its

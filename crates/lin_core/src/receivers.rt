@@ -11,7 +11,7 @@ ghost use Rattle.lin_core.specs.declared.receivers.Receivers.{Receivers};
 
 use crate::link::{Direction, Link};
 use crate::messages::address_of;
-use lin_cluster_parts::Cluster;
+use lin_parts::Cluster;
 use lin_transport::Receiver;
 use std::alloc::{AllocError, Global};
 

@@ -1,16 +1,16 @@
 //! Which frame of signals a response carries, and its checksum model.
 
 ghost use Rattle.std.specs.Prelude.{◌≡◌, ◌==◌, ◌<◌, List, All, find, length, IfSome, Some};
-ghost use Rattle.lin_cluster_parts.specs.Cluster.{frame_of};
-ghost use Rattle.lin_cluster_parts.specs.Rules.{IsEntry};
+ghost use Rattle.lin_parts.specs.Cluster.{frame_of};
+ghost use Rattle.lin_parts.specs.Rules.{IsEntry};
 ghost use Rattle.lin_core.specs.kept.Slots.{frame_by, frame_answered, frame_model, slot_in, IsOpen};
 ghost use Rattle.lin_core.specs.History.{open_slot};
 ghost use Rattle.lin_core.specs.Slots.{model_of};
 ghost use Rattle.lin_core.specs.declared.log.LogEntry.{LogEntry};
 
 use crate::slot::OpenSlot;
-use lin_cluster_parts::{Cluster, Entry};
 use lin_frame::SumKind;
+use lin_parts::{Cluster, Entry};
 
 /// The first of these frames with a protected identifier.
 pub fn frame_under(cluster: &Cluster, frames: &[u16], header: u8) -> Option<u16>

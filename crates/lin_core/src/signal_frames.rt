@@ -5,16 +5,16 @@ ghost use Rattle.std.specs.Prelude.{option_map, is_some, slice_get, IsTrue, vec_
 ghost use Rattle.std.specs.Option.{unwrap_or};
 ghost use Rattle.lin_frame.specs.Bits.{fits_place, packed_bytes, unpacked_value};
 ghost use Rattle.lin_frame.specs.Frame.{answer_of};
-ghost use Rattle.lin_cluster_parts.specs.Cluster.{frame_of, signal_of};
-ghost use Rattle.lin_cluster_parts.specs.Rules.{place_at};
+ghost use Rattle.lin_parts.specs.Cluster.{frame_of, signal_of};
+ghost use Rattle.lin_parts.specs.Rules.{place_at};
 ghost use Rattle.lin_core.specs.History.{good};
 ghost use Rattle.lin_core.specs.kept.Slots.{slot_in, IsOpen};
 ghost use Rattle.lin_core.specs.Signals.{place_in, value_in, ArePointwise};
 
 use crate::response_frames::frame_by;
 use crate::slot::OpenSlot;
-use lin_cluster_parts::Cluster;
 use lin_frame::{Answer, SumKind, Value, answer, pack, unpack};
+use lin_parts::Cluster;
 
 /// The values of these signals, in the room that was made for them.
 fn gather(room: &mut Vec<Value>, values: &[Value], signals: &[u16])

@@ -4,7 +4,7 @@ ghost use Rattle.std.specs.Prelude.{◌≡◌, ◌<◌, ◌≤◌, ◌||◌, ◌
 ghost use Rattle.std.specs.Prelude.{All, IfOk, IfSome, Some, None, is_some, vec_capacity};
 ghost use Rattle.std.specs.Prelude.{replicate, slice_set, slice_index_or, if◌then◌else◌};
 ghost use Rattle.std.specs.Option.{option_map_or, unwrap_or};
-ghost use Rattle.lin_cluster_parts.specs.Cluster.{frame_of};
+ghost use Rattle.lin_parts.specs.Cluster.{frame_of};
 ghost use Rattle.lin_core.specs.History.{good, is_in};
 ghost use Rattle.lin_core.specs.kept.Signals.{is_cleared};
 ghost use Rattle.lin_core.specs.kept.Slots.{slot_in, IsOpen};
@@ -12,8 +12,8 @@ ghost use Rattle.lin_core.specs.Signals.{value_in, ArePointwise};
 
 use crate::signal_frames::hear_slot;
 use crate::slot::{OpenSlot, Put};
-use lin_cluster_parts::Cluster;
 use lin_frame::Value;
+use lin_parts::Cluster;
 use std::alloc::{AllocError, Global};
 
 /// The initial values of all signals, by number (ISO 17987-3, signals). An error means out of

@@ -13,8 +13,8 @@ ghost use Rattle.lin_core.specs.declared.slot.Put.{Put};
 use crate::event::{Event, Seen};
 use crate::payload::Events;
 use arrayvec::ArrayVec;
-use lin_cluster_parts::{Cluster, Entry};
 use lin_frame::Answer;
+use lin_parts::{Cluster, Entry};
 use std::alloc::{AllocError, Global};
 use std::marker::Model;
 

@@ -2,7 +2,7 @@
 
 ghost use Rattle.std.specs.Prelude.{◌≡◌, ◌<◌, ◌≤◌, ◌+◌, ◌++◌, ◌∷◌, [], ℕ, List, Some, length};
 ghost use Rattle.std.specs.Prelude.{is_some, slice_get, slice_index, true, vec_capacity};
-ghost use Rattle.lin_cluster_parts.specs.Cluster.{nad, nodes};
+ghost use Rattle.lin_parts.specs.Cluster.{nad, nodes};
 ghost use Rattle.lin_transport.specs.Transport.{Heard};
 ghost use Rattle.lin_core.specs.kept.Hosts.{told_to_all};
 ghost use Rattle.lin_core.specs.kept.Receivers.{Completes, HaveRoom, HearAll, HearsToo};
@@ -11,7 +11,7 @@ ghost use Rattle.lin_core.specs.declared.receivers.Receivers.{Receivers};
 use crate::event::{Event, Seen};
 use crate::payload::{Events, Payload};
 use crate::receivers::Receivers;
-use lin_cluster_parts::Cluster;
+use lin_parts::Cluster;
 
 /// A responder hears a frame to all, and is told of the message that it completes.
 fn tell_one(receivers: &mut Receivers, node: u8, frame: &[u8; 8], events: &mut Vec<Event>)

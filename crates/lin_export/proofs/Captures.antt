@@ -7,8 +7,8 @@ use Rattle.std.proofs.lemmas.List.{reverse-append, reverse-reverse}
 use Rattle.std.specs.Option.{option_map_or}
 use Rattle.lin_frame.specs.declared.sums.SumKind.{SumKind}
 use Rattle.lin_frame.specs.declared.sums.SumKind.TheVariants.{Classic, Enhanced}
-use Rattle.lin_cluster_parts.specs.Cluster.{line_of}
-use Rattle.lin_cluster_parts.specs.declared.parts.Parts.{Parts}
+use Rattle.lin_parts.specs.Cluster.{line_of}
+use Rattle.lin_parts.specs.declared.parts.Parts.{Parts}
 use Rattle.lin_core.specs.History.{Slot, events, good_bytes, is_sleep_slot, open_slot, seen_of, seen_by, time}
 use Rattle.lin_core.specs.Links.{Fate, Sending, fate_of, host_of, reading, sendings, waits}
 use Rattle.lin_core.specs.Links.Fate.{Waiting, Sent, Lost}

@@ -15,11 +15,11 @@ use Rattle.lin_frame.specs.Words.{numbers}
 use Rattle.lin_frame.specs.declared.layout.Place.{Place}
 use Rattle.lin_frame.specs.declared.value.Value.{Value}
 use Rattle.lin_frame.specs.declared.value.Value.TheVariants.{Bytes, Scalar}
-use Rattle.lin_cluster_parts.specs.Cluster.{frame_of, nodes, signal_of}
-use Rattle.lin_cluster_parts.specs.Rules.{IsCluster, IsSignalAt, is_array, place_at}
-use Rattle.lin_cluster_parts.specs.declared.parts.Parts.{Parts}
-use Rattle.lin_cluster_parts.specs.declared.parts.Signal.{Signal}
-use Rattle.lin_cluster_parts.specs.declared.parts.SignalFrame.{SignalFrame}
+use Rattle.lin_parts.specs.Cluster.{frame_of, nodes, signal_of}
+use Rattle.lin_parts.specs.Rules.{IsCluster, IsSignalAt, is_array, place_at}
+use Rattle.lin_parts.specs.declared.parts.Parts.{Parts}
+use Rattle.lin_parts.specs.declared.parts.Signal.{Signal}
+use Rattle.lin_parts.specs.declared.parts.SignalFrame.{SignalFrame}
 use Rattle.lin_core.specs.Tables.{look_number, look_of}
 use Rattle.lin_core.specs.History.{Slot, done, events, finished_slot, good, open_slot, seen_of, time}
 use Rattle.lin_core.specs.Replies.{refusal, reply}

@@ -2,8 +2,8 @@
 use Rattle.std.proofs.Common.{◌≡◌, ℕ, suc, ◌+◌, ◌/◌, ◌%◌, ◌^◌, List, [], ◌∷◌, ◌++◌, Option, refl, sym, ap, ◌∙◌, append_assoc, append-nil, flat_map, length, subst}
 use Rattle.std.specs.Prelude.{Some, nat_lt, true}
 use Rattle.std.specs.Option.{option_map_or}
-use Rattle.lin_cluster_parts.specs.Cluster.{line_of}
-use Rattle.lin_cluster_parts.specs.declared.parts.Parts.{Parts}
+use Rattle.lin_parts.specs.Cluster.{line_of}
+use Rattle.lin_parts.specs.declared.parts.Parts.{Parts}
 use Rattle.lin_core.specs.History.{Slot, done_step, good, open_slot, reply_events, time}
 use Rattle.lin_core.specs.Signals.{carried_frame}
 use Rattle.lin_core.specs.declared.event.Event.{Event}

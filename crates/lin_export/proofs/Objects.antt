@@ -9,8 +9,8 @@ use Rattle.lin_frame.specs.Words.{numbers}
 use Rattle.lin_text.specs.Written.{Grows}
 use Rattle.lin_text.specs.declared.buffered.TextWriter.{TextWriter}
 use Rattle.lin_text.proofs.Growing.{grows-more, same-growth}
-use Rattle.lin_cluster_parts.specs.Cluster.{entry_kind, entry_name, frame_name, line_of, named_table, signal_of}
-use Rattle.lin_cluster_parts.specs.declared.parts.Parts.{Parts}
+use Rattle.lin_parts.specs.Cluster.{entry_kind, entry_name, frame_name, line_of, named_table, signal_of}
+use Rattle.lin_parts.specs.declared.parts.Parts.{Parts}
 use Rattle.lin_core.specs.History.{Slot, good, open_slot, seen_of, reply_events, time}
 use Rattle.lin_core.specs.declared.event.Event.{Event}
 use Rattle.lin_core.specs.declared.log.LogEntry.{LogEntry}

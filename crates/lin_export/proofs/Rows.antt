@@ -6,11 +6,11 @@ use Rattle.std.specs.Option.{option_map_or, unwrap_or}
 use Rattle.lin_frame.specs.Words.{numbers}
 use Rattle.lin_frame.specs.Bits.{unpacked_value}
 use Rattle.lin_frame.specs.declared.value.Value.{Value}
-use Rattle.lin_cluster_parts.specs.Cluster.{frame_of, line_of}
-use Rattle.lin_cluster_parts.specs.declared.parts.Parts.{Parts}
-use Rattle.lin_cluster_parts.specs.declared.parts.Signal.{Signal}
-use Rattle.lin_cluster_parts.specs.declared.parts.Entry.{Entry}
-use Rattle.lin_cluster_parts.specs.declared.parts.Entry.TheVariants as entries
+use Rattle.lin_parts.specs.Cluster.{frame_of, line_of}
+use Rattle.lin_parts.specs.declared.parts.Parts.{Parts}
+use Rattle.lin_parts.specs.declared.parts.Signal.{Signal}
+use Rattle.lin_parts.specs.declared.parts.Entry.{Entry}
+use Rattle.lin_parts.specs.declared.parts.Entry.TheVariants as entries
 use Rattle.lin_core.specs.History.{Slot, done_step, finished_slot, good, is_finish, is_sleep_slot, open_slot, time}
 use Rattle.lin_core.specs.Signals.{carried_frame, carried_by, heard_value, place_in, value_in}
 use Rattle.lin_core.specs.declared.event.Event.{Event}

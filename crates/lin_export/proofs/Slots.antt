@@ -1,7 +1,7 @@
 -- What events tell of a slot, of which a part is shown.
 use Rattle.std.proofs.Common.{◌≡◌, ℕ, zero, suc, List, [], ◌∷◌, refl, sym, ap, ◌∙◌, drop, length, get_or, ◌+◌, ◌<◌, ◌≤◌, add-one, arith}
 use Rattle.std.specs.Prelude.{Option, Some, None, option_map}
-use Rattle.lin_cluster_parts.specs.declared.parts.Parts.{Parts}
+use Rattle.lin_parts.specs.declared.parts.Parts.{Parts}
 use Rattle.lin_core.specs.History.{Slot, open_slot, slot_after_event, slot_after_events}
 use Rattle.lin_core.specs.declared.event.Event.{Event}
 use Rattle.lin_core.specs.declared.event.Event.TheVariants as event

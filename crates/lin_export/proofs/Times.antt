@@ -4,13 +4,13 @@ use Rattle.std.proofs.lemmas.List.{length-reverse, length-take}
 use Rattle.std.specs.Prelude.{Option, Some, None}
 use Rattle.std.specs.Option.{option_map_or}
 use Rattle.std.proofs.lemmas.List.Elements.{All-nil}
-use Rattle.lin_cluster_parts.proofs.SoundClusters.{at-any}
-use Rattle.lin_cluster_parts.specs.Cluster.{line_of, table_of}
-use Rattle.lin_cluster_parts.specs.Rules.{IsCluster, IsDelay}
-use Rattle.lin_cluster_parts.specs.declared.parts.Entry.TheVariants.{Quiet}
-use Rattle.lin_cluster_parts.specs.declared.parts.Line.{Line}
-use Rattle.lin_cluster_parts.specs.declared.parts.Parts.{Parts}
-use Rattle.lin_cluster_parts.specs.declared.parts.Table.{Table}
+use Rattle.lin_parts.proofs.SoundClusters.{at-any}
+use Rattle.lin_parts.specs.Cluster.{line_of, table_of}
+use Rattle.lin_parts.specs.Rules.{IsCluster, IsDelay}
+use Rattle.lin_parts.specs.declared.parts.Entry.TheVariants.{Quiet}
+use Rattle.lin_parts.specs.declared.parts.Line.{Line}
+use Rattle.lin_parts.specs.declared.parts.Parts.{Parts}
+use Rattle.lin_parts.specs.declared.parts.Table.{Table}
 use Rattle.lin_core.specs.History.{Slot, finished_slot, time}
 use Rattle.lin_core.specs.declared.log.LogEntry.{LogEntry}
 use Rattle.lin_export.specs.Track.{TrackData, slots_in, track_of}

@@ -9,8 +9,8 @@ use Rattle.hex.specs.Hex.{encode_upper}
 use Rattle.lin_frame.specs.Words.{numbers}
 use Rattle.lin_frame.specs.declared.value.Value.{Value}
 use Rattle.lin_frame.specs.declared.value.Value.TheVariants.{Scalar, Bytes}
-use Rattle.lin_cluster_parts.specs.Cluster.{entry_kind, line_of, named_table, node_of, signal_of}
-use Rattle.lin_cluster_parts.specs.declared.parts.Parts.{Parts}
+use Rattle.lin_parts.specs.Cluster.{entry_kind, line_of, named_table, node_of, signal_of}
+use Rattle.lin_parts.specs.declared.parts.Parts.{Parts}
 use Rattle.lin_core.specs.History.{Slot, done, good_bytes, open_slot, seen_of, time}
 use Rattle.lin_core.specs.Signals.{heard_value}
 use Rattle.lin_core.specs.Tables.{look_of, look_word}

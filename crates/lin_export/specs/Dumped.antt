@@ -4,8 +4,8 @@ use Rattle.std.specs.Prelude.{codes, flat_map, length, reverse, Option, Some, No
 use Rattle.std.specs.Fmt.{decimal}
 use Rattle.std.specs.Option.{option_or}
 use Rattle.std.specs.Str.{bytes_eq}
-use Rattle.lin_cluster_parts.specs.Cluster.{signal_of}
-use Rattle.lin_cluster_parts.specs.declared.parts.Parts.{Parts}
+use Rattle.lin_parts.specs.Cluster.{signal_of}
+use Rattle.lin_parts.specs.declared.parts.Parts.{Parts}
 use Rattle.lin_core.specs.Signals.{heard_value, value}
 use Rattle.lin_core.specs.declared.log.LogEntry.{LogEntry}
 use Rattle.lin_values.specs.Coded.{has_range, CodedData}

@@ -10,11 +10,11 @@ use Rattle.lin_frame.specs.Words.{numbers}
 use Rattle.lin_frame.specs.declared.layout.Place.{Place}
 use Rattle.lin_frame.specs.declared.value.Value.{Value}
 use Rattle.lin_frame.specs.declared.value.Value.TheVariants.{Scalar, Bytes}
-use Rattle.lin_cluster_parts.specs.Cluster.{entry_kind, frame_of, line_of, nad, named_table}
-use Rattle.lin_cluster_parts.specs.Cluster.{node_of, nodes, signal_of}
-use Rattle.lin_cluster_parts.specs.declared.parts.Parts.{Parts}
-use Rattle.lin_cluster_parts.specs.declared.parts.Entry.{Entry}
-use Rattle.lin_cluster_parts.specs.declared.parts.Entry.TheVariants.{Quiet}
+use Rattle.lin_parts.specs.Cluster.{entry_kind, frame_of, line_of, nad, named_table}
+use Rattle.lin_parts.specs.Cluster.{node_of, nodes, signal_of}
+use Rattle.lin_parts.specs.declared.parts.Parts.{Parts}
+use Rattle.lin_parts.specs.declared.parts.Entry.{Entry}
+use Rattle.lin_parts.specs.declared.parts.Entry.TheVariants.{Quiet}
 use Rattle.lin_core.specs.History.{Slot, events, good, good_bytes, header_is, open_slot, seen_of}
 use Rattle.lin_core.specs.History.{time}
 use Rattle.lin_core.specs.Signals.{carried_frame}

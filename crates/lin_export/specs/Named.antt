@@ -10,11 +10,11 @@ use Rattle.hex.specs.Hex.{encode_upper}
 use Rattle.lin_frame.specs.Bits.{unpacked_value}
 use Rattle.lin_frame.specs.declared.layout.Place.{Place}
 use Rattle.lin_frame.specs.declared.value.Value.{Value}
-use Rattle.lin_cluster_parts.specs.Cluster.{entry_name, frame_name, frame_of, line_of, node_of}
-use Rattle.lin_cluster_parts.specs.Cluster.{signal_of, sporadic_of}
-use Rattle.lin_cluster_parts.specs.declared.parts.Parts.{Parts}
-use Rattle.lin_cluster_parts.specs.declared.parts.Entry.{Entry}
-use Rattle.lin_cluster_parts.specs.declared.parts.Entry.TheVariants.{Sporadic}
+use Rattle.lin_parts.specs.Cluster.{entry_name, frame_name, frame_of, line_of, node_of}
+use Rattle.lin_parts.specs.Cluster.{signal_of, sporadic_of}
+use Rattle.lin_parts.specs.declared.parts.Parts.{Parts}
+use Rattle.lin_parts.specs.declared.parts.Entry.{Entry}
+use Rattle.lin_parts.specs.declared.parts.Entry.TheVariants.{Sporadic}
 use Rattle.lin_core.specs.History.{Slot, header_is, open_slot, time}
 use Rattle.lin_core.specs.Slots.{node_with}
 use Rattle.lin_core.specs.declared.event.Event.{Event}

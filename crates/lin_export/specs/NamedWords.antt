@@ -1,7 +1,7 @@
 -- What is put of an entry with names.
 use Rattle.std.specs.Prelude.{ℕ, List, [], ◌++◌, Option, flat_map}
 use Rattle.std.specs.Option.{option_map_or}
-use Rattle.lin_cluster_parts.specs.declared.parts.Parts.{Parts}
+use Rattle.lin_parts.specs.declared.parts.Parts.{Parts}
 use Rattle.lin_core.specs.History.{Slot}
 use Rattle.lin_core.specs.declared.event.Event.{Event}
 use Rattle.lin_core.specs.declared.log.LogEntry.{LogEntry}

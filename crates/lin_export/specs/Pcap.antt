@@ -4,8 +4,8 @@ use Rattle.std.specs.Prelude.{◌∷◌, ◌++◌, length, replicate}
 use Rattle.std.specs.Option.{option_map_or}
 use Rattle.lin_frame.specs.declared.sums.SumKind.{SumKind}
 use Rattle.lin_frame.specs.declared.sums.SumKind.TheVariants.{Classic, Enhanced}
-use Rattle.lin_cluster_parts.specs.Cluster.{line_of}
-use Rattle.lin_cluster_parts.specs.declared.parts.Parts.{Parts}
+use Rattle.lin_parts.specs.Cluster.{line_of}
+use Rattle.lin_parts.specs.declared.parts.Parts.{Parts}
 use Rattle.lin_core.specs.History.{Slot, done, is_sleep_slot, open_slot, seen_of, time}
 use Rattle.lin_core.specs.Slots.{model_of}
 use Rattle.lin_core.specs.declared.event.Seen.{Seen}

@@ -2,10 +2,10 @@
 
 ghost use Rattle.std.specs.Prelude.{◌≡◌, ◌==◌, ◌<◌, All, find, length};
 ghost use Rattle.std.specs.List.{list_any};
-ghost use Rattle.lin_cluster_parts.specs.Cluster.{frame_of};
+ghost use Rattle.lin_parts.specs.Cluster.{frame_of};
 
-use lin_cluster_parts::Cluster;
 use lin_frame::Answer;
+use lin_parts::Cluster;
 
 /// Whether a node put one of these responses.
 fn has_put(puts: &[(u8, Answer)], node: u8) -> bool

@@ -1,7 +1,7 @@
 //! Changes of values, as lines (IEEE 1364-2005, section 18).
 
 ghost use Rattle.std.specs.Prelude.{◌≡◌, ◌≤◌, ◌<◌, ◌*◌, length, flat_map, option_map};
-ghost use Rattle.lin_cluster_parts.specs.Cluster.{signal_of};
+ghost use Rattle.lin_parts.specs.Cluster.{signal_of};
 ghost use Rattle.lin_text.specs.Written.{Grows};
 ghost use Rattle.lin_export.specs.Vcd.{before_code, binary, change, code, digits, heard_change};
 ghost use Rattle.lin_export.specs.Vcd.{heard_number, number_change, unknown, waiting_change};
@@ -11,8 +11,8 @@ ghost use Rattle.lin_export.specs.Vcd.{real_word};
 ghost use Rattle.lin_values.specs.Meaning.{meant};
 
 use arrayvec::ArrayVec;
-use lin_cluster_parts::Cluster;
 use lin_frame::Value;
+use lin_parts::Cluster;
 use lin_text::TextWriter;
 use lin_values::{Coded, Meaning, put_decimal};
 use std::io::Write;

@@ -3,7 +3,7 @@
 
 ghost use Rattle.std.specs.Prelude.{◌≡◌, ◌∷◌, ◌++◌, ◌<◌, ◌^◌, ℕ, [], List, OnOk, drop, reverse, take};
 ghost use Rattle.lin_core.specs.declared.log.LogEntry.{LogEntry};
-ghost use Rattle.lin_cluster_parts.specs.declared.parts.Parts.{Parts};
+ghost use Rattle.lin_parts.specs.declared.parts.Parts.{Parts};
 ghost use Rattle.lin_text.specs.Written.{Grows, WritesText};
 ghost use Rattle.lin_export.specs.Putting.{PutsAll};
 ghost use Rattle.lin_export.specs.Telling.{each_entry};
@@ -11,8 +11,8 @@ ghost use Rattle.lin_export.specs.Track.{track_of};
 
 use crate::fault::ExportFault;
 use crate::track::Track;
-use lin_cluster_parts::Cluster;
 use lin_core::{Log, LogEntry};
+use lin_parts::Cluster;
 use lin_text::TextWriter;
 use std::alloc::{AllocError, Global};
 use std::io::Write;

@@ -7,9 +7,9 @@ ghost use Rattle.lin_core.specs.Signals.{ArePointwise, value_in};
 ghost use Rattle.lin_export.specs.Open.{slot_in};
 
 use crate::slot::{Look, OpenSlot};
-use lin_cluster_parts::Cluster;
 use lin_core::hear_frame;
 use lin_frame::Value;
+use lin_parts::Cluster;
 
 /// The nodes hear what a slot carries, where it is seen good.
 pub(crate) fn hear_slot(heard: &mut Vec<Value>, cluster: &Cluster, slot: &OpenSlot)

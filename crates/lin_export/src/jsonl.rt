@@ -2,7 +2,7 @@
 
 ghost use Rattle.std.specs.Prelude.{◌≡◌, ◌<◌, ⊤, ℕ, [], List, flat_map, map};
 ghost use Rattle.std.specs.Prelude.{slice_index};
-ghost use Rattle.lin_cluster_parts.specs.Cluster.{nodes};
+ghost use Rattle.lin_parts.specs.Cluster.{nodes};
 ghost use Rattle.lin_core.specs.declared.log.LogEntry.{LogEntry};
 ghost use Rattle.lin_frame.specs.Words.{numbers};
 ghost use Rattle.lin_text.specs.Written.{Grows, WritesText};
@@ -26,9 +26,9 @@ use crate::naming::{node_name, table_name};
 use crate::slot_object::{put_node, put_slot};
 use crate::track::Track;
 use crate::vcd::HOSTS;
-use lin_cluster_parts::Cluster;
 use lin_core::{Cause, Event, Listed, Log, LogEntry, PortId, Refusal, Reply, Step};
 use lin_log::{put_port, put_step as put_step_words};
+use lin_parts::Cluster;
 use lin_text::TextWriter;
 use lin_values::Coded;
 use std::alloc::Global;

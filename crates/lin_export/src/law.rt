@@ -6,10 +6,10 @@ ghost use Rattle.lin_core.specs.declared.port.PortId.{PortId};
 ghost use Rattle.lin_core.specs.declared.step.Step.{Step};
 ghost use Rattle.lin_export.specs.Captured.{IsCaptured};
 ghost use Rattle.lin_export.specs.Dumped.{IsDumped};
-ghost use Rattle.lin_cluster_parts.specs.declared.parts.Parts.{Parts};
+ghost use Rattle.lin_parts.specs.declared.parts.Parts.{Parts};
 ghost use Rattle.lin_values.specs.Coded.{CodedData};
 
-use lin_cluster_parts::Cluster;
+use lin_parts::Cluster;
 
 /// The good frames of a capture have the data and the checksums that were seen good, in order, and
 /// the times of its packets never fall.

@@ -9,8 +9,8 @@ ghost use Rattle.lin_export.specs.WhereTold.{told, where_told};
 ghost use Rattle.lin_values.specs.Meaning.{meant};
 ghost use Rattle.lin_values.specs.Shown.{plain_shown};
 
-use lin_cluster_parts::Cluster;
 use lin_frame::Value;
+use lin_parts::Cluster;
 use lin_text::TextWriter;
 use lin_values::{Coded, Meaning, put_decimal};
 use std::io::Write;

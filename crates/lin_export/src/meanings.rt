@@ -15,8 +15,8 @@ ghost use Rattle.lin_export.specs.WhereTold.{told, where_told};
 
 use crate::json::{put_key, put_quoted, put_separator};
 use crate::slot::{Look, OpenSlot};
-use lin_cluster_parts::Cluster;
 use lin_frame::{Answer, Value, unpack};
+use lin_parts::Cluster;
 use lin_text::TextWriter;
 use lin_values::{Coded, Meaning, put_decimal};
 use std::io::Write;

@@ -9,9 +9,9 @@ ghost use Rattle.lin_export.specs.Open.{slot_in};
 ghost use Rattle.lin_export.specs.WhereTold.{told, where_told};
 
 use crate::slot::OpenSlot;
-use lin_cluster_parts::Cluster;
 use lin_core::{Event, Seen, Step};
 use lin_frame::{Answer, Value, unpack};
+use lin_parts::Cluster;
 use lin_text::TextWriter;
 use lin_values::{Coded, put_meaning};
 use std::io::Write;

@@ -1,12 +1,12 @@
 //! Names of what a slot speaks of.
 
 ghost use Rattle.std.specs.Prelude.{◌≡◌};
-ghost use Rattle.lin_cluster_parts.specs.Cluster.{named_table, node_of};
+ghost use Rattle.lin_parts.specs.Cluster.{named_table, node_of};
 ghost use Rattle.lin_export.specs.Open.{slot_in};
 ghost use Rattle.lin_export.specs.Shown.{slot_name};
 
 use crate::slot::OpenSlot;
-use lin_cluster_parts::Cluster;
+use lin_parts::Cluster;
 
 /// The name of a node; no bytes where none has this number.
 pub(crate) fn node_name(cluster: &Cluster, node: u8) -> &[u8]

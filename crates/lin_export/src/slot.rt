@@ -1,8 +1,8 @@
 //! The slot that is open at a place in a log.
 
 ghost use Rattle.std.specs.Prelude.{◌≡◌, ◌≤◌, ◌<◌, is_some, length, slice_index, IfSome, OnOk};
-ghost use Rattle.lin_cluster_parts.specs.Cluster.{line_of};
-ghost use Rattle.lin_cluster_parts.specs.Rules.{IsEntry};
+ghost use Rattle.lin_parts.specs.Cluster.{line_of};
+ghost use Rattle.lin_parts.specs.Rules.{IsEntry};
 ghost use Rattle.lin_core.specs.History.{good, slot_after_hurt, is_sleep_slot, no_slot, seen_of};
 ghost use Rattle.lin_core.specs.History.{slot_after_event, slot_after_events};
 ghost use Rattle.lin_core.specs.Signals.{carried_frame};
@@ -13,9 +13,9 @@ ghost use Rattle.lin_export.specs.Shown.{slot_frame};
 ghost use Rattle.lin_export.specs.Track.{shown_slot};
 
 use crate::carried::frame_put;
-use lin_cluster_parts::{Cluster, Entry, Line};
 use lin_core::{Event, frame_under};
 use lin_frame::Answer;
+use lin_parts::{Cluster, Entry, Line};
 use std::alloc::{AllocError, Global};
 
 /// What of a slot is shown: its entry, its header, the nodes that are due, those that put responses

@@ -1,15 +1,15 @@
 //! What is kept of a log, entry by entry.
 
 ghost use Rattle.std.specs.Prelude.{◌≡◌, ◌+◌, ◌≤◌, ◌^◌, ◌<◌, ◌∷◌, [], IfOk, List, OnOk, length, option_map, reverse, take};
-ghost use Rattle.lin_cluster_parts.specs.declared.parts.Parts.{Parts};
+ghost use Rattle.lin_parts.specs.declared.parts.Parts.{Parts};
 ghost use Rattle.lin_core.specs.History.{time};
 ghost use Rattle.lin_core.specs.declared.log.LogEntry.{LogEntry};
 ghost use Rattle.lin_export.specs.Open.{slot_in};
 ghost use Rattle.lin_export.specs.Track.{track_of};
 
 use crate::slot::OpenSlot;
-use lin_cluster_parts::Cluster;
 use lin_core::{Log, LogEntry, Reply, Step};
+use lin_parts::Cluster;
 use std::alloc::{AllocError, Global};
 use std::marker::Model;
 

@@ -3,7 +3,7 @@
 
 ghost use Rattle.std.specs.Prelude.{◌<◌, length, flat_map};
 ghost use Rattle.lin_frame.specs.Words.{numbers};
-ghost use Rattle.lin_cluster_parts.specs.Cluster.{nodes};
+ghost use Rattle.lin_parts.specs.Cluster.{nodes};
 ghost use Rattle.lin_text.specs.Written.{Grows};
 ghost use Rattle.lin_export.specs.Vcd.{bus_variables, declarations, declaration, first_heard};
 ghost use Rattle.lin_export.specs.Vcd.{first_values, first_waiting, first_written, head};
@@ -17,7 +17,7 @@ use crate::changes::{
     put_waiting, put_written, signal_size, waiting_number, written_number,
 };
 use crate::naming::node_name;
-use lin_cluster_parts::Cluster;
+use lin_parts::Cluster;
 use lin_text::TextWriter;
 use lin_values::Coded;
 use std::io::Write;

@@ -6,8 +6,8 @@ use Rattle.std.proofs.lemmas.List.Elements.{All-nil, All-cons, All-head, All-tai
 use Rattle.std.proofs.lemmas.List.Folds.{list_any_at}
 use Rattle.lin_cluster.specs.FindingsNames.{same_name}
 use Rattle.lin_cluster.proofs.NamesFound.{text-same}
-use Rattle.lin_description.specs.declared.description.Attributes.{Attributes}
-use Rattle.lin_description.specs.declared.description.Name.{Name}
+use Rattle.lin_parts.specs.declared.description.Attributes.{Attributes}
+use Rattle.lin_parts.specs.declared.description.Name.{Name}
 use Rattle.lin_field.specs.Names.{is_node, is_slave, node_list}
 use Rattle.lin_field.specs.Attributes.{Elsewhere, told_nad, draft, new_draft, listed, has_block, new_drafts, node_blocks, drafts}
 use Rattle.lin_field.specs.declared.loose.LooseAttributes.{LooseAttributes}

@@ -5,7 +5,7 @@ use Rattle.std.specs.List.{list_all, flat_map}
 use Rattle.lin_cluster.specs.FindingsNames.{at_name, when}
 use Rattle.lin_cluster.specs.declared.finding.Finding.{Finding}
 use Rattle.lin_cluster.specs.declared.finding.FindingKind.TheVariants.{UnknownName}
-use Rattle.lin_description.specs.declared.description.Name.{Name}
+use Rattle.lin_parts.specs.declared.description.Name.{Name}
 use Rattle.lin_field.specs.Names.{is_node}
 use Rattle.lin_field.specs.Signals.{unknown_node}
 use Rattle.lin_field.specs.declared.loose.LooseNodes.{LooseNodes}

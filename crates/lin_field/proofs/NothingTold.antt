@@ -3,9 +3,9 @@ use Rattle.std.proofs.Common.{◌≡◌, ℕ, suc, true, false, cond, List, [], 
 use Rattle.std.specs.Prelude.{◌==◌, ◌&&◌, is_none, if◌then◌else◌}
 use Rattle.std.specs.List.{flat_map}
 use Rattle.std.proofs.lemmas.Bool.{eqb-true}
-use Rattle.lin_description.specs.declared.description.Attributes.{Attributes}
-use Rattle.lin_description.specs.declared.description.Name.{Name}
-use Rattle.lin_description.specs.declared.description.Number.{Number}
+use Rattle.lin_parts.specs.declared.description.Attributes.{Attributes}
+use Rattle.lin_parts.specs.declared.description.Name.{Name}
+use Rattle.lin_parts.specs.declared.description.Number.{Number}
 use Rattle.lin_field.specs.Names.{is_responder, node_list}
 use Rattle.lin_field.specs.Attributes.{Elsewhere, elsewhere_of, line_nad, told_nad, new_draft, listed, has_block, new_drafts}
 use Rattle.lin_field.specs.declared.loose.LooseAttributes.{LooseAttributes}

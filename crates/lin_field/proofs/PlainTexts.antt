@@ -23,17 +23,17 @@ use Rattle.lin_cluster.proofs.DescribedNodes.{addresses-apart, mapped-all}
 use Rattle.lin_cluster.proofs.GoodParts.{good-frames, good-signals, good-tables}
 use Rattle.lin_cluster.proofs.NothingElse.{NothingElse, nothing-else, free-is-sound}
 use Rattle.lin_cluster.proofs.NothingIn.{IsShort, four-parts, in-each, when-not}
-use Rattle.lin_description.specs.declared.description.Attributes.{Attributes}
-use Rattle.lin_description.specs.declared.description.Description.{Description}
-use Rattle.lin_description.specs.declared.description.EventFrame.{EventFrame}
-use Rattle.lin_description.specs.declared.description.Frame.{Frame}
-use Rattle.lin_description.specs.declared.description.Init.{Init}
-use Rattle.lin_description.specs.declared.description.Init.TheVariants.{Scalar, Array}
-use Rattle.lin_description.specs.declared.description.Name.{Name}
-use Rattle.lin_description.specs.declared.description.Number.{Number}
-use Rattle.lin_description.specs.declared.description.Signal.{Signal}
-use Rattle.lin_description.specs.declared.description.Table.{Table}
-use Rattle.lin_description.specs.declared.description.TableEntry.{TableEntry}
+use Rattle.lin_parts.specs.declared.description.Attributes.{Attributes}
+use Rattle.lin_parts.specs.declared.description.Description.{Description}
+use Rattle.lin_parts.specs.declared.description.EventFrame.{EventFrame}
+use Rattle.lin_parts.specs.declared.description.Frame.{Frame}
+use Rattle.lin_parts.specs.declared.description.Init.{Init}
+use Rattle.lin_parts.specs.declared.description.Init.TheVariants.{Scalar, Array}
+use Rattle.lin_parts.specs.declared.description.Name.{Name}
+use Rattle.lin_parts.specs.declared.description.Number.{Number}
+use Rattle.lin_parts.specs.declared.description.Signal.{Signal}
+use Rattle.lin_parts.specs.declared.description.Table.{Table}
+use Rattle.lin_parts.specs.declared.description.TableEntry.{TableEntry}
 use Rattle.lin_ldf.specs.declared.token.Token.{Token}
 use Rattle.lin_field.proofs.TightSlots.{none-of-each, none-tight}
 use Rattle.lin_field.specs.Attributes.{Elsewhere, attribute_warnings, draft, draft_nad_warnings, draft_warnings, drafts, elsewhere_of, good_nad, has_block, is_nad, listed, nad_warning, new_drafts, responder_nads, settled_attributes, settled_block, settled_draft}

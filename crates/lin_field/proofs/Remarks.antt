@@ -17,7 +17,7 @@ use Rattle.lin_cluster.specs.Findings.{candidates, finding_cmp, IsFree, IsSound}
 use Rattle.lin_cluster.specs.declared.finding.Finding.{Finding}
 use Rattle.lin_cluster.proofs.NothingIn.{none-has}
 use Rattle.lin_cluster.proofs.FindingsOrder.{finding_total, findings_tied, then_tied, ordered_once}
-use Rattle.lin_description.specs.declared.description.Description.{Description}
+use Rattle.lin_parts.specs.declared.description.Description.{Description}
 use Rattle.lin_field.proofs.TightSlots.{none-tight, tight-are-short}
 use Rattle.lin_field.proofs.Permutations.{IsPermutation-filter}
 use Rattle.lin_field.specs.Checks.{same_finding, is_tight, wrong, remark, remarks, remark_cmp, AreRemarks}

@@ -3,12 +3,12 @@ use Rattle.std.proofs.Common.{◌≡◌, ℕ, Bool, List, [], ◌++◌, map, ap,
 use Rattle.std.specs.Prelude.{Option, filter_map}
 use Rattle.std.specs.List.{flat_map}
 use Rattle.lin_cluster.specs.declared.finding.Finding.{Finding}
-use Rattle.lin_description.specs.declared.description.Attributes.{Attributes}
-use Rattle.lin_description.specs.declared.description.Description.{Description}
-use Rattle.lin_description.specs.declared.description.EventFrame.{EventFrame}
-use Rattle.lin_description.specs.declared.description.Frame.{Frame}
-use Rattle.lin_description.specs.declared.description.Signal.{Signal}
-use Rattle.lin_description.specs.declared.description.Table.{Table}
+use Rattle.lin_parts.specs.declared.description.Attributes.{Attributes}
+use Rattle.lin_parts.specs.declared.description.Description.{Description}
+use Rattle.lin_parts.specs.declared.description.EventFrame.{EventFrame}
+use Rattle.lin_parts.specs.declared.description.Frame.{Frame}
+use Rattle.lin_parts.specs.declared.description.Signal.{Signal}
+use Rattle.lin_parts.specs.declared.description.Table.{Table}
 use Rattle.lin_ldf.specs.declared.token.Token.{Token}
 use Rattle.lin_field.specs.Attributes.{elsewhere_of, settled_attributes, attribute_warnings}
 use Rattle.lin_field.specs.Frames.{frame_warnings, kept_frame}

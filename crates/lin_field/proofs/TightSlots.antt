@@ -12,9 +12,9 @@ use Rattle.lin_cluster.specs.declared.finding.Finding.{Finding}
 use Rattle.lin_cluster.specs.declared.finding.FindingKind.TheVariants.{SlotTooShort}
 use Rattle.lin_cluster.proofs.NothingElse.{of-each-part}
 use Rattle.lin_cluster.proofs.NothingIn.{four-parts, in-each, three-parts}
-use Rattle.lin_description.specs.declared.description.Description.{Description}
-use Rattle.lin_description.specs.declared.description.Table.{Table}
-use Rattle.lin_description.specs.declared.description.TableEntry.{TableEntry}
+use Rattle.lin_parts.specs.declared.description.Description.{Description}
+use Rattle.lin_parts.specs.declared.description.Table.{Table}
+use Rattle.lin_parts.specs.declared.description.TableEntry.{TableEntry}
 use Rattle.lin_field.specs.Times.{is_possible, tight_slot, tight_slots}
 
 short-if : (b : Bool) (us : ℕ) (e : TableEntry) → All (λ f. f.number ≡ 9) (if b then at_name (SlotTooShort us) e.name ∷ [] else [])

@@ -5,10 +5,10 @@ use Rattle.std.specs.List.{flat_map, list_any}
 use Rattle.lin_cluster.specs.FindingsNames.{at_number, when}
 use Rattle.lin_cluster.specs.declared.finding.Finding.{Finding}
 use Rattle.lin_cluster.specs.declared.finding.FindingKind.TheVariants.{ZeroDelay}
-use Rattle.lin_description.specs.declared.description.Description.{Description}
-use Rattle.lin_description.specs.declared.description.EventFrame.{EventFrame}
-use Rattle.lin_description.specs.declared.description.Table.{Table}
-use Rattle.lin_description.specs.declared.description.TableEntry.{TableEntry}
+use Rattle.lin_parts.specs.declared.description.Description.{Description}
+use Rattle.lin_parts.specs.declared.description.EventFrame.{EventFrame}
+use Rattle.lin_parts.specs.declared.description.Table.{Table}
+use Rattle.lin_parts.specs.declared.description.TableEntry.{TableEntry}
 use Rattle.lin_field.specs.Tables.{is_members_name}
 use Rattle.lin_field.specs.Times.{all_tables, entry_warnings, has_no_delay, is_timed, member_table, member_tables, time_of, timed_by, timed_entry, timed_table, timed_tables, timing_warnings}
 use Rattle.lin_field.proofs.Walked.{map-same, neither, none-found, none-pass}

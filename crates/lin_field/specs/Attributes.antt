@@ -10,9 +10,9 @@ use Rattle.lin_cluster.specs.Identifiers.{is_repeated}
 use Rattle.lin_cluster.specs.declared.finding.Finding.{Finding}
 use Rattle.lin_cluster.specs.declared.finding.FindingKind.TheVariants.{BadNad}
 use Rattle.lin_cluster.specs.declared.finding.FindingKind.TheVariants.{NadTwice, InitialNad}
-use Rattle.lin_description.specs.declared.description.Attributes.{Attributes}
-use Rattle.lin_description.specs.declared.description.Name.{Name}
-use Rattle.lin_description.specs.declared.description.Number.{Number}
+use Rattle.lin_parts.specs.declared.description.Attributes.{Attributes}
+use Rattle.lin_parts.specs.declared.description.Name.{Name}
+use Rattle.lin_parts.specs.declared.description.Number.{Number}
 use Rattle.lin_field.specs.Names.{is_node, is_responder, node_list}
 use Rattle.lin_field.specs.Signals.{unknown_node}
 use Rattle.lin_field.specs.declared.loose.LooseAttributes.{LooseAttributes}

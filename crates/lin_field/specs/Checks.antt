@@ -6,7 +6,7 @@ use Rattle.std.specs.declared.cmp.Ordering.{Ordering}
 use Rattle.std.specs.Ordering.{bool_cmp, ordering_then}
 use Rattle.lin_cluster.specs.Findings.{candidates, finding_cmp, IsFree}
 use Rattle.lin_cluster.specs.declared.finding.Finding.{Finding}
-use Rattle.lin_description.specs.declared.description.Description.{Description}
+use Rattle.lin_parts.specs.declared.description.Description.{Description}
 use Rattle.lin_field.specs.Times.{tight_slots}
 use Rattle.lin_field.specs.declared.checking.FieldFault.{FieldFault}
 use Rattle.lin_field.specs.declared.checking.FieldFault.TheVariants.{Remarks, OutOfMemory}

@@ -7,8 +7,8 @@ use Rattle.std.specs.Str.{bytes_eq}
 use Rattle.lin_cluster.specs.FindingsNames.{at_number, when}
 use Rattle.lin_cluster.specs.declared.finding.Finding.{Finding}
 use Rattle.lin_cluster.specs.declared.finding.FindingKind.TheVariants.{BadId, NoSize}
-use Rattle.lin_description.specs.declared.description.Frame.{Frame}
-use Rattle.lin_description.specs.declared.description.Number.{Number}
+use Rattle.lin_parts.specs.declared.description.Frame.{Frame}
+use Rattle.lin_parts.specs.declared.description.Number.{Number}
 use Rattle.lin_field.specs.declared.loose.LooseFrame.{LooseFrame}
 
 -- MasterReq with 60 and SlaveResp with 61 (LIN 2.2A, section 9.2.4.4)

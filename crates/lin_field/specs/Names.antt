@@ -2,7 +2,7 @@
 use Rattle.std.specs.Prelude.{List, ◌∷◌, Bool, not, ◌&&◌, ◌||◌}
 use Rattle.std.specs.List.{list_any}
 use Rattle.lin_cluster.specs.FindingsNames.{same_name}
-use Rattle.lin_description.specs.declared.description.Name.{Name}
+use Rattle.lin_parts.specs.declared.description.Name.{Name}
 use Rattle.lin_field.specs.declared.loose.LooseNodes.{LooseNodes}
 
 abbrev pub node_list : LooseNodes → List Name

@@ -5,11 +5,11 @@ use Rattle.std.specs.Option.{option_map_or}
 use Rattle.lin_cluster.specs.FindingsNames.{at_number, same_name, when}
 use Rattle.lin_cluster.specs.declared.finding.Finding.{Finding}
 use Rattle.lin_cluster.specs.declared.finding.FindingKind.TheVariants.{ByteOrder}
-use Rattle.lin_description.specs.declared.description.Init.{Init}
-use Rattle.lin_description.specs.declared.description.Init.TheVariants.{Scalar, Array}
-use Rattle.lin_description.specs.declared.description.Name.{Name}
-use Rattle.lin_description.specs.declared.description.PlacedSignal.{PlacedSignal}
-use Rattle.lin_description.specs.declared.description.Signal.{Signal}
+use Rattle.lin_parts.specs.declared.description.Init.{Init}
+use Rattle.lin_parts.specs.declared.description.Init.TheVariants.{Scalar, Array}
+use Rattle.lin_parts.specs.declared.description.Name.{Name}
+use Rattle.lin_parts.specs.declared.description.PlacedSignal.{PlacedSignal}
+use Rattle.lin_parts.specs.declared.description.Signal.{Signal}
 use Rattle.lin_field.specs.Frames.{is_diagnostic_frame}
 use Rattle.lin_field.specs.declared.loose.Loose.{Loose}
 use Rattle.lin_field.specs.declared.loose.LooseFrame.{LooseFrame}

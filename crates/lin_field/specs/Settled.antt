@@ -7,8 +7,8 @@ use Rattle.lin_cluster.specs.FindingsNames.{at_name}
 use Rattle.lin_cluster.specs.Kinds.{finding_at}
 use Rattle.lin_cluster.specs.declared.finding.Finding.{Finding}
 use Rattle.lin_cluster.specs.declared.finding.FindingKind.TheVariants.{ExtraMark, HeaderLine}
-use Rattle.lin_description.specs.declared.description.Description.{Description}
-use Rattle.lin_description.specs.declared.description.Table.{Table}
+use Rattle.lin_parts.specs.declared.description.Description.{Description}
+use Rattle.lin_parts.specs.declared.description.Table.{Table}
 use Rattle.lin_ldf.specs.declared.token.Token.{Token}
 use Rattle.lin_field.specs.Attributes.{Elsewhere, elsewhere_of, settled_attributes, attribute_warnings}
 use Rattle.lin_field.specs.Frames.{kept_frame, frame_warnings}

@@ -6,11 +6,11 @@ use Rattle.lin_cluster.specs.FindingsNames.{at_name, at_number, when}
 use Rattle.lin_cluster.specs.declared.finding.Finding.{Finding}
 use Rattle.lin_cluster.specs.declared.finding.FindingKind.TheVariants.{UnknownName, BadInit}
 use Rattle.lin_cluster.specs.declared.finding.FindingKind.TheVariants.{WideSignal}
-use Rattle.lin_description.specs.declared.description.Init.{Init}
-use Rattle.lin_description.specs.declared.description.Init.TheVariants.{Scalar, Array}
-use Rattle.lin_description.specs.declared.description.Name.{Name}
-use Rattle.lin_description.specs.declared.description.Number.{Number}
-use Rattle.lin_description.specs.declared.description.Signal.{Signal}
+use Rattle.lin_parts.specs.declared.description.Init.{Init}
+use Rattle.lin_parts.specs.declared.description.Init.TheVariants.{Scalar, Array}
+use Rattle.lin_parts.specs.declared.description.Name.{Name}
+use Rattle.lin_parts.specs.declared.description.Number.{Number}
+use Rattle.lin_parts.specs.declared.description.Signal.{Signal}
 use Rattle.lin_field.specs.Names.{is_node}
 use Rattle.lin_field.specs.declared.loose.LooseNodes.{LooseNodes}
 

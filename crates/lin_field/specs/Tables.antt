@@ -9,11 +9,11 @@ use Rattle.std.specs.Str.{bytes_eq}
 use Rattle.lin_cluster.specs.FindingsNames.{at_name, at_number, same_name, when}
 use Rattle.lin_cluster.specs.declared.finding.Finding.{Finding}
 use Rattle.lin_cluster.specs.declared.finding.FindingKind.TheVariants.{EmptyTable, NoTable, Rounded}
-use Rattle.lin_description.specs.declared.description.EventFrame.{EventFrame}
-use Rattle.lin_description.specs.declared.description.Name.{Name}
-use Rattle.lin_description.specs.declared.description.Number.{Number}
-use Rattle.lin_description.specs.declared.description.Table.{Table}
-use Rattle.lin_description.specs.declared.description.TableEntry.{TableEntry}
+use Rattle.lin_parts.specs.declared.description.EventFrame.{EventFrame}
+use Rattle.lin_parts.specs.declared.description.Name.{Name}
+use Rattle.lin_parts.specs.declared.description.Number.{Number}
+use Rattle.lin_parts.specs.declared.description.Table.{Table}
+use Rattle.lin_parts.specs.declared.description.TableEntry.{TableEntry}
 use Rattle.lin_field.specs.declared.loose.Decimal.{Decimal}
 use Rattle.lin_field.specs.declared.loose.LooseEntry.{LooseEntry}
 use Rattle.lin_field.specs.declared.loose.LooseEvent.{LooseEvent}

@@ -9,12 +9,12 @@ use Rattle.lin_cluster.specs.FindingsNames.{at_number, same_name, frame_named, w
 use Rattle.lin_cluster.specs.Slots.{is_speed, needed_us, slot_size, short_slot_at}
 use Rattle.lin_cluster.specs.declared.finding.Finding.{Finding}
 use Rattle.lin_cluster.specs.declared.finding.FindingKind.TheVariants.{ZeroDelay}
-use Rattle.lin_description.specs.declared.description.Description.{Description}
-use Rattle.lin_description.specs.declared.description.EventFrame.{EventFrame}
-use Rattle.lin_description.specs.declared.description.Name.{Name}
-use Rattle.lin_description.specs.declared.description.Number.{Number}
-use Rattle.lin_description.specs.declared.description.Table.{Table}
-use Rattle.lin_description.specs.declared.description.TableEntry.{TableEntry}
+use Rattle.lin_parts.specs.declared.description.Description.{Description}
+use Rattle.lin_parts.specs.declared.description.EventFrame.{EventFrame}
+use Rattle.lin_parts.specs.declared.description.Name.{Name}
+use Rattle.lin_parts.specs.declared.description.Number.{Number}
+use Rattle.lin_parts.specs.declared.description.Table.{Table}
+use Rattle.lin_parts.specs.declared.description.TableEntry.{TableEntry}
 use Rattle.lin_field.specs.Signals.{with_value}
 use Rattle.lin_field.specs.Tables.{is_members_name}
 

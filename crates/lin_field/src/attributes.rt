@@ -15,8 +15,8 @@ use crate::names::{NodeNames, copied, is_named};
 use lin_cluster::{
     Finding, FindingKind, Numbers, Repeats, at_name, at_number, find_by, numbers_of, push_when,
 };
-use lin_description::{Attributes, Name, Number};
-use lin_lists::{Many, Text};
+use lin_parts::description::{Attributes, Name, Number};
+use lin_text::{Many, Text};
 use std::alloc::{AllocError, Global};
 use std::marker::Model;
 

@@ -13,8 +13,8 @@ ghost use Rattle.lin_field.specs.declared.checking.FieldFault.TheVariants.{OutOf
 use crate::settling::Settled;
 use crate::times::Slots;
 use lin_cluster::{Cluster, Examined, Finding, cluster_of, examine};
-use lin_description::Description;
-use lin_lists::Many;
+use lin_parts::description::Description;
+use lin_text::Many;
 use std::alloc::{AllocError, Global};
 
 /// A finding, or a warning, which says what was settled or is tight.

@@ -13,7 +13,7 @@ use crate::loose::{
 };
 use crate::nodes::nodes;
 use lin_ldf::{Gathered, LdfFault, Names, Parser, Sections, Whole, gather, or_empty, used_section};
-use lin_lists::Many;
+use lin_text::Many;
 use std::alloc::Global;
 
 /// The sections that were read: those that are spelled as in plain texts, and those that aren't.

@@ -6,8 +6,8 @@ ghost use Rattle.lin_field.specs.Frames.{kept_frame, frame_warnings};
 
 use crate::loose::LooseFrame;
 use lin_cluster::{Finding, FindingKind, at_number, push_when};
-use lin_description::{Frame, Number};
-use lin_lists::Many;
+use lin_parts::description::{Frame, Number};
+use lin_text::Many;
 use std::alloc::{AllocError, Global};
 
 /// `MasterReq` with 60, and `SlaveResp` with 61.

@@ -8,9 +8,9 @@ ghost use Rattle.lin_field.specs.Grammar.{header, no_lines, is_line_next};
 
 use crate::decimals::decimal_in;
 use crate::loose::{Decimal, Header};
-use lin_description::Name;
 use lin_ldf::{LdfFault, Parser, TokenKind, once};
-use lin_lists::{Many, Text};
+use lin_parts::description::Name;
+use lin_text::{Many, Text};
 use std::alloc::Global;
 
 /// The lines of a header that were read.

@@ -6,11 +6,11 @@ ghost use Rattle.lin_field.specs.Grammar.{frame_size, event_table, loose_setting
 
 use crate::decimals::decimal_in;
 use crate::loose::{LooseAttributes, LooseEntry, LooseEvent, LooseFrame, LooseTable, NodeAddress};
-use lin_description::{Attributes, Name, Number};
 use lin_ldf::{
     Gathered, Item, LdfFault, Listed, Names, NodeBlocks, Parser, Settings, TokenKind, Whole, block,
     gather, once, one_or_more,
 };
+use lin_parts::description::{Attributes, Name, Number};
 
 // [ ',' INT ]
 fn frame_size(parser: &mut Parser<'_>) -> Result<Option<Number>, LdfFault>

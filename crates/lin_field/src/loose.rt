@@ -1,7 +1,7 @@
 //! What a text of the field describes, before it is settled.
 
-use lin_description::{Attributes, Name, Number, PlacedSignal, Signal, Sporadic};
-use lin_lists::{Many, OneOrMore, Text};
+use lin_parts::description::{Attributes, Name, Number, PlacedSignal, Signal, Sporadic};
+use lin_text::{Many, OneOrMore, Text};
 
 /// A number in thousandths of a unit, and whether its text has more decimals, so that it is rounded.
 #[derive(Clone, Copy, Debug)]

@@ -8,7 +8,7 @@ ghost use Rattle.lin_field.specs.Names.{is_responder, is_node, is_slave};
 
 use crate::loose::{LooseAttributes, LooseNodes, LooseTable, NodeAddress};
 use lin_cluster::{Named, Numbers, number_by, numbers_of};
-use lin_description::Name;
+use lin_parts::description::Name;
 use std::alloc::{AllocError, Global};
 use std::marker::Model;
 
@@ -133,7 +133,7 @@ pub fn copied(alloc: Global, name: &Name) -> Result<Name, AllocError>
     ensures { IfOk result (λ n. n ≡ name.now) }
 {
     Ok(Name {
-        text: lin_lists::Text::copied(alloc, name.text.as_slice())?,
+        text: lin_text::Text::copied(alloc, name.text.as_slice())?,
         line: name.line,
         column: name.column,
     })

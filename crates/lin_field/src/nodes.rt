@@ -7,8 +7,8 @@ ghost use Rattle.lin_field.specs.Grammar.{master, master_rest, nodes, node_names
 
 use crate::decimals::{decimal_in, read_decimal};
 use crate::loose::{Decimal, LooseNodes};
-use lin_description::Name;
 use lin_ldf::{LdfFault, Names, Parser, TokenKind};
+use lin_parts::description::Name;
 
 // [ ',' list ] ';'
 fn master_rest(parser: &mut Parser<'_>) -> Result<(), LdfFault>

@@ -9,7 +9,7 @@ ghost use Rattle.lin_field.specs.Order.{byte_order};
 use crate::frames::is_diagnostic_frame;
 use crate::loose::{Loose, LooseFrame};
 use lin_cluster::{Finding, FindingKind, Numbers, at_number, find_by, numbers_of, push_when};
-use lin_description::{Init, Name, PlacedSignal, Signal};
+use lin_parts::description::{Init, Name, PlacedSignal, Signal};
 use std::alloc::{AllocError, Global};
 
 /// Whether so many bits at an offset reach over the border of a byte.

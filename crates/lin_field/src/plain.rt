@@ -25,10 +25,9 @@ use declarations::{
     put_all_events, put_all_frames, put_all_signals, put_all_sporadic, put_entries, put_nad,
     put_protocol,
 };
-use lin_description::{Attributes, Description, EventFrame, Frame, Signal, Sporadic, Table};
 use lin_ldf::Token;
-use lin_lists::Text;
-use lin_text::{TextWriter, WriteFailed};
+use lin_parts::description::{Attributes, Description, EventFrame, Frame, Signal, Sporadic, Table};
+use lin_text::{Text, TextWriter, WriteFailed};
 use names::{declared_names, event_tables, node_names, table_names};
 use parts::{
     behind_head, bytes_of, filled_parts, inside_at, is_line, is_one_of, is_section, next_part,

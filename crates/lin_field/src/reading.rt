@@ -14,7 +14,7 @@ use crate::file::file;
 use crate::loose::Loose;
 use crate::marks::{extra_marks, has_suspect, read_over_bytes, read_over_marks};
 use lin_ldf::{LdfFault, Parser, Token};
-use lin_lists::Many;
+use lin_text::Many;
 use std::alloc::Global;
 
 /// What a text of the field describes, and the marks that were left out.

@@ -19,9 +19,10 @@ use crate::signals::settle_signals;
 use crate::tables::{keep_tables, settle_events, warn_of_rounding};
 use crate::times::all_tables;
 use lin_cluster::{Finding, FindingKind, at_name, numbers_of};
-use lin_description::{Attributes, Description, Place, Signal, Table};
 use lin_ldf::Token;
-use lin_lists::Many;
+use lin_parts::Place;
+use lin_parts::description::{Attributes, Description, Signal, Table};
+use lin_text::Many;
 use std::alloc::{AllocError, Global};
 
 /// A description that a text of the field is settled to, with the text's header; the warnings; and

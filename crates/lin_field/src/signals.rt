@@ -10,8 +10,9 @@ ghost use Rattle.lin_field.specs.Signals.{unknown_node};
 
 use crate::names::NodeNames;
 use lin_cluster::{Finding, FindingKind, at_name, at_number, push_when};
-use lin_description::{Init, Name, Number, Place, Signal};
-use lin_lists::{Many, OneOrMore};
+use lin_parts::Place;
+use lin_parts::description::{Init, Name, Number, Signal};
+use lin_text::{Many, OneOrMore};
 use std::alloc::{AllocError, Global};
 
 /// A scalar of so many bits is an array.

@@ -11,8 +11,8 @@ use crate::loose::{Decimal, LooseEntry, LooseEvent, LooseTable};
 use lin_cluster::{
     Finding, FindingKind, Numbers, at_name, at_number, find_by, numbers_of, push_when,
 };
-use lin_description::{EventFrame, Name, Number, Table, TableEntry};
-use lin_lists::{Many, Text};
+use lin_parts::description::{EventFrame, Name, Number, Table, TableEntry};
+use lin_text::{Many, Text};
 use std::alloc::{AllocError, Global};
 use std::marker::Model;
 

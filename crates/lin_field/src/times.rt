@@ -21,8 +21,8 @@ use lin_cluster::{
     Finding, FindingKind, Named, Numbers, SlotSizes, at_name, at_number, find_by, is_speed,
     needed_us, numbers_of,
 };
-use lin_description::{Description, EventFrame, Name, Number, Table, TableEntry};
-use lin_lists::Many;
+use lin_parts::description::{Description, EventFrame, Name, Number, Table, TableEntry};
+use lin_text::Many;
 use std::alloc::{AllocError, Global};
 use std::marker::Model;
 
@@ -34,7 +34,7 @@ pub struct Slots<'a> {
 
 impl<'a> Model for Slots<'a> {
     ghost use Rattle.std.specs.Prelude.{◌≡◌};
-    ghost use Rattle.lin_description.specs.declared.description.Description.{Description};
+    ghost use Rattle.lin_parts.specs.declared.description.Description.{Description};
 
     ghost Value = { Description };
 

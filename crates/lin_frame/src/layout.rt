@@ -6,7 +6,7 @@ ghost use Rattle.lin_frame.specs.Bits.{all_apart, all_fit, are_apart, fits_place
 ghost use Rattle.lin_frame.specs.Bits.{has_good_size, lies_in};
 
 use crate::value::Value;
-use lin_lists::Many;
+use lin_text::Many;
 
 /// Where a signal lies in a frame: `size` bits from bit `offset` on. An array lies in whole bytes.
 #[derive(Clone, Copy, Debug, PartialEq, Eq)]

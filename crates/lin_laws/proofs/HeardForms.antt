@@ -1,7 +1,7 @@
 -- What is heard of a line without LF: no reason why it is bad has one, and nothing that it expects.
 use Rattle.std.proofs.Common.{ℕ, true, List, [], ◌∷◌, refl, drop, nat_le, length, Option, Some, None, option_map, Result, Ok, Err}
 use Rattle.std.specs.Prelude.{IfSome}
-use Rattle.lin_cluster_parts.specs.declared.parts.Parts.{Parts}
+use Rattle.lin_parts.specs.declared.parts.Parts.{Parts}
 use Rattle.lin_values.specs.Coded.{CodedData}
 use Rattle.lin_bench.specs.Fields.{fields}
 use Rattle.lin_bench.specs.Scripts.{without_mark}

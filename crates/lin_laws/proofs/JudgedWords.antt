@@ -2,8 +2,8 @@
 use Rattle.std.proofs.Common.{ℕ, ◌==◌, Bool, true, false, length, List, Option, Some, None, nat_lt, if◌then◌else◌}
 use Rattle.std.specs.Prelude.{IfSome}
 use Rattle.lin_frame.specs.declared.value.Value.{Value}
-use Rattle.lin_cluster_parts.specs.declared.parts.Parts.{Parts}
-use Rattle.lin_cluster_parts.specs.Cluster.{nodes}
+use Rattle.lin_parts.specs.declared.parts.Parts.{Parts}
+use Rattle.lin_parts.specs.Cluster.{nodes}
 use Rattle.lin_core.specs.History.{asleep}
 use Rattle.lin_core.specs.Links.{waiting}
 use Rattle.lin_core.specs.declared.event.Event.{Event}

@@ -4,8 +4,8 @@ use Rattle.std.specs.Prelude.{IfSome}
 use Rattle.std.specs.Fmt.{decimal}
 use Rattle.std.specs.Option.{option_map_or}
 use Rattle.lin_frame.specs.declared.value.Value.{Value}
-use Rattle.lin_cluster_parts.specs.Cluster.{frame_name}
-use Rattle.lin_cluster_parts.specs.declared.parts.Parts.{Parts}
+use Rattle.lin_parts.specs.Cluster.{frame_name}
+use Rattle.lin_parts.specs.declared.parts.Parts.{Parts}
 use Rattle.lin_core.specs.History.{asleep, time}
 use Rattle.lin_core.specs.Links.{waiting}
 use Rattle.lin_core.specs.Next.{next_slot}

@@ -4,7 +4,7 @@ use Rattle.std.specs.Prelude.{codes}
 use Rattle.std.specs.Option.{option_map}
 use Rattle.std.proofs.Common.{inl, inr}
 use Rattle.std.proofs.lemmas.Bool.{false_from_ne_true}
-use Rattle.lin_description.specs.declared.description.Name.{Name}
+use Rattle.lin_parts.specs.declared.description.Name.{Name}
 use Rattle.lin_ldf.specs.Forms.{◌<&◌, is_front, is_keyword}
 use Rattle.lin_ldf.specs.Grammar.{attribute_words, general, named_error}
 use Rattle.lin_ldf.specs.GrammarLaws.{is_of, is_word, other_is_word}

@@ -6,8 +6,8 @@ use Rattle.std.specs.Str.{bytes_eq}
 use Rattle.std.proofs.lemmas.Bool.{false_from_ne_true}
 use Rattle.std.proofs.lemmas.List.Elements.{All-cons, All-nil}
 use Rattle.std.proofs.lemmas.Slice.Eq.{bytes_eq-Decides}
-use Rattle.lin_description.specs.declared.description.EventFrame.{EventFrame}
-use Rattle.lin_description.specs.declared.description.Name.{Name}
+use Rattle.lin_parts.specs.declared.description.EventFrame.{EventFrame}
+use Rattle.lin_parts.specs.declared.description.Name.{Name}
 use Rattle.lin_ldf.specs.Bytes.{is_word_byte}
 use Rattle.lin_ldf.specs.Forms.{Form}
 use Rattle.lin_ldf.specs.Grammar as plain

@@ -12,15 +12,15 @@ use Rattle.lin_frame.specs.Bits.{unpacked_value}
 use Rattle.lin_frame.specs.declared.layout.Place.{Place}
 use Rattle.lin_frame.specs.declared.value.Value.{Value}
 use Rattle.lin_frame.specs.declared.value.Value.TheVariants.{Scalar, Bytes}
-use Rattle.lin_cluster_parts.specs.Cluster.{entry_name, frame_name, frame_of, line_of, node_of, nodes, signal_of}
-use Rattle.lin_cluster_parts.specs.declared.parts.Entry.{Entry}
-use Rattle.lin_cluster_parts.specs.declared.parts.Entry.TheVariants.{Frame, Sporadic, Event as Triggered, MasterReq, SlaveResp, Quiet}
-use Rattle.lin_cluster_parts.specs.declared.parts.EventFrame.{EventFrame}
-use Rattle.lin_cluster_parts.specs.declared.parts.Node.{Node as NodeParts}
-use Rattle.lin_cluster_parts.specs.declared.parts.Parts.{Parts}
-use Rattle.lin_cluster_parts.specs.declared.parts.Signal.{Signal}
-use Rattle.lin_cluster_parts.specs.declared.parts.SignalFrame.{SignalFrame}
-use Rattle.lin_cluster_parts.specs.declared.parts.SporadicFrame.{SporadicFrame}
+use Rattle.lin_parts.specs.Cluster.{entry_name, frame_name, frame_of, line_of, node_of, nodes, signal_of}
+use Rattle.lin_parts.specs.declared.parts.Entry.{Entry}
+use Rattle.lin_parts.specs.declared.parts.Entry.TheVariants.{Frame, Sporadic, Event as Triggered, MasterReq, SlaveResp, Quiet}
+use Rattle.lin_parts.specs.declared.parts.EventFrame.{EventFrame}
+use Rattle.lin_parts.specs.declared.parts.Node.{Node as NodeParts}
+use Rattle.lin_parts.specs.declared.parts.Parts.{Parts}
+use Rattle.lin_parts.specs.declared.parts.Signal.{Signal}
+use Rattle.lin_parts.specs.declared.parts.SignalFrame.{SignalFrame}
+use Rattle.lin_parts.specs.declared.parts.SporadicFrame.{SporadicFrame}
 use Rattle.lin_core.proofs.slots.ClusterFrames.{no_event, no_frame, no_sporadic}
 use Rattle.lin_core.specs.History.{Slot, header_is, open_slot, time}
 use Rattle.lin_core.specs.Slots.{node_with}

@@ -3,7 +3,7 @@ use Rattle.std.proofs.Common.{ℕ, List, [], ◌∷◌, refl, codes, drop, rever
 use Rattle.std.proofs.lemmas.Bool.{and_parts}
 use Rattle.lin_frame.specs.declared.value.Value.{Value}
 use Rattle.lin_frame.specs.declared.value.Value.TheVariants.{Scalar}
-use Rattle.lin_cluster_parts.specs.declared.parts.Parts.{Parts}
+use Rattle.lin_parts.specs.declared.parts.Parts.{Parts}
 use Rattle.lin_core.specs.Tables.{cause_word, causes, look_word, looks, numbered, refusal_number, refusal_word, refusals}
 use Rattle.lin_core.specs.Tables.{named as word_named}
 use Rattle.lin_log.specs.Language.{named, number_named}

@@ -6,16 +6,16 @@ use Rattle.std.proofs.lemmas.List.{length-map}
 use Rattle.std.proofs.lemmas.List.Elements.{All-map}
 use Rattle.std.proofs.lemmas.List.FromFn.{length-enumerate_from}
 use Rattle.lin_frame.specs.declared.value.Value.TheVariants.{Scalar}
-use Rattle.lin_description.specs.declared.description.Description.{Description}
-use Rattle.lin_description.specs.declared.description.Name.{Name}
-use Rattle.lin_cluster_parts.specs.Cluster.{node_of, nodes}
-use Rattle.lin_cluster_parts.proofs.Pairs.{all-of-map}
-use Rattle.lin_cluster_parts.specs.declared.parts.EventFrame.{EventFrame}
-use Rattle.lin_cluster_parts.specs.declared.parts.Node.{Node}
-use Rattle.lin_cluster_parts.specs.declared.parts.Parts.{Parts}
-use Rattle.lin_cluster_parts.specs.declared.parts.Signal.{Signal}
-use Rattle.lin_cluster_parts.specs.declared.parts.SporadicFrame.{SporadicFrame}
-use Rattle.lin_cluster_parts.specs.declared.parts.Table.{Table}
+use Rattle.lin_parts.specs.declared.description.Description.{Description}
+use Rattle.lin_parts.specs.declared.description.Name.{Name}
+use Rattle.lin_parts.specs.Cluster.{node_of, nodes}
+use Rattle.lin_parts.proofs.Pairs.{all-of-map}
+use Rattle.lin_parts.specs.declared.parts.EventFrame.{EventFrame}
+use Rattle.lin_parts.specs.declared.parts.Node.{Node}
+use Rattle.lin_parts.specs.declared.parts.Parts.{Parts}
+use Rattle.lin_parts.specs.declared.parts.Signal.{Signal}
+use Rattle.lin_parts.specs.declared.parts.SporadicFrame.{SporadicFrame}
+use Rattle.lin_parts.specs.declared.parts.Table.{Table}
 use Rattle.lin_cluster.specs.Described.{described_event, described_signal, described_sporadic, described_table, parts_of, responder}
 use Rattle.lin_cluster.proofs.DescribedFrames.{each-frame}
 use Rattle.lin_log.specs.Language.{named}

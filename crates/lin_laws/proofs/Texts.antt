@@ -1,7 +1,7 @@
 -- Plain texts are read as texts of the field.
-use Rattle.lin_description.specs.declared.description.Description.{Description}
-use Rattle.lin_description.specs.declared.description.Name.{Name}
-use Rattle.lin_description.specs.declared.description.Number.{Number}
+use Rattle.lin_parts.specs.declared.description.Description.{Description}
+use Rattle.lin_parts.specs.declared.description.Name.{Name}
+use Rattle.lin_parts.specs.declared.description.Number.{Number}
 use Rattle.lin_field.proofs.PlainTexts.{plain-stays}
 use Rattle.lin_field.specs.Grammar as field
 use Rattle.lin_field.specs.GrammarLaws.{field_file_takes}

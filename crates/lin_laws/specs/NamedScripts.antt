@@ -1,8 +1,8 @@
 -- Logs with names as bench scripts.
 use Rattle.std.specs.Prelude.{◌≡◌, ℕ, true, List, Option, Some, None, IfSome}
 use Rattle.std.specs.List.{All}
-use Rattle.lin_cluster_parts.specs.declared.parts.Parts.{Parts}
-use Rattle.lin_description.specs.declared.description.Description.{Description}
+use Rattle.lin_parts.specs.declared.parts.Parts.{Parts}
+use Rattle.lin_parts.specs.declared.description.Description.{Description}
 use Rattle.lin_frame.specs.declared.value.Value.{Value}
 use Rattle.lin_ldf.specs.Describes.{Describes}
 use Rattle.lin_ldf.specs.Symbols.{Symbol}

@@ -2,8 +2,8 @@
 use Rattle.std.specs.Prelude.{◌≡◌, ◌++◌, ℕ, Bool, false, List, [], ◌∷◌, Option, codes, nat_eq}
 use Rattle.std.specs.List.{list_any, starts_with}
 use Rattle.lin_cluster.specs.Findings.{IsFree}
-use Rattle.lin_description.specs.declared.description.Description.{Description}
-use Rattle.lin_description.specs.declared.description.Name.{Name}
+use Rattle.lin_parts.specs.declared.description.Description.{Description}
+use Rattle.lin_parts.specs.declared.description.Name.{Name}
 use Rattle.lin_ldf.specs.Describes as plain
 use Rattle.lin_ldf.specs.Forms.{Form, keyword, ◌&>◌, ◌<&◌}
 use Rattle.lin_ldf.specs.Names.{has_name}

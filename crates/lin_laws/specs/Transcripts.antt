@@ -8,7 +8,7 @@ use Rattle.lin_core.specs.declared.log.LogEntry.{LogEntry}
 use Rattle.lin_log.specs.Language.{named}
 use Rattle.lin_log.specs.Laws.{FitsEntry, HasNames}
 use Rattle.lin_log.specs.Script.{script}
-use Rattle.lin_cluster_parts.specs.declared.parts.Parts.{Parts}
+use Rattle.lin_parts.specs.declared.parts.Parts.{Parts}
 use Rattle.lin_values.specs.Coded.{CodedData}
 use Rattle.lin_bench.specs.Plain.{HasNoMarks, SaysSteps}
 use Rattle.lin_live.specs.Answers.{answers}

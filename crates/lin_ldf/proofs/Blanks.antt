@@ -4,7 +4,7 @@ use Rattle.std.specs.Prelude.{slice_range, min}
 use Rattle.std.proofs.lemmas.Bool.{cases_lt}
 use Rattle.std.proofs.lemmas.List.{length-take, length-drop, take-append-drop, take-append-le, drop-append-le}
 use Rattle.std.proofs.Math.Seq.{drop-append_seam, drop-append-add, set-append_seam}
-use Rattle.lin_description.specs.declared.place.Place.{Place}
+use Rattle.lin_parts.specs.declared.place.Place.{Place}
 use Rattle.lin_ldf.specs.Symbols.{symbol_in, symbols_in}
 use Rattle.lin_ldf.specs.Advance.{step, first_place}
 use Rattle.lin_ldf.specs.Scanning.{piece_at}

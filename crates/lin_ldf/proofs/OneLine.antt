@@ -13,7 +13,7 @@ use Rattle.lin_ldf.specs.Tokens.{IsAll, IsToken}
 use Rattle.lin_ldf.specs.declared.token.TokenKind.{TokenKind}
 use Rattle.lin_ldf.specs.declared.token.TokenKind.TheVariants.{Word, Number, Text, OpenBrace, CloseBrace, Colon, Semicolon, Comma, Equals, Other}
 use Rattle.lin_ldf.specs.declared.lexer.Scanned.TheVariants as pieces
-use Rattle.lin_description.specs.declared.place.Place.{Place}
+use Rattle.lin_parts.specs.declared.place.Place.{Place}
 use Rattle.lin_ldf.proofs.Runs.{run_all}
 use Rattle.lin_ldf.proofs.Pieces.{Found, found}
 

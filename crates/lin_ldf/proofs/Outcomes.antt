@@ -10,7 +10,7 @@ use Rattle.lin_ldf.specs.declared.lexer.Scanned.{Scanned}
 use Rattle.lin_ldf.specs.declared.lexer.Scanned.TheVariants as pieces
 use Rattle.lin_ldf.specs.declared.fault.LdfFault.{LdfFault}
 use Rattle.lin_ldf.specs.declared.fault.LdfFault.TheVariants.{BadByte, OpenComment, OpenText, OutOfMemory}
-use Rattle.lin_description.specs.declared.place.Place.{Place}
+use Rattle.lin_parts.specs.declared.place.Place.{Place}
 use Rattle.lin_ldf.proofs.CutLaws.{GoesOn, at_start, gap_goes_on, token_goes_on, nothing_left, stands_at}
 use Rattle.lin_ldf.proofs.Pieces.{Found, found}
 use Rattle.lin_ldf.proofs.Ranges.{form_length}

@@ -10,7 +10,7 @@ use Rattle.lin_ldf.specs.Describes.{Spells, Describes}
 use Rattle.lin_ldf.specs.declared.token.Token.{Token}
 use Rattle.lin_ldf.specs.declared.fault.LdfFault.{LdfFault}
 use Rattle.lin_ldf.specs.declared.fault.LdfFault.TheVariants.{OutOfMemory}
-use Rattle.lin_description.specs.declared.description.Description.{Description}
+use Rattle.lin_parts.specs.declared.description.Description.{Description}
 use Rattle.lin_ldf.proofs.Described.{all_found, only_found}
 use Rattle.lin_ldf.proofs.Unique.{same_tokens, same_fault, no_tokens, fault_behind}
 use Rattle.lin_ldf.proofs.Outcomes.{outcome}

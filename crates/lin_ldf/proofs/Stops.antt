@@ -17,8 +17,8 @@ use Rattle.lin_ldf.specs.declared.section.SectionWord.{SectionWord}
 use Rattle.lin_ldf.specs.declared.section.SectionWord.TheVariants as words_of
 use Rattle.lin_ldf.specs.declared.section.Sections.{Sections}
 use Rattle.lin_ldf.specs.declared.token.Token.{Token}
-use Rattle.lin_description.specs.declared.place.Place.{Place}
-use Rattle.lin_description.specs.declared.description.Description.{Description}
+use Rattle.lin_parts.specs.declared.place.Place.{Place}
+use Rattle.lin_parts.specs.declared.description.Description.{Description}
 
 -- some symbols, the last of them a closing brace, and then the rest
 abbrev pub Closed : List Symbol → List Symbol → Type 0

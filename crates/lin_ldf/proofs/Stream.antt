@@ -11,7 +11,7 @@ use Rattle.lin_ldf.specs.declared.token.TokenKind.{TokenKind}
 use Rattle.lin_ldf.specs.declared.lexer.Scanned.{Scanned}
 use Rattle.lin_ldf.specs.declared.lexer.Lexer.{Lexer}
 use Rattle.lin_ldf.specs.declared.lexer.Scanned.TheVariants as pieces
-use Rattle.lin_description.specs.declared.place.Place.{Place}
+use Rattle.lin_parts.specs.declared.place.Place.{Place}
 
 -- bytes that are passed over only move the offset and the place
 passed : (n at : ℕ) (p : Place) (text : List ℕ) → ahead_at n at p text ≡ ahead_at 0 (at + length (take n text)) (place_behind p (take n text)) (drop n text)

@@ -10,16 +10,16 @@ use Rattle.lin_ldf.specs.GrammarLaws.{placed_takes, frame_takes, sporadic_frame_
 use Rattle.lin_ldf.specs.GrammarLaws.{event_frame_takes, attribute_block_takes, entry_takes}
 use Rattle.lin_ldf.specs.GrammarLaws.{table_takes}
 use Rattle.lin_ldf.specs.declared.node_attributes.NodeBlocks.{NodeBlocks}
-use Rattle.lin_description.specs.declared.description.Attributes.{Attributes}
-use Rattle.lin_description.specs.declared.description.EventFrame.{EventFrame}
-use Rattle.lin_description.specs.declared.description.Frame.{Frame}
-use Rattle.lin_description.specs.declared.description.Name.{Name}
-use Rattle.lin_description.specs.declared.description.Number.{Number}
-use Rattle.lin_description.specs.declared.description.PlacedSignal.{PlacedSignal}
-use Rattle.lin_description.specs.declared.description.Signal.{Signal}
-use Rattle.lin_description.specs.declared.description.Sporadic.{Sporadic}
-use Rattle.lin_description.specs.declared.description.Table.{Table}
-use Rattle.lin_description.specs.declared.description.TableEntry.{TableEntry}
+use Rattle.lin_parts.specs.declared.description.Attributes.{Attributes}
+use Rattle.lin_parts.specs.declared.description.EventFrame.{EventFrame}
+use Rattle.lin_parts.specs.declared.description.Frame.{Frame}
+use Rattle.lin_parts.specs.declared.description.Name.{Name}
+use Rattle.lin_parts.specs.declared.description.Number.{Number}
+use Rattle.lin_parts.specs.declared.description.PlacedSignal.{PlacedSignal}
+use Rattle.lin_parts.specs.declared.description.Signal.{Signal}
+use Rattle.lin_parts.specs.declared.description.Sporadic.{Sporadic}
+use Rattle.lin_parts.specs.declared.description.Table.{Table}
+use Rattle.lin_parts.specs.declared.description.TableEntry.{TableEntry}
 
 abbrev pub word_items : Items (Unit {0}) Name
 word_items = record {

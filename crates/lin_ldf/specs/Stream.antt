@@ -14,7 +14,7 @@ use Rattle.lin_ldf.specs.declared.token.TokenKind.TheVariants.{Other}
 use Rattle.lin_ldf.specs.declared.front.Front.{Front}
 use Rattle.lin_ldf.specs.declared.lexer.Lexer.{Lexer}
 use Rattle.lin_ldf.specs.declared.lexer.Scanned.TheVariants as pieces
-use Rattle.lin_description.specs.declared.place.Place.{Place}
+use Rattle.lin_parts.specs.declared.place.Place.{Place}
 
 -- what is ahead: tokens, and the fault that ends them
 pub record Ahead : Type 0 where

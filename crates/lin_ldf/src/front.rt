@@ -9,7 +9,7 @@ ghost use Rattle.lin_ldf.specs.Words.{place_of};
 
 use crate::lexer::Lexer;
 use crate::token::{Token, TokenKind};
-use lin_description::Place;
+use lin_parts::Place;
 
 /// The tokens that are left: the next one's kind, text and place, and the lexer, which stands after
 /// it.

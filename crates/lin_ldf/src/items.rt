@@ -2,7 +2,7 @@
 
 use crate::names::Names;
 use crate::node_attributes::NodeBlocks;
-use lin_description::{
+use lin_parts::description::{
     Attributes, EventFrame, Frame, Name, Number, PlacedSignal, Signal, Sporadic, Table, TableEntry,
 };
 

@@ -18,7 +18,7 @@ ghost use Rattle.lin_ldf.specs.declared.lexer.Scanned.TheVariants as pieces;
 use crate::classes::{is_alone, is_digit, is_hex_digit, is_letter, is_separator, is_word_byte};
 use crate::fault::LdfFault;
 use crate::token::{Token, TokenKind, same_kind};
-use lin_description::Place;
+use lin_parts::Place;
 use memchr::memchr;
 use std::alloc::Global;
 

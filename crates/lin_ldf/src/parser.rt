@@ -17,7 +17,7 @@ ghost use Rattle.lin_ldf.specs.Grammar.{header_words, is_extra_next, without_quo
 ghost use Rattle.lin_ldf.specs.Grammar.{with_node, front_section};
 ghost use Rattle.lin_ldf.specs.declared.fault.LdfFault.{LdfFault};
 ghost use Rattle.lin_ldf.specs.declared.fault.LdfFault.TheVariants.{OutOfMemory};
-ghost use Rattle.lin_description.specs.declared.description.Description.{Description};
+ghost use Rattle.lin_parts.specs.declared.description.Description.{Description};
 
 use crate::fault::LdfFault;
 use crate::front::Front;
@@ -27,8 +27,9 @@ use crate::node_attributes::NodeBlocks;
 use crate::number_values;
 use crate::section::{SectionWord, section_word};
 use crate::token::{TokenKind, same_kind};
-use lin_description::{Description, Name, Number, Place};
-use lin_lists::Text;
+use lin_parts::Place;
+use lin_parts::description::{Description, Name, Number};
+use lin_text::Text;
 use std::alloc::Global;
 use std::marker::Model;
 

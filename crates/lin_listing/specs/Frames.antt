@@ -6,10 +6,10 @@ use Rattle.lin_frame.specs.Words.{numbers}
 use Rattle.lin_frame.specs.declared.layout.Place.{Place}
 use Rattle.lin_frame.specs.declared.sums.SumKind.{SumKind}
 use Rattle.lin_frame.specs.declared.sums.SumKind.TheVariants.{Classic, Enhanced}
-use Rattle.lin_cluster_parts.specs.Cluster.{event_of, frame_of, named_table, node_of, signal_of}
-use Rattle.lin_cluster_parts.specs.Cluster.{event_name, frame_name, sporadic_name, sporadic_of}
-use Rattle.lin_cluster_parts.specs.declared.parts.Parts.{Parts}
-use Rattle.lin_cluster_parts.specs.declared.parts.SignalFrame.{SignalFrame}
+use Rattle.lin_parts.specs.Cluster.{event_of, frame_of, named_table, node_of, signal_of}
+use Rattle.lin_parts.specs.Cluster.{event_name, frame_name, sporadic_name, sporadic_of}
+use Rattle.lin_parts.specs.declared.parts.Parts.{Parts}
+use Rattle.lin_parts.specs.declared.parts.SignalFrame.{SignalFrame}
 use Rattle.lin_log.specs.Words.{line, value_word}
 
 -- the identifier in a protected identifier: all but its two parity bits (ISO 17987-3, frame header)

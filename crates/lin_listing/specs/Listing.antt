@@ -1,10 +1,10 @@
 -- What a cluster has, as lines.
 use Rattle.std.specs.Prelude.{ℕ, ◌+◌, List, [], ◌∷◌, ◌++◌, length, Option, Some, None, codes}
 use Rattle.std.specs.Fmt.{decimal}
-use Rattle.lin_cluster_parts.specs.declared.parts.Node.{Node}
-use Rattle.lin_cluster_parts.specs.declared.parts.Parts.{Parts}
-use Rattle.lin_cluster_parts.specs.declared.parts.Signal.{Signal}
-use Rattle.lin_cluster_parts.specs.declared.parts.Table.{Table}
+use Rattle.lin_parts.specs.declared.parts.Node.{Node}
+use Rattle.lin_parts.specs.declared.parts.Parts.{Parts}
+use Rattle.lin_parts.specs.declared.parts.Signal.{Signal}
+use Rattle.lin_parts.specs.declared.parts.Table.{Table}
 use Rattle.lin_log.specs.Words.{line}
 
 -- a diagnostic address, and `-` for none

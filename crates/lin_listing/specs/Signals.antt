@@ -2,8 +2,8 @@
 use Rattle.std.specs.Prelude.{ℕ, List, [], ◌∷◌, ◌++◌, length, flat_map, codes, Option, Some, None}
 use Rattle.std.specs.Fmt.{decimal}
 use lib.IntN.{pos, ◌+ℤ◌, ◌*ℤ◌}
-use Rattle.lin_cluster_parts.specs.Cluster.{signal_of}
-use Rattle.lin_cluster_parts.specs.declared.parts.Parts.{Parts}
+use Rattle.lin_parts.specs.Cluster.{signal_of}
+use Rattle.lin_parts.specs.declared.parts.Parts.{Parts}
 use Rattle.lin_frame.specs.Words.{numbers}
 use Rattle.lin_log.specs.Words.{line, value_word}
 use Rattle.lin_values.specs.Coded.{encoding_of, CodedData, RangeData}

@@ -5,8 +5,8 @@ use Rattle.std.specs.Prelude.{flat_map, codes, nat_le, if◌then◌else◌}
 use Rattle.std.specs.Fmt.{decimal}
 use Rattle.lin_cluster.specs.SlotTimes.{slot_bytes, slot_need}
 use Rattle.lin_frame.specs.Words.{numbers}
-use Rattle.lin_cluster_parts.specs.Cluster.{entry_kind, entry_name, line_of, named_table, table_of}
-use Rattle.lin_cluster_parts.specs.declared.parts.Parts.{Parts}
+use Rattle.lin_parts.specs.Cluster.{entry_kind, entry_name, line_of, named_table, table_of}
+use Rattle.lin_parts.specs.declared.parts.Parts.{Parts}
 use Rattle.lin_log.specs.Words.{line}
 
 -- ---- the slot of an entry

@@ -3,15 +3,15 @@
 ghost use Rattle.std.specs.Prelude.{◌≡◌, ◌<◌, length, flat_map, map};
 ghost use Rattle.lin_frame.specs.Words.{numbers};
 ghost use Rattle.lin_log.specs.Words.{line_tail};
-ghost use Rattle.lin_cluster_parts.specs.Cluster.{frame_name, frame_of};
+ghost use Rattle.lin_parts.specs.Cluster.{frame_name, frame_of};
 ghost use Rattle.lin_text.specs.Written.{Grows, WritesText};
 ghost use Rattle.lin_listing.specs.Frames.{event_line, frame_line, frame_lines, frames, model_word};
 ghost use Rattle.lin_listing.specs.Frames.{place_line, places, sporadic_line};
 ghost use Rattle.lin_log.specs.Shown.{word_shown};
 
-use lin_cluster_parts::Cluster;
 use lin_frame::{Place, SumKind};
 use lin_log::{Word, put_head, put_line, put_spaced, value_word};
+use lin_parts::Cluster;
 use lin_text::{TextWriter, WriteFailed};
 use std::io::Write;
 

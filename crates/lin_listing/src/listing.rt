@@ -1,14 +1,14 @@
 //! What a cluster has, as lines.
 
 ghost use Rattle.std.specs.Prelude.{◌≡◌, ◌<◌, length};
-ghost use Rattle.lin_cluster_parts.specs.Cluster.{named_table, node_of, nodes, signal_of};
+ghost use Rattle.lin_parts.specs.Cluster.{named_table, node_of, nodes, signal_of};
 ghost use Rattle.lin_log.specs.Shown.{word_shown};
 ghost use Rattle.lin_text.specs.Written.{Grows, WritesText};
 ghost use Rattle.lin_listing.specs.Listing.{address_word, listing, node_line, numbered_lines};
 ghost use Rattle.lin_listing.specs.Listing.{signal_line, table_line};
 
-use lin_cluster_parts::Cluster;
 use lin_log::{Word, put_line};
+use lin_parts::Cluster;
 use lin_text::{TextWriter, WriteFailed};
 use std::io::Write;
 

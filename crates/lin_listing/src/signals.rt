@@ -12,8 +12,8 @@ ghost use Rattle.lin_values.specs.Meaning.{meant};
 ghost use Rattle.lin_values.specs.Shown.{decimal_shown};
 ghost use Rattle.lin_values.specs.Value.{decimal_of};
 
-use lin_cluster_parts::Cluster;
 use lin_log::{Word, put_head, put_line, put_spaced, value_word};
+use lin_parts::Cluster;
 use lin_text::{TextWriter, WriteFailed};
 use lin_values::{
     Coded, Item, Meaning, PhysicalValue, PlacedItem, Range, put_decimal, put_meaning,

@@ -2,16 +2,16 @@
 
 ghost use Rattle.std.specs.Prelude.{◌≡◌, ◌<◌, ◌≤◌, All, flat_map, length, slice_index};
 ghost use Rattle.lin_frame.specs.Words.{numbers};
-ghost use Rattle.lin_cluster_parts.specs.Cluster.{frame_of, line_of, table_of};
-ghost use Rattle.lin_cluster_parts.specs.Rules.{IsEntry};
+ghost use Rattle.lin_parts.specs.Cluster.{frame_of, line_of, table_of};
+ghost use Rattle.lin_parts.specs.Rules.{IsEntry};
 ghost use Rattle.lin_text.specs.Written.{Grows, WritesText};
 ghost use Rattle.lin_cluster.specs.SlotTimes.{frame_bytes, greatest_bytes, slot_bytes};
 ghost use Rattle.lin_listing.specs.Slots.{bits_of, delay_of, load_line, nominal_bits, permille};
 ghost use Rattle.lin_listing.specs.Slots.{slack, slot_line, slots, table_lines};
 
 use lin_cluster::needed_us;
-use lin_cluster_parts::{Cluster, Entry};
 use lin_log::{Word, put_head, put_line};
+use lin_parts::{Cluster, Entry};
 use lin_text::{TextWriter, WriteFailed};
 use std::io::Write;
 

@@ -1,6 +1,6 @@
 -- The reply to a line, by what it says.
 use Rattle.std.proofs.Common.{◌≡◌, ◌∙◌, ◌<◌, ◌-◌, ◌^◌, ◌++◌, ℕ, true, List, [], Option, Result, Ok, Err, ap, length, refl, subst, sym}
-use Rattle.lin_cluster_parts.specs.declared.parts.Parts.{Parts}
+use Rattle.lin_parts.specs.declared.parts.Parts.{Parts}
 use Rattle.lin_core.specs.declared.log.LogEntry.{LogEntry}
 use Rattle.lin_values.specs.Coded.{CodedData}
 use Rattle.lin_live.specs.Hand.{hand_data}

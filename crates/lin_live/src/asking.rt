@@ -10,8 +10,8 @@ ghost use Rattle.lin_live.specs.declared.reason.Reason.{Reason};
 
 use crate::question::Question;
 use crate::reason::{LineFault, Reason};
-use lin_cluster_parts::Cluster;
 use lin_log::{copied, first_field, is_over, node_field, signal_field};
+use lin_parts::Cluster;
 use std::alloc::{AllocError, Global};
 
 /// There is no form of these fields after `?`.

@@ -10,8 +10,8 @@ use crate::asking::question;
 use crate::question::Question;
 use crate::reason::LineFault;
 use lin_bench::{Line, read_worded_line};
-use lin_cluster_parts::Cluster;
 use lin_log::first_field;
+use lin_parts::Cluster;
 use lin_values::Coded;
 use std::alloc::Global;
 

@@ -4,7 +4,7 @@ ghost use Rattle.std.specs.Prelude.{◌≡◌};
 ghost use Rattle.lin_live.specs.Asked.{script_fault, step_fault};
 ghost use Rattle.lin_live.specs.declared.reason.LineFault.TheVariants.{OutOfMemory};
 
-use lin_lists::{Many, Text};
+use lin_text::{Many, Text};
 use std::alloc::AllocError;
 
 /// Why a line isn't one to answer. The fields are as they stand in the line.

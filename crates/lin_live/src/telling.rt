@@ -15,10 +15,10 @@ use crate::value::Value;
 use lin_bench::{
     Pending, Verdict, first_refusal, put_fields, put_pending, put_reason, put_verdict,
 };
-use lin_cluster_parts::Cluster;
 use lin_core::{Core, Event, Listed, Log, Refusal};
 use lin_export::{Track, named_text, put_slot_names};
 use lin_log::{put_entries, put_number, put_table, put_value, put_word};
+use lin_parts::Cluster;
 use lin_text::{TextWriter, WriteFailed};
 use lin_values::Coded;
 use std::alloc::{AllocError, Global};

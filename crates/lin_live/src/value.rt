@@ -1,7 +1,7 @@
 //! What is said to questions.
 
 ghost use Rattle.std.specs.Prelude.{◌≡◌, IfOk};
-ghost use Rattle.lin_cluster_parts.specs.declared.parts.Parts.{Parts};
+ghost use Rattle.lin_parts.specs.declared.parts.Parts.{Parts};
 ghost use Rattle.lin_core.specs.Core.{past_of};
 ghost use Rattle.lin_export.specs.WhereTold.{told};
 ghost use Rattle.lin_live.specs.Asked.{IsAskable};
@@ -10,7 +10,7 @@ ghost use Rattle.lin_live.specs.Told.{next_text, seen_text, value_shown, value_t
 use crate::question::Question;
 use lin_bench::{Bench, Pending};
 use lin_core::Core;
-use lin_lists::Many;
+use lin_text::Many;
 use lin_values::{Coded, shown};
 use std::alloc::{AllocError, Global};
 

@@ -10,7 +10,7 @@ ghost use Rattle.lin_log.specs.Said.{number_field};
 
 use crate::naming::Naming;
 use crate::reason::{LineFault, Reason};
-use lin_lists::{Many, Text};
+use lin_text::{Many, Text};
 use std::alloc::{AllocError, Global};
 
 #[inline]

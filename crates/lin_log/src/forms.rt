@@ -17,7 +17,7 @@ use crate::values::{
     bytes_fields, direction_field, node_field, signal_field, table_field, value_field,
 };
 use lin_core::{PortId, Step};
-use lin_lists::Text;
+use lin_text::Text;
 use std::alloc::{AllocError, Global};
 
 /// Whether a line's first field is a port: `bus`, or `h` or `n` with a digit or `:` after it.

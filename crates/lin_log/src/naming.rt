@@ -3,7 +3,7 @@
 ghost use Rattle.std.specs.Prelude.{◌≡◌, option_map};
 ghost use Rattle.lin_log.specs.Language.{Language, name_at, named, number_named, plain};
 
-use lin_cluster_parts::Cluster;
+use lin_parts::Cluster;
 
 /// How nodes, signals and schedule tables are called in lines of steps, and how freely the lines
 /// may be written.

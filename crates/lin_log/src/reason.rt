@@ -3,7 +3,7 @@
 ghost use Rattle.std.specs.Prelude.{◌≡◌};
 ghost use Rattle.lin_log.specs.declared.reason.LineFault.TheVariants.{OutOfMemory};
 
-use lin_lists::{Many, Text};
+use lin_text::{Many, Text};
 use std::alloc::AllocError;
 
 /// Why a line of a step is bad. The fields are as they stand in the line.

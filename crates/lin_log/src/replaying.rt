@@ -9,8 +9,8 @@ ghost use Rattle.lin_log.specs.Script.{script};
 use crate::entries::write_log;
 use crate::fault::{ReplayFault, ScriptFault};
 use crate::script::{ScriptLines, read_bytes};
-use lin_cluster_parts::Cluster;
 use lin_core::{Core, Hold, PortId, Step};
+use lin_parts::Cluster;
 use std::alloc::{AllocError, Global};
 use std::io::{Read, Write};
 

@@ -16,7 +16,7 @@ use crate::reason::{LineFault, Reason};
 use arrayvec::ArrayVec;
 use lin_core::{Direction, Payload, named};
 use lin_frame::{Value, ValueBytes};
-use lin_lists::Text;
+use lin_text::Text;
 use std::alloc::{AllocError, Global};
 
 /// A node or its host, by its name or its number.

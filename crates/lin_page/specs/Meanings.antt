@@ -3,7 +3,7 @@
 -- first one that holds a raw value says what it means.
 use Rattle.std.specs.Prelude.{ℕ, List, [], ◌∷◌, ◌++◌, length, flat_map, codes, Option, Some, None}
 use Rattle.std.specs.Fmt.{decimal}
-use Rattle.lin_cluster_parts.specs.declared.parts.Parts.{Parts}
+use Rattle.lin_parts.specs.declared.parts.Parts.{Parts}
 use Rattle.lin_frame.specs.Words.{numbers}
 use Rattle.lin_log.specs.Words.{line}
 use Rattle.lin_page.specs.Fields.{field}

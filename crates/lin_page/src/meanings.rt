@@ -10,8 +10,8 @@ ghost use Rattle.lin_text.specs.Written.{Grows};
 ghost use Rattle.lin_values.specs.Shown.{decimal_shown};
 
 use crate::field::put_field;
-use lin_cluster_parts::Cluster;
 use lin_log::{Word, put_head};
+use lin_parts::Cluster;
 use lin_text::TextWriter;
 use lin_values::{Coded, Coefficient, Item, PlacedItem, put_decimal};
 use std::io::Write;

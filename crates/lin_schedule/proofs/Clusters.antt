@@ -3,15 +3,15 @@ use Rattle.std.proofs.Common.{◌≡◌, ℕ, ◌<◌, ◌≤◌, Bool, true, fa
 use Rattle.std.specs.Prelude.{All, if◌then◌else◌}
 use Rattle.std.proofs.lemmas.List.Elements.{All-get_or}
 use Rattle.std.proofs.lemmas.Option.{none-some}
-use Rattle.lin_cluster_parts.specs.Cluster.{event_of, table_of, line_of}
-use Rattle.lin_cluster_parts.specs.Rules.{IsCluster, IsEntry, IsDelay}
-use Rattle.lin_cluster_parts.specs.declared.parts.Parts.{Parts}
+use Rattle.lin_parts.specs.Cluster.{event_of, table_of, line_of}
+use Rattle.lin_parts.specs.Rules.{IsCluster, IsEntry, IsDelay}
+use Rattle.lin_parts.specs.declared.parts.Parts.{Parts}
 use Rattle.lin_frame.specs.declared.sums.SumKind.TheVariants.{Enhanced}
-use Rattle.lin_cluster_parts.specs.declared.parts.Table.{Table}
-use Rattle.lin_cluster_parts.specs.declared.parts.EventFrame.{EventFrame}
-use Rattle.lin_cluster_parts.specs.declared.parts.Line.{Line}
-use Rattle.lin_cluster_parts.specs.declared.parts.Entry.{Entry}
-use Rattle.lin_cluster_parts.specs.declared.parts.Entry.TheVariants.{Frame, Sporadic, Event, MasterReq, SlaveResp, Quiet}
+use Rattle.lin_parts.specs.declared.parts.Table.{Table}
+use Rattle.lin_parts.specs.declared.parts.EventFrame.{EventFrame}
+use Rattle.lin_parts.specs.declared.parts.Line.{Line}
+use Rattle.lin_parts.specs.declared.parts.Entry.{Entry}
+use Rattle.lin_parts.specs.declared.parts.Entry.TheVariants.{Frame, Sporadic, Event, MasterReq, SlaveResp, Quiet}
 use Rattle.lin_schedule.specs.Schedule.{resolving}
 use Rattle.lin_schedule.specs.Walker.{HasEntry}
 use Rattle.lin_schedule.proofs.Times.{AreDelays, no_line}

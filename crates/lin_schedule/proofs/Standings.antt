@@ -4,12 +4,12 @@ use Rattle.std.proofs.Common.{inl, inr, ◌%◌}
 use Rattle.std.proofs.lemmas.Bool.{cases_lt}
 use Rattle.std.proofs.lemmas.Option.{none-some}
 use Rattle.std.proofs.lemmas.Bool.Decides.{Decides-eqb}
-use Rattle.lin_cluster_parts.specs.declared.parts.Line.{Line}
+use Rattle.lin_parts.specs.declared.parts.Line.{Line}
 use Rattle.std.specs.Prelude.{nat_lt, ◌==◌, if◌then◌else◌, option_map}
 use Rattle.std.specs.Option.{option_map_or, unwrap_or}
-use Rattle.lin_cluster_parts.specs.Cluster.{table_of, line_of}
-use Rattle.lin_cluster_parts.specs.declared.parts.Parts.{Parts}
-use Rattle.lin_cluster_parts.specs.declared.parts.Entry.{Entry}
+use Rattle.lin_parts.specs.Cluster.{table_of, line_of}
+use Rattle.lin_parts.specs.declared.parts.Parts.{Parts}
+use Rattle.lin_parts.specs.declared.parts.Entry.{Entry}
 use Rattle.lin_schedule.specs.Schedule.{Move, Slot, Switch, Restart, Standing, offset, total, entry_at, due, resolving, after_main, after_place, standing}
 use Rattle.lin_schedule.specs.Walker.{Position, position_of, Stands}
 use Rattle.lin_schedule.proofs.Times.{AreDelays, IsOn, IsOn-from, IsOn-next, entry_at-next, find-first, offset-start, next}

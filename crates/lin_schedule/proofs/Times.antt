@@ -8,8 +8,8 @@ use Rattle.std.proofs.lemmas.List.Folds.{find-append}
 use Rattle.std.proofs.Math.Nat.{mod-add-mod, mod_self, zero-mod, mod-eq_of_lt}
 use Rattle.std.proofs.Math.Seq.{take-length}
 use Rattle.lin_frame.specs.Words.{numbers}
-use Rattle.lin_cluster_parts.specs.declared.parts.Line.{Line}
-use Rattle.lin_cluster_parts.specs.declared.parts.Entry.TheVariants.{Quiet}
+use Rattle.lin_parts.specs.declared.parts.Line.{Line}
+use Rattle.lin_parts.specs.declared.parts.Entry.TheVariants.{Quiet}
 use Rattle.lin_schedule.specs.Schedule.{offset, total, entry_at}
 
 -- what stands where a table has no entry

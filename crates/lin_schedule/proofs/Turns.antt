@@ -4,10 +4,10 @@ use Rattle.std.specs.Prelude.{nat_lt, replicate}
 use Rattle.std.proofs.lemmas.Bool.{cases_lt}
 use Rattle.std.proofs.lemmas.Bool.Decides.{Decides-ltb, nat_tests}
 use Rattle.std.proofs.Math.Nat.{mod-add-mod, mod_self, zero-mod, mod-eq_of_lt}
-use Rattle.lin_cluster_parts.specs.Cluster.{table_of, line_of}
-use Rattle.lin_cluster_parts.specs.Rules.{IsCluster}
-use Rattle.lin_cluster_parts.specs.declared.parts.Line.{Line}
-use Rattle.lin_cluster_parts.specs.declared.parts.Parts.{Parts}
+use Rattle.lin_parts.specs.Cluster.{table_of, line_of}
+use Rattle.lin_parts.specs.Rules.{IsCluster}
+use Rattle.lin_parts.specs.declared.parts.Line.{Line}
+use Rattle.lin_parts.specs.declared.parts.Parts.{Parts}
 use Rattle.lin_schedule.specs.Schedule.{Slot, Standing, offset, total, due, standing}
 use Rattle.lin_schedule.specs.Law.{HaveOwnOffsets, time_of_slots, IsInTurn, IsDueInTurn}
 use Rattle.lin_schedule.proofs.Clusters.{table-length, table-delays}

@@ -4,11 +4,11 @@ use Rattle.std.specs.Prelude.{nat_lt, if◌then◌else◌, unwrap_or}
 use Rattle.std.specs.Option.{ForSome, option_map_or}
 use Rattle.std.proofs.lemmas.Option.{none-some}
 use Rattle.std.proofs.lemmas.Bool.Decides.{nat_tests}
-use Rattle.lin_cluster_parts.specs.Cluster.{table_of}
-use Rattle.lin_cluster_parts.specs.declared.parts.Parts.{Parts}
+use Rattle.lin_parts.specs.Cluster.{table_of}
+use Rattle.lin_parts.specs.declared.parts.Parts.{Parts}
 use Rattle.lin_schedule.specs.Walker.{Position, HasEntry, Walks}
-use Rattle.lin_cluster_parts.specs.Cluster.{line_of}
-use Rattle.lin_cluster_parts.specs.Rules.{IsCluster}
+use Rattle.lin_parts.specs.Cluster.{line_of}
+use Rattle.lin_parts.specs.Rules.{IsCluster}
 use Rattle.lin_schedule.specs.Schedule.{resolving}
 use Rattle.lin_schedule.proofs.Clusters.{table-start, line-entry, resolving-start}
 use Rattle.lin_schedule.proofs.Times.{next, next-lt}

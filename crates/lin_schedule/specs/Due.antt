@@ -1,11 +1,11 @@
 -- What is due in a slot.
 use Rattle.std.specs.Prelude.{Bool, false, List, slice_index_or, find}
-use Rattle.lin_cluster_parts.specs.Cluster.{sporadic_of}
-use Rattle.lin_cluster_parts.specs.declared.parts.Parts.{Parts}
-use Rattle.lin_cluster_parts.specs.declared.parts.Entry.{Entry}
-use Rattle.lin_cluster_parts.specs.declared.parts.Entry.TheVariants.{Frame, Sporadic, Event}
-use Rattle.lin_cluster_parts.specs.declared.parts.Entry.TheVariants.{MasterReq}
-use Rattle.lin_cluster_parts.specs.declared.parts.Entry.TheVariants.{SlaveResp, Quiet}
+use Rattle.lin_parts.specs.Cluster.{sporadic_of}
+use Rattle.lin_parts.specs.declared.parts.Parts.{Parts}
+use Rattle.lin_parts.specs.declared.parts.Entry.{Entry}
+use Rattle.lin_parts.specs.declared.parts.Entry.TheVariants.{Frame, Sporadic, Event}
+use Rattle.lin_parts.specs.declared.parts.Entry.TheVariants.{MasterReq}
+use Rattle.lin_parts.specs.declared.parts.Entry.TheVariants.{SlaveResp, Quiet}
 use Rattle.lin_schedule.specs.declared.due.Due.{Due}
 use Rattle.lin_schedule.specs.declared.due.Due.TheVariants.{
   Frame as FrameDue,

@@ -1,9 +1,9 @@
 -- How the time in a table tells its entries.
 use Rattle.std.specs.Prelude.{◌≡◌, ℕ, zero, suc, ◌+◌, ◌%◌, ◌<◌, Bool, true, false, List, ◌∷◌}
 use Rattle.std.specs.Prelude.{◌++◌, length, map, replicate, Some, None}
-use Rattle.lin_cluster_parts.specs.Cluster.{table_of, line_of}
-use Rattle.lin_cluster_parts.specs.declared.parts.Line.{Line}
-use Rattle.lin_cluster_parts.specs.declared.parts.Parts.{Parts}
+use Rattle.lin_parts.specs.Cluster.{table_of, line_of}
+use Rattle.lin_parts.specs.declared.parts.Line.{Line}
+use Rattle.lin_parts.specs.declared.parts.Parts.{Parts}
 use Rattle.lin_schedule.specs.Schedule.{Move, Slot, offset, entry_at, due, due_line, resolving}
 use Rattle.lin_schedule.specs.Schedule.{standing}
 

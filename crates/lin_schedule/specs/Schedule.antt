@@ -4,11 +4,11 @@ use Rattle.std.specs.Prelude.{ℕ, suc, ◌+◌, ◌%◌, Bool, nat_lt, ◌==◌
 use Rattle.std.specs.Prelude.{length, take, sum_by, find, Option, Some, None}
 use Rattle.std.specs.Option.{option_map_or, unwrap_or}
 use Rattle.lin_frame.specs.Words.{numbers}
-use Rattle.lin_cluster_parts.specs.Cluster.{event_of, table_of, line_of}
-use Rattle.lin_cluster_parts.specs.declared.parts.Parts.{Parts}
-use Rattle.lin_cluster_parts.specs.declared.parts.Line.{Line}
-use Rattle.lin_cluster_parts.specs.declared.parts.Entry.{Entry}
-use Rattle.lin_cluster_parts.specs.declared.parts.Entry.TheVariants.{Event}
+use Rattle.lin_parts.specs.Cluster.{event_of, table_of, line_of}
+use Rattle.lin_parts.specs.declared.parts.Parts.{Parts}
+use Rattle.lin_parts.specs.declared.parts.Line.{Line}
+use Rattle.lin_parts.specs.declared.parts.Entry.{Entry}
+use Rattle.lin_parts.specs.declared.parts.Entry.TheVariants.{Event}
 
 -- the sum of the delays before entry k of a table, in microseconds
 abbrev pub offset : List Line → ℕ → ℕ

@@ -1,8 +1,8 @@
 -- What contracts see of a walker, and the moves that it stands for.
 use Rattle.std.specs.Prelude.{◌≡◌, ℕ, ◌<◌, List, length, Option, option_map}
 use Rattle.std.specs.Option.{ForSome}
-use Rattle.lin_cluster_parts.specs.Cluster.{table_of}
-use Rattle.lin_cluster_parts.specs.declared.parts.Parts.{Parts}
+use Rattle.lin_parts.specs.Cluster.{table_of}
+use Rattle.lin_parts.specs.declared.parts.Parts.{Parts}
 use Rattle.lin_schedule.specs.Schedule.{Move, Standing, due, due_in_main, standing}
 
 -- the table and entry of the next slot, and, inside an excursion, those with which the schedule

@@ -1,9 +1,9 @@
 //! What holds of the definitions.
 
 ghost use Rattle.std.specs.Prelude.{ℕ, ◌<◌, Bool, List, length};
-ghost use Rattle.lin_cluster_parts.specs.Cluster.{table_of};
-ghost use Rattle.lin_cluster_parts.specs.Rules.{IsCluster};
-ghost use Rattle.lin_cluster_parts.specs.declared.parts.Parts.{Parts};
+ghost use Rattle.lin_parts.specs.Cluster.{table_of};
+ghost use Rattle.lin_parts.specs.Rules.{IsCluster};
+ghost use Rattle.lin_parts.specs.declared.parts.Parts.{Parts};
 ghost use Rattle.lin_schedule.specs.Schedule.{Move};
 ghost use Rattle.lin_schedule.specs.Law.{HaveOwnOffsets, IsInTurn, IsDueInTurn, IsExcursion};
 ghost use Rattle.lin_schedule.specs.Law.{IsResolvedBy};

@@ -3,16 +3,16 @@
 ghost use Rattle.std.specs.Prelude.{◌≡◌, ◌<◌, ℕ, suc, List, [], ◌∷◌, length, nat_lt};
 ghost use Rattle.std.specs.Prelude.{if◌then◌else◌, Option, Some, None, All, find, slice_index_or};
 ghost use Rattle.std.specs.Prelude.{false};
-ghost use Rattle.lin_cluster_parts.specs.Cluster.{table_of, line_of};
-ghost use Rattle.lin_cluster_parts.specs.Rules.{IsCluster, IsEntry};
-ghost use Rattle.lin_cluster_parts.specs.declared.parts.Parts.{Parts};
+ghost use Rattle.lin_parts.specs.Cluster.{table_of, line_of};
+ghost use Rattle.lin_parts.specs.Rules.{IsCluster, IsEntry};
+ghost use Rattle.lin_parts.specs.declared.parts.Parts.{Parts};
 ghost use Rattle.lin_schedule.specs.Due.{due_for};
 ghost use Rattle.lin_schedule.specs.Schedule.{Move, Slot, Switch, Restart, due, due_line};
 ghost use Rattle.lin_schedule.specs.Schedule.{resolving, standing};
 ghost use Rattle.lin_schedule.specs.Walker.{Stands, HasEntry, Walks};
 
 use crate::due::Due;
-use lin_cluster_parts::{Cluster, Entry};
+use lin_parts::{Cluster, Entry};
 use std::marker::Model;
 
 /// A walk through a cluster's schedule tables (ISO 17987-3, schedule tables). It keeps which entry

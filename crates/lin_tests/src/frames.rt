@@ -5,7 +5,7 @@ use lin_frame::{
     Answer, FrameId, Layout, Place, SumKind, Value, ValueBytes, answer, checksum, pack,
     packing_is_inverse, passes, protected, unpack, unprotect,
 };
-use lin_lists::Many;
+use lin_text::Many;
 use std::alloc::Global;
 use std::process::Abort;
 use std::test::Fail;

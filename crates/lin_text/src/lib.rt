@@ -1,8 +1,10 @@
-//! Texts on their way: read whole up to a limit, and written through a buffer of fixed size.
+//! Texts: as fields of public types, which contracts see as lists; and on their way, read whole up
+//! to a limit, and written through a buffer of fixed size.
 //!
 //! ```
+//! let name = Text::copied(alloc, b"door")?;
 //! let mut text = TextWriter::new(&mut writer);
-//! text.put_text("> due ");
+//! text.put_text(name.as_slice());
 //! text.put_number(1);
 //! text.finish()?;
 //! ```
@@ -11,9 +13,11 @@
 mod buffered;
 mod direct;
 mod fault;
+mod lists;
 mod reading;
 
 pub use buffered::TextWriter;
 pub use direct::write_out;
 pub use fault::WriteFailed;
+pub use lists::{Many, OneOrMore, Text};
 pub use reading::{ReadFault, read_whole};

@@ -5,7 +5,7 @@ use Rattle.rtrb.specs.Ring.{sent}
 use Rattle.lin_core.specs.declared.port.PortId.{PortId}
 use Rattle.std.proofs.lemmas.Option.{slice_get_within}
 use mathlib.Core.List.{IsPrefix}
-use Rattle.lin_cluster_parts.specs.Cluster.{nodes}
+use Rattle.lin_parts.specs.Cluster.{nodes}
 use Rattle.lin_threads.specs.declared.ports.pump.Pump.{Pump}
 use Rattle.lin_threads.specs.Pumps.{given_to, since}
 use Rattle.lin_threads.specs.Steps.{same_port, port_at, notes}

@@ -1,7 +1,7 @@
 -- What a round adds, port by port.
 use Rattle.std.proofs.Common.{◌≡◌, ◌≤◌, ◌+◌, ℕ, List, [], ◌∷◌, ◌++◌, append_assoc, append-nil, length-append, refl, sym, ap, subst, ◌∙◌, arith, true, Bool, Result, Ok, Err, false, vec_len}
 use mathlib.Core.List.{IsPrefix}
-use Rattle.lin_cluster_parts.specs.Cluster.{nodes}
+use Rattle.lin_parts.specs.Cluster.{nodes}
 use Rattle.lin_core.specs.Core.{CoreData, answered, IsAlike}
 use Rattle.lin_core.specs.Replies.{may}
 use Rattle.lin_core.specs.declared.log.LogEntry.{LogEntry}

@@ -4,8 +4,8 @@ use Rattle.std.specs.Prelude.{◌≡◌, ℕ, ◌==◌, if◌then◌else◌, Lis
 use Rattle.std.specs.Prelude.{Option, Some, None, is_some, true}
 use Rattle.std.specs.List.{filter_map}
 use mathlib.Core.List.{IsPrefix}
-use Rattle.lin_cluster_parts.specs.Cluster.{nad}
-use Rattle.lin_cluster_parts.specs.declared.parts.Parts.{Parts}
+use Rattle.lin_parts.specs.Cluster.{nad}
+use Rattle.lin_parts.specs.declared.parts.Parts.{Parts}
 use Rattle.lin_core.specs.Core.{CoreData}
 use Rattle.lin_core.specs.Links.{Link, host_of, reading}
 use Rattle.lin_core.specs.Replies.{receiver_of}

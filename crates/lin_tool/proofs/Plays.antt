@@ -5,7 +5,7 @@ use Rattle.std.specs.Io.KnownBytes.{Appends, Keeps}
 use Rattle.lin_text.specs.Written.{WritesText}
 use Rattle.lin_bench.specs.Scripts.{Script, read}
 use Rattle.lin_bench.specs.Played.{Run, played}
-use Rattle.lin_cluster_parts.specs.declared.parts.Parts.{Parts}
+use Rattle.lin_parts.specs.declared.parts.Parts.{Parts}
 use Rattle.lin_bench.specs.declared.line.Line.{Line}
 use Rattle.lin_values.specs.Coded.{CodedData}
 use Rattle.lin_tool.specs.Playing.{IsUnread, PlaysScript, Says, WritesPlayed, in_words, run_as, told_text}

@@ -6,9 +6,9 @@ use Rattle.std.proofs.lemmas.List.{map-append}
 use Rattle.std.proofs.lemmas.List.Sorted.{IsPermutation-refl, IsPermutation-trans, IsPermutation-map, IsPermutation-append_left, IsPermutation-append_right}
 use Rattle.lin_cluster.specs.Lint.{lints}
 use Rattle.lin_cluster.specs.declared.finding.Finding.{Finding}
-use Rattle.lin_cluster_parts.specs.declared.parts.Parts.{Parts}
+use Rattle.lin_parts.specs.declared.parts.Parts.{Parts}
 use Rattle.lin_cluster.specs.declared.lints.configurable.Configurable.{Configurable}
-use Rattle.lin_description.specs.declared.description.Description.{Description}
+use Rattle.lin_parts.specs.declared.description.Description.{Description}
 use Rattle.lin_field.specs.Checks.{remark, remark_cmp, remarks, AreRemarks}
 use Rattle.lin_field.specs.declared.checking.Remark.{Remark}
 use Rattle.lin_field.specs.declared.settling.Settled.{Settled}

@@ -4,14 +4,14 @@ use Rattle.lin_ldf.specs.Describes.{Describes}
 use Rattle.lin_ldf.specs.Tokens.{IsLexFault}
 use Rattle.lin_ldf.specs.declared.fault.LdfFault.{LdfFault}
 use Rattle.lin_ldf.specs.declared.fault.LdfFault.TheVariants as ldf
-use Rattle.lin_description.specs.declared.description.Description.{Description}
+use Rattle.lin_parts.specs.declared.description.Description.{Description}
 use Rattle.lin_cluster.specs.Checks.{IsFaultOf}
 use Rattle.lin_cluster.specs.Described.{parts_of}
 use Rattle.lin_cluster.specs.Findings.{IsFree}
 use Rattle.lin_cluster.specs.SlotTimes.{NoSlotIsShort}
 use Rattle.lin_cluster.specs.declared.finding.CheckFault.TheVariants as check
 use Rattle.lin_cluster.specs.declared.finding.Finding.{Finding}
-use Rattle.lin_cluster_parts.specs.declared.parts.Parts.{Parts}
+use Rattle.lin_parts.specs.declared.parts.Parts.{Parts}
 use Rattle.lin_tool.specs.declared.fault.Fault.{Fault}
 use Rattle.lin_tool.specs.declared.fault.Fault.TheVariants.{Ldf, Findings, OutOfMemory}
 

@@ -7,11 +7,11 @@ use Rattle.lin_ldf.specs.Describes.{Describes}
 use Rattle.lin_ldf.specs.Symbols.{Symbol, symbols_in}
 use Rattle.lin_ldf.specs.Tokens.{AreTokens}
 use Rattle.lin_ldf.specs.declared.token.Token.{Token}
-use Rattle.lin_description.specs.declared.description.Description.{Description}
+use Rattle.lin_parts.specs.declared.description.Description.{Description}
 use Rattle.lin_cluster.specs.Lint.{lints}
 use Rattle.lin_cluster.specs.declared.finding.Finding.{Finding}
 use Rattle.lin_cluster.specs.declared.lints.configurable.Configurable.{Configurable}
-use Rattle.lin_cluster_parts.specs.declared.parts.Parts.{Parts}
+use Rattle.lin_parts.specs.declared.parts.Parts.{Parts}
 use Rattle.lin_field.specs.Checks.{remark, remark_cmp}
 use Rattle.lin_field.specs.declared.checking.Remark.{Remark}
 use Rattle.lin_tool.specs.Clusters.{IsClusterOf, TextFaults}

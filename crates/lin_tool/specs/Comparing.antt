@@ -1,7 +1,7 @@
 -- What comparing a log with the text of its own history answers.
 use Rattle.std.specs.Prelude.{◌≡◌, ◌≢◌, ℕ, ◌+◌, ◌==◌, List, take, slice_get, count_by, Result, Ok}
 use Rattle.std.specs.Prelude.{Err}
-use Rattle.lin_cluster_parts.specs.declared.parts.Parts.{Parts}
+use Rattle.lin_parts.specs.declared.parts.Parts.{Parts}
 use Rattle.lin_core.specs.declared.port.PortId.{PortId}
 use Rattle.lin_core.specs.declared.step.Step.{Step}
 use Rattle.lin_log.specs.Replay.{IsScriptOf, ScriptFaults, log_of}

@@ -1,7 +1,7 @@
 -- Which lists of a cluster are written, and in which order.
 use Rattle.std.specs.Prelude.{ℕ, Bool, List, [], ◌++◌, Option, if◌then◌else◌}
 use Rattle.std.specs.Option.{option_map_or}
-use Rattle.lin_cluster_parts.specs.declared.parts.Parts.{Parts}
+use Rattle.lin_parts.specs.declared.parts.Parts.{Parts}
 use Rattle.lin_listing.specs.Frames.{frames}
 use Rattle.lin_listing.specs.Listing.{listing}
 use Rattle.lin_listing.specs.Signals.{signal_list}

@@ -2,8 +2,8 @@
 use Rattle.std.specs.Prelude.{◌≡◌, ℕ, List, nat_lt, length, if◌then◌else◌, Option, Some, None}
 use Rattle.std.specs.Prelude.{Result, Ok, Err}
 use Rattle.std.specs.Borrow.{Bor}
-use Rattle.lin_cluster_parts.specs.Cluster.{first_table}
-use Rattle.lin_cluster_parts.specs.declared.parts.Parts.{Parts}
+use Rattle.lin_parts.specs.Cluster.{first_table}
+use Rattle.lin_parts.specs.declared.parts.Parts.{Parts}
 use Rattle.lin_tool.specs.declared.fault.Fault.{Fault}
 use Rattle.lin_tool.specs.declared.fault.Fault.TheVariants.{NoSuchTable}
 

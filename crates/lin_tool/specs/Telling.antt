@@ -1,7 +1,7 @@
 -- What the program says of a fault, as lines.
 use Rattle.std.specs.Prelude.{ℕ, ◌==◌, List, [], ◌∷◌, ◌++◌, flat_map, if◌then◌else◌, codes}
 use Rattle.std.specs.Fmt.{decimal}
-use Rattle.lin_description.specs.declared.place.Place.{Place}
+use Rattle.lin_parts.specs.declared.place.Place.{Place}
 use Rattle.lin_ldf.specs.declared.fault.LdfFault.{LdfFault}
 use Rattle.lin_ldf.specs.declared.fault.LdfFault.TheVariants as ldf
 use Rattle.lin_cluster.specs.declared.finding.Finding.{Finding}

@@ -15,10 +15,10 @@ ghost use Rattle.lin_tool.specs.declared.fault.Fault.TheVariants.{OutOfMemory};
 use crate::fault::Fault;
 use crate::notes::Notes;
 use lin_cluster::{Configurable, Finding, lint};
-use lin_cluster_parts::Cluster;
-use lin_description::Description;
 use lin_field::Remark;
-use lin_lists::Many;
+use lin_parts::Cluster;
+use lin_parts::description::Description;
+use lin_text::Many;
 use lin_values::{Coded, Codings, coded_by, read_codings, read_configurables, unused_encodings};
 use std::alloc::{AllocError, Global};
 

@@ -7,11 +7,11 @@ use crate::meanings::{FAULTS, REFUSALS, finding_meaning};
 use crate::misspelled::{described, put_near, put_unread};
 use crate::wanted::put_wanted;
 use lin_cluster::Finding;
-use lin_cluster_parts::Cluster;
 use lin_core::{Listed, Log, Refusal, Reply};
 use lin_field::{Remark, read_field};
 use lin_ldf::{Description, LdfFault, Place};
 use lin_log::first_line;
+use lin_parts::Cluster;
 use std::alloc::{AllocError, Global};
 
 /// How many bytes of a line are shown at most.

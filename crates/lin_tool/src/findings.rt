@@ -8,8 +8,7 @@ ghost use Rattle.lin_tool.specs.Telling.{place_word};
 
 use lin_cluster::Finding;
 use lin_field::Remark;
-use lin_lists::Many;
-use lin_text::TextWriter;
+use lin_text::{Many, TextWriter};
 use std::io::Write;
 
 /// All that is wrong with a description.

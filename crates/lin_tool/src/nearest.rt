@@ -2,9 +2,9 @@
 
 use crate::explaining::{put_line, put_shown};
 use lin_bench::Reason;
-use lin_cluster_parts::Cluster;
 use lin_core::{Listed, Refusal};
 use lin_log::Reason as StepReason;
+use lin_parts::Cluster;
 use std::alloc::{AllocError, Global};
 use strsim::generic_levenshtein;
 

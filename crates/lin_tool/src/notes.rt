@@ -16,11 +16,10 @@ use crate::locating::{put_places, put_remark_places};
 use crate::nearest::put_bad_bench_line;
 use crate::telling::{put_fault, write_fault};
 use lin_bench::Reason;
-use lin_cluster_parts::Cluster;
 use lin_core::Log;
 use lin_field::Remark;
-use lin_lists::Many;
-use lin_text::{TextWriter, WriteFailed, write_out};
+use lin_parts::Cluster;
+use lin_text::{Many, TextWriter, WriteFailed, write_out};
 use std::alloc::{AllocError, Global};
 use std::io::Write;
 

@@ -9,7 +9,7 @@ use crate::describing::{Reading, cluster_of_file};
 use crate::fault::Fault;
 use crate::formats::Format;
 use crate::notes::Notes;
-use lin_cluster_parts::Cluster;
+use lin_parts::Cluster;
 use lin_values::Coded;
 use std::fs::Files;
 

@@ -4,7 +4,7 @@
 ghost use Rattle.std.specs.Prelude.{◌≡◌, ◌≤◌, ◌+◌, ◌*◌, ◌<◌, ◌^◌, ◌∷◌, ◌++◌, ℕ, [], List};
 ghost use Rattle.std.specs.Prelude.{codes, flat_map, length};
 ghost use Rattle.std.specs.Fmt.{decimal};
-ghost use Rattle.lin_cluster_parts.specs.declared.parts.Parts.{Parts};
+ghost use Rattle.lin_parts.specs.declared.parts.Parts.{Parts};
 ghost use Rattle.lin_core.specs.History.{Slot, slot_after_event, slot_after_events};
 ghost use Rattle.lin_core.specs.declared.log.LogEntry.{LogEntry};
 ghost use Rattle.lin_text.specs.Written.{Grows, WritesText};
@@ -12,8 +12,8 @@ ghost use Rattle.lin_tool.specs.Placing.{entry_in, finished_on, last_slot, momen
 ghost use Rattle.lin_tool.specs.Placing.{placed, placed_bad, placed_missed, placed_unmet};
 
 use lin_bench::{Judgement, Reason, is_unmet, put_judged, put_reason};
-use lin_cluster_parts::Cluster;
 use lin_core::{Event, Log, LogEntry, Reply, Step};
+use lin_parts::Cluster;
 use lin_text::{TextWriter, WriteFailed};
 use std::io::Write;
 

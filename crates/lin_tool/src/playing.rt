@@ -20,11 +20,10 @@ use lin_bench::{
     Judgement, Line, Played, ReadFault, Reason, bad_lines, play as play_lines, read, some_unmet,
     told_meanings, write_bad_line, write_unmet,
 };
-use lin_cluster_parts::Cluster;
 use lin_core::Core;
-use lin_lists::Many;
 use lin_log::read_bytes;
-use lin_text::WriteFailed;
+use lin_parts::Cluster;
+use lin_text::{Many, WriteFailed};
 use lin_values::Coded;
 use std::alloc::{AllocError, Global};
 use std::fs::{self, Files};

@@ -2,7 +2,7 @@
 //! nodes in threads of their own, and writes the log.
 
 ghost use Rattle.std.specs.Prelude.{◌≡◌, ◌≤◌, ◌<◌, [], length, vec_len, IfOk, IfSome};
-ghost use Rattle.lin_cluster_parts.specs.Cluster.{nodes};
+ghost use Rattle.lin_parts.specs.Cluster.{nodes};
 ghost use Rattle.lin_core.specs.declared.port.PortId.TheVariants.{Bus};
 ghost use Rattle.lin_threads.specs.Steps.{logged};
 ghost use Rattle.lin_threads.specs.Runs.{bus_steps};
@@ -15,8 +15,8 @@ use crate::formats::{Format, write_shown};
 use crate::notes::Notes;
 use crate::opening::{Opened, Settings, begin, within_limits};
 use crate::scripts::noted_script;
-use lin_cluster_parts::Cluster;
 use lin_core::Core;
+use lin_parts::Cluster;
 use lin_threads::{
     Ended, HostStep, HostTask, Plan, RunReport, ScriptTask, run_cluster, split, wire,
 };

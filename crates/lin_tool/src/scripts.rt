@@ -4,9 +4,9 @@ ghost use Rattle.std.specs.Prelude.{◌≡◌, ◌≤◌, ◌<◌, length, IfOk,
 ghost use Rattle.lin_log.specs.Replay.{ReadsScript, RunsScript};
 
 use crate::notes::Notes;
-use lin_cluster_parts::Cluster;
 use lin_core::{Core, PortId, Step};
 use lin_log::{ScriptFault, read_bytes, read_script, run_script};
+use lin_parts::Cluster;
 use std::alloc::Global;
 use std::io::Read;
 

@@ -2,10 +2,10 @@
 
 use lin_bench::{Line, PlayFault, Played, ReadFault, play, read, write_unmet};
 use lin_cluster::check;
-use lin_cluster_parts::Cluster;
 use lin_core::Core;
 use lin_ldf::parse;
 use lin_log::replay;
+use lin_parts::Cluster;
 use std::alloc::Global;
 use std::process::Abort;
 use std::test::Fail;

@@ -8,10 +8,10 @@ use Rattle.indexmap.specs.IndexMap.{IndexMap}
 use Rattle.lin_cluster.specs.FindingsNames.{at_name, at_place}
 use Rattle.lin_cluster.specs.declared.finding.Finding.{Finding}
 use Rattle.lin_cluster.specs.declared.finding.FindingKind.TheVariants as finding
-use Rattle.lin_cluster_parts.specs.declared.parts.Parts.{Parts}
-use Rattle.lin_cluster_parts.specs.declared.parts.Signal.{Signal}
-use Rattle.lin_description.specs.declared.description.Name.{Name}
-use Rattle.lin_description.specs.declared.place.Place.{Place}
+use Rattle.lin_parts.specs.declared.parts.Parts.{Parts}
+use Rattle.lin_parts.specs.declared.parts.Signal.{Signal}
+use Rattle.lin_parts.specs.declared.description.Name.{Name}
+use Rattle.lin_parts.specs.declared.place.Place.{Place}
 use Rattle.lin_values.proofs.NamedLines.{known-same, named-found}
 use Rattle.lin_values.specs.Coded.{encoding_by, is_named, named_in, signal_coding, type_named}
 use Rattle.lin_values.specs.Gathered.{encoding_in, gathered_warnings, lines_of, lines_told, names_of, signal_in, type_at, type_number, AreNamed}

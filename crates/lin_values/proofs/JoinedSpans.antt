@@ -7,7 +7,7 @@ use Rattle.std.proofs.lemmas.Bool.Decides.{nat_tests}
 use Rattle.std.proofs.lemmas.List.Elements.{All-nil, All-cons, All-head, All-tail, All-append, All-weaker}
 use Rattle.std.proofs.lemmas.List.Folds.{list_any-append, list_any_none}
 use Rattle.std.proofs.lemmas.List.Sums.{sum_by-cons, sum_by-append}
-use Rattle.lin_cluster_parts.proofs.Pairs.{pairs-cons, pairs-none, pairs-first, pairs-rest}
+use Rattle.lin_parts.proofs.Pairs.{pairs-cons, pairs-none, pairs-first, pairs-rest}
 use Rattle.lin_values.specs.Joined.{gaps, joined, with_span}
 use Rattle.lin_values.specs.Layers.{in_span, part_between, IsBefore}
 use Rattle.lin_values.specs.declared.layers.Part.{Part}

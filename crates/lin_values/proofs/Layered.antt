@@ -8,7 +8,7 @@ use Rattle.std.proofs.lemmas.Bool.Decides.{nat_tests}
 use Rattle.std.proofs.lemmas.List.Elements.{All-cons, All-head, All-tail, All-append, All-weaker}
 use Rattle.std.proofs.lemmas.List.Folds.{list_any-append, list_any_none, list_any_at, find-append}
 use Rattle.std.proofs.lemmas.List.FromFn.{get_or-range_with_len, length-range_with_len}
-use Rattle.lin_cluster_parts.proofs.Pairs.{all-front, all-back, pairs-append, pairs-back, pairs-cross, pairs-front}
+use Rattle.lin_parts.proofs.Pairs.{all-front, all-back, pairs-append, pairs-back, pairs-cross, pairs-front}
 use Rattle.lin_values.proofs.JoinedSpans.{any_span, any_part, times, none-above, none-below, above-all, gaps-have, gaps-once, gaps-are, joined-has, joined-apart, joined-low, joined-full, joined-rest, joined-some, meets, once-more}
 use Rattle.lin_values.specs.Joined.{gaps, joined}
 use Rattle.lin_values.specs.Layers.{in_span, item_in, numbers_of, IsBefore, IsLayered}

@@ -12,9 +12,9 @@ use Rattle.std.proofs.lemmas.List.Folds.{find-append}
 use Rattle.lin_cluster.specs.FindingsNames.{at_name, same_name, when}
 use Rattle.lin_cluster.specs.declared.finding.Finding.{Finding}
 use Rattle.lin_cluster.specs.declared.finding.FindingKind.TheVariants as finding
-use Rattle.lin_cluster_parts.specs.declared.parts.Parts.{Parts}
-use Rattle.lin_cluster_parts.specs.declared.parts.Signal.{Signal}
-use Rattle.lin_description.specs.declared.description.Name.{Name}
+use Rattle.lin_parts.specs.declared.parts.Parts.{Parts}
+use Rattle.lin_parts.specs.declared.parts.Signal.{Signal}
+use Rattle.lin_parts.specs.declared.description.Name.{Name}
 use Rattle.lin_values.proofs.ItemSteps.{some-from, told-more, told-step}
 use Rattle.lin_values.proofs.ItemTraits.{AreTraits, other, same-itself, second_of}
 use Rattle.lin_values.specs.Coded.{all_codings, first_of, is_named, named_in, same_coding, type_named}

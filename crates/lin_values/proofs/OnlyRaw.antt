@@ -9,7 +9,7 @@ use Rattle.std.proofs.lemmas.Bool.Decides.{nat_tests}
 use Rattle.std.proofs.lemmas.List.Elements.{All-head, All-tail, All-weaker}
 use Rattle.std.proofs.lemmas.List.Sums.{sum_by-cons}
 use Rattle.std.proofs.lemmas.Slice.Eq.{bytes_eq-Decides}
-use Rattle.lin_cluster_parts.proofs.Pairs.{pairs-first, pairs-rest}
+use Rattle.lin_parts.proofs.Pairs.{pairs-first, pairs-rest}
 use Rattle.lin_frame.specs.declared.value.Value.{Value}
 use Rattle.lin_frame.specs.declared.value.Value.TheVariants.{Scalar, Bytes}
 use Rattle.lin_values.specs.Layers.{in_span, IsBefore, IsSomeSpan}

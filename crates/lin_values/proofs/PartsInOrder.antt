@@ -11,7 +11,7 @@ use Rattle.std.proofs.lemmas.List.Elements.{All-head, All-tail, All-weaker}
 use Rattle.std.proofs.lemmas.List.Sorted.{IsPartitionedBy-ltb, IsNonDecreasingBy-from_all_adjacent, All-permutation, sum_by-IsPermutation}
 use Rattle.std.proofs.lemmas.List.Sums.{sum_by-cons}
 use Rattle.lin_cluster.proofs.NothingIn.{two-counted}
-use Rattle.lin_cluster_parts.proofs.Pairs.{pairs-back, pairs-first}
+use Rattle.lin_parts.proofs.Pairs.{pairs-back, pairs-first}
 use Rattle.lin_values.proofs.AddedRanges.{take-all, drop-all}
 use Rattle.lin_values.proofs.JoinedSpans.{times}
 use Rattle.lin_values.proofs.Layered.{item-append}

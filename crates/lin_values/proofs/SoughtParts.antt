@@ -7,7 +7,7 @@ use Rattle.std.proofs.lemmas.Bool.Decides.{nat_tests}
 use Rattle.std.proofs.lemmas.List.{get_or_default}
 use Rattle.std.proofs.lemmas.List.Elements.{All-append, All-cons, All-head, All-nil, All-tail, All-weaker}
 use Rattle.std.proofs.lemmas.List.Folds.{list_any_more, list_any_none, list_any-append}
-use Rattle.lin_cluster_parts.proofs.Pairs.{pairs-append, pairs-back, pairs-cons, pairs-first, pairs-none}
+use Rattle.lin_parts.proofs.Pairs.{pairs-append, pairs-back, pairs-cons, pairs-first, pairs-none}
 use Rattle.lin_values.specs.Coded.{item_by, item_for}
 use Rattle.lin_values.specs.Layers.{in_span, item_in, AreInOrder, IsBefore, IsSomeSpan}
 use Rattle.lin_values.specs.Raws.{in_option_span, sought_item, sought_part, sought_raw}

@@ -8,9 +8,9 @@ use Rattle.indexmap.specs.IndexMap.{IndexMap}
 use Rattle.lin_cluster.specs.FindingsNames.{at_name, when}
 use Rattle.lin_cluster.specs.declared.finding.Finding.{Finding}
 use Rattle.lin_cluster.specs.declared.finding.FindingKind.TheVariants.{UnusedEncoding}
-use Rattle.lin_description.specs.declared.description.Description.{Description}
-use Rattle.lin_description.specs.declared.description.Name.{Name}
-use Rattle.lin_description.specs.declared.description.Signal.{Signal}
+use Rattle.lin_parts.specs.declared.description.Description.{Description}
+use Rattle.lin_parts.specs.declared.description.Name.{Name}
+use Rattle.lin_parts.specs.declared.description.Signal.{Signal}
 use Rattle.lin_values.proofs.ItemSteps.{told-step}
 use Rattle.lin_values.specs.Coded.{is_named, named_in}
 use Rattle.lin_values.specs.Gathered.{encoding_in, type_number, AreNamed}

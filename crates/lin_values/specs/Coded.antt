@@ -6,10 +6,10 @@ use Rattle.std.specs.List.{list_any, list_all}
 use Rattle.std.specs.Option.{option_map_or}
 use Rattle.std.specs.Str.{bytes_eq}
 use Rattle.lin_cluster.specs.FindingsNames.{same_name}
-use Rattle.lin_cluster_parts.specs.Rules.{is_array}
-use Rattle.lin_cluster_parts.specs.declared.parts.Parts.{Parts}
-use Rattle.lin_cluster_parts.specs.declared.parts.Signal.{Signal}
-use Rattle.lin_description.specs.declared.description.Name.{Name}
+use Rattle.lin_parts.specs.Rules.{is_array}
+use Rattle.lin_parts.specs.declared.parts.Parts.{Parts}
+use Rattle.lin_parts.specs.declared.parts.Signal.{Signal}
+use Rattle.lin_parts.specs.declared.description.Name.{Name}
 use Rattle.lin_values.specs.Layers.{item_in, AreInOrder}
 use Rattle.lin_values.specs.declared.encoding.Coding.{Coding}
 use Rattle.lin_values.specs.declared.encoding.Coding.TheVariants as codings

@@ -2,7 +2,7 @@
 use Rattle.std.specs.Prelude.{ℕ, ◌+◌, ◌-◌, ◌==◌, ◌&&◌, ◌||◌, List, [], ◌∷◌, ◌++◌, Bool, true, false, nat_le}
 use Rattle.std.specs.Prelude.{length, take, drop, codes, Option, Some, None, if◌then◌else◌, option_map}
 use Rattle.std.specs.Str.{bytes_eq}
-use Rattle.lin_description.specs.declared.description.Name.{Name}
+use Rattle.lin_parts.specs.declared.description.Name.{Name}
 use Rattle.lin_ldf.specs.Forms.{◌>>=◌, front, tail, is_front, mark, keyword, ◌<&◌}
 use Rattle.lin_ldf.specs.Loops.{is_next}
 use Rattle.lin_ldf.specs.Symbols.{Symbol, is_kind}

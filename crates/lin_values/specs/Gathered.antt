@@ -9,10 +9,10 @@ use Rattle.lin_cluster.specs.FindingsNames.{at_name, same_name, when}
 use Rattle.lin_cluster.specs.Names.{NumbersFirst}
 use Rattle.lin_cluster.specs.declared.finding.Finding.{Finding}
 use Rattle.lin_cluster.specs.declared.finding.FindingKind.TheVariants as finding
-use Rattle.lin_cluster_parts.specs.Rules.{is_array}
-use Rattle.lin_cluster_parts.specs.declared.parts.Parts.{Parts}
-use Rattle.lin_cluster_parts.specs.declared.parts.Signal.{Signal}
-use Rattle.lin_description.specs.declared.description.Name.{Name}
+use Rattle.lin_parts.specs.Rules.{is_array}
+use Rattle.lin_parts.specs.declared.parts.Parts.{Parts}
+use Rattle.lin_parts.specs.declared.parts.Signal.{Signal}
+use Rattle.lin_parts.specs.declared.description.Name.{Name}
 use Rattle.lin_values.specs.Coded.{is_named}
 use Rattle.lin_values.specs.Traits.{has_coding}
 use Rattle.lin_values.specs.Warnings.{kind_warnings, line_warnings, most_of, name_warnings, told_by}

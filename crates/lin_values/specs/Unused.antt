@@ -7,8 +7,8 @@ use Rattle.lin_cluster.specs.Findings.{finding_cmp}
 use Rattle.lin_cluster.specs.FindingsNames.{at_name, when}
 use Rattle.lin_cluster.specs.declared.finding.Finding.{Finding}
 use Rattle.lin_cluster.specs.declared.finding.FindingKind.TheVariants.{UnusedEncoding}
-use Rattle.lin_description.specs.declared.description.Description.{Description}
-use Rattle.lin_description.specs.declared.description.Signal.{Signal}
+use Rattle.lin_parts.specs.declared.description.Description.{Description}
+use Rattle.lin_parts.specs.declared.description.Signal.{Signal}
 use Rattle.lin_values.specs.Coded.{is_named, named_in}
 use Rattle.lin_values.specs.Gathered.{type_number}
 use Rattle.lin_values.specs.Warnings.{told_by}

@@ -8,9 +8,9 @@ use Rattle.std.specs.Str.{bytes_eq}
 use Rattle.lin_cluster.specs.FindingsNames.{at_name, at_place, when, same_name}
 use Rattle.lin_cluster.specs.declared.finding.Finding.{Finding}
 use Rattle.lin_cluster.specs.declared.finding.FindingKind.TheVariants as finding
-use Rattle.lin_cluster_parts.specs.declared.parts.Parts.{Parts}
-use Rattle.lin_cluster_parts.specs.declared.parts.Signal.{Signal}
-use Rattle.lin_description.specs.declared.description.Name.{Name}
+use Rattle.lin_parts.specs.declared.parts.Parts.{Parts}
+use Rattle.lin_parts.specs.declared.parts.Signal.{Signal}
+use Rattle.lin_parts.specs.declared.description.Name.{Name}
 use Rattle.lin_values.specs.Coded.{all_codings, all_items, greatest, is_named, is_numeric, named_in}
 use Rattle.lin_values.specs.Coded.{same_coding, type_named, has_value, signal_coding, SignalCoding}
 use Rattle.lin_values.specs.declared.encoding.Coding.TheVariants as codings

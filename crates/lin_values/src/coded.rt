@@ -9,8 +9,8 @@ ghost use Rattle.indexmap.specs.IndexMap.{get_by};
 ghost use Rattle.lin_cluster.specs.Findings.{finding_cmp};
 ghost use Rattle.lin_cluster.specs.FindingsNames.{at_place};
 ghost use Rattle.lin_cluster.specs.declared.finding.FindingKind.TheVariants.{BadEncoding};
-ghost use Rattle.lin_cluster_parts.specs.Cluster.{signal_of};
-ghost use Rattle.lin_description.specs.declared.description.Name.{Name};
+ghost use Rattle.lin_parts.specs.Cluster.{signal_of};
+ghost use Rattle.lin_parts.specs.declared.description.Name.{Name};
 ghost use Rattle.lin_values.specs.Coded.{coded, encoding_of, named_in, signal_at, signal_coding};
 ghost use Rattle.lin_values.specs.Gathered.{encoding_in, gathered_warnings, is_other_kind, kind_told, line_told};
 ghost use Rattle.lin_values.specs.Gathered.{lines_of, lines_told, name_told, names_of, signal_in};
@@ -26,10 +26,10 @@ use indexmap::IndexMap;
 use lin_cluster::{
     Finding, FindingKind, Named, Numbers, at_name, number_by, numbers_of, push_when,
 };
-use lin_cluster_parts::Cluster;
-use lin_description::{Name, Place};
 use lin_frame::Value;
-use lin_lists::Many;
+use lin_parts::description::Name;
+use lin_parts::{Cluster, Place};
+use lin_text::Many;
 use std::alloc::{AllocError, Global};
 use std::marker::Model;
 

@@ -15,9 +15,10 @@ ghost use Rattle.lin_values.specs.Passed.{has_line};
 use crate::lines::{has_line, pass_closing, pass_group, pass_line};
 use crate::mentioned::mentions;
 use lin_cluster::Configurable;
-use lin_description::{Name, Place};
 use lin_ldf::{Parser, TokenKind};
-use lin_lists::{Many, Text};
+use lin_parts::Place;
+use lin_parts::description::Name;
+use lin_text::{Many, Text};
 use std::alloc::{AllocError, Global};
 
 /// The next token as a name. It is not passed over.

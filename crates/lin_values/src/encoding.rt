@@ -19,7 +19,7 @@ use crate::items::{CodingType, Item, PlacedItem};
 use crate::layers::{Layers, Part, Span, item_at};
 use crate::limits::Coefficient;
 use lin_cluster::{Finding, FindingKind};
-use lin_lists::Many;
+use lin_text::Many;
 use std::alloc::{AllocError, Global};
 use std::marker::Model;
 

@@ -8,9 +8,9 @@ ghost use Rattle.lin_values.specs.Coding.{text_of_item, item, type_head, coded_l
 use crate::items::{CodedLine, Item};
 use crate::reals::real;
 use crate::texts::shown_text;
-use lin_description::Name;
 use lin_ldf::{LdfFault, Parser, TokenKind, one_or_more};
-use lin_lists::Text;
+use lin_parts::description::Name;
+use lin_text::Text;
 
 // V = INT up to 65,535
 fn small(parser: &mut Parser<'_>) -> Result<u16, LdfFault>

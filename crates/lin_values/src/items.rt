@@ -1,8 +1,9 @@
 //! What the two sections of encodings say (LIN 2.2A, section 9.2.6).
 
 use crate::limits::Coefficient;
-use lin_description::{Name, Place};
-use lin_lists::{Many, OneOrMore, Text};
+use lin_parts::Place;
+use lin_parts::description::Name;
+use lin_text::{Many, OneOrMore, Text};
 
 /// What raw values mean. A text or a unit that is absent is empty.
 #[derive(Debug, Drop)]

@@ -10,7 +10,7 @@ ghost use Rattle.lin_values.specs.Raws.{count_of, has, has_raw, in_spans, same_v
 
 use crate::layers::Span;
 use lin_frame::Value;
-use lin_lists::Many;
+use lin_text::Many;
 use std::alloc::Global;
 use std::marker::Model;
 

@@ -15,9 +15,9 @@ use crate::grammar::{coded_line, item, type_head};
 use crate::items::{CodedLine, CodingType, Codings, PlacedItem};
 use crate::lines::{has_line, pass_closing, pass_group, pass_line};
 use crate::mentioned::mentions;
-use lin_description::Place;
 use lin_ldf::{LdfFault, Parser, TokenKind};
-use lin_lists::Many;
+use lin_parts::Place;
+use lin_text::Many;
 use std::alloc::{AllocError, Global};
 
 /// What was read so far.

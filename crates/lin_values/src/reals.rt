@@ -11,8 +11,8 @@ ghost use Rattle.lin_values.specs.Value.{IsInLimits, IsShortest};
 
 use crate::decimals::{shortest, ten_to};
 use crate::limits::Coefficient;
-use lin_description::Place;
 use lin_ldf::{LdfFault, Parser, TokenKind};
+use lin_parts::Place;
 use std::alloc::AllocError;
 
 /// What an exponent of ten multiplies or divides by: one of the two is 0.

@@ -4,7 +4,7 @@ ghost use Rattle.std.specs.Prelude.{◌≡◌, ◌≤◌, ◌++◌, ◌∷◌, [
 ghost use Rattle.std.specs.Str.{is_utf8};
 ghost use Rattle.lin_values.specs.Texts.{latin_1, latin_1_byte, gap_length, space_between, spaced, shown_text};
 
-use lin_lists::Text;
+use lin_text::Text;
 use std::alloc::{AllocError, Global};
 
 /// A character of Latin-1 in UTF-8; 80 to 9F are `?`.

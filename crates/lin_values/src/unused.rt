@@ -5,7 +5,7 @@ ghost use Rattle.std.specs.List.{list_any};
 ghost use Rattle.indexmap.specs.IndexSet.{contains};
 ghost use Rattle.std.specs.Prelude.{nat_eq};
 ghost use Rattle.lin_cluster.specs.Names.{NumbersFirst};
-ghost use Rattle.lin_description.specs.declared.description.Name.{Name};
+ghost use Rattle.lin_parts.specs.declared.description.Name.{Name};
 ghost use Rattle.lin_values.specs.Coded.{named_in};
 ghost use Rattle.lin_values.specs.Gathered.{encoding_in, names_of, type_number, AreNamed};
 ghost use Rattle.lin_values.specs.Unused.{is_number, unused_encodings, AreUnused};
@@ -17,7 +17,7 @@ use indexmap::{IndexMap, IndexSet};
 use lin_cluster::{
     Finding, FindingKind, Named, Numbers, at_name, number_by, numbers_of, push_when,
 };
-use lin_description::{Description, Name, Signal};
+use lin_parts::description::{Description, Name, Signal};
 use std::alloc::{AllocError, Global};
 
 impl Named for CodingType {

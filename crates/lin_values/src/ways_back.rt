@@ -16,7 +16,7 @@ use crate::raws::Raws;
 use crate::sought::{Sought, spans_of};
 use crate::spelled::coded_value;
 use lin_frame::Value;
-use lin_lists::Many;
+use lin_text::Many;
 use std::alloc::{AllocError, Global};
 
 /// What is looked for, where a text is.

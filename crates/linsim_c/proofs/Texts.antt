@@ -6,7 +6,7 @@ use Rattle.lin_ldf.specs.Describes.{Describes}
 use Rattle.lin_ldf.specs.Tokens.{IsLexFault}
 use Rattle.lin_ldf.specs.declared.fault.LdfFault.{LdfFault}
 use Rattle.lin_ldf.specs.declared.fault.LdfFault.TheVariants as ldf
-use Rattle.lin_description.specs.declared.description.Description.{Description}
+use Rattle.lin_parts.specs.declared.description.Description.{Description}
 use Rattle.lin_cluster.specs.Checks.{IsFaultOf}
 use Rattle.lin_cluster.specs.Findings.{candidates}
 use Rattle.lin_cluster.specs.declared.finding.CheckFault.TheVariants.{Findings}

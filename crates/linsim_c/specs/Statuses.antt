@@ -1,6 +1,6 @@
 -- The status of a call, and its report, by how the call ended.
 use Rattle.std.specs.Prelude.{◌≡◌, ℕ, Result, Ok, Err}
-use Rattle.lin_description.specs.declared.place.Place.{Place}
+use Rattle.lin_parts.specs.declared.place.Place.{Place}
 use Rattle.lin_ldf.specs.declared.fault.LdfFault.{LdfFault}
 use Rattle.lin_ldf.specs.declared.fault.LdfFault.TheVariants.{BadByte, OpenComment, OpenText}
 use Rattle.lin_ldf.specs.declared.fault.LdfFault.TheVariants.{Unexpected, NumberTooLarge}

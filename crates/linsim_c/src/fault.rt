@@ -4,8 +4,8 @@ ghost use Rattle.std.specs.Prelude.{◌≡◌};
 ghost use Rattle.linsim_c.specs.Statuses.{fault_number, place_of, report_of, status_of};
 
 use lin_cluster::Finding;
-use lin_description::Place;
 use lin_ldf::LdfFault;
+use lin_parts::Place;
 
 /// Why a call didn't do what it is for.
 #[derive(Drop)]

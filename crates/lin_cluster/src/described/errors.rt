@@ -13,9 +13,9 @@ ghost use Rattle.lin_cluster.specs.Fitting.{FitsNumbers};
 use super::nodes::block_of;
 use super::signals::NumberedSignals;
 use crate::names::is_name;
-use lin_cluster_parts::{ErrorSignal, Signal, SignalFrame};
-use lin_description::{Description, Name};
-use lin_lists::Many;
+use lin_parts::description::{Description, Name};
+use lin_parts::{ErrorSignal, Signal, SignalFrame};
+use lin_text::Many;
 use std::alloc::{AllocError, Global};
 
 fn response_error<'a>(d: &'a Description, node: u8) -> Option<&'a Name>
@@ -59,7 +59,7 @@ fn error_number(d: &Description, signals: &NumberedSignals, node: u8) -> Option<
     }
 }
 
-pub(crate) fn subscribes(node: &Name, signal: &lin_description::Signal) -> bool
+pub(crate) fn subscribes(node: &Name, signal: &lin_parts::description::Signal) -> bool
     ensures { result ≡ subscribes node.now signal.now }
 {
     signal
@@ -73,7 +73,7 @@ pub(crate) fn subscribes(node: &Name, signal: &lin_description::Signal) -> bool
 fn subscribed(
     alloc: Global,
     node: &Name,
-    signals: &[lin_description::Signal],
+    signals: &[lin_parts::description::Signal],
 ) -> Result<Many<bool>, AllocError>
     ensures { IfOk result (λ all. all ≡ map (subscribes node.now) signals.now) }
 {
@@ -119,7 +119,7 @@ fn is_concerned_by(node: u8, subscribed: &[bool], frames: &[SignalFrame], frame:
 }
 
 // The numbers of the frames that concern a node.
-#[tactic(auto, using(lin_cluster_parts::proofs::Carrying::kept_added, lin_cluster_parts::proofs::Carrying::kept_same,))]
+#[tactic(auto, using(lin_parts::proofs::Carrying::kept_added, lin_parts::proofs::Carrying::kept_same,))]
 fn frames_concerning(
     alloc: Global,
     node: u8,

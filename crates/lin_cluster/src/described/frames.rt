@@ -12,10 +12,10 @@ ghost use Rattle.lin_cluster.specs.Models.{frame_model, model_named, first_model
 
 use super::numbers::{frame_number, node_number, table_number};
 use super::signals::NumberedSignals;
-use lin_cluster_parts::{EventFrame, SignalFrame, SporadicFrame};
-use lin_description::{Description, Frame, Name, PlacedSignal, Sporadic};
 use lin_frame::{FrameId, Layout, Place, SumKind, protected};
-use lin_lists::{Many, Text};
+use lin_parts::description::{Description, Frame, Name, PlacedSignal, Sporadic};
+use lin_parts::{EventFrame, SignalFrame, SporadicFrame};
+use lin_text::{Many, Text};
 use std::alloc::{AllocError, Global};
 
 fn pid_of(id: u32) -> u8
@@ -40,7 +40,7 @@ fn lists(d: &Description, members: &[Name], frame: u16) -> bool
     false
 }
 
-fn is_member(d: &Description, events: &[lin_description::EventFrame], frame: u16) -> bool
+fn is_member(d: &Description, events: &[lin_parts::description::EventFrame], frame: u16) -> bool
     requires few { length d.now.frames ≤ 60 }
     ensures { result
         ≡ list_any (λ e. list_any (λ m. frame_number d.now m == frame) e.members) events.now }
@@ -241,7 +241,7 @@ fn event_of(
     alloc: Global,
     d: &Description,
     models: &[SumKind],
-    event: &lin_description::EventFrame,
+    event: &lin_parts::description::EventFrame,
 ) -> Result<EventFrame, AllocError>
     requires few { FitsNumbers d.now }
     requires fits { event.now.id.value < 64 }
@@ -262,7 +262,7 @@ pub(super) fn events_of(
     alloc: Global,
     d: &Description,
     models: &[SumKind],
-    events: &[lin_description::EventFrame],
+    events: &[lin_parts::description::EventFrame],
 ) -> Result<Many<EventFrame>, AllocError>
     requires few { FitsNumbers d.now }
     requires fit { All (λ e. e.id.value < 64) events.now }

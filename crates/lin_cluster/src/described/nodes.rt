@@ -8,9 +8,9 @@ ghost use Rattle.lin_cluster.specs.Described.{is_block_of, described_nad, respon
 ghost use Rattle.lin_cluster.specs.Fitting.{FitsNad};
 
 use super::numbers::node_number;
-use lin_cluster_parts::Node;
-use lin_description::{Attributes, Description, Name};
-use lin_lists::{Many, Text};
+use lin_parts::Node;
+use lin_parts::description::{Attributes, Description, Name};
+use lin_text::{Many, Text};
 use std::alloc::{AllocError, Global};
 
 pub(super) fn block_of<'a>(d: &'a Description, node: u8) -> Option<&'a Attributes>

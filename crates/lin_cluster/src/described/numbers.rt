@@ -7,7 +7,7 @@ ghost use Rattle.lin_cluster.specs.Described.{sporadic_number, event_number, tab
 ghost use Rattle.lin_cluster.specs.FindingsNames.{same_name};
 
 use crate::names::{Named, is_name};
-use lin_description::{Description, Name};
+use lin_parts::description::{Description, Name};
 
 #[tactic(auto, using(crate::proofs::Enumerated::number_within))]
 fn number_among<T: Named>(all: &[T], name: &Name) -> usize

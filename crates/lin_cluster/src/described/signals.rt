@@ -7,10 +7,10 @@ ghost use Rattle.lin_cluster.specs.Fitting.{FitsInitial, FitsSignal};
 use super::numbers::node_number;
 use crate::names::{Numbers, number_by, numbers_of};
 use arrayvec::ArrayVec;
-use lin_cluster_parts::Signal;
-use lin_description::{Description, Init, Name, Number};
 use lin_frame::{Value, ValueBytes};
-use lin_lists::{Many, Text};
+use lin_parts::Signal;
+use lin_parts::description::{Description, Init, Name, Number};
+use lin_text::{Many, Text};
 use std::alloc::{AllocError, Global};
 use std::marker::Model;
 
@@ -39,7 +39,7 @@ fn initial_of(init: &Init) -> Value
 fn signal_of(
     alloc: Global,
     d: &Description,
-    signal: &lin_description::Signal,
+    signal: &lin_parts::description::Signal,
 ) -> Result<Signal, AllocError>
     requires few { length d.now.slaves ≤ 15 }
     requires fits { FitsSignal signal.now }
@@ -56,7 +56,7 @@ fn signal_of(
 fn signals_of(
     alloc: Global,
     d: &Description,
-    signals: &[lin_description::Signal],
+    signals: &[lin_parts::description::Signal],
 ) -> Result<Many<Signal>, AllocError>
     requires few { length d.now.slaves ≤ 15 }
     requires fits { All FitsSignal signals.now }
@@ -80,7 +80,7 @@ pub(super) struct NumberedSignals<'a> {
 
 impl<'a> Model for NumberedSignals<'a> {
     ghost use Rattle.lin_cluster.specs.Known.{AreNumberedSignals};
-    ghost use Rattle.lin_description.specs.declared.description.Description.{Description};
+    ghost use Rattle.lin_parts.specs.declared.description.Description.{Description};
 
     ghost Value = { Description };
 

@@ -6,9 +6,9 @@ ghost use Rattle.lin_cluster.specs.Described.{described_table};
 ghost use Rattle.lin_cluster.specs.Fitting.{FitsNumbers};
 
 use super::numbers::{event_number, frame_number, sporadic_number};
-use lin_cluster_parts::{Entry, Line, Table};
-use lin_description::{Description, Name, TableEntry};
-use lin_lists::{Many, Text};
+use lin_parts::description::{Description, Name, TableEntry};
+use lin_parts::{Entry, Line, Table};
+use lin_text::{Many, Text};
 use std::alloc::{AllocError, Global};
 
 fn frame_entry(d: &Description, name: &Name) -> Entry
@@ -67,7 +67,7 @@ fn lines_of(
 fn table_of(
     alloc: Global,
     d: &Description,
-    table: &lin_description::Table,
+    table: &lin_parts::description::Table,
 ) -> Result<Table, AllocError>
     requires { FitsNumbers d.now }
     ensures { IfOk result (λ made. made ≡ described_table d.now table.now) }
@@ -81,7 +81,7 @@ fn table_of(
 pub(super) fn tables_of(
     alloc: Global,
     d: &Description,
-    tables: &[lin_description::Table],
+    tables: &[lin_parts::description::Table],
 ) -> Result<Many<Table>, AllocError>
     requires { FitsNumbers d.now }
     ensures { IfOk result (λ made. made ≡ map (described_table d.now) tables.now) }

@@ -11,7 +11,7 @@ use super::known::Known;
 use super::walk::{Finds, at_number, each, push_when};
 use crate::finding::{Finding, FindingKind};
 use indexmap::IndexSet;
-use lin_description::{Attributes, Number};
+use lin_parts::description::{Attributes, Number};
 use std::alloc::{AllocError, Global};
 
 fn address(known: &Known, block: &Attributes) -> Option<Number>

@@ -15,7 +15,7 @@ use super::tables::{empty_table, resolving_table};
 use super::unknown_names::unknown_node;
 use super::walk::{Finds, at_name, each, push_when};
 use crate::finding::{Finding, FindingKind};
-use lin_description::{Attributes, EventFrame, Frame, Signal, Sporadic, Table, TableEntry};
+use lin_parts::description::{Attributes, EventFrame, Frame, Signal, Sporadic, Table, TableEntry};
 use std::alloc::AllocError;
 
 impl<'a> Finds<Signal> for Known<'a> {

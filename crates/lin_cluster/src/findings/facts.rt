@@ -14,8 +14,8 @@ use super::known::Known;
 use super::sizes::is_array;
 use super::walk::{Makes, made_of_each};
 use crate::names::Named;
-use lin_description::{Frame, Name, PlacedSignal, Signal};
 use lin_frame::SumKind;
+use lin_parts::description::{Frame, Name, PlacedSignal, Signal};
 use std::alloc::{AllocError, Global};
 use std::marker::Model;
 
@@ -95,7 +95,7 @@ pub(super) struct Signals<'a> {
 
 impl<'a> Model for Signals<'a> {
     ghost use Rattle.lin_cluster.specs.Known.{AreSignalFacts};
-    ghost use Rattle.lin_description.specs.declared.description.Description.{Description};
+    ghost use Rattle.lin_parts.specs.declared.description.Description.{Description};
 
     ghost Value = { Description };
 

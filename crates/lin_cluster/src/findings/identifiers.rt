@@ -6,7 +6,7 @@ ghost use Rattle.lin_cluster.specs.Identifiers.{ids, bad_ids, ids_twice};
 use super::repeats::Repeats;
 use super::walk::{Finds, at_number, each, push_when};
 use crate::finding::{Finding, FindingKind};
-use lin_description::{Description, Number};
+use lin_parts::description::{Description, Number};
 use std::alloc::{AllocError, Global};
 
 /// What is asked of an identifier by itself.

@@ -16,8 +16,8 @@ use super::known::{Known, carries_frame};
 use super::slots::{first_size, good_size, greatest_size};
 use super::walk::{Makes, made_of_each};
 use crate::names::Named;
-use lin_description::{Description, EventFrame, Name, Sporadic, Table, TableEntry};
 use lin_frame::SumKind;
+use lin_parts::description::{Description, EventFrame, Name, Sporadic, Table, TableEntry};
 use std::alloc::{AllocError, Global};
 use std::marker::Model;
 
@@ -116,7 +116,7 @@ pub(crate) struct Judged<'a> {
 
 impl<'a> Model for Judged<'a> {
     ghost use Rattle.lin_cluster.specs.Known.{AreFrameFacts, AreSizes, AreNested};
-    ghost use Rattle.lin_description.specs.declared.description.Description.{Description};
+    ghost use Rattle.lin_parts.specs.declared.description.Description.{Description};
 
     ghost Value = { Description };
 

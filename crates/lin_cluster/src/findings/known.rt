@@ -12,7 +12,9 @@ ghost use Rattle.lin_cluster.specs.Known.{AreNodeNumbers, AreFrameNumbers};
 ghost use Rattle.lin_cluster.specs.Models.{tells_version_1, has_version_1, is_lin_1};
 
 use crate::names::{Numbers, find_by, number_by, numbers_of};
-use lin_description::{Attributes, Description, EventFrame, Frame, Name, Sporadic, TableEntry};
+use lin_parts::description::{
+    Attributes, Description, EventFrame, Frame, Name, Sporadic, TableEntry,
+};
 use std::alloc::{AllocError, Global};
 use std::marker::Model;
 
@@ -113,7 +115,7 @@ pub(super) struct Known<'a> {
 
 impl<'a> Model for Known<'a> {
     ghost use Rattle.lin_cluster.specs.Known.{IsKnown};
-    ghost use Rattle.lin_description.specs.declared.description.Description.{Description};
+    ghost use Rattle.lin_parts.specs.declared.description.Description.{Description};
 
     ghost Value = { Description };
 

@@ -8,7 +8,7 @@ use super::slots::is_speed;
 use super::walk::{at_name, at_number, push_when};
 use crate::finding::{Finding, FindingKind};
 use crate::names::Named;
-use lin_description::{Description, Name, Number, Table, TableEntry};
+use lin_parts::description::{Description, Name, Number, Table, TableEntry};
 use std::alloc::AllocError;
 
 impl Named for TableEntry {

@@ -19,8 +19,8 @@ use super::known::is_responder_number;
 use super::walk::{Finds, at_name, push_when};
 use crate::finding::{Finding, FindingKind};
 use indexmap::IndexSet;
-use lin_description::Name;
 use lin_frame::SumKind;
+use lin_parts::description::Name;
 use std::alloc::AllocError;
 
 /// The numbers of the nodes that publish the members before one.

@@ -12,7 +12,7 @@ use super::facts::SignalFacts;
 use super::ranges::{Ranges, add_range, is_met};
 use super::walk::{at_number, push_when};
 use crate::finding::{Finding, FindingKind};
-use lin_description::PlacedSignal;
+use lin_parts::description::PlacedSignal;
 use std::alloc::AllocError;
 
 // Whether the signal stands in its frame already, or one of the ranges has a bit of it.

@@ -19,7 +19,7 @@ use super::overlaps::{add_bits, overlap};
 use super::ranges::{Ranges, no_ranges};
 use super::walk::{at_name, at_number, push_when};
 use crate::finding::{Finding, FindingKind};
-use lin_description::{Frame, PlacedSignal};
+use lin_parts::description::{Frame, PlacedSignal};
 use std::alloc::AllocError;
 
 // A name that is no node's is no other node's.
@@ -84,38 +84,38 @@ impl Drop for Earlier {
     }
 }
 
-// What is wrong with a signal behind these, to which it is added, by its number and what is known
-// of it.
+// What is wrong with a signal behind these, to which it is added. Its number is known, and where
+// there is such a signal, its facts.
 fn add_placed(
     found: &mut Vec<Finding>,
     earlier: &mut Earlier,
     frame: &Frame,
     publisher: Option<usize>,
     placed: &PlacedSignal,
-    number: usize,
-    signal: Option<SignalFacts>,
+    known: (usize, Option<SignalFacts>),
 ) -> Result<(), AllocError>
     requires { IsRanges earlier.old.ranges }
     ensures found { OnOk result
         ((taken : ℕ → Bool)
-        → (IsSome signal → (size : ℕ)
+        → (IsSome known.1 → (size : ℕ)
         → (taken size ≡ true) ↔
-        IsTaken (has_number earlier.old.numbers number) earlier.old.ranges placed.now size)
+        IsTaken (has_number earlier.old.numbers known.0) earlier.old.ranges placed.now size)
         → found.new.items
         ≡ found.old.items
-        ++ in_placed_by frame.now publisher placed.now signal
-        ++ when (option_map_or (λ s. taken s.size) signal false)
+        ++ in_placed_by frame.now publisher placed.now known.1
+        ++ when (option_map_or (λ s. taken s.size) known.1 false)
         (at_number SignalsOverlap placed.now.offset)) }
     ensures apart { OnOk result (IsRanges earlier.new.ranges) }
     ensures numbers { OnOk result
         ((q : ℕ) → has_number earlier.new.numbers q
-        ≡ (has_number earlier.old.numbers q || nat_eq number q)) }
+        ≡ (has_number earlier.old.numbers q || nat_eq known.0 q)) }
     ensures ranges { OnOk result
         ((a b : ℕ) → a < b
         → HasBit earlier.new.ranges a b ↔
         (HasBit earlier.old.ranges a b
-        ⊎ (option_map_or (λ s. lies_in a b placed.now s.size) signal false ≡ true))) }
+        ⊎ (option_map_or (λ s. lies_in a b placed.now s.size) known.1 false ≡ true))) }
 {
+    let (number, signal) = known;
     let twice = stands_twice(&mut earlier.numbers, number)?;
     find_placed(found, frame, publisher, placed, signal)?;
     overlap(found, twice, &earlier.ranges, placed, signal)?;
@@ -141,16 +141,8 @@ pub(super) fn signals_in_order(
         ranges: no_ranges(signals.alloc),
     };
     for placed in all_placed {
-        let (number, signal) = signals.numbered(&placed.signal);
-        add_placed(
-            found,
-            &mut earlier,
-            frame,
-            publisher,
-            placed,
-            number,
-            signal,
-        )?;
+        let known = signals.numbered(&placed.signal);
+        add_placed(found, &mut earlier, frame, publisher, placed, known)?;
     }
     Ok(())
 }

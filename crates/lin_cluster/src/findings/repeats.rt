@@ -5,10 +5,10 @@ ghost use Rattle.std.specs.Option.{option_copied, option_map_or};
 ghost use Rattle.indexmap.specs.IndexMap.{get};
 ghost use Rattle.lin_cluster.specs.Identifiers.{is_up_to, is_repeated};
 ghost use Rattle.lin_cluster.specs.FindingsRepeats.{has_one, has_two, is_use, CountsUses};
-ghost use Rattle.lin_description.specs.declared.description.Number.{Number};
+ghost use Rattle.lin_parts.specs.declared.description.Number.{Number};
 
 use indexmap::IndexMap;
-use lin_description::Number;
+use lin_parts::description::Number;
 use std::alloc::{AllocError, Global};
 use std::marker::Model;
 
@@ -38,7 +38,7 @@ impl Drop for Repeats {
 impl Model for Repeats {
     ghost use Rattle.std.specs.Prelude.{List};
     ghost use Rattle.lin_cluster.specs.FindingsRepeats.{CountsUses};
-    ghost use Rattle.lin_description.specs.declared.description.Number.{Number};
+    ghost use Rattle.lin_parts.specs.declared.description.Number.{Number};
 
     ghost Value = { List Number };
 

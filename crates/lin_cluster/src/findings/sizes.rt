@@ -7,7 +7,8 @@ ghost use Rattle.lin_cluster.specs.Sizes.{bad_frame_size, is_good_init, bad_init
 
 use super::walk::{at_number, push_when};
 use crate::finding::{Finding, FindingKind};
-use lin_description::{Frame, Init, Number, Place, Signal};
+use lin_parts::Place;
+use lin_parts::description::{Frame, Init, Number, Signal};
 use std::alloc::AllocError;
 
 pub(super) fn is_array(init: &Init) -> bool

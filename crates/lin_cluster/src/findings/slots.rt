@@ -8,7 +8,7 @@ use super::known::Known;
 use super::sizes::is_frame_size;
 use super::walk::{at_name, at_number, push_when};
 use crate::finding::{Finding, FindingKind};
-use lin_description::{Name, TableEntry};
+use lin_parts::description::{Name, TableEntry};
 use std::alloc::AllocError;
 
 /// The time in microseconds that the slot of a frame of `size` data bytes takes at most, at a speed

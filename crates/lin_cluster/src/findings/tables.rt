@@ -11,7 +11,8 @@ ghost use Rattle.lin_cluster.specs.declared.finding.FindingKind.TheVariants.{Emp
 use super::judged::Judged;
 use super::walk::{at_name, push_when};
 use crate::finding::{Finding, FindingKind};
-use lin_description::{EventFrame, Place, Table};
+use lin_parts::Place;
+use lin_parts::description::{EventFrame, Table};
 use std::alloc::AllocError;
 
 /// A resolving table that isn't there, or that has an event-triggered entry.

@@ -7,7 +7,7 @@ ghost use Rattle.lin_cluster.specs.UnknownNames.{unknown_node};
 use super::known::Known;
 use super::walk::{Finds, at_name, push_when};
 use crate::finding::{Finding, FindingKind};
-use lin_description::Name;
+use lin_parts::description::Name;
 use std::alloc::AllocError;
 
 /// A name that has to be a node's.

@@ -6,7 +6,8 @@ ghost use Rattle.std.specs.List.{flat_map};
 ghost use Rattle.lin_cluster.specs.FindingsNames.{at_name, at_number, when};
 
 use crate::finding::{Finding, FindingKind};
-use lin_description::{Name, Number, Place};
+use lin_parts::Place;
+use lin_parts::description::{Name, Number};
 use std::alloc::{AllocError, Global};
 
 /// What finds what is wrong with an item.

@@ -12,8 +12,10 @@ use crate::described::subscribes;
 use crate::finding::{Finding, FindingKind};
 use crate::findings::{Finds, at_name, each, push_when};
 use crate::names::is_name;
-use lin_description::{Description, EventFrame, Frame, Name, PlacedSignal, Signal, Sporadic};
-use lin_lists::Many;
+use lin_parts::description::{
+    Description, EventFrame, Frame, Name, PlacedSignal, Signal, Sporadic,
+};
+use lin_text::Many;
 use std::alloc::{AllocError, Global};
 
 /// The frames of a list `configurable_frames` in the attributes of a node (LIN 2.2A, section 9.2.2.2).

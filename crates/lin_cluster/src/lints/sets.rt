@@ -7,7 +7,7 @@ ghost use Rattle.lin_cluster.specs.LintNames.{has_text};
 
 use crate::names::add;
 use indexmap::IndexMap;
-use lin_description::Name;
+use lin_parts::description::Name;
 use std::alloc::{AllocError, Global};
 
 /// A set of names, by their texts.

@@ -11,7 +11,7 @@ ghost use Rattle.lin_cluster.specs.LintNames.{has_diagnostics, AreUses};
 use super::sets::{Adds, NameSet, add_each, no_names};
 use crate::findings::{carries_frame, is_diagnostic};
 use crate::names::{Numbers, find_by, numbers_of};
-use lin_description::{
+use lin_parts::description::{
     Attributes, Description, EventFrame, Frame, Name, PlacedSignal, Signal, Sporadic, Table,
     TableEntry,
 };
@@ -206,7 +206,7 @@ pub(super) struct Uses<'a> {
 
 impl<'a> Model for Uses<'a> {
     ghost use Rattle.lin_cluster.specs.LintNames.{AreUses};
-    ghost use Rattle.lin_description.specs.declared.description.Description.{Description};
+    ghost use Rattle.lin_parts.specs.declared.description.Description.{Description};
 
     ghost Value = { Description };
 

@@ -11,7 +11,9 @@ use super::uses::{Uses, is_of_text};
 use crate::finding::{Finding, FindingKind};
 use crate::findings::{Finds, at_name, at_number, each, push_when};
 use crate::names::is_name;
-use lin_description::{Attributes, EventFrame, Frame, Name, Signal, Sporadic, Table, TableEntry};
+use lin_parts::description::{
+    Attributes, EventFrame, Frame, Name, Signal, Sporadic, Table, TableEntry,
+};
 use std::alloc::AllocError;
 
 /// The publisher of a signal, which needs not subscribe it.

@@ -2,8 +2,8 @@
 -- slave response entry of 10 ms each.
 use Rattle.std.specs.Prelude.{◌≡◌, ℕ, List, [], ◌∷◌, ◌++◌, length, map, replicate, reverse, Some, None}
 use Rattle.std.proofs.Common.{refl}
-use Rattle.lin_cluster_parts.specs.declared.parts.Parts.{Parts}
-use Rattle.lin_cluster_parts.specs.declared.parts.Entry.TheVariants.{MasterReq, SlaveResp}
+use Rattle.lin_parts.specs.declared.parts.Parts.{Parts}
+use Rattle.lin_parts.specs.declared.parts.Entry.TheVariants.{MasterReq, SlaveResp}
 use Rattle.lin_core.specs.History.{time, undecided_count}
 use Rattle.lin_core.specs.Links.{waiting}
 use Rattle.lin_core.specs.Runs.{history}

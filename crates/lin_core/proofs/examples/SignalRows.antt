@@ -4,8 +4,8 @@ use Rattle.std.specs.Prelude.{◌≡◌, ℕ, List, [], ◌∷◌, ◌++◌, map
 use Rattle.std.proofs.Common.{refl}
 use Rattle.lin_frame.specs.declared.sums.SumKind.TheVariants.{Enhanced}
 use Rattle.lin_frame.specs.declared.value.Value.TheVariants.{Scalar, Bytes}
-use Rattle.lin_cluster_parts.specs.declared.parts.Parts.{Parts}
-use Rattle.lin_cluster_parts.specs.declared.parts.Entry.TheVariants.{MasterReq, SlaveResp, Sporadic, Event as EventEntry, Frame as FrameEntry}
+use Rattle.lin_parts.specs.declared.parts.Parts.{Parts}
+use Rattle.lin_parts.specs.declared.parts.Entry.TheVariants.{MasterReq, SlaveResp, Sporadic, Event as EventEntry, Frame as FrameEntry}
 use Rattle.lin_core.specs.History.{time}
 use Rattle.lin_core.specs.Signals.{value_at}
 use Rattle.lin_core.specs.Runs.{history}

@@ -1,8 +1,8 @@
 -- Worked examples of messages to all responders.
 use Rattle.std.specs.Prelude.{◌≡◌, ℕ, List, [], ◌∷◌, ◌++◌, map, filter, reverse, Some, None}
 use Rattle.std.proofs.Common.{refl}
-use Rattle.lin_cluster_parts.specs.declared.parts.Parts.{Parts}
-use Rattle.lin_cluster_parts.specs.declared.parts.Entry.TheVariants.{MasterReq}
+use Rattle.lin_parts.specs.declared.parts.Parts.{Parts}
+use Rattle.lin_parts.specs.declared.parts.Entry.TheVariants.{MasterReq}
 use Rattle.lin_core.specs.Law.{AgreesOn, is_sent_over}
 use Rattle.lin_core.specs.Links.{Link, Sending, sendings, frames_of, blocks, reading}
 use Rattle.lin_core.specs.Runs.{history}

@@ -2,7 +2,7 @@
 use Rattle.std.specs.Prelude.{◌≡◌, ℕ, List, [], ◌∷◌, ◌++◌, map, reverse, Some, None}
 use Rattle.std.proofs.Common.{refl}
 use Rattle.lin_frame.specs.declared.value.Value.TheVariants.{Scalar}
-use Rattle.lin_cluster_parts.specs.declared.parts.Parts.{Parts}
+use Rattle.lin_parts.specs.declared.parts.Parts.{Parts}
 use Rattle.lin_core.specs.Runs.{history}
 use Rattle.lin_core.specs.Replies.{reply}
 use Rattle.lin_core.specs.declared.log.LogEntry.{LogEntry}

@@ -3,7 +3,7 @@ use Rattle.std.proofs.Common.{◌≡◌, ℕ, Bool, true, false, List, [], ◌�
 use Rattle.std.specs.Prelude.{Option, Some, None, cond, find, ◌++◌, ◌&&◌, ◌==◌, if◌then◌else◌, nat_le, slice_index}
 use Rattle.std.proofs.lemmas.Bool.Decides.{nat_tests}
 use Rattle.std.specs.Option.{option_map_or, unwrap_or}
-use Rattle.lin_cluster_parts.specs.declared.parts.Parts.{Parts}
+use Rattle.lin_parts.specs.declared.parts.Parts.{Parts}
 use Rattle.lin_core.specs.History.{Slot, is_sleep_asked, asleep, good_under, open_slot}
 use Rattle.lin_core.specs.kept.Bus.{KeepsBus, bus_after}
 use Rattle.lin_core.specs.Slots.{node_with, selected_node}

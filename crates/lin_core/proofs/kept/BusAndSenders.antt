@@ -4,8 +4,8 @@ use Rattle.std.specs.Prelude.{Option, Some, None, ◌==◌, if◌then◌else◌,
 use Rattle.std.proofs.lemmas.Bool.{ne_eqb}
 use Rattle.std.proofs.lemmas.Bool.Decides.{nat_tests, eqb_tells}
 use Rattle.lin_frame.specs.declared.value.Value.{Value}
-use Rattle.lin_cluster_parts.specs.declared.parts.Parts.{Parts}
-use Rattle.lin_cluster_parts.specs.Sound.{IsSound}
+use Rattle.lin_parts.specs.declared.parts.Parts.{Parts}
+use Rattle.lin_parts.specs.Sound.{IsSound}
 use Rattle.lin_core.specs.History.{is_host_closed, Slot, has_decided, is_in, leave, open_slot}
 use Rattle.lin_core.specs.kept.Hosts.{fresh, host_after_send, KeepsHost, KeepsSender, sender_now}
 use Rattle.lin_core.specs.kept.State.{KeepsLate, Keeps}
@@ -28,9 +28,9 @@ use Rattle.std.specs.Option.{option_map_or}
 use Rattle.lin_core.specs.kept.Signals.{KeepsSignals}
 use Rattle.lin_core.specs.kept.Slots.{slot_in}
 use Rattle.lin_core.specs.Signals.{carried_frame, carried_by}
-use Rattle.lin_cluster_parts.specs.Cluster.{line_of}
-use Rattle.lin_cluster_parts.specs.declared.parts.Entry.{Entry}
-use Rattle.lin_cluster_parts.specs.declared.parts.Entry.TheVariants.{Frame, Sporadic, Event as EventEntry, MasterReq, SlaveResp, Quiet}
+use Rattle.lin_parts.specs.Cluster.{line_of}
+use Rattle.lin_parts.specs.declared.parts.Entry.{Entry}
+use Rattle.lin_parts.specs.declared.parts.Entry.TheVariants.{Frame, Sporadic, Event as EventEntry, MasterReq, SlaveResp, Quiet}
 use Rattle.lin_core.specs.declared.slot.Put.{Put}
 use Rattle.lin_core.proofs.sendings.Hosts.{eqb-self, HostState, IsCount}
 use Rattle.lin_core.proofs.slots.OpenSlots.{or-assoc, or-false}

@@ -3,8 +3,8 @@ use Rattle.std.proofs.Common.{◌≡◌, ◌≢◌, ℕ, zero, suc, ◌+◌, Lis
 use Rattle.std.specs.Prelude.{Option, Some, slice_get, slice_set}
 use Rattle.std.specs.Option.{option_map_or}
 use Rattle.lin_transport.specs.Sender.{Sending as Sender}
-use Rattle.lin_cluster_parts.specs.declared.parts.Parts.{Parts}
-use Rattle.lin_cluster_parts.specs.Sound.{IsSound}
+use Rattle.lin_parts.specs.declared.parts.Parts.{Parts}
+use Rattle.lin_parts.specs.Sound.{IsSound}
 use Rattle.lin_core.specs.History.{is_host_closed}
 use Rattle.lin_core.specs.kept.Hosts.{host_after_frame, KeepsHost, KeepsSender, sender_now}
 use Rattle.lin_core.specs.kept.State.{KeepsLate}

@@ -3,8 +3,8 @@ use Rattle.std.proofs.Common.{◌≡◌, ℕ, suc, ◌+◌, ◌*◌, ◌^◌, �
 use Rattle.std.specs.Prelude.{Option, Some, None, slice_get, slice_set, slice_index_or, is_some, ◌==◌, if◌then◌else◌, nat_le, All, option_map}
 use Rattle.std.proofs.lemmas.List.{length-map, map-append, append-nil, length-append, length-reverse}
 use Rattle.std.proofs.lemmas.Option.{slice_get_read, slice_get_within, get_or_from_slice_get}
-use Rattle.lin_cluster_parts.specs.Cluster.{nodes, line_of}
-use Rattle.lin_cluster_parts.specs.declared.parts.Parts.{Parts}
+use Rattle.lin_parts.specs.Cluster.{nodes, line_of}
+use Rattle.lin_parts.specs.declared.parts.Parts.{Parts}
 use Rattle.lin_core.specs.kept.Hosts.{message_at, sent_in, KeepsHost, message_of, host_after_send, fresh}
 use Rattle.lin_core.specs.kept.State.{Keeps}
 use Rattle.lin_core.specs.kept.Signals.{KeepsSignals, Ends}
@@ -32,14 +32,14 @@ use Rattle.std.proofs.lemmas.List.Elements.{All-get_or}
 use Rattle.std.specs.Option.{option_map_or}
 use Rattle.lin_core.specs.declared.slot.Put.{Put}
 use Rattle.lin_core.specs.History.{done, open_slot, time, is_clash, slot_after_events}
-use Rattle.lin_cluster_parts.specs.Sound.{IsSound}
+use Rattle.lin_parts.specs.Sound.{IsSound}
 use Rattle.lin_core.specs.declared.event.Event.TheVariants.{Accepted, Slot as SlotEvent, Due, Put as PutEvent}
 use Rattle.lin_core.specs.declared.step.Step.TheVariants.{Send, Write, Open, Answer, Finish, Switch}
 use Rattle.lin_core.proofs.sendings.Hosts.{HostState}
 use Rattle.lin_core.proofs.steps.Known.{Known, write-known, switch-known}
 use Rattle.lin_core.proofs.steps.Steps.{AllFalse, none-of, both-false, more_if, send-known, open-known, answer-known, told-due}
 use Rattle.lin_core.proofs.sendings.Queues.{waiting-are}
-use Rattle.lin_cluster_parts.specs.declared.parts.Entry.{Entry}
+use Rattle.lin_parts.specs.declared.parts.Entry.{Entry}
 use Rattle.lin_core.specs.Slots.{header, due_nodes, next_due, moves}
 use Rattle.lin_core.specs.declared.event.Event.{Event}
 use Rattle.lin_core.proofs.links.Finishes.{slot_of}

@@ -1,8 +1,8 @@
 -- The hosts after an entry by which the first message that waits of one of them is settled.
 use Rattle.std.proofs.Common.{◌≡◌, ◌≢◌, ℕ, zero, suc, Bool, true, false, List, [], ◌∷◌, ◌++◌, length, map, refl, ap, sym, ◌∙◌, subst, arith, inl, inr}
 use Rattle.std.specs.Prelude.{Some, None, drop, slice_get, slice_set}
-use Rattle.lin_cluster_parts.specs.declared.parts.Parts.{Parts}
-use Rattle.lin_cluster_parts.specs.Sound.{IsSound}
+use Rattle.lin_parts.specs.declared.parts.Parts.{Parts}
+use Rattle.lin_parts.specs.Sound.{IsSound}
 use Rattle.lin_core.specs.History.{is_host_closed}
 use Rattle.lin_core.specs.kept.Hosts.{host_after_settling, KeepsHost, message_at, message_of, KeepsSender, sender_now}
 use Rattle.lin_core.specs.kept.State.{KeepsLate}

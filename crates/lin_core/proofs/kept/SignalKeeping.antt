@@ -9,10 +9,10 @@ use Rattle.std.proofs.lemmas.List.Folds.{list_any-append}
 use Rattle.std.specs.Option.{option_map_or}
 use Rattle.lin_frame.specs.Bits.{fits_place}
 use Rattle.lin_frame.specs.declared.value.Value.{Value}
-use Rattle.lin_cluster_parts.specs.Cluster.{signal_of, frame_of}
-use Rattle.lin_cluster_parts.specs.Rules.{place_at, IsCluster}
-use Rattle.lin_cluster_parts.specs.declared.parts.Parts.{Parts}
-use Rattle.lin_cluster_parts.specs.declared.parts.Signal.{Signal}
+use Rattle.lin_parts.specs.Cluster.{signal_of, frame_of}
+use Rattle.lin_parts.specs.Rules.{place_at, IsCluster}
+use Rattle.lin_parts.specs.declared.parts.Parts.{Parts}
+use Rattle.lin_parts.specs.declared.parts.Signal.{Signal}
 use Rattle.lin_core.specs.History.{open_slot, good, good_bytes, is_in, seen_by}
 use Rattle.lin_core.specs.kept.Signals.{Ends, KeepsSignals, KeepsOne, is_cleared_in, is_cleared}
 use Rattle.lin_core.specs.kept.Slots.{put_in, slot_in}

@@ -4,9 +4,9 @@ use Rattle.std.specs.Prelude.{Option, Some, None, flat_map, option_map, slice_ge
 use Rattle.std.proofs.lemmas.List.{length-map}
 use Rattle.lin_frame.specs.Words.{numbers}
 use Rattle.lin_transport.specs.Sender.{Sending as Sender}
-use Rattle.lin_cluster_parts.specs.Cluster.{nodes}
-use Rattle.lin_cluster_parts.specs.declared.parts.Parts.{Parts}
-use Rattle.lin_cluster_parts.specs.Sound.{IsSound}
+use Rattle.lin_parts.specs.Cluster.{nodes}
+use Rattle.lin_parts.specs.declared.parts.Parts.{Parts}
+use Rattle.lin_parts.specs.Sound.{IsSound}
 use Rattle.lin_core.specs.History.{is_host_closed}
 use Rattle.lin_core.specs.kept.Hosts.{losses, losses_of, loss_of, host_after_settling, host_after_sleep, KeepsHost, message_of, KeepsSender, sender_now}
 use Rattle.lin_core.specs.kept.State.{KeepsLate, IsKept, Stage}

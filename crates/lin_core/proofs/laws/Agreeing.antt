@@ -5,9 +5,9 @@ use Rattle.std.proofs.lemmas.List.{map-append}
 use Rattle.std.proofs.lemmas.List.Elements.{filter-append}
 use Rattle.lin_transport.specs.Law.{Addressed}
 use Rattle.lin_transport.proofs.Frames.{count-some}
-use Rattle.lin_cluster_parts.specs.Cluster.{nad}
-use Rattle.lin_cluster_parts.specs.Sound.{IsSound}
-use Rattle.lin_cluster_parts.specs.declared.parts.Parts.{Parts}
+use Rattle.lin_parts.specs.Cluster.{nad}
+use Rattle.lin_parts.specs.Sound.{IsSound}
+use Rattle.lin_parts.specs.declared.parts.Parts.{Parts}
 use Rattle.lin_core.specs.Law.{AgreesOn, fates_in}
 use Rattle.lin_core.specs.Links.{Fate, Link, Message, Sending, Sign, accepted_from, address, blocks, fate_of, frames_to, goes_over, host_of, messages_on, sendings}
 use Rattle.lin_core.specs.Links.Fate.{Waiting}

@@ -6,12 +6,12 @@ use Rattle.std.proofs.lemmas.List.{append-nil, map-append}
 use Rattle.lin_frame.specs.Words.{numbers}
 use Rattle.lin_transport.specs.Law.{Addressed}
 use Rattle.lin_transport.specs.Transport.{frame, frame_count, functional, Ear, Heard, CanSend}
-use Rattle.lin_cluster_parts.specs.declared.parts.Parts.{Parts}
-use Rattle.lin_cluster_parts.specs.Cluster.{nad}
+use Rattle.lin_parts.specs.declared.parts.Parts.{Parts}
+use Rattle.lin_parts.specs.Cluster.{nad}
 use Rattle.lin_core.specs.History.{Slot, open_slot, header_is, is_sleep_asked}
 use Rattle.lin_core.specs.Links.{Link, same_dir, Message, host_of, accepted_from, Sign, Fate, address, ear_on, frames_to, goes_over, is_down, is_to_all, put_on, signs, heard_on, blocks, blocks_of, messages_on}
 use Rattle.lin_core.specs.Links.Sign.{Put as PutSign}
-use Rattle.lin_cluster_parts.specs.Sound.{IsSound}
+use Rattle.lin_parts.specs.Sound.{IsSound}
 use Rattle.lin_core.specs.declared.log.LogEntry.{LogEntry}
 use Rattle.lin_core.specs.declared.port.PortId.{PortId}
 use Rattle.lin_core.specs.declared.step.Step.{Step}

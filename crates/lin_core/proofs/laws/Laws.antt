@@ -1,7 +1,7 @@
 -- The laws, of each history and of each log that is one.
 use Rattle.std.proofs.Common.{ℕ, List, [], ◌∷◌, subst, sym}
-use Rattle.lin_cluster_parts.specs.Sound.{IsSound}
-use Rattle.lin_cluster_parts.specs.declared.parts.Parts.{Parts}
+use Rattle.lin_parts.specs.Sound.{IsSound}
+use Rattle.lin_parts.specs.declared.parts.Parts.{Parts}
 use Rattle.lin_core.specs.Core.{CoreData, IsHistory, past_of}
 use Rattle.lin_core.specs.Promises.{AllStay, CarriesFrames, StaysClosed, DeliversExactly, FatesAreFinal, LosesNothing, PutsInOrder}
 use Rattle.lin_core.specs.Runs.{history, steps_of}

@@ -8,14 +8,14 @@ use Rattle.lin_frame.specs.Words.{numbers}
 use Rattle.lin_transport.specs.Transport.{Ear, Heard, pieces, messages_to}
 use Rattle.lin_transport.proofs.Pieces.{reads-nothing}
 use Rattle.lin_transport.specs.Transport.Heard.{Reset}
-use Rattle.lin_cluster_parts.specs.declared.parts.Parts.{Parts}
-use Rattle.lin_cluster_parts.specs.Cluster.{nad, nodes, line_of}
+use Rattle.lin_parts.specs.declared.parts.Parts.{Parts}
+use Rattle.lin_parts.specs.Cluster.{nad, nodes, line_of}
 use Rattle.lin_core.specs.History.{Slot, open_slot, seen_of, reply_events}
 use Rattle.lin_core.specs.Links.{Link, same_dir, same_link, Message, host_of, Fate, ear_on, signs, heard_on, waits, reading, Sending, sendings, fate_of}
 use Rattle.lin_core.specs.Links.Sign.{Mark}
 use Rattle.lin_core.specs.Slots.{put, due_nodes, next_due}
 use Rattle.lin_core.specs.Replies.{refusal, put_event, done_events, reply, receiver_of, report, reports, all_reports, new_messages, all_links, finish_events, quiet_entry, sleeps, link_at}
-use Rattle.lin_cluster_parts.specs.Sound.{IsSound}
+use Rattle.lin_parts.specs.Sound.{IsSound}
 use Rattle.lin_core.specs.declared.log.LogEntry.{LogEntry}
 use Rattle.lin_core.specs.declared.port.PortId.{PortId}
 use Rattle.lin_core.specs.declared.step.Step.{Step}

@@ -9,13 +9,13 @@ use Rattle.std.specs.Option.{option_map_or, unwrap_or}
 use Rattle.lin_frame.specs.Frame.{classic}
 use Rattle.lin_transport.specs.Transport.{frame, functional, Heard}
 use Rattle.lin_transport.specs.Transport.Heard.{Reset}
-use Rattle.lin_cluster_parts.specs.declared.parts.Parts.{Parts}
-use Rattle.lin_cluster_parts.specs.Cluster.{nad}
+use Rattle.lin_parts.specs.declared.parts.Parts.{Parts}
+use Rattle.lin_parts.specs.Cluster.{nad}
 use Rattle.lin_core.specs.History.{Slot, open_slot, seen_of, header_is, good_under, is_sleep_slot}
 use Rattle.lin_core.specs.Links.{Link, same_dir, host_of, Sign, address, is_down, is_to_all, ear_on, goes_over, nad_on, put_signs, signs, heard_on, heard_good, diagnostic_header}
 use Rattle.lin_core.specs.Links.Sign.{Mark}
 use Rattle.lin_core.specs.Slots.{with_classic, sleep_frame}
-use Rattle.lin_cluster_parts.specs.Sound.{IsSound}
+use Rattle.lin_parts.specs.Sound.{IsSound}
 use Rattle.lin_core.specs.declared.log.LogEntry.{LogEntry}
 use Rattle.lin_core.specs.declared.port.PortId.{PortId}
 use Rattle.lin_core.specs.declared.step.Step.TheVariants.{Finish}

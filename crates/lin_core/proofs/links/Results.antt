@@ -7,7 +7,7 @@ use Rattle.lin_transport.specs.Law.{Addressed}
 use Rattle.lin_transport.specs.Transport.{frames, messages_to, Ear, Heard, first}
 use Rattle.lin_transport.proofs.Ears.{to-none}
 use Rattle.lin_transport.proofs.Pieces.{reads-nothing}
-use Rattle.lin_cluster_parts.specs.declared.parts.Parts.{Parts}
+use Rattle.lin_parts.specs.declared.parts.Parts.{Parts}
 use Rattle.lin_core.specs.Links.{Link, Message, Sign, Fate, fate, frames_of, Sending, address, frames_to, home, sendings_from}
 use Rattle.lin_core.specs.Links.Fate.{Waiting, Sent, Lost}
 use Rattle.lin_core.specs.Law.{is_sent, is_sent_over, IsPrefix, InOrder}

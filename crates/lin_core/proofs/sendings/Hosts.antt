@@ -7,8 +7,8 @@ use Rattle.std.proofs.lemmas.List.Elements.{filter-append}
 use Rattle.std.specs.Option.{option_map_or}
 use Rattle.lin_transport.specs.Law.{Addressed, IsFor}
 use Rattle.lin_transport.specs.Transport.{frame, frame_count, Ear, Heard, CanSend, first}
-use Rattle.lin_cluster_parts.specs.Cluster.{nad}
-use Rattle.lin_cluster_parts.specs.declared.parts.Parts.{Parts}
+use Rattle.lin_parts.specs.Cluster.{nad}
+use Rattle.lin_parts.specs.declared.parts.Parts.{Parts}
 use Rattle.lin_core.specs.Links.{Link, same_dir, same_link, Message, host_of, Sign, Fate, fate, is_waiting, frames_of, begins_good, blocks_of, Sending, address, ear_on, frames_to, goes_over, home, is_to_all, sendings_from, fate_of, waits, is_begun}
 use Rattle.lin_core.specs.declared.link.Direction.{Direction}
 use Rattle.lin_core.specs.declared.link.Direction.TheVariants.{Down, Up}

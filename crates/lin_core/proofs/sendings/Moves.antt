@@ -6,7 +6,7 @@ use Rattle.std.proofs.lemmas.List.{append-nil, map-append}
 use Rattle.lin_transport.specs.Law.{Addressed, IsFor}
 use Rattle.lin_transport.specs.Transport.{frame, frame_count, functional, Ear, Heard}
 use Rattle.lin_transport.specs.Transport.Heard.{Frame, Reset}
-use Rattle.lin_cluster_parts.specs.declared.parts.Parts.{Parts}
+use Rattle.lin_parts.specs.declared.parts.Parts.{Parts}
 use Rattle.lin_core.specs.Links.{Link, same_dir, same_link, Message, Sign, Fate, address, ear_on, goes_over, home, host_of, is_down, is_to_all, reaches}
 use Rattle.lin_core.specs.Links.Sign.{Mark}
 use Rattle.lin_core.specs.Links.Fate.{Sent, Lost}

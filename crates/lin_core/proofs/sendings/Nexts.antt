@@ -3,8 +3,8 @@ use Rattle.std.proofs.Common.{◌≡◌, ℕ, zero, suc, ◌≤◌, ◌<◌, Boo
 use Rattle.std.specs.Prelude.{Option, Some, None, ◌||◌, ◌⊎◌, is_some, slice_get}
 use Rattle.lin_transport.specs.Transport.{frame_count}
 use Rattle.lin_transport.specs.Sender.{Sending as Sender}
-use Rattle.lin_cluster_parts.specs.Cluster.{nodes}
-use Rattle.lin_cluster_parts.specs.declared.parts.Parts.{Parts}
+use Rattle.lin_parts.specs.Cluster.{nodes}
+use Rattle.lin_parts.specs.declared.parts.Parts.{Parts}
 use Rattle.lin_core.specs.kept.Hosts.{KeepsHost, message_at, HasNext, KeepsSender, bytes_next}
 use Rattle.lin_core.specs.Links.{Message, accepted_from, heard_on, is_to_all, signs}
 use Rattle.lin_core.specs.kept.State.{IsKept, Stage}

@@ -1,9 +1,9 @@
 -- What waits, by what is known of a host.
 use Rattle.std.proofs.Common.{◌≡◌, ℕ, List, [], ◌∷◌, length, map, refl, ap, sym, ◌∙◌}
 use Rattle.std.specs.Prelude.{filter, ◌+◌}
-use Rattle.lin_cluster_parts.specs.declared.parts.Parts.{Parts}
+use Rattle.lin_parts.specs.declared.parts.Parts.{Parts}
 use Rattle.lin_core.specs.Links.{Message, Fate, Sending, sendings, accepted_from, waiting, blocks, is_waiting}
-use Rattle.lin_cluster_parts.specs.Sound.{IsSound}
+use Rattle.lin_parts.specs.Sound.{IsSound}
 use Rattle.lin_core.specs.declared.log.LogEntry.{LogEntry}
 use Rattle.lin_core.proofs.steps.Known.{Known}
 use Rattle.std.proofs.lemmas.List.{length-append, length-map, append_cancel_left}

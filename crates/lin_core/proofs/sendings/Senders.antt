@@ -6,8 +6,8 @@ use Rattle.std.proofs.lemmas.List.{append-nil}
 use Rattle.lin_transport.specs.Transport.{first, frame}
 use Rattle.lin_transport.specs.Sender.{Sending as Sender}
 use Rattle.lin_transport.proofs.Frames.{length-first}
-use Rattle.lin_cluster_parts.specs.declared.parts.Parts.{Parts}
-use Rattle.lin_cluster_parts.specs.Sound.{IsSound}
+use Rattle.lin_parts.specs.declared.parts.Parts.{Parts}
+use Rattle.lin_parts.specs.Sound.{IsSound}
 use Rattle.lin_core.specs.History.{Slot, is_sleep_asked, open_slot}
 use Rattle.lin_core.specs.kept.Hosts.{sender_now, sender_of}
 use Rattle.lin_core.specs.Links.{Link, Message, Sending, Sign, Fate, accepted_from, address, begins_good, blocks, blocks_of, fate_of, heard_on, is_begun, goes_over, home, is_good, is_waiting, sendings_from, signs}

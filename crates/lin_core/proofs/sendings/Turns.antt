@@ -6,9 +6,9 @@ use Rattle.std.proofs.lemmas.Bool.{ne_eqb}
 use Rattle.std.proofs.lemmas.List.{append-nil}
 use Rattle.lin_transport.specs.Transport.{frame}
 use Rattle.lin_transport.proofs.Frames.{and-false}
-use Rattle.lin_cluster_parts.specs.Cluster.{line_of}
-use Rattle.lin_cluster_parts.specs.Sound.{IsSound}
-use Rattle.lin_cluster_parts.specs.declared.parts.Parts.{Parts}
+use Rattle.lin_parts.specs.Cluster.{line_of}
+use Rattle.lin_parts.specs.Sound.{IsSound}
+use Rattle.lin_parts.specs.declared.parts.Parts.{Parts}
 use Rattle.lin_core.specs.History.{Slot, is_sleep_asked, has_decided, header_is, is_in, is_sleep_slot, open_slot}
 use Rattle.lin_core.specs.Links.{Fate, Link, Message, Sending, Sign, accepted_from, begun_sending, blocks, heard_on, diagnostic_header, host_of, is_begun, address, same_link, sendings, sendings_from, signs, waiting}
 use Rattle.lin_core.specs.Replies.{begun_on, in_slot, link_at, refusal}

@@ -7,14 +7,14 @@ use Rattle.lin_frame.specs.Bits.{all_fit, fits_place, is_good_layout}
 use Rattle.lin_frame.specs.declared.layout.Place.{Place}
 use Rattle.lin_frame.specs.declared.value.Value.{Value}
 use Rattle.lin_frame.specs.declared.value.Value.TheVariants.{Scalar, Bytes}
-use Rattle.lin_cluster_parts.specs.Cluster.{signal_of, frame_of, sporadic_of, event_of}
-use Rattle.lin_cluster_parts.specs.Rules.{place_at, IsCluster, IsCommanders, IsResponders, IsSignalAt}
-use Rattle.lin_cluster_parts.specs.declared.parts.EventFrame.{EventFrame}
-use Rattle.lin_cluster_parts.specs.declared.parts.SignalFrame.{SignalFrame}
-use Rattle.lin_cluster_parts.specs.declared.parts.SporadicFrame.{SporadicFrame}
-use Rattle.lin_cluster_parts.specs.declared.parts.Parts.{Parts}
+use Rattle.lin_parts.specs.Cluster.{signal_of, frame_of, sporadic_of, event_of}
+use Rattle.lin_parts.specs.Rules.{place_at, IsCluster, IsCommanders, IsResponders, IsSignalAt}
+use Rattle.lin_parts.specs.declared.parts.EventFrame.{EventFrame}
+use Rattle.lin_parts.specs.declared.parts.SignalFrame.{SignalFrame}
+use Rattle.lin_parts.specs.declared.parts.SporadicFrame.{SporadicFrame}
+use Rattle.lin_parts.specs.declared.parts.Parts.{Parts}
 use Rattle.lin_frame.specs.declared.sums.SumKind.TheVariants.{Enhanced}
-use Rattle.lin_cluster_parts.specs.declared.parts.Signal.{Signal}
+use Rattle.lin_parts.specs.declared.parts.Signal.{Signal}
 
 -- the signal and the frames of numbers out of range
 abbrev pub no_signal : Signal

@@ -10,10 +10,10 @@ use Rattle.lin_frame.specs.Bits.{byte_of_bits, number_of_bits, unpacked_value}
 use Rattle.lin_frame.specs.declared.layout.Place.{Place}
 use Rattle.lin_frame.specs.declared.value.Value.{Value}
 use Rattle.lin_frame.specs.declared.value.Value.TheVariants.{Scalar, Bytes}
-use Rattle.lin_cluster_parts.specs.Cluster.{frame_of, sporadic_of, event_of, line_of}
-use Rattle.lin_cluster_parts.specs.declared.parts.Parts.{Parts}
-use Rattle.lin_cluster_parts.specs.declared.parts.Entry.{Entry}
-use Rattle.lin_cluster_parts.specs.declared.parts.Entry.TheVariants.{Frame, Sporadic, Event, MasterReq, SlaveResp, Quiet}
+use Rattle.lin_parts.specs.Cluster.{frame_of, sporadic_of, event_of, line_of}
+use Rattle.lin_parts.specs.declared.parts.Parts.{Parts}
+use Rattle.lin_parts.specs.declared.parts.Entry.{Entry}
+use Rattle.lin_parts.specs.declared.parts.Entry.TheVariants.{Frame, Sporadic, Event, MasterReq, SlaveResp, Quiet}
 use Rattle.lin_core.specs.kept.Slots.{frame_by, slot_in, put_in}
 use Rattle.lin_core.specs.History.{Slot, good, header_is, good_bytes, seen_by}
 use Rattle.lin_core.specs.Signals.{ArePointwise, carried_frame, carried_by, place_in, value_in}

@@ -9,12 +9,12 @@ use Rattle.std.proofs.lemmas.List.{map-append}
 use Rattle.std.proofs.lemmas.List.Folds.{list_any-append}
 use Rattle.std.specs.Option.{option_map_or}
 use Rattle.lin_frame.specs.Words.{numbers}
-use Rattle.lin_cluster_parts.specs.Cluster.{frame_of, sporadic_of, event_of, line_of, nodes}
-use Rattle.lin_cluster_parts.specs.Rules.{IsCluster, IsEntry}
-use Rattle.lin_cluster_parts.specs.Sound.{IsSignalPid, IsSound}
-use Rattle.lin_cluster_parts.specs.declared.parts.Parts.{Parts}
-use Rattle.lin_cluster_parts.specs.declared.parts.Entry.{Entry}
-use Rattle.lin_cluster_parts.specs.declared.parts.Entry.TheVariants.{Frame, Sporadic, Event, MasterReq, SlaveResp, Quiet}
+use Rattle.lin_parts.specs.Cluster.{frame_of, sporadic_of, event_of, line_of, nodes}
+use Rattle.lin_parts.specs.Rules.{IsCluster, IsEntry}
+use Rattle.lin_parts.specs.Sound.{IsSignalPid, IsSound}
+use Rattle.lin_parts.specs.declared.parts.Parts.{Parts}
+use Rattle.lin_parts.specs.declared.parts.Entry.{Entry}
+use Rattle.lin_parts.specs.declared.parts.Entry.TheVariants.{Frame, Sporadic, Event, MasterReq, SlaveResp, Quiet}
 use Rattle.lin_schedule.specs.Due.{due_for}
 use Rattle.lin_schedule.specs.Walker.{HasEntry}
 use Rattle.lin_transport.proofs.Frames.{and-false}

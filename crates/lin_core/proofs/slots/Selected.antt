@@ -3,8 +3,8 @@ use Rattle.std.proofs.Common.{◌≡◌, ℕ, zero, suc, ◌<◌, Bool, true, fa
 use Rattle.std.specs.Prelude.{Option, Some, None, ◌==◌, find, nat_le, nat_lt, if◌then◌else◌, ◌&&◌, slice_get, slice_index}
 use Rattle.std.specs.Option.{option_map_or, unwrap_or}
 use Rattle.lin_frame.specs.Words.{numbers}
-use Rattle.lin_cluster_parts.specs.Cluster.{nad, nodes}
-use Rattle.lin_cluster_parts.specs.declared.parts.Parts.{Parts}
+use Rattle.lin_parts.specs.Cluster.{nad, nodes}
+use Rattle.lin_parts.specs.declared.parts.Parts.{Parts}
 use Rattle.lin_core.specs.History.{Slot, finished_slot, good_under, is_sleep_mark}
 use Rattle.lin_core.proofs.slots.Opening.{responder_now}
 use Rattle.lin_core.specs.Links.{waiting}

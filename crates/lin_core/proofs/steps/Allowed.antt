@@ -4,7 +4,7 @@ use Rattle.std.specs.Prelude.{Option, Some, nat_le, not, slice_get, slice_index_
 use Rattle.std.proofs.lemmas.Bool.Decides.{nat_tests}
 use Rattle.std.proofs.lemmas.List.{length-append}
 use Rattle.std.proofs.lemmas.Option.{slice_get_read}
-use Rattle.lin_cluster_parts.specs.Cluster.{nodes}
+use Rattle.lin_parts.specs.Cluster.{nodes}
 use Rattle.lin_core.specs.Core.{answered}
 use Rattle.lin_core.specs.History.{is_host_closed, has_decided, is_in, open_slot}
 use Rattle.lin_core.specs.kept.State.{Keeps, stage_data, done_of, IsKept, IsMade, IsReady, Stage}

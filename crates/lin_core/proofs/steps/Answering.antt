@@ -5,10 +5,10 @@ use Rattle.std.proofs.lemmas.Bool.Decides.{nat_tests}
 use Rattle.std.proofs.Math.ListN.{length-set}
 use Rattle.std.specs.Option.{option_map_or}
 use Rattle.lin_frame.specs.Frame.{answer_of}
-use Rattle.lin_cluster_parts.specs.Cluster.{frame_of, line_of}
-use Rattle.lin_cluster_parts.specs.declared.parts.Parts.{Parts}
-use Rattle.lin_cluster_parts.specs.declared.parts.Entry.{Entry}
-use Rattle.lin_cluster_parts.specs.declared.parts.Entry.TheVariants.{Frame, Sporadic, Event as EventEntry, MasterReq, SlaveResp, Quiet}
+use Rattle.lin_parts.specs.Cluster.{frame_of, line_of}
+use Rattle.lin_parts.specs.declared.parts.Parts.{Parts}
+use Rattle.lin_parts.specs.declared.parts.Entry.{Entry}
+use Rattle.lin_parts.specs.declared.parts.Entry.TheVariants.{Frame, Sporadic, Event as EventEntry, MasterReq, SlaveResp, Quiet}
 use Rattle.lin_core.specs.kept.Slots.{frame_answered, frame_by, frame_model, CanAnswer, IsOpen, IsThere, put_in, slot_in}
 use Rattle.lin_core.specs.History.{Slot, header_is, is_in, has_decided, open_slot}
 use Rattle.lin_core.specs.kept.Signals.{KeepsSignals}

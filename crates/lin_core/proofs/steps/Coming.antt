@@ -1,8 +1,8 @@
 -- Which slot comes next, by what is kept.
 use Rattle.std.proofs.Common.{◌≡◌, ℕ, List, length, ap, sym, ◌∙◌, subst}
 use Rattle.std.specs.Prelude.{Some, None, slice_index_or, Bool, not, ◌==◌, nat_lt, Option, option_map, cond, is_some, ◌||◌}
-use Rattle.lin_cluster_parts.specs.Cluster.{line_of}
-use Rattle.lin_cluster_parts.specs.declared.parts.Entry.{Entry}
+use Rattle.lin_parts.specs.Cluster.{line_of}
+use Rattle.lin_parts.specs.declared.parts.Entry.{Entry}
 use Rattle.lin_schedule.specs.Due.{due_for}
 use Rattle.lin_schedule.specs.Walker.{Position}
 use Rattle.lin_schedule.specs.declared.due.Due.{Due}

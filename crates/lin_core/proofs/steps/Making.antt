@@ -1,7 +1,7 @@
 -- What stands inside a core as it makes a step.
 use Rattle.std.proofs.Common.{◌≡◌, ℕ, zero, suc, ◌+◌, ◌-◌, ◌^◌, ◌<◌, ◌≤◌, List, [], reverse, length, refl, ap, sym, ◌∙◌, subst, arith}
 use Rattle.std.specs.Prelude.{Some, None, slice_get, slice_index_or, Bool, not, ◌==◌, nat_lt, Option, option_map, true, false, is_some, filter, ◌||◌}
-use Rattle.lin_cluster_parts.specs.Cluster.{nodes, line_of}
+use Rattle.lin_parts.specs.Cluster.{nodes, line_of}
 use Rattle.lin_core.specs.History.{is_sleep_asked, Slot, open_slot}
 use Rattle.lin_core.specs.kept.Hosts.{KeepsHost}
 use Rattle.lin_core.specs.kept.Slots.{slot_in, opening_slot, header_of, is_due_of}
@@ -18,7 +18,7 @@ use Rattle.lin_core.specs.declared.step.Step.TheVariants.{Send, Finish, Open}
 use Rattle.lin_core.proofs.kept.Keeping.{host-few, host-at, send-room, queue-length, Opens, shut-slot}
 use Rattle.std.proofs.lemmas.Bool.Decides.{nat_tests}
 use Rattle.std.proofs.lemmas.Option.{slice_get_read}
-use Rattle.lin_cluster_parts.specs.declared.parts.Entry.{Entry}
+use Rattle.lin_parts.specs.declared.parts.Entry.{Entry}
 use Rattle.lin_core.specs.Slots.{header, due_nodes}
 use Rattle.lin_core.specs.declared.slot.OpenSlot.{OpenSlot}
 use Rattle.lin_core.proofs.steps.Known.{Known}

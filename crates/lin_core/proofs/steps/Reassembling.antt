@@ -5,7 +5,7 @@ use Rattle.std.specs.Prelude.{IsSome, Option, None, Some, false, option_map}
 use Rattle.lin_frame.specs.Frame.{classic}
 use Rattle.lin_transport.specs.Transport.{frame}
 use Rattle.lin_transport.proofs.Frames.{length-frame}
-use Rattle.lin_cluster_parts.specs.declared.parts.Parts.{Parts}
+use Rattle.lin_parts.specs.declared.parts.Parts.{Parts}
 use Rattle.lin_core.specs.kept.Slots.{put_in, slot_in, IsCarried}
 use Rattle.lin_core.specs.kept.Receivers.{HearsOn}
 use Rattle.lin_core.specs.Links.{Link, Message, address, is_to_all}

@@ -2,7 +2,7 @@
 use Rattle.std.proofs.Common.{◌≡◌, ℕ, suc, ◌+◌, ◌^◌, ◌<◌, ◌≤◌, List, [], ◌∷◌, length, ap, sym, ◌∙◌, subst, arith}
 use Rattle.std.specs.Prelude.{Some, slice_get, slice_index_or, true}
 use Rattle.std.proofs.lemmas.List.{length-map}
-use Rattle.lin_cluster_parts.specs.Cluster.{nodes}
+use Rattle.lin_parts.specs.Cluster.{nodes}
 use Rattle.lin_core.specs.kept.Hosts.{KeepsHost, message_of}
 use Rattle.lin_core.specs.kept.Slots.{slot_in, pdu_of}
 use Rattle.lin_core.specs.Links.{Message, waiting}

@@ -1,5 +1,5 @@
 -- The steps that need their refusals: a timeout, a send, an open, an answer; and the whole history.
-use Rattle.lin_cluster_parts.specs.Cluster.{sporadic_of, nad, nodes, line_of, frame_of, event_of}
+use Rattle.lin_parts.specs.Cluster.{sporadic_of, nad, nodes, line_of, frame_of, event_of}
 use Rattle.std.proofs.Common.{◌≡◌, ◌≤◌, ◌≢◌, ℕ, zero, suc, Bool, true, false, List, [], ◌∷◌, ◌++◌, length, map, refl, ap, sym, ◌∙◌, subst, arith, inl, inr, append_assoc}
 use Rattle.std.specs.Prelude.{⊤, Option, Some, None, cond, ◌&&◌, ◌||◌, not, ◌==◌, if◌then◌else◌, is_some, option_map, filter, find, nat_lt, nat_le, slice_index}
 use Rattle.std.specs.List.{list_any, cons_option}
@@ -11,22 +11,22 @@ use Rattle.lin_frame.specs.Words.{numbers}
 use Rattle.lin_transport.specs.Law.{IsFor}
 use Rattle.lin_transport.specs.Transport.{frame, frame_count, functional, Heard, CanSend}
 use Rattle.lin_transport.specs.Transport.Heard.{Reset}
-use Rattle.lin_cluster_parts.specs.declared.parts.Parts.{Parts}
+use Rattle.lin_parts.specs.declared.parts.Parts.{Parts}
 use Rattle.lin_core.specs.History.{finished_slot, is_sleep_mark, Slot, open_slot, slot_after_events, header_is, is_sleep_asked, good_under, is_in, has_decided}
 use Rattle.lin_core.specs.Signals.{is_pending}
 use Rattle.lin_core.specs.Links.{Link, same_link, link_of, Message, host_of, accepted_from, Sign, Fate, address, ear_on, goes_over, home, is_down, is_to_all, nad_on, put_on, signs, heard_on, blocks, blocks_of, waiting, begun_sending}
 use Rattle.lin_core.specs.Links.Sign.{Mark}
 use Rattle.lin_core.specs.Slots.{with_classic, sleep_frame, next_frame, first_frame, put, header, is_due, due_nodes, selected_node, addressee, node_with, next_due}
 use Rattle.lin_core.specs.Replies.{refusal, refusals, in_slot, has_address, is_addressed, longest, put_event, opening_events, done_events, reply}
-use Rattle.lin_cluster_parts.specs.Sound.{IsSound, IsSignalPid}
+use Rattle.lin_parts.specs.Sound.{IsSound, IsSignalPid}
 use Rattle.lin_core.specs.declared.log.LogEntry.{LogEntry}
 use Rattle.lin_core.specs.declared.port.PortId.{PortId}
 use Rattle.lin_core.specs.declared.step.Step.{Step}
 use Rattle.lin_core.specs.declared.step.Step.TheVariants.{Send, Write, Open, Answer, Leave, Hurt, Finish, Timeout, Switch, AskSleep, Wake, Close}
 use Rattle.lin_core.specs.declared.event.Event.{Event}
 use Rattle.lin_core.specs.declared.event.Event.TheVariants.{Due, Put as PutEvent}
-use Rattle.lin_cluster_parts.specs.declared.parts.Entry.{Entry}
-use Rattle.lin_cluster_parts.specs.declared.parts.Entry.TheVariants.{Frame as FrameEntry, Sporadic, Event as EventEntry, MasterReq, SlaveResp, Quiet}
+use Rattle.lin_parts.specs.declared.parts.Entry.{Entry}
+use Rattle.lin_parts.specs.declared.parts.Entry.TheVariants.{Frame as FrameEntry, Sporadic, Event as EventEntry, MasterReq, SlaveResp, Quiet}
 use Rattle.lin_core.specs.declared.reply.Reply.TheVariants.{Done, Refused}
 use Rattle.lin_core.specs.declared.reply.Refusal.{Refusal}
 use Rattle.lin_core.specs.declared.link.Cause.TheVariants.{TimedOut}

@@ -4,8 +4,8 @@ use Rattle.std.specs.Prelude.{Option, Some, None, is_none, is_some, ◌&&◌, na
 use Rattle.std.proofs.lemmas.Bool.Decides.{nat_tests}
 use Rattle.std.proofs.lemmas.List.{length-map}
 use Rattle.lin_transport.specs.Sender.{Sending as Sender}
-use Rattle.lin_cluster_parts.specs.Cluster.{nad, nodes}
-use Rattle.lin_cluster_parts.specs.declared.parts.Parts.{Parts}
+use Rattle.lin_parts.specs.Cluster.{nad, nodes}
+use Rattle.lin_parts.specs.declared.parts.Parts.{Parts}
 use Rattle.lin_core.specs.History.{open_slot}
 use Rattle.lin_core.specs.kept.State.{Keeps, KeepsLate, IsKept, Stage}
 use Rattle.lin_core.specs.kept.Hosts.{KeepsHost, message_at, message_of, host_after_settling}
@@ -31,7 +31,7 @@ use Rattle.lin_core.proofs.sendings.Senders.{sender-is, sender_for}
 use Rattle.lin_core.proofs.kept.Settling.{Settles, marked-other, marked-own, settled-hosts, settled-late}
 use Rattle.lin_core.proofs.kept.SignalKeeping.{signals-same}
 use Rattle.std.proofs.Math.ListN.{length-set}
-use Rattle.lin_cluster_parts.specs.Sound.{IsSound}
+use Rattle.lin_parts.specs.Sound.{IsSound}
 use Rattle.lin_schedule.specs.Walker.{Position}
 use Rattle.lin_core.specs.declared.link.Direction.TheVariants.{Down, Up}
 use Rattle.lin_core.specs.declared.bus_state.BusState.{BusState}

@@ -6,8 +6,8 @@ use Rattle.std.specs.Prelude.{Some, ◌||◌, is_some, nat_le, slice_get, slice_
 use Rattle.lin_transport.specs.Transport.{Ear, frame, frame_count, heard_to, messages_to}
 use Rattle.lin_transport.proofs.Frames.{count-long, count-short, size}
 use Rattle.lin_transport.proofs.Frames.Size.{long, short}
-use Rattle.lin_cluster_parts.specs.Cluster.{nad}
-use Rattle.lin_cluster_parts.specs.declared.parts.Parts.{Parts}
+use Rattle.lin_parts.specs.Cluster.{nad}
+use Rattle.lin_parts.specs.declared.parts.Parts.{Parts}
 use Rattle.lin_core.specs.History.{open_slot}
 use Rattle.lin_core.specs.kept.Hosts.{is_next_to_all, message_of}
 use Rattle.lin_core.specs.kept.Receivers.{AreAlike, Completes, HearAll, KeepsHeard, KeepsReceiver}

@@ -6,7 +6,7 @@ use Rattle.lin_core.specs.History.{Slot, is_sleep_asked, header_is, open_slot}
 use Rattle.lin_core.specs.kept.Hosts.{message_at, HasNext, bytes_next}
 use Rattle.lin_core.specs.Replies.{put_event, refusals}
 use Rattle.lin_core.specs.Slots.{put, with_classic}
-use Rattle.lin_cluster_parts.specs.Cluster.{line_of, nodes}
+use Rattle.lin_parts.specs.Cluster.{line_of, nodes}
 use Rattle.lin_core.specs.kept.State.{IsKept, IsReady, Stage}
 use Rattle.lin_core.specs.declared.event.Event.TheVariants.{Put as PutEvent}
 use Rattle.lin_core.specs.declared.host.Host.{Host}
@@ -25,7 +25,7 @@ use Rattle.std.specs.Option.{option_map_or}
 use Rattle.lin_core.proofs.steps.Steps.{none-of}
 use Rattle.lin_core.specs.declared.slot.OpenSlot.{OpenSlot}
 use Rattle.lin_core.specs.declared.log.LogEntry.{LogEntry}
-use Rattle.lin_cluster_parts.specs.declared.parts.Parts.{Parts}
+use Rattle.lin_parts.specs.declared.parts.Parts.{Parts}
 
 -- in a slot under a header of the transport: something is due, and what is put
 record TurnIs (c : Parts) (past : List LogEntry) (states : ℕ → HostState) (node : ℕ) (s : Slot) : Type 0 where

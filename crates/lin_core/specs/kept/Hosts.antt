@@ -8,7 +8,7 @@ use Rattle.lin_frame.specs.Words.{numbers}
 use Rattle.circular_buffer.specs.Buffer.{buffer}
 use Rattle.lin_transport.specs.Transport.{frame, frame_count}
 use Rattle.lin_transport.specs.Sender.{Sending as Sender}
-use Rattle.lin_cluster_parts.specs.Cluster.{nad, nodes}
+use Rattle.lin_parts.specs.Cluster.{nad, nodes}
 use Rattle.lin_core.specs.History.{is_host_closed, LogEntry, Step, Parts}
 use Rattle.lin_core.specs.Links.{Message, Sending, accepted_from, begun_sending, is_good, link_of}
 use Rattle.lin_core.specs.Links.{address, is_to_all, waiting}

@@ -4,7 +4,7 @@ use Rattle.std.specs.Prelude.{is_some}
 use Rattle.lin_transport.specs.Transport.{Heard, heard_to, messages_to}
 use Rattle.lin_transport.specs.Transport.Heard.{Reset}
 use Rattle.lin_transport.specs.Receiver.{ear_of, HasHeard, Reads, Reception}
-use Rattle.lin_cluster_parts.specs.Cluster.{nad, nodes}
+use Rattle.lin_parts.specs.Cluster.{nad, nodes}
 use Rattle.lin_core.specs.Links.{Link, ear_on, heard_on}
 use Rattle.lin_core.specs.Replies.{link_at}
 use Rattle.lin_core.specs.declared.link.Direction.{Direction}

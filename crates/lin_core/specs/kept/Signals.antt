@@ -6,8 +6,8 @@ use Rattle.std.specs.List.{list_any}
 use Rattle.std.specs.Option.{option_map_or, unwrap_or}
 use Rattle.lin_frame.specs.Bits.{fits_place}
 use Rattle.lin_frame.specs.declared.value.Value.{Value}
-use Rattle.lin_cluster_parts.specs.Cluster.{signal_of, frame_of}
-use Rattle.lin_cluster_parts.specs.Rules.{place_at}
+use Rattle.lin_parts.specs.Cluster.{signal_of, frame_of}
+use Rattle.lin_parts.specs.Rules.{place_at}
 use Rattle.lin_core.specs.History.{good, LogEntry, Parts}
 use Rattle.lin_core.specs.Signals.{ArePointwise, value, value_in, heard_value, is_pending}
 use Rattle.lin_core.specs.Signals.{carried_frame, is_written_since_answer}

@@ -6,12 +6,12 @@ use Rattle.std.specs.Prelude.{option_map, IfSome}
 use Rattle.std.specs.List.{list_any}
 use Rattle.std.specs.Option.{option_map_or}
 use Rattle.lin_frame.specs.declared.sums.SumKind.{SumKind}
-use Rattle.lin_cluster_parts.specs.Cluster.{frame_of, sporadic_of, event_of, line_of}
-use Rattle.lin_cluster_parts.specs.Rules.{IsEntry}
-use Rattle.lin_cluster_parts.specs.declared.parts.Entry.{Entry}
-use Rattle.lin_cluster_parts.specs.declared.parts.Entry.TheVariants.{Frame, Sporadic, Event}
-use Rattle.lin_cluster_parts.specs.declared.parts.Entry.TheVariants.{MasterReq}
-use Rattle.lin_cluster_parts.specs.declared.parts.Entry.TheVariants.{SlaveResp}
+use Rattle.lin_parts.specs.Cluster.{frame_of, sporadic_of, event_of, line_of}
+use Rattle.lin_parts.specs.Rules.{IsEntry}
+use Rattle.lin_parts.specs.declared.parts.Entry.{Entry}
+use Rattle.lin_parts.specs.declared.parts.Entry.TheVariants.{Frame, Sporadic, Event}
+use Rattle.lin_parts.specs.declared.parts.Entry.TheVariants.{MasterReq}
+use Rattle.lin_parts.specs.declared.parts.Entry.TheVariants.{SlaveResp}
 use Rattle.lin_schedule.specs.Walker.{HasEntry}
 use Rattle.lin_schedule.specs.declared.due.Due.{Due}
 use Rattle.lin_schedule.specs.declared.due.Due.TheVariants.{

@@ -1,9 +1,9 @@
 -- No promise rests on this: the state that is kept, and what a step makes of it.
 use Rattle.std.specs.Prelude.{Result, MatchResult, ◌≡◌, ◌+◌, ◌*◌, ◌-◌, ◌^◌, ◌≤◌, ◌<◌, ℕ, List, []}
 use Rattle.std.specs.Prelude.{◌∷◌, ◌++◌, length, reverse, slice_get, Option, Some, None, option_map}
-use Rattle.lin_cluster_parts.specs.Cluster.{line_of, nodes}
-use Rattle.lin_cluster_parts.specs.Rules.{IsCluster}
-use Rattle.lin_cluster_parts.specs.Sound.{IsSound}
+use Rattle.lin_parts.specs.Cluster.{line_of, nodes}
+use Rattle.lin_parts.specs.Rules.{IsCluster}
+use Rattle.lin_parts.specs.Sound.{IsSound}
 use Rattle.lin_schedule.specs.Schedule.{Move}
 use Rattle.lin_schedule.specs.Schedule.Move.{Slot as SlotMove}
 use Rattle.lin_schedule.specs.Walker.{Position, Stands, Walks}

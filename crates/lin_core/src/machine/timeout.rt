@@ -15,7 +15,7 @@ use crate::state::State;
 use crate::step::Step;
 
 impl Core {
-    ghost use Rattle.lin_cluster_parts.specs.Cluster.{nodes};
+    ghost use Rattle.lin_parts.specs.Cluster.{nodes};
     ghost use Rattle.lin_core.specs.Core.{past_of};
     ghost use Rattle.lin_core.specs.History.{open_slot};
     ghost use Rattle.lin_core.specs.Replies.{begun_on};

@@ -1,7 +1,7 @@
 //! When a write, a switch, an ask for sleep or a wake is refused.
 
 ghost use Rattle.std.specs.Prelude.{◌≡◌, ℕ, List, option_map};
-ghost use Rattle.lin_cluster_parts.specs.declared.parts.Parts.{Parts};
+ghost use Rattle.lin_parts.specs.declared.parts.Parts.{Parts};
 ghost use Rattle.lin_core.specs.History.{asleep, open_slot};
 ghost use Rattle.lin_core.specs.kept.Slots.{slot_in};
 ghost use Rattle.lin_core.specs.Replies.{refusal};
@@ -12,8 +12,8 @@ use crate::refusals::may_act;
 use crate::reply::Refusal;
 use crate::slot::Slot;
 use crate::step::Step;
-use lin_cluster_parts::Cluster;
 use lin_frame::{Place, Value};
+use lin_parts::Cluster;
 
 /// Why a write is refused.
 pub(crate) fn refuse_write(

@@ -1,7 +1,7 @@
 //! When a send, a timeout or a close is refused.
 
 ghost use Rattle.std.specs.Prelude.{◌≡◌, ◌≢◌, ◌||◌, ℕ, ◌<◌, List, None, length, option_map, is_some};
-ghost use Rattle.lin_cluster_parts.specs.Cluster.{nodes};
+ghost use Rattle.lin_parts.specs.Cluster.{nodes};
 ghost use Rattle.lin_core.specs.History.{is_host_closed, open_slot};
 ghost use Rattle.lin_core.specs.kept.Slots.{slot_in};
 ghost use Rattle.lin_core.specs.Links.{waiting};
@@ -16,7 +16,7 @@ use crate::refusals::may_act;
 use crate::reply::Refusal;
 use crate::slot::Slot;
 use crate::step::Step;
-use lin_cluster_parts::Cluster;
+use lin_parts::Cluster;
 use lin_transport::FUNCTIONAL;
 
 /// The most bytes that a message has, and one to all responders, which is a single frame (ISO

@@ -4,7 +4,7 @@ ghost use Rattle.std.specs.Prelude.{◌≡◌, ℕ, ◌<◌, List, option_map};
 ghost use Rattle.lin_core.specs.History.{asleep, open_slot};
 ghost use Rattle.lin_core.specs.kept.Slots.{slot_in, IsOpen, IsThere};
 ghost use Rattle.lin_core.specs.Replies.{refusal, may, passes_in};
-ghost use Rattle.lin_cluster_parts.specs.declared.parts.Parts.{Parts};
+ghost use Rattle.lin_parts.specs.declared.parts.Parts.{Parts};
 ghost use Rattle.lin_core.specs.declared.log.LogEntry.{LogEntry};
 
 use crate::port::PortId;
@@ -12,8 +12,8 @@ use crate::reply::Refusal;
 use crate::response_frames::model_under;
 use crate::slot::{OpenSlot, Slot};
 use crate::step::Step;
-use lin_cluster_parts::Cluster;
 use lin_frame::passes;
+use lin_parts::Cluster;
 
 /// Whether a port may answer for a node, or leave its response out.
 fn may_answer(by: PortId, node: u8) -> bool

@@ -10,12 +10,11 @@ use crate::plain::parts::{after, bytes_of, up_to};
 use crate::plain::words::{
     put_between, put_more_names, put_names, put_number, put_numbers, put_thousandths,
 };
-use lin_description::{
+use lin_ldf::{Token, TokenKind};
+use lin_parts::description::{
     EventFrame, Frame, Init, Number, PlacedSignal, Signal, Sporadic, TableEntry,
 };
-use lin_ldf::{Token, TokenKind};
-use lin_lists::Text;
-use lin_text::TextWriter;
+use lin_text::{Text, TextWriter};
 use std::io::Write;
 
 fn put_init<W: Write>(out: &mut TextWriter<'_, W>, init: &Init)

@@ -8,8 +8,8 @@ ghost use Rattle.lin_field.specs.Plain.{plain_name};
 use crate::plain::parts::is_one_of;
 use crate::tables::is_members_name;
 use lin_cluster::Named;
-use lin_description::{Description, EventFrame, Name, Table};
-use lin_lists::Text;
+use lin_parts::description::{Description, EventFrame, Name, Table};
+use lin_text::Text;
 use std::alloc::{AllocError, Global};
 
 fn add_names<'a, T: Named>(names: &mut Vec<&'a [u8]>, all: &'a [T]) -> Result<(), AllocError>

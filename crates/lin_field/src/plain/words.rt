@@ -6,7 +6,7 @@ ghost use Rattle.lin_text.specs.Written.{Grows};
 ghost use Rattle.lin_field.specs.Plain.{between, decimals, thousandths, listed, name_text};
 ghost use Rattle.lin_field.specs.Plain.{after_commas, number_text};
 
-use lin_description::{Name, Number};
+use lin_parts::description::{Name, Number};
 use lin_text::TextWriter;
 use std::io::Write;
 

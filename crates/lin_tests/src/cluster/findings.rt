@@ -3,7 +3,7 @@
 use crate::samples::{FOUR_LINES, HEADER, add_number, add_place, expect_text, joined};
 use lin_cluster::{CheckFault, Finding, check};
 use lin_ldf::parse;
-use lin_lists::Many;
+use lin_text::Many;
 use std::alloc::Global;
 use std::process::Abort;
 use std::test::Fail;

@@ -2,8 +2,8 @@
 
 ghost use Rattle.std.specs.Prelude.{◌≡◌, ℕ, List, drop, is_some, true};
 ghost use mathlib.Core.List.{IsPrefix};
-ghost use Rattle.lin_cluster_parts.specs.Cluster.{nad};
-ghost use Rattle.lin_cluster_parts.specs.Sound.{IsSound};
+ghost use Rattle.lin_parts.specs.Cluster.{nad};
+ghost use Rattle.lin_parts.specs.Sound.{IsSound};
 ghost use Rattle.lin_core.specs.Core.{CoreData, IsHistory};
 ghost use Rattle.lin_core.specs.Links.{Link};
 ghost use Rattle.lin_core.specs.declared.port.PortId.{PortId};

@@ -1,7 +1,7 @@
 //! The pump.
 
 ghost use Rattle.std.specs.Prelude.{◌≡◌, ◌<◌, ◌≤◌, ◌+◌, drop, vec_len, length};
-ghost use Rattle.lin_cluster_parts.specs.Cluster.{nodes};
+ghost use Rattle.lin_parts.specs.Cluster.{nodes};
 ghost use Rattle.lin_threads.specs.Lanes.{AllServe, InOrder, OnlyOwn};
 
 use crate::ports::Receipt;
@@ -46,7 +46,7 @@ impl Pump {
     ghost use Rattle.std.specs.Prelude.{◌≡◌, ◌≢◌, ◌<◌, ◌+◌, ◌-◌, ◌^◌, ◌↔◌, ℕ, vec_len, length};
     ghost use Rattle.std.specs.Prelude.{IfOk, IfErr, OnOk, IfSome, IfNone};
     ghost use mathlib.Core.List.{IsPrefix};
-    ghost use Rattle.lin_cluster_parts.specs.Cluster.{nodes};
+    ghost use Rattle.lin_parts.specs.Cluster.{nodes};
     ghost use Rattle.lin_core.specs.Core.{IsStepped, IsLogFull};
     ghost use Rattle.lin_core.specs.declared.port.PortId.TheVariants.{Bus};
     ghost use Rattle.lin_threads.specs.Lanes.{Served, FirstTold, IsFullLog, OnlyOwn};

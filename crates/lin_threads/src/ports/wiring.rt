@@ -2,7 +2,7 @@
 
 ghost use Rattle.std.specs.Prelude.{◌≡◌, ◌≤◌, ◌<◌, ◌+◌, ◌++◌, [], map, IfOk, length};
 ghost use Rattle.lin_core.specs.declared.port.PortId.TheVariants.{Host, Node};
-ghost use Rattle.lin_cluster_parts.specs.Cluster.{nodes};
+ghost use Rattle.lin_parts.specs.Cluster.{nodes};
 ghost use Rattle.lin_threads.specs.Lanes.{lane_wiring};
 ghost use Rattle.lin_threads.specs.Ports.{host_wiring, node_wiring};
 ghost use Rattle.lin_threads.specs.Pumps.{core_of, since, wirings};

@@ -1,5 +1,5 @@
 use Rattle.std.proofs.Common.{◌∙◌, ◌≡◌, None, ap, sym}
-use Rattle.lin_cluster_parts.specs.Cluster.{event_of, sporadic_of}
+use Rattle.lin_parts.specs.Cluster.{event_of, sporadic_of}
 use Rattle.lin_bench.specs.Carried.{Shape}
 use Rattle.lin_bench.proofs.CarriedFrames.{none-headless, published}
 use Rattle.lin_bench.proofs.carried.signals_in.Goals as goal

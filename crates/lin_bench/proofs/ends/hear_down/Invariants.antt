@@ -1,7 +1,7 @@
 use Rattle.std.proofs.Common.{◌≡◌, ◌<◌, nat_lt, cond, ℕ, slice_index}
 use Rattle.std.specs.Prelude.{false, true}
 use Rattle.std.specs.Option.{option_map_or}
-use Rattle.lin_cluster_parts.specs.Cluster.{nad, nodes}
+use Rattle.lin_parts.specs.Cluster.{nad, nodes}
 use Rattle.lin_transport.specs.Transport.{looks_at}
 use Rattle.lin_bench.proofs.ends.hear_down.Given as goal
 

@@ -4,7 +4,7 @@ use Rattle.std.specs.List.{position}
 use Rattle.std.specs.Prelude.{codes}
 use Rattle.std.specs.Str.{bytes_eq}
 use Rattle.std.proofs.lemmas.List.{length-drop, take_all}
-use Rattle.lin_cluster_parts.specs.declared.parts.Parts.{Parts}
+use Rattle.lin_parts.specs.declared.parts.Parts.{Parts}
 use Rattle.lin_bench.specs.Fields.{words}
 use Rattle.lin_bench.specs.RuleLines.{answers_of, cut, last_field, when_by, when_fields, when_of}
 use Rattle.lin_bench.specs.declared.reason.Reason.TheVariants.{WhenForm}

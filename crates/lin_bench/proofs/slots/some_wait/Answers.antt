@@ -1,5 +1,5 @@
 use Rattle.std.proofs.Common.{◌≡◌, ℕ, true, sym, ap, arith, length, nat_lt, lt-ltb}
-use Rattle.lin_cluster_parts.specs.Cluster.{nodes}
+use Rattle.lin_parts.specs.Cluster.{nodes}
 use Rattle.lin_core.specs.Core.{past_of}
 use Rattle.lin_core.specs.Links.{waiting}
 use Rattle.lin_bench.proofs.Hosts.{some-passes}

@@ -1,6 +1,6 @@
 use Rattle.std.proofs.Common.{◌≡◌, arith, length, nat_lt, refl, true}
 use Rattle.std.proofs.lemmas.Bool.Decides.{nat_tests}
-use Rattle.lin_cluster_parts.specs.Cluster.{frame_name}
+use Rattle.lin_parts.specs.Cluster.{frame_name}
 use Rattle.lin_log.specs.Language.{word_of}
 use Rattle.lin_text.proofs.Growing.{grows-more}
 use Rattle.lin_bench.specs.Fields.{frames_called}

@@ -2,7 +2,7 @@ use Rattle.std.proofs.Common.{◌≡◌, ◌≢◌, ◌==◌, true, false, List,
 use Rattle.std.proofs.lemmas.Bool.{eqb-true, eqb-false}
 use Rattle.lin_cluster.specs.Findings.{AreFindings, IsFree}
 use Rattle.lin_cluster.specs.declared.finding.Finding.{Finding}
-use Rattle.lin_description.specs.declared.description.Description.{Description}
+use Rattle.lin_parts.specs.declared.description.Description.{Description}
 use Rattle.lin_cluster.proofs.CheckedDescriptions.{free-from-none, some-found}
 use Rattle.lin_cluster.proofs.NothingElse.{free-is-sound}
 use Rattle.lin_cluster.proofs.FindingsOrder.{one_answer}

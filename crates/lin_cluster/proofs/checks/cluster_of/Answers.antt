@@ -3,8 +3,8 @@ use Rattle.std.proofs.lemmas.Result.{IfOk-weaker}
 use Rattle.lin_cluster.specs.Described.{parts_of}
 use Rattle.lin_cluster.specs.Findings.{IsFree}
 use Rattle.lin_cluster.specs.SlotTimes.{NoSlotIsShort}
-use Rattle.lin_cluster_parts.specs.Rules.{IsCluster}
-use Rattle.lin_cluster_parts.specs.declared.parts.Parts.{Parts}
+use Rattle.lin_parts.specs.Rules.{IsCluster}
+use Rattle.lin_parts.specs.declared.parts.Parts.{Parts}
 use Rattle.lin_cluster.proofs.DescribedClusters.{described-cluster, numbers-fit}
 use Rattle.lin_cluster.proofs.LongSlots.{no-slot-is-short}
 use Rattle.lin_cluster.proofs.checks.cluster_of.Goals as goal

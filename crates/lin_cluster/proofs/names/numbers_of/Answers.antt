@@ -5,7 +5,7 @@ use Rattle.std.proofs.lemmas.List.{take_all}
 use Rattle.indexmap.specs.IndexMap.{get_by}
 use Rattle.lin_cluster.proofs.NamesFound.{numbered_more}
 use Rattle.lin_cluster.proofs.names.numbers_of.Goals as goal
-use Rattle.lin_description.specs.declared.description.Name.{Name}
+use Rattle.lin_parts.specs.declared.description.Name.{Name}
 
 pub loop-number-preserved : goal.loop-number-preserved
 loop-number-preserved g c = λ q.

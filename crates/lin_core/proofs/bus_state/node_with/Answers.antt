@@ -2,7 +2,7 @@ use Rattle.std.proofs.Common.{◌≡◌, ◌+◌, ℕ, suc, Bool, sym, ◌∙◌
 use Rattle.std.specs.Prelude.{false, find, ◌==◌, Option, Some, None, if◌then◌else◌}
 use Rattle.std.specs.Option.{option_map_or}
 use Rattle.lin_frame.specs.Words.{numbers}
-use Rattle.lin_cluster_parts.specs.Cluster.{nad}
+use Rattle.lin_parts.specs.Cluster.{nad}
 use Rattle.lin_core.proofs.kept.Bus.{find-more}
 use Rattle.lin_core.proofs.bus_state.node_with.Goals.{After-first-found}
 use Rattle.lin_core.proofs.bus_state.node_with.Goals as goal

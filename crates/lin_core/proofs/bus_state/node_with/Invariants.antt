@@ -2,7 +2,7 @@ use Rattle.std.proofs.Common.{◌≡◌}
 use Rattle.std.specs.Prelude.{false, find, ◌==◌}
 use Rattle.std.specs.Option.{option_map_or}
 use Rattle.lin_frame.specs.Words.{numbers}
-use Rattle.lin_cluster_parts.specs.Cluster.{nad}
+use Rattle.lin_parts.specs.Cluster.{nad}
 use Rattle.lin_core.proofs.bus_state.node_with.Given as goal
 
 abbrev pub invariant-loop-node : goal.invariant-loop-node

@@ -1,7 +1,7 @@
 use Rattle.std.proofs.Common.{◌≡◌, ◌==◌, ◌<◌, ℕ, length, subst, sym}
 use Rattle.std.specs.Prelude.{IfSome, Option, find}
-use Rattle.lin_cluster_parts.specs.Cluster.{frame_of, sporadic_of, event_of}
-use Rattle.lin_cluster_parts.specs.Rules.{IsEntry}
+use Rattle.lin_parts.specs.Cluster.{frame_of, sporadic_of, event_of}
+use Rattle.lin_parts.specs.Rules.{IsEntry}
 use Rattle.lin_core.proofs.slots.ClusterFrames.{if-found, sporadic-there, event-there}
 use Rattle.lin_core.proofs.response_frames.frame_by.Goals as goal
 

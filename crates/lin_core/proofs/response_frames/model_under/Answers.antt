@@ -1,7 +1,7 @@
 use Rattle.std.proofs.Common.{◌≡◌, ◌≤◌, ◌==◌, ℕ, length, refl, ap, sym, subst, ◌∙◌}
 use Rattle.std.specs.Prelude.{Option, Some, None, find, unwrap_or}
-use Rattle.lin_cluster_parts.specs.Cluster.{frame_of, sporadic_of}
-use Rattle.lin_cluster_parts.specs.declared.parts.SignalFrame.{SignalFrame}
+use Rattle.lin_parts.specs.Cluster.{frame_of, sporadic_of}
+use Rattle.lin_parts.specs.declared.parts.SignalFrame.{SignalFrame}
 use Rattle.lin_core.specs.Slots.{member_under}
 use Rattle.lin_core.proofs.slots.ClusterFrames.{no_frame, index-past}
 use Rattle.lin_core.proofs.response_frames.model_under.Goals as goal

@@ -5,7 +5,7 @@ use Rattle.std.specs.Option.{unwrap_or}
 use Rattle.lin_frame.specs.declared.layout.Layout.{Layout}
 use Rattle.lin_frame.specs.declared.layout.Place.{Place}
 use Rattle.lin_core.specs.Signals.{ArePointwise}
-use Rattle.lin_cluster_parts.specs.Cluster.{frame_of}
+use Rattle.lin_parts.specs.Cluster.{frame_of}
 use Rattle.lin_core.proofs.slots.ClusterFrames.{FrameIs, frame-is}
 use Rattle.lin_core.proofs.slots.Hearing.{from_place, hear-none, hear-more, hear-all, no_place}
 use Rattle.lin_core.proofs.signal_frames.hear_frame.Goals as goal

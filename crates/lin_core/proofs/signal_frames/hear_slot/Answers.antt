@@ -3,7 +3,7 @@ use Rattle.std.specs.Prelude.{Option, Some, None, slice_get, option_map, take}
 use Rattle.std.specs.Option.{option_copied, unwrap_or}
 use Rattle.lin_frame.specs.Bits.{unpacked_value}
 use Rattle.lin_frame.specs.declared.value.Value.{Value}
-use Rattle.lin_cluster_parts.specs.Cluster.{frame_of, line_of}
+use Rattle.lin_parts.specs.Cluster.{frame_of, line_of}
 use Rattle.lin_core.specs.kept.Slots.{frame_by, slot_in}
 use Rattle.lin_core.specs.Signals.{place_in, value_in}
 use Rattle.lin_core.specs.declared.slot.Put.{Put}

@@ -1,5 +1,5 @@
 use Rattle.std.proofs.Common.{◌≡◌, map, take}
-use Rattle.lin_cluster_parts.specs.declared.parts.Signal.{Signal}
+use Rattle.lin_parts.specs.declared.parts.Signal.{Signal}
 use Rattle.lin_core.proofs.signals.initial_values.Given as goal
 
 abbrev pub invariant-loop-signal : goal.invariant-loop-signal

@@ -5,7 +5,7 @@ use Rattle.std.proofs.lemmas.Bool.Decides.{eqb_tells}
 use Rattle.std.proofs.lemmas.List.{append-nil}
 use Rattle.std.proofs.lemmas.Option.{slice_get_read, slice_get_within}
 use Rattle.lin_frame.specs.Words.{numbers}
-use Rattle.lin_cluster_parts.specs.Cluster.{nad}
+use Rattle.lin_parts.specs.Cluster.{nad}
 use Rattle.lin_core.specs.kept.Hosts.{told_to}
 use Rattle.lin_core.specs.kept.Receivers.{HearsToo}
 use Rattle.lin_core.specs.declared.event.Event.{Event}

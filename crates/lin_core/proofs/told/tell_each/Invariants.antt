@@ -1,6 +1,6 @@
 use Rattle.std.proofs.Common.{◌≡◌, ◌<◌, ◌≤◌, ◌+◌, ◌++◌, ℕ, List, length, true, vec_capacity}
 use Rattle.std.specs.Prelude.{Some, is_some, slice_get}
-use Rattle.lin_cluster_parts.specs.Cluster.{nad}
+use Rattle.lin_parts.specs.Cluster.{nad}
 use Rattle.lin_transport.specs.Transport.{Heard}
 use Rattle.lin_core.specs.kept.Hosts.{told_to_all}
 use Rattle.lin_core.specs.kept.Receivers.{Completes, HearsToo}

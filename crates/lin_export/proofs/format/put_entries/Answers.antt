@@ -1,7 +1,7 @@
 use Rattle.std.proofs.Common.{refl, ◌≡◌, ◌+◌, ◌∷◌, ◌++◌, [], drop, sym, ap, subst, ◌∙◌, append-nil, arith, List, ℕ, reverse}
 use Rattle.std.proofs.lemmas.List.{drop_all, take_all}
 use Rattle.lin_core.specs.declared.log.LogEntry.{LogEntry}
-use Rattle.lin_cluster_parts.specs.declared.parts.Parts.{Parts}
+use Rattle.lin_parts.specs.declared.parts.Parts.{Parts}
 use Rattle.lin_text.proofs.Growing.{grows-more, grows-nothing, same-growth}
 use Rattle.lin_export.proofs.Puttings.{puts-all, puts-some}
 use Rattle.lin_export.proofs.Times.{early}

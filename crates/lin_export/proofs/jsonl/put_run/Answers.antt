@@ -1,6 +1,6 @@
 use Rattle.std.proofs.Common.{◌∷◌, [], codes, map}
 use Rattle.std.specs.Fmt.{decimal}
-use Rattle.lin_cluster_parts.specs.Cluster.{named_table, nodes}
+use Rattle.lin_parts.specs.Cluster.{named_table, nodes}
 use Rattle.lin_frame.specs.Words.{numbers}
 use Rattle.lin_text.proofs.Growing.{grows-more}
 use Rattle.lin_export.specs.Json.{array, member, quoted}

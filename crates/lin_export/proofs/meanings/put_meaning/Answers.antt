@@ -1,7 +1,7 @@
 use Rattle.std.proofs.Common.{◌==◌, ◌++◌, ◌∷◌, [], ℕ, List, ap, flat_map, if◌then◌else◌}
 use Rattle.std.specs.Prelude.{Option}
 use Rattle.std.specs.Option.{option_map_or}
-use Rattle.lin_cluster_parts.specs.Cluster.{signal_of}
+use Rattle.lin_parts.specs.Cluster.{signal_of}
 use Rattle.lin_log.proofs.Ends.{grows-last}
 use Rattle.lin_text.proofs.Growing.{grows-more, same-growth}
 use Rattle.lin_values.specs.Meant.{Meant}

@@ -1,6 +1,6 @@
 use Rattle.std.proofs.Common.{◌∷◌, [], flat_map, ap, codes}
 use Rattle.std.specs.Prelude.{zip}
-use Rattle.lin_cluster_parts.specs.Cluster.{frame_name, frame_of}
+use Rattle.lin_parts.specs.Cluster.{frame_name, frame_of}
 use Rattle.lin_text.proofs.Growing.{grows-more, same-growth}
 use Rattle.lin_export.specs.Named.{signal_words}
 use Rattle.lin_export.proofs.Lines.{ended-both}

@@ -4,7 +4,7 @@ use Rattle.std.proofs.lemmas.List.{take_all}
 use Rattle.lin_frame.specs.Bits.{unpacked_value}
 use Rattle.lin_frame.specs.declared.layout.Layout.{Layout}
 use Rattle.lin_frame.specs.declared.layout.Place.{Place}
-use Rattle.lin_cluster_parts.specs.Cluster.{frame_of, signal_of}
+use Rattle.lin_parts.specs.Cluster.{frame_of, signal_of}
 use Rattle.lin_core.proofs.slots.ClusterFrames.{FrameIs, frame-is}
 use Rattle.lin_core.proofs.slots.Hearing.{no_place, unpacked-same}
 use Rattle.lin_log.specs.Words.{spaced_word, value_word}

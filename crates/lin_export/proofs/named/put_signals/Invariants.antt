@@ -1,6 +1,6 @@
 use Rattle.std.proofs.Common.{take, flat_map}
 use Rattle.std.specs.Prelude.{zip}
-use Rattle.lin_cluster_parts.specs.Cluster.{frame_of}
+use Rattle.lin_parts.specs.Cluster.{frame_of}
 use Rattle.lin_log.specs.Words.{spaced_word}
 use Rattle.lin_text.specs.Written.{Grows}
 use Rattle.lin_export.specs.Named.{signal_words}

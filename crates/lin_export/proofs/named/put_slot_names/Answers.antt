@@ -1,5 +1,5 @@
 use Rattle.std.proofs.Common.{append-nil}
-use Rattle.lin_cluster_parts.specs.Cluster.{entry_name, line_of}
+use Rattle.lin_parts.specs.Cluster.{entry_name, line_of}
 use Rattle.lin_log.specs.Words.{spaced_word}
 use Rattle.lin_text.proofs.Growing.{grows-more, same-growth}
 use Rattle.lin_export.proofs.named.put_slot_names.Goals as goal

@@ -1,5 +1,5 @@
 use Rattle.std.proofs.Common.{sym}
-use Rattle.lin_cluster_parts.specs.Cluster.{sporadic_of}
+use Rattle.lin_parts.specs.Cluster.{sporadic_of}
 use Rattle.lin_export.proofs.Rows.{find-nothing}
 use Rattle.lin_export.proofs.named.sporadic_frame.Goals as goal
 

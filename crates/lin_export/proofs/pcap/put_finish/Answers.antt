@@ -1,5 +1,5 @@
 use Rattle.std.proofs.Common.{◌+◌, sym, ap, ◌∙◌}
-use Rattle.lin_cluster_parts.specs.declared.parts.Line.{Line}
+use Rattle.lin_parts.specs.declared.parts.Line.{Line}
 use Rattle.lin_text.proofs.Growing.{grows-more, same-growth}
 use Rattle.lin_export.specs.Open.{slot_in}
 use Rattle.lin_export.proofs.Rows.{finish-asleep}

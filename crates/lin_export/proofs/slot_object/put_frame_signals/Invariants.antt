@@ -1,6 +1,6 @@
 use Rattle.std.proofs.Common.{take, map}
 use Rattle.std.specs.Prelude.{zip}
-use Rattle.lin_cluster_parts.specs.Cluster.{frame_of}
+use Rattle.lin_parts.specs.Cluster.{frame_of}
 use Rattle.lin_text.specs.Written.{Grows}
 use Rattle.lin_export.specs.Json.{joined}
 use Rattle.lin_export.specs.Jsonl.{signal_member}

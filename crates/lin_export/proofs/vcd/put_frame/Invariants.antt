@@ -1,6 +1,6 @@
 use Rattle.std.proofs.Common.{take, flat_map}
 use Rattle.std.specs.Prelude.{zip}
-use Rattle.lin_cluster_parts.specs.Cluster.{frame_of}
+use Rattle.lin_parts.specs.Cluster.{frame_of}
 use Rattle.lin_text.specs.Written.{Grows}
 use Rattle.lin_export.specs.Vcd.{place_change}
 use Rattle.lin_export.proofs.vcd.put_frame.Given as goal

@@ -2,7 +2,7 @@ use Rattle.std.proofs.Common.{◌≡◌, ℕ, List, length, take, ◌++◌, sym,
 use Rattle.std.specs.Prelude.{All}
 use Rattle.std.specs.List.{flat_map}
 use Rattle.std.proofs.Math.Seq.{take-append_seam}
-use Rattle.lin_description.specs.declared.description.Attributes.{Attributes}
+use Rattle.lin_parts.specs.declared.description.Attributes.{Attributes}
 use Rattle.lin_field.specs.Names.{is_node}
 use Rattle.lin_field.specs.Attributes.{draft_nad_warnings, draft_warnings, drafts, line_warnings, responder_nads, settled_draft}
 use Rattle.lin_field.specs.declared.loose.LooseNodes.{LooseNodes}

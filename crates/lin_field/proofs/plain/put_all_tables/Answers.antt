@@ -1,7 +1,7 @@
 use Rattle.std.proofs.Common.{List, ℕ, ap, map, arith}
 use Rattle.std.specs.Prelude.{zip}
 use Rattle.std.proofs.lemmas.List.{take_all}
-use Rattle.lin_description.specs.declared.description.Table.{Table}
+use Rattle.lin_parts.specs.declared.description.Table.{Table}
 use Rattle.lin_text.proofs.Growing.{same-growth}
 use Rattle.lin_field.specs.Plain.{table_text_by, with_parts}
 use Rattle.lin_field.proofs.PlainWords.{grows-part, pair-at, zip-long}

@@ -1,6 +1,6 @@
 use Rattle.std.proofs.Common.{List, ℕ, map, take}
 use Rattle.std.specs.Prelude.{zip}
-use Rattle.lin_description.specs.declared.description.Table.{Table}
+use Rattle.lin_parts.specs.declared.description.Table.{Table}
 use Rattle.lin_text.specs.Written.{Grows}
 use Rattle.lin_field.specs.Plain.{table_text_by, with_parts}
 use Rattle.lin_field.proofs.plain.put_all_tables.Given as goal

@@ -1,5 +1,5 @@
 use Rattle.std.proofs.Common.{List, ap, ◌∙◌}
-use Rattle.lin_description.specs.declared.description.Table.{Table}
+use Rattle.lin_parts.specs.declared.description.Table.{Table}
 use Rattle.lin_field.proofs.settling.with_tables.Goals as goal
 
 pub returns-clause-tables : goal.returns-clause-tables

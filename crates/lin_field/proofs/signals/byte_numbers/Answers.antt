@@ -1,7 +1,7 @@
 use Rattle.std.proofs.Common.{◌≡◌, ℕ, suc, ◌+◌, ◌-◌, ◌/◌, ◌%◌, List, [], ◌∷◌, ◌++◌, sym, ap, ◌∙◌, arith, append_assoc}
 use Rattle.lin_field.specs.Signals.{bytes_from, with_value}
 use Rattle.lin_field.proofs.signals.byte_numbers.Goals as goal
-use Rattle.lin_description.specs.declared.description.Number.{Number}
+use Rattle.lin_parts.specs.declared.description.Number.{Number}
 
 byte_more : (n : Number) (value before after : ℕ) (made more all : List Number) → before ≡ suc after → made ++ bytes_from n value before ≡ all → more ≡ made ++ with_value n (value % 256) ∷ [] → more ++ bytes_from n (value / 256) after ≡ all
 byte_more n value before after made more all one so is =

@@ -1,5 +1,5 @@
 use Rattle.std.proofs.Common.{ap, sym, ◌∙◌, append-nil}
-use Rattle.lin_description.specs.declared.description.Description.{Description}
+use Rattle.lin_parts.specs.declared.description.Description.{Description}
 use Rattle.lin_field.specs.Times.{is_timed, member_tables, timed_tables}
 use Rattle.lin_field.proofs.Untimed.{untimed-tables, untimed-warnings}
 use Rattle.lin_field.proofs.times.all_tables.Goals as goal

@@ -1,7 +1,7 @@
 use Rattle.std.proofs.Common.{◌∷◌, [], map, List, ℕ, codes}
 use Rattle.std.specs.Fmt.{decimal}
 use Rattle.hex.specs.Hex.{encode_upper}
-use Rattle.lin_cluster_parts.specs.Cluster.{event_name, event_of, frame_name, named_table}
+use Rattle.lin_parts.specs.Cluster.{event_name, event_of, frame_name, named_table}
 use Rattle.lin_text.proofs.Growing.{grows-more, same-growth}
 use Rattle.lin_listing.specs.Frames.{identifier_word}
 use Rattle.lin_listing.proofs.Lines.{head-and-members}

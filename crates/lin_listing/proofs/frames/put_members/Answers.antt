@@ -1,7 +1,7 @@
 use Rattle.std.proofs.Common.{sym, ap, ◌∙◌, ◌++◌, map, take, flat_map, arith}
 use Rattle.std.proofs.lemmas.List.{take_all}
 use Rattle.lin_log.specs.Words.{line_tail, spaced_word}
-use Rattle.lin_cluster_parts.specs.Cluster.{frame_name}
+use Rattle.lin_parts.specs.Cluster.{frame_name}
 use Rattle.lin_text.proofs.Growing.{grows-more, same-growth}
 use Rattle.lin_log.proofs.Ends.{ended, mapped-more}
 use Rattle.lin_listing.proofs.frames.put_members.Goals as goal

@@ -1,6 +1,6 @@
 use Rattle.std.proofs.Common.{take, flat_map, map}
 use Rattle.lin_log.specs.Words.{spaced_word}
-use Rattle.lin_cluster_parts.specs.Cluster.{frame_name}
+use Rattle.lin_parts.specs.Cluster.{frame_name}
 use Rattle.lin_text.specs.Written.{Grows}
 use Rattle.lin_listing.proofs.frames.put_members.Given as goal
 

@@ -1,5 +1,5 @@
 use Rattle.std.proofs.Common.{flat_map, take}
-use Rattle.lin_cluster_parts.specs.Cluster.{frame_of}
+use Rattle.lin_parts.specs.Cluster.{frame_of}
 use Rattle.lin_text.specs.Written.{Grows}
 use Rattle.lin_listing.specs.Frames.{place_line, places}
 use Rattle.lin_listing.proofs.frames.put_places.Given as goal

@@ -1,6 +1,6 @@
 use Rattle.std.proofs.Common.{◌∷◌, [], map, List, ℕ, codes}
 use Rattle.std.specs.Fmt.{decimal}
-use Rattle.lin_cluster_parts.specs.Cluster.{frame_name, sporadic_name, sporadic_of}
+use Rattle.lin_parts.specs.Cluster.{frame_name, sporadic_name, sporadic_of}
 use Rattle.lin_text.proofs.Growing.{grows-more, same-growth}
 use Rattle.lin_listing.proofs.Lines.{head-and-members}
 use Rattle.lin_listing.proofs.frames.put_sporadic.Goals as goal

@@ -1,6 +1,6 @@
 use Rattle.std.proofs.Common.{◌∷◌, [], ◌++◌, List, ℕ, codes, flat_map, rules}
 use Rattle.std.specs.Fmt.{decimal}
-use Rattle.lin_cluster_parts.specs.Cluster.{signal_of}
+use Rattle.lin_parts.specs.Cluster.{signal_of}
 use Rattle.lin_log.specs.Words.{spaced_word, value_word}
 use Rattle.lin_log.proofs.Ends.{grows-ended}
 use Rattle.lin_text.proofs.Growing.{grows-more, same-growth}

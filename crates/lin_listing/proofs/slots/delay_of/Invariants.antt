@@ -1,7 +1,7 @@
 use Rattle.std.proofs.Common.{◌≡◌, ◌≤◌, ◌*◌, take}
 use Rattle.std.specs.Prelude.{sum_by}
-use Rattle.lin_cluster_parts.specs.Cluster.{table_of}
-use Rattle.lin_cluster_parts.specs.declared.parts.Line.{Line}
+use Rattle.lin_parts.specs.Cluster.{table_of}
+use Rattle.lin_parts.specs.declared.parts.Line.{Line}
 use Rattle.lin_listing.proofs.slots.delay_of.Given as goal
 
 abbrev pub invariant-loop-entry : goal.invariant-loop-entry

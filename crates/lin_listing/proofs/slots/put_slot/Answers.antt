@@ -1,6 +1,6 @@
 use Rattle.std.proofs.Common.{◌∷◌, [], ◌++◌, List, ℕ, codes, flat_map, rules}
 use Rattle.std.specs.Fmt.{decimal}
-use Rattle.lin_cluster_parts.specs.Cluster.{entry_kind, entry_name, line_of}
+use Rattle.lin_parts.specs.Cluster.{entry_kind, entry_name, line_of}
 use Rattle.lin_cluster.specs.SlotTimes.{slot_bytes, slot_need}
 use Rattle.lin_log.specs.Words.{spaced_word}
 use Rattle.lin_text.proofs.Growing.{grows-more, same-growth}

@@ -1,5 +1,5 @@
 use Rattle.std.proofs.Common.{◌≡◌, ◌==◌, true, length, sym, ap, ◌∙◌, List, ℕ}
-use Rattle.lin_cluster_parts.specs.Cluster.{frames_with}
+use Rattle.lin_parts.specs.Cluster.{frames_with}
 use Rattle.lin_text.proofs.Growing.{grows-more}
 use Rattle.lin_page.proofs.data.put_alone.Goals as goal
 

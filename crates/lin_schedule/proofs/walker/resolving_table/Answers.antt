@@ -1,5 +1,5 @@
 use Rattle.std.proofs.Common.{subst}
-use Rattle.lin_cluster_parts.specs.Rules.{IsEntry}
+use Rattle.lin_parts.specs.Rules.{IsEntry}
 use Rattle.lin_schedule.proofs.walker.resolving_table.Goals as goal
 
 pub event_table-requires : goal.event_table-requires

@@ -1,5 +1,5 @@
 use Rattle.std.proofs.Common.{◌<◌, [], length, ap, arith}
-use Rattle.lin_cluster_parts.specs.declared.parts.Signal.{Signal}
+use Rattle.lin_parts.specs.declared.parts.Signal.{Signal}
 use Rattle.lin_frame.specs.declared.value.Value.TheVariants.{Scalar}
 use Rattle.std.specs.Str.{bytes_eq}
 use Rattle.lin_values.proofs.NamedLines.{found-more}

@@ -1,5 +1,5 @@
 use Rattle.std.proofs.Common.{List, [], ◌++◌, append-nil, subst, sym}
-use Rattle.lin_description.specs.declared.description.Name.{Name}
+use Rattle.lin_parts.specs.declared.description.Name.{Name}
 use Rattle.lin_values.proofs.NamedLines.{named-step, names-all}
 use Rattle.lin_values.specs.Gathered.{AreNamed}
 use Rattle.lin_values.proofs.unused.add_line.Goals as goal

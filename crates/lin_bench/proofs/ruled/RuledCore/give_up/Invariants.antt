@@ -1,7 +1,7 @@
 use Rattle.std.proofs.Common.{◌≡◌, ◌++◌, map, flat_map, is_some}
 use Rattle.std.specs.Prelude.{filter}
 use Rattle.lin_frame.specs.Words.{numbers}
-use Rattle.lin_cluster_parts.specs.Cluster.{nad}
+use Rattle.lin_parts.specs.Cluster.{nad}
 use Rattle.lin_core.specs.Core.{past_of}
 use Rattle.lin_bench.specs.Added.{is_given_up, links_at, timeout_of}
 use Rattle.lin_bench.proofs.ruled.RuledCore.give_up.Given as goal

@@ -1,6 +1,6 @@
 use Rattle.std.proofs.Common.{◌+◌, ◌<◌, get_or, length, subst, Vec, Global, [], arith, ap, sym, ◌∙◌, ◌++◌, append-nil}
 use Rattle.std.specs.List.{cons_option}
-use Rattle.lin_cluster_parts.specs.declared.parts.ErrorSignal.{ErrorSignal}
+use Rattle.lin_parts.specs.declared.parts.ErrorSignal.{ErrorSignal}
 use Rattle.lin_cluster.specs.Described.{error_signal}
 use Rattle.lin_cluster.proofs.DescribedErrors.{kept_pushed}
 use Rattle.lin_cluster.proofs.described.errors.error_signals.Goals as goal

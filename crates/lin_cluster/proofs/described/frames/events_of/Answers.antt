@@ -1,5 +1,5 @@
 use Rattle.std.proofs.Common.{◌≤◌, length, arith}
-use Rattle.lin_description.specs.declared.description.EventFrame.{EventFrame}
+use Rattle.lin_parts.specs.declared.description.EventFrame.{EventFrame}
 use Rattle.lin_cluster.specs.Described.{described_event}
 use Rattle.lin_cluster.proofs.Enumerated.{both-pushed}
 use Rattle.lin_cluster.proofs.described.frames.events_of.Goals as goal

@@ -1,6 +1,6 @@
 use Rattle.std.proofs.Common.{◌≡◌, ◌≤◌, length, map, take}
 use Rattle.std.specs.Prelude.{All}
-use Rattle.lin_description.specs.declared.description.EventFrame.{EventFrame}
+use Rattle.lin_parts.specs.declared.description.EventFrame.{EventFrame}
 use Rattle.lin_cluster.specs.Described.{described_event}
 use Rattle.lin_cluster.proofs.described.frames.events_of.Given as goal
 

@@ -1,7 +1,7 @@
 use Rattle.std.proofs.Common.{ap, ◌∙◌, ◌++◌, ◌∷◌, [], map}
 use Rattle.std.proofs.lemmas.List.{take_all}
 use Rattle.lin_cluster.specs.Described.{signal_number}
-use Rattle.lin_description.specs.declared.description.PlacedSignal.{PlacedSignal}
+use Rattle.lin_parts.specs.declared.description.PlacedSignal.{PlacedSignal}
 use Rattle.lin_cluster.proofs.FindingsLists.{made_step}
 use Rattle.lin_cluster.proofs.described.frames.signals_in.Goals as goal
 

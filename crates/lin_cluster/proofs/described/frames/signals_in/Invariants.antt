@@ -1,5 +1,5 @@
 use Rattle.std.proofs.Common.{◌≡◌, map, take}
-use Rattle.lin_description.specs.declared.description.PlacedSignal.{PlacedSignal}
+use Rattle.lin_parts.specs.declared.description.PlacedSignal.{PlacedSignal}
 use Rattle.lin_cluster.specs.Described.{signal_number}
 use Rattle.lin_cluster.proofs.described.frames.signals_in.Given as goal
 

@@ -1,5 +1,5 @@
 use Rattle.std.proofs.Common.{◌≤◌, length, arith}
-use Rattle.lin_description.specs.declared.description.Sporadic.{Sporadic}
+use Rattle.lin_parts.specs.declared.description.Sporadic.{Sporadic}
 use Rattle.lin_cluster.specs.Described.{described_sporadic}
 use Rattle.lin_cluster.proofs.Enumerated.{both-pushed}
 use Rattle.lin_cluster.proofs.described.frames.sporadic_frames_of.Goals as goal

@@ -1,6 +1,6 @@
 use Rattle.std.proofs.Common.{◌≡◌, ◌≤◌, length, map, take}
 use Rattle.std.specs.Prelude.{All}
-use Rattle.lin_description.specs.declared.description.Sporadic.{Sporadic}
+use Rattle.lin_parts.specs.declared.description.Sporadic.{Sporadic}
 use Rattle.lin_cluster.specs.Described.{described_sporadic}
 use Rattle.lin_cluster.proofs.described.frames.sporadic_frames_of.Given as goal
 

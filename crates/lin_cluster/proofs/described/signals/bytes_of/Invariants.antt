@@ -1,5 +1,5 @@
 use Rattle.std.proofs.Common.{◌≡◌, map, take}
-use Rattle.lin_description.specs.declared.description.Number.{Number}
+use Rattle.lin_parts.specs.declared.description.Number.{Number}
 use Rattle.lin_cluster.proofs.described.signals.bytes_of.Given as goal
 
 abbrev pub invariant-loop-item : goal.invariant-loop-item

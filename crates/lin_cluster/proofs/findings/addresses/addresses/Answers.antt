@@ -1,5 +1,5 @@
 use Rattle.std.proofs.Common.{Vec, Global, ap, sym, ◌∙◌, ◌++◌, [], append-nil}
-use Rattle.lin_description.specs.declared.description.Number.{Number}
+use Rattle.lin_parts.specs.declared.description.Number.{Number}
 use Rattle.std.specs.List.{cons_option}
 use Rattle.lin_cluster.specs.Addresses.{address}
 use Rattle.lin_cluster.proofs.FindingsLists.{kept_step}

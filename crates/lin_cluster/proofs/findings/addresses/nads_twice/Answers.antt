@@ -4,7 +4,7 @@ use Rattle.std.specs.List.{flat_map}
 use Rattle.indexmap.specs.IndexSet.{contains}
 use Rattle.lin_cluster.specs.Addresses.{nad_twice}
 use Rattle.lin_cluster.specs.FindingsNames.{when, at_number}
-use Rattle.lin_description.specs.declared.description.Number.{Number}
+use Rattle.lin_parts.specs.declared.description.Number.{Number}
 use Rattle.lin_cluster.proofs.FindingsLists.{each_step, each_all}
 use Rattle.lin_cluster.proofs.FindingsMaps.{seen_more, or_by}
 use Rattle.lin_cluster.specs.declared.finding.FindingKind.TheVariants.{NadTwice}

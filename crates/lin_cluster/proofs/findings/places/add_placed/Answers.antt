@@ -10,5 +10,5 @@ use Rattle.lin_cluster.proofs.findings.places.add_placed.Goals as goal
 pub returns-clause-found : goal.returns-clause-found
 returns-clause-found c = on_ok_weaker c.add_bits.result (λ _ taken is.
     c.in_ok-overlap.ensures taken (λ some size. subst (λ b. (taken size ≡ true) ↔ IsTaken b c.args.earlier.now.ranges c.args.placed.now size) (sym c.in_ok-twice.ensures.twice) (is some size))
-    ∙ ap (λ fs. fs ++ when (option_map_or (λ s. taken s.size) c.args.signal false) (at_number SignalsOverlap c.args.placed.now.offset)) c.in_ok-find_placed.ensures)
+    ∙ ap (λ fs. fs ++ when (option_map_or (λ s. taken s.size) c.args.known.1 false) (at_number SignalsOverlap c.args.placed.now.offset)) c.in_ok-find_placed.ensures)
     c.add_bits.ensures.apart

@@ -4,8 +4,8 @@ use Rattle.std.specs.List.{list_any}
 use Rattle.lin_cluster.specs.LintNames.{has_text, is_among}
 use Rattle.lin_cluster.proofs.LintSets.{two_added}
 use Rattle.lin_cluster.proofs.lints.uses.listed.Goals as goal
-use Rattle.lin_description.specs.declared.description.EventFrame.{EventFrame}
-use Rattle.lin_description.specs.declared.description.Sporadic.{Sporadic}
+use Rattle.lin_parts.specs.declared.description.EventFrame.{EventFrame}
+use Rattle.lin_parts.specs.declared.description.Sporadic.{Sporadic}
 
 pub returns : goal.returns
 returns c = λ q.

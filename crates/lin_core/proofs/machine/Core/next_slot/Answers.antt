@@ -1,6 +1,6 @@
 use Rattle.std.proofs.Common.{◌≡◌, List, ap, refl, ◌∙◌, subst, sym}
 use Rattle.std.specs.Prelude.{Bool, Option, None, Some, false, is_some, not, ◌||◌}
-use Rattle.lin_cluster_parts.specs.Cluster.{line_of}
+use Rattle.lin_parts.specs.Cluster.{line_of}
 use Rattle.lin_schedule.specs.Due.{due_for}
 use Rattle.lin_core.specs.Core.{CoreData, past_of}
 use Rattle.lin_core.specs.Next.{next_slot}

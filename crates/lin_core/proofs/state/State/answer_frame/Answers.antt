@@ -3,7 +3,7 @@ use Rattle.std.specs.Prelude.{Option, Some, None, is_some, vec_capacity}
 use Rattle.std.specs.Option.{option_map_or}
 use Rattle.lin_frame.specs.Frame.{answer_of}
 use Rattle.lin_frame.specs.declared.sums.SumKind.{SumKind}
-use Rattle.lin_cluster_parts.specs.Cluster.{line_of}
+use Rattle.lin_parts.specs.Cluster.{line_of}
 use Rattle.lin_core.specs.kept.Slots.{frame_by, frame_model}
 use Rattle.lin_core.specs.History.{open_slot}
 use Rattle.lin_core.specs.Signals.{ArePointwise, signal_bytes, value}

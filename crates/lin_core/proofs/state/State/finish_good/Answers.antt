@@ -2,7 +2,7 @@ use Rattle.std.proofs.Common.{refl, ◌≡◌, ℕ, suc, length, List, [], ◌�
 use Rattle.std.specs.List.{list_any}
 use Rattle.std.specs.Prelude.{Some, false, is_some, map, option_map, slice_set, take, true}
 use Rattle.std.proofs.Math.ListN.{length-set}
-use Rattle.lin_cluster_parts.specs.Cluster.{nodes}
+use Rattle.lin_parts.specs.Cluster.{nodes}
 use Rattle.lin_core.specs.History.{seen_of}
 use Rattle.lin_core.specs.kept.Hosts.{host_after_frame, host_after_settling, is_next_to_all, message_at, message_of}
 use Rattle.lin_core.specs.kept.Slots.{slot_in, IsCarried}

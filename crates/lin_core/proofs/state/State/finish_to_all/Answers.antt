@@ -1,7 +1,7 @@
 use Rattle.std.proofs.Common.{refl, ◌≡◌, ℕ, suc, length, List, [], ◌∷◌, ◌++◌, sym, ◌∙◌, arith, rules, false}
 use Rattle.std.specs.Prelude.{slice_set}
 use Rattle.std.proofs.Math.ListN.{length-set}
-use Rattle.lin_cluster_parts.specs.Cluster.{nodes}
+use Rattle.lin_parts.specs.Cluster.{nodes}
 use Rattle.lin_core.specs.History.{seen_of}
 use Rattle.lin_core.specs.kept.Bus.{KeepsBus}
 use Rattle.lin_core.specs.kept.Hosts.{host_after_settling, told_to_all}

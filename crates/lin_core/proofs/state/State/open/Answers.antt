@@ -1,6 +1,6 @@
 use Rattle.std.proofs.Common.{refl, ◌≡◌, List, ◌∷◌, ap, sym, ◌∙◌, subst}
 use Rattle.std.specs.Prelude.{not, Bool, ◌||◌, filter}
-use Rattle.lin_cluster_parts.specs.Cluster.{line_of, nodes}
+use Rattle.lin_parts.specs.Cluster.{line_of, nodes}
 use Rattle.lin_frame.specs.Words.{numbers}
 use Rattle.lin_schedule.specs.Due.{due_for}
 use Rattle.lin_core.specs.kept.Slots.{HasDue, is_due_of, opening_slot_kept}

@@ -1,7 +1,7 @@
 use Rattle.std.proofs.Common.{◌≡◌, ◌∷◌, ◌∙◌, sym, arith}
 use Rattle.std.specs.Prelude.{List, Some, slice_get, slice_set}
 use Rattle.std.proofs.lemmas.Option.{slice_get_read}
-use Rattle.lin_cluster_parts.specs.Cluster.{nodes}
+use Rattle.lin_parts.specs.Cluster.{nodes}
 use Rattle.lin_core.specs.kept.Receivers.{KeepsHeard}
 use Rattle.lin_core.proofs.kept.Receiving.{timeout-heard}
 use Rattle.lin_core.specs.Replies.{all_reports, quiet_entry}

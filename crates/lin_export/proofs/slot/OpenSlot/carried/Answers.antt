@@ -1,10 +1,10 @@
 use Rattle.std.proofs.Common.{◌≡◌, ◌==◌, ◌<◌, ℕ, List, length, subst, sym, ap, ◌∙◌}
 use Rattle.std.specs.Prelude.{Bool, IfSome, Option, find}
 use Rattle.std.specs.List.{list_any}
-use Rattle.lin_cluster_parts.specs.Cluster.{frame_of, line_of, sporadic_of, event_of}
-use Rattle.lin_cluster_parts.specs.Rules.{IsEntry}
-use Rattle.lin_cluster_parts.specs.declared.parts.Entry.TheVariants.{Sporadic, Event}
-use Rattle.lin_cluster_parts.specs.declared.parts.Line.{Line}
+use Rattle.lin_parts.specs.Cluster.{frame_of, line_of, sporadic_of, event_of}
+use Rattle.lin_parts.specs.Rules.{IsEntry}
+use Rattle.lin_parts.specs.declared.parts.Entry.TheVariants.{Sporadic, Event}
+use Rattle.lin_parts.specs.declared.parts.Line.{Line}
 use Rattle.lin_core.proofs.slots.ClusterFrames.{if-found, sporadic-there, event-there}
 use Rattle.lin_export.proofs.Rows.{find-nothing}
 use Rattle.lin_export.proofs.slot.OpenSlot.carried.Goals as goal

@@ -1,5 +1,5 @@
 use Rattle.std.proofs.Common.{◌∙◌, List, ap, map}
-use Rattle.lin_description.specs.declared.description.Attributes.{Attributes}
+use Rattle.lin_parts.specs.declared.description.Attributes.{Attributes}
 use Rattle.lin_ldf.specs.declared.token.Token.{Token}
 use Rattle.lin_text.proofs.Growing.{grows-more, same-growth}
 use Rattle.lin_field.specs.Plain.{blocks_text, tables_part}

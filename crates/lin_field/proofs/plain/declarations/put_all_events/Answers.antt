@@ -1,7 +1,7 @@
 use Rattle.std.proofs.Common.{List, ℕ, ap, flat_map, arith}
 use Rattle.std.specs.Prelude.{zip}
 use Rattle.std.proofs.lemmas.List.{take_all}
-use Rattle.lin_description.specs.declared.description.EventFrame.{EventFrame}
+use Rattle.lin_parts.specs.declared.description.EventFrame.{EventFrame}
 use Rattle.lin_text.proofs.Growing.{grows-next, same-growth}
 use Rattle.lin_field.specs.Plain.{event_text_by}
 use Rattle.lin_field.proofs.PlainWords.{pair-at, zip-long}

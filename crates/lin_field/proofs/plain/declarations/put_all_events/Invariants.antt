@@ -1,6 +1,6 @@
 use Rattle.std.proofs.Common.{List, ℕ, flat_map, take}
 use Rattle.std.specs.Prelude.{zip}
-use Rattle.lin_description.specs.declared.description.EventFrame.{EventFrame}
+use Rattle.lin_parts.specs.declared.description.EventFrame.{EventFrame}
 use Rattle.lin_text.specs.Written.{Grows}
 use Rattle.lin_field.specs.Plain.{event_text_by}
 use Rattle.lin_field.proofs.plain.declarations.put_all_events.Given as goal

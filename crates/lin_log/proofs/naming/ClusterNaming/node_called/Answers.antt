@@ -2,7 +2,7 @@ use Rattle.std.proofs.Common.{rules, tests, ℕ, Bool, arith}
 use Rattle.std.specs.Str.{bytes_eq}
 use Rattle.std.proofs.lemmas.Iterator.{YieldsList-from_range}
 use Rattle.std.proofs.lemmas.Iterator.Search.{find_from_yields_List}
-use Rattle.lin_cluster_parts.specs.Cluster.{nodes, node_of}
+use Rattle.lin_parts.specs.Cluster.{nodes, node_of}
 use Rattle.lin_log.proofs.Found.{found-number}
 use Rattle.lin_log.proofs.naming.ClusterNaming.node_called.Goals as goal
 

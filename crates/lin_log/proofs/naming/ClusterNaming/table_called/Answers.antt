@@ -2,7 +2,7 @@ use Rattle.std.proofs.Common.{rules, tests, ℕ, Bool, length, arith}
 use Rattle.std.specs.Str.{bytes_eq}
 use Rattle.std.proofs.lemmas.Iterator.{YieldsList-from_range}
 use Rattle.std.proofs.lemmas.Iterator.Search.{find_from_yields_List}
-use Rattle.lin_cluster_parts.specs.Cluster.{named_table}
+use Rattle.lin_parts.specs.Cluster.{named_table}
 use Rattle.lin_log.proofs.Found.{found-number}
 use Rattle.lin_log.proofs.naming.ClusterNaming.table_called.Goals as goal
 

@@ -1,6 +1,6 @@
 use Rattle.std.proofs.Common.{◌≡◌, ◌∙◌, ap, subst, sym, suc, None}
 use Rattle.std.specs.Prelude.{length, nat_lt, unwrap_or, if◌then◌else◌}
-use Rattle.lin_cluster_parts.specs.Cluster.{table_of}
+use Rattle.lin_parts.specs.Cluster.{table_of}
 use Rattle.lin_schedule.specs.Schedule.{resolving}
 use Rattle.lin_schedule.specs.Walker.{Walks}
 use Rattle.lin_schedule.proofs.Clusters.{cluster-AreWalkable}

@@ -1,5 +1,5 @@
 use Rattle.std.proofs.Common.{◌≡◌, ap, ◌∙◌, arith, length}
-use Rattle.lin_cluster_parts.specs.Cluster.{nodes}
+use Rattle.lin_parts.specs.Cluster.{nodes}
 use Rattle.lin_threads.proofs.WireLemmas.{new_serve, new_order, own_none}
 use Rattle.lin_threads.proofs.ports.wiring.wire.Goals as goal
 

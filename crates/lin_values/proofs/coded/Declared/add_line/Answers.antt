@@ -1,7 +1,7 @@
 use Rattle.std.proofs.Common.{List, [], ◌++◌, append-nil, ap, subst, sym, ◌∙◌}
 use Rattle.std.specs.Str.{bytes_eq}
 use Rattle.indexmap.specs.IndexMap.{get_by}
-use Rattle.lin_description.specs.declared.description.Name.{Name}
+use Rattle.lin_parts.specs.declared.description.Name.{Name}
 use Rattle.lin_values.proofs.NamedLines.{line-warned, named-step, names-all, warned-step}
 use Rattle.lin_values.specs.Gathered.{lines_of, AreNamed}
 use Rattle.lin_values.specs.Warnings.{line_warnings, name_warnings, told_by}

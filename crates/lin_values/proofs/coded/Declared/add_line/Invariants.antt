@@ -1,5 +1,5 @@
 use Rattle.std.proofs.Common.{◌≡◌, List, [], ◌++◌, take}
-use Rattle.lin_description.specs.declared.description.Name.{Name}
+use Rattle.lin_parts.specs.declared.description.Name.{Name}
 use Rattle.lin_values.specs.Gathered.{lines_of, names_of, AreNamed}
 use Rattle.lin_values.specs.Warnings.{line_warnings, name_warnings, told_by}
 use Rattle.lin_values.proofs.coded.Declared.add_line.Given as goal

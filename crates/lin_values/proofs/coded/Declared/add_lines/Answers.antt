@@ -1,6 +1,6 @@
 use Rattle.std.proofs.Common.{List, take, subst, sym}
 use Rattle.std.proofs.lemmas.List.{take_all}
-use Rattle.lin_description.specs.declared.description.Name.{Name}
+use Rattle.lin_parts.specs.declared.description.Name.{Name}
 use Rattle.lin_values.proofs.NamedLines.{line-step, names-more}
 use Rattle.lin_values.specs.Coded.{named_in}
 use Rattle.lin_values.specs.Gathered.{AreNamed}

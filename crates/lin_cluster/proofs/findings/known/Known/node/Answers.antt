@@ -4,7 +4,7 @@ use Rattle.std.specs.Str.{bytes_eq}
 use Rattle.lin_cluster.specs.FindingsNames.{same_name}
 use Rattle.lin_cluster.proofs.FindingsNodes.{responder-numbered, no-node}
 use Rattle.lin_cluster.proofs.findings.known.Known.node.Goals as goal
-use Rattle.lin_description.specs.declared.description.Name.{Name}
+use Rattle.lin_parts.specs.declared.description.Name.{Name}
 
 pub returns-then-number-slaves : goal.returns-then-number-slaves
 returns-then-number-slaves c =

@@ -1,5 +1,5 @@
 use Rattle.std.proofs.Common.{refl}
-use Rattle.lin_cluster_parts.specs.Cluster.{nodes}
+use Rattle.lin_parts.specs.Cluster.{nodes}
 use Rattle.lin_threads.proofs.LaneLemmas.{bus_serves, bus_longer, bus_own, bus_alike, bus_prefix}
 use Rattle.lin_threads.proofs.SettleLemmas.{bus_settled}
 use Rattle.lin_threads.proofs.ports.pump.Pump.own.Goals as goal

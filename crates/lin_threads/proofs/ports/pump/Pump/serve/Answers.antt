@@ -1,6 +1,6 @@
 use Rattle.std.proofs.Common.{inr, refl, sym, ◌∙◌, subst}
 use Rattle.lin_core.specs.declared.port.PortId.{PortId}
-use Rattle.lin_cluster_parts.specs.Cluster.{nodes}
+use Rattle.lin_parts.specs.Cluster.{nodes}
 use Rattle.lin_threads.specs.Lanes.{Served, port_of}
 use Rattle.lin_threads.proofs.PortLemmas.{port_at-apart}
 use Rattle.lin_threads.proofs.LaneLemmas.{at_lane, port_of-same, all_serve, served_others, served_longer, served_own, same_wirings, in_order}

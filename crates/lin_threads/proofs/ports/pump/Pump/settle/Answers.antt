@@ -1,6 +1,6 @@
 use Rattle.std.proofs.Common.{inr, refl, subst, ◌∙◌}
-use Rattle.lin_cluster_parts.specs.Cluster.{nodes}
-use Rattle.lin_cluster_parts.specs.Sound.{IsSound}
+use Rattle.lin_parts.specs.Cluster.{nodes}
+use Rattle.lin_parts.specs.Sound.{IsSound}
 use Rattle.lin_threads.specs.Ports.{receipt_id, receipt_wiring}
 use Rattle.lin_threads.proofs.GivenLemmas.{given_set}
 use Rattle.lin_threads.proofs.LaneLemmas.{at_lane, port_of-same, all_serve, same_wirings, in_order, slice_get-set_same}

@@ -1,5 +1,5 @@
 use Rattle.std.proofs.Common.{drop, refl}
-use Rattle.lin_cluster_parts.specs.Cluster.{nodes}
+use Rattle.lin_parts.specs.Cluster.{nodes}
 use Rattle.lin_threads.proofs.LaneLemmas.{at_lane, all_serve, same_wirings, in_order, told_more_lanes}
 use Rattle.lin_threads.proofs.RoundLemmas.{prefix_same}
 use Rattle.lin_threads.proofs.TellLemmas.{told_until}
