@@ -13,3 +13,5 @@ pub mod Groups
 mod Hosts
 pub mod Dumps
 pub mod Objects
+pub mod ListedLines
+pub mod NumberedLines

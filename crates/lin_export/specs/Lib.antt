@@ -18,3 +18,7 @@ pub mod NamedWords
 pub mod Vcd
 pub mod Dumped
 pub mod PutsGroups
+pub mod Listing
+pub mod ListedFrames
+pub mod ListedSlots
+pub mod ListedSignals

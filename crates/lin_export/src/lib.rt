@@ -5,6 +5,17 @@
 //! let mut capture = Vec::new(alloc);
 //! write_pcap(alloc, core.cluster(), core.log(), &mut capture)?;
 //! ```
+//!
+//! And what an LDF describes, as lines: its nodes, signals and schedule tables, its frames with the
+//! places of their signals, how much time its slots leave, and what the values of signals mean.
+//!
+//! ```
+//! // a line for each node, signal and table, for each frame and each place, and for each slot and
+//! // each table's load
+//! write_list(&cluster, &mut writer)?;
+//! write_frames(&cluster, &mut writer)?;
+//! write_slots(&cluster, &mut writer)?;
+//! ```
 #![tactic(auto)]
 
 mod carried;
@@ -17,6 +28,7 @@ mod hearing;
 mod json;
 mod jsonl;
 mod law;
+mod listing;
 mod meaning_cells;
 mod meanings;
 mod named;
@@ -34,6 +46,7 @@ pub use fault::ExportFault;
 pub use first_slots::write_first_slots;
 pub use jsonl::write_jsonl;
 pub use law::{captures_what_was_seen, dumps_last_values};
+pub use listing::{write_frames, write_list, write_signals, write_slots};
 pub use named::{named_text, put_slot_names, write_named};
 pub use pcap::write_pcap;
 pub use track::Track;

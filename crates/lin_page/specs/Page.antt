@@ -16,9 +16,9 @@ use Rattle.lin_core.specs.declared.log.LogEntry.{LogEntry}
 use Rattle.lin_core.specs.declared.reply.Reply.{Reply}
 use Rattle.lin_core.specs.declared.reply.Reply.TheVariants.{Done, Refused}
 use Rattle.lin_log.specs.Words.{line, spaced_word, text, value_word}
-use Rattle.lin_listing.specs.Frames.{frames}
-use Rattle.lin_listing.specs.Listing.{listing}
-use Rattle.lin_listing.specs.Slots.{slots}
+use Rattle.lin_export.specs.ListedFrames.{frames}
+use Rattle.lin_export.specs.Listing.{listing}
+use Rattle.lin_export.specs.ListedSlots.{slots}
 use Rattle.lin_export.specs.FirstSlots.{first_slots}
 use Rattle.lin_bench.specs.Played.{is_unmet}
 use Rattle.lin_bench.specs.Texts.{unmet_text}

@@ -2,10 +2,10 @@
 use Rattle.std.specs.Prelude.{ℕ, Bool, List, [], ◌++◌, Option, if◌then◌else◌}
 use Rattle.std.specs.Option.{option_map_or}
 use Rattle.lin_parts.specs.declared.parts.Parts.{Parts}
-use Rattle.lin_listing.specs.Frames.{frames}
-use Rattle.lin_listing.specs.Listing.{listing}
-use Rattle.lin_listing.specs.Signals.{signal_list}
-use Rattle.lin_listing.specs.Slots.{slots}
+use Rattle.lin_export.specs.ListedFrames.{frames}
+use Rattle.lin_export.specs.Listing.{listing}
+use Rattle.lin_export.specs.ListedSignals.{signal_list}
+use Rattle.lin_export.specs.ListedSlots.{slots}
 use Rattle.lin_tool.specs.declared.listing.Lists.{Lists}
 use Rattle.lin_values.specs.Coded.{CodedData}
 

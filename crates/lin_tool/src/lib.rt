@@ -48,7 +48,7 @@ pub use fault::{Fault, exit_status};
 pub use field::field_of_reader;
 pub use findings::{Findings, Remarks};
 pub use formats::{Format, write_shown};
-pub use lin_listing::write_list;
+pub use lin_export::write_list;
 pub use listing::{Lists, write_lists};
 pub use living::{answer_lines, bench_in_hand, live};
 pub use notes::{Notes, Wanted};

@@ -4,7 +4,7 @@ ghost use Rattle.std.specs.Prelude.{option_map};
 ghost use Rattle.lin_text.specs.Written.{WritesText};
 ghost use Rattle.lin_tool.specs.Listing.{listed, listed_frames, listed_signals, listed_slots};
 
-use lin_listing::{write_frames, write_list, write_signals, write_slots};
+use lin_export::{write_frames, write_list, write_signals, write_slots};
 use lin_parts::Cluster;
 use lin_text::WriteFailed;
 use lin_values::Coded;

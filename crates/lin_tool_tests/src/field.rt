@@ -1,8 +1,8 @@
 //! Texts of the field: read, settled, checked, and written as plain ones.
 
 use crate::clusters::expect_bytes;
+use lin_export::write_frames;
 use lin_field::{Checked, Settled, check_field, read_field, settle, write_plain};
-use lin_listing::write_frames;
 use std::alloc::Global;
 use std::process::Abort;
 use std::test::Fail;

@@ -2,7 +2,7 @@
 
 use crate::clusters::{cluster_of, expect_bytes};
 use crate::samples;
-use lin_listing::{write_frames, write_slots};
+use lin_export::{write_frames, write_slots};
 use std::alloc::Global;
 use std::process::Abort;
 use std::test::Fail;

@@ -2,8 +2,8 @@
 
 use crate::clusters::{cluster_of, expect_bytes};
 use arrayvec::ArrayVec;
+use lin_export::write_signals;
 use lin_frame::{Value, ValueBytes};
-use lin_listing::write_signals;
 use lin_values::{Coded, coded_by, read_codings, read_decimal, shown};
 use std::alloc::Global;
 use std::process::Abort;

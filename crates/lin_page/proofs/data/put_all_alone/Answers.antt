@@ -1,5 +1,5 @@
 use Rattle.lin_text.proofs.Growing.{grows-nothing}
-use Rattle.lin_listing.proofs.Lines.{grows-number}
+use Rattle.lin_export.proofs.ListedLines.{grows-number}
 use Rattle.lin_page.specs.Page.{alone_line}
 use Rattle.lin_page.proofs.data.put_all_alone.Goals as goal
 

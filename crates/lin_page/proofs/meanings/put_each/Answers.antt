@@ -1,5 +1,5 @@
 use Rattle.lin_text.proofs.Growing.{grows-nothing}
-use Rattle.lin_listing.proofs.Lines.{grows-number}
+use Rattle.lin_export.proofs.ListedLines.{grows-number}
 use Rattle.lin_page.specs.Meanings.{meaning_lines}
 use Rattle.lin_page.proofs.meanings.put_each.Goals as goal
 

@@ -1,6 +1,6 @@
 use Rattle.std.proofs.Common.{◌∷◌, [], ◌++◌, List, ℕ, codes, flat_map, rules}
 use Rattle.std.specs.Fmt.{decimal}
-use Rattle.lin_listing.proofs.Lines.{head-and-members}
+use Rattle.lin_export.proofs.ListedLines.{head-and-members}
 use Rattle.lin_log.specs.Words.{spaced_word}
 use Rattle.lin_log.proofs.Ends.{grows-ended, grows-last}
 use Rattle.lin_text.proofs.Growing.{grows-more, same-growth}

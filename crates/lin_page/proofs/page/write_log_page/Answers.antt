@@ -1,9 +1,9 @@
 use Rattle.std.proofs.Common.{refl}
 use Rattle.lin_export.specs.WhereTold.{told}
 use Rattle.lin_log.specs.Words.{text}
-use Rattle.lin_listing.specs.Frames.{frames}
-use Rattle.lin_listing.specs.Listing.{listing}
-use Rattle.lin_listing.specs.Slots.{slots}
+use Rattle.lin_export.specs.ListedFrames.{frames}
+use Rattle.lin_export.specs.Listing.{listing}
+use Rattle.lin_export.specs.ListedSlots.{slots}
 use Rattle.lin_export.proofs.Puttings.{writes-more, written-short}
 use Rattle.lin_page.specs.Page.{log_head}
 use Rattle.lin_page.proofs.page.write_log_page.Goals as goal

@@ -1,6 +1,6 @@
 use Rattle.std.proofs.Common.{◌++◌, append_assoc, ap, option_map, refl, ◌∙◌}
 use Rattle.lin_export.proofs.Puttings.{writes-more, written-short}
-use Rattle.lin_listing.specs.Listing.{listing}
+use Rattle.lin_export.specs.Listing.{listing}
 use Rattle.lin_tool.specs.Listing.{listed_frames, listed_signals, listed_slots}
 use Rattle.lin_tool.proofs.listing.write_lists.Goals as goal
 

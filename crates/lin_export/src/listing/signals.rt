@@ -1,0 +1,225 @@
+//! What the values of signals mean, as lines.
+
+ghost use Rattle.std.specs.Prelude.{◌≡◌, ◌<◌, flat_map, length, option_map};
+ghost use Rattle.lin_log.specs.Words.{spaced_word};
+ghost use Rattle.lin_text.specs.Written.{Grows, WritesText};
+ghost use Rattle.lin_export.specs.ListedSignals.{coding_line, encoding_word, initial_line, item_line};
+ghost use Rattle.lin_export.specs.ListedSignals.{item_lines, meaning_words, range_line, signal_lines, unit_words};
+ghost use Rattle.lin_export.specs.ListedSignals.{signal_list, text_or_number, value_line};
+ghost use Rattle.lin_log.specs.Shown.{word_shown};
+ghost use Rattle.lin_values.specs.Coded.{encoding_of, range_of};
+ghost use Rattle.lin_values.specs.Meaning.{meant};
+ghost use Rattle.lin_values.specs.Shown.{decimal_shown};
+ghost use Rattle.lin_values.specs.Value.{decimal_of};
+
+use lin_log::{Word, put_head, put_line, put_spaced, value_word};
+use lin_parts::Cluster;
+use lin_text::{TextWriter, WriteFailed};
+use lin_values::{
+    Coded, Item, Meaning, PhysicalValue, PlacedItem, Range, put_decimal, put_meaning,
+};
+use std::io::Write;
+
+/// The name of a signal's encoding, and `-` for none.
+fn encoding_word(coded: &Coded, signal: u16) -> Word<'_>
+    ensures { word_shown result ≡ encoding_word (encoding_of coded.now signal) }
+{
+    match coded.encoding_of(signal) {
+        Some(encoding) => Word::Name(encoding.coding().name.text.as_slice()),
+        None => Word::Name(b"-"),
+    }
+}
+
+/// The line of a signal: its number, its name, its bits and its encoding.
+fn put_coding<'a, W: Write>(
+    out: &mut TextWriter<'_, W>,
+    cluster: &'a Cluster,
+    coded: &'a Coded,
+    signal: u16,
+)
+    requires { signal < length cluster.now.signals }
+    ensures { Grows W.contents out.old out.new (coding_line cluster.now coded.now signal) }
+{
+    put_line(
+        out,
+        b"coding",
+        &[
+            Word::Number(u64::from(signal)),
+            Word::Name(cluster.signal_name(signal)),
+            Word::Number(u64::from(cluster.signal_size(signal))),
+            encoding_word(coded, signal),
+        ],
+    );
+}
+
+/// A physical value behind a space.
+fn put_physical<W: Write>(out: &mut TextWriter<'_, W>, physical: &PhysicalValue)
+    ensures { Grows W.contents out.old out.new
+        (spaced_word (decimal_shown (decimal_of physical.now))) }
+{
+    out.put_byte(b' ');
+    put_decimal(out, physical.decimal());
+}
+
+/// A unit behind a space, where there is one.
+fn put_unit<W: Write>(out: &mut TextWriter<'_, W>, unit: &[u8])
+    ensures { Grows W.contents out.old out.new (flat_map spaced_word (unit_words unit.now)) }
+{
+    if !unit.is_empty() {
+        put_spaced(out, Word::Name(unit));
+    }
+}
+
+/// The line of a range: its raw ends, the decimals that they mean, and their unit.
+fn put_range<W: Write>(out: &mut TextWriter<'_, W>, signal: u16, range: &Range<'_>)
+    ensures { Grows W.contents out.old out.new (range_line signal (range_of range.now)) }
+{
+    put_head(
+        out,
+        b"range",
+        &[
+            Word::Number(u64::from(signal)),
+            Word::Number(u64::from(range.min)),
+            Word::Number(u64::from(range.max)),
+        ],
+    );
+    put_physical(
+        out,
+        &PhysicalValue::new(range.min, range.scale, range.offset),
+    );
+    put_physical(
+        out,
+        &PhysicalValue::new(range.max, range.scale, range.offset),
+    );
+    put_unit(out, range.unit);
+    out.put_byte(b'\n');
+}
+
+/// The text of a value; without one its number.
+fn text_or_number(value: u16, text: &[u8]) -> Word<'_>
+    ensures { word_shown result ≡ text_or_number value text.now }
+{
+    if text.is_empty() {
+        Word::Number(u64::from(value))
+    } else {
+        Word::Name(text)
+    }
+}
+
+/// The line of a value with its text.
+fn put_value<W: Write>(out: &mut TextWriter<'_, W>, signal: u16, value: u16, text: &[u8])
+    ensures { Grows W.contents out.old out.new (value_line signal value text.now) }
+{
+    put_line(
+        out,
+        b"value",
+        &[
+            Word::Number(u64::from(signal)),
+            Word::Number(u64::from(value)),
+            text_or_number(value, text),
+        ],
+    );
+}
+
+fn put_item<W: Write>(out: &mut TextWriter<'_, W>, signal: u16, item: &Item)
+    ensures { Grows W.contents out.old out.new (item_line signal item.now) }
+{
+    let number = Word::Number(u64::from(signal));
+    match item {
+        Item::Logical { value, text } => put_value(out, signal, *value, text.as_slice()),
+        Item::Bcd => put_line(out, b"bcd", &[number]),
+        Item::Ascii => put_line(out, b"ascii", &[number]),
+        Item::Physical { .. } => {
+            if let Some(range) = item.as_range() {
+                put_range(out, signal, &range);
+            }
+        }
+    }
+}
+
+fn put_all_items<W: Write>(out: &mut TextWriter<'_, W>, signal: u16, items: &[PlacedItem])
+    ensures { Grows W.contents out.old out.new (flat_map (λ p. item_line signal p.item) items.now) }
+{
+    for one in items {
+        put_item(out, signal, &one.item);
+    }
+}
+
+/// The lines of the items of a signal's encoding.
+fn put_items<W: Write>(out: &mut TextWriter<'_, W>, coded: &Coded, signal: u16)
+    ensures { Grows W.contents out.old out.new
+        (item_lines signal (encoding_of coded.now signal)) }
+{
+    if let Some(encoding) = coded.encoding_of(signal) {
+        put_all_items(out, signal, encoding.coding().items.as_slice());
+    }
+}
+
+/// The text of a meaning behind a space, where there is one.
+fn put_text<W: Write>(out: &mut TextWriter<'_, W>, meaning: Option<Meaning<'_>>)
+    ensures { Grows W.contents out.old out.new
+        (flat_map spaced_word (meaning_words (option_map meant meaning.entry))) }
+{
+    if let Some(meaning) = meaning {
+        out.put_byte(b' ');
+        put_meaning(out, &meaning);
+    }
+}
+
+/// The line of a signal's initial value: the raw value, and its text.
+fn put_initial<'a, W: Write>(
+    out: &mut TextWriter<'_, W>,
+    cluster: &'a Cluster,
+    coded: &Coded,
+    signal: u16,
+)
+    requires { signal < length cluster.now.signals }
+    ensures { Grows W.contents out.old out.new (initial_line cluster.now coded.now signal) }
+{
+    let initial = cluster.initial(signal);
+    put_head(
+        out,
+        b"initial",
+        &[Word::Number(u64::from(signal)), value_word(initial)],
+    );
+    put_text(out, coded.meaning(signal, initial));
+    out.put_byte(b'\n');
+}
+
+fn put_signal<W: Write>(out: &mut TextWriter<'_, W>, cluster: &Cluster, coded: &Coded, signal: u16)
+    requires { signal < length cluster.now.signals }
+    ensures { Grows W.contents out.old out.new (signal_lines cluster.now coded.now signal) }
+{
+    put_coding(out, cluster, coded, signal);
+    put_items(out, coded, signal);
+    put_initial(out, cluster, coded, signal);
+}
+
+fn put_signals<W: Write>(out: &mut TextWriter<'_, W>, cluster: &Cluster, coded: &Coded)
+    ensures { Grows W.contents out.old out.new (signal_list cluster.now coded.now) }
+{
+    for signal in 0..cluster.signals() as u16 {
+        put_signal(out, cluster, coded, signal);
+    }
+}
+
+/// Writes for each signal a line with its bits and its encoding, one for each range and each value of
+/// the encoding, and one for its initial value, with what that means (LIN 2.2A, section 9.2.6).
+///
+/// It goes through a buffer of fixed size, and takes no memory. The writer isn't flushed.
+///
+/// # Errors
+/// `WriteFailed` at the first error of the writer, an interrupted write too, and at the first write
+/// of 0 bytes. What was written then is the beginning of the lines.
+pub fn write_signals<W: Write>(
+    cluster: &Cluster,
+    coded: &Coded,
+    writer: &mut W,
+) -> Result<(), WriteFailed>
+    ensures { WritesText (W.contents writer.old) (W.contents writer.new) result
+        (signal_list cluster.now coded.now) }
+{
+    let mut out = TextWriter::new(writer);
+    put_signals(&mut out, cluster, coded);
+    out.finish()
+}

@@ -1,4 +1,0 @@
-pub mod Listing
-pub mod Frames
-pub mod Slots
-pub mod Signals
