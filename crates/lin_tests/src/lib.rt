@@ -1,5 +1,5 @@
-//! Tests of the public calls of the crates up to `lin_log`, apart from them, so that a crate isn't
-//! proved a second time with its tests.
+//! Tests of the public calls of the crates up to `lin_log` and `lin_threads`, apart from them, so that
+//! a crate isn't proved a second time with its tests.
 #![tactic(auto)]
 
 #[cfg(test)]
@@ -20,5 +20,7 @@ mod samples;
 mod schedule;
 #[cfg(test)]
 mod text;
+#[cfg(test)]
+mod threads;
 #[cfg(test)]
 mod transport;

@@ -2,7 +2,7 @@
 
 use super::outcomes::expect_outcomes;
 use crate::samples::{
-    BODY_CLUSTER, BYTE_ORDER_MARK, DOOR_CLUSTER, HEADER, KEYS_CLUSTER, LIGHT_AND_FAN_CLUSTER, add,
+    BODY_CLUSTER, BYTE_ORDER_MARK, DOOR_CLUSTER, HEADER, KEYS_CLUSTER, LIGHT_CLUSTER, add,
     add_number, add_place, expect_text, joined,
 };
 use lin_ldf::{
@@ -24,7 +24,7 @@ fn sample_clusters(rt: HostRuntime) -> Result<(), Fail> {
     for text in [
         DOOR_CLUSTER,
         KEYS_CLUSTER,
-        LIGHT_AND_FAN_CLUSTER,
+        LIGHT_CLUSTER,
         BODY_CLUSTER,
         DOOR_MODULE,
     ] {

@@ -1,8 +1,8 @@
 //! Tokens of whole texts, and each form at its edges.
 
 use crate::samples::{
-    BODY_CLUSTER, BYTE_ORDER_MARK, DOOR_CLUSTER, KEYS_CLUSTER, LIGHT_AND_FAN_CLUSTER, add,
-    add_number, add_place, expect_text, joined,
+    BODY_CLUSTER, BYTE_ORDER_MARK, DOOR_CLUSTER, KEYS_CLUSTER, LIGHT_CLUSTER, add, add_number,
+    add_place, expect_text, joined,
 };
 use lin_ldf::{Token, TokenKind, lex};
 use std::alloc::Global;
@@ -160,7 +160,7 @@ fn expect_tokens(rt: &impl Abort, alloc: Global, source: &[u8], lines: &str) -> 
 #[test]
 fn sample_clusters(rt: HostRuntime) -> Result<(), Fail> {
     expect_tokens(&rt, rt.alloc(), DOOR_CLUSTER, BUILT_IN)?;
-    for text in [KEYS_CLUSTER, LIGHT_AND_FAN_CLUSTER, BODY_CLUSTER] {
+    for text in [KEYS_CLUSTER, LIGHT_CLUSTER, BODY_CLUSTER] {
         assert!(rt; !lex(rt.alloc(), text)?.is_empty());
     }
     Ok(())

@@ -1,16 +1,13 @@
 //! Messages from their sends to their receivers.
 
 use super::{ANSWER, FINISH, OPEN, SEND, State, behind};
-use crate::samples::{DOOR_CLUSTER, add_number, core_of, joined};
+use crate::samples::{DOOR_CLUSTER, THREE_BYTES, add_number, core_of, joined};
 use lin_core::{PortId, Step};
 use std::alloc::Global;
 use std::process::Abort;
 use std::test::Fail;
 
-pub(super) const OF_THREE_BYTES: &[u8] =
-    b"h0 send 0 1 22062E\n> accepted 0 1\nbus open\n> slot 0 0 3C\n> due 0\nn0 answer 0\n> put 0 010322062EFFFFFFA5\nbus finish\n> seen good 010322062EFFFFFFA5\n> message 0 1 22062E\n> sent 0 1\n";
-
-const OF_SIX_BYTES: &[u8] =
+const SIX_BYTES: &[u8] =
     b"h0 send 0 1 010203040506\n> accepted 0 1\nbus open\n> slot 0 0 3C\n> due 0\nn0 answer 0\n> put 0 0106010203040506E3\n";
 
 const SILENT: &[u8] = b"bus open\n> slot 0 0 -\nbus finish\n> seen silent\n";
@@ -25,8 +22,8 @@ const SECOND_SEND: &[u8] = b"h0 send 0 1 01\n> accepted 0 2\n";
 
 /// Capacities, runs on the cluster with a door, and the states after them.
 const RUNS: &[(usize, &[&[u8]], State)] = &[
-    (16, &[OF_THREE_BYTES], (10_000, 0, 0)),
-    (16, &[OF_SIX_BYTES], (0, 1, 0)),
+    (16, &[THREE_BYTES], (10_000, 0, 0)),
+    (16, &[SIX_BYTES], (0, 1, 0)),
     (16, &[SILENT], (10_000, 0, 0)),
     // a response that is left out only delays
     (

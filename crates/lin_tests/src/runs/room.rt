@@ -1,10 +1,8 @@
 //! Room for a step, before the first and after a long log.
 
-use super::messages::OF_THREE_BYTES;
 use super::state;
-use crate::samples::{DOOR_CLUSTER, core_of, expect_text, joined};
+use crate::samples::{DOOR_CLUSTER, THREE_BYTES, core_of, expect_log, joined};
 use lin_core::{Core, Payload, PortId, Step};
-use lin_log::write_log;
 use std::alloc::Global;
 use std::process::Abort;
 use std::test::Fail;
@@ -40,10 +38,8 @@ fn expect_message(
 fn room_before_each_step(rt: HostRuntime) -> Result<(), Fail> {
     let mut core = core_of(rt.alloc(), DOOR_CLUSTER, 0)?;
     expect_message(&rt, rt.alloc(), &mut core, &[0x22, 0x06, 0x2E])?;
-    let mut text = Vec::new(rt.alloc());
-    write_log(core.log(), &mut text)?;
-    let wanted = joined(rt.alloc(), &[OF_THREE_BYTES, b"bus switch 0\n"])?;
-    expect_text(&rt, &text, &wanted, "log");
+    let wanted = joined(rt.alloc(), &[THREE_BYTES, b"bus switch 0\n"])?;
+    expect_log(&rt, rt.alloc(), &core, &wanted, "log")?;
     let mut core = core_of(rt.alloc(), DOOR_CLUSTER, 0)?;
     for _ in 0..20_000 {
         expect_message(&rt, rt.alloc(), &mut core, &[1])?;

@@ -1,7 +1,7 @@
 //! Runs of signals, sporadic and event-triggered frames.
 
 use super::{State, core_behind, state};
-use crate::samples::joined;
+use crate::samples::{FOUR_LINES, joined};
 use lin_core::Core;
 use lin_frame::Value;
 use std::alloc::Global;
@@ -9,11 +9,7 @@ use std::process::Abort;
 use std::test::Fail;
 
 /// A commander and two responders, with a frame of an array.
-const BUILD: &[u8] = b"LIN_description_file;
-LIN_protocol_version = \"2.2\";
-LIN_language_version = \"2.2\";
-LIN_speed = 19.2 kbps;
-Nodes { Master: cem, 5 ms, 0.1 ms; Slaves: lsm, rsm; }
+const BUILD: &[u8] = b"Nodes { Master: cem, 5 ms, 0.1 ms; Slaves: lsm, rsm; }
 Signals {
   level: 4, 2, cem, lsm, rsm;
   mode: 10, 0x155, cem, lsm;
@@ -76,7 +72,7 @@ fn number(rt: &impl Abort, core: &Core, node: u8, signal: u16) -> Option<u16> {
 
 fn expect_run(rt: &impl Abort, alloc: Global, run: &Run) -> Result<(), Fail> {
     let frames = if run.is_keyed { KEYED } else { PLAIN };
-    let text = joined(alloc, &[BUILD, frames])?;
+    let text = joined(alloc, &[FOUR_LINES, BUILD, frames])?;
     let log = joined(alloc, run.log)?;
     let core = core_behind(rt, alloc, &text, 16, &log)?;
     let log = std::str::from_utf8(&log).unwrap_or("no text");

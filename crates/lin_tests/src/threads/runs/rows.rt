@@ -1,9 +1,10 @@
 //! Runs with scripts, and the logs that they leave.
 
-use crate::runs::bench::{
-    NUMBERS, Numbers, core_with_sends, expect_ended, expect_log, expect_replay, lines, run_scripts,
+use crate::samples::{DOOR_CLUSTER, LIGHT_CLUSTER, core_of, expect_log};
+use crate::threads::runs::bench::{
+    NUMBERS, Numbers, expect_ended, expect_replay, lines, run_scripts,
 };
-use crate::samples::{DOOR_CLUSTER, LIGHT_CLUSTER, core_on};
+use crate::threads::{DOOR_ANSWERS, DOOR_LEAVES, core_with_sends};
 use lin_threads::Ended;
 use std::alloc::Global;
 use std::process::Abort;
@@ -33,7 +34,7 @@ fn expect_faulty_run<R: Abort + Threads + Wait + Copy + Send + 'static>(
         leave: [&[], leave],
         ..NUMBERS
     };
-    let core = core_on(rt, alloc, DOOR_CLUSTER, 0)?;
+    let core = core_of(alloc, DOOR_CLUSTER, 0)?;
     let report = run_scripts(rt, alloc, core, [&[1, 2, 3], &[4]], &numbers)?;
     expect_ended(rt, &report, [Ended::Done, Ended::Done], row);
     for (start, count) in [
@@ -81,7 +82,7 @@ fn leave_list_of_a_long_run(rt: HostRuntime) -> Result<(), Fail> {
         leave: [&[0], &[]],
         ..NUMBERS
     };
-    let core = core_on(&rt, alloc, LIGHT_CLUSTER, 0)?;
+    let core = core_of(alloc, LIGHT_CLUSTER, 0)?;
     let report = run_scripts(&rt, alloc, core, [&[], &[]], &numbers)?;
     for (start, count) in [("> due 0", 300), ("n0 leave 0", 1), ("n0 answer 0", 299)] {
         assert_eq!(rt; lines(alloc, &report.core, start)?, count, "{start}");
@@ -96,7 +97,7 @@ struct Row {
     before: &'static [(u8, u8, u8)],
     numbers: Numbers,
     sends: [&'static [u8]; 2],
-    log: &'static str,
+    log: &'static [u8],
 }
 
 const ROWS: &[Row] = &[
@@ -108,18 +109,7 @@ const ROWS: &[Row] = &[
             ..NUMBERS
         },
         sends: [&[], &[]],
-        log: "h0 send 0 1 01
-> accepted 0 1
-bus open
-> slot 0 0 3C
-> due 0
-n0 answer 0
-> put 0 010101FFFFFFFFFFFC
-bus finish
-> seen good 010101FFFFFFFFFFFC
-> message 0 1 01
-> sent 0 1
-",
+        log: DOOR_ANSWERS,
     },
     Row {
         name: "a wired log goes on without an answer",
@@ -130,15 +120,7 @@ bus finish
             ..NUMBERS
         },
         sends: [&[], &[]],
-        log: "h0 send 0 1 01
-> accepted 0 1
-bus open
-> slot 0 0 3C
-> due 0
-n0 leave 0
-bus finish
-> seen none
-",
+        log: DOOR_LEAVES,
     },
     Row {
         name: "no rounds",
@@ -150,7 +132,7 @@ bus finish
             ..NUMBERS
         },
         sends: [&[1], &[]],
-        log: "bus open
+        log: b"bus open
 > slot 0 0 -
 bus finish
 > seen silent
@@ -171,7 +153,7 @@ h0 send 0 1 01
             ..NUMBERS
         },
         sends: [&[], &[]],
-        log: "bus open
+        log: b"bus open
 > slot 0 0 -
 h0 send 0 1 01
 > accepted 0 1
@@ -190,7 +172,7 @@ bus finish
             ..NUMBERS
         },
         sends: [&[], &[]],
-        log: "h0 send 0 1 01
+        log: b"h0 send 0 1 01
 > accepted 0 1
 h0 send 0 1 02
 > accepted 0 2
@@ -252,7 +234,7 @@ bus finish
 fn logs_of_runs(rt: HostRuntime) -> Result<(), Fail> {
     let alloc = rt.alloc();
     for row in ROWS {
-        let core = core_with_sends(&rt, alloc, row.before)?;
+        let core = core_with_sends(&rt, alloc, DOOR_CLUSTER, 0, row.before)?;
         let report = run_scripts(&rt, alloc, core, row.sends, &row.numbers)?;
         expect_ended(&rt, &report, [Ended::Done, Ended::Done], row.name);
         expect_log(&rt, alloc, &report.core, row.log, row.name)?;

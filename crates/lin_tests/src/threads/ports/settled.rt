@@ -4,9 +4,9 @@ ghost use Rattle.std.specs.Prelude.{◌≡◌, IfOk};
 ghost use Rattle.lin_threads.specs.Ports.{host_wiring, receipt_wiring};
 ghost use Rattle.lin_threads.specs.Pumps.{IsWired, wirings};
 
-use crate::ports::bench::{expect_log, is_taken, makes, send};
-use crate::ports::copied::copies;
-use crate::samples::{DOOR_CLUSTER, core_on};
+use crate::samples::{DOOR_CLUSTER, core_of, expect_log};
+use crate::threads::ports::bench::{is_taken, makes, send};
+use crate::threads::ports::copied::copies;
 use lin_core::PortId;
 use lin_threads::{Full, HostPort, HostStep, Pump, Receipt, Settled, wire};
 use std::alloc::Global;
@@ -17,7 +17,7 @@ use std::test::Fail;
 fn wired(rt: &impl Abort, alloc: Global) -> Result<(Pump, HostPort), Fail>
     ensures { IfOk result (λ r. IsWired r.0 (host_wiring r.1)) }
 {
-    let core = core_on(rt, alloc, DOOR_CLUSTER, 0)?;
+    let core = core_of(alloc, DOOR_CLUSTER, 0)?;
     let (pump, mut hosts, _nodes) = wire(alloc, core, 4)?;
     assert!(rt; !hosts.is_empty());
     Ok((pump, hosts.swap_remove(0)))
@@ -118,8 +118,8 @@ fn ring_of_four(rt: HostRuntime) -> Result<(), Fail> {
     expect_log(
         &rt,
         alloc,
-        &pump,
-        "h0 send 0 1 01\n> accepted 0 1\nh0 send 0 1 01\n> accepted 0 2\nh0 send 0 1 01\n> accepted 0 3\nh0 send 0 1 01\n> accepted 0 4\n",
+        pump.core(),
+        b"h0 send 0 1 01\n> accepted 0 1\nh0 send 0 1 01\n> accepted 0 2\nh0 send 0 1 01\n> accepted 0 3\nh0 send 0 1 01\n> accepted 0 4\n",
         "four sends",
     )?;
     copies(&rt, alloc, pump.core(), 4)
@@ -133,8 +133,8 @@ fn settled_after_two_rounds(rt: HostRuntime) -> Result<(), Fail> {
     expect_log(
         &rt,
         alloc,
-        &pump,
-        "h0 send 0 1 01\n> accepted 0 1\nh0 send 0 1 01\n> accepted 0 2\n",
+        pump.core(),
+        b"h0 send 0 1 01\n> accepted 0 1\nh0 send 0 1 01\n> accepted 0 2\n",
         "two sends",
     )?;
     copies(&rt, alloc, pump.core(), 2)

@@ -3,9 +3,7 @@
 ghost use Rattle.std.specs.Prelude.{◌≡◌};
 ghost use Rattle.lin_threads.specs.Pumps.{wirings};
 
-use crate::samples::core_on;
 use lin_core::{Core, Event, Payload, PortId, Step};
-use lin_log::write_log;
 use lin_threads::{Full, HostPort, HostStep, NodePort, NodeStep, Note, Pump, wire};
 use std::alloc::{AllocError, Global};
 use std::process::Abort;
@@ -137,21 +135,6 @@ pub fn makes(rt: &impl Abort, pump: &mut Pump, wanted: u32, case: &str) -> Resul
     Ok(())
 }
 
-/// The log of a pump's core, in text.
-pub fn expect_log(
-    rt: &impl Abort,
-    alloc: Global,
-    pump: &Pump,
-    wanted: &str,
-    case: &str,
-) -> Result<(), Fail> {
-    let mut text = Vec::new(alloc);
-    write_log(pump.core().log(), &mut text)?;
-    let log = std::str::from_utf8(text.as_slice()).unwrap_or("no text");
-    assert_eq!(rt; log, wanted, "{case}");
-    Ok(())
-}
-
 impl Bench {
     fn host(&mut self, number: usize) -> Result<&mut HostPort, &'static str> {
         self.hosts.get_mut(number).ok_or("no such host")
@@ -238,27 +221,6 @@ impl Bench {
         }
         Ok(())
     }
-}
-
-/// A core on which so many sends of the byte 1 by host 0 to host 1 were made.
-pub fn core_behind_sends(
-    rt: &impl Abort,
-    alloc: Global,
-    text: &[u8],
-    table: u16,
-    sends: usize,
-) -> Result<Core, Fail> {
-    let mut core = core_on(rt, alloc, text, table)?;
-    for _ in 0..sends {
-        let message = Payload::new([1].to_vec(alloc)?);
-        let step = Step::Send {
-            from: 0,
-            to: 1,
-            message,
-        };
-        assert!(rt; core.step(PortId::Host(0), step).is_ok());
-    }
-    Ok(core)
 }
 
 /// A pump with its ports, on rings of so many items.

@@ -1,7 +1,7 @@
 //! Tasks that take all turns that they get, and that wait for the rounds after the last slot.
 
-use crate::runs::bench::{NUMBERS, Numbers, expect_ended, expect_log, run, run_scripts, script};
-use crate::samples::{DOOR_CLUSTER, core_on};
+use crate::samples::{DOOR_CLUSTER, core_of, expect_log};
+use crate::threads::runs::bench::{NUMBERS, Numbers, expect_ended, run, run_scripts, script};
 use lin_core::Event;
 use lin_threads::{Ended, HostPort, HostTask, Note, ScriptTask, Turn};
 use std::alloc::Global;
@@ -39,7 +39,7 @@ fn task_that_never_ends(rt: HostRuntime) -> Result<(), Fail> {
         rounds: 0,
         ..NUMBERS
     };
-    let core = core_on(&rt, alloc, DOOR_CLUSTER, 0)?;
+    let core = core_of(alloc, DOOR_CLUSTER, 0)?;
     let report = run(&rt, alloc, core, tasks, &numbers)?;
     assert_eq!(rt; report.ended.len(), 2);
     assert_eq!(rt; report.ended[1], Ended::Limit);
@@ -56,7 +56,7 @@ fn tasks_with_nothing_left_take_no_turns(rt: HostRuntime) -> Result<(), Fail> {
         turns: 4,
         ..NUMBERS
     };
-    let core = core_on(&rt, alloc, DOOR_CLUSTER, 0)?;
+    let core = core_of(alloc, DOOR_CLUSTER, 0)?;
     let report = run_scripts(&rt, alloc, core, [&[1], &[]], &numbers)?;
     expect_ended(&rt, &report, [Ended::Done, Ended::Done], "nothing left");
     Ok(())
@@ -84,7 +84,7 @@ impl HostTask for Late {
     }
 }
 
-const LATE_SEND: &str = "bus open
+const LATE_SEND: &[u8] = b"bus open
 > slot 0 0 -
 bus finish
 > seen silent
@@ -102,7 +102,7 @@ fn rounds_go_on_while_a_task_does(rt: HostRuntime) -> Result<(), Fail> {
     let mut tasks: Vec<Box<dyn HostTask + Send>> = Vec::new(alloc);
     tasks.push(Box::new(alloc, late)?)?;
     tasks.push(Box::new(alloc, script(alloc, 0, &[])?)?)?;
-    let core = core_on(&rt, alloc, DOOR_CLUSTER, 0)?;
+    let core = core_of(alloc, DOOR_CLUSTER, 0)?;
     let report = run(&rt, alloc, core, tasks, &NUMBERS)?;
     expect_ended(&rt, &report, [Ended::Done, Ended::Done], "late");
     expect_log(&rt, alloc, &report.core, LATE_SEND, "late")

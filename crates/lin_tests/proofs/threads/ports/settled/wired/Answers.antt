@@ -1,7 +1,7 @@
 use Rattle.std.proofs.Common.{arith, ◌<◌, length, map}
 use Rattle.lin_threads.specs.Ports.{node_wiring}
-use Rattle.lin_thread_tests.proofs.Wirings.{first-wired}
-use Rattle.lin_thread_tests.proofs.ports.settled.wired.Goals as goal
+use Rattle.lin_tests.proofs.Wirings.{first-wired}
+use Rattle.lin_tests.proofs.threads.ports.settled.wired.Goals as goal
 
 pub returns : goal.returns
 returns g c =

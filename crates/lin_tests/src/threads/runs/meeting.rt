@@ -1,7 +1,7 @@
 //! Tasks that wait for one another.
 
-use crate::runs::bench::{NUMBERS, Numbers, expect_ended, run};
-use crate::samples::{DOOR_CLUSTER, core_on};
+use crate::samples::{DOOR_CLUSTER, core_of};
+use crate::threads::runs::bench::{NUMBERS, Numbers, expect_ended, run};
 use lin_threads::{Ended, HostPort, HostTask, Turn};
 use std::alloc::Global;
 use std::process::Abort;
@@ -63,7 +63,7 @@ fn both_meet<R: Abort + Threads + Wait + Copy + Send + 'static>(
             missed: Arc::try_clone(&missed)?,
         },
     )?)?;
-    let core = core_on(rt, alloc, DOOR_CLUSTER, 0)?;
+    let core = core_of(alloc, DOOR_CLUSTER, 0)?;
     let report = run(rt, alloc, core, tasks, numbers)?;
     assert!(rt; !missed.load(Ordering::SeqCst));
     expect_ended(rt, &report, [Ended::Done, Ended::Done], "meeting");

@@ -1,31 +1,33 @@
 //! Rows of acts, and the logs that they leave.
 
-use crate::ports::bench::{Act, core_behind_sends, expect_log, set_up};
-use crate::ports::copied::copies;
-use crate::samples::{DOOR_CLUSTER, KEYS_CLUSTER};
+use crate::samples::{DOOR_CLUSTER, KEYS_CLUSTER, MESSAGE_TO_ALL, TWO_RESPONDERS, expect_log};
+use crate::threads::ports::bench::{Act, set_up};
+use crate::threads::ports::copied::copies;
+use crate::threads::{DOOR_ANSWERS, DOOR_LEAVES, core_with_sends};
 use lin_core::PortId;
 use std::alloc::Global;
 use std::process::Abort;
 use std::test::Fail;
 
-/// A name, a cluster with the table that opens it, how many sends the core has when it is wired, how many
-/// items a ring takes, what is done, the log that this leaves, and how many events stand in it.
+/// A name, a cluster with the table that opens it, the sends that the core's log has when it is
+/// wired, how many items a ring takes, what is done, the log that this leaves, and how many events
+/// stand in it.
 struct Row {
     name: &'static str,
     cluster: &'static [u8],
     table: u16,
-    sends: usize,
+    before: &'static [(u8, u8, u8)],
     ring: usize,
     acts: &'static [Act],
-    log: &'static str,
+    log: &'static [u8],
     events: usize,
 }
 
 fn expect(rt: &impl Abort, alloc: Global, row: &Row) -> Result<(), Fail> {
-    let core = core_behind_sends(rt, alloc, row.cluster, row.table, row.sends)?;
+    let core = core_with_sends(rt, alloc, row.cluster, row.table, row.before)?;
     let mut bench = set_up(rt, alloc, row.name, core, row.ring)?;
     bench.acts(rt, alloc, row.acts)?;
-    expect_log(rt, alloc, &bench.pump, row.log, row.name)?;
+    expect_log(rt, alloc, bench.pump.core(), row.log, row.name)?;
     copies(rt, alloc, bench.pump.core(), row.events)
 }
 
@@ -33,7 +35,7 @@ const FULL_RING: Row = Row {
     name: "full ring of one",
     cluster: DOOR_CLUSTER,
     table: 0,
-    sends: 0,
+    before: &[],
     ring: 1,
     acts: &[
         Act::Send(0, 1, &[1]),
@@ -53,7 +55,7 @@ const FULL_RING: Row = Row {
         Act::Given(PortId::Host(2), 0),
         Act::Given(PortId::Bus, 0),
     ],
-    log: "h0 send 0 1 01
+    log: b"h0 send 0 1 01
 > accepted 0 1
 h0 send 0 1 01
 > accepted 0 2
@@ -67,7 +69,7 @@ const LATE_ANSWER: Row = Row {
     name: "late answer",
     cluster: DOOR_CLUSTER,
     table: 0,
-    sends: 0,
+    before: &[],
     ring: 4,
     acts: &[
         Act::Send(0, 1, &[1]),
@@ -82,7 +84,7 @@ const LATE_ANSWER: Row = Row {
         Act::NodeTakes(0, &["refused NoSlot"]),
         Act::Waiting(0, 1),
     ],
-    log: "h0 send 0 1 01
+    log: b"h0 send 0 1 01
 > accepted 0 1
 bus open
 > slot 0 0 3C
@@ -99,7 +101,7 @@ const DROPPED_PORT: Row = Row {
     name: "dropped port",
     cluster: DOOR_CLUSTER,
     table: 0,
-    sends: 0,
+    before: &[],
     ring: 4,
     acts: &[
         Act::Send(0, 1, &[1]),
@@ -110,7 +112,7 @@ const DROPPED_PORT: Row = Row {
         Act::Round(0),
         Act::Waiting(0, 2),
     ],
-    log: "h0 send 0 1 01
+    log: b"h0 send 0 1 01
 > accepted 0 1
 h0 send 0 1 02
 > accepted 0 2
@@ -118,11 +120,11 @@ h0 send 0 1 02
     events: 2,
 };
 
-const DOOR_ANSWERS: Row = Row {
+const ANSWERED: Row = Row {
     name: "wired log goes on with an answer",
     cluster: DOOR_CLUSTER,
     table: 0,
-    sends: 1,
+    before: &[(0, 1, 1)],
     ring: 4,
     acts: &[
         Act::Round(0),
@@ -132,26 +134,15 @@ const DOOR_ANSWERS: Row = Row {
         Act::HostTakes(0, &["sent 0 1"]),
         Act::HostTakes(1, &["message 0 1 [1]"]),
     ],
-    log: "h0 send 0 1 01
-> accepted 0 1
-bus open
-> slot 0 0 3C
-> due 0
-n0 answer 0
-> put 0 010101FFFFFFFFFFFC
-bus finish
-> seen good 010101FFFFFFFFFFFC
-> message 0 1 01
-> sent 0 1
-",
+    log: DOOR_ANSWERS,
     events: 7,
 };
 
-const DOOR_LEAVES: Row = Row {
+const LEFT_OUT: Row = Row {
     name: "wired log goes on without an answer",
     cluster: DOOR_CLUSTER,
     table: 0,
-    sends: 1,
+    before: &[(0, 1, 1)],
     ring: 4,
     acts: &[
         Act::Open,
@@ -163,15 +154,7 @@ const DOOR_LEAVES: Row = Row {
         Act::Round(0),
         Act::HostTakes(0, &[]),
     ],
-    log: "h0 send 0 1 01
-> accepted 0 1
-bus open
-> slot 0 0 3C
-> due 0
-n0 leave 0
-bus finish
-> seen none
-",
+    log: DOOR_LEAVES,
     events: 4,
 };
 
@@ -181,10 +164,10 @@ const NOTES: Row = Row {
     name: "notes in the order of the log",
     cluster: KEYS_CLUSTER,
     table: 2,
-    sends: 0,
+    before: &[],
     ring: 8,
     acts: &[
-        Act::Send(0, 1, &[0x3E]),
+        Act::Send(0, 1, &[0x22, 0x06, 0x2E]),
         Act::Send(1, 0, &[0x7E]),
         Act::Round(2),
         Act::AnsweredSlot(0),
@@ -211,7 +194,7 @@ const NOTES: Row = Row {
                 "refused NoAddress",
             ],
         ),
-        Act::HostTakes(1, &["accepted 1 1", "message 0 1 [62]", "sent 1 1"]),
+        Act::HostTakes(1, &["accepted 1 1", "message 0 1 [34, 6, 46]", "sent 1 1"]),
         Act::HostTakes(2, &[]),
         Act::AskSleep,
         Act::Open,
@@ -221,7 +204,7 @@ const NOTES: Row = Row {
         Act::NodeTakes(0, &[]),
         Act::NodeTakes(1, &[]),
     ],
-    log: "h0 send 0 1 3E
+    log: b"h0 send 0 1 22062E
 > accepted 0 1
 h1 send 1 0 7E
 > accepted 1 1
@@ -229,10 +212,10 @@ bus open
 > slot 2 0 3C
 > due 0
 n0 answer 0
-> put 0 01013EFFFFFFFFFFBF
+> put 0 010322062EFFFFFFA5
 bus finish
-> seen good 01013EFFFFFFFFFFBF
-> message 0 1 3E
+> seen good 010322062EFFFFFFA5
+> message 0 1 22062E
 > sent 0 1
 h0 send 0 2 3E
 > accepted 0 2
@@ -274,11 +257,11 @@ bus finish
 };
 
 /// One of two responders pauses its message while the other one sends.
-const TWO_RESPONDERS: Row = Row {
+const INTERLEAVED: Row = Row {
     name: "two responders interleaved",
     cluster: KEYS_CLUSTER,
     table: 2,
-    sends: 0,
+    before: &[],
     ring: 8,
     acts: &[
         Act::Send(0, 1, &[0x3E]),
@@ -320,79 +303,17 @@ const TWO_RESPONDERS: Row = Row {
         ),
         Act::HostTakes(2, &["accepted 2 1", "message 0 2 [62]", "sent 2 1"]),
     ],
-    log: "h0 send 0 1 3E
-> accepted 0 1
-h1 send 1 0 1122334455667788
-> accepted 1 1
-bus open
-> slot 2 0 3C
-> due 0
-n0 answer 0
-> put 0 01013EFFFFFFFFFFBF
-bus finish
-> seen good 01013EFFFFFFFFFFBF
-> message 0 1 3E
-> sent 0 1
-bus open
-> slot 2 1 7D
-> due 1
-n1 answer 1
-> put 1 0110081122334455E6
-bus finish
-> seen good 0110081122334455E6
-h0 send 0 2 3E
-> accepted 0 2
-h2 send 2 0 7E
-> accepted 2 1
-bus open
-> slot 2 0 3C
-> due 0
-n0 answer 0
-> put 0 02013EFFFFFFFFFFBE
-bus finish
-> seen good 02013EFFFFFFFFFFBE
-> message 0 2 3E
-> sent 0 2
-bus open
-> slot 2 1 7D
-> due 2
-n2 answer 2
-> put 2 02017EFFFFFFFFFF7E
-bus finish
-> seen good 02017EFFFFFFFFFF7E
-> message 2 0 7E
-> sent 2 1
-h0 send 0 1 3E
-> accepted 0 3
-bus open
-> slot 2 0 3C
-> due 0
-n0 answer 0
-> put 0 01013EFFFFFFFFFFBF
-bus finish
-> seen good 01013EFFFFFFFFFFBF
-> message 0 1 3E
-> sent 0 3
-bus open
-> slot 2 1 7D
-> due 1
-n1 answer 1
-> put 1 0121667788FFFFFF77
-bus finish
-> seen good 0121667788FFFFFF77
-> message 1 0 1122334455667788
-> sent 1 1
-",
+    log: TWO_RESPONDERS,
     events: 39,
 };
 
 /// A message to all responders: the ports of both hosts take it, and its sender's that it was sent,
 /// once. A responder sends none.
-const MESSAGE_TO_ALL: Row = Row {
+const TO_ALL: Row = Row {
     name: "message to all",
     cluster: KEYS_CLUSTER,
     table: 2,
-    sends: 0,
+    before: &[],
     ring: 4,
     acts: &[
         Act::Send(0, 126, &[0x3E, 0x80]),
@@ -410,25 +331,7 @@ const MESSAGE_TO_ALL: Row = Row {
         Act::NodeTakes(2, &[]),
         Act::Waiting(0, 0),
     ],
-    log: "h0 send 0 126 3E80
-> accepted 0 1
-h1 send 1 126 01
-> refused 6
-bus open
-> slot 2 0 3C
-> due 0
-n0 answer 0
-> put 0 7E023E80FFFFFFFFC0
-bus finish
-> seen good 7E023E80FFFFFFFFC0
-> message 0 1 3E80
-> message 0 2 3E80
-> sent 0 1
-bus open
-> slot 2 1 7D
-bus finish
-> seen none
-",
+    log: MESSAGE_TO_ALL,
     events: 10,
 };
 
@@ -438,11 +341,11 @@ fn rows(rt: HostRuntime) -> Result<(), Fail> {
         &FULL_RING,
         &LATE_ANSWER,
         &DROPPED_PORT,
-        &DOOR_ANSWERS,
-        &DOOR_LEAVES,
+        &ANSWERED,
+        &LEFT_OUT,
         &NOTES,
-        &TWO_RESPONDERS,
-        &MESSAGE_TO_ALL,
+        &INTERLEAVED,
+        &TO_ALL,
     ] {
         expect(&rt, rt.alloc(), row)?;
     }

@@ -1,6 +1,6 @@
 //! Scripts, host by host.
 
-use crate::samples::{DOOR_CLUSTER, core_on};
+use crate::samples::{DOOR_CLUSTER, core_of};
 use lin_core::Core;
 use lin_log::{read_script, steps_of};
 use lin_threads::{HostStep, SplitFault, split};
@@ -16,7 +16,7 @@ bus finish
 
 /// A core on which a script's steps were made.
 fn core_after(rt: &impl Abort, alloc: Global, script: &[u8]) -> Result<Core, Fail> {
-    let mut core = core_on(rt, alloc, DOOR_CLUSTER, 0)?;
+    let mut core = core_of(alloc, DOOR_CLUSTER, 0)?;
     let mut rest = script;
     for (port, step) in read_script(alloc, &mut rest)? {
         assert!(rt; core.step(port, step).is_ok());

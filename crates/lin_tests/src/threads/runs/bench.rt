@@ -2,9 +2,9 @@
 
 ghost use Rattle.lin_threads.specs.States.{ArePortsOf};
 
-use crate::samples::{CAPACITY, DOOR_CLUSTER, cluster_of, core_on};
-use lin_core::{Core, Payload, PortId, Step};
-use lin_log::{replay, write_log};
+use crate::samples::{CAPACITY, DOOR_CLUSTER, cluster_of, log_of};
+use lin_core::{Core, Payload, PortId};
+use lin_log::replay;
 use lin_threads::{
     Ended, HostPort, HostStep, HostTask, NodePort, Plan, Pump, RunReport, ScriptTask, Turn,
     run_cluster, wire,
@@ -14,25 +14,6 @@ use std::process::Abort;
 use std::sync::Wait;
 use std::test::Fail;
 use std::thread::Threads;
-
-/// A core on the cluster with a door whose log has sends of single bytes, each given with its
-/// sender and its receiver.
-pub fn core_with_sends(
-    rt: &impl Abort,
-    alloc: Global,
-    sends: &[(u8, u8, u8)],
-) -> Result<Core, Fail> {
-    let mut core = core_on(rt, alloc, DOOR_CLUSTER, 0)?;
-    for (from, to, byte) in sends {
-        let step = Step::Send {
-            from: *from,
-            to: *to,
-            message: Payload::new([*byte].to_vec(alloc)?),
-        };
-        assert!(rt; core.step(PortId::Host(*from), step).is_ok());
-    }
-    Ok(core)
-}
 
 /// What a run does: how many items a ring takes, whether host 0's port puts a send of the byte 1
 /// before the run, the numbers of a plan, the slots that are damaged, and what each node leaves out.
@@ -147,31 +128,11 @@ pub fn expect_ended(rt: &impl Abort, report: &RunReport, wanted: [Ended; 2], row
     assert_eq!(rt; report.ended.as_slice(), wanted.as_slice(), "{row}");
 }
 
-/// The text of a core's log.
-fn text_of(alloc: Global, core: &Core) -> Result<Vec<u8>, Fail> {
-    let mut text = Vec::new(alloc);
-    write_log(core.log(), &mut text)?;
-    Ok(text)
-}
-
-/// The log of a core, in text.
-pub fn expect_log(
-    rt: &impl Abort,
-    alloc: Global,
-    core: &Core,
-    wanted: &str,
-    row: &str,
-) -> Result<(), Fail> {
-    let text = text_of(alloc, core)?;
-    let log = std::str::from_utf8(text.as_slice()).unwrap_or("no text");
-    assert_eq!(rt; log, wanted, "{row}");
-    Ok(())
-}
-
 /// A replay of a log's text writes it again.
 pub fn expect_replay(rt: &impl Abort, alloc: Global, core: &Core, row: &str) -> Result<(), Fail> {
-    let text = text_of(alloc, core)?;
-    let cluster = cluster_of(rt, alloc, DOOR_CLUSTER)?;
+    let text = log_of(alloc, core)?;
+    let cluster = cluster_of(alloc, DOOR_CLUSTER)?;
+    assert!(rt; cluster.tables() > 0);
     let mut again = Vec::new(alloc);
     let mut reader = text.as_slice();
     let _core = replay(alloc, cluster, 0, CAPACITY, &mut reader, &mut again)?;
@@ -181,7 +142,7 @@ pub fn expect_replay(rt: &impl Abort, alloc: Global, core: &Core, row: &str) -> 
 
 /// How many lines of a core's log begin so.
 pub fn lines(alloc: Global, core: &Core, start: &str) -> Result<usize, Fail> {
-    let text = text_of(alloc, core)?;
+    let text = log_of(alloc, core)?;
     let log = std::str::from_utf8(text.as_slice()).unwrap_or("");
     let mut count: usize = 0;
     for line in log.lines() {
