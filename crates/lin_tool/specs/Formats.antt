@@ -12,7 +12,7 @@ use Rattle.lin_export.specs.Pcap.{pcap}
 use Rattle.lin_export.specs.Vcd.{vcd}
 use Rattle.lin_export.specs.declared.fault.ExportFault.{ExportFault}
 use Rattle.lin_export.specs.declared.fault.ExportFault.TheVariants as export
-use Rattle.lin_page.specs.Page.{page}
+use Rattle.lin_tool.specs.Page.{page}
 use Rattle.lin_values.specs.Coded.{CodedData}
 use Rattle.lin_tool.specs.Junit.{junit}
 use Rattle.lin_tool.specs.declared.fault.Fault.{Fault}

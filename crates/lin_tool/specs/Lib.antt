@@ -7,6 +7,10 @@ pub mod Junit
 pub mod Listing
 pub mod Living
 pub mod Opening
+pub mod Page
+pub mod PageFields
+pub mod PageMeanings
+pub mod PageTold
 pub mod Placing
 pub mod Playing
 pub mod Reading

@@ -10,7 +10,7 @@ use Rattle.lin_core.specs.Links.{waiting}
 use Rattle.lin_core.specs.declared.log.LogEntry.{LogEntry}
 use Rattle.lin_bench.specs.Played.{is_unmet}
 use Rattle.lin_bench.specs.declared.got.Judgement.{Judgement}
-use Rattle.lin_page.specs.Page.{events_so, is_lost, is_refusal, is_seen}
+use Rattle.lin_tool.specs.Page.{events_so, is_lost, is_refusal, is_seen}
 
 -- how many messages wait, of all hosts
 abbrev pub waiting_in : Parts → List LogEntry → ℕ

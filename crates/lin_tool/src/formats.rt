@@ -8,11 +8,11 @@ ghost use Rattle.lin_tool.specs.Formats.{log_as};
 ghost use Rattle.lin_tool.specs.declared.formats.Format.TheVariants.{Log};
 
 use crate::junit::write_junit;
+use crate::page::write_page;
 use lin_bench::Judgement;
 use lin_core::Core;
 use lin_export::{ExportFault, write_csv, write_jsonl, write_named, write_pcap, write_vcd};
 use lin_log::write_log;
-use lin_page::write_page;
 use lin_values::Coded;
 use std::alloc::Global;
 use std::io::Write;

@@ -28,6 +28,7 @@ mod misspelled;
 mod nearest;
 mod notes;
 mod opening;
+mod page;
 mod placing;
 mod playing;
 mod replaying;

@@ -8,9 +8,9 @@ ghost use Rattle.lin_core.specs.Core.{past_of};
 ghost use Rattle.lin_text.specs.Written.{Grows, WritesText};
 ghost use Rattle.lin_tool.specs.Tally.{counted, tally_text, waiting_in};
 
+use crate::page::summary::{messages_lost, slots_finished, steps_refused};
 use lin_bench::{Judgement, is_unmet};
 use lin_core::Core;
-use lin_page::{messages_lost, slots_finished, steps_refused};
 use lin_text::{TextWriter, WriteFailed};
 use std::io::Write;
 

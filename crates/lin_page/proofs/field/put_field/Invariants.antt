@@ -1,7 +1,0 @@
-use Rattle.std.proofs.Common.{take, flat_map}
-use Rattle.lin_text.specs.Written.{Grows}
-use Rattle.lin_page.specs.Fields.{escaped}
-use Rattle.lin_page.proofs.field.put_field.Given as goal
-
-abbrev pub invariant-loop-byte : goal.invariant-loop-byte
-invariant-loop-byte g l = Grows g.W.Write.contents l.initial.out l.out (flat_map escaped (take l.byte-index l.text))

@@ -1,8 +1,0 @@
-use Rattle.std.proofs.Common.{flat_map, take}
-use Rattle.lin_text.specs.Written.{Grows}
-use Rattle.lin_values.specs.declared.items.PlacedItem.{PlacedItem}
-use Rattle.lin_page.specs.Meanings.{logical_line}
-use Rattle.lin_page.proofs.meanings.put_logicals.Given as goal
-
-abbrev pub invariant-loop-one : goal.invariant-loop-one
-invariant-loop-one g l = Grows g.W.Write.contents l.initial.out l.out (flat_map (λ (p : PlacedItem). logical_line l.signal p.item) (take l.one-index l.items))

@@ -1,4 +1,0 @@
-pub mod Fields
-pub mod Meanings
-pub mod Page
-pub mod Told

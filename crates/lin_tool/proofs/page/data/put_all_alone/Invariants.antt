@@ -1,0 +1,8 @@
+use Rattle.std.proofs.Common.{flat_map}
+use Rattle.lin_frame.specs.Words.{numbers}
+use Rattle.lin_text.specs.Written.{Grows}
+use Rattle.lin_tool.specs.Page.{alone_line}
+use Rattle.lin_tool.proofs.page.data.put_all_alone.Given as goal
+
+abbrev pub invariant-loop-signal : goal.invariant-loop-signal
+invariant-loop-signal g l = Grows g.W.Write.contents l.initial.out l.out (flat_map (alone_line l.fn.cluster) (numbers l.signal))

@@ -1,0 +1,106 @@
+-- The page of a run: what its cluster has and the log itself, between the pieces of a page whose
+-- scripts draw them.
+use Rattle.std.specs.Prelude.{ℕ, ◌==◌, Bool, true, false, if◌then◌else◌, Option}
+use Rattle.std.specs.Prelude.{List, [], ◌∷◌, ◌++◌, length, flat_map, reverse, sum_by, codes}
+use Rattle.std.specs.List.{count_by}
+use Rattle.std.specs.Fmt.{decimal}
+use Rattle.lin_frame.specs.Words.{numbers}
+use Rattle.lin_parts.specs.Cluster.{frames_with, signal_of}
+use Rattle.lin_parts.specs.declared.parts.Parts.{Parts}
+use Rattle.lin_core.specs.History.{events, time}
+use Rattle.lin_core.specs.Tables.{look_number, look_of, look_word, looks}
+use Rattle.lin_core.specs.declared.event.Event.{Event}
+use Rattle.lin_core.specs.declared.event.Event.TheVariants.{Lost, Seen}
+use Rattle.lin_core.specs.declared.event.Look.{Look}
+use Rattle.lin_core.specs.declared.log.LogEntry.{LogEntry}
+use Rattle.lin_core.specs.declared.reply.Reply.{Reply}
+use Rattle.lin_core.specs.declared.reply.Reply.TheVariants.{Done, Refused}
+use Rattle.lin_log.specs.Words.{line, spaced_word, text, value_word}
+use Rattle.lin_export.specs.ListedFrames.{frames}
+use Rattle.lin_export.specs.Listing.{listing}
+use Rattle.lin_export.specs.ListedSlots.{slots}
+use Rattle.lin_export.specs.FirstSlots.{first_slots}
+use Rattle.lin_bench.specs.Played.{is_unmet}
+use Rattle.lin_bench.specs.Texts.{unmet_text}
+use Rattle.lin_bench.specs.declared.got.Judgement.{Judgement}
+use Rattle.lin_tool.specs.PageFields.{field}
+use Rattle.lin_tool.specs.PageMeanings.{coded_lines}
+use Rattle.lin_values.specs.Coded.{CodedData}
+use Rattle.lin_tool.specs.declared.page.pieces.TheConstants.{HEAD, MIDDLE, TAIL}
+
+-- what stands before the listing of the cluster: the version of these lines, the LDF's name and the
+-- speed
+abbrev pub page_head : Parts → List ℕ → List ℕ
+page_head c file =
+    HEAD.now
+    ++ (line (codes "page" ∷ codes "1" ∷ [])
+    ++ (line (codes "file" ∷ field file ∷ []) ++ line (codes "speed" ∷ decimal c.speed ∷ [])))
+
+-- a signal that no frame has, with its initial value
+abbrev pub alone_line : Parts → ℕ → List ℕ
+alone_line c s =
+    if length (frames_with c s) == 0
+    then line (codes "alone" ∷ decimal s ∷ value_word (signal_of c s).initial ∷ []) else []
+
+-- what stands between the listing and the log
+abbrev pub log_head : Parts → Option CodedData → List ℕ
+log_head c k =
+    flat_map (alone_line c) (numbers (length c.signals))
+    ++ (coded_lines c k ++ line (codes "log" ∷ []))
+
+-- a judgement after so many entries, where it isn't met
+abbrev pub unmet_line : Parts → Judgement → List ℕ
+unmet_line c j =
+    if is_unmet j.judged
+    then codes "unmet" ++ (spaced_word (decimal j.entries) ++ spaced_word (unmet_text c j))
+    else []
+
+-- how many events of a log pass a test, and how many of its steps were refused
+abbrev pub events_so : (Event → Bool) → List LogEntry → ℕ
+events_so test log = sum_by (λ e. count_by test (events e)) log
+
+abbrev pub is_seen : Event → Bool
+is_seen (Seen how) = true
+is_seen event = false
+
+abbrev pub is_look : Look → Event → Bool
+is_look look (Seen how) = look_number (look_of how) == look_number look
+is_look look event = false
+
+abbrev pub is_lost : Event → Bool
+is_lost (Lost host number why) = true
+is_lost event = false
+
+abbrev pub is_refusal : Reply → Bool
+is_refusal (Done events) = false
+is_refusal (Refused refusal) = true
+
+-- what a reader without scripts sees first: how many slots there were and how they were seen, how
+-- many steps were refused and messages lost, and the time at the end
+abbrev pub number_of : List ℕ → List ℕ → List ℕ
+number_of word number = word ++ (codes ": " ++ number)
+
+abbrev pub look_count : List LogEntry → Look → List ℕ
+look_count log look =
+    codes ", " ++ number_of (look_word look) (decimal (events_so (is_look look) log))
+
+abbrev pub summary : Parts → List LogEntry → List ℕ
+summary c log =
+    codes "<p>" ++ number_of (codes "slots") (decimal (events_so is_seen log))
+    ++ flat_map (look_count log) looks
+    ++ number_of (codes ", refused") (decimal (count_by (λ e. is_refusal e.reply) log))
+    ++ number_of (codes ", lost") (decimal (events_so is_lost log))
+    ++ number_of (codes ", time_us") (decimal (time c (reverse log)))
+    ++ (codes "</p>" ++ 10 ∷ [])
+
+-- what stands up to the end of the log
+abbrev pub log_page : Parts → Option CodedData → List ℕ → List LogEntry → List ℕ
+log_page c k file log =
+    page_head c file ++ listing c ++ frames c ++ slots c ++ log_head c k ++ text log
+
+-- the page of a log of a cluster, with what its values mean, the name of its LDF and the judgements
+-- of its play
+abbrev pub page : Parts → Option CodedData → List ℕ → List LogEntry → List Judgement → List ℕ
+page c k file log judgements =
+    log_page c k file log ++ (flat_map (unmet_line c) judgements ++ MIDDLE.now ++ summary c log)
+    ++ first_slots c log ++ TAIL.now

@@ -1,0 +1,37 @@
+//! Texts as one field of a line.
+
+ghost use Rattle.std.specs.Prelude.{◌≡◌, ◌∷◌, flat_map};
+ghost use Rattle.lin_text.specs.Written.{Grows};
+ghost use Rattle.lin_tool.specs.PageFields.{escaped, field, is_plain};
+
+use lin_text::TextWriter;
+use std::io::Write;
+
+/// Whether a byte of a text stands for itself.
+fn is_plain(byte: u8) -> bool
+    ensures { result ≡ is_plain byte }
+{
+    32 < byte && byte < 127 && byte != b'%' && byte != b'&' && byte != b'<'
+}
+
+fn put_escaped<W: Write>(out: &mut TextWriter<'_, W>, byte: u8)
+    ensures { Grows W.contents out.old out.new (escaped byte) }
+{
+    if is_plain(byte) {
+        out.put_byte(byte);
+    } else {
+        out.put_byte(b'%');
+        out.put_hex_byte(byte);
+    }
+}
+
+/// A text as a field: `"`, and the bytes, of which all but printable ones and `%`, `&` and `<` are
+/// `%` and two digits.
+pub(crate) fn put_field<W: Write>(out: &mut TextWriter<'_, W>, text: &[u8])
+    ensures { Grows W.contents out.old out.new (field text.now) }
+{
+    out.put_byte(b'"');
+    for byte in text {
+        put_escaped(out, *byte);
+    }
+}
