@@ -6,3 +6,4 @@ pub mod Plays
 pub mod Moments
 pub mod Tallies
 pub mod Reports
+pub mod laws

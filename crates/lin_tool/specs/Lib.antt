@@ -19,3 +19,4 @@ pub mod Running
 pub mod Statuses
 pub mod Tally
 pub mod Telling
+pub mod laws

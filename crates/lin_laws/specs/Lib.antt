@@ -1,3 +1,0 @@
-pub mod NamedScripts
-pub mod Transcripts
-pub mod Texts

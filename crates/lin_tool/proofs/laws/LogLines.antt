@@ -1,0 +1,148 @@
+-- The lines of logs: none begins with `#`.
+use Rattle.std.proofs.Common.{◌≡◌, ◌∙◌, ℕ, ◌==◌, Bool, true, false, List, [], ◌∷◌, ◌++◌, refl, sym, ap, subst, append_assoc, append-nil, flat_map, nat_lt, reverse, codes, if◌then◌else◌, arith, Option}
+use Rattle.std.specs.Prelude.{IfSome}
+use Rattle.std.specs.Fmt.{decimal}
+use Rattle.std.proofs.lemmas.List.{reverse-append}
+use Rattle.std.proofs.lemmas.List.Elements.{All-cons, All-head, All-nil, All-tail}
+use Rattle.lin_parts.specs.declared.parts.Parts.{Parts}
+use Rattle.lin_core.specs.Tables.{direction_word, refusal_number}
+use Rattle.lin_core.specs.declared.link.Direction.{Direction}
+use Rattle.lin_core.specs.declared.link.Direction.TheVariants as direction
+use Rattle.lin_core.specs.declared.log.LogEntry.{LogEntry}
+use Rattle.lin_core.specs.declared.port.PortId.{PortId}
+use Rattle.lin_core.specs.declared.port.PortId.TheVariants.{Bus, Host, Node}
+use Rattle.lin_core.specs.declared.reply.Reply.{Reply}
+use Rattle.lin_core.specs.declared.reply.Reply.TheVariants.{Done, Refused}
+use Rattle.lin_core.specs.declared.step.Step.{Step}
+use Rattle.lin_core.specs.declared.step.Step.TheVariants.{Send, Write, Open, Answer, Leave, Hurt, Finish, Timeout, Switch, AskSleep, Wake, Close}
+use Rattle.lin_log.specs.Language.{Language, named, nameless, plain}
+use Rattle.lin_log.specs.Laws.{AreNames, HasNames, IsQuiet, are_quiet, is_quiet, no_end}
+use Rattle.lin_log.specs.Words.{line_tail, log_text, port_number_word, port_word, reply_line, reply_words, spaced_word, step_line, step_words, text}
+use Rattle.lin_log.proofs.Items.{joined}
+use Rattle.lin_log.proofs.Logs.{entry_text, quiet-events, text-entries}
+use Rattle.lin_log.proofs.Quiet.{line-end, quiet-called, quiet-decimal, quiet-hex, quiet-spaced}
+use Rattle.lin_values.specs.Coded.{CodedData}
+use Rattle.lin_export.specs.Named.{reply_lines}
+use Rattle.lin_live.specs.Told.{entries_text}
+use Rattle.lin_live.specs.declared.format.AnswerFormat.{AnswerFormat}
+use Rattle.lin_live.specs.declared.format.AnswerFormat.TheVariants.{Log, Named}
+use Rattle.lin_tool.specs.laws.NamedScripts.{AreOneLine, HasFrameNames}
+use Rattle.lin_tool.specs.laws.Transcripts.{ended}
+use Rattle.lin_tool.proofs.laws.Remarks.{Stays, quiet-clean, stays-both, stays-line, stays-nothing}
+use Rattle.std.proofs.lemmas.Grind.{flat_map-append}
+use Rattle.lin_tool.proofs.laws.Replies.{reply-quiet, value-quiet}
+
+-- ---- the line of a step
+way-quiet : (d : Direction) → is_quiet (direction_word d) ≡ true
+way-quiet direction.Down = refl
+way-quiet direction.Up = refl
+
+step-quiet : (l : Language) → HasNames l → (s : Step) → are_quiet (step_words l s) ≡ true
+step-quiet l a (Send from to message) = rw (quiet-called l.nodes a.of_nodes from, quiet-called l.nodes a.of_nodes to, quiet-hex message) refl
+step-quiet l a (Write by signal value) = rw (quiet-called l.nodes a.of_nodes by, quiet-called l.signals a.of_signals signal, value-quiet value) refl
+step-quiet l a Open = refl
+step-quiet l a (Answer node) = rw (quiet-called l.nodes a.of_nodes node) refl
+step-quiet l a (Leave node) = rw (quiet-called l.nodes a.of_nodes node) refl
+step-quiet l a (Hurt bytes) = rw (quiet-hex bytes) refl
+step-quiet l a Finish = refl
+step-quiet l a (Timeout node dir) = rw (quiet-called l.nodes a.of_nodes node, way-quiet dir) refl
+step-quiet l a (Switch table) = rw (quiet-called l.tables a.of_tables table) refl
+step-quiet l a AskSleep = refl
+step-quiet l a Wake = refl
+step-quiet l a (Close host) = rw (quiet-called l.nodes a.of_nodes host) refl
+
+number-by : (l : Language) (n : ℕ) (t : Bool) → is_quiet (if t then l.nodes.name n else decimal n) ≡ true
+    → is_quiet (if t then 58 ∷ l.nodes.name n else decimal n) ≡ true
+number-by l n true h = h
+number-by l n false h = h
+
+number-quiet : (l : Language) → HasNames l → (n : ℕ) → is_quiet (port_number_word l n) ≡ true
+number-quiet l a n = number-by l n (nat_lt n l.nodes.count) (quiet-called l.nodes a.of_nodes n)
+
+-- a line whose first word is no remark's
+line-stays : (x : ℕ) (word : List ℕ) (words : List (List ℕ)) (t : List ℕ) → (x == 35) ≡ false → is_quiet (x ∷ word) ≡ true → are_quiet words ≡ true
+    → t ≡ ended (x ∷ (word ++ flat_map spaced_word words)) → Stays t
+line-stays x word words t e h k is =
+    let body = x ∷ (word ++ flat_map spaced_word words) in
+    subst Stays (sym is)
+    (stays-line body (quiet-clean body (joined no_end (x ∷ word) (flat_map spaced_word words) h (quiet-spaced words k))) (rw e refl))
+
+line-is : (word : List ℕ) (words : List (List ℕ)) → word ++ line_tail words ≡ ended (word ++ flat_map spaced_word words)
+line-is word words =
+    ap (λ t. word ++ t) (sym (append-nil (line_tail words)) ∙ line-end words []) ∙ sym (append_assoc word (flat_map spaced_word words) (10 ∷ []))
+
+step-stays : (l : Language) → HasNames l → (p : PortId) (s : Step) → Stays (step_line l p s)
+step-stays l a Bus s = line-stays 98 (codes "us") (step_words l s) (step_line l Bus s) refl refl (step-quiet l a s) (line-is (codes "bus") (step_words l s))
+step-stays l a (Host n) s =
+    line-stays 104 (port_number_word l n) (step_words l s) (step_line l (Host n) s) refl (rw (number-quiet l a n) refl) (step-quiet l a s)
+    (line-is (port_word l (Host n)) (step_words l s))
+step-stays l a (Node n) s =
+    line-stays 110 (port_number_word l n) (step_words l s) (step_line l (Node n) s) refl (rw (number-quiet l a n) refl) (step-quiet l a s)
+    (line-is (port_word l (Node n)) (step_words l s))
+
+-- ---- the lines of a reply, and of a log
+reply-stays : (ws : List (List ℕ)) → are_quiet ws ≡ true → Stays (reply_line ws)
+reply-stays ws h = line-stays 62 [] ws (reply_line ws) refl refl h (line-is (codes ">") ws)
+
+replies-stay : (rs : List (List (List ℕ))) → IsQuiet rs → Stays (flat_map reply_line rs)
+replies-stay [] h = stays-nothing
+replies-stay (r ∷ rs) h =
+    stays-both (reply_line r) (flat_map reply_line rs) (reply-stays r (All-head (λ ws. are_quiet ws ≡ true) r rs h))
+    (replies-stay rs (All-tail (λ ws. are_quiet ws ≡ true) r rs h))
+
+abbrev pub Replies : Type 0
+Replies = LogEntry → List LogEntry → List (List (List ℕ))
+
+log-stays : (l : Language) (replies : Replies) → HasNames l → ((e : LogEntry) (past : List LogEntry) → IsQuiet (replies e past)) → (past es : List LogEntry)
+    → Stays (log_text l replies past es)
+log-stays l replies a q past [] = stays-nothing
+log-stays l replies a q past (e ∷ es) =
+    stays-both (step_line l e.port e.step) (flat_map reply_line (replies e past) ++ log_text l replies (e ∷ past) es) (step-stays l a e.port e.step)
+    (stays-both (flat_map reply_line (replies e past)) (log_text l replies (e ∷ past) es) (replies-stay (replies e past) (q e past))
+    (log-stays l replies a q (e ∷ past) es))
+
+-- ---- in each of the two languages
+abbrev pub plain_replies : Replies
+plain_replies e past = reply_words plain e.reply
+
+no-names : AreNames nameless
+no-names = record { words = λ k h. absurd (omega arith); unlike = λ i k h g e. absurd (omega arith) }
+
+pub plain-names : HasNames plain
+plain-names = record { of_nodes = no-names; of_signals = no-names; of_tables = no-names }
+
+pub plain-quiet : (r : Reply) → IsQuiet (reply_words plain r)
+plain-quiet (Done events) = quiet-events plain plain-names events
+plain-quiet (Refused r) =
+    let ws : List (List ℕ) = codes "refused" ∷ decimal (refusal_number r) ∷ [] in
+    let q : are_quiet ws ≡ true = rw (quiet-decimal (refusal_number r)) refl in
+    All-cons (λ ws. are_quiet ws ≡ true) ws [] q (All-nil (λ ws. are_quiet ws ≡ true))
+
+pub entries-stay : (f : AnswerFormat) (c : Parts) (k : Option CodedData) → HasNames (named c) → HasFrameNames c → IfSome k AreOneLine → (past es : List LogEntry)
+    → Stays (entries_text f c k past es)
+entries-stay Log c k a b one past es = log-stays plain plain_replies plain-names (λ e p. plain-quiet e.reply) [] es
+entries-stay Named c k a b one past es = log-stays (named c) (reply_lines c k) a (λ e p. reply-quiet c k a b one e p e.reply) past es
+
+-- ---- entries, and then more
+back-to-front : (e : LogEntry) (es past : List LogEntry) → reverse (e ∷ es) ++ past ≡ reverse es ++ e ∷ past
+back-to-front e es past = ap (λ l. l ++ past) (reverse-append (e ∷ []) es) ∙ append_assoc (reverse es) (e ∷ []) past
+
+log-append : (l : Language) (replies : Replies) (past xs ys : List LogEntry)
+    → log_text l replies past (xs ++ ys) ≡ log_text l replies past xs ++ log_text l replies (reverse xs ++ past) ys
+log-append l replies past [] ys = refl
+log-append l replies past (e ∷ es) ys =
+    let first = step_line l e.port e.step in
+    let told = flat_map reply_line (replies e past) in
+    let more = log_text l replies (e ∷ past) es in
+    let rest = log_text l replies (reverse (e ∷ es) ++ past) ys in
+    ap (λ t. first ++ (told ++ t)) (log-append l replies (e ∷ past) es ys ∙ ap (λ p. more ++ log_text l replies p ys) (sym (back-to-front e es past)))
+    ∙ ap (λ t. first ++ t) (sym (append_assoc told more rest)) ∙ sym (append_assoc first (told ++ more) rest)
+
+text-append : (xs ys : List LogEntry) → text (xs ++ ys) ≡ text xs ++ text ys
+text-append xs ys =
+    sym (text-entries (xs ++ ys)) ∙ flat_map-append entry_text xs ys ∙ ap (λ t. t ++ flat_map entry_text ys) (text-entries xs) ∙ ap (λ t. text xs ++ t) (text-entries ys)
+
+pub entries-append : (f : AnswerFormat) (c : Parts) (k : Option CodedData) (past xs ys : List LogEntry)
+    → entries_text f c k past (xs ++ ys) ≡ entries_text f c k past xs ++ entries_text f c k (reverse xs ++ past) ys
+entries-append Log c k past xs ys = text-append xs ys
+entries-append Named c k past xs ys = log-append (named c) (reply_lines c k) past xs ys

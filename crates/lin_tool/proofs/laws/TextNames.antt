@@ -1,0 +1,78 @@
+-- The cluster of an LDF text has names that a bench script reads.
+use Rattle.std.proofs.Common.{◌≡◌, ◌∙◌, ◌+◌, ℕ, zero, suc, List, [], ◌∷◌, refl, sym, ap, subst, arith, Option, Some, None, true, length, get_or, map}
+use Rattle.std.specs.Prelude.{IfSome}
+use Rattle.std.specs.List.{enumerate_from}
+use Rattle.std.proofs.lemmas.List.{length-map}
+use Rattle.std.proofs.lemmas.List.Elements.{All-map}
+use Rattle.std.proofs.lemmas.List.FromFn.{length-enumerate_from}
+use Rattle.lin_frame.specs.declared.value.Value.TheVariants.{Scalar}
+use Rattle.lin_parts.specs.declared.description.Description.{Description}
+use Rattle.lin_parts.specs.declared.description.Name.{Name}
+use Rattle.lin_parts.specs.Cluster.{node_of, nodes}
+use Rattle.lin_parts.proofs.Pairs.{all-of-map}
+use Rattle.lin_parts.specs.declared.parts.EventFrame.{EventFrame}
+use Rattle.lin_parts.specs.declared.parts.Node.{Node}
+use Rattle.lin_parts.specs.declared.parts.Parts.{Parts}
+use Rattle.lin_parts.specs.declared.parts.Signal.{Signal}
+use Rattle.lin_parts.specs.declared.parts.SporadicFrame.{SporadicFrame}
+use Rattle.lin_parts.specs.declared.parts.Table.{Table}
+use Rattle.lin_cluster.specs.Described.{described_event, described_signal, described_sporadic, described_table, parts_of, responder}
+use Rattle.lin_cluster.proofs.DescribedFrames.{each-frame}
+use Rattle.lin_log.specs.Language.{named}
+use Rattle.lin_values.specs.Coded.{CodedData}
+use Rattle.lin_log.specs.Laws.{HasNames, is_name}
+use Rattle.lin_tool.specs.laws.NamedScripts.{AreOneLine, HasFrameNames, IsSaid, NamedLogsOfTexts}
+use Rattle.lin_tool.proofs.laws.LdfNames.{DeclaresNames, event_text, frame_text, name_text, names-of_new, signal_text, sporadic_text, table_text, text-declares}
+use Rattle.lin_tool.proofs.laws.NamedLogs.{named-logs}
+use Rattle.lin_tool.proofs.laws.OneLines.{codings-are-one-line}
+
+-- what is made of things has their names, and nothing else has one
+made-name : {A B : Type 0} (make : A → B) (name_of : B → List ℕ) (text_of : A → List ℕ) (other : B) → ((a : A) → name_of (make a) ≡ text_of a)
+    → name_of other ≡ [] → (xs : List A) (k : ℕ) → name_of (get_or (map make xs) k other) ≡ get_or (map text_of xs) k []
+made-name make name_of text_of other same none [] k = none
+made-name make name_of text_of other same none (x ∷ xs) zero = same x
+made-name make name_of text_of other same none (x ∷ xs) (suc k) = made-name make name_of text_of other same none xs k
+
+numbered-names : (n : ℕ) (xs : List Name) → map (λ (p : ℕ × Name). p.1.text) (enumerate_from n xs) ≡ map name_text xs
+numbered-names n [] = refl
+numbered-names n (x ∷ xs) = ap (λ l. x.text ∷ l) (numbered-names (n + 1) xs)
+
+node-name : (d : Description) (k : ℕ) → (node_of (parts_of d) k).name ≡ get_or (d.master.text ∷ map name_text d.slaves) k []
+node-name d zero = refl
+node-name d (suc k) =
+    made-name (responder d) (λ (n : Node). n.name) (λ (p : ℕ × Name). p.1.text) (record { name = []; nad = None }) (λ p. refl) refl (enumerate_from 1 d.slaves) k
+    ∙ ap (λ l. get_or l k []) (numbered-names 1 d.slaves)
+
+node-count : (d : Description) → nodes (parts_of d) ≡ length (d.master.text ∷ map name_text d.slaves)
+node-count d =
+    omega (arith, length-map (enumerate_from 1 d.slaves) (responder d), length-enumerate_from 1 d.slaves, length-map d.slaves name_text)
+
+words-of_text : (d : Description) → DeclaresNames d → HasNames (named (parts_of d))
+words-of_text d p = record {
+  of_nodes = names-of_new (d.master.text ∷ map name_text d.slaves) p.of_nodes _ _ (node-count d) (node-name d);
+  of_signals = names-of_new (map signal_text d.signals) p.of_signals _ _
+      (length-map d.signals (described_signal d) ∙ sym (length-map d.signals signal_text))
+      (made-name (described_signal d) (λ (s : Signal). s.name) signal_text (record { name = []; publisher = 0; size = 1; initial = Scalar 0 })
+      (λ s. refl) refl d.signals);
+  of_tables = names-of_new (map table_text d.tables) p.of_tables _ _
+      (length-map d.tables (described_table d) ∙ sym (length-map d.tables table_text))
+      (made-name (described_table d) (λ (t : Table). t.name) table_text (record { name = []; lines = [] }) (λ t. refl) refl d.tables);
+}
+
+frames-of_text : (d : Description) → DeclaresNames d → HasFrameNames (parts_of d)
+frames-of_text d p =
+    let is_name_so : List ℕ → Type 0 = λ name. is_name name ≡ true in
+    record {
+      of_frames = each-frame d (λ f. is_name f.name ≡ true) (all-of-map is_name_so frame_text d.frames p.of_frames);
+      of_sporadic = All-map (λ (s : SporadicFrame). is_name s.name ≡ true) (described_sporadic d) d.sporadic (all-of-map is_name_so sporadic_text d.sporadic p.of_sporadic);
+      of_events = All-map (λ (e : EventFrame). is_name e.name ≡ true) (described_event d) d.events (all-of-map is_name_so event_text d.events p.of_events);
+    }
+
+said-one : (c : Parts) (k : Option CodedData) → IsSaid c k → IfSome k AreOneLine
+said-one c None h = tt
+said-one c (Some k) h = subst AreOneLine (sym h.1) (codings-are-one-line c h.0)
+
+pub named-logs-of_texts : NamedLogsOfTexts
+named-logs-of_texts text d k log opening capacity described said fits =
+    let p = text-declares text d described in
+    named-logs (parts_of d) k log opening capacity (words-of_text d p) (frames-of_text d p) (said-one (parts_of d) k said) fits

@@ -1,0 +1,114 @@
+-- What a bench in hand answers to lines, without the lines that begin with `#`.
+use Rattle.std.proofs.Common.{◌≡◌, ◌∙◌, ℕ, ◌-◌, ◌==◌, Bool, true, false, List, [], ◌∷◌, ◌++◌, refl, sym, ap, subst, append_assoc, flat_map, length, map, reverse, take, codes, Option, Some, None, Result, Ok, Err, if◌then◌else◌}
+use Rattle.std.specs.Prelude.{IfSome}
+use Rattle.std.specs.List.{AllByRecursion}
+use Rattle.std.specs.Str.Lines.{strip_carriage_return}
+use Rattle.std.proofs.lemmas.List.Elements.{All-take}
+use Rattle.lin_parts.specs.declared.parts.Parts.{Parts}
+use Rattle.lin_core.specs.declared.log.LogEntry.{LogEntry}
+use Rattle.lin_log.specs.Language.{named}
+use Rattle.lin_log.specs.Laws.{HasNames}
+use Rattle.lin_values.specs.Coded.{CodedData}
+use Rattle.lin_live.proofs.Cuts.{pieces-clean, tail-clean}
+use Rattle.lin_live.proofs.Growth.{answers-are-the-log, answers-are-written, told-kept}
+use Rattle.lin_live.specs.Answers.{answers, answers_text}
+use Rattle.lin_bench.specs.Made.{made}
+use Rattle.lin_bench.specs.Strict.{entries_since}
+use Rattle.lin_live.specs.Told.{Answer, HandData, answered, entries_text, heard_as, reason_text, shown_coding, told, unmarked}
+use Rattle.lin_live.specs.Lines.{HasNoLf, but_last, last_line, pieces, tail}
+use Rattle.lin_live.specs.Transcript.{short}
+use Rattle.lin_live.specs.declared.format.AnswerFormat.{AnswerFormat}
+use Rattle.lin_live.specs.declared.format.AnswerFormat.TheVariants.{Log, Named}
+use Rattle.lin_live.specs.declared.heard.Heard.{Heard}
+use Rattle.lin_live.specs.declared.heard.Heard.TheVariants.{Ask, Make}
+use Rattle.lin_live.specs.declared.reason.Reason.{Reason}
+use Rattle.lin_tool.specs.laws.NamedScripts.{AreOneLine, HasFrameNames}
+use Rattle.lin_tool.specs.laws.Transcripts.{FitsCluster, IsRemark, LastLinesAreRemarks, LinesHaveNoLf, TranscriptsAreLogs, without_remarks}
+use Rattle.lin_tool.proofs.laws.LastLines.{ending-remark, value-remark, worded-remark}
+use Rattle.lin_tool.proofs.laws.HeardForms.{FineHeard, said-fine}
+use Rattle.lin_tool.proofs.laws.JudgedWords.{made-clean}
+use Rattle.lin_tool.proofs.laws.LogLines.{entries-append, entries-stay}
+use Rattle.lin_tool.proofs.laws.Reasons.{each-way}
+use Rattle.lin_tool.proofs.laws.Remarks.{remark-goes}
+
+-- ---- what is told of values has no end of a line in it
+pub fits-one : (c : Parts) (k : Option CodedData) → IfSome k (FitsCluster c) → IfSome k AreOneLine
+fits-one c None h = tt
+fits-one c (Some k) h = h.one_line
+
+one-by : (t : Bool) (k : Option CodedData) → IfSome k AreOneLine → IfSome (if t then k else None) AreOneLine
+one-by true k h = h
+one-by false k h = tt
+
+pub shown-one : (h : HandData) → IfSome h.coded AreOneLine → IfSome (shown_coding h) AreOneLine
+shown-one h one = one-by h.is_physical h.coded one
+
+-- ---- the last lines of answers
+abbrev HasRemark : Answer → Type 0
+HasRemark a = IsRemark a.last_line
+
+told-remark : (h : HandData) → HasNames (named h.cluster) → HasFrameNames h.cluster → IfSome h.coded AreOneLine → (said : Result (Option Heard) Reason) → FineHeard said
+    → HasRemark (told h said).1
+told-remark h a b one (Err why) f = ending-remark h.cluster a b (codes "bad line: " ++ reason_text why) f.said
+told-remark h a b one (Ok None) f = ending-remark h.cluster a b (codes "ok") refl
+told-remark h a b one (Ok (Some (Ask asked))) f =
+    value-remark h.cluster a b (shown_coding h) (shown-one h one) h.opening h.bench.past h.bench.rules.noted asked
+told-remark h a b one (Ok (Some (Make line))) f =
+    let m = made h.cluster h.opening h.capacity h.bench line in
+    worded-remark h.cluster a b h.coded one m.1 (entries_since h.bench.past m.0.past) (made-clean h.cluster h.opening h.capacity h.bench line f.said)
+
+all-remarks : (h : HandData) (c : Parts) (k : Option CodedData) → h.cluster ≡ c → h.coded ≡ k → HasNames (named c) → HasFrameNames c → IfSome k AreOneLine → (ls : List (List ℕ)) → AllByRecursion HasNoLf ls
+    → AllByRecursion HasRemark (answers h ls)
+all-remarks h c k is so a b one [] clean = tt
+all-remarks h c k is so a b one (line ∷ more) clean =
+    let begun = record h { begun = true } in
+    let said = heard_as h.cluster h.coded (unmarked h (short line)) in
+    let here : IfSome h.coded AreOneLine = subst (λ (o : Option CodedData). IfSome o AreOneLine) (sym so) one in
+    let kept = told-kept begun said in (
+      told-remark begun (subst (λ (x : Parts). HasNames (named x)) (sym is) a) (subst HasFrameNames (sym is) b) here said (said-fine h here line clean.0),
+      all-remarks (answered h (short line)).0 c k (kept.1 ∙ is) (kept.2 ∙ so) a b one more clean.1,
+    )
+
+pub last-lines-are-remarks : LastLinesAreRemarks
+last-lines-are-remarks h ls t = all-remarks h h.cluster h.coded refl refl t.names t.frames (fits-one h.cluster h.coded t.coded) ls t.lines
+
+-- ---- the entries of answers
+none-told : (f : AnswerFormat) (c : Parts) (k : Option CodedData) (past : List LogEntry) → [] ≡ entries_text f c k past []
+none-told Log c k past = refl
+none-told Named c k past = refl
+
+answers-left : (f : AnswerFormat) (c : Parts) (k : Option CodedData) → HasNames (named c) → HasFrameNames c → IfSome k AreOneLine → (past : List LogEntry) (all : List Answer)
+    → AllByRecursion HasRemark all → without_remarks (answers_text f c k past all) ≡ entries_text f c k past (flat_map (λ a. a.entries) all)
+answers-left f c k a b one past [] h = none-told f c k past
+answers-left f c k a b one past (x ∷ more) h =
+    let told = entries_text f c k past x.entries in
+    let rest = answers_text f c k (reverse x.entries ++ past) more in
+    ap without_remarks (append_assoc told x.last_line rest)
+    ∙ entries-stay f c k a b one past x.entries (x.last_line ++ rest)
+    ∙ ap (λ t. told ++ t) (remark-goes x.last_line h.0 rest ∙ answers-left f c k a b one (reverse x.entries ++ past) more h.1)
+    ∙ sym (entries-append f c k past x.entries (flat_map (λ y. y.entries) more))
+
+pub transcripts-are-logs : TranscriptsAreLogs
+transcripts-are-logs h ls t =
+    let all = flat_map (λ x. x.entries) (answers h ls) in
+    let k = shown_coding h in
+    ap without_remarks (answers-are-written h ls)
+    ∙ answers-left h.format h.cluster k t.names t.frames (shown-one h (fits-one h.cluster h.coded t.coded)) h.bench.past (answers h ls) (last-lines-are-remarks h ls t)
+    ∙ ap (λ p. entries_text h.format h.cluster k p all) t.begins
+    ∙ ap (entries_text h.format h.cluster k []) (sym (answers-are-the-log h ls ∙ ap (λ (p : List LogEntry). reverse p ++ all) t.begins))
+
+-- ---- the lines of an input
+strip-clean : (p : List ℕ) → HasNoLf p → HasNoLf (strip_carriage_return p)
+strip-clean p h = each-way HasNoLf _ (take (length p - 1) p) p (All-take (λ b. (b == 10) ≡ false) (length p - 1) p h) h
+
+closed-clean : (ps rest : List (List ℕ)) → AllByRecursion HasNoLf ps → AllByRecursion HasNoLf rest
+    → AllByRecursion HasNoLf (map strip_carriage_return (but_last ps) ++ rest)
+closed-clean [] rest h k = k
+closed-clean (p ∷ []) rest h k = k
+closed-clean (p ∷ q ∷ ps) rest h k = (strip-clean p h.0, closed-clean (q ∷ ps) rest h.1 k)
+
+last-clean : (p : List ℕ) → HasNoLf p → AllByRecursion HasNoLf (last_line p)
+last-clean p h = each-way (AllByRecursion HasNoLf) (length p == 0) [] (strip_carriage_return p ∷ []) tt (strip-clean p h, tt)
+
+pub lines-have-no-lf : LinesHaveNoLf
+lines-have-no-lf bytes = closed-clean (pieces bytes) (last_line (tail bytes)) (pieces-clean bytes) (last-clean (tail bytes) (tail-clean bytes))

@@ -1,0 +1,46 @@
+//! What holds of logs with names, of transcripts, and of plain LDF texts.
+
+ghost use Rattle.lin_tool.specs.laws.NamedScripts.{CodingsAreOneLine, NamedLogs, NamedLogsOfTexts};
+ghost use Rattle.lin_tool.specs.laws.Texts.{PlainTextsAreRead, PlainTextsSayTheSame};
+ghost use Rattle.lin_tool.specs.laws.Transcripts.{LastLinesAreRemarks, LinesHaveNoLf};
+ghost use Rattle.lin_tool.specs.laws.Transcripts.{TranscriptsAreBenchScripts, TranscriptsAreLogs};
+ghost use Rattle.lin_tool.specs.laws.Transcripts.{TranscriptsAreInputs, TranscriptsAreScripts};
+
+/// A log with names is a bench script of the log's own steps: it has no bad line, makes no slots
+/// of its own, and expects nothing. It holds wherever names are words and no two nodes, signals or
+/// schedule tables have the same one, and so of each cluster that an LDF text describes; where the
+/// log tells what values mean, no text of that has an end of a line in it, as none of an LDF text has.
+pub fn named_logs_say_the_same()
+    ensures of_words { NamedLogs }
+    ensures of_texts { NamedLogsOfTexts }
+    ensures of_codings { CodingsAreOneLine }
+{}
+
+/// Without the lines that begin with `#`, the transcript of lines on a bench in hand that begins is
+/// the text of its log, byte for byte: the log's own, or the log with names, whichever the bench
+/// tells. A transcript by numbers is a script of its run, each one is a bench script of it, and
+/// each is an input of lines again, which come to the same log: these three where the numbers and
+/// bytes of the log's entries are within their types, as each `LogEntry` has them. Each answer ends
+/// with one line that begins with `#`. All this holds of lines without an LF in them, bad ones too,
+/// and the lines of each input have none; wherever names are words and no two nodes, signals or
+/// schedule tables have the same one. Where what signals mean is known, no text of that has an end of
+/// a line in it, and no signal is called `=` or `~`.
+pub fn transcripts_are_logs()
+    ensures logs { TranscriptsAreLogs }
+    ensures scripts { TranscriptsAreScripts }
+    ensures bench_scripts { TranscriptsAreBenchScripts }
+    ensures inputs { TranscriptsAreInputs }
+    ensures remarks { LastLinesAreRemarks }
+    ensures lines { LinesHaveNoLf }
+{}
+
+/// What a plain LDF text describes, it says as a text of the field too, with the versions of its
+/// header. It holds where none of the bytes that are read as spaces and no word of texts of the field
+/// stands in it, nor `response_error = WORD , ;`, which names a signal in texts of the field alone.
+/// Where nothing is found in such a text, and the version of its header doesn't begin with `1.`, it
+/// is settled to the same description, and so to the same cluster; nothing is told but marks that
+/// are left out, no slot is tight, and the order of bytes doesn't matter.
+pub fn plain_texts_are_read()
+    ensures read { PlainTextsAreRead }
+    ensures same { PlainTextsSayTheSame }
+{}
