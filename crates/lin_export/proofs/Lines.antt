@@ -17,7 +17,7 @@ use Rattle.lin_values.specs.Coded.{CodedData}
 use Rattle.lin_core.specs.declared.log.LogEntry.{LogEntry}
 use Rattle.lin_log.specs.Language.{named}
 use Rattle.lin_log.specs.Words.{line_tail, log_text, reply_line, spaced_word, step_line}
-use Rattle.lin_log.proofs.Ends.{ended}
+use Rattle.std.proofs.lemmas.Slice.Zip.{get_or-zip, length-zip}
 use Rattle.lin_export.proofs.Rows.{flat-append, frame-shown}
 
 flat-same : {X : Type 0} (f h : X → List ℕ) (xs : List X) → ((x : X) → f x ≡ h x) → flat_map f xs ≡ flat_map h xs
@@ -119,17 +119,12 @@ log-entries c k past (e ∷ es) =
     ∙ ap (λ t. step_line (named c) e.port e.step ++ (flat_map reply_line (reply_lines c k e past) ++ t)) (log-entries c k (e ∷ past) es)
 
 pub zip-at : {X Y : Type 0} (xs : List X) (ys : List Y) (i : ℕ) (x : X) (y : Y) → i < length xs → i < length ys → get_or (zip xs ys) i (x, y) ≡ (get_or xs i x, get_or ys i y)
-zip-at [] ys i x y h k = absurd (omega arith)
-zip-at (a ∷ xs) [] i x y h k = absurd (omega arith)
-zip-at (a ∷ xs) (b ∷ ys) zero x y h k = refl
-zip-at (a ∷ xs) (b ∷ ys) (suc i) x y h k = zip-at xs ys i x y (omega arith) (omega arith)
+zip-at xs ys i x y h k = get_or-zip xs ys i (x, y) h k
 
-pub length-zip : {X Y : Type 0} (xs : List X) (ys : List Y) → length xs ≡ length ys → length (zip xs ys) ≡ length xs
-length-zip [] ys e = refl
-length-zip (a ∷ xs) [] e = absurd (omega arith)
-length-zip (a ∷ xs) (b ∷ ys) e = let more = length-zip xs ys (omega arith) in omega arith
+pub zip-long : {X Y : Type 0} (xs : List X) (ys : List Y) → length xs ≡ length ys → length (zip xs ys) ≡ length xs
+zip-long xs ys same = let h = length-zip xs ys in omega (arith, same, h)
 
 -- words that end a line
-pub ended-both : (xs ys : List (List ℕ)) → flat_map spaced_word xs ++ (flat_map spaced_word ys ++ 10 ∷ []) ≡ line_tail (xs ++ ys)
-ended-both xs ys =
-    sym (append_assoc (flat_map spaced_word xs) (flat_map spaced_word ys) (10 ∷ [])) ∙ ap (λ l. l ++ 10 ∷ []) (sym (flat-append spaced_word xs ys)) ∙ ended (xs ++ ys)
+pub ended-both : (xs ys : List (List ℕ)) → flat_map spaced_word xs ++ line_tail ys ≡ line_tail (xs ++ ys)
+ended-both [] ys = refl
+ended-both (x ∷ xs) ys = append_assoc (spaced_word x) (flat_map spaced_word xs) (line_tail ys) ∙ ap (λ l. spaced_word x ++ l) (ended-both xs ys)

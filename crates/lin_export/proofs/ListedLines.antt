@@ -1,20 +1,13 @@
 -- Lines as they are put, word by word and thing by thing.
-use Rattle.std.proofs.Common.{◌≡◌, ℕ, ◌+◌, ◌<◌, List, [], ◌∷◌, ◌++◌, Option, false, length, get_or, take, map, flat_map, refl, sym, ap, ◌∙◌, append_assoc, append-nil, add-one, arith}
+use Rattle.std.proofs.Common.{◌≡◌, ℕ, ◌+◌, List, [], ◌∷◌, ◌++◌, Option, false, flat_map, sym, ap, ◌∙◌, append_assoc, append-nil, add-one}
 use Rattle.std.proofs.lemmas.Grind.{flat_map-append}
-use Rattle.std.proofs.lemmas.List.{map-append, take_more}
-use Rattle.std.proofs.lemmas.Slice.Zip.{get_or-zip, length-zip}
-use Rattle.std.specs.Prelude.{zip}
 use Rattle.lin_frame.specs.Words.{numbers}
 use Rattle.lin_frame.specs.declared.layout.Place.{Place}
 use Rattle.lin_log.specs.Words.{line_tail, line, spaced_word}
 use Rattle.lin_text.proofs.Growing.{grows-more, same-growth}
 use Rattle.lin_text.specs.Written.{Grows}
 use Rattle.lin_text.specs.declared.buffered.TextWriter.{TextWriter}
-
--- words that end a line
-pub ended-both : (xs ys : List (List ℕ)) → flat_map spaced_word xs ++ line_tail ys ≡ line_tail (xs ++ ys)
-ended-both [] ys = refl
-ended-both (x ∷ xs) ys = append_assoc (spaced_word x) (flat_map spaced_word xs) (line_tail ys) ∙ ap (λ l. spaced_word x ++ l) (ended-both xs ys)
+use Rattle.lin_export.proofs.Lines.{ended-both}
 
 -- the lines of one number more
 pub numbers-next : (f : ℕ → List ℕ) (i : ℕ) → flat_map f (numbers (i + 1)) ≡ flat_map f (numbers i) ++ f i
@@ -32,10 +25,3 @@ head-and-members kind head members = append_assoc kind (flat_map spaced_word hea
 -- what is read after the end of a frame's places
 abbrev pub no_place : Place
 no_place = record { offset = 0; size = 0; array = false }
-
--- two lists item by item
-pub zip-at : {X Y : Type 0} (xs : List X) (ys : List Y) (i : ℕ) (x : X) (y : Y) → i < length xs → i < length ys → get_or (zip xs ys) i (x, y) ≡ (get_or xs i x, get_or ys i y)
-zip-at xs ys i x y h k = get_or-zip xs ys i (x, y) h k
-
-pub zip-long : {X Y : Type 0} (xs : List X) (ys : List Y) → length xs ≡ length ys → length (zip xs ys) ≡ length xs
-zip-long xs ys same = let h = length-zip xs ys in omega (arith, same, h)

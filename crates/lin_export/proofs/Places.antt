@@ -10,7 +10,7 @@ use Rattle.lin_parts.specs.Cluster.{frame_of}
 use Rattle.lin_parts.specs.declared.parts.Parts.{Parts}
 use Rattle.lin_core.proofs.slots.ClusterFrames.{FrameIs}
 use Rattle.lin_core.proofs.slots.Hearing.{no_place, unpacked-same}
-use Rattle.lin_export.proofs.Lines.{length-zip, zip-at}
+use Rattle.lin_export.proofs.Lines.{zip-at, zip-long}
 use Rattle.lin_export.proofs.Rows.{texts-more}
 
 -- the signals of a frame, each with its place
@@ -47,7 +47,7 @@ is-read x f i answer bytes signals layout v is ss ls each below read =
     let places : List Place = (frame_of x f).layout.places in
     let same = is.same in
     let long : length signals ≡ length names = ap length ss in
-    let count = length-zip names places is.same in
+    let count = zip-long names places is.same in
     record {
       place = get_or places i no_place;
       inside = omega arith;
@@ -66,5 +66,5 @@ said-more says x f i answer signal v r =
 pub all-places : (x : Parts) (f i : ℕ) (signals : List ℕ) → FrameIs x f → signals ≡ (frame_of x f).signals → length signals ≤ i → take i (places_of x f) ≡ places_of x f
 all-places x f i signals is ss over =
     let long : length signals ≡ length (frame_of x f).signals = ap length ss in
-    let count = length-zip (frame_of x f).signals (frame_of x f).layout.places is.same in
+    let count = zip-long (frame_of x f).signals (frame_of x f).layout.places is.same in
     take_all i (places_of x f) (omega arith)

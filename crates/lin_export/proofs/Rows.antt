@@ -11,15 +11,10 @@ use Rattle.lin_parts.specs.declared.parts.Parts.{Parts}
 use Rattle.lin_parts.specs.declared.parts.Signal.{Signal}
 use Rattle.lin_parts.specs.declared.parts.Entry.{Entry}
 use Rattle.lin_parts.specs.declared.parts.Entry.TheVariants as entries
-use Rattle.lin_core.specs.History.{Slot, done_step, finished_slot, good, is_finish, is_sleep_slot, open_slot, time}
+use Rattle.lin_core.specs.History.{Slot, finished_slot, good, is_sleep_slot, time}
 use Rattle.lin_core.specs.Signals.{carried_frame, carried_by, heard_value, place_in, value_in}
-use Rattle.lin_core.specs.declared.event.Event.{Event}
 use Rattle.lin_core.specs.declared.log.LogEntry.{LogEntry}
-use Rattle.lin_core.specs.declared.reply.Reply.{Reply}
-use Rattle.lin_core.specs.declared.reply.Reply.TheVariants.{Done}
-use Rattle.lin_core.specs.declared.step.Step.{Step}
-use Rattle.lin_core.specs.declared.step.Step.TheVariants.{Finish}
-use Rattle.lin_export.specs.Csv.{comma, csv_line, node_name, nodes_cell, row, slot_line, spaced_name, step_row}
+use Rattle.lin_export.specs.Csv.{comma, csv_line, node_name, nodes_cell, slot_line, spaced_name}
 use Rattle.lin_export.specs.FirstSlots.{slot_row}
 use Rattle.lin_export.specs.Pcap.{bus_event, finish_packets, goes_to_sleep, packet, slot_packet}
 use Rattle.lin_export.specs.Shown.{slot_frame}
@@ -36,6 +31,10 @@ pub record Shows (o : Option Slot) (t : Slot) : Type 0 where
 pub shows : (o : Option Slot) (t : Slot) → Some t ≡ option_map shown_slot o → Shows o t
 shows None t e = absurd (cc)
 shows (Some s) t e = record { slot = s; is_open = refl; same = some-same t (shown_slot s) e }
+
+pub shows-none : (o : Option Slot) → None ≡ option_map shown_slot o → o ≡ None
+shows-none None e = refl
+shows-none (Some s) e = absurd (cc)
 
 pub carried-shown : (c : Parts) (entry : Entry) (s : Slot) → carried_by c entry (shown_slot s) ≡ carried_by c entry s
 carried-shown c (entries.Frame f) s = refl
@@ -87,16 +86,6 @@ numbers-more f n =
 pub cells-more : (f : ℕ → List (List ℕ)) (n : ℕ) → flat_map comma (flat_map f (numbers (n + 1))) ≡ flat_map comma (flat_map f (numbers n)) ++ flat_map comma (f n)
 cells-more f n = ap (flat_map comma) (numbers-more f n) ∙ flat-append comma (flat_map f (numbers n)) (f n)
 
-row-of : (c : Parts) (k : Option CodedData) (e : LogEntry) (past : List LogEntry) (reply : Reply) (step : Step) (events : List Event) (s : Slot)
-    → reply ≡ Done events → step ≡ Finish → open_slot past ≡ Some s
-    → option_map_or (step_row c k e past) (done_step reply step) [] ≡ slot_line c k (slots_in past) (time c past) s (heard_value c (e ∷ past))
-row-of c k e past reply step events s r f o = rw (r, f, o) refl
-
-pub row-finish : (c : Parts) (k : Option CodedData) (e : LogEntry) (past : List LogEntry) (events : List Event) (s : Slot)
-    → e.reply ≡ Done events → e.step ≡ Finish → open_slot past ≡ Some s
-    → row c k e past ≡ slot_line c k (slots_in past) (time c past) s (heard_value c (e ∷ past))
-row-finish c k e past events s r f o = row-of c k e past e.reply e.step events s r f o
-
 -- a slot that puts the cluster to sleep
 pub finish-asleep : (c : Parts) (at end : ℕ) (s : Slot) → is_sleep_slot s ≡ true → end ≡ at + (line_of c s.table s.entry).delay_us
     → slot_packet c at s ++ packet end (bus_event goes_to_sleep) ≡ finish_packets c at s
@@ -127,20 +116,18 @@ line-shown c k n t s g = rw (frame-shown c (line_of c s.table s.entry).entry s) 
 pub row-shown : (c : Parts) (n t : ℕ) (s : Slot) → slot_row c n t (shown_slot s) ≡ slot_row c n t s
 row-shown c n t s = rw (frame-shown c (line_of c s.table s.entry).entry s) refl
 
--- the slot that an entry finishes
-finished-by : (past : List LogEntry) (reply : Reply) (step : Step) (events : List Event) (s : Slot) → reply ≡ Done events → step ≡ Finish → open_slot past ≡ Some s
-    → option_map_or (λ (x : Step). if is_finish x then open_slot past else None) (done_step reply step) None ≡ Some s
-finished-by past reply step events s r f o = rw (r, f, o) refl
+-- what is heard of the slot that an entry finishes
+heard-in : Parts → List LogEntry → ℕ → Option Slot → Value
+heard-in c past k o = unwrap_or (option_map_or (λ (x : Slot). value_in c x k) o None) (heard_value c past k)
 
-pub slot-finished : (e : LogEntry) (past : List LogEntry) (events : List Event) (s : Slot) → e.reply ≡ Done events → e.step ≡ Finish → open_slot past ≡ Some s
-    → finished_slot e past ≡ Some s
-slot-finished e past events s r f o = finished-by past e.reply e.step events s r f o
-
-pub heard-finish : (c : Parts) (e : LogEntry) (past : List LogEntry) (events : List Event) (s t : Slot) (k : ℕ)
-    → e.reply ≡ Done events → e.step ≡ Finish → open_slot past ≡ Some s → t ≡ shown_slot s
+pub heard-finish : (c : Parts) (e : LogEntry) (past : List LogEntry) (s t : Slot) (k : ℕ) → finished_slot e past ≡ Some s → t ≡ shown_slot s
     → unwrap_or (value_in c t k) (heard_value c past k) ≡ heard_value c (e ∷ past) k
-heard-finish c e past events s t k r f o is =
-    rw (is, r, f, o) (ap (λ (v : Option Value). unwrap_or v (heard_value c past k)) (value-shown c s k))
+heard-finish c e past s t k f is =
+    ap (λ (u : Slot). unwrap_or (value_in c u k) (heard_value c past k)) is ∙ ap (λ (v : Option Value). unwrap_or v (heard_value c past k)) (value-shown c s k)
+    ∙ ap (heard-in c past k) (sym f)
+
+pub heard-before : (c : Parts) (e : LogEntry) (past : List LogEntry) (k : ℕ) → finished_slot e past ≡ None → heard_value c past k ≡ heard_value c (e ∷ past) k
+heard-before c e past k f = ap (heard-in c past k) (sym f)
 
 pub initial-at : (xs : List Signal) (i : ℕ) (v : Value) (d : Signal) → slice_get (map (λ (s : Signal). s.initial) xs) i ≡ Some v → v ≡ (get_or xs i d).initial
 initial-at [] i v d h = absurd (cc)

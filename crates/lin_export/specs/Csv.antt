@@ -11,13 +11,11 @@ use Rattle.lin_frame.specs.declared.value.Value.{Value}
 use Rattle.lin_frame.specs.declared.value.Value.TheVariants.{Scalar, Bytes}
 use Rattle.lin_parts.specs.Cluster.{entry_kind, line_of, named_table, node_of, signal_of}
 use Rattle.lin_parts.specs.declared.parts.Parts.{Parts}
-use Rattle.lin_core.specs.History.{Slot, done, good_bytes, open_slot, seen_of, time}
+use Rattle.lin_core.specs.History.{Slot, finished_slot, good_bytes, seen_of, time}
 use Rattle.lin_core.specs.Signals.{heard_value}
 use Rattle.lin_core.specs.Tables.{look_of, look_word}
 use Rattle.lin_core.specs.declared.event.Seen.{Seen}
 use Rattle.lin_core.specs.declared.log.LogEntry.{LogEntry}
-use Rattle.lin_core.specs.declared.step.Step.{Step}
-use Rattle.lin_core.specs.declared.step.Step.TheVariants.{Finish}
 use Rattle.lin_values.specs.Coded.{common_unit, encoding_of, CodedData}
 use Rattle.lin_values.specs.Meaning.{meaning}
 use Rattle.lin_values.specs.Shown.{plain_shown}
@@ -134,16 +132,12 @@ slot_line c k number at s values =
     (decimal number
     ∷ (slot_cells c at s ++ flat_map (signal_cells k values) (numbers (length c.signals))))
 
--- what an entry that was done says on those before it: the line of the slot that it finishes
-abbrev pub step_row : Parts → Option CodedData → LogEntry → List LogEntry → Step → List ℕ
-step_row c k e past Finish =
+-- what an entry says on those before it: the line of the slot that it finishes
+abbrev pub row : Parts → Option CodedData → LogEntry → List LogEntry → List ℕ
+row c k e past =
     option_map_or
     (λ s. slot_line c k (slots_in past) (time c past) s (heard_value c (e ∷ past)))
-    (open_slot past) []
-step_row c k e past step = []
-
-abbrev pub row : Parts → Option CodedData → LogEntry → List LogEntry → List ℕ
-row c k e past = option_map_or (step_row c k e past) (done e) []
+    (finished_slot e past) []
 
 -- the table of a log, the oldest entry first
 abbrev pub csv : Parts → Option CodedData → List LogEntry → List ℕ

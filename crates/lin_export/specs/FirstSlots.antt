@@ -25,9 +25,9 @@ slot_row c number at s =
 -- what an entry says on those before it: the row of the slot that it finishes, one of the first
 abbrev pub first_row : Parts → LogEntry → List LogEntry → List ℕ
 first_row c e past =
-    if nat_lt (slots_in past) 200
-    then option_map_or (slot_row c (slots_in past) (time c past)) (finished_slot e past) []
-    else []
+    option_map_or
+    (λ s. if nat_lt (slots_in past) 200 then slot_row c (slots_in past) (time c past) s else [])
+    (finished_slot e past) []
 
 -- the table of a log, the oldest entry first
 abbrev pub first_slots : Parts → List LogEntry → List ℕ

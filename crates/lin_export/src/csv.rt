@@ -21,7 +21,7 @@ use crate::meaning_cells::{put_meaning_cells, put_meaning_names};
 use crate::naming::{node_name, slot_name, table_name};
 use crate::slot::{Look, OpenSlot, byte_at};
 use crate::track::Track;
-use lin_core::{Listed, Log, LogEntry, Reply, Step, initial_values};
+use lin_core::{Listed, Log, LogEntry, initial_values};
 use lin_frame::{Answer, Value};
 use lin_parts::Cluster;
 use lin_text::TextWriter;
@@ -302,13 +302,7 @@ impl Format for Sheet<'_> {
         track: &Track,
         entry: &LogEntry,
     ) {
-        let Reply::Done(_) = &entry.reply else {
-            return;
-        };
-        let Step::Finish = &entry.step else {
-            return;
-        };
-        if let Some(slot) = track.slot() {
+        if let Some(slot) = track.finished(entry) {
             hear_slot(&mut self.values, cluster, slot);
             put_line(
                 out,

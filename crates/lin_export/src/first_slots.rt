@@ -10,7 +10,7 @@ use crate::fault::ExportFault;
 use crate::format::{Format, write_as};
 use crate::slot::OpenSlot;
 use crate::track::Track;
-use lin_core::{Log, LogEntry, Reply, Step};
+use lin_core::{Log, LogEntry};
 use lin_parts::Cluster;
 use lin_text::TextWriter;
 use std::alloc::Global;
@@ -79,13 +79,7 @@ impl Format for FirstSlots {
         track: &Track,
         entry: &LogEntry,
     ) {
-        let Reply::Done(_) = &entry.reply else {
-            return;
-        };
-        let Step::Finish = &entry.step else {
-            return;
-        };
-        if let Some(slot) = track.slot() {
+        if let Some(slot) = track.finished(entry) {
             put_first(out, cluster, track, slot);
         }
     }

@@ -2,10 +2,10 @@
 
 ghost use Rattle.std.specs.Prelude.{◌≡◌, ◌+◌, ◌≤◌, ◌^◌, ◌<◌, ◌∷◌, [], IfOk, List, OnOk, length, option_map, reverse, take};
 ghost use Rattle.lin_parts.specs.declared.parts.Parts.{Parts};
-ghost use Rattle.lin_core.specs.History.{time};
+ghost use Rattle.lin_core.specs.History.{finished_slot, open_slot, time};
 ghost use Rattle.lin_core.specs.declared.log.LogEntry.{LogEntry};
 ghost use Rattle.lin_export.specs.Open.{slot_in};
-ghost use Rattle.lin_export.specs.Track.{track_of};
+ghost use Rattle.lin_export.specs.Track.{shown_slot, track_of};
 
 use crate::slot::OpenSlot;
 use lin_core::{Log, LogEntry, Reply, Step};
@@ -101,6 +101,21 @@ impl Track {
         ensures { result.now ≡ self.now.hurt }
     {
         self.hurt.as_slice()
+    }
+
+    /// The slot that the next entry finishes.
+    pub(crate) fn finished(&self, entry: &LogEntry) -> Option<&OpenSlot>
+        ensures { (past : List LogEntry) → self.now.slot ≡ option_map shown_slot (open_slot past)
+            → option_map (λ s. slot_in s.now) result
+            ≡ option_map shown_slot (finished_slot entry.now past) }
+    {
+        let Reply::Done(_) = &entry.reply else {
+            return None;
+        };
+        match (&entry.step, &self.slot) {
+            (Step::Finish, Some(slot)) => Some(slot),
+            _ => None,
+        }
     }
 
     /// The delays of all slots that are finished after the next entry, in microseconds.

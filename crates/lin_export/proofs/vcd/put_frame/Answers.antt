@@ -10,7 +10,7 @@ use Rattle.lin_core.proofs.slots.ClusterFrames.{FrameIs, frame-is}
 use Rattle.lin_core.proofs.slots.Hearing.{no_place, unpacked-same}
 use Rattle.lin_text.proofs.Growing.{grows-more, same-growth}
 use Rattle.lin_export.specs.Vcd.{heard_change, place_change}
-use Rattle.lin_export.proofs.Lines.{length-zip, zip-at}
+use Rattle.lin_export.proofs.Lines.{zip-at, zip-long}
 use Rattle.lin_export.proofs.Rows.{texts-more}
 use Rattle.lin_export.proofs.vcd.put_frame.Goals as goal
 
@@ -43,7 +43,7 @@ loop-place-preserved g c =
     let below : i < length signals = let t = c.loop-place-test.true in omega arith in
     let same = f.same in
     let inside : i < length places = omega arith in
-    let count = length-zip signals places f.same in
+    let count = zip-long signals places f.same in
     let at : get_or pairs i (0, no_place) ≡ item = zip-at signals places i 0 no_place below inside in
     let text : flat_map says (take (i + 1) pairs) ≡ flat_map says (take i pairs) ++ says item
     = texts-more says pairs i (0, no_place) (omega arith) ∙ ap (λ (p : ℕ × Place). flat_map says (take i pairs) ++ says p) at in
@@ -60,6 +60,6 @@ returns g c =
     let signals : List ℕ = (frame_of x c.args.frame).signals in
     let places : List Place = (frame_of x c.args.frame).layout.places in
     let long : length signals ≡ length c.frame_signals-signals.result.now = ap length (sym c.frame_signals-signals.ensures) in
-    let count = length-zip signals places f.same in
+    let count = zip-long signals places f.same in
     same-growth (ap (λ (ps : List (ℕ × Place)). flat_map (place_change x c.args.answer.now) ps) (take_all c.loop-place.place (zip signals places) (omega arith)))
     c.loop-place.invariant

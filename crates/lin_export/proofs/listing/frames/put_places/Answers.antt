@@ -5,7 +5,8 @@ use Rattle.lin_parts.specs.Cluster.{frame_of}
 use Rattle.lin_core.proofs.slots.ClusterFrames.{FrameIs, frame-is}
 use Rattle.lin_text.proofs.Growing.{grows-more, grows-nothing, same-growth, texts-next}
 use Rattle.lin_export.specs.ListedFrames.{place_line, places}
-use Rattle.lin_export.proofs.ListedLines.{no_place, zip-at, zip-long}
+use Rattle.lin_export.proofs.Lines.{zip-at, zip-long}
+use Rattle.lin_export.proofs.ListedLines.{no_place}
 use Rattle.lin_export.proofs.listing.frames.put_places.Goals as goal
 
 pub bounds-places-index : goal.bounds-places-index
