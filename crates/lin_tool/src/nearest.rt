@@ -36,6 +36,9 @@ static WORDS: [&str; 21] = [
     "bus",
 ];
 
+/// The frames of messages.
+static MESSAGE_FRAMES: [&str; 2] = ["MasterReq", "SlaveResp"];
+
 /// What `expect` and `until` take.
 const FORMS: &str =
     "signal NODE SIGNAL VALUE (LOW..HIGH, = TEXT), waiting NODE K, message FROM TO BYTES \
@@ -95,6 +98,24 @@ fn put_signals(
     put_nearest(alloc, out, "signals", names.as_slice(), read)
 }
 
+/// The names of frames that `expect frame` takes: those of signals, and of messages.
+fn put_frames(
+    alloc: Global,
+    out: &mut String,
+    cluster: &Cluster,
+    read: &[u8],
+) -> Result<(), AllocError> {
+    cluster.sound();
+    let mut names = Vec::new(alloc);
+    for frame in 0..cluster.frames() as u16 {
+        names.push(cluster.frame_name(frame))?;
+    }
+    for frame in MESSAGE_FRAMES.iter() {
+        names.push(frame.as_bytes())?;
+    }
+    put_nearest(alloc, out, "frames", names.as_slice(), read)
+}
+
 fn put_tables(
     alloc: Global,
     out: &mut String,
@@ -141,6 +162,7 @@ pub(crate) fn put_bad_bench_line(
             put_signals(alloc, out, cluster, name.as_slice())
         }
         Reason::Step(StepReason::NoTable(name)) => put_tables(alloc, out, cluster, name.as_slice()),
+        Reason::NoFrame(name) => put_frames(alloc, out, cluster, name.as_slice()),
         Reason::NoRefusal(name) => put_refusals(alloc, out, name.as_slice()),
         Reason::Step(StepReason::UnknownStep(word)) => put_words(alloc, out, word.as_slice()),
         Reason::ExpectForm | Reason::UnknownExpectation(_) => {
