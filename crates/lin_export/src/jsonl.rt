@@ -34,6 +34,21 @@ use lin_values::Coded;
 use std::alloc::Global;
 use std::io::Write;
 
+/// With what a run opened: the number of its schedule table, and how many messages of a host there
+/// was room for.
+#[derive(Clone, Copy, Debug)]
+pub struct Opening {
+    pub table: u16,
+    pub capacity: usize,
+}
+
+/// When an event happens: the time in microseconds, and how many slots are finished before it.
+#[derive(Clone, Copy)]
+struct Moment {
+    at: u64,
+    slot: u64,
+}
+
 /// The names of all nodes.
 fn put_all_names<W: Write>(out: &mut TextWriter<'_, W>, cluster: &Cluster)
     ensures { Grows W.contents out.old out.new
@@ -68,16 +83,17 @@ fn put_all_nads<W: Write>(out: &mut TextWriter<'_, W>, cluster: &Cluster)
 }
 
 /// What a run begins with.
-fn put_run<W: Write>(out: &mut TextWriter<'_, W>, cluster: &Cluster, opening: u16, capacity: usize)
-    ensures { Grows W.contents out.old out.new (run_line cluster.now opening capacity) }
+fn put_run<W: Write>(out: &mut TextWriter<'_, W>, cluster: &Cluster, opening: Opening)
+    ensures { Grows W.contents out.old out.new
+        (run_line cluster.now opening.table opening.capacity) }
 {
     put_type(out, "run");
     put_members(
         out,
         &[
             Member::Number("version", 1),
-            Member::Text("table", table_name(cluster, opening)),
-            Member::Number("capacity", capacity as u64),
+            Member::Text("table", table_name(cluster, opening.table)),
+            Member::Number("capacity", opening.capacity as u64),
         ],
     );
     put_key(out, "nodes");
@@ -180,21 +196,20 @@ fn put_accepted<W: Write>(
 fn put_arrived<W: Write>(
     out: &mut TextWriter<'_, W>,
     cluster: &Cluster,
-    at: u64,
-    slot: u64,
+    moment: Moment,
     from: u8,
     to: u8,
     bytes: &[u8],
 )
     ensures { Grows W.contents out.old out.new
-        (message_line cluster.now at slot from to bytes.now) }
+        (message_line cluster.now moment.at moment.slot from to bytes.now) }
 {
     put_type(out, "message");
     put_members(
         out,
         &[
-            Member::Number("time_us", at),
-            Member::Number("slot", slot),
+            Member::Number("time_us", moment.at),
+            Member::Number("slot", moment.slot),
             Member::Text("from", node_name(cluster, from)),
             Member::Text("to", node_name(cluster, to)),
         ],
@@ -245,24 +260,24 @@ fn put_lost<W: Write>(
     );
 }
 
-/// An event of a step, at a time; that of a finish in its slot.
+/// An event of a step; that of a finish in its slot.
 fn put_event<W: Write>(
     out: &mut TextWriter<'_, W>,
     cluster: &Cluster,
     step: &Step,
-    slot: u64,
-    at: u64,
+    moment: Moment,
     event: &Event,
 )
     ensures { Grows W.contents out.old out.new
-        (event_line cluster.now step.now slot at event.now) }
+        (event_line cluster.now step.now moment.slot moment.at event.now) }
 {
+    let at = moment.at;
     match event {
         Event::Accepted { host, number } => {
             put_accepted(out, cluster, at, *host, *number, step);
         }
         Event::Message { from, to, bytes } => {
-            put_arrived(out, cluster, at, slot, *from, *to, bytes.as_slice());
+            put_arrived(out, cluster, moment, *from, *to, bytes.as_slice());
         }
         Event::Sent { host, number } => put_sent(out, cluster, at, *host, *number),
         Event::Lost {
@@ -279,15 +294,14 @@ fn put_events<W: Write>(
     out: &mut TextWriter<'_, W>,
     cluster: &Cluster,
     step: &Step,
-    slot: u64,
-    at: u64,
+    moment: Moment,
     events: &[Event],
 )
     ensures { Grows W.contents out.old out.new
-        (flat_map (event_line cluster.now step.now slot at) events.now) }
+        (flat_map (event_line cluster.now step.now moment.slot moment.at) events.now) }
 {
     for event in events {
-        put_event(out, cluster, step, slot, at, event);
+        put_event(out, cluster, step, moment, event);
     }
 }
 
@@ -365,18 +379,17 @@ fn settle_all(last: &mut [u32; HOSTS], events: &[Event])
     }
 }
 
-/// The objects of a run: the table that it opened with, the capacity of the queues, the number of
-/// the last message of each host that was sent or lost, and where that is told what signals mean.
+/// The objects of a run: with what it opened, the number of the last message of each host that was
+/// sent or lost, and where that is told what signals mean.
 #[derive(Drop)]
 struct Objects<'a> {
-    opening: u16,
-    capacity: usize,
+    opening: Opening,
     last: [u32; HOSTS],
     coded: Option<&'a Coded>,
 }
 
 impl Format for Objects<'_> {
-    ghost begins = { λ f c. run_line c f.opening f.capacity };
+    ghost begins = { λ f c. run_line c f.opening.table f.opening.capacity };
 
     ghost says = { λ f c. entry_objects c (told f.coded) };
 
@@ -387,7 +400,7 @@ impl Format for Objects<'_> {
     ghost keeps = { λ f c past. AreCounts (settled past) f.last };
 
     fn put_head<W: Write>(&self, out: &mut TextWriter<'_, W>, cluster: &Cluster) {
-        put_run(out, cluster, self.opening, self.capacity);
+        put_run(out, cluster, self.opening);
     }
 
     fn put_entry<W: Write>(
@@ -399,16 +412,12 @@ impl Format for Objects<'_> {
     ) {
         match &entry.reply {
             Reply::Done(events) => {
-                let at = track.time_behind(cluster, entry);
+                let moment = Moment {
+                    at: track.time_behind(cluster, entry),
+                    slot: track.slots(),
+                };
                 put_step(out, cluster, self.coded, track, &self.last, &entry.step);
-                put_events(
-                    out,
-                    cluster,
-                    &entry.step,
-                    track.slots(),
-                    at,
-                    events.as_slice(),
-                );
+                put_events(out, cluster, &entry.step, moment, events.as_slice());
                 settle_all(&mut self.last, events.as_slice());
             }
             Reply::Refused(refusal) => put_refused(
@@ -425,9 +434,8 @@ impl Format for Objects<'_> {
     fn put_end<W: Write>(&self, _out: &mut TextWriter<'_, W>, _cluster: &Cluster, _track: &Track) {}
 }
 
-/// Writes the objects of a log of a run that opened with the schedule table `opening` and had room
-/// for `capacity` messages of a host: objects of JSON (RFC 8259), one a line. The first tells the
-/// run. Then there is one per finished slot, with its schedule entry, its responses and the values
+/// Writes the objects of a log of a run: objects of JSON (RFC 8259), one a line. The first tells
+/// with what it opened. Then there is one per finished slot, with its schedule entry, its responses and the values
 /// of its signals, one for each message that was accepted, arrived, was sent or lost, one for each
 /// sleep and wake-up, and one for each step that was refused. Each has a type and all its keys, in
 /// their order. With what signals mean, a slot has one key more with that.
@@ -444,18 +452,16 @@ pub fn write_jsonl<W: Write>(
     alloc: Global,
     cluster: &Cluster,
     coded: Option<&Coded>,
-    opening: u16,
-    capacity: usize,
+    opening: Opening,
     log: &Log,
     writer: &mut W,
 ) -> Result<(), ExportFault>
     ensures { WritesText (W.contents writer.old) (W.contents writer.new) result
-        (jsonl cluster.now (told coded.entry) opening capacity
+        (jsonl cluster.now (told coded.entry) opening.table opening.capacity
         log.now.entries) }
 {
     let mut objects = Objects {
         opening,
-        capacity,
         last: none_settled(),
         coded,
     };

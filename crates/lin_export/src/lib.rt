@@ -44,7 +44,7 @@ mod vcd;
 pub use csv::write_csv;
 pub use fault::ExportFault;
 pub use first_slots::write_first_slots;
-pub use jsonl::write_jsonl;
+pub use jsonl::{Opening, write_jsonl};
 pub use law::{captures_what_was_seen, dumps_last_values};
 pub use listing::{write_frames, write_list, write_signals, write_slots};
 pub use named::{named_text, put_slot_names, write_named};

@@ -1,8 +1,10 @@
 //! Logs as changes of values over time (IEEE 1364-2005, section 18, value change dump).
 
-ghost use Rattle.std.specs.Prelude.{◌≡◌, ◌<◌, ◌-◌, ◌==◌, if◌then◌else◌, ⊤, ℕ, List, length};
+ghost use Rattle.std.specs.Prelude.{◌≡◌, ◌∷◌, ◌<◌, ◌-◌, ◌==◌, ◌^◌, if◌then◌else◌, ⊤, ℕ, List, length};
 ghost use Rattle.std.specs.Prelude.{flat_map, slice_index};
+ghost use Rattle.lin_core.specs.History.{time};
 ghost use Rattle.lin_core.specs.declared.log.LogEntry.{LogEntry};
+ghost use Rattle.lin_core.specs.declared.step.Step.TheVariants.{Finish};
 ghost use Rattle.lin_text.specs.Written.{Grows, WritesText};
 ghost use Rattle.lin_export.specs.Look.{looks};
 ghost use Rattle.lin_export.specs.Open.{slot_in};
@@ -12,7 +14,7 @@ ghost use Rattle.lin_export.specs.Vcd.{count_after, counted_all, count_group, en
 ghost use Rattle.lin_export.specs.Vcd.{event_group, frame_changes, head, header_change};
 ghost use Rattle.lin_export.specs.Vcd.{heard_group, last_time, later, one_more};
 ghost use Rattle.lin_export.specs.Vcd.{frame_decimals, heard_changes};
-ghost use Rattle.lin_export.specs.Vcd.{slot_changes, slot_groups, stamp, step_groups, vcd};
+ghost use Rattle.lin_export.specs.Vcd.{slot_changes, stamp, step_groups, vcd};
 ghost use Rattle.lin_export.specs.WhereTold.{told, where_told};
 
 use crate::changes::{put_heard, put_number, put_physical, put_unknown, put_waiting, put_written};
@@ -166,7 +168,7 @@ fn put_heard_frame<W: Write>(
     put_heard_changes(out, cluster, coded, frame, answer);
 }
 
-/// A slot that ends.
+/// The open slot ends.
 fn put_finish<W: Write>(
     out: &mut TextWriter<'_, W>,
     last: &mut u64,
@@ -174,32 +176,34 @@ fn put_finish<W: Write>(
     coded: Option<&Coded>,
     track: &Track,
     end: u64,
-    slot: &OpenSlot,
 )
-    ensures { PutsGroups W.contents out.old out.new last.old last.new
-        (slot_groups cluster.now (told coded.entry) track.now.slots
-        track.now.time end (slot_in slot.now)) }
+    ensures { (past : List LogEntry) → track.now ≡ track_of cluster.now past
+        → PutsGroups W.contents out.old out.new last.old last.new
+        (step_groups cluster.now (told coded.entry) past end Finish) }
 {
-    put_stamp(out, last, track.time());
-    put_slot(out, track.slots(), slot);
-    put_heard_frame(out, last, cluster, coded, end, slot);
+    if let Some(slot) = track.slot() {
+        put_stamp(out, last, track.time());
+        put_slot(out, track.slots(), slot);
+        put_heard_frame(out, last, cluster, coded, end, slot);
+    }
 }
 
-/// What a step that was done changes by itself.
+/// What the step of an entry changes by itself, where it was done.
 fn put_step<W: Write>(
     out: &mut TextWriter<'_, W>,
     last: &mut u64,
     cluster: &Cluster,
     coded: Option<&Coded>,
     track: &Track,
-    end: u64,
-    step: &Step,
+    entry: &LogEntry,
 )
+    requires { track.now.time < 2 ^ 63 }
     ensures { (past : List LogEntry) → track.now ≡ track_of cluster.now past
         → PutsGroups W.contents out.old out.new last.old last.new
-        (step_groups cluster.now (told coded.entry) past end step.now) }
+        (step_groups cluster.now (told coded.entry) past
+        (time cluster.now (entry.now ∷ past)) entry.now.step) }
 {
-    match step {
+    match &entry.step {
         Step::Write {
             by: _,
             signal,
@@ -211,9 +215,8 @@ fn put_step<W: Write>(
             }
         }
         Step::Finish => {
-            if let Some(slot) = track.slot() {
-                put_finish(out, last, cluster, coded, track, end, slot);
-            }
+            let end = track.time_behind(cluster, entry);
+            put_finish(out, last, cluster, coded, track, end);
         }
         Step::Wake => {
             put_stamp(out, last, track.time());
@@ -375,25 +378,11 @@ impl Format for Dump<'_> {
         let Reply::Done(events) = &entry.reply else {
             return;
         };
+        let events = events.as_slice();
+        put_step(out, &mut self.last, cluster, self.coded, track, entry);
+        count_all(&mut self.counts, events);
         let end = track.time_behind(cluster, entry);
-        put_step(
-            out,
-            &mut self.last,
-            cluster,
-            self.coded,
-            track,
-            end,
-            &entry.step,
-        );
-        count_all(&mut self.counts, events.as_slice());
-        put_events(
-            out,
-            &mut self.last,
-            cluster,
-            end,
-            &self.counts,
-            events.as_slice(),
-        );
+        put_events(out, &mut self.last, cluster, end, &self.counts, events);
     }
 
     fn put_end<W: Write>(&self, out: &mut TextWriter<'_, W>, _cluster: &Cluster, track: &Track) {

@@ -4,7 +4,8 @@
 //!
 //! ```
 //! let (pump, hosts, nodes) = wire(alloc, core, 64)?;
-//! let report = run_cluster(rt, alloc, pump, hosts, nodes, tasks, plan)?;
+//! let players = Players { hosts, nodes, tasks };
+//! let report = run_cluster(rt, alloc, pump, players, plan)?;
 //! write_log(report.core.log(), &mut writer)?;
 //! ```
 //!
@@ -34,7 +35,7 @@ pub use ports::{
     Full, HostPort, HostStep, NodePort, NodeStep, Note, Pump, Receipt, RoundFault, Settled, Taken,
     taken_messages, tells_messages, wire,
 };
-pub use runs::{Ended, Plan, RunFault, RunReport, run_cluster};
+pub use runs::{Ended, Plan, Players, RunFault, RunReport, run_cluster};
 pub use script_task::ScriptTask;
 pub use splitting::{SplitFault, split};
 pub use tasks::{HostTask, Turn};

@@ -108,18 +108,17 @@ impl From<Hold> for RunFault {
     }
 }
 
-/// The ports of a run, and the hosts' tasks.
+/// What takes part in a run: the ports of its hosts and nodes, by number, and a task for each host.
 #[derive(Drop)]
-struct Players {
-    hosts: Vec<HostPort>,
-    nodes: Vec<NodePort>,
-    tasks: Vec<Box<dyn HostTask + Send>>,
+pub struct Players {
+    pub hosts: Vec<HostPort>,
+    pub nodes: Vec<NodePort>,
+    pub tasks: Vec<Box<dyn HostTask + Send>>,
 }
 
 /// Starts the threads, makes the slots, and makes rounds until all threads have ended.
 fn drive<R: Threads + Wait + Copy + Send + 'static>(
     rt: &R,
-    alloc: Global,
     pump: &mut Pump,
     players: Players,
     plan: Plan,
@@ -143,6 +142,7 @@ fn drive<R: Threads + Wait + Copy + Send + 'static>(
         nodes,
         tasks,
     } = players;
+    let alloc = *threads.allocator();
     start_hosts(rt, threads, hosts, tasks, plan.turns, shared)?;
     start_nodes(rt, threads, nodes, plan.leave, shared)?;
     all_slots(
@@ -190,7 +190,7 @@ fn run<R: Threads + Wait + Copy + Send + 'static>(
     let mut receipts = Vec::with_capacity(alloc, ports)?;
     let mut ended = Vec::with_capacity(alloc, ports)?;
     let mut settled = Vec::with_capacity(alloc, ports)?;
-    if let Err(fault) = drive(rt, alloc, pump, players, plan, &shared, &mut threads) {
+    if let Err(fault) = drive(rt, pump, players, plan, &shared, &mut threads) {
         shared.stop();
         give_up(rt, threads);
         return Err(fault);
@@ -214,14 +214,12 @@ pub fn run_cluster<R: Threads + Wait + Copy + Send + 'static>(
     rt: &R,
     alloc: Global,
     mut pump: Pump,
-    hosts: Vec<HostPort>,
-    nodes: Vec<NodePort>,
-    tasks: Vec<Box<dyn HostTask + Send>>,
+    players: Players,
     plan: Plan,
 ) -> Result<RunReport, RunFault>
-    requires ports { ArePortsOf pump hosts.items nodes.items }
-    requires tasks { vec_len tasks ≡ vec_len hosts }
-    requires leave { vec_len plan.leave ≡ vec_len nodes }
+    requires ports { ArePortsOf pump players.hosts.items players.nodes.items }
+    requires tasks { vec_len players.tasks ≡ vec_len players.hosts }
+    requires leave { vec_len plan.leave ≡ vec_len players.nodes }
     ensures alike { IfOk result (λ r. IsAlike (core_of pump) r.core) }
     ensures log { IfOk result (λ r. IsPrefix (core_of pump).log r.core.log) }
     ensures slots { IfOk result (λ r.
@@ -230,18 +228,14 @@ pub fn run_cluster<R: Threads + Wait + Copy + Send + 'static>(
     ensures own { IfOk result (λ r. OnlyOwn (drop (first_entry pump) r.core.log)) }
     ensures receipts { IfOk result (λ r.
         AllZip (IsSettledReceipt (drop (first_entry pump) r.core.log))
-        (handed_in hosts.items nodes.items)
+        (handed_in players.hosts.items players.nodes.items)
         r.receipts.items) }
     ensures lists { IfOk result (λ r. AllZip IsByList
-        (no_lists hosts.items ++ node_lists nodes.items plan.leave.items) r.receipts.items) }
-    ensures ended { IfOk result (λ r. vec_len r.ended ≡ vec_len tasks) }
+        (no_lists players.hosts.items ++ node_lists players.nodes.items plan.leave.items)
+        r.receipts.items) }
+    ensures ended { IfOk result (λ r. vec_len r.ended ≡ vec_len players.tasks) }
     ensures fault { IfErr result (λ e. IsFaultOf pump e) }
 {
-    let players = Players {
-        hosts,
-        nodes,
-        tasks,
-    };
     match run(rt, alloc, &mut pump, players, plan) {
         Ok((ended, receipts)) => Ok(RunReport {
             core: pump.close(),

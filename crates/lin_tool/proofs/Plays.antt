@@ -1,14 +1,17 @@
 -- What was written of a bench script that was played.
-use Rattle.std.proofs.Common.{◌≡◌, ◌≤◌, refl, inl, inr, ℕ, Bool, length, List, ◌++◌, Option, Some, None, IfSome, Result, Ok, Err, ap, ◌∙◌, reverse, subst, sym}
+use Rattle.std.proofs.Common.{◌≡◌, ◌≤◌, refl, inl, inr, ℕ, Bool, true, length, List, ◌++◌, Option, Some, None, IfSome, Result, Ok, Err, ap, ◌∙◌, reverse, subst, sym}
 use Rattle.std.specs.Borrow.{Bor}
 use Rattle.std.specs.Io.KnownBytes.{Appends, Keeps}
 use Rattle.lin_text.specs.Written.{WritesText}
 use Rattle.lin_bench.specs.Scripts.{Script, read}
 use Rattle.lin_bench.specs.Played.{Run, played}
+use Rattle.lin_bench.specs.Plays.{IsLogFull, PlayFails, has_rule}
+use Rattle.lin_bench.specs.declared.fault.PlayFault.{PlayFault}
+use Rattle.lin_bench.specs.declared.fault.PlayFault.TheVariants as play
 use Rattle.lin_parts.specs.declared.parts.Parts.{Parts}
 use Rattle.lin_bench.specs.declared.line.Line.{Line}
 use Rattle.lin_values.specs.Coded.{CodedData}
-use Rattle.lin_tool.specs.Playing.{IsUnread, PlaysScript, Says, WritesPlayed, in_words, run_as, told_text}
+use Rattle.lin_tool.specs.Playing.{IsUnread, PlaysScript, Says, WritesPlayed, in_words, play_fault, run_as, told_text}
 use Rattle.lin_tool.specs.declared.fault.Fault.{Fault}
 use Rattle.lin_tool.specs.declared.fault.Fault.TheVariants.{BadBenchLine, OutOfMemory, Unmet, WriteFailed}
 use Rattle.lin_tool.specs.declared.formats.Format.{Format}
@@ -57,6 +60,21 @@ pub unread : (format : Format) (k : Option CodedData) (shows : Bool) (named : Op
     → IsUnread named c k text fault silent heard → PlaysScript format k shows named strict c opening capacity (Err fault) told old old silent heard
 unread format k shows named strict c opening capacity fault told old silent heard bytes text same known short h =
     fails format k shows named strict c opening capacity fault told old silent heard text (subst (λ (t : List ℕ). IfSome told (λ b. t ≡ b)) (sym same) known) (rw same short) h
+
+-- lines that can't be played
+pub unplayed : (format : Format) (k : Option CodedData) (shows : Bool) (named : Option (Bor (List ℕ))) (strict : Bool) (c : Parts) (opening capacity : ℕ) (fault : PlayFault)
+    (told old silent heard : Option (List ℕ)) (ls : List (ℕ × Line)) → Says c k told (Ok ls) → PlayFails strict c opening capacity ls fault
+    → (IsLogFull (Err fault) → has_rule ls ≡ true) → Keeps silent heard
+    → PlaysScript format k shows named strict c opening capacity (Err (play_fault fault)) told old old silent heard
+unplayed format k shows named strict c opening capacity (play.SlotLimit n) told old silent heard ls says fails few kept = ((ls, says, fails), keeps-same old, kept)
+unplayed format k shows named strict c opening capacity play.LogFull told old silent heard ls says fails few kept = (ls, says, fails, few tt, keeps-same old, kept)
+unplayed format k shows named strict c opening capacity play.OutOfMemory told old silent heard ls says fails few kept = inl (keeps-same old, kept)
+
+-- memory that runs out before anything is written
+pub unwritten : (format : Format) (k : Option CodedData) (shows : Bool) (named : Option (Bor (List ℕ))) (strict : Bool) (c : Parts) (opening capacity : ℕ)
+    (told old silent heard : Option (List ℕ)) → Keeps silent heard
+    → PlaysScript format k shows named strict c opening capacity (Err OutOfMemory) told old old silent heard
+unwritten format k shows named strict c opening capacity told old silent heard kept = inl (keeps-same old, kept)
 
 -- a run of these lines was written, where nothing was told before
 pub plays : (format : Format) (k : Option CodedData) (shows : Bool) (named : Option (Bor (List ℕ))) (strict : Bool) (c : Parts) (opening capacity : ℕ) (result : Result Unit Fault)

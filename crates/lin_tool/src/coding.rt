@@ -15,7 +15,7 @@ ghost use Rattle.lin_tool.specs.declared.fault.Fault.TheVariants.{OutOfMemory};
 use crate::fault::Fault;
 use crate::notes::Notes;
 use lin_cluster::{Configurable, Finding, lint};
-use lin_field::Remark;
+use lin_field::{Checked, Remark};
 use lin_parts::Cluster;
 use lin_parts::description::Description;
 use lin_text::Many;
@@ -240,27 +240,27 @@ fn coded_with(
     Ok((Some(coded), all))
 }
 
-/// A cluster, and what the values of its signals mean by the sections of encodings, where they are
-/// read. The notes keep the warnings of its text with those of its encodings, where these are told.
+/// A checked cluster, and what the values of its signals mean by the sections of encodings, where they
+/// are read. The notes keep the warnings of its text with those of its encodings, where these are told.
 ///
 /// # Errors
 /// `OutOfMemory`.
 pub(crate) fn coded_noted(
     alloc: Global,
-    cluster: Cluster,
+    checked: Checked,
     codings: Option<Codings>,
     encodings: Encodings,
-    warnings: Many<Remark>,
     text: &[u8],
     notes: &mut Notes<'_>,
 ) -> Result<Described, Fault>
-    requires { IsSorted remark_cmp warnings }
-    ensures cluster { IfOk result (λ d. d.cluster ≡ cluster) }
+    requires { IsSorted remark_cmp checked.warnings }
+    ensures cluster { IfOk result (λ d. d.cluster ≡ checked.cluster) }
     ensures coded { IfOk result (λ d. d.coded ≡ coded_read encodings d.cluster codings) }
     ensures warnings { IfOk result
-        (λ d. AreWarnings encodings d.cluster codings warnings notes.new.warnings) }
+        (λ d. AreWarnings encodings d.cluster codings checked.warnings notes.new.warnings) }
     ensures memory { IfErr result (λ fault. fault ≡ OutOfMemory) }
 {
+    let Checked { cluster, warnings } = checked;
     let (coded, warnings) = coded_with(alloc, &cluster, codings, encodings, warnings)?;
     notes.add_remarks(alloc, text, warnings.as_slice())?;
     notes.keep_warnings(warnings);

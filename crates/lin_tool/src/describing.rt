@@ -15,6 +15,7 @@ use crate::field::field_of_reader;
 use crate::findings::Findings;
 use crate::notes::Notes;
 use lin_cluster::{CheckFault, check};
+use lin_field::Checked;
 use lin_ldf::{LdfFault, parse};
 use lin_parts::Cluster;
 use lin_parts::description::Description;
@@ -149,15 +150,8 @@ fn check_parsed(
     let none = Many::new(Vec::new(alloc));
     let warnings = with_lints(alloc, none, &description, configurables, codings.as_ref())?;
     let cluster = said_by(alloc, description)?;
-    coded_noted(
-        alloc,
-        cluster,
-        codings,
-        extras.encodings,
-        warnings,
-        text,
-        notes,
-    )
+    let checked = Checked { cluster, warnings };
+    coded_noted(alloc, checked, codings, extras.encodings, text, notes)
 }
 
 /// The cluster that an LDF text describes, as of `cluster_of_text`, and what the values of its signals

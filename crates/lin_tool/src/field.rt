@@ -102,15 +102,8 @@ fn cluster_noted(
                 configurables,
                 codings.as_ref(),
             )?;
-            coded_noted(
-                alloc,
-                cluster,
-                codings,
-                extras.encodings,
-                warnings,
-                text,
-                notes,
-            )
+            let checked = Checked { cluster, warnings };
+            coded_noted(alloc, checked, codings, extras.encodings, text, notes)
         }
         Err(fault) => {
             if let Fault::Remarks(remarks) = &fault {

@@ -11,7 +11,9 @@ use crate::junit::write_junit;
 use crate::page::write_page;
 use lin_bench::Judgement;
 use lin_core::Core;
-use lin_export::{ExportFault, write_csv, write_jsonl, write_named, write_pcap, write_vcd};
+use lin_export::{
+    ExportFault, Opening, write_csv, write_jsonl, write_named, write_pcap, write_vcd,
+};
 use lin_log::write_log;
 use lin_values::Coded;
 use std::alloc::Global;
@@ -39,38 +41,55 @@ pub enum Format<'a> {
     Junit(&'a str),
 }
 
-/// Writes the log of a core in a format; the core opened with the schedule table `table` and the
-/// capacity `capacity`, which objects tell; a picture and a report also have the judgements of a play.
-/// With what signals mean, the log with names, tables, objects, dumps and pictures tell that, too.
-/// A log's own text takes no memory, and the others take little.
+/// How the log of a run is shown, and what is shown beside it.
+#[derive(Clone, Copy)]
+pub struct Shown<'a> {
+    pub format: Format<'a>,
+    /// What signals mean, which the log with names, tables, objects, dumps and pictures tell, too.
+    pub coded: Option<&'a Coded>,
+    /// The number of the schedule table with which the run opened, which objects tell.
+    pub table: u16,
+    /// How many messages of a host there was room for, which objects tell.
+    pub capacity: usize,
+    /// The judgements of a play, which a picture and a report have.
+    pub judgements: &'a [Judgement],
+}
+
+/// Writes the log of a core as it is to be shown. A log's own text takes no memory, and the other
+/// formats take little.
 ///
 /// # Errors
 /// `OutOfMemory`, which a log's own text hasn't, and `WriteFailed`. What was written then is the
 /// beginning of the whole.
 pub fn write_shown<W: Write>(
     alloc: Global,
-    format: Format<'_>,
+    shown: &Shown<'_>,
     core: &Core,
-    coded: Option<&Coded>,
-    table: u16,
-    capacity: usize,
-    judgements: &[Judgement],
     writer: &mut W,
 ) -> Result<(), ExportFault>
     ensures text { WritesText (W.contents writer.old) (W.contents writer.new) result
-        (log_as format.entry core.now.cluster (told coded.entry) table capacity core.now.log judgements.now) }
-    ensures memory { format.entry ≡ Log → IfErr result (λ fault. fault ≡ WriteFailed) }
+        (log_as shown.now.format core.now.cluster (told shown.now.coded) shown.now.table
+        shown.now.capacity core.now.log shown.now.judgements.now) }
+    ensures memory { shown.now.format ≡ Log → IfErr result (λ fault. fault ≡ WriteFailed) }
 {
     let cluster = core.cluster();
     let log = core.log();
-    match format {
+    let coded = shown.coded;
+    let judgements = shown.judgements;
+    match shown.format {
         Format::Log => match write_log(log, writer) {
             Ok(()) => Ok(()),
             Err(_) => Err(ExportFault::WriteFailed),
         },
         Format::Named => write_named(alloc, cluster, coded, log, writer),
         Format::Csv => write_csv(alloc, cluster, coded, log, writer),
-        Format::Jsonl => write_jsonl(alloc, cluster, coded, table, capacity, log, writer),
+        Format::Jsonl => {
+            let opening = Opening {
+                table: shown.table,
+                capacity: shown.capacity,
+            };
+            write_jsonl(alloc, cluster, coded, opening, log, writer)
+        }
         Format::Pcap => write_pcap(alloc, cluster, log, writer),
         Format::Vcd => write_vcd(alloc, cluster, coded, log, writer),
         Format::Html(file) => write_page(alloc, core, coded, file, judgements, writer),

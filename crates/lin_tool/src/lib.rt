@@ -5,8 +5,8 @@
 //! let mut notes = Notes::new(alloc, wanted);
 //! let cluster = cluster_of_text(alloc, text)?;
 //! let table = opening_table(&cluster, Some("diag"))?;
-//! let (reader, writer) = (&mut reader, &mut writer);
-//! replay_script(alloc, cluster, table, 16, Format::Log, None, reader, writer, &mut notes)?;
+//! let opened = Opened { cluster, table, coded: None, settings };
+//! replay_script(alloc, opened, &mut reader, &mut writer, &mut notes)?;
 //! ```
 #![tactic(auto)]
 
@@ -49,13 +49,13 @@ pub use describing::{
 pub use fault::{Fault, exit_status};
 pub use field::field_of_reader;
 pub use findings::{Findings, Remarks};
-pub use formats::{Format, write_shown};
+pub use formats::{Format, Shown, write_shown};
 pub use law::{named_logs_say_the_same, plain_texts_are_read, transcripts_are_logs};
 pub use lin_export::write_list;
 pub use listing::{Lists, write_lists};
 pub use living::{answer_lines, bench_in_hand, live};
 pub use notes::{Notes, Wanted};
-pub use opening::{Settings, opening_table};
+pub use opening::{Opened, Settings, opening_table};
 pub use playing::{play, play_script};
 pub use replaying::{replay, replay_script};
 pub use running::run;

@@ -1,7 +1,8 @@
 //! `linsim live`: a bench in hand, which answers each line as it comes.
 
-ghost use Rattle.std.specs.Prelude.{◌≡◌, ◌≤◌, ◌<◌, IfErr, IfOk, length};
+ghost use Rattle.std.specs.Prelude.{◌≡◌, ◌<◌, IfErr, IfOk, length};
 ghost use Rattle.lin_tool.specs.Living.{Lives, ends, in_hand};
+ghost use Rattle.lin_tool.specs.Opening.{room_for};
 ghost use Rattle.lin_live.specs.declared.format.AnswerFormat.TheVariants.{Log, Named};
 ghost use Rattle.lin_tool.specs.declared.fault.Fault.TheVariants.{OutOfMemory as NoMemory};
 ghost use Rattle.lin_tool.specs.declared.formats.Format.TheVariants.{Log as LogFormat};
@@ -13,8 +14,6 @@ use crate::notes::Notes;
 use crate::opening::{Opened, Settings, begin, within_limits};
 use lin_core::Core;
 use lin_live::{AnswerFormat, Hand};
-use lin_parts::Cluster;
-use lin_values::Coded;
 use std::alloc::Global;
 use std::fs::Files;
 use std::io::{self, Read, Write};
@@ -32,29 +31,27 @@ fn ending(hand: &Hand, done: Result<(), lin_live::Fault>) -> Result<(), Fault>
     }
 }
 
-/// A bench in hand over a cluster, on which no line was made, and which tells entries so. It begins
-/// with the schedule table `table`; each host may have `capacity` messages waiting, 1 to 1,024. Lines
-/// may say values in words where what signals mean is known; where it is wanted, answers tell it.
+/// A bench in hand over the cluster that was opened, on which no line was made, and which tells entries
+/// so. Lines may say values in words where what signals mean is known; where the settings want it,
+/// answers tell it.
 ///
 /// # Errors
 /// `OutOfMemory`.
-pub fn bench_in_hand(
-    alloc: Global,
-    cluster: Cluster,
-    table: u16,
-    capacity: usize,
-    format: AnswerFormat,
-    coded: Option<Coded>,
-    is_physical: bool,
-) -> Result<Hand, Fault>
-    requires table { table < length cluster.tables }
-    requires capacity { (1 ≤ capacity) × (capacity ≤ 1024) }
-    ensures hand { IfOk result
-        (λ hand. hand ≡ in_hand format coded is_physical cluster table capacity) }
+pub fn bench_in_hand(alloc: Global, opened: Opened<'_>, format: AnswerFormat) -> Result<Hand, Fault>
+    requires { opened.table < length opened.cluster.tables }
+    ensures hand { IfOk result (λ hand. hand ≡ in_hand format opened.entry.coded
+        opened.entry.settings.is_physical opened.entry.cluster opened.entry.table
+        (room_for opened.entry.settings.capacity)) }
     ensures memory { IfErr result (λ fault. fault ≡ NoMemory) }
 {
-    match Core::new(alloc, cluster, table, capacity) {
-        Ok(core) => Ok(Hand::new(alloc, core, format, coded, is_physical)),
+    let Opened {
+        cluster,
+        table,
+        coded,
+        settings,
+    } = opened;
+    match Core::new(alloc, cluster, table, within_limits(settings.capacity)) {
+        Ok(core) => Ok(Hand::new(alloc, core, format, coded, settings.is_physical)),
         Err(_) => Err(Fault::OutOfMemory),
     }
 }
@@ -108,23 +105,9 @@ pub fn live<R: AllocGlobal + Files + Input + Print, E: Write>(
     errors: &mut E,
     notes: &mut Notes<'_>,
 ) -> Result<(), Fault> {
-    let Opened {
-        cluster,
-        table,
-        coded,
-    } = begin(rt, settings, true, notes)?;
+    let opened = begin(rt, settings, true, notes)?;
     notes.tell_warnings(errors);
-    let capacity = within_limits(settings.capacity);
-    let format = answer_format(settings.format);
-    let hand = bench_in_hand(
-        rt.alloc(),
-        cluster,
-        table,
-        capacity,
-        format,
-        coded,
-        settings.is_physical,
-    )?;
+    let hand = bench_in_hand(rt.alloc(), opened, answer_format(settings.format))?;
     let answer = answer_lines(
         rt.alloc(),
         hand,

@@ -38,7 +38,7 @@ pub struct Wanted<'a> {
 /// is left out, and a last line says so.
 #[derive(Drop)]
 pub struct Notes<'a> {
-    wanted: Wanted<'a>,
+    pub wanted: Wanted<'a>,
     /// The warnings of an LDF text that is accepted.
     pub warnings: Many<Remark>,
     is_script_read: bool,
@@ -65,11 +65,6 @@ impl<'a> Notes<'a> {
     /// What is at fault from now on is the bench script.
     pub(crate) fn begin_script(&mut self) {
         self.is_script_read = true;
-    }
-
-    /// The name of the bench script, where places in it are wanted.
-    pub(crate) fn script(&self) -> Option<&'a str> {
-        self.wanted.script
     }
 
     /// The name of the file that is read, where places are wanted.

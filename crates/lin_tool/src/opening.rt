@@ -1,8 +1,8 @@
 //! What a run begins with: the cluster, the schedule table, and how many messages of a host may
 //! wait.
 
-ghost use Rattle.std.specs.Prelude.{◌≡◌, ◌≤◌, ◌<◌, length, min, max, IfOk};
-ghost use Rattle.lin_tool.specs.Opening.{Opens, opening_of};
+ghost use Rattle.std.specs.Prelude.{◌≡◌, ◌≤◌, ◌<◌, length, IfOk};
+ghost use Rattle.lin_tool.specs.Opening.{Opens, opening_of, room_for};
 
 use crate::coding::{Described, Encodings, Extras};
 use crate::describing::{Reading, cluster_of_file};
@@ -48,13 +48,15 @@ pub fn opening_table(cluster: &Cluster, name: Option<&str>) -> Result<u16, Fault
     }
 }
 
-/// The cluster that a run begins with, the number of its schedule table, and what the values of its
-/// signals mean, where that is read.
+/// What a run of settings begins with.
 #[derive(Drop)]
-pub(crate) struct Opened {
-    pub(crate) cluster: Cluster,
-    pub(crate) table: u16,
-    pub(crate) coded: Option<Coded>,
+pub struct Opened<'a> {
+    pub cluster: Cluster,
+    /// The number of its schedule table.
+    pub table: u16,
+    /// What the values of its signals mean, where that is read.
+    pub coded: Option<Coded>,
+    pub settings: Settings<'a>,
 }
 
 impl Settings<'_> {
@@ -76,12 +78,12 @@ impl Settings<'_> {
 ///
 /// # Errors
 /// Those of `cluster_of_file` and `opening_table`.
-pub(crate) fn begin<R: AllocGlobal + Files>(
+pub(crate) fn begin<'a, R: AllocGlobal + Files>(
     rt: &R,
-    settings: &Settings<'_>,
+    settings: &Settings<'a>,
     has_words: bool,
     notes: &mut Notes<'_>,
-) -> Result<Opened, Fault>
+) -> Result<Opened<'a>, Fault>
     ensures { IfOk result (λ it. it.table < length it.cluster.tables) }
 {
     let (file, reading) = (settings.file, settings.reading);
@@ -95,6 +97,7 @@ pub(crate) fn begin<R: AllocGlobal + Files>(
             cluster,
             table,
             coded,
+            settings: *settings,
         }),
         Err(fault) => {
             notes.add_tables(&cluster);
@@ -106,7 +109,7 @@ pub(crate) fn begin<R: AllocGlobal + Files>(
 /// How many messages of a host may wait, where so many are asked for: the nearest number of 1 to
 /// 1,024.
 pub(crate) fn within_limits(capacity: u16) -> usize
-    ensures value { result ≡ max 1 (min 1024 capacity) }
+    ensures value { result ≡ room_for capacity }
     ensures range { (1 ≤ result) × (result ≤ 1024) }
 {
     usize::from(capacity.clamp(1, 1024))

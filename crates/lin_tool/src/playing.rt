@@ -6,12 +6,13 @@ ghost use Rattle.std.specs.Io.KnownBytes.{Keeps};
 ghost use Rattle.lin_text.specs.Written.{WritesText};
 ghost use Rattle.lin_export.specs.WhereTold.{told};
 ghost use Rattle.lin_tool.specs.Formats.{log_as};
+ghost use Rattle.lin_tool.specs.Opening.{room_for};
 ghost use Rattle.lin_tool.specs.Placing.{bad_text, missed_text};
 ghost use Rattle.lin_tool.specs.Playing.{in_words, shown_coding};
 ghost use Rattle.lin_tool.specs.Playing.{Judges, PlaysScript, ReadsLines, TellsBad, WritesPlayed, told_text};
 
 use crate::fault::Fault;
-use crate::formats::{Format, write_shown};
+use crate::formats::{Shown, write_shown};
 use crate::notes::Notes;
 use crate::opening::{Opened, Settings, begin, within_limits};
 use crate::placing::{write_bad_lines, write_placed_unmet};
@@ -22,7 +23,6 @@ use lin_bench::{
 };
 use lin_core::Core;
 use lin_log::read_bytes;
-use lin_parts::Cluster;
 use lin_text::{Many, WriteFailed};
 use lin_values::Coded;
 use std::alloc::{AllocError, Global};
@@ -30,27 +30,37 @@ use std::fs::{self, Files};
 use std::io::{self, Read, Write};
 use std::mem;
 
-/// Writes to `errors` what is wrong with a bench script of these bytes, of which this line is the
-/// first bad one: where the script has a name, a line for each bad one.
+/// A bench script, as it is played.
+#[derive(Clone, Copy)]
+struct Script<'a> {
+    bytes: &'a [u8],
+    /// The name of its file, with which lines begin that tell of the script, where it is given.
+    name: Option<&'a str>,
+    /// Whether the play is strict, as `lin_bench::play` says.
+    is_strict: bool,
+}
+
+/// Writes to `errors` what is wrong with a bench script, of which this line is the first bad one:
+/// where the script has a name, a line for each bad one.
 ///
 /// # Errors
 /// `OutOfMemory`, after which nothing was written.
 fn tell_bad<E: Write>(
     alloc: Global,
-    cluster: &Cluster,
-    coded: Option<&Coded>,
-    bytes: &[u8],
-    named: Option<&str>,
+    opened: &Opened<'_>,
+    script: Script<'_>,
     first: (u64, Reason),
     errors: &mut E,
     notes: &mut Notes<'_>,
 ) -> Result<Result<(), WriteFailed>, AllocError>
-    requires { length bytes.now ≤ 16777216 }
+    requires { length script.bytes.now ≤ 16777216 }
     ensures { TellsBad result
-        (bad_text named.entry cluster.now (told coded.entry) bytes.now first.0 first.1)
-        (E.contents errors.old) (E.contents errors.new) }
+        (bad_text script.entry.name opened.now.cluster opened.now.coded script.entry.bytes.now first.0
+        first.1) (E.contents errors.old) (E.contents errors.new) }
 {
-    match named {
+    let cluster = &opened.cluster;
+    let bytes = script.bytes;
+    match script.name {
         None => {
             let (line, reason) = first;
             let told = write_bad_line(line, &reason, errors);
@@ -58,7 +68,7 @@ fn tell_bad<E: Write>(
             Ok(told)
         }
         Some(file) => {
-            let bad = bad_lines(alloc, cluster, coded, bytes)?;
+            let bad = bad_lines(alloc, cluster, opened.coded.as_ref(), bytes)?;
             let told = write_bad_lines(file, bad.as_slice(), errors);
             notes.add_bench_lines(alloc, bytes, cluster, bad.as_slice());
             Ok(told)
@@ -66,30 +76,28 @@ fn tell_bad<E: Write>(
     }
 }
 
-/// What the lines of a bench script of these bytes say, each with its number.
+/// What the lines of a bench script say, each with its number.
 ///
 /// # Errors
 /// `BadBenchLine` for the first line that is bad, after its line, or where the script has a name
 /// those of all bad lines, was written to `errors`; `OutOfMemory`.
 fn bench_lines<E: Write>(
     alloc: Global,
-    cluster: &Cluster,
-    coded: Option<&Coded>,
-    bytes: &[u8],
-    named: Option<&str>,
+    opened: &Opened<'_>,
+    script: Script<'_>,
     errors: &mut E,
     notes: &mut Notes<'_>,
 ) -> Result<Vec<(u64, Line)>, Fault>
-    requires { length bytes.now ≤ 16777216 }
-    ensures lines { ReadsLines named.entry cluster.now (told coded.entry) bytes.now (λ v. v.items) result
-        (E.contents errors.old) (E.contents errors.new) }
+    requires { length script.bytes.now ≤ 16777216 }
+    ensures lines { ReadsLines script.entry.name opened.now.cluster opened.now.coded
+        script.entry.bytes.now (λ v. v.items) result (E.contents errors.old) (E.contents errors.new) }
     ensures few { IfOk result (λ v. length v.items ≤ 16777217) }
 {
-    match read(alloc, cluster, coded, bytes) {
+    match read(alloc, &opened.cluster, opened.coded.as_ref(), script.bytes) {
         Ok(lines) => Ok(lines),
         Err(ReadFault::BadLine { line, reason }) => {
             let first = (line, reason);
-            let told = tell_bad(alloc, cluster, coded, bytes, named, first, errors, notes)?;
+            let told = tell_bad(alloc, opened, script, first, errors, notes)?;
             Err(Fault::BadBenchLine { line, told })
         }
         Err(ReadFault::OutOfMemory) => Err(Fault::OutOfMemory),
@@ -143,16 +151,15 @@ fn tell<E: Write>(
 /// `Unmet` where one isn't met.
 fn judge<E: Write>(
     core: &Core,
-    named: Option<&str>,
-    is_strict: bool,
+    script: Script<'_>,
     judgements: &[Judgement],
     errors: &mut E,
 ) -> Result<(), Fault>
     ensures { Judges result judgements.now
-        (told_text named.entry is_strict core.now.cluster core.now.log judgements.now)
-        (E.contents errors.old) (E.contents errors.new) }
+        (told_text script.entry.name script.entry.is_strict core.now.cluster core.now.log
+        judgements.now) (E.contents errors.old) (E.contents errors.new) }
 {
-    let told = tell(core, named, is_strict, judgements, errors);
+    let told = tell(core, script.name, script.is_strict, judgements, errors);
     if some_unmet(judgements) {
         Err(Fault::Unmet { told })
     } else {
@@ -160,8 +167,8 @@ fn judge<E: Write>(
     }
 }
 
-/// Writes the log of a run that opened with this table and capacity in a format, and then to
-/// `errors` what is told of its judgements.
+/// Writes the log of a play as it is to be shown, and then to `errors` what is told of its
+/// judgements.
 ///
 /// # Errors
 /// `WriteFailed`, and in a format other than the log's own text `OutOfMemory`, where what was
@@ -169,28 +176,23 @@ fn judge<E: Write>(
 /// met.
 fn put_played<W: Write, E: Write>(
     alloc: Global,
-    format: Format<'_>,
+    shown: &Shown<'_>,
     core: &Core,
-    coded: Option<&Coded>,
-    table: u16,
-    capacity: usize,
-    named: Option<&str>,
-    is_strict: bool,
-    judgements: &[Judgement],
+    script: Script<'_>,
     writer: &mut W,
     errors: &mut E,
 ) -> Result<(), Fault>
-    ensures { WritesPlayed format.entry
-        (log_as format.entry core.now.cluster (told coded.entry) table capacity core.now.log judgements.now)
-        judgements.now
-        (told_text named.entry is_strict core.now.cluster core.now.log judgements.now) result
+    ensures { WritesPlayed shown.now.format
+        (log_as shown.now.format core.now.cluster (told shown.now.coded) shown.now.table
+        shown.now.capacity core.now.log shown.now.judgements.now)
+        shown.now.judgements.now
+        (told_text script.entry.name script.entry.is_strict core.now.cluster core.now.log
+        shown.now.judgements.now) result
         (W.contents writer.old) (W.contents writer.new)
         (E.contents errors.old) (E.contents errors.new) }
 {
-    write_shown(
-        alloc, format, core, coded, table, capacity, judgements, writer,
-    )?;
-    judge(core, named, is_strict, judgements, errors)
+    write_shown(alloc, shown, core, writer)?;
+    judge(core, script, shown.judgements, errors)
 }
 
 /// What was judged; where words were expected, with what values mean.
@@ -216,17 +218,14 @@ fn shown(coded: Option<&Coded>, is_physical: bool) -> Option<&Coded>
     if is_physical { coded } else { None }
 }
 
-/// Reads a bench script, makes the steps that its lines say over a cluster, and writes their log in
-/// a format; for each judgement that isn't met, and for a bad line, a line goes to `errors`.
-/// Where the script has a name, these lines begin with it, each bad line has one, and that of a
-/// judgement ends with the last slot that was finished, and the time. Where the play is strict, as
-/// `lin_bench::play` says, a line of numbers is the last. The notes tell which steps were refused.
-/// Where what signals mean is known, lines may say values in words; where it is shown, the log tells
-/// it, as of `write_shown`.
-///
-/// It begins with the schedule table `table`; each host may have `capacity` messages waiting, 1 to
-/// 1,024. (The core's memory is left to the end of the program: it would be let go of entry by
-/// entry.)
+/// Reads a bench script, makes the steps that its lines say over the cluster that was opened, and
+/// writes their log as the settings want it; for each judgement that isn't met, and for a bad line, a
+/// line goes to `errors`. Where the notes have the script's name, these lines begin with it, each bad
+/// line has one, and that of a judgement ends with the last slot that was finished, and the time.
+/// Where the play is strict, as `lin_bench::play` says, a line of numbers is the last. The notes tell
+/// which steps were refused. Where what signals mean is known, lines may say values in words; where it
+/// is shown, the log tells it, as of `write_shown`. (The core's memory is left to the end of the
+/// program: it would be let go of entry by entry.)
 ///
 /// # Errors
 /// `BadBenchLine`, `SlotLimit` and `ScriptTooLong` for a fault of the script; `ReadFailed` where
@@ -235,90 +234,54 @@ fn shown(coded: Option<&Coded>, is_physical: bool) -> Option<&Coded>
 /// the beginning of the whole. `Unmet`, after all of it was written, where a judgement isn't met.
 pub fn play_script<R: Read, W: Write, E: Write>(
     alloc: Global,
-    cluster: Cluster,
-    table: u16,
-    capacity: usize,
-    format: Format<'_>,
-    coded: Option<&Coded>,
-    is_physical: bool,
-    named: Option<&str>,
-    is_strict: bool,
+    opened: Opened<'_>,
     reader: &mut R,
     writer: &mut W,
     errors: &mut E,
     notes: &mut Notes<'_>,
 ) -> Result<(), Fault>
-    requires table { table < length cluster.tables }
-    requires capacity { (1 ≤ capacity) × (capacity ≤ 1024) }
-    ensures { PlaysScript format.entry (told coded.entry) is_physical named.entry is_strict cluster table capacity result
+    requires { opened.table < length opened.cluster.tables }
+    ensures { PlaysScript opened.entry.settings.format opened.entry.coded
+        opened.entry.settings.is_physical notes.old.wanted.script opened.entry.settings.is_strict
+        opened.entry.cluster opened.entry.table (room_for opened.entry.settings.capacity) result
         (R.remaining reader.old)
         (W.contents writer.old) (W.contents writer.new)
         (E.contents errors.old) (E.contents errors.new) }
 {
     let bytes = read_bytes(alloc, reader)?;
-    let lines = bench_lines(
-        alloc,
-        &cluster,
-        coded,
-        bytes.as_slice(),
-        named,
-        errors,
-        notes,
-    )?;
-    let Played { core, judgements } = play_lines(
-        alloc, cluster, table, capacity, lines, is_strict,
-    )?;
-    let judgements = in_words(alloc, coded, judgements)?;
-    let judged = put_played(
-        alloc,
-        format,
-        &core,
-        shown(coded, is_physical),
-        table,
-        capacity,
-        named,
-        is_strict,
-        judgements.as_slice(),
-        writer,
-        errors,
-    );
-    notes.add_refusals(core.log());
-    mem::forget(core);
-    judged
-}
-
-/// Plays the bench script that a reader gives over a cluster, and writes the log on standard output
-/// in the format of the settings, as of `play_script`.
-fn play_read<R: AllocGlobal + Print, S: Read, E: Write>(
-    rt: &R,
-    opened: Opened,
-    settings: &Settings<'_>,
-    script: &mut S,
-    errors: &mut E,
-    notes: &mut Notes<'_>,
-) -> Result<(), Fault>
-    requires { opened.table < length opened.cluster.tables }
-{
+    let script = Script {
+        bytes: bytes.as_slice(),
+        name: notes.wanted.script,
+        is_strict: opened.settings.is_strict,
+    };
+    let lines = bench_lines(alloc, &opened, script, errors, notes)?;
     let Opened {
         cluster,
         table,
         coded,
+        settings,
     } = opened;
-    play_script(
-        rt.alloc(),
+    let capacity = within_limits(settings.capacity);
+    let Played { core, judgements } = play_lines(
+        alloc,
         cluster,
         table,
-        within_limits(settings.capacity),
-        settings.format,
-        coded.as_ref(),
-        settings.is_physical,
-        notes.script(),
+        capacity,
+        lines,
         settings.is_strict,
-        script,
-        &mut io::writer(rt),
-        errors,
-        notes,
-    )
+    )?;
+    let judgements = in_words(alloc, coded.as_ref(), judgements)?;
+    let shown = Shown {
+        format: settings.format,
+        coded: shown(coded.as_ref(), settings.is_physical),
+        table,
+        capacity,
+        judgements: judgements.as_slice(),
+    };
+    let judged = put_played(alloc, &shown, &core, script, writer, errors);
+    notes.add_refusals(core.log());
+    mem::forget(core);
+    judged
 }
 
 /// Reads the bench script in the file at the path `script`, or without one that on standard input,
@@ -339,10 +302,11 @@ pub fn play<R: AllocGlobal + Files + Input + Print, E: Write>(
     let opened = begin(rt, settings, true, notes)?;
     notes.tell_warnings(errors);
     notes.begin_script();
+    let (alloc, mut writer) = (rt.alloc(), io::writer(rt));
     let answer = match script {
-        None => play_read(rt, opened, settings, &mut rt.reader(), errors, notes),
+        None => play_script(alloc, opened, &mut rt.reader(), &mut writer, errors, notes),
         Some(path) => match fs::open(rt, path) {
-            Ok(mut file) => play_read(rt, opened, settings, &mut file, errors, notes),
+            Ok(mut file) => play_script(alloc, opened, &mut file, &mut writer, errors, notes),
             Err(_) => Err(Fault::ReadFailed),
         },
     };

@@ -2,19 +2,18 @@
 //! format.
 
 ghost use Rattle.std.specs.Prelude.{◌≤◌, ◌<◌, length, Option};
-ghost use Rattle.lin_export.specs.WhereTold.{told};
 ghost use Rattle.lin_values.specs.Coded.{CodedData};
+ghost use Rattle.lin_tool.specs.Opening.{room_for};
 ghost use Rattle.lin_tool.specs.Replaying.{Replays};
 ghost use Rattle.lin_tool.specs.declared.formats.Format.TheVariants.{Log};
 
 use crate::fault::Fault;
-use crate::formats::{Format, write_shown};
+use crate::formats::{Format, Shown, write_shown};
 use crate::notes::Notes;
 use crate::opening::{Opened, Settings, begin, within_limits};
 use crate::scripts::noted_run;
 use lin_log::read_bytes;
 use lin_parts::Cluster;
-use lin_values::Coded;
 use std::alloc::Global;
 use std::fs::Files;
 use std::io::{self, Read, Write};
@@ -40,11 +39,9 @@ fn replay_log<R: Read, W: Write>(
     Ok(())
 }
 
-/// Reads a script, makes its steps over a cluster, and writes their log in a format, with what signals
-/// mean as of `write_shown`. The notes tell which steps were refused.
-///
-/// It begins with the schedule table `table`; each host may have `capacity` messages waiting, 1 to
-/// 1,024. (The core's memory is left to the end of the program: it would be let go of entry by
+/// Reads a script, makes its steps over the cluster that was opened, and writes their log in the format
+/// of the settings, with what signals mean, as of `write_shown`. The notes tell which steps were
+/// refused. (The core's memory is left to the end of the program: it would be let go of entry by
 /// entry.)
 ///
 /// # Errors
@@ -54,26 +51,36 @@ fn replay_log<R: Read, W: Write>(
 /// beginning of the whole.
 pub fn replay_script<R: Read, W: Write>(
     alloc: Global,
-    cluster: Cluster,
-    table: u16,
-    capacity: usize,
-    format: Format<'_>,
-    coded: Option<&Coded>,
+    opened: Opened<'_>,
     reader: &mut R,
     writer: &mut W,
     notes: &mut Notes<'_>,
 ) -> Result<(), Fault>
-    requires table { table < length cluster.tables }
-    requires capacity { (1 ≤ capacity) × (capacity ≤ 1024) }
-    ensures { Replays format.entry (told coded.entry) cluster table capacity result
+    requires { opened.table < length opened.cluster.tables }
+    ensures { Replays opened.entry.settings.format opened.entry.coded opened.entry.cluster
+        opened.entry.table (room_for opened.entry.settings.capacity) result
         (R.remaining reader.old) (W.contents writer.old) (W.contents writer.new) }
 {
-    if format == Format::Log && !notes.is_explained() {
+    let Opened {
+        cluster,
+        table,
+        coded,
+        settings,
+    } = opened;
+    let capacity = within_limits(settings.capacity);
+    if settings.format == Format::Log && !notes.is_explained() {
         return replay_log(alloc, cluster, table, capacity, reader, writer);
     }
     let bytes = read_bytes(alloc, reader)?;
     let core = noted_run(alloc, cluster, table, capacity, bytes.as_slice(), notes)?;
-    let written = write_shown(alloc, format, &core, coded, table, capacity, &[], writer);
+    let shown = Shown {
+        format: settings.format,
+        coded: coded.as_ref(),
+        table,
+        capacity,
+        judgements: &[],
+    };
+    let written = write_shown(alloc, &shown, &core, writer);
     notes.add_refusals(core.log());
     mem::forget(core);
     match written {
@@ -93,18 +100,10 @@ pub fn replay<R: AllocGlobal + Files + Input + Print>(
     settings: &Settings<'_>,
     notes: &mut Notes<'_>,
 ) -> Result<(), Fault> {
-    let Opened {
-        cluster,
-        table,
-        coded,
-    } = begin(rt, settings, false, notes)?;
+    let opened = begin(rt, settings, false, notes)?;
     let answer = replay_script(
         rt.alloc(),
-        cluster,
-        table,
-        within_limits(settings.capacity),
-        settings.format,
-        coded.as_ref(),
+        opened,
         &mut rt.reader(),
         &mut io::writer(rt),
         notes,

@@ -11,16 +11,15 @@ ghost use Rattle.lin_tool.specs.Formats.{log_as};
 ghost use Rattle.lin_tool.specs.Running.{ReadsHosts, WritesRun};
 
 use crate::fault::Fault;
-use crate::formats::{Format, write_shown};
+use crate::formats::{Shown, write_shown};
 use crate::notes::Notes;
 use crate::opening::{Opened, Settings, begin, within_limits};
 use crate::scripts::noted_script;
 use lin_core::Core;
 use lin_parts::Cluster;
 use lin_threads::{
-    Ended, HostStep, HostTask, Plan, RunReport, ScriptTask, run_cluster, split, wire,
+    Ended, HostStep, HostTask, Plan, Players, RunReport, ScriptTask, run_cluster, split, wire,
 };
-use lin_values::Coded;
 use std::alloc::{AllocError, Global};
 use std::fs::Files;
 use std::io::{self, Read, Write};
@@ -97,7 +96,12 @@ fn run_tasks<R: AllocGlobal + Threads + Wait + Copy + Send + 'static>(
     let alloc = rt.alloc();
     let core = Core::new(alloc, cluster, table, capacity)?;
     let (pump, hosts, others) = wire(alloc, core, RING)?;
-    Ok(run_cluster(rt, alloc, pump, hosts, others, tasks, plan)?)
+    let players = Players {
+        hosts,
+        nodes: others,
+        tasks,
+    };
+    Ok(run_cluster(rt, alloc, pump, players, plan)?)
 }
 
 /// Runs a task for the steps of each host.
@@ -126,7 +130,7 @@ fn run_steps<R: AllocGlobal + Threads + Wait + Copy + Send + 'static>(
     run_tasks(rt, cluster, table, capacity, tasks, plan)
 }
 
-/// Writes the log of a run, which opened with this table and capacity, in a format.
+/// Writes the log of a run as it is to be shown, with the table and the capacity with which it opened.
 ///
 /// # Errors
 /// `WriteFailed`, and in a format other than the log's own text `OutOfMemory`, where what was
@@ -134,29 +138,18 @@ fn run_steps<R: AllocGlobal + Threads + Wait + Copy + Send + 'static>(
 /// its turns before it was done.
 fn put_report<W: Write>(
     alloc: Global,
-    format: Format<'_>,
+    shown: &Shown<'_>,
     report: &RunReport,
-    coded: Option<&Coded>,
-    table: u16,
-    capacity: usize,
     writer: &mut W,
 ) -> Result<(), Fault>
-    requires table { report.now.core.opening ≡ table }
-    requires capacity { report.now.core.capacity ≡ capacity }
-    ensures { WritesRun format.entry
-        (log_as format.entry report.now.core.cluster (told coded.entry) table capacity report.now.core.log [])
+    requires table { report.now.core.opening ≡ shown.now.table }
+    requires capacity { report.now.core.capacity ≡ shown.now.capacity }
+    ensures { WritesRun shown.now.format
+        (log_as shown.now.format report.now.core.cluster (told shown.now.coded) shown.now.table
+        shown.now.capacity report.now.core.log shown.now.judgements.now)
         report.now.ended.items (W.contents writer.old) (W.contents writer.new) result }
 {
-    write_shown(
-        alloc,
-        format,
-        &report.core,
-        coded,
-        table,
-        capacity,
-        &[],
-        writer,
-    )?;
+    write_shown(alloc, shown, &report.core, writer)?;
     if report.ended.contains(&Ended::Limit) {
         return Err(Fault::TaskLimit);
     }
@@ -167,8 +160,7 @@ fn put_report<W: Write>(
 /// above.)
 fn run_over<R: AllocGlobal + Input + Print + Eprint + Threads + Wait + Copy + Send + 'static>(
     rt: &R,
-    opened: Opened,
-    settings: &Settings<'_>,
+    opened: Opened<'_>,
     slots: u32,
     is_watched: bool,
     notes: &mut Notes<'_>,
@@ -179,6 +171,7 @@ fn run_over<R: AllocGlobal + Input + Print + Eprint + Threads + Wait + Copy + Se
         cluster,
         table,
         coded,
+        settings,
     } = opened;
     let mut reader = rt.reader();
     let lists = host_steps(rt.alloc(), &mut reader, cluster.nodes(), notes)?;
@@ -187,18 +180,14 @@ fn run_over<R: AllocGlobal + Input + Print + Eprint + Threads + Wait + Copy + Se
     }
     let capacity = within_limits(settings.capacity);
     let report = run_steps(rt, cluster, table, capacity, slots, lists)?;
-    let mut writer = io::writer(rt);
-    let alloc = rt.alloc();
-    let format = settings.format;
-    let written = put_report(
-        alloc,
-        format,
-        &report,
-        coded.as_ref(),
+    let shown = Shown {
+        format: settings.format,
+        coded: coded.as_ref(),
         table,
         capacity,
-        &mut writer,
-    );
+        judgements: &[],
+    };
+    let written = put_report(rt.alloc(), &shown, &report, &mut io::writer(rt));
     notes.add_refusals(report.core.log());
     mem::forget(report);
     written
@@ -225,7 +214,7 @@ pub fn run<
     notes: &mut Notes<'_>,
 ) -> Result<(), Fault> {
     let opened = begin(rt, settings, false, notes)?;
-    let answer = run_over(rt, opened, settings, slots, is_watched, notes);
+    let answer = run_over(rt, opened, slots, is_watched, notes);
     notes.add_unread(&answer, None);
     answer
 }

@@ -5,9 +5,9 @@ use crate::fakes::{Narrow, Piecewise};
 use crate::samples::{BUILT_IN, LIGHTS};
 use lin_log::run_script;
 use lin_tool::{
-    Described, Encodings, Extras, Fault, Format, Lists, Notes, Reading, Wanted, cluster_of_reader,
-    cluster_of_text, field_of_reader, opening_table, play_script, read_text, replay_script,
-    write_list, write_lists, write_shown,
+    Described, Encodings, Extras, Fault, Format, Lists, Notes, Opened, Reading, Settings, Shown,
+    Wanted, cluster_of_reader, cluster_of_text, field_of_reader, opening_table, play_script,
+    read_text, replay_script, write_list, write_lists, write_shown,
 };
 use std::alloc::Global;
 use std::process::Abort;
@@ -176,6 +176,17 @@ fn odd_texts_are_told_where_they_are_linted(rt: HostRuntime) -> Result<(), Fail>
     Ok(())
 }
 
+/// How runs of these tests begin.
+const SETTINGS: Settings<'static> = Settings {
+    file: None,
+    reading: Reading::Plain,
+    table: None,
+    capacity: 16,
+    format: Format::Log,
+    is_physical: false,
+    is_strict: false,
+};
+
 fn replayed(alloc: Global, script: &[u8]) -> Result<Vec<u8>, Fault> {
     let mut rest = BUILT_IN;
     let mut reader = script;
@@ -186,17 +197,13 @@ fn replayed(alloc: Global, script: &[u8]) -> Result<Vec<u8>, Fault> {
         coded: _coded,
     } = cluster_of_reader(alloc, &mut rest, NO_EXTRAS, &mut notes)?;
     let table = opening_table(&cluster, None)?;
-    replay_script(
-        alloc,
+    let opened = Opened {
         cluster,
         table,
-        16,
-        Format::Log,
-        None,
-        &mut reader,
-        &mut text,
-        &mut notes,
-    )?;
+        coded: None,
+        settings: SETTINGS,
+    };
+    replay_script(alloc, opened, &mut reader, &mut text, &mut notes)?;
     Ok(text)
 }
 
@@ -233,16 +240,19 @@ fn told_of_play(
     let mut reader = script;
     let mut log = Vec::new(alloc);
     let mut errors = Vec::new(alloc);
-    let done = play_script(
-        alloc,
+    let opened = Opened {
         cluster,
         table,
-        16,
-        Format::Named,
-        coded.as_ref(),
-        encodings == Encodings::Told,
-        None,
-        false,
+        coded,
+        settings: Settings {
+            format: Format::Named,
+            is_physical: encodings == Encodings::Told,
+            ..SETTINGS
+        },
+    };
+    let done = play_script(
+        alloc,
+        opened,
         &mut reader,
         &mut log,
         &mut errors,
@@ -335,15 +345,22 @@ fn formats_end_where_a_write_fails(rt: HostRuntime) -> Result<(), Fail> {
         Format::Vcd,
         Format::Html(b"door.ldf"),
     ] {
+        let shown = Shown {
+            format,
+            coded: None,
+            table,
+            capacity: 16,
+            judgements: &[],
+        };
         let mut whole = Vec::new(alloc);
-        write_shown(alloc, format, &core, None, table, 16, &[], &mut whole)?;
+        write_shown(alloc, &shown, &core, &mut whole)?;
         // (a page is long: some of its beginnings)
         for good in (0..whole.len()).step_by(1 + whole.len() / 4096) {
             let mut writer = Narrow {
                 taken: Vec::new(alloc),
                 left: good,
             };
-            let written = write_shown(alloc, format, &core, None, table, 16, &[], &mut writer);
+            let written = write_shown(alloc, &shown, &core, &mut writer);
             assert!(rt; written.is_err());
             let wanted = &whole[..good];
             expect_bytes(&rt, &writer.taken, wanted, "a beginning", "a format");

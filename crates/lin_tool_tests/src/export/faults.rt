@@ -7,7 +7,8 @@ use crate::clusters::{expect_bytes, run};
 use crate::samples;
 use lin_core::Core;
 use lin_export::{
-    ExportFault, write_csv, write_first_slots, write_jsonl, write_named, write_pcap, write_vcd,
+    ExportFault, Opening, write_csv, write_first_slots, write_jsonl, write_named, write_pcap,
+    write_vcd,
 };
 use std::alloc::{AllocError, Global};
 use std::io::{Error, ErrorKind, Write};
@@ -92,7 +93,17 @@ fn write_form<W: Write>(
     match form {
         Form::Named => write_named(alloc, cluster, None, log, writer),
         Form::Csv => write_csv(alloc, cluster, None, log, writer),
-        Form::Jsonl => write_jsonl(alloc, cluster, None, 0, 16, log, writer),
+        Form::Jsonl => write_jsonl(
+            alloc,
+            cluster,
+            None,
+            Opening {
+                table: 0,
+                capacity: 16,
+            },
+            log,
+            writer,
+        ),
         Form::Pcap => write_pcap(alloc, cluster, log, writer),
         Form::Vcd => write_vcd(alloc, cluster, None, log, writer),
         Form::FirstSlots => write_first_slots(alloc, cluster, log, writer),

@@ -11,7 +11,7 @@ returns g c =
     grows-object (codes "message") c.put_type.ensures
     (puts-more
     (puts-all
-    (time_member c.args.at ∷ member (codes "slot") (decimal c.args.slot) ∷ member (codes "from") (node_text x c.args.from) ∷ member (codes "to") (node_text x c.args.to) ∷ [])
+    (time_member c.args.moment.at ∷ member (codes "slot") (decimal c.args.moment.slot) ∷ member (codes "from") (node_text x c.args.from) ∷ member (codes "to") (node_text x c.args.to) ∷ [])
     (rw (c.node_name.ensures, c.node_name-2.ensures) at c.put_members.ensures))
     (puts-one (bytes_member c.args.bytes.now) c.put_member.ensures))
     c.put.ensures

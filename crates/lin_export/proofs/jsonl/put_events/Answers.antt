@@ -5,5 +5,5 @@ use Rattle.lin_export.proofs.jsonl.put_events.Goals as goal
 
 pub loop-event-preserved : goal.loop-event-preserved
 loop-event-preserved g c =
-    grows-next (event_line c.args.cluster.now c.args.step.now c.args.slot c.args.at) c.args.events.now c.loop-event.event-index c.event-item.result c.event-item.is (omega arith)
+    grows-next (event_line c.args.cluster.now c.args.step.now c.args.moment.slot c.args.moment.at) c.args.events.now c.loop-event.event-index c.event-item.result c.event-item.is (omega arith)
     c.loop-event.invariant c.put_event.ensures

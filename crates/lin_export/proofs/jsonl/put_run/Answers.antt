@@ -12,8 +12,8 @@ pub returns : goal.returns
 returns g c =
     let x = c.args.cluster.now in
     let first =
-    member (codes "version") (decimal 1) ∷ member (codes "table") (quoted (named_table x c.args.opening).name)
-    ∷ member (codes "capacity") (decimal c.args.capacity) ∷ [] in
+    member (codes "version") (decimal 1) ∷ member (codes "table") (quoted (named_table x c.args.opening.table).name)
+    ∷ member (codes "capacity") (decimal c.args.opening.capacity) ∷ [] in
     grows-object (codes "run") c.put_type.ensures
     (puts-more (puts-all first (rw c.table_name.ensures at c.put_members.ensures))
     (puts-more

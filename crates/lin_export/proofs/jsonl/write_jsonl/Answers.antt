@@ -8,5 +8,5 @@ use Rattle.lin_export.proofs.jsonl.write_jsonl.Goals as goal
 pub returns : goal.returns
 returns g c =
     written-same
-    (ap (λ l. run_line c.args.cluster.now c.args.opening c.args.capacity ++ l) (append-nil (each_entry (entry_objects c.args.cluster.now (told c.args.coded)) [] c.args.log.now.entries)))
+    (ap (λ l. run_line c.args.cluster.now c.args.opening.table c.args.opening.capacity ++ l) (append-nil (each_entry (entry_objects c.args.cluster.now (told c.args.coded)) [] c.args.log.now.entries)))
     c.write_as.ensures

@@ -6,8 +6,8 @@ use crate::samples::{CAPACITY, DOOR_CLUSTER, cluster_of, log_of};
 use lin_core::{Core, Payload, PortId};
 use lin_log::replay;
 use lin_threads::{
-    Ended, HostPort, HostStep, HostTask, NodePort, Plan, Pump, RunReport, ScriptTask, Turn,
-    run_cluster, wire,
+    Ended, HostPort, HostStep, HostTask, NodePort, Plan, Players, Pump, RunReport, ScriptTask,
+    Turn, run_cluster, wire,
 };
 use std::alloc::Global;
 use std::process::Abort;
@@ -89,7 +89,12 @@ pub fn run<R: Abort + Threads + Wait + Copy + Send + 'static>(
     let plan = plan_of(alloc, numbers)?;
     assert_eq!(rt; tasks.len(), hosts.len());
     assert_eq!(rt; plan.leave.len(), nodes.len());
-    let report = run_cluster(rt, alloc, pump, hosts, nodes, tasks, plan)?;
+    let players = Players {
+        hosts,
+        nodes,
+        tasks,
+    };
+    let report = run_cluster(rt, alloc, pump, players, plan)?;
     assert_eq!(rt; report.receipts.len(), 4);
     assert!(rt; report.receipts[0].id() == PortId::Host(0));
     assert!(rt; report.receipts[1].id() == PortId::Host(1));

@@ -21,4 +21,4 @@ returns-in-Done-clause-text g c = λ past is kept.
     let x = c.args.cluster.now in
     let e = c.args.entry.now in
     same-growth (ap (λ (r : Reply). reply_objects x (told c.args.self.now.coded) e past r) (sym c.in-Done.is))
-    (grows-more (c.put_step.ensures past is (settled past) kept) (rw (c.slots.ensures, is, c.time_behind-at.ensures past is, c.as_slice.ensures) at c.put_events.ensures))
+    (grows-more (c.put_step.ensures past is (settled past) kept) (rw (c.slots.ensures, is, c.time_behind.ensures past is, c.as_slice.ensures) at c.put_events.ensures))

@@ -2,7 +2,7 @@ use Rattle.std.proofs.Common.{◌∷◌, List, flat_map, sym, ap, ◌∙◌}
 use Rattle.std.specs.Prelude.{slice_index}
 use Rattle.lin_core.specs.declared.event.Event.{Event}
 use Rattle.lin_export.specs.PutsGroups.{AreCounts}
-use Rattle.lin_export.specs.Vcd.{counted_all, event_group, groups, latest, timed_groups, waits}
+use Rattle.lin_export.specs.Vcd.{counted_all, event_group, groups, latest, step_groups, timed_groups, waits}
 use Rattle.lin_export.specs.WhereTold.{told}
 use Rattle.lin_export.proofs.Groups.{counts-done, groups-done, groups-more, same-groups}
 use Rattle.lin_text.proofs.Growing.{same-growth}
@@ -15,12 +15,13 @@ returns-clause-keeps g c = λ past is kept.
     let e = c.args.entry.now in
     let es = c.in-Done.events in
     let end = c.time_behind-end.result in
+    let step = same-groups (ap (λ n. step_groups x k past n e.step) (sym (c.time_behind-end.ensures past is))) (c.put_step.ensures past is) in
     let waiting : AreCounts (waits (e ∷ past)) c.count_all.new.counts
     = λ h few.
-    c.count_all.ensures h few ∙ ap (λ (l : List Event). counted_all h l (slice_index c.args.self.now.counts h)) c.as_slice.ensures
+    c.count_all.ensures h few ∙ ap (λ (l : List Event). counted_all h l (slice_index c.args.self.now.counts h)) c.as_slice-events.ensures
     ∙ ap (counted_all h es) (kept.waiting h few) ∙ counts-done e past es h c.in-Done.is in
-    let behind = same-groups (ap (flat_map (event_group x end (waits (e ∷ past)))) c.as_slice-2.ensures) (c.put_events.ensures (waits (e ∷ past)) waiting) in
-    let all = same-groups (sym (groups-done x k e past es end c.in-Done.is (c.time_behind-end.ensures past is))) (groups-more (c.put_step.ensures past is) behind) in
+    let behind = same-groups (ap (flat_map (event_group x end (waits (e ∷ past)))) c.as_slice-events.ensures) (c.put_events.ensures (waits (e ∷ past)) waiting) in
+    let all = same-groups (sym (groups-done x k e past es end c.in-Done.is (c.time_behind-end.ensures past is))) (groups-more step behind) in
     record { shown = all.shown ∙ ap (λ n. latest n (groups x k e past)) kept.shown; waiting = waiting }
 
 pub returns-clause-text : goal.returns-clause-text
@@ -30,10 +31,11 @@ returns-clause-text g c = λ past is kept.
     let e = c.args.entry.now in
     let es = c.in-Done.events in
     let end = c.time_behind-end.result in
+    let step = same-groups (ap (λ n. step_groups x k past n e.step) (sym (c.time_behind-end.ensures past is))) (c.put_step.ensures past is) in
     let waiting : AreCounts (waits (e ∷ past)) c.count_all.new.counts
     = λ h few.
-    c.count_all.ensures h few ∙ ap (λ (l : List Event). counted_all h l (slice_index c.args.self.now.counts h)) c.as_slice.ensures
+    c.count_all.ensures h few ∙ ap (λ (l : List Event). counted_all h l (slice_index c.args.self.now.counts h)) c.as_slice-events.ensures
     ∙ ap (counted_all h es) (kept.waiting h few) ∙ counts-done e past es h c.in-Done.is in
-    let behind = same-groups (ap (flat_map (event_group x end (waits (e ∷ past)))) c.as_slice-2.ensures) (c.put_events.ensures (waits (e ∷ past)) waiting) in
-    let all = same-groups (sym (groups-done x k e past es end c.in-Done.is (c.time_behind-end.ensures past is))) (groups-more (c.put_step.ensures past is) behind) in
+    let behind = same-groups (ap (flat_map (event_group x end (waits (e ∷ past)))) c.as_slice-events.ensures) (c.put_events.ensures (waits (e ∷ past)) waiting) in
+    let all = same-groups (sym (groups-done x k e past es end c.in-Done.is (c.time_behind-end.ensures past is))) (groups-more step behind) in
     same-growth (ap (λ n. timed_groups n (groups x k e past)) kept.shown) all.text
