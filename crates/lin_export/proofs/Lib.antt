@@ -13,5 +13,7 @@ pub mod Groups
 mod Hosts
 pub mod Dumps
 pub mod Objects
+pub mod ShortAdded
+pub mod KeptMore
 pub mod ListedLines
 pub mod NumberedLines

@@ -117,7 +117,7 @@ pub row-shown : (c : Parts) (n t : ℕ) (s : Slot) → slot_row c n t (shown_slo
 row-shown c n t s = rw (frame-shown c (line_of c s.table s.entry).entry s) refl
 
 -- what is heard of the slot that an entry finishes
-heard-in : Parts → List LogEntry → ℕ → Option Slot → Value
+abbrev heard-in : Parts → List LogEntry → ℕ → Option Slot → Value
 heard-in c past k o = unwrap_or (option_map_or (λ (x : Slot). value_in c x k) o None) (heard_value c past k)
 
 pub heard-finish : (c : Parts) (e : LogEntry) (past : List LogEntry) (s t : Slot) (k : ℕ) → finished_slot e past ≡ Some s → t ≡ shown_slot s

@@ -9,6 +9,8 @@ pub mod Pcap
 pub mod Captured
 pub mod Csv
 pub mod Cells
+pub mod ShortTexts
+pub mod KeptCells
 pub mod Json
 pub mod Members
 pub mod Jsonl

@@ -1,6 +1,7 @@
 //! Logs as lines of values between commas.
 
-ghost use Rattle.std.specs.Prelude.{◌≡◌, ◌<◌, ℕ, [], length, flat_map, map};
+ghost use Rattle.std.specs.Prelude.{◌≡◌, ◌++◌, ◌<◌, ℕ, [], Some, None, length, flat_map, map};
+ghost use Rattle.std.specs.Fmt.{decimal};
 ghost use Rattle.lin_frame.specs.Words.{numbers};
 ghost use Rattle.lin_core.specs.Signals.{heard_value, ArePointwise};
 ghost use Rattle.lin_frame.specs.declared.value.Value.{Value};
@@ -9,7 +10,8 @@ ghost use Rattle.lin_export.specs.Cells.{cell_text};
 ghost use Rattle.lin_export.specs.Csv.{comma, csv, head_line, hex_cell, marked};
 ghost use Rattle.lin_export.specs.Csv.{node_name, nodes_cell, response_cells, row, schedule_cells};
 ghost use Rattle.lin_export.specs.Csv.{signal_cells, signal_names};
-ghost use Rattle.lin_export.specs.Csv.{slot_cells, slot_line, spaced_name, value_cell};
+ghost use Rattle.lin_export.specs.Csv.{slot_cells, spaced_name, value_cell};
+ghost use Rattle.lin_export.specs.KeptCells.{AreKept, FitKept, IsKept};
 ghost use Rattle.lin_export.specs.Look.{looks};
 ghost use Rattle.lin_export.specs.Open.{slot_in};
 ghost use Rattle.lin_export.specs.WhereTold.{told};
@@ -17,7 +19,8 @@ ghost use Rattle.lin_export.specs.WhereTold.{told};
 use crate::fault::ExportFault;
 use crate::format::{Format, write_as};
 use crate::hearing::hear_slot;
-use crate::meaning_cells::{put_meaning_cells, put_meaning_names};
+use crate::kept_cells::{KeptCells, kept_cells};
+use crate::meaning_cells::put_meaning_names;
 use crate::naming::{node_name, slot_name, table_name};
 use crate::slot::{Look, OpenSlot, byte_at};
 use crate::track::Track;
@@ -75,6 +78,8 @@ fn put_cells<W: Write>(out: &mut TextWriter<'_, W>, mark: &[u8], cells: &[Cell<'
     }
 }
 
+/// (A call would take as long as what it does.)
+#[inline(always)]
 fn put_value<W: Write>(out: &mut TextWriter<'_, W>, value: &Value)
     ensures { Grows W.contents out.old out.new (comma (value_cell value.now)) }
 {
@@ -85,34 +90,81 @@ fn put_value<W: Write>(out: &mut TextWriter<'_, W>, value: &Value)
     }
 }
 
-/// The cells of a signal with a value: that, and where that is told what it means.
-fn put_signal<W: Write>(
-    out: &mut TextWriter<'_, W>,
-    coded: Option<&Coded>,
-    signal: u16,
-    value: &Value,
-)
+/// The cells of a signal with a value, where what that means isn't told.
+fn put_plain_signal<W: Write>(out: &mut TextWriter<'_, W>, signal: u16, value: &Value)
     ensures { (g : ℕ → Value) → value.now ≡ g signal
-        → Grows W.contents out.old out.new (flat_map comma
-        (signal_cells (told coded.entry) g signal)) }
+        → Grows W.contents out.old out.new (flat_map comma (signal_cells None g signal)) }
 {
     put_value(out, value);
-    put_meaning_cells(out, coded, signal, value);
 }
 
+fn put_plain_values<W: Write>(out: &mut TextWriter<'_, W>, cluster: &Cluster, values: &[Value])
+    requires { length values.now ≡ length cluster.now.signals }
+    ensures { (g : ℕ → Value) → ArePointwise g values.now
+        → Grows W.contents out.old out.new (flat_map comma
+        (flat_map (signal_cells None g) (numbers (length cluster.now.signals)))) }
+{
+    for signal in 0..cluster.signals() as u16 {
+        put_plain_signal(out, signal, &values[usize::from(signal)]);
+    }
+}
+
+/// The cells of a signal with a value: that, and what it means.
+fn put_coded_signal<W: Write>(
+    out: &mut TextWriter<'_, W>,
+    coded: &Coded,
+    signal: u16,
+    value: &Value,
+    kept: &mut KeptCells,
+)
+    requires { IsKept coded.now signal kept.old }
+    ensures kept { IsKept coded.now signal kept.new }
+    ensures text { (g : ℕ → Value) → value.now ≡ g signal
+        → Grows W.contents out.old out.new
+        (flat_map comma (signal_cells (Some coded.now) g signal)) }
+{
+    put_value(out, value);
+    kept.put(out, coded, signal, value);
+}
+
+fn put_coded_values<W: Write>(
+    out: &mut TextWriter<'_, W>,
+    cluster: &Cluster,
+    coded: &Coded,
+    values: &[Value],
+    kept: &mut Vec<KeptCells>,
+)
+    requires values { length values.now ≡ length cluster.now.signals }
+    requires kept { AreKept coded.now (length cluster.now.signals) kept.old.items }
+    ensures kept { AreKept coded.now (length cluster.now.signals) kept.new.items }
+    ensures text { (g : ℕ → Value) → ArePointwise g values.now
+        → Grows W.contents out.old out.new (flat_map comma
+        (flat_map (signal_cells (Some coded.now) g) (numbers (length cluster.now.signals)))) }
+{
+    for signal in 0..cluster.signals() as u16 {
+        let index = usize::from(signal);
+        put_coded_signal(out, coded, signal, &values[index], &mut kept[index]);
+    }
+}
+
+/// The cells of all signals with their values, and where that is told what these mean.
 fn put_values<W: Write>(
     out: &mut TextWriter<'_, W>,
     cluster: &Cluster,
     coded: Option<&Coded>,
     values: &[Value],
+    kept: &mut Vec<KeptCells>,
 )
-    requires { length values.now ≡ length cluster.now.signals }
-    ensures { (g : ℕ → Value) → ArePointwise g values.now
+    requires values { length values.now ≡ length cluster.now.signals }
+    requires kept { FitKept (told coded) (length cluster.now.signals) kept.old.items }
+    ensures kept { FitKept (told coded.entry) (length cluster.now.signals) kept.new.items }
+    ensures text { (g : ℕ → Value) → ArePointwise g values.now
         → Grows W.contents out.old out.new (flat_map comma
         (flat_map (signal_cells (told coded.entry) g) (numbers (length cluster.now.signals)))) }
 {
-    for signal in 0..cluster.signals() as u16 {
-        put_signal(out, coded, signal, &values[usize::from(signal)]);
+    match coded {
+        Some(coded) => put_coded_values(out, cluster, coded, values, kept),
+        None => put_plain_values(out, cluster, values),
     }
 }
 
@@ -252,32 +304,28 @@ pub(crate) fn put_slot<'a, W: Write>(
     put_response(out, mark, slot.look());
 }
 
-/// The line of a slot.
-fn put_line<'a, W: Write>(
+/// The cells of a slot before those of the signals.
+fn put_first_cells<'a, W: Write>(
     out: &mut TextWriter<'_, W>,
     cluster: &'a Cluster,
-    coded: Option<&Coded>,
     track: &Track,
     slot: &OpenSlot,
-    values: &[Value],
 )
-    requires { length values.now ≡ length cluster.now.signals }
-    ensures { (g : ℕ → Value) → ArePointwise g values.now
-        → Grows W.contents out.old out.new
-        (slot_line cluster.now (told coded.entry) track.now.slots
-        track.now.time (slot_in slot.now) g) }
+    ensures { Grows W.contents out.old out.new
+        (decimal track.now.slots
+        ++ flat_map comma (slot_cells cluster.now track.now.time (slot_in slot.now))) }
 {
     put_cell(out, Cell::Number(track.slots()));
     put_slot(out, b",", cluster, track.time(), slot);
-    put_values(out, cluster, coded, values);
-    out.put_byte(b'\n');
 }
 
-/// A table, the values of the signals that are heard, and where that is told what signals mean.
+/// A table, the values of the signals that are heard, and where that is told what signals mean, with
+/// the cells that stood there last.
 #[derive(Drop)]
 struct Sheet<'a> {
     values: Vec<Value>,
     coded: Option<&'a Coded>,
+    kept: Vec<KeptCells>,
 }
 
 impl Format for Sheet<'_> {
@@ -287,7 +335,8 @@ impl Format for Sheet<'_> {
 
     ghost ends = { λ f c past. [] };
 
-    ghost fits = { λ f c. length f.values.items ≡ length c.signals };
+    ghost fits = { λ f c. (length f.values.items ≡ length c.signals)
+        × FitKept (told f.coded) (length c.signals) f.kept.items };
 
     ghost keeps = { λ f c past. ArePointwise (heard_value c past) f.values.items };
 
@@ -304,14 +353,15 @@ impl Format for Sheet<'_> {
     ) {
         if let Some(slot) = track.finished(entry) {
             hear_slot(&mut self.values, cluster, slot);
-            put_line(
+            put_first_cells(out, cluster, track, slot);
+            put_values(
                 out,
                 cluster,
                 self.coded,
-                track,
-                slot,
                 self.values.as_slice(),
+                &mut self.kept,
             );
+            out.put_byte(b'\n');
         }
     }
 
@@ -323,8 +373,8 @@ impl Format for Sheet<'_> {
 /// signals that are heard after it (RFC 4180, with LF alone). With what signals mean, each that has
 /// an encoding has one column more.
 ///
-/// It goes through a buffer of fixed size, and takes memory for a value of each signal and for
-/// what is kept of one slot. The writer isn't flushed.
+/// It goes through a buffer of fixed size, and takes memory for what is kept of one slot, for a value
+/// of each signal and, with what signals mean, for a short text of each. The writer isn't flushed.
 ///
 /// # Errors
 /// What was written then is the beginning of the table.
@@ -342,5 +392,11 @@ pub fn write_csv<W: Write>(
         (csv cluster.now (told coded.entry) log.now.entries) }
 {
     let values = initial_values(alloc, cluster)?;
-    write_as(&mut Sheet { values, coded }, alloc, cluster, log, writer)
+    let kept = kept_cells(alloc, cluster, coded, values.as_slice())?;
+    let mut sheet = Sheet {
+        values,
+        coded,
+        kept,
+    };
+    write_as(&mut sheet, alloc, cluster, log, writer)
 }

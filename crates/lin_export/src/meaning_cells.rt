@@ -15,7 +15,7 @@ use lin_text::TextWriter;
 use lin_values::{Coded, Meaning, put_decimal};
 use std::io::Write;
 
-fn needs_quotes(text: &[u8]) -> bool
+pub(crate) fn needs_quotes(text: &[u8]) -> bool
     ensures { result ≡ needs_quotes text.now }
 {
     text.iter().any(|byte| *byte == b',' || *byte == b'"')
@@ -87,28 +87,18 @@ fn put_meaning_cell<W: Write>(
 }
 
 /// A comma, and what a value means, where the signal has an encoding.
-fn put_coded_cells<W: Write>(out: &mut TextWriter<'_, W>, coded: &Coded, signal: u16, value: &Value)
+pub(crate) fn put_coded_cells<W: Write>(
+    out: &mut TextWriter<'_, W>,
+    coded: &Coded,
+    signal: u16,
+    value: &Value,
+)
     ensures { Grows W.contents out.old out.new
         (flat_map comma (meaning_cells coded.now signal value.now)) }
 {
     if let Some(_encoding) = coded.encoding_of(signal) {
         out.put_byte(b',');
         put_meaning_cell(out, coded, signal, value);
-    }
-}
-
-/// The same, where what values mean is told.
-pub(crate) fn put_meaning_cells<W: Write>(
-    out: &mut TextWriter<'_, W>,
-    coded: Option<&Coded>,
-    signal: u16,
-    value: &Value,
-)
-    ensures { Grows W.contents out.old out.new (flat_map comma
-        (where_told (told coded.entry) (λ d. meaning_cells d signal value.now))) }
-{
-    if let Some(coded) = coded {
-        put_coded_cells(out, coded, signal, value);
     }
 }
 

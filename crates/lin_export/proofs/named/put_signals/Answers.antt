@@ -1,68 +1,50 @@
-use Rattle.std.proofs.Common.{◌≡◌, ◌+◌, ◌<◌, ◌++◌, ℕ, List, length, take, flat_map, get_or, sym, ap, ◌∙◌, arith}
-use Rattle.std.specs.Prelude.{zip}
-use Rattle.std.proofs.lemmas.List.{take_all}
-use Rattle.lin_frame.specs.Bits.{unpacked_value}
-use Rattle.lin_frame.specs.declared.layout.Layout.{Layout}
+use Rattle.std.proofs.Common.{◌∷◌, [], ℕ, List, take, flat_map, sym, ap, ◌∙◌, arith}
 use Rattle.lin_frame.specs.declared.layout.Place.{Place}
-use Rattle.lin_parts.specs.Cluster.{frame_of, signal_of}
-use Rattle.lin_core.proofs.slots.ClusterFrames.{FrameIs, frame-is}
-use Rattle.lin_core.proofs.slots.Hearing.{no_place, unpacked-same}
+use Rattle.lin_frame.specs.declared.value.Value.{Value}
+use Rattle.lin_parts.specs.Cluster.{signal_of}
+use Rattle.lin_core.proofs.slots.ClusterFrames.{frame-is}
+use Rattle.lin_core.proofs.slots.Hearing.{no_place}
 use Rattle.lin_log.specs.Words.{spaced_word, value_word}
 use Rattle.lin_text.proofs.Growing.{grows-more, same-growth}
 use Rattle.lin_export.specs.Named.{signal_words}
-use Rattle.lin_log.specs.Shown.{word_shown}
-use Rattle.lin_export.proofs.Lines.{zip-at, zip-long}
-use Rattle.lin_export.proofs.Rows.{flat-append, texts-more}
+use Rattle.lin_export.proofs.Places.{all-places, is-read, place-inside, places_of, said-more, signal-known}
+use Rattle.lin_export.proofs.Rows.{flat-append}
 use Rattle.lin_export.proofs.named.put_signals.Goals as goal
 
 pub unpack-value-requires-clause-in_range : goal.unpack-value-requires-clause-in_range
 unpack-value-requires-clause-in_range g c =
     let x = c.args.cluster.now in
-    let f : FrameIs x c.args.frame = frame-is x c.args.frame c.sound.ensures.rules c.requires in
-    let same : length c.frame_signals-signals.result.now ≡ length c.layout-layout.result.now.places = rw (c.frame_signals-signals.ensures, c.layout-layout.ensures) f.same in
-    omega arith
+    let f = frame-is x c.args.frame c.sound.ensures.rules c.requires in
+    let t = c.loop-place-test.true in
+    place-inside x c.args.frame c.loop-place.place c.frame_signals-signals.result.now c.layout-layout.result.now f c.frame_signals-signals.ensures c.layout-layout.ensures (omega arith)
 
 pub signal_name-name-requires : goal.signal_name-name-requires
 signal_name-name-requires g c =
     let x = c.args.cluster.now in
-    let f : FrameIs x c.args.frame = frame-is x c.args.frame c.sound.ensures.rules c.requires in
-    let below : c.loop-place.place < length (frame_of x c.args.frame).signals = rw (sym c.frame_signals-signals.ensures) (omega arith) in
-    rw c.frame_signals-signals.ensures (f.known c.loop-place.place 0 below)
+    let f = frame-is x c.args.frame c.sound.ensures.rules c.requires in
+    let t = c.loop-place-test.true in
+    signal-known x c.args.frame c.loop-place.place c.frame_signals-signals.result.now f c.frame_signals-signals.ensures (omega arith)
 
 pub loop-place-preserved : goal.loop-place-preserved
 loop-place-preserved g c =
     let x = c.args.cluster.now in
-    let f : FrameIs x c.args.frame = frame-is x c.args.frame c.sound.ensures.rules c.requires in
     let i = c.loop-place.place in
     let answer = c.args.answer.now in
-    let signals : List ℕ = (frame_of x c.args.frame).signals in
-    let places : List Place = (frame_of x c.args.frame).layout.places in
-    let pairs : List (ℕ × Place) = zip signals places in
-    let says : ℕ × Place → List (List ℕ) = signal_words x answer in
-    let item : ℕ × Place = (get_or signals i 0, get_or places i no_place) in
-    let long : length signals ≡ length c.frame_signals-signals.result.now = ap length (sym c.frame_signals-signals.ensures) in
-    let below : i < length signals = let t = c.loop-place-test.true in omega arith in
-    let same = f.same in
-    let inside : i < length places = omega arith in
-    let count = zip-long signals places f.same in
-    let at : get_or pairs i (0, no_place) ≡ item = zip-at signals places i 0 no_place below inside in
-    let text : flat_map spaced_word (flat_map says (take (i + 1) pairs)) ≡ flat_map spaced_word (flat_map says (take i pairs)) ++ flat_map spaced_word (says item)
-    = ap (flat_map spaced_word) (texts-more says pairs i (0, no_place) (omega arith) ∙ ap (λ (p : ℕ × Place). flat_map says (take i pairs) ++ says p) at) ∙ flat-append spaced_word (flat_map says (take i pairs)) (says item) in
-    let name : c.signal_name-name.result.now ≡ (signal_of x (get_or signals i 0)).name
-    = c.signal_name-name.ensures ∙ ap (λ (ss : List ℕ). (signal_of x (get_or ss i 0)).name) c.frame_signals-signals.ensures in
-    let value : word_shown c.value_word.result ≡ value_word (unpacked_value (get_or places i no_place) (take 8 answer))
-    = c.value_word.ensures
-    ∙ ap value_word (c.unpack-value.ensures no_place ∙ ap (λ (l : Layout). unpacked_value (get_or l.places i no_place) c.data-data.result) c.layout-layout.ensures
-    ∙ unpacked-same (get_or places i no_place) c.data-data.result (take 8 answer) c.data-data.ensures.each) in
-    same-growth (sym text) (grows-more c.loop-place.invariant (rw (name, value) at c.put_words.ensures))
+    let f = frame-is x c.args.frame c.sound.ensures.rules c.requires in
+    let t = c.loop-place-test.true in
+    let r = is-read x c.args.frame i answer c.data-data.result c.frame_signals-signals.result.now c.layout-layout.result.now c.unpack-value.result
+    f c.frame_signals-signals.ensures c.layout-layout.ensures c.data-data.ensures.each (omega arith) (c.unpack-value.ensures no_place) in
+    let words : ℕ → Value → List (List ℕ) = λ s v. (signal_of x s).name ∷ value_word v ∷ [] in
+    same-growth
+    (sym (ap (flat_map spaced_word) (said-more words x c.args.frame i answer _ _ r)
+    ∙ flat-append spaced_word (flat_map (signal_words x answer) (take i (places_of x c.args.frame))) _))
+    (grows-more c.loop-place.invariant (rw (c.signal_name-name.ensures, c.value_word.ensures) at c.put_words.ensures))
 
 pub returns : goal.returns
 returns g c =
     let x = c.args.cluster.now in
-    let f : FrameIs x c.args.frame = frame-is x c.args.frame c.sound.ensures.rules c.requires in
-    let signals : List ℕ = (frame_of x c.args.frame).signals in
-    let places : List Place = (frame_of x c.args.frame).layout.places in
-    let long : length signals ≡ length c.frame_signals-signals.result.now = ap length (sym c.frame_signals-signals.ensures) in
-    let count = zip-long signals places f.same in
-    same-growth (ap (λ (ps : List (ℕ × Place)). flat_map spaced_word (flat_map (signal_words x c.args.answer.now) ps)) (take_all c.loop-place.place (zip signals places) (omega arith)))
+    let f = frame-is x c.args.frame c.sound.ensures.rules c.requires in
+    same-growth
+    (ap (λ (ps : List (ℕ × Place)). flat_map spaced_word (flat_map (signal_words x c.args.answer.now) ps))
+    (all-places x c.args.frame c.loop-place.place c.frame_signals-signals.result.now f c.frame_signals-signals.ensures (omega arith)))
     c.loop-place.invariant

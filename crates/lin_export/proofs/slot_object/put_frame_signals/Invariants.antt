@@ -1,10 +1,9 @@
 use Rattle.std.proofs.Common.{take, map}
-use Rattle.std.specs.Prelude.{zip}
-use Rattle.lin_parts.specs.Cluster.{frame_of}
 use Rattle.lin_text.specs.Written.{Grows}
 use Rattle.lin_export.specs.Json.{joined}
 use Rattle.lin_export.specs.Jsonl.{signal_member}
+use Rattle.lin_export.proofs.Places.{places_of}
 use Rattle.lin_export.proofs.slot_object.put_frame_signals.Given as goal
 
 abbrev pub invariant-loop-place : goal.invariant-loop-place
-invariant-loop-place g l = Grows g.W.Write.contents l.initial.out l.out (joined (map (signal_member l.fn.cluster l.fn.answer) (take l.place (zip (frame_of l.fn.cluster l.fn.frame).signals (frame_of l.fn.cluster l.fn.frame).layout.places))))
+invariant-loop-place g l = Grows g.W.Write.contents l.initial.out l.out (joined (map (signal_member l.fn.cluster l.fn.answer) (take l.place (places_of l.fn.cluster l.fn.frame))))

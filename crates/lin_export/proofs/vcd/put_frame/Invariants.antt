@@ -1,9 +1,8 @@
 use Rattle.std.proofs.Common.{take, flat_map}
-use Rattle.std.specs.Prelude.{zip}
-use Rattle.lin_parts.specs.Cluster.{frame_of}
 use Rattle.lin_text.specs.Written.{Grows}
 use Rattle.lin_export.specs.Vcd.{place_change}
+use Rattle.lin_export.proofs.Places.{places_of}
 use Rattle.lin_export.proofs.vcd.put_frame.Given as goal
 
 abbrev pub invariant-loop-place : goal.invariant-loop-place
-invariant-loop-place g l = Grows g.W.Write.contents l.initial.out l.out (flat_map (place_change l.fn.cluster l.fn.answer) (take l.place (zip (frame_of l.fn.cluster l.fn.frame).signals (frame_of l.fn.cluster l.fn.frame).layout.places)))
+invariant-loop-place g l = Grows g.W.Write.contents l.initial.out l.out (flat_map (place_change l.fn.cluster l.fn.answer) (take l.place (places_of l.fn.cluster l.fn.frame)))

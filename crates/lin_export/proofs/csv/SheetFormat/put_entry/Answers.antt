@@ -1,16 +1,18 @@
-use Rattle.std.proofs.Common.{◌∷◌, List, ℕ, [], sym, ap, ◌∙◌}
+use Rattle.std.proofs.Common.{◌∷◌, ◌++◌, List, ℕ, [], append_assoc, flat_map, length, sym, ap, ◌∙◌}
+use Rattle.std.specs.Fmt.{decimal}
 use Rattle.std.specs.Borrow.{Bor}
 use Rattle.std.specs.Prelude.{Option, option_map}
 use Rattle.std.specs.Option.{option_map_or}
 use Rattle.lin_core.specs.History.{Slot, finished_slot, time}
 use Rattle.lin_core.specs.Signals.{heard_value}
-use Rattle.lin_text.proofs.Growing.{grows-nothing, same-growth}
-use Rattle.lin_export.specs.Csv.{slot_line}
+use Rattle.lin_frame.specs.Words.{numbers}
+use Rattle.lin_text.proofs.Growing.{grows-more, same-growth}
+use Rattle.lin_export.specs.Csv.{comma, signal_cells, slot_cells, slot_line}
 use Rattle.lin_export.specs.Open.{slot_in}
 use Rattle.lin_export.specs.Track.{TrackData, slots_in}
 use Rattle.lin_export.specs.WhereTold.{told}
 use Rattle.lin_export.specs.declared.slot.OpenSlot.{OpenSlot}
-use Rattle.lin_export.proofs.Rows.{Shows, heard-before, heard-finish, line-shown, shows, shows-none}
+use Rattle.lin_export.proofs.Rows.{Shows, heard-before, heard-finish, line-parts, line-shown, shows, shows-none}
 use Rattle.lin_export.proofs.csv.SheetFormat.put_entry.Goals as goal
 
 pub returns-in-Some-clause-keeps : goal.returns-in-Some-clause-keeps
@@ -32,15 +34,16 @@ returns-in-Some-clause-text g c = λ past is kept.
     (ap (option_map (λ (s : Bor OpenSlot). slot_in s.now)) (sym c.in-Some.is) ∙ c.finished.ensures past (ap (λ (d : TrackData). d.slot) is)) in
     let values = heard_value x (e ∷ past) in
     let k = told c.args.self.now.coded in
+    let d : TrackData = c.args.track.now in
+    let cells : List (List ℕ) = slot_cells x d.time t in
+    let signals : List (List ℕ) = flat_map (signal_cells k values) (numbers (length x.signals)) in
     let line : Slot → List ℕ = λ s. slot_line x k (slots_in past) (time x past) s values in
     same-growth
     (ap (λ (d : TrackData). slot_line x k d.slots d.time t values) is ∙ ap line o.same ∙ line-shown x k (slots_in past) (time x past) o.slot values
     ∙ ap (λ (f : Option Slot). option_map_or line f []) (sym o.is_open))
-    (c.put_line.ensures values (λ s v at.
+    (same-growth (append_assoc (decimal d.slots) (flat_map comma cells) (flat_map comma signals ++ 10 ∷ []) ∙ line-parts (decimal d.slots) cells signals)
+    (grows-more c.put_first_cells.ensures
+    (grows-more
+    (c.put_values.ensures.text values (λ s v at.
     c.hear_slot.ensures.heard (heard_value x past) kept s v (rw c.as_slice.ensures.value at at) ∙ heard-finish x e past o.slot t s o.is_open o.same))
-
-pub returns-else-Some-clause-keeps : goal.returns-else-Some-clause-keeps
-returns-else-Some-clause-keeps g c = λ past is kept.
-    let e = c.args.entry.now in
-    let none = shows-none (finished_slot e past) (c.finished.ensures past (ap (λ (d : TrackData). d.slot) is)) in
-    λ s v at. kept s v at ∙ heard-before c.args.cluster.now e past s none
+    c.put_byte.ensures)))

@@ -1,0 +1,6 @@
+use Rattle.std.proofs.Common.{arith}
+use Rattle.lin_export.proofs.KeptMore.{kept-pushed, none-kept}
+use Rattle.lin_export.proofs.kept_cells.all_cells.Goals as goal
+
+pub loop-signal-init : goal.loop-signal-init
+loop-signal-init c = rw c.in_ok-kept.ensures.items (none-kept c.args.coded.now)
