@@ -1,4 +1,4 @@
--- The steps by which responders tell errors in responses (LIN 2.2A, 6.3; ISO 17987-3, status
+-- The steps by which responders tell errors in responses (LIN 2.2A, 2.7.3; ISO 17987-3, status
 -- management).
 use Rattle.std.specs.Prelude.{ℕ, ◌==◌, ◌&&◌, Bool, true, false, not, if◌then◌else◌}
 use Rattle.std.specs.Prelude.{List, [], ◌∷◌, filter_map, map, Option, Some, None, is_some}
