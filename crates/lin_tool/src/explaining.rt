@@ -8,7 +8,7 @@ use crate::misspelled::{described, put_near, put_unread};
 use crate::wanted::put_wanted;
 use lin_cluster::Finding;
 use lin_core::{Listed, Log, Refusal, Reply};
-use lin_field::{Remark, read_field};
+use lin_field::{Loose, Remark, read_field};
 use lin_ldf::{Description, LdfFault, Place};
 use lin_log::first_line;
 use lin_parts::Cluster;
@@ -211,27 +211,30 @@ pub(crate) fn put_refused_field(
     }
 }
 
-/// Puts what of a text that is accepted is read by `--field` alone.
-pub(crate) fn put_accepted_field(
-    alloc: Global,
-    out: &mut String,
-    text: &mut [u8],
-) -> Result<(), AllocError> {
-    let loose = match read_field(alloc, text) {
-        Ok(read) => read.loose,
-        Err(LdfFault::OutOfMemory) => return Err(AllocError),
-        Err(_) => return Ok(()),
-    };
+/// Puts what of a text that was read is read by `--field` alone.
+fn put_loose(out: &mut String, loose: &Loose) -> Result<(), AllocError> {
     if loose.header.is_old() {
-        let version = loose.header.version.as_slice();
         out.push_str("  the header's version is ")?;
-        put_shown(out, version)?;
+        put_shown(out, loose.header.version.as_slice())?;
         out.push_str(": --field reads each node without LIN_protocol as one of LIN 1.x\n")?;
     }
     if !loose.addresses.as_slice().is_empty() {
         out.push_str("  --field reads the addresses of Diagnostic_addresses\n")?;
     }
     Ok(())
+}
+
+/// Puts what of a text that is accepted is read by `--field` alone.
+pub(crate) fn put_accepted_field(
+    alloc: Global,
+    out: &mut String,
+    text: &mut [u8],
+) -> Result<(), AllocError> {
+    match read_field(alloc, text) {
+        Ok(read) => put_loose(out, &read.loose),
+        Err(LdfFault::OutOfMemory) => Err(AllocError),
+        Err(_) => Ok(()),
+    }
 }
 
 /// Puts the names of a cluster's schedule tables.

@@ -49,22 +49,22 @@ fn tell_bad<E: Write>(
     alloc: Global,
     opened: &Opened<'_>,
     script: Script<'_>,
-    first: (u64, Reason),
+    first: &(u64, Reason),
     errors: &mut E,
     notes: &mut Notes<'_>,
 ) -> Result<Result<(), WriteFailed>, AllocError>
     requires { length script.bytes.now ≤ 16777216 }
     ensures { TellsBad result
-        (bad_text script.entry.name opened.now.cluster opened.now.coded script.entry.bytes.now first.0
-        first.1) (E.contents errors.old) (E.contents errors.new) }
+        (bad_text script.entry.name opened.now.cluster opened.now.coded script.entry.bytes.now
+        first.now.0 first.now.1) (E.contents errors.old) (E.contents errors.new) }
 {
     let cluster = &opened.cluster;
     let bytes = script.bytes;
     match script.name {
         None => {
             let (line, reason) = first;
-            let told = write_bad_line(line, &reason, errors);
-            notes.add_bench_line(alloc, bytes, line, cluster, &reason);
+            let told = write_bad_line(*line, reason, errors);
+            notes.add_bench_line(alloc, bytes, *line, cluster, reason);
             Ok(told)
         }
         Some(file) => {
@@ -97,7 +97,7 @@ fn bench_lines<E: Write>(
         Ok(lines) => Ok(lines),
         Err(ReadFault::BadLine { line, reason }) => {
             let first = (line, reason);
-            let told = tell_bad(alloc, opened, script, first, errors, notes)?;
+            let told = tell_bad(alloc, opened, script, &first, errors, notes)?;
             Err(Fault::BadBenchLine { line, told })
         }
         Err(ReadFault::OutOfMemory) => Err(Fault::OutOfMemory),
