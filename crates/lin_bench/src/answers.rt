@@ -84,7 +84,7 @@ fn answer_bytes(
             None => return Ok(None),
         }
     }
-    Ok(Some(Payload::new(bytes)))
+    Ok(Some(Payload::copied(alloc, bytes.as_slice())?))
 }
 
 /// Notes an answer behind those of its time and before the later ones.

@@ -215,7 +215,7 @@ pub(crate) fn rows_bytes(
         return Err(LineFault::Bad(Reason::Step(StepReason::NoBytes)));
     };
     match bytes_of(alloc, rows, *first, rest)? {
-        Some(bytes) => Ok(Payload::new(bytes)),
+        Some(bytes) => Ok(Payload::copied(alloc, bytes.as_slice())?),
         None => {
             let fields = copied_fields(alloc, rows)?;
             Err(LineFault::Bad(Reason::Step(StepReason::NotBytes(fields))))

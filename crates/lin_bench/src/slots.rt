@@ -94,7 +94,7 @@ fn hurt(alloc: Global, ruled: &mut RuledCore, how: &Disturbance) -> Result<(), M
 {
     match how {
         Disturbance::Hurt(bytes) => {
-            let bytes = Payload::new(Vec::from_slice(alloc, bytes.as_slice())?);
+            let bytes = Payload::copied(alloc, bytes.as_slice())?;
             ruled.make(alloc, PortId::Bus, Step::Hurt { bytes })
         }
         Disturbance::Undisturbed | Disturbance::Leave(_) => Ok(()),

@@ -123,7 +123,7 @@ fn message(alloc: Global, event: Option<&Event>, bytes: &[u8]) -> Result<Option<
             if got.as_slice() == bytes {
                 Ok(None)
             } else {
-                Ok(Some(Got::Message(Payload::new(Vec::from_slice(alloc, got.as_slice())?))))
+                Ok(Some(Got::Message(Payload::copied(alloc, got.as_slice())?)))
             }
         }
         _ => Ok(Some(Got::NoEvent)),
@@ -161,7 +161,7 @@ fn no_message(alloc: Global, event: Option<&Event>) -> Result<Option<Got>, Alloc
 {
     match event {
         Some(Event::Message { bytes, .. }) => {
-            Ok(Some(Got::Message(Payload::new(Vec::from_slice(alloc, bytes.as_slice())?))))
+            Ok(Some(Got::Message(Payload::copied(alloc, bytes.as_slice())?)))
         }
         _ => Ok(None),
     }
@@ -280,7 +280,7 @@ fn good(
         } else {
             Ok(Some(Got::Frame {
                 frame: last,
-                bytes: Payload::new(Vec::from_slice(alloc, row)?),
+                bytes: Payload::copied(alloc, row)?,
             }))
         },
     }

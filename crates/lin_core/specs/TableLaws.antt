@@ -1,5 +1,5 @@
 -- Each value is found by its word and by its number.
-use Rattle.std.specs.Prelude.{◌≡◌, ℕ, Some, refl, find, ◌==◌}
+use Rattle.std.specs.Prelude.{◌≡◌, Some, refl, find, ◌==◌}
 use Rattle.std.specs.Str.{bytes_eq}
 use Rattle.lin_core.specs.declared.reply.Refusal.{Refusal}
 use Rattle.lin_core.specs.declared.reply.Refusal.TheVariants as refusal

@@ -17,7 +17,7 @@ impl Payload {
         ensures fits { AreBytes self.now }
     {
         let bytes = self.as_slice();
-        Ok(Payload::new(Vec::from_slice(alloc, bytes)?))
+        Payload::copied(alloc, bytes)
     }
 }
 

@@ -1,15 +1,17 @@
 //! Bytes of messages, and lists of events.
 
-ghost use Rattle.std.specs.Prelude.{◌≡◌, ◌∷◌, [], ℕ, List};
+ghost use Rattle.std.specs.Prelude.{◌≡◌, ◌≤◌, ◌∷◌, [], IfOk, IsOk, length};
 
 use crate::event::Event;
+use lin_text::Text;
+use std::alloc::{AllocError, Global};
 use std::marker::Model;
 use std::{fmt, slice};
 
-/// The bytes of a message. Contracts see them as a list.
+/// The bytes of a message: up to 14 take no memory. Contracts see them as a list.
 #[derive(Debug, Drop)]
 pub struct Payload {
-    bytes: Vec<u8>,
+    bytes: Text,
 }
 
 impl Model for Payload {
@@ -17,15 +19,17 @@ impl Model for Payload {
 
     ghost Value = { List ℕ };
 
-    ghost view = { λ p. p.bytes.items };
+    ghost view = { λ p. p.bytes };
 }
 
 impl Payload {
-    /// These bytes.
-    pub fn new(bytes: Vec<u8>) -> Payload
-        ensures { result ≡ bytes.items }
+    /// A copy of these bytes; an error means out of memory, which 14 bytes or fewer never are.
+    pub fn copied(alloc: Global, bytes: &[u8]) -> Result<Payload, AllocError>
+        ensures copy { IfOk result (λ p. p ≡ bytes.now) }
+        ensures short { length bytes.now ≤ 14 → IsOk result }
     {
-        Payload { bytes }
+        let bytes = Text::copied(alloc, bytes)?;
+        Ok(Payload { bytes })
     }
 
     /// The bytes, in order.

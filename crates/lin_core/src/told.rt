@@ -11,10 +11,17 @@ ghost use Rattle.lin_core.specs.declared.receivers.Receivers.{Receivers};
 use crate::event::{Event, Seen};
 use crate::payload::{Events, Payload};
 use crate::receivers::Receivers;
-use lin_parts::Cluster;
+use crate::setup::Setup;
+use std::alloc::Global;
 
 /// A responder hears a frame to all, and is told of the message that it completes.
-fn tell_one(receivers: &mut Receivers, node: u8, frame: &[u8; 8], events: &mut Vec<Event>)
+fn tell_one(
+    alloc: Global,
+    receivers: &mut Receivers,
+    node: u8,
+    frame: &[u8; 8],
+    events: &mut Vec<Event>,
+)
     requires single { slice_index frame.now 1 < 16 }
     requires ready { 1 ≤ receivers.old.down.spare }
     requires room { length events.old.items + 1 ≤ vec_capacity events.old }
@@ -29,7 +36,7 @@ fn tell_one(receivers: &mut Receivers, node: u8, frame: &[u8; 8], events: &mut V
         let whole = Event::Message {
             from: 0,
             to: node,
-            bytes: Payload::new(message),
+            bytes: Payload::copied(alloc, message.as_slice()).unwrap(),
         };
         events.push(whole).unwrap();
     }
@@ -38,28 +45,34 @@ fn tell_one(receivers: &mut Receivers, node: u8, frame: &[u8; 8], events: &mut V
 /// Each responder with an address hears a frame to all, and is told of the message that it
 /// completes, by rising node.
 fn tell_each(
-    cluster: &Cluster,
+    setup: &Setup,
     receivers: &mut Vec<Receivers>,
     frame: &[u8; 8],
     events: &mut Vec<Event>,
 )
-    requires count { length receivers.old.items ≡ nodes cluster.now }
+    requires count { length receivers.old.items ≡ nodes setup.now.cluster }
     requires few { length receivers.old.items ≤ 16 }
     requires single { slice_index frame.now 1 < 16 }
     requires ready { HaveRoom receivers.old.items }
     requires room { length events.old.items + length receivers.old.items ≤ vec_capacity events.old }
-    ensures hears { HearAll cluster.now frame.now receivers.old.items receivers.new.items }
+    ensures hears { HearAll setup.now.cluster frame.now receivers.old.items receivers.new.items }
     ensures told { (heard : ℕ → List Heard) (m : List ℕ)
         → ((h : ℕ) (r : Receivers) → slice_get receivers.old.items h ≡ Some r
-        → is_some (nad cluster.now h) ≡ true → Completes frame.now m r.down (heard h))
+        → is_some (nad setup.now.cluster h) ≡ true → Completes frame.now m r.down (heard h))
         → events.new.items
-        ≡ events.old.items ++ told_to_all cluster.now m (length receivers.old.items) }
+        ≡ events.old.items ++ told_to_all setup.now.cluster m (length receivers.old.items) }
     ensures few { length events.new.items ≤ length events.old.items + length receivers.old.items }
     ensures room { vec_capacity events.old ≤ vec_capacity events.new }
 {
     for node in 0..receivers.len() as u8 {
-        if cluster.nad(node).is_some() {
-            tell_one(&mut receivers[node as usize], node, frame, events);
+        if setup.cluster.nad(node).is_some() {
+            tell_one(
+                setup.alloc,
+                &mut receivers[node as usize],
+                node,
+                frame,
+                events,
+            );
         }
     }
 }
@@ -69,27 +82,27 @@ fn tell_each(
 pub(crate) fn events_to_all(
     room: Vec<Event>,
     seen: Seen,
-    cluster: &Cluster,
+    setup: &Setup,
     receivers: &mut Vec<Receivers>,
     frame: &[u8; 8],
     number: u32,
 ) -> Events
     requires empty { room.items ≡ [] }
-    requires count { length receivers.old.items ≡ nodes cluster.now }
+    requires count { length receivers.old.items ≡ nodes setup.now.cluster }
     requires few { length receivers.old.items ≤ 16 }
     requires single { slice_index frame.now 1 < 16 }
     requires ready { HaveRoom receivers.old.items }
     requires room { 2 + length receivers.old.items ≤ vec_capacity room }
-    ensures hears { HearAll cluster.now frame.now receivers.old.items receivers.new.items }
+    ensures hears { HearAll setup.now.cluster frame.now receivers.old.items receivers.new.items }
     ensures told { (heard : ℕ → List Heard) (m : List ℕ)
         → ((h : ℕ) (r : Receivers) → slice_get receivers.old.items h ≡ Some r
-        → is_some (nad cluster.now h) ≡ true → Completes frame.now m r.down (heard h))
+        → is_some (nad setup.now.cluster h) ≡ true → Completes frame.now m r.down (heard h))
         → result ≡ Event.Seen seen
-        ∷ told_to_all cluster.now m (length receivers.old.items) ++ Event.Sent 0 number ∷ [] }
+        ∷ told_to_all setup.now.cluster m (length receivers.old.items) ++ Event.Sent 0 number ∷ [] }
 {
     let mut events = room;
     events.push(Event::Seen(seen)).unwrap();
-    tell_each(cluster, receivers, frame, &mut events);
+    tell_each(setup, receivers, frame, &mut events);
     let sent = Event::Sent { host: 0, number };
     events.push(sent).unwrap();
     Events::new(events)

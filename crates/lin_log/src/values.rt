@@ -125,7 +125,7 @@ pub fn bytes_fields<N: Naming>(alloc: Global, names: &N, line: &[u8]) -> Result<
         return Err(LineFault::Bad(Reason::NoBytes));
     };
     match bytes_of(alloc, names, line, field, rest)? {
-        Some(bytes) => Ok(Payload::new(bytes)),
+        Some(bytes) => Ok(Payload::copied(alloc, bytes.as_slice())?),
         None => Err(LineFault::Bad(Reason::NotBytes(copied(alloc, names, line)?))),
     }
 }

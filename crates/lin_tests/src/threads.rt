@@ -48,7 +48,7 @@ fn core_with_sends(
         let step = Step::Send {
             from: *from,
             to: *to,
-            message: Payload::new([*byte].to_vec(alloc)?),
+            message: Payload::copied(alloc, &[*byte])?,
         };
         assert!(rt; core.step(PortId::Host(*from), step).is_ok());
     }

@@ -58,12 +58,8 @@ fn hurt_slot(alloc: Global, pump: &mut Pump, number: u32, hurt: &[u32]) -> Resul
     if !hurt.contains(&number) {
         return Ok(());
     }
-    own(
-        pump,
-        Step::Hurt {
-            bytes: Payload::new(Vec::new(alloc)),
-        },
-    )
+    let bytes = Payload::copied(alloc, &[]).unwrap();
+    own(pump, Step::Hurt { bytes })
 }
 
 /// Makes the slot with this number.

@@ -2,7 +2,7 @@
 
 ghost use Rattle.std.specs.Prelude.{◌≡◌, ℕ, ◌<◌, ◌≤◌, ◌∷◌, ◌++◌, [], List, ◌&&◌, eqb, true};
 ghost use Rattle.std.specs.Prelude.{false, slice_index, option_map, option_to_list, vec_capacity};
-ghost use Rattle.std.specs.Prelude.{IfOk, OnOk, OnErr, IsOk};
+ghost use Rattle.std.specs.Prelude.{IfOk, IfSome, OnOk, OnErr, IsOk, length};
 ghost use Rattle.lin_transport.specs.Transport.{Ear, Heard, all_heard, begins, functional};
 ghost use Rattle.lin_transport.specs.Transport.{messages_for};
 ghost use Rattle.lin_transport.specs.Transport.Heard.{Frame, Reset};
@@ -67,6 +67,7 @@ fn single(alloc: Global, room: &mut Vec<u8>, frame: &[u8; 8]) -> Result<Option<V
     requires low { slice_index frame.now 1 < 16 }
     requires empty { room.old.items ≡ [] }
     ensures reads { IfOk result (λ m. IsReadAs frame.now (option_map (λ v. v.items) m)) }
+    ensures few { IfOk result (λ m. IfSome m (λ v. length v.items ≤ 6)) }
     ensures empty { room.new.items ≡ [] }
     ensures ready { 6 ≤ vec_capacity room.old → IsOk result }
     ensures unchanged { OnErr result (room.new ≡ room.old) }
@@ -195,6 +196,8 @@ impl Receiver {
         ensures unchanged { OnErr result (self.new ≡ self.old) }
         ensures memory { OnErr result (begins frame.now ≡ true) }
         ensures ready { 1 ≤ self.old.spare → slice_index frame.now 1 < 16 → IsOk result }
+        ensures few { slice_index frame.now 1 < 16
+            → IfOk result (λ m. IfSome m (λ v. length v.items ≤ 6)) }
     {
         let to_all = self.hears_as_to_all(frame);
         if !to_all && frame[0] != self.nad {
@@ -243,6 +246,8 @@ impl Receiver {
         ensures unchanged { OnErr result (self.new ≡ self.old) }
         ensures memory { OnErr result (begins frame.now ≡ true) }
         ensures ready { 1 ≤ self.old.spare → slice_index frame.now 1 < 16 → IsOk result }
+        ensures few { slice_index frame.now 1 < 16
+            → IfOk result (λ m. IfSome m (λ v. length v.items ≤ 6)) }
     {
         self.receive(frame)
     }

@@ -296,11 +296,6 @@ to-all-heard c past by es k s h i rs new calm all hears kept = record {
       (all-adds c past by es k s h i calm all n a).1 (kept.each n x.0 d x.1 a);
 }
 
--- the message that was given, where it is the one that is gained
-pub only-given : (o : Option (List ℕ)) (m : List ℕ) → option_to_list o ≡ m ∷ [] → o ≡ Some m
-only-given None m e = cc
-only-given (Some x) m e = cc
-
 -- == a timeout
 pub timeout-heard : (c : Parts) (past : List LogEntry) (by : PortId) (node : ℕ) (dir : Direction) (es : List Event) (rs : List Receivers) (was is : Receivers) → slice_get rs node ≡ Some was → is_some (nad c node) ≡ true
     → IsReset (receiver_in dir was) (receiver_in dir is) → receiver_in (opposite dir) is ≡ receiver_in (opposite dir) was → KeepsHeard c past rs → KeepsHeard c (entry_is by (Timeout node dir) es ∷ past) (slice_set rs node is)

@@ -1,7 +1,6 @@
 -- What the receiver of a link hears, as a core finishes the slot of a good frame.
-use Rattle.std.proofs.Common.{◌≡◌, ◌≤◌, ◌+◌, ℕ, true, List, [], ◌∷◌, map, length, take, refl, ap, sym, ◌∙◌, subst, arith, length-append}
-use Rattle.std.specs.Global.{Vec}
-use Rattle.std.specs.Prelude.{IsSome, Option, None, Some, false, option_map}
+use Rattle.std.proofs.Common.{◌≡◌, ◌≤◌, ◌+◌, ℕ, List, [], ◌∷◌, map, length, take, refl, ap, sym, ◌∙◌, subst, arith, length-append}
+use Rattle.std.specs.Prelude.{Option, Some, false}
 use Rattle.lin_frame.specs.Frame.{classic}
 use Rattle.lin_transport.specs.Transport.{frame}
 use Rattle.lin_transport.proofs.Frames.{length-frame}
@@ -20,12 +19,10 @@ use Rattle.lin_core.proofs.links.Finishes.{frame-is}
 use Rattle.lin_core.proofs.steps.Known.{Known}
 use Rattle.lin_core.specs.kept.State.{IsKept, Stage}
 use Rattle.lin_core.specs.declared.host.Host.{Host}
-use Rattle.lin_core.proofs.steps.FinishCases.{whole-gains}
 use Rattle.lin_core.proofs.steps.Goods.{GoodIs, carried-slot}
 use Rattle.lin_core.proofs.steps.Making.{OpenIs, past_in}
-use Rattle.lin_core.proofs.sendings.Moves.{is_last, over-self}
 use Rattle.lin_core.proofs.kept.Passing.{finish_of}
-use Rattle.lin_core.proofs.kept.Receiving.{CarriesFrame, HeardFrame, carries-frame, heard-frame, only-given}
+use Rattle.lin_core.proofs.kept.Receiving.{CarriesFrame, HeardFrame, carries-frame, heard-frame}
 
 -- the only response of the kept slot
 one-put : (ps : List Put) (h : ℕ) (bytes : List ℕ) → map put_in ps ≡ (h, bytes) ∷ [] → (p : Put) × (ps ≡ p ∷ []) × (p.answer ≡ bytes)
@@ -71,19 +68,3 @@ heard-inside a by o h host place w g carried alone l f given rs link own at fram
     = hears-message g.message i.message l f _ given a.state.receivers.items rs link one there on
     in subst (λ (m : Message). HeardFrame c past (finish_of a by ∷ past) m.link given rs) (sym one)
     (heard-frame c past by (finish_events c by past) k (slot_in o.slot) h i given a.state.receivers.items rs q.1 (subst (λ (m : Message). is_to_all m.link ≡ false) one alone) hears w.heard)
-
--- with the last one, it gives the message
-pub given-inside : (a : Stage) (by : PortId) (o : OpenIs a by) (h : ℕ) (host : Host) (place : ℕ) (w : IsKept a) (g : GoodIs a o.step.known h host place) → IsCarried (past_in a) h false → is_last g.message.bytes (o.step.known.states h).count ≡ true → is_to_all g.message.link ≡ false
-    → (given : Option (List ℕ)) (rs : List Receivers) → HeardFrame a.cluster (past_in a) (finish_of a by ∷ past_in a) g.message.link given rs → given ≡ Some g.message.bytes
-given-inside a by o h host place w g carried last alone given rs heard =
-    let q = carried-slot (past_in a) h false (slot_in o.slot) o.is carried
-    in only-given given g.message.bytes (sym heard.gains ∙ whole-gains a.cluster (past_in a) by (slot_in o.slot) w.sound o.step.known h g.message g.later o.is q.0 q.1 g.first last (finish_events a.cluster by (past_in a)) g.message.link (g.go.one alone).address (over-self g.message.link))
-
-pub some-given : (o : Option (Vec ℕ)) (m : List ℕ) → option_map (λ v. v.items) o ≡ Some m → IsSome o
-some-given None m e = cc
-some-given (Some v) m e = refl
-
-pub items-given : (o : Option (Vec ℕ)) (v : Vec ℕ) (m : List ℕ) → o ≡ Some v → option_map (λ v. v.items) o ≡ Some m → v.items ≡ m
-items-given o v m e is =
-    let both : Some v.items ≡ Some m = sym (ap (λ (x : Option (Vec ℕ)). option_map (λ y. y.items) x) e) ∙ is
-    in cc

@@ -1,6 +1,6 @@
 //! Finishes of slots.
 
-ghost use Rattle.std.specs.Prelude.{◌≡◌, Some, true, false, reverse};
+ghost use Rattle.std.specs.Prelude.{◌≡◌, IfOk, Some, true, false, reverse};
 
 use crate::event::Event;
 use crate::link::Cause;
@@ -16,7 +16,14 @@ use crate::sleep_losses::sleep_events;
 use crate::state::State;
 use crate::step::Step;
 use crate::told::events_to_all;
-use std::alloc::AllocError;
+use std::alloc::{AllocError, Global};
+
+/// The bytes of a message as they are told where its last frame is heard; before, none.
+fn told_bytes(alloc: Global, last: bool, bytes: &[u8]) -> Result<Payload, AllocError>
+    ensures { IfOk result (λ p. last ≡ true → p ≡ bytes.now) }
+{
+    Payload::copied(alloc, if last { bytes } else { &[] })
+}
 
 impl State {
     ghost use Rattle.lin_core.specs.kept.State.{stage, IsMade, IsReady, Makes};
@@ -78,7 +85,7 @@ impl State {
         let number = host.settled + 1;
         host.settle();
         let told = &mut self.receivers;
-        Ok(events_to_all(room, seen, &setup.cluster, told, &frame, number))
+        Ok(events_to_all(room, seen, setup, told, &frame, number))
     }
 
     /// A finish of a slot with a good frame of a host's message: the message goes on, or it is
@@ -101,16 +108,17 @@ impl State {
         }
         let last = host.is_last(message.bytes.len());
         let told = if last { 3 } else { 0 };
+        // (what is told is made before anything changes, since memory may be refused)
         let room = Vec::with_capacity(setup.alloc, told)?;
+        let bytes = told_bytes(setup.alloc, last, message.bytes)?;
         let frame = self.slot.open().data();
-        let whole = hear(&mut self.receivers, message.link, &frame)?;
+        hear(&mut self.receivers, message.link, &frame)?;
         let seen = self.pass_slot(&setup.cluster);
         let host = &mut self.hosts[sender as usize];
         if last {
             let number = host.settled + 1;
             host.settle();
             let to = message.link.receiver();
-            let bytes = Payload::new(whole.unwrap());
             let whole = Event::Message {
                 from: sender,
                 to,

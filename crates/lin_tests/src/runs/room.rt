@@ -21,7 +21,7 @@ fn expect_message(
     core: &mut Core,
     bytes: &[u8],
 ) -> Result<(), Fail> {
-    let message = Payload::new(bytes.to_vec(alloc)?);
+    let message = Payload::copied(alloc, bytes)?;
     let send = Step::Send {
         from: 0,
         to: 1,

@@ -32,13 +32,13 @@ loop-node-preserved c =
     let wide = v.room in
     let test = c.loop-node-test.true in
     let end = c.len-node-end.ensures in
-    let has : c.is_some.result ≡ is_some (nad c.args.cluster.now i) = c.is_some.ensures ∙ ap is_some c.nad.ensures in
+    let has : c.is_some.result ≡ is_some (nad c.args.setup.now.cluster i) = c.is_some.ensures ∙ ap is_some c.nad.ensures in
     let below : i < length xs = omega arith in
     elim c.if-is_some.branch [
       | then-is_some w ↦
           let was : Receivers = w.index_mut.result.now in
           let is : Receivers = w.tell_one.new.receivers in
-          let own : is_some (nad c.args.cluster.now i) ≡ true = sym has ∙ w.if-is_some.true in
+          let own : is_some (nad c.args.setup.now.cluster i) ≡ true = sym has ∙ w.if-is_some.true in
           let here : slice_get xs i ≡ Some was = slice_get_read xs (length xs) i was refl below w.index_mut.ensures.value in
           let before : slice_get ys i ≡ Some was = sym (v.after i (omega arith)) ∙ here in
           let longer = w.tell_one.ensures.few in
@@ -59,22 +59,22 @@ loop-node-preserved c =
             after = λ h l. set-other xs i h is (λ e. omega arith) ∙ v.after h (omega arith);
             told = λ heard m all.
                 w.tell_one.ensures.told (heard i) m (all i was before own)
-                ∙ told-more (told_to c.args.cluster.now m) i c.args.events.now.items c.loop-node.events.items _ (v.told heard m all) (rw own refl);
+                ∙ told-more (told_to c.args.setup.now.cluster m) i c.args.events.now.items c.loop-node.events.items _ (v.told heard m all) (rw own refl);
             few = omega arith;
             room = omega arith;
           })
       | else-is_some w ↦
-          let none : is_some (nad c.args.cluster.now i) ≡ false = sym has ∙ w.if-is_some.false in
+          let none : is_some (nad c.args.setup.now.cluster i) ≡ false = sym has ∙ w.if-is_some.false in
           rw (w.receivers-is, w.events-is) (record {
             count = v.count;
             before = λ h old new l a b at. elim (eqb_tells i h) [
-              | inl same ↦ absurd (let bad : false ≡ true = sym none ∙ subst (λ (x : ℕ). is_some (nad c.args.cluster.now x) ≡ true) (sym same.1) at in cc)
+              | inl same ↦ absurd (let bad : false ≡ true = sym none ∙ subst (λ (x : ℕ). is_some (nad c.args.setup.now.cluster x) ≡ true) (sym same.1) at in cc)
               | inr differ ↦ v.before h old new (let d = differ.1 in omega arith) a b at
             ];
             after = λ h l. v.after h (omega arith);
             told = λ heard m all.
                 sym (append-nil c.loop-node.events.items)
-                ∙ told-more (told_to c.args.cluster.now m) i c.args.events.now.items c.loop-node.events.items [] (v.told heard m all) (rw none refl);
+                ∙ told-more (told_to c.args.setup.now.cluster m) i c.args.events.now.items c.loop-node.events.items [] (v.told heard m all) (rw none refl);
             few = omega arith;
             room = v.room;
           })

@@ -74,7 +74,7 @@ fn line(alloc: Global, note: &Note) -> Result<String, AllocError> {
 pub fn send(alloc: Global, to: u8, bytes: &[u8]) -> Result<HostStep, Fail> {
     Ok(HostStep::Send {
         to,
-        message: Payload::new(bytes.to_vec(alloc)?),
+        message: Payload::copied(alloc, bytes)?,
     })
 }
 
@@ -201,7 +201,7 @@ impl Bench {
             Act::AnsweredSlot(node) => self.answered_slot(rt, *node)?,
             Act::Open => self.own(Step::Open)?,
             Act::Hurt => self.own(Step::Hurt {
-                bytes: Payload::new(Vec::new(alloc)),
+                bytes: Payload::copied(alloc, &[])?,
             })?,
             Act::Finish => self.own(Step::Finish)?,
             Act::AskSleep => self.own(Step::AskSleep)?,

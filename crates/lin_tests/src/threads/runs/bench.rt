@@ -64,7 +64,7 @@ fn put_send(
     requires { ArePortsOf pump.now hosts.old.items nodes.now.items }
     ensures { ArePortsOf pump.now hosts.new.items nodes.now.items }
 {
-    let message = Payload::new([1].to_vec(alloc)?);
+    let message = Payload::copied(alloc, &[1])?;
     assert!(rt; !hosts.is_empty());
     let is_put = hosts[0].put(HostStep::Send { to: 1, message }).is_ok();
     assert!(rt; is_put);
@@ -108,7 +108,7 @@ pub fn run<R: Abort + Threads + Wait + Copy + Send + 'static>(
 pub fn script(alloc: Global, to: u8, bytes: &[u8]) -> Result<ScriptTask, Fail> {
     let mut steps = Vec::new(alloc);
     for byte in bytes {
-        let message = Payload::new([*byte].to_vec(alloc)?);
+        let message = Payload::copied(alloc, &[*byte])?;
         steps.push(HostStep::Send { to, message })?;
     }
     Ok(ScriptTask::new(steps))

@@ -1,6 +1,6 @@
 use Rattle.std.proofs.Common.{refl, ◌≡◌, ℕ, suc, length, List, [], ◌∷◌, ap, sym, ◌∙◌, ◌<◌, subst, arith, inr}
 use Rattle.std.specs.List.{list_any}
-use Rattle.std.specs.Prelude.{Some, false, is_some, map, option_map, slice_set, take, true}
+use Rattle.std.specs.Prelude.{false, is_some, map, option_map, slice_set, take, true}
 use Rattle.std.proofs.Math.ListN.{length-set}
 use Rattle.lin_parts.specs.Cluster.{nodes}
 use Rattle.lin_core.specs.History.{seen_of}
@@ -25,7 +25,7 @@ use Rattle.lin_core.proofs.laws.Reports.{index-some}
 use Rattle.lin_core.proofs.steps.FinishEvents.ToldIs.{to_one}
 use Rattle.lin_core.proofs.kept.Passing.{finish_of, passed-keeps, passed-bus, passes-as}
 use Rattle.lin_core.proofs.kept.Places.{lent-is}
-use Rattle.lin_core.proofs.steps.Reassembling.{given-inside, heard-inside, items-given, some-given}
+use Rattle.lin_core.proofs.steps.Reassembling.{heard-inside}
 use Rattle.lin_core.proofs.kept.Receiving.{HeardFrame}
 use Rattle.lin_core.proofs.steps.Settled.{SettlesHost, settles-host}
 use Rattle.lin_core.proofs.kept.Settling.{settled-hosts, settled-late}
@@ -148,10 +148,10 @@ passes c = passes-as (here c).cluster (opened c).slot (here c).state c.pass_slot
 bus_is : (c : After-index_mut-host) → KeepsBus (here c).cluster (entry c ∷ past_in (here c)) c.pass_slot-seen.new.self.bus
 bus_is c = passed-bus (here c) c.args.by (opened c) c.pass_slot-seen.new.self c.requires.ready.whole (passes c)
 
-heard_frame : (c : After-index_mut-host) → HeardFrame (here c).cluster (past_in (here c)) (entry c ∷ past_in (here c)) (good c).message.link (option_map (λ v. v.items) c.in_ok-whole.whole) c.hear.new.receivers.items
+heard_frame : (c : After-index_mut-host) → HeardFrame (here c).cluster (past_in (here c)) (entry c ∷ past_in (here c)) (good c).message.link (option_map (λ v. v.items) c.in_ok-hear.field-0) c.hear.new.receivers.items
 heard_frame c =
     heard-inside (here c) c.args.by (opened c) c.args.sender c.index-host.result.now c.next.result c.requires.ready.whole (good c) c.requires.carried (alone c) c.message_at-message.result.link c.data-frame.result
-    (option_map (λ v. v.items) c.in_ok-whole.whole) c.hear.new.receivers.items (ap (λ (m : Message). m.link) (lent c)) c.open.result.now c.open.ensures c.data-frame.ensures c.in_ok-whole.ensures.hears
+    (option_map (λ v. v.items) c.in_ok-hear.field-0) c.hear.new.receivers.items (ap (λ (m : Message). m.link) (lent c)) c.open.result.now c.open.ensures c.data-frame.ensures c.in_ok-hear.ensures.hears
 
 heard : (c : After-index_mut-host) → KeepsHeard (here c).cluster (entry c ∷ past_in (here c)) c.pass_slot-seen.new.self.receivers.items
 heard c = rw c.pass_slot-seen.ensures.receivers (heard_frame c).keeps
@@ -197,7 +197,7 @@ go_on-requires-clause-more c = λ s is.
 
 pub returns : goal.returns
 returns c =
-    let b = c.before.before.before.before.before.before in
+    let b = c.before.before.before.before.before.before.before in
     let a = here b in
     let w = c.requires.ready.whole in
     let o = opened b in
@@ -218,10 +218,6 @@ returns c =
     }
 
 -- == the message is whole
-given : (c : After-index_mut-host) → c.is_last-last.result ≡ true → option_map (λ v. v.items) c.in_ok-whole.whole ≡ Some (good c).message.bytes
-given c is =
-    given-inside (here c) c.args.by (opened c) c.args.sender c.index-host.result.now c.next.result c.requires.ready.whole (good c) c.requires.carried (last c ∙ is) (alone c) (option_map (λ v. v.items) c.in_ok-whole.whole) c.hear.new.receivers.items (heard_frame c)
-
 done : (c : After-index_mut-host) → c.is_last-last.result ≡ true → Done (here c).cluster (past_in (here c)) c.args.by (slot_in (opened c).slot) c.requires.ready.whole.sound (opened c).step.known c.args.sender
     (MessageEvent c.args.sender (receiver_of (good c).message.link.dir (good c).message.link.node) (good c).message.bytes ∷ Sent c.args.sender (suc (length ((opened c).step.known.states c.args.sender).done)) ∷ [])
 done c is =
@@ -236,15 +232,12 @@ overflow_add-number c = let small = (own c.before).small in omega arith
 pub settle-requires : goal.settle-requires
 settle-requires c = let small = (own c.before).small in omega arith
 
-pub unwrap-requires : goal.unwrap-requires
-unwrap-requires c = some-given c.in_ok-whole.whole (good c.before.before.before.before.before).message.bytes (given c.before.before.before.before.before c.if-last-2.true)
-
 three-events : (h : ℕ) (s s' : HowSeen) (to to' : ℕ) (bytes bytes' : List ℕ) (n n' : ℕ) → s ≡ s' → to ≡ to' → bytes ≡ bytes' → n ≡ n' → Seen s ∷ MessageEvent h to bytes ∷ Sent h n ∷ [] ≡ Seen s' ∷ MessageEvent h to' bytes' ∷ Sent h n' ∷ []
 three-events h s s' to to' bytes bytes' n n' p q r t = rw (p, q, r, t) refl
 
 pub returns-then-last-2 : goal.returns-then-last-2
 returns-then-last-2 c =
-    let b = c.before.before.before.before.before.before.before.before in
+    let b = c.before.before.before.before.before.before in
     let a = here b in
     let w = c.requires.ready.whole in
     let o = opened b in
@@ -254,7 +247,7 @@ returns-then-last-2 c =
     let k = known_after a.cluster (past_in a) c.args.by es w.sound o.step.known in
     record {
       told = c.three_events.ensures
-          ∙ three-events _ _ _ _ _ _ _ _ _ (seen_is b) (c.receiver-to.ensures ∙ ap (λ (m : Message). receiver_of m.link.dir m.link.node) (lent b)) (c.new-bytes.ensures ∙ items-given c.in_ok-whole.whole c.unwrap.result (good b).message.bytes c.unwrap.ensures (given b is)) (own b).number
+          ∙ three-events _ _ _ _ _ _ _ _ _ (seen_is b) (c.receiver-to.ensures ∙ ap (λ (m : Message). receiver_of m.link.dir m.link.node) (lent b)) (c.in_ok-bytes.ensures is ∙ ap (λ (m : Message). m.bytes) (lent b)) (own b).number
           ∙ sym (done b is).told;
       kept = rw (c.pass_slot-seen.ensures.hosts, c.settle.ensures)
           (passed-keeps a c.args.by o c.pass_slot-seen.new.self (slice_set a.state.hosts.items c.args.sender (host_after_settling host)) w (passes b) (length-set a.state.hosts.items c.args.sender (host_after_settling host))

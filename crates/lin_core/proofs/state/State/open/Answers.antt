@@ -1,10 +1,10 @@
-use Rattle.std.proofs.Common.{refl, ◌≡◌, List, ◌∷◌, ap, sym, ◌∙◌, subst}
+use Rattle.std.proofs.Common.{refl, ◌≡◌, List, ◌∷◌, ap, ◌∙◌}
 use Rattle.std.specs.Prelude.{not, Bool, ◌||◌, filter}
 use Rattle.lin_parts.specs.Cluster.{line_of, nodes}
 use Rattle.lin_frame.specs.Words.{numbers}
 use Rattle.lin_schedule.specs.Due.{due_for}
-use Rattle.lin_core.specs.kept.Slots.{HasDue, is_due_of, opening_slot_kept}
-use Rattle.lin_core.specs.kept.State.{done_of, IsKept, Stage, stage}
+use Rattle.lin_core.specs.kept.Slots.{is_due_of, opening_slot_kept}
+use Rattle.lin_core.specs.kept.State.{done_of, stage}
 use Rattle.lin_core.specs.declared.step.Step.TheVariants.{Open}
 use Rattle.lin_core.proofs.kept.Keeping.{open-keeps, opening-is, Opens}
 use Rattle.lin_core.proofs.kept.BusAndSenders.{open-late}
@@ -13,7 +13,6 @@ use Rattle.lin_core.proofs.steps.Coming.{due-there}
 use Rattle.lin_core.proofs.slots.Selected.{responder-inside}
 use Rattle.lin_core.proofs.kept.Receiving.{heard-same}
 use Rattle.lin_core.specs.declared.slot.OpenSlot.{OpenSlot}
-use Rattle.lin_schedule.specs.declared.due.Due.{Due}
 use Rattle.lin_core.proofs.state.State.open.Goals as goal
 
 pub header_of-header-requires : goal.header_of-header-requires
