@@ -89,4 +89,5 @@ symbols_left (Some kind) text place l =
     ∷ symbols_in l.source.now (still l).tokens
 
 abbrev pub symbols_of : Front → List Symbol
-symbols_of f = symbols_left f.kind f.text.now f.place f.lexer
+symbols_of f =
+    symbols_left f.kind (take f.len f.rest.now) (record { line = f.line; column = f.column }) f.lexer

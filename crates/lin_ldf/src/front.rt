@@ -1,6 +1,6 @@
 //! The tokens of a text that are left, and the next one.
 
-ghost use Rattle.std.specs.Prelude.{◌≡◌, ◌≤◌, ◌∷◌, true, length};
+ghost use Rattle.std.specs.Prelude.{◌≡◌, ◌≤◌, ◌∷◌, IfOk, true, length};
 ghost use Rattle.lin_ldf.specs.Symbols.{symbols_in};
 ghost use Rattle.lin_ldf.specs.Stream.{IsReady, start_of, still, symbols_of};
 ghost use Rattle.lin_ldf.specs.Forms.{has_front, front, tail};
@@ -10,14 +10,21 @@ ghost use Rattle.lin_ldf.specs.Words.{place_of};
 use crate::lexer::Lexer;
 use crate::token::{Token, TokenKind};
 use lin_parts::Place;
+use lin_text::Text;
+use std::alloc::{AllocError, Global};
 
 /// The tokens that are left: the next one's kind, text and place, and the lexer, which stands after
-/// it.
+/// it. (Line and column stand apart: side by side they would be written one by one and read at
+/// once, for which a processor has to wait.)
 #[derive(Clone, Copy)]
 pub struct Front<'a> {
     kind: Option<TokenKind>,
-    text: &'a [u8],
-    place: Place,
+    line: u64,
+    /// The source from the token on.
+    rest: &'a [u8],
+    /// How many bytes of it are the token.
+    len: usize,
+    column: u64,
     lexer: Lexer<'a>,
 }
 
@@ -27,11 +34,14 @@ impl<'a> Front<'a> {
         ensures symbols { symbols_of result ≡ symbols_in source.now (start_of source.now).tokens }
     {
         let lexer = Lexer::new(source);
+        let Place { line, column } = lexer.place;
         // (it stands before the first token)
         let mut front = Front {
             kind: Some(TokenKind::Other),
-            text: &[],
-            place: lexer.place,
+            line,
+            rest: &[],
+            len: 0,
+            column,
             lexer,
         };
         front.advance();
@@ -54,9 +64,18 @@ impl<'a> Front<'a> {
         ensures { result.now ≡ (front (symbols_of self.now)).text }
     {
         match self.kind {
-            Some(_) => self.text,
+            Some(_) => &self.rest[..self.len.min(self.rest.len())],
             None => &[],
         }
+    }
+
+    /// A copy of the text of the next token; an error means out of memory.
+    #[inline(always)]
+    pub fn copied_text(&self, alloc: Global) -> Result<Text, AllocError>
+        requires { has_front (symbols_of self.now) ≡ true }
+        ensures { IfOk result (λ t. t ≡ (front (symbols_of self.now)).text) }
+    {
+        Text::copied_front(alloc, self.rest, self.len)
     }
 
     /// The place of the next token, or after the text.
@@ -65,7 +84,10 @@ impl<'a> Front<'a> {
             → result ≡ place_of (front (symbols_of self.now)) }
     {
         match self.kind {
-            Some(_) => self.place,
+            Some(_) => Place {
+                line: self.line,
+                column: self.column,
+            },
             None => self.lexer.place,
         }
     }
@@ -90,11 +112,10 @@ impl<'a> Front<'a> {
             ≡ symbols_in self.old.lexer.source.now (token ∷ (still self.old.lexer).tokens) }
     {
         self.kind = Some(token.kind);
-        self.text = &self.lexer.source[token.start..token.end];
-        self.place = Place {
-            line: token.line,
-            column: token.column,
-        };
+        self.line = token.line;
+        self.rest = &self.lexer.source[token.start..];
+        self.len = token.end - token.start;
+        self.column = token.column;
     }
 
     /// The next token is passed over.
@@ -112,8 +133,9 @@ impl<'a> Front<'a> {
                 // (a token that ends no file, and nothing after it)
                 Err(_) => {
                     self.kind = Some(TokenKind::Other);
-                    self.text = &[];
-                    self.place = self.lexer.place;
+                    self.line = self.lexer.place.line;
+                    self.len = 0;
+                    self.column = self.lexer.place.column;
                     self.lexer.offset = self.lexer.source.len();
                 }
             }

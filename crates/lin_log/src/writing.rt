@@ -33,18 +33,6 @@ pub fn put_number<W: Write, I: Integer>(out: &mut TextWriter<'_, W>, number: I)
     out.put_number(number);
 }
 
-/// A number. (Most have one digit, which is put at once.)
-#[inline(always)]
-fn put_decimal<W: Write>(out: &mut TextWriter<'_, W>, number: u64)
-    ensures { Grows W.contents out.old out.new (decimal number) }
-{
-    if number < 10 {
-        out.put_byte(b'0' + number as u8);
-    } else {
-        out.put_number(number);
-    }
-}
-
 /// A space, and a name, or the number of what has none.
 #[inline(always)]
 pub(crate) fn put_called<W: Write>(out: &mut TextWriter<'_, W>, name: Option<&[u8]>, number: u64)
@@ -54,7 +42,7 @@ pub(crate) fn put_called<W: Write>(out: &mut TextWriter<'_, W>, name: Option<&[u
     out.put_byte(b' ');
     match name {
         Some(name) => out.put(name),
-        None => put_decimal(out, number),
+        None => out.put_unsigned(number),
     }
 }
 
@@ -97,7 +85,7 @@ fn put_lettered<N: Naming, W: Write>(out: &mut TextWriter<'_, W>, names: &N, let
             out.put_byte(b':');
             out.put(name);
         }
-        None => put_decimal(out, u64::from(node)),
+        None => out.put_unsigned(u64::from(node)),
     }
 }
 

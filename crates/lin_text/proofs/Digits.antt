@@ -1,6 +1,7 @@
 -- The two digits of each byte.
-use Rattle.std.proofs.Common.{ap, refl, ◌∙◌, ◌++◌, take, length, add-one, ◌≡◌, ℕ, zero, suc, ◌+◌, ◌-◌, ◌*◌, ◌/◌, ◌%◌, ◌<◌, Bool, true, ◌&&◌, T, eqb, List, [], ◌∷◌, get_or, slice_index, inl, inr, arith, eq-zero-or-pos, eqb→eq}
+use Rattle.std.proofs.Common.{ap, refl, ◌∙◌, ◌++◌, take, drop, length, add-one, ◌≡◌, ℕ, zero, suc, ◌+◌, ◌-◌, ◌*◌, ◌/◌, ◌%◌, ◌<◌, Bool, true, ◌&&◌, T, eqb, List, [], ◌∷◌, get_or, slice_index, ◌≤◌, inl, inr, arith, eq-zero-or-pos, eqb→eq}
 use Rattle.std.proofs.Math.Seq.{take-suc}
+use Rattle.std.proofs.lemmas.Grind.{common_steps}
 use Rattle.hex.specs.Hex.{encode_upper, encode_with, upper_digits}
 use lib.Ieee.Fits.{and_l, and_r}
 use Rattle.lin_text.specs.declared.buffered.TheConstants.{PAIRS}
@@ -24,6 +25,19 @@ encode-append : (t xs ys : List ℕ) → encode_with t (xs ++ ys) ≡ encode_wit
 unfolding encode_with
 encode-append t [] ys = refl
 encode-append t (x ∷ xs) ys = rw (encode-append t xs ys)
+
+-- four bytes, and those behind them
+behind-four : (a b c d : ℕ) (xs : List ℕ) → xs ≡ take (length (a ∷ b ∷ c ∷ d ∷ xs) - 4) (drop 4 (a ∷ b ∷ c ∷ d ∷ xs))
+behind-four a b c d xs = grind (arith, common_steps)
+
+pub encode-four : (xs : List ℕ) → 4 ≤ length xs
+    → encode_upper xs ≡ encode_upper (get_or xs 0 0 ∷ get_or xs 1 0 ∷ get_or xs 2 0 ∷ get_or xs 3 0 ∷ []) ++ encode_upper (take (length xs - 4) (drop 4 xs))
+unfolding encode_with
+encode-four [] h = absurd (omega arith)
+encode-four (a ∷ []) h = absurd (omega arith)
+encode-four (a ∷ b ∷ []) h = absurd (omega arith)
+encode-four (a ∷ b ∷ c ∷ []) h = absurd (omega arith)
+encode-four (a ∷ b ∷ c ∷ d ∷ xs) h = ap (λ l. encode_upper (a ∷ b ∷ c ∷ d ∷ l)) (behind-four a b c d xs)
 
 -- one byte more
 pub encode-next : (xs : List ℕ) (i : ℕ) → i < length xs

@@ -1,6 +1,7 @@
 //! A writer with a buffer of fixed size.
 
 ghost use Rattle.std.specs.Prelude.{◌≡◌, ◌∷◌, []};
+ghost use Rattle.std.specs.Fmt.{decimal};
 ghost use Rattle.hex.specs.Hex.{encode_upper};
 ghost use Rattle.lin_text.specs.Written.{Finishes, Grows, IsNew};
 
@@ -22,6 +23,15 @@ static PAIRS: [u8; 512] = *b"000102030405060708090A0B0C0D0E0F1011121314151617181
     A0A1A2A3A4A5A6A7A8A9AAABACADAEAFB0B1B2B3B4B5B6B7B8B9BABBBCBDBEBF\
     C0C1C2C3C4C5C6C7C8C9CACBCCCDCECFD0D1D2D3D4D5D6D7D8D9DADBDCDDDEDF\
     E0E1E2E3E4E5E6E7E8E9EAEBECEDEEEFF0F1F2F3F4F5F6F7F8F9FAFBFCFDFEFF";
+
+/// The two digits of a byte.
+#[inline(always)]
+fn digits_of(byte: u8) -> [u8; 2]
+    ensures { result ≡ encode_upper (byte ∷ []) }
+{
+    let from = 2 * usize::from(byte);
+    [PAIRS[from], PAIRS[from + 1]]
+}
 
 /// A writer, and what waits to be written to it, at most 65,536 bytes. It takes no memory.
 ///
@@ -102,22 +112,22 @@ impl<'a, W: Write> TextWriter<'a, W> {
         }
     }
 
-    /// Writes what waits, and puts two bytes.
+    /// Writes what waits, and puts these bytes.
     #[inline(never)]
-    fn put_pair_over(&mut self, first: u8, second: u8)
-        ensures { Grows W.contents self.old self.new (first ∷ second ∷ []) }
+    fn put_array_over<const N: usize>(&mut self, bytes: [u8; N])
+        ensures { Grows W.contents self.old self.new bytes.entry }
     {
-        self.put_over(&[first, second]);
+        self.put_over(&bytes);
     }
 
-    /// Puts two bytes. (Where they don't fit they are handed on by their values, since bytes that
-    /// are lent would have to lie in memory in each case.)
+    /// Puts a few bytes at once. (Where they don't fit they are handed on by their values, since
+    /// bytes that are lent would have to lie in memory in each case.)
     #[inline(always)]
-    fn put_pair(&mut self, first: u8, second: u8)
-        ensures { Grows W.contents self.old self.new (first ∷ second ∷ []) }
+    fn put_array<const N: usize>(&mut self, bytes: [u8; N])
+        ensures { Grows W.contents self.old self.new bytes.entry }
     {
-        if self.buffer.try_extend_from_slice(&[first, second]).is_err() {
-            self.put_pair_over(first, second);
+        if self.buffer.try_extend_from_slice(&bytes).is_err() {
+            self.put_array_over(bytes);
         }
     }
 
@@ -138,22 +148,55 @@ impl<'a, W: Write> TextWriter<'a, W> {
         self.put_few(digits.format(number).as_bytes());
     }
 
+    /// Puts a number in decimal digits. (Most have one digit, which is put at once.)
+    #[inline(always)]
+    pub fn put_unsigned(&mut self, number: u64)
+        ensures { Grows W.contents self.old self.new (decimal number) }
+    {
+        if number < 10 {
+            self.put_byte(b'0' + number as u8);
+        } else {
+            self.put_number(number);
+        }
+    }
+
     /// Puts a byte as two digits, in upper case.
     #[inline]
     pub fn put_hex_byte(&mut self, byte: u8)
         ensures { Grows W.contents self.old self.new (encode_upper (byte ∷ [])) }
     {
-        let from = 2 * usize::from(byte);
-        self.put_pair(PAIRS[from], PAIRS[from + 1]);
+        self.put_array(digits_of(byte));
+    }
+
+    /// Puts the digits of four bytes at once.
+    #[inline(always)]
+    fn put_hex_of_four(&mut self, a: u8, b: u8, c: u8, d: u8)
+        ensures { Grows W.contents self.old self.new (encode_upper (a ∷ b ∷ c ∷ d ∷ [])) }
+    {
+        let ([a0, a1], [b0, b1]) = (digits_of(a), digits_of(b));
+        let ([c0, c1], [d0, d1]) = (digits_of(c), digits_of(d));
+        self.put_array([a0, a1, b0, b1, c0, c1, d0, d1]);
+    }
+
+    /// Puts the digits of bytes one by one.
+    fn put_hex_of_few(&mut self, bytes: &[u8])
+        ensures { Grows W.contents self.old self.new (encode_upper bytes.now) }
+    {
+        for byte in bytes {
+            self.put_hex_byte(*byte);
+        }
     }
 
     /// Puts two digits for each byte, in upper case.
     pub fn put_hex(&mut self, bytes: &[u8])
         ensures { Grows W.contents self.old self.new (encode_upper bytes.now) }
     {
-        for byte in bytes {
-            self.put_hex_byte(*byte);
+        let mut left = bytes;
+        while let [a, b, c, d, behind @ ..] = left {
+            self.put_hex_of_four(*a, *b, *c, *d);
+            left = behind;
         }
+        self.put_hex_of_few(left);
     }
 
     /// Writes what waits. The writer isn't flushed.

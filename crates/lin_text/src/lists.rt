@@ -34,6 +34,20 @@ impl Model for Text {
 }
 
 impl Text {
+    /// The first of these bytes, so many.
+    #[inline(always)]
+    fn short(bytes: [u8; SHORT], len: usize) -> Text
+        requires { len ≤ 14 }
+        ensures { result ≡ take len bytes }
+    {
+        Text {
+            kept: Kept::Short {
+                len: len as u8,
+                bytes,
+            },
+        }
+    }
+
     /// A copy of these bytes; an error means out of memory, which 14 bytes or fewer never are.
     pub fn copied(alloc: Global, bytes: &[u8]) -> Result<Text, AllocError>
         ensures copy { IfOk result (λ t. t ≡ bytes.now) }
@@ -43,17 +57,27 @@ impl Text {
         if len <= SHORT {
             let mut place = [0; SHORT];
             place[..len].copy_from_slice(bytes);
-            return Ok(Text {
-                kept: Kept::Short {
-                    len: len as u8,
-                    bytes: place,
-                },
-            });
+            return Ok(Text::short(place, len));
         }
         let list = Vec::from_slice(alloc, bytes)?;
         Ok(Text {
             kept: Kept::Long(Box::new(alloc, list)?),
         })
+    }
+
+    /// A copy of the first bytes of a text that goes on, so many of them; an error means out of
+    /// memory. (A short one that 14 bytes are left for is copied with what stands behind it, at
+    /// once.)
+    #[inline(always)]
+    pub fn copied_front(alloc: Global, text: &[u8], len: usize) -> Result<Text, AllocError>
+        ensures { IfOk result (λ t. t ≡ take len text.now) }
+    {
+        if len <= SHORT && SHORT <= text.len() {
+            let mut place = [0; SHORT];
+            place.copy_from_slice(&text[..SHORT]);
+            return Ok(Text::short(place, len));
+        }
+        Text::copied(alloc, &text[..len.min(text.len())])
     }
 
     /// The bytes.

@@ -23,9 +23,9 @@ pub struct Remarks(pub Many<Remark>);
 pub(crate) fn put_place<W: Write>(out: &mut TextWriter<'_, W>, line: u64, column: u64)
     ensures { Grows W.contents out.old out.new (place_word line column) }
 {
-    out.put_number(line);
+    out.put_unsigned(line);
     out.put_byte(b':');
-    out.put_number(column);
+    out.put_unsigned(column);
 }
 
 /// Of a slot that is too short (9) the time in microseconds that it needs, and the line's end.
@@ -50,7 +50,7 @@ fn put_told<W: Write>(out: &mut TextWriter<'_, W>, finding: &Finding, word: &str
     out.put_byte(b' ');
     out.put_text(word);
     out.put_byte(b' ');
-    out.put_number(u64::from(finding.number));
+    out.put_unsigned(u64::from(finding.number));
     out.put_byte(b' ');
     out.put(finding.name().as_bytes());
     put_needed(out, finding);

@@ -1,13 +1,19 @@
-use Rattle.std.proofs.Common.{sym, arith}
-use Rattle.hex.specs.Hex.{encode_with}
-use Rattle.lin_text.proofs.Digits.{encode-next}
+use Rattle.std.proofs.Common.{◌∙◌, ◌++◌, [], refl, sym, ap, append_assoc, arith}
+use Rattle.lin_text.proofs.Digits.{encode-four}
 use Rattle.lin_text.proofs.Growing.{grows-more, grows-nothing, same-growth}
 use Rattle.lin_text.proofs.buffered.TextWriter.put_hex.Goals as goal
 
-pub loop-byte-init : goal.loop-byte-init
-unfolding encode_with
-loop-byte-init g c = grows-nothing c.args.self.now
+pub loop-left-init : goal.loop-left-init
+loop-left-init g c = ([], grows-nothing c.args.self.now, refl)
 
-pub loop-byte-preserved : goal.loop-byte-preserved
-loop-byte-preserved g c =
-    same-growth (sym (encode-next c.args.bytes.now c.loop-byte.byte-index (omega arith))) (grows-more c.loop-byte.invariant c.put_hex_byte.ensures)
+pub returns : goal.returns
+returns g c =
+    let (done, grown, e) = c.loop-left.invariant in
+    same-growth (sym e) (grows-more grown c.put_hex_of_few.ensures)
+
+pub loop-left-preserved : goal.loop-left-preserved
+loop-left-preserved g c =
+    let (done, grown, e) = c.loop-left.invariant in
+    let xs = c.loop-left.left.now in
+    let four = encode-four xs (omega arith) in
+    (_, grows-more grown c.put_hex_of_four.ensures, e ∙ ap (λ l. done ++ l) four ∙ sym (append_assoc done _ _))
