@@ -19,7 +19,7 @@ use crate::fault::LineFault;
 use crate::meant::MeantValues;
 use crate::reason::Reason;
 use lin_frame::Value;
-use lin_text::{Many, Text, TextWriter};
+use lin_text::{Many, Text, TextBuffer, TextWriter};
 use lin_values::{Coded, Meaning, is_small, number_and_unit, put_plain, read_decimal, units};
 use std::alloc::{AllocError, Global};
 
@@ -72,7 +72,8 @@ fn plain_text(alloc: Global, meaning: &Meaning<'_>) -> Result<Vec<u8>, AllocErro
     ensures { IfOk result (λ text. text.items ≡ plain_shown (meant meaning.now)) }
 {
     let mut text = Vec::new(alloc);
-    let mut out = TextWriter::new(&mut text);
+    let mut buffer = TextBuffer::empty();
+    let mut out = TextWriter::new(&mut text, &mut buffer);
     put_plain(&mut out, meaning);
     match out.finish() {
         Ok(()) => Ok(text),

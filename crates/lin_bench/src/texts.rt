@@ -20,7 +20,7 @@ use lin_log::{
     put_word,
 };
 use lin_parts::Cluster;
-use lin_text::{Text, TextWriter, WriteFailed};
+use lin_text::{Text, TextBuffer, TextWriter, WriteFailed};
 use std::io::Write;
 
 /// A text and bytes after it.
@@ -218,7 +218,8 @@ pub fn write_bad_line<W: Write>(
     ensures { WritesText (W.contents writer.old) (W.contents writer.new) result
         (bad_line_text line reason.now) }
 {
-    let mut out = TextWriter::new(writer);
+    let mut buffer = TextBuffer::empty();
+    let mut out = TextWriter::new(writer, &mut buffer);
     put_bad_line(&mut out, line, reason);
     out.finish()
 }
@@ -562,7 +563,8 @@ pub fn write_unmet<W: Write>(
     ensures { WritesText (W.contents writer.old) (W.contents writer.new) result
         (flat_map (unmet_text cluster.now) judgements.now) }
 {
-    let mut out = TextWriter::new(writer);
+    let mut buffer = TextBuffer::empty();
+    let mut out = TextWriter::new(writer, &mut buffer);
     put_all_unmet(&mut out, cluster, judgements);
     out.finish()
 }

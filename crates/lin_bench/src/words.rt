@@ -21,7 +21,7 @@ use crate::said_values::{Said, expected_values, joined, nearest_value, only_valu
 use lin_frame::Value;
 use lin_log::{put_shown, value_word};
 use lin_parts::Cluster;
-use lin_text::{Text, TextWriter};
+use lin_text::{Text, TextBuffer, TextWriter};
 use lin_values::Coded;
 use std::alloc::{AllocError, Global};
 
@@ -118,7 +118,8 @@ fn raw_word(alloc: Global, value: &Value) -> Result<Vec<u8>, AllocError>
     ensures { IfOk result (λ text. text.items ≡ value_word value.now) }
 {
     let mut text = Vec::new(alloc);
-    let mut out = TextWriter::new(&mut text);
+    let mut buffer = TextBuffer::empty();
+    let mut out = TextWriter::new(&mut text, &mut buffer);
     put_shown(&mut out, value_word(value));
     match out.finish() {
         Ok(()) => Ok(text),

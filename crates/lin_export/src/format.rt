@@ -13,7 +13,7 @@ use crate::fault::ExportFault;
 use crate::track::Track;
 use lin_core::{Log, LogEntry};
 use lin_parts::Cluster;
-use lin_text::TextWriter;
+use lin_text::{TextBuffer, TextWriter};
 use std::alloc::{AllocError, Global};
 use std::io::Write;
 
@@ -132,7 +132,8 @@ pub(crate) fn write_as<F: Format, W: Write>(
         ++ (each_entry (F.says format.old cluster.now) [] log.now.entries
         ++ F.ends format.old cluster.now (reverse log.now.entries))) }
 {
-    let mut out = TextWriter::new(writer);
+    let mut buffer = TextBuffer::empty();
+    let mut out = TextWriter::new(writer, &mut buffer);
     format.put_head(&mut out, cluster);
     let followed = put_all(format, &mut out, alloc, cluster, log);
     out.finish()?;

@@ -9,7 +9,7 @@ ghost use Rattle.lin_export.specs.Listing.{signal_line, table_line};
 
 use lin_log::{Word, put_line};
 use lin_parts::Cluster;
-use lin_text::{TextWriter, WriteFailed};
+use lin_text::{TextBuffer, TextWriter, WriteFailed};
 use std::io::Write;
 
 mod frames;
@@ -122,7 +122,8 @@ pub fn write_list<W: Write>(cluster: &Cluster, writer: &mut W) -> Result<(), Wri
     ensures { WritesText (W.contents writer.old) (W.contents writer.new) result
         (listing cluster.now) }
 {
-    let mut out = TextWriter::new(writer);
+    let mut buffer = TextBuffer::empty();
+    let mut out = TextWriter::new(writer, &mut buffer);
     put_cluster(&mut out, cluster);
     out.finish()
 }

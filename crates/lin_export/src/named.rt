@@ -29,7 +29,7 @@ use lin_core::{Event, Listed, Log, LogEntry, Refusal, Reply, Seen, Step, frame_u
 use lin_frame::{Answer, unpack};
 use lin_log::{Word, put_line, put_step_line, put_words, value_word};
 use lin_parts::{Cluster, Entry};
-use lin_text::TextWriter;
+use lin_text::{TextBuffer, TextWriter};
 use lin_values::Coded;
 use std::alloc::{AllocError, Global};
 use std::io::Write;
@@ -367,7 +367,8 @@ fn write_entries<W: Write>(
         (reverse (take from log.now.entries)) (drop from log.now.entries)) }
     ensures track { OnOk result (track.new ≡ track_of cluster.now (reverse log.now.entries)) }
 {
-    let mut out = TextWriter::new(writer);
+    let mut buffer = TextBuffer::empty();
+    let mut out = TextWriter::new(writer, &mut buffer);
     let put = put_entries(&mut NamedLog { coded }, &mut out, track, cluster, log, from);
     out.finish()?;
     put?;

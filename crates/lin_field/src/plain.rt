@@ -27,7 +27,7 @@ use declarations::{
 };
 use lin_ldf::Token;
 use lin_parts::description::{Attributes, Description, EventFrame, Frame, Signal, Sporadic, Table};
-use lin_text::{Text, TextWriter, WriteFailed};
+use lin_text::{Text, TextBuffer, TextWriter, WriteFailed};
 use names::{declared_names, event_tables, node_names, table_names};
 use parts::{
     behind_head, bytes_of, filled_parts, inside_at, is_line, is_one_of, is_section, next_part,
@@ -498,7 +498,8 @@ pub fn write_plain<W: Write>(
 {
     let tokens = tokens_of(alloc, source)?;
     let plain = Plain::new(alloc, settled, source, tokens.as_slice())?;
-    let mut out = TextWriter::new(writer);
+    let mut buffer = TextBuffer::empty();
+    let mut out = TextWriter::new(writer, &mut buffer);
     plain.put(&mut out);
     Ok(out.finish())
 }

@@ -4,6 +4,7 @@ ghost use Rattle.std.specs.Prelude.{◌≤◌, ℕ, List, Option, IfSome, length
 ghost use Rattle.lin_live.specs.Serving.{Replies};
 
 use crate::fault::Fault;
+use lin_text::TextBuffer;
 use std::alloc::Global;
 use std::io::Write;
 
@@ -22,7 +23,7 @@ pub trait Answering {
     ghost is_full: { Self.State → Option (List ℕ) → Type 0 };
 
     /// Writes the whole answer to a line; none stands for a line of more than 16,777,216 bytes. The
-    /// writer isn't flushed.
+    /// writer isn't flushed. The text waits in the buffer until it is written.
     ///
     /// # Errors
     /// - `WriteFailed`: what was written is the beginning of the answer;
@@ -33,6 +34,7 @@ pub trait Answering {
         alloc: Global,
         line: Option<&[u8]>,
         writer: &mut W,
+        buffer: &mut TextBuffer,
     ) -> Result<(), Fault>
         requires short { IfSome line (λ l. length l.now ≤ 16777216) }
         ensures { Replies Self.reply Self.is_full (Self.state self.old) (Self.state self.new)

@@ -24,6 +24,7 @@ use crate::value::value_of;
 use lin_bench::{Bench, Line, Verdict, told_meaning, without_mark};
 use lin_core::{Core, Log};
 use lin_export::Track;
+use lin_text::TextBuffer;
 use lin_values::Coded;
 use std::alloc::{AllocError, Global};
 use std::io::Write;
@@ -176,16 +177,21 @@ impl Hand {
     }
 
     /// Tells that a line says nothing.
-    fn pass<W: Write>(&self, writer: &mut W) -> Result<(), Fault>
+    fn pass<W: Write>(&self, writer: &mut W, buffer: &mut TextBuffer) -> Result<(), Fault>
         ensures { Tells (self.now, ending (codes "ok")) ⊥ self.now (W.contents writer.old)
             (W.contents writer.new) result }
     {
-        write_ok(writer)?;
+        write_ok(writer, buffer)?;
         Ok(())
     }
 
     /// Tells that a line is bad.
-    fn refuse<W: Write>(&mut self, reason: &Reason, writer: &mut W) -> Result<(), Fault>
+    fn refuse<W: Write>(
+        &mut self,
+        reason: &Reason,
+        writer: &mut W,
+        buffer: &mut TextBuffer,
+    ) -> Result<(), Fault>
         ensures { Tells (
           record self.old { was_bad = true },
           ending (codes "bad line: " ++ reason_text reason.now),
@@ -193,12 +199,18 @@ impl Hand {
             ⊥ self.new (W.contents writer.old) (W.contents writer.new) result }
     {
         self.was_bad = true;
-        write_bad(writer, reason)?;
+        write_bad(writer, buffer, reason)?;
         Ok(())
     }
 
     /// Answers a question.
-    fn ask<W: Write>(&self, alloc: Global, question: Question, writer: &mut W) -> Result<(), Fault>
+    fn ask<W: Write>(
+        &self,
+        alloc: Global,
+        question: Question,
+        writer: &mut W,
+        buffer: &mut TextBuffer,
+    ) -> Result<(), Fault>
         requires { IsAskable self.now.cluster question }
         ensures { Tells (
           self.now,
@@ -209,7 +221,7 @@ impl Hand {
     {
         let coded = told_coding(self.coded.as_ref(), self.is_physical);
         let value = value_of(alloc, &self.bench, coded, question)?;
-        write_value(writer, self.bench.core().cluster(), &value)?;
+        write_value(writer, buffer, self.bench.core().cluster(), &value)?;
         Ok(())
     }
 
@@ -233,6 +245,7 @@ impl Hand {
         from: usize,
         verdict: &Verdict,
         writer: &mut W,
+        buffer: &mut TextBuffer,
     ) -> Result<(), Fault>
         requires there { from ≤ length self.old.bench.past }
         requires track { IfSome track (λ track. track
@@ -248,11 +261,11 @@ impl Hand {
     {
         let core = self.bench.core();
         match self.format {
-            AnswerFormat::Log => write_line(writer, core, from, verdict)?,
+            AnswerFormat::Log => write_line(writer, buffer, core, from, verdict)?,
             AnswerFormat::Named => {
                 let coded = told_coding(self.coded.as_ref(), self.is_physical);
                 let (text, track) = with_names(alloc, core, coded, track, from)?;
-                write_told_line(writer, core, from, text.as_slice(), verdict)?;
+                write_told_line(writer, buffer, core, from, text.as_slice(), verdict)?;
                 self.track = Some(track);
             }
         }
@@ -270,7 +283,13 @@ impl Hand {
     }
 
     /// Makes a line, and tells its entries and what it came to.
-    fn make<W: Write>(&mut self, alloc: Global, line: Line, writer: &mut W) -> Result<(), Fault>
+    fn make<W: Write>(
+        &mut self,
+        alloc: Global,
+        line: Line,
+        writer: &mut W,
+        buffer: &mut TextBuffer,
+    ) -> Result<(), Fault>
         ensures { Tells (written self.old (told self.old (Ok (Some (Make line)))))
             (2 ^ 32 - 1 < length (told self.old (Ok (Some (Make line)))).0.bench.past) self.new
             (W.contents writer.old) (W.contents writer.new) result }
@@ -281,7 +300,7 @@ impl Hand {
         let verdict = self.bench.make(alloc, line)?;
         self.keep(&verdict);
         let told = self.in_words(alloc, verdict)?;
-        self.tell(alloc, track, from, &told, writer)
+        self.tell(alloc, track, from, &told, writer, buffer)
     }
 }
 
@@ -299,15 +318,16 @@ impl Answering for Hand {
         alloc: Global,
         line: Option<&[u8]>,
         writer: &mut W,
+        buffer: &mut TextBuffer,
     ) -> Result<(), Fault> {
         let line = self.unmarked(line);
         self.begun = true;
         match self.hear(alloc, line) {
             Err(LineFault::OutOfMemory) => Err(Fault::OutOfMemory),
-            Err(LineFault::Bad(reason)) => self.refuse(&reason, writer),
-            Ok(None) => self.pass(writer),
-            Ok(Some(Heard::Ask(question))) => self.ask(alloc, question, writer),
-            Ok(Some(Heard::Make(line))) => self.make(alloc, line, writer),
+            Err(LineFault::Bad(reason)) => self.refuse(&reason, writer, buffer),
+            Ok(None) => self.pass(writer, buffer),
+            Ok(Some(Heard::Ask(question))) => self.ask(alloc, question, writer, buffer),
+            Ok(Some(Heard::Make(line))) => self.make(alloc, line, writer, buffer),
         }
     }
 }

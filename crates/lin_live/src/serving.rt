@@ -8,6 +8,7 @@ ghost use Rattle.lin_live.specs.Serving.{Feeds, Finishes, IsAnswered, IsLive};
 use crate::answering::Answering;
 use crate::begun::Begun;
 use crate::fault::Fault;
+use lin_text::TextBuffer;
 use memchr::memchr;
 use std::alloc::Global;
 use std::io::{ErrorKind, Read, Write};
@@ -18,12 +19,13 @@ fn answer_line<S: Answering, W: Write>(
     state: &mut S,
     begun: &Begun,
     writer: &mut W,
+    buffer: &mut TextBuffer,
 ) -> Result<(), Fault>
     ensures { (bytes : List ℕ) → begun.now ≡ held bytes
         → IsAnswered S.reply S.is_full (S.state state.old) (S.state state.new)
         (W.contents writer.old) (W.contents writer.new) bytes result }
 {
-    state.answer(alloc, begun.line(), writer)?;
+    state.answer(alloc, begun.line(), writer, buffer)?;
     match writer.flush() {
         Ok(()) => Ok(()),
         Err(_) => Err(Fault::WriteFailed),
@@ -37,6 +39,7 @@ fn feed<S: Answering, W: Write>(
     begun: &mut Begun,
     piece: &[u8],
     writer: &mut W,
+    buffer: &mut TextBuffer,
 ) -> Result<(), Fault>
     ensures { (bytes : List ℕ) → begun.old ≡ held bytes → HasNoLf bytes
         → Feeds S.reply S.is_full (S.state state.old) (S.state state.new) (W.contents writer.old)
@@ -45,7 +48,7 @@ fn feed<S: Answering, W: Write>(
     let mut rest = piece;
     while let Some(end) = memchr(b'\n', rest) {
         begun.add(alloc, &rest[..end])?;
-        answer_line(alloc, state, begun, writer)?;
+        answer_line(alloc, state, begun, writer, buffer)?;
         begun.clear();
         let (_, behind) = rest.split_at(end + 1);
         rest = behind;
@@ -60,6 +63,7 @@ fn finish<S: Answering, W: Write>(
     state: &mut S,
     begun: &Begun,
     writer: &mut W,
+    buffer: &mut TextBuffer,
 ) -> Result<(), Fault>
     ensures { (bytes : List ℕ) → begun.now ≡ held bytes
         → Finishes S.reply S.is_full (S.state state.old) (S.state state.new)
@@ -68,7 +72,7 @@ fn finish<S: Answering, W: Write>(
     if begun.is_nothing() {
         return Ok(());
     }
-    answer_line(alloc, state, begun, writer)
+    answer_line(alloc, state, begun, writer, buffer)
 }
 
 /// Answers each line of a reader on a writer: writes the whole answer and flushes the writer before
@@ -97,10 +101,18 @@ pub fn live<S: Answering, R: Read, W: Write>(
 {
     let mut begun = Begun::new(alloc);
     let mut buffer = [0u8; 65_536];
+    let mut text = TextBuffer::empty();
     for _ in 0..u64::MAX {
         match reader.read(&mut buffer) {
-            Ok(0) => return finish(alloc, state, &begun, writer),
-            Ok(count) => feed(alloc, state, &mut begun, &buffer[..count], writer)?,
+            Ok(0) => return finish(alloc, state, &begun, writer, &mut text),
+            Ok(count) => feed(
+                alloc,
+                state,
+                &mut begun,
+                &buffer[..count],
+                writer,
+                &mut text,
+            )?,
             Err(fault) => {
                 if fault.kind() != ErrorKind::Interrupted {
                     return Err(Fault::ReadFailed);

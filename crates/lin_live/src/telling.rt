@@ -19,7 +19,7 @@ use lin_core::{Core, Event, Listed, Log, Refusal};
 use lin_export::{Track, named_text, put_slot_names};
 use lin_log::{put_entries, put_number, put_table, put_value, put_word};
 use lin_parts::Cluster;
-use lin_text::{TextWriter, WriteFailed};
+use lin_text::{TextBuffer, TextWriter, WriteFailed};
 use lin_values::Coded;
 use std::alloc::{AllocError, Global};
 use std::io::Write;
@@ -34,11 +34,11 @@ fn put_ending<W: Write>(out: &mut TextWriter<'_, W>, words: &str)
 }
 
 /// Writes that nothing was refused.
-pub(crate) fn write_ok<W: Write>(writer: &mut W) -> Result<(), WriteFailed>
+pub(crate) fn write_ok<W: Write>(writer: &mut W, buffer: &mut TextBuffer) -> Result<(), WriteFailed>
     ensures { WritesText (W.contents writer.old) (W.contents writer.new) result
         (ending (codes "ok")) }
 {
-    let mut out = TextWriter::new(writer);
+    let mut out = TextWriter::new(writer, buffer);
     put_ending(&mut out, "ok");
     out.finish()
 }
@@ -61,11 +61,15 @@ fn put_why<W: Write>(out: &mut TextWriter<'_, W>, reason: &Reason)
 }
 
 /// Writes that a line is bad, and why.
-pub(crate) fn write_bad<W: Write>(writer: &mut W, reason: &Reason) -> Result<(), WriteFailed>
+pub(crate) fn write_bad<W: Write>(
+    writer: &mut W,
+    buffer: &mut TextBuffer,
+    reason: &Reason,
+) -> Result<(), WriteFailed>
     ensures { WritesText (W.contents writer.old) (W.contents writer.new) result
         (ending (codes "bad line: " ++ reason_text reason.now)) }
 {
-    let mut out = TextWriter::new(writer);
+    let mut out = TextWriter::new(writer, buffer);
     out.put_text("# ");
     out.put_text("bad line: ");
     put_why(&mut out, reason);
@@ -136,13 +140,14 @@ fn put_answer<W: Write>(out: &mut TextWriter<'_, W>, cluster: &Cluster, value: &
 /// Writes what is said to a question.
 pub(crate) fn write_value<W: Write>(
     writer: &mut W,
+    buffer: &mut TextBuffer,
     cluster: &Cluster,
     value: &Value,
 ) -> Result<(), WriteFailed>
     ensures { WritesText (W.contents writer.old) (W.contents writer.new) result
         (ending (codes "is " ++ value_shown cluster.now value.now)) }
 {
-    let mut out = TextWriter::new(writer);
+    let mut out = TextWriter::new(writer, buffer);
     out.put_text("# is");
     put_answer(&mut out, cluster, value);
     out.put_byte(b'\n');
@@ -190,6 +195,7 @@ fn put_verdict_ending<W: Write>(
 /// to.
 pub(crate) fn write_line<W: Write>(
     writer: &mut W,
+    buffer: &mut TextBuffer,
     core: &Core,
     from: usize,
     verdict: &Verdict,
@@ -198,7 +204,7 @@ pub(crate) fn write_line<W: Write>(
         (text (drop from core.now.log)
         ++ verdict_ending core.now.cluster verdict.now (drop from core.now.log)) }
 {
-    let mut out = TextWriter::new(writer);
+    let mut out = TextWriter::new(writer, buffer);
     put_entries(&mut out, core.log(), from);
     put_verdict_ending(&mut out, core, from, verdict);
     out.finish()
@@ -235,6 +241,7 @@ pub(crate) fn with_names(
 /// to.
 pub(crate) fn write_told_line<W: Write>(
     writer: &mut W,
+    buffer: &mut TextBuffer,
     core: &Core,
     from: usize,
     told: &[u8],
@@ -244,7 +251,7 @@ pub(crate) fn write_told_line<W: Write>(
         (told.now
         ++ verdict_ending core.now.cluster verdict.now (drop from core.now.log)) }
 {
-    let mut out = TextWriter::new(writer);
+    let mut out = TextWriter::new(writer, buffer);
     out.put(told);
     put_verdict_ending(&mut out, core, from, verdict);
     out.finish()

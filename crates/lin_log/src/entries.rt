@@ -8,7 +8,7 @@ ghost use Rattle.lin_log.specs.Words.{event_words, reply_line, reply_words, step
 use crate::naming::{Naming, Numbers};
 use crate::writing::{put_called, put_event, put_port, put_step};
 use lin_core::{Event, Listed, Log, LogEntry, PortId, Reply, Step};
-use lin_text::{TextWriter, WriteFailed};
+use lin_text::{TextBuffer, TextWriter, WriteFailed};
 use std::io::Write;
 
 /// The line of a port and its step.
@@ -86,7 +86,8 @@ pub fn write_log<W: Write>(log: &Log, writer: &mut W) -> Result<(), WriteFailed>
     ensures { WritesText (W.contents writer.old) (W.contents writer.new) result
         (text log.now.entries) }
 {
-    let mut lines = TextWriter::new(writer);
+    let mut buffer = TextBuffer::empty();
+    let mut lines = TextWriter::new(writer, &mut buffer);
     put_entries(&mut lines, log, 0);
     lines.finish()
 }

@@ -3,7 +3,7 @@
 use crate::log::fakes::{Broken, Pieces};
 use crate::samples::{DOOR_CLUSTER, cluster_of, joined};
 use lin_log::replay;
-use lin_text::{ReadFault, TextWriter, read_whole};
+use lin_text::{ReadFault, TextBuffer, TextWriter, read_whole};
 use std::alloc::Global;
 use std::io::ErrorKind;
 use std::process::Abort;
@@ -18,7 +18,8 @@ fn puts_what_no_buffer_takes(rt: HostRuntime) -> Result<(), Fail> {
     let mut long = Vec::new(rt.alloc());
     long.resize(MORE_THAN_THE_BUFFER, b'x')?;
     let mut writer = Pieces::new(rt.alloc());
-    let mut text = TextWriter::new(&mut writer);
+    let mut buffer = TextBuffer::empty();
+    let mut text = TextWriter::new(&mut writer, &mut buffer);
     text.put_text("> a");
     text.put(long.as_slice());
     text.put_byte(b'\n');
@@ -27,6 +28,21 @@ fn puts_what_no_buffer_takes(rt: HostRuntime) -> Result<(), Fail> {
     let wanted = joined(rt.alloc(), &[b"> a", long.as_slice(), b"\n"])?;
     assert!(rt; writer.taken.as_slice() == wanted.as_slice());
     Ok(())
+}
+
+/// What waited of a text that wasn't finished is gone.
+#[test]
+fn begins_with_an_empty_buffer(rt: HostRuntime) {
+    let mut buffer = TextBuffer::empty();
+    let mut writer = Pieces::new(rt.alloc());
+    {
+        let mut left = TextWriter::new(&mut writer, &mut buffer);
+        left.put_text("> a");
+    }
+    let mut text = TextWriter::new(&mut writer, &mut buffer);
+    text.put_text("> b");
+    assert!(rt; text.finish().is_ok());
+    assert!(rt; writer.taken.as_slice() == b"> b".as_slice());
 }
 
 /// How long the writes are of the log of so many finishes that are refused.
@@ -71,7 +87,8 @@ fn asked_once_where_that_fails(rt: HostRuntime) {
     }
     for kind in [Some(ErrorKind::Interrupted), None] {
         let mut writer = Broken { kind, calls: 0 };
-        let mut text = TextWriter::new(&mut writer);
+        let mut buffer = TextBuffer::empty();
+        let mut text = TextWriter::new(&mut writer, &mut buffer);
         text.put_text("> a");
         assert!(rt; text.finish().is_err());
         assert!(rt; writer.calls == 1);

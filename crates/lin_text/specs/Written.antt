@@ -32,7 +32,7 @@ kept_bytes (Ok done) items = Some items
 kept_bytes (Err fault) items = None
 
 abbrev pub waiting : {W : Type 0} → TextWriter W → Option (List ℕ)
-waiting t = kept_bytes t.outcome t.buffer.items
+waiting t = kept_bytes t.outcome t.buffer.now.items
 
 -- A text was put into a text writer, over the same writer.
 pub record Grows {W : Type 0} (contents : W → Option (List ℕ)) (old : TextWriter W)

@@ -33,25 +33,42 @@ fn digits_of(byte: u8) -> [u8; 2]
     [PAIRS[from], PAIRS[from + 1]]
 }
 
-/// A writer, and what waits to be written to it, at most 65,536 bytes. It takes no memory.
+/// Room for what waits to be written, 65,536 bytes. It takes no memory, but some time to make: where
+/// many short texts are written, it is made once.
+#[derive(Debug, Drop)]
+pub struct TextBuffer {
+    bytes: ArrayVec<u8, CAPACITY>,
+}
+
+impl TextBuffer {
+    /// Room in which nothing waits.
+    pub fn empty() -> TextBuffer {
+        TextBuffer {
+            bytes: ArrayVec::new(),
+        }
+    }
+}
+
+/// A writer, and what waits to be written to it, in the room of a buffer.
 ///
 /// What is put waits until the buffer is full or the text is finished. The first failed write is
 /// kept: nothing is written after it, the writer isn't asked again, and `finish` reports it.
 #[derive(Drop)]
 pub struct TextWriter<'a, W> {
     writer: &'a mut W,
-    buffer: ArrayVec<u8, CAPACITY>,
+    buffer: &'a mut ArrayVec<u8, CAPACITY>,
     outcome: Result<(), WriteFailed>,
 }
 
 impl<'a, W: Write> TextWriter<'a, W> {
-    /// Nothing waits yet.
-    pub fn new(writer: &'a mut W) -> TextWriter<'a, W>
+    /// Nothing waits yet. What the buffer held of another text is gone.
+    pub fn new(writer: &'a mut W, buffer: &'a mut TextBuffer) -> TextWriter<'a, W>
         ensures { IsNew writer.entry result }
     {
+        buffer.bytes.clear();
         TextWriter {
             writer,
-            buffer: ArrayVec::new(),
+            buffer: &mut buffer.bytes,
             outcome: Ok(()),
         }
     }
@@ -59,7 +76,7 @@ impl<'a, W: Write> TextWriter<'a, W> {
     /// Writes what waits.
     fn write_waiting(&mut self)
         ensures text { Grows W.contents self.old self.new [] }
-        ensures empty { self.new.buffer.items ≡ [] }
+        ensures empty { self.new.buffer.now.items ≡ [] }
     {
         if self.outcome.is_ok() {
             self.outcome = write_out(self.writer, self.buffer.as_slice());
@@ -69,7 +86,7 @@ impl<'a, W: Write> TextWriter<'a, W> {
 
     /// Puts these bytes where nothing waits; what the buffer doesn't take is written at once.
     fn put_first(&mut self, bytes: &[u8])
-        requires { self.old.buffer.items ≡ [] }
+        requires { self.old.buffer.now.items ≡ [] }
         ensures { Grows W.contents self.old self.new bytes.now }
     {
         if self.buffer.try_extend_from_slice(bytes).is_err() && self.outcome.is_ok() {

@@ -3,7 +3,8 @@
 //!
 //! ```
 //! let name = Text::copied(alloc, b"door")?;
-//! let mut text = TextWriter::new(&mut writer);
+//! let mut buffer = TextBuffer::empty();
+//! let mut text = TextWriter::new(&mut writer, &mut buffer);
 //! text.put_text(name.as_slice());
 //! text.put_number(1);
 //! text.finish()?;
@@ -16,7 +17,7 @@ mod fault;
 mod lists;
 mod reading;
 
-pub use buffered::TextWriter;
+pub use buffered::{TextBuffer, TextWriter};
 pub use direct::write_out;
 pub use fault::WriteFailed;
 pub use lists::{Many, OneOrMore, Text};

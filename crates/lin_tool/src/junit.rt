@@ -17,7 +17,7 @@ use lin_bench::{Judged, Judgement, is_unmet, put_found, put_what};
 use lin_core::Log;
 use lin_export::ExportFault;
 use lin_parts::Cluster;
-use lin_text::TextWriter;
+use lin_text::{TextBuffer, TextWriter};
 use std::alloc::{AllocError, Global};
 use std::io::Write;
 
@@ -53,7 +53,8 @@ fn what_text(alloc: Global, cluster: &Cluster, judged: &Judged) -> Result<Vec<u8
     ensures { IfOk result (λ v. v.items ≡ spaced_word (what_text cluster.now judged.now)) }
 {
     let mut text = Vec::new(alloc);
-    let mut out = TextWriter::new(&mut text);
+    let mut buffer = TextBuffer::empty();
+    let mut out = TextWriter::new(&mut text, &mut buffer);
     put_what(&mut out, cluster, judged);
     match out.finish() {
         Ok(()) => Ok(text),
@@ -67,7 +68,8 @@ fn found_text(alloc: Global, cluster: &Cluster, judged: &Judged) -> Result<Vec<u
         ≡ option_map_or spaced_word (found_text cluster.now judged.now) []) }
 {
     let mut text = Vec::new(alloc);
-    let mut out = TextWriter::new(&mut text);
+    let mut buffer = TextBuffer::empty();
+    let mut out = TextWriter::new(&mut text, &mut buffer);
     put_found(&mut out, cluster, judged);
     match out.finish() {
         Ok(()) => Ok(text),
@@ -89,7 +91,8 @@ fn missed_text(
         → v.items ≡ placed_missed file.now cluster.now log judgement.now) }
 {
     let mut text = Vec::new(alloc);
-    let mut out = TextWriter::new(&mut text);
+    let mut buffer = TextBuffer::empty();
+    let mut out = TextWriter::new(&mut text, &mut buffer);
     put_missed(&mut out, file, cluster, moment, judgement);
     match out.finish() {
         Ok(()) => Ok(text),
@@ -216,7 +219,8 @@ pub(crate) fn write_junit<W: Write>(
     ensures { WritesText (W.contents writer.old) (W.contents writer.new) result
         (junit file.now cluster.now log.now.entries judgements.now) }
 {
-    let mut out = TextWriter::new(writer);
+    let mut buffer = TextBuffer::empty();
+    let mut out = TextWriter::new(writer, &mut buffer);
     put_head(&mut out, file, judgements);
     let put = put_cases(&mut out, alloc, file, cluster, log, judgements);
     out.finish()?;

@@ -19,7 +19,7 @@ use lin_bench::Reason;
 use lin_core::Log;
 use lin_field::Remark;
 use lin_parts::Cluster;
-use lin_text::{Many, TextWriter, WriteFailed, write_out};
+use lin_text::{Many, TextBuffer, TextWriter, WriteFailed, write_out};
 use std::alloc::{AllocError, Global};
 use std::io::Write;
 
@@ -125,7 +125,8 @@ impl<'a> Notes<'a> {
         if !warnings.is_empty() && self.wanted.file.is_some() {
             return write_out(writer, self.places.as_bytes());
         }
-        let mut lines = TextWriter::new(writer);
+        let mut buffer = TextBuffer::empty();
+        let mut lines = TextWriter::new(writer, &mut buffer);
         put_remark_lines(&mut lines, warnings);
         lines.finish()
     }
@@ -136,14 +137,16 @@ impl<'a> Notes<'a> {
                 write_out(writer, self.places.as_bytes())
             }
             (Some(file), Fault::LdfTooLong | Fault::ScriptTooLong | Fault::ReadFailed) => {
-                let mut lines = TextWriter::new(writer);
+                let mut buffer = TextBuffer::empty();
+                let mut lines = TextWriter::new(writer, &mut buffer);
                 lines.put_text(file);
                 lines.put_text(": ");
                 put_fault(&mut lines, fault);
                 lines.finish()
             }
             (Some(file), Fault::SlotLimit { line }) => {
-                let mut lines = TextWriter::new(writer);
+                let mut buffer = TextBuffer::empty();
+                let mut lines = TextWriter::new(writer, &mut buffer);
                 lines.put_text(file);
                 lines.put_text(":");
                 lines.put_number(*line);

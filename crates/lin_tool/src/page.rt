@@ -19,7 +19,7 @@ use lin_bench::Judgement;
 use lin_core::Core;
 use lin_export::{ExportFault, write_first_slots, write_frames, write_list, write_slots};
 use lin_log::write_log;
-use lin_text::{TextWriter, WriteFailed, write_out};
+use lin_text::{TextBuffer, TextWriter, WriteFailed, write_out};
 use lin_values::Coded;
 use std::alloc::Global;
 use std::io::Write;
@@ -61,7 +61,8 @@ fn write_middle<W: Write>(
         (flat_map (unmet_line core.now.cluster) judgements.now ++ MIDDLE.now
         ++ summary core.now.cluster core.now.log) }
 {
-    let mut out = TextWriter::new(writer);
+    let mut buffer = TextBuffer::empty();
+    let mut out = TextWriter::new(writer, &mut buffer);
     put_unmet_lines(&mut out, core.cluster(), judgements);
     out.put_text(MIDDLE);
     put_summary(&mut out, core);

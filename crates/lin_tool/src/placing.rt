@@ -14,7 +14,7 @@ ghost use Rattle.lin_tool.specs.Placing.{placed, placed_bad, placed_missed, plac
 use lin_bench::{Judgement, Reason, is_unmet, put_judged, put_reason};
 use lin_core::{Event, Log, LogEntry, Reply, Step};
 use lin_parts::Cluster;
-use lin_text::{TextWriter, WriteFailed};
+use lin_text::{TextBuffer, TextWriter, WriteFailed};
 use std::io::Write;
 
 /// What of a log is told: the table and the entry of the slot that is open, how many slots are
@@ -178,7 +178,8 @@ pub(crate) fn write_bad_lines<W: Write>(
     ensures { WritesText (W.contents writer.old) (W.contents writer.new) result
         (flat_map (placed_bad file.now) bad.now) }
 {
-    let mut out = TextWriter::new(writer);
+    let mut buffer = TextBuffer::empty();
+    let mut out = TextWriter::new(writer, &mut buffer);
     put_all_bad(&mut out, file, bad);
     out.finish()
 }
@@ -290,7 +291,8 @@ pub(crate) fn write_placed_unmet<W: Write>(
     ensures { WritesText (W.contents writer.old) (W.contents writer.new) result
         (flat_map (placed_unmet file.now cluster.now log.now.entries) judgements.now) }
 {
-    let mut out = TextWriter::new(writer);
+    let mut buffer = TextBuffer::empty();
+    let mut out = TextWriter::new(writer, &mut buffer);
     put_all_unmet(&mut out, file, cluster, log, judgements);
     out.finish()
 }

@@ -11,7 +11,7 @@ ghost use Rattle.lin_tool.specs.Tally.{counted, tally_text, waiting_in};
 use crate::page::summary::{messages_lost, slots_finished, steps_refused};
 use lin_bench::{Judgement, is_unmet};
 use lin_core::Core;
-use lin_text::{TextWriter, WriteFailed};
+use lin_text::{TextBuffer, TextWriter, WriteFailed};
 use std::io::Write;
 
 /// How many judgements aren't met.
@@ -60,7 +60,8 @@ pub(crate) fn write_tally<W: Write>(
     ensures { WritesText (W.contents writer.old) (W.contents writer.new) result
         (tally_text core.now.cluster core.now.log judgements.now) }
 {
-    let mut out = TextWriter::new(writer);
+    let mut buffer = TextBuffer::empty();
+    let mut out = TextWriter::new(writer, &mut buffer);
     let log = core.log();
     out.put_text("play: ");
     put_counted(&mut out, judgements.len() as u128, " expected, ");

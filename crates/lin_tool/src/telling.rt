@@ -8,7 +8,7 @@ ghost use Rattle.lin_tool.specs.Telling.{fault_text, ldf_line, ldf_text};
 use crate::fault::Fault;
 use crate::findings::{put_findings, put_place, put_remarks};
 use lin_ldf::{LdfFault, Place};
-use lin_text::{TextWriter, WriteFailed};
+use lin_text::{TextBuffer, TextWriter, WriteFailed};
 use std::io::Write;
 
 /// A fault of an LDF text, by its number and name.
@@ -84,7 +84,8 @@ pub fn write_fault<W: Write>(fault: &Fault, writer: &mut W) -> Result<(), WriteF
     ensures { WritesText (W.contents writer.old) (W.contents writer.new) result
         (fault_text fault.now) }
 {
-    let mut lines = TextWriter::new(writer);
+    let mut buffer = TextBuffer::empty();
+    let mut lines = TextWriter::new(writer, &mut buffer);
     put_fault(&mut lines, fault);
     lines.finish()
 }

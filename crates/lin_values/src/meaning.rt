@@ -17,7 +17,7 @@ use crate::items::Item;
 use crate::limits::PhysicalValue;
 use arrayvec::ArrayVec;
 use lin_frame::Value;
-use lin_text::TextWriter;
+use lin_text::{TextBuffer, TextWriter};
 use std::alloc::{AllocError, Global};
 use std::io::Write;
 
@@ -268,7 +268,8 @@ pub fn shown(alloc: Global, meaning: &Meaning<'_>) -> Result<Vec<u8>, AllocError
     ensures { IfOk result (λ v. v.items ≡ shown (meant meaning.now)) }
 {
     let mut text = Vec::new(alloc);
-    let mut out = TextWriter::new(&mut text);
+    let mut buffer = TextBuffer::empty();
+    let mut out = TextWriter::new(&mut text, &mut buffer);
     put_meaning(&mut out, meaning);
     match out.finish() {
         Ok(()) => Ok(text),

@@ -7,7 +7,7 @@ ghost use Rattle.linsim_c.specs.Writing.{Writes};
 use crate::fault::Fault;
 use lin_core::Log;
 use lin_log::put_entries;
-use lin_text::TextWriter;
+use lin_text::{TextBuffer, TextWriter};
 use std::alloc::Global;
 
 /// Writes these bytes at the beginning of `out`, and answers how many.
@@ -34,7 +34,8 @@ pub(crate) fn put_log(alloc: Global, log: &Log, from: usize, out: &mut [u8]) -> 
     ensures { Writes result (text (drop from log.now.entries)) out.old out.new }
 {
     let mut bytes = Vec::new(alloc);
-    let mut lines = TextWriter::new(&mut bytes);
+    let mut buffer = TextBuffer::empty();
+    let mut lines = TextWriter::new(&mut bytes, &mut buffer);
     put_entries(&mut lines, log, from);
     if lines.finish().is_err() {
         return Err(Fault::OutOfMemory);

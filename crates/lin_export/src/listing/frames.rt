@@ -12,7 +12,7 @@ ghost use Rattle.lin_log.specs.Shown.{word_shown};
 use lin_frame::{Place, SumKind};
 use lin_log::{Word, put_head, put_line, put_spaced, value_word};
 use lin_parts::Cluster;
-use lin_text::{TextWriter, WriteFailed};
+use lin_text::{TextBuffer, TextWriter, WriteFailed};
 use std::io::Write;
 
 fn model_word(model: SumKind) -> Word<'static>
@@ -188,7 +188,8 @@ pub fn write_frames<W: Write>(cluster: &Cluster, writer: &mut W) -> Result<(), W
     ensures { WritesText (W.contents writer.old) (W.contents writer.new) result
         (frames cluster.now) }
 {
-    let mut out = TextWriter::new(writer);
+    let mut buffer = TextBuffer::empty();
+    let mut out = TextWriter::new(writer, &mut buffer);
     put_frames(&mut out, cluster);
     out.finish()
 }

@@ -14,7 +14,7 @@ ghost use Rattle.lin_values.specs.Value.{decimal_of};
 
 use lin_log::{Word, put_head, put_line, put_spaced, value_word};
 use lin_parts::Cluster;
-use lin_text::{TextWriter, WriteFailed};
+use lin_text::{TextBuffer, TextWriter, WriteFailed};
 use lin_values::{
     Coded, Item, Meaning, PhysicalValue, PlacedItem, Range, put_decimal, put_meaning,
 };
@@ -219,7 +219,8 @@ pub fn write_signals<W: Write>(
     ensures { WritesText (W.contents writer.old) (W.contents writer.new) result
         (signal_list cluster.now coded.now) }
 {
-    let mut out = TextWriter::new(writer);
+    let mut buffer = TextBuffer::empty();
+    let mut out = TextWriter::new(writer, &mut buffer);
     put_signals(&mut out, cluster, coded);
     out.finish()
 }

@@ -12,7 +12,7 @@ ghost use Rattle.lin_export.specs.ListedSlots.{slack, slot_line, slots, table_li
 use lin_cluster::needed_us;
 use lin_log::{Word, put_head, put_line};
 use lin_parts::{Cluster, Entry};
-use lin_text::{TextWriter, WriteFailed};
+use lin_text::{TextBuffer, TextWriter, WriteFailed};
 use std::io::Write;
 
 fn greatest_bytes(cluster: &Cluster, frames: &[u16]) -> u8
@@ -199,7 +199,8 @@ pub fn write_slots<W: Write>(cluster: &Cluster, writer: &mut W) -> Result<(), Wr
     ensures { WritesText (W.contents writer.old) (W.contents writer.new) result
         (slots cluster.now) }
 {
-    let mut out = TextWriter::new(writer);
+    let mut buffer = TextBuffer::empty();
+    let mut out = TextWriter::new(writer, &mut buffer);
     put_slots(&mut out, cluster);
     out.finish()
 }

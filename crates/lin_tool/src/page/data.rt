@@ -12,7 +12,7 @@ use crate::page::pieces::HEAD;
 use lin_bench::{Judgement, is_unmet, put_unmet};
 use lin_log::{put_number, put_value};
 use lin_parts::Cluster;
-use lin_text::{TextWriter, WriteFailed};
+use lin_text::{TextBuffer, TextWriter, WriteFailed};
 use lin_values::Coded;
 use std::io::Write;
 
@@ -28,7 +28,8 @@ pub(crate) fn write_head<W: Write>(
     ensures { WritesText (W.contents writer.old) (W.contents writer.new) result
         (page_head cluster.now file.now) }
 {
-    let mut out = TextWriter::new(writer);
+    let mut buffer = TextBuffer::empty();
+    let mut out = TextWriter::new(writer, &mut buffer);
     out.put_text(HEAD);
     out.put_text("page 1\nfile ");
     put_field(&mut out, file);
@@ -72,7 +73,8 @@ pub(crate) fn write_log_head<W: Write>(
     ensures { WritesText (W.contents writer.old) (W.contents writer.new) result (log_head cluster.now
         (told coded.entry)) }
 {
-    let mut out = TextWriter::new(writer);
+    let mut buffer = TextBuffer::empty();
+    let mut out = TextWriter::new(writer, &mut buffer);
     put_all_alone(&mut out, cluster);
     put_coded(&mut out, cluster, coded);
     out.put_text("log\n");

@@ -6,7 +6,7 @@ ghost use Rattle.std.specs.Option.{option_map_or};
 ghost use Rattle.lin_text.specs.Written.{Grows, WritesText};
 
 use lin_live::{Answering, Fault};
-use lin_text::{TextWriter, WriteFailed};
+use lin_text::{TextBuffer, TextWriter, WriteFailed};
 use std::alloc::Global;
 use std::io::Write;
 
@@ -25,12 +25,16 @@ fn put_length<W: Write>(out: &mut TextWriter<'_, W>, line: Option<&[u8]>)
     }
 }
 
-fn write_length<W: Write>(writer: &mut W, line: Option<&[u8]>) -> Result<(), WriteFailed>
+fn write_length<W: Write>(
+    writer: &mut W,
+    buffer: &mut TextBuffer,
+    line: Option<&[u8]>,
+) -> Result<(), WriteFailed>
     ensures { WritesText (W.contents writer.old) (W.contents writer.new) result
         (option_map_or (λ l. take (min (length l) 4) l ++ decimal (length l)) (option_map (λ l. l.now) line.entry)
         (codes "long") ++ 10 ∷ []) }
 {
-    let mut out = TextWriter::new(writer);
+    let mut out = TextWriter::new(writer, buffer);
     put_length(&mut out, line);
     out.put_byte(b'\n');
     out.finish()
@@ -60,12 +64,13 @@ impl Answering for Lengths {
         _alloc: Global,
         line: Option<&[u8]>,
         writer: &mut W,
+        buffer: &mut TextBuffer,
     ) -> Result<(), Fault> {
         if self.places == 0 {
             return Err(Fault::LogFull);
         }
         self.places -= 1;
-        match write_length(writer, line) {
+        match write_length(writer, buffer, line) {
             Ok(()) => Ok(()),
             Err(_) => Err(Fault::WriteFailed),
         }
