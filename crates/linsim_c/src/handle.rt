@@ -5,10 +5,10 @@ ghost use Rattle.std.specs.declared.option.Option.TheVariants.{None, Some};
 ghost use Rattle.std.specs.Option.{MatchOption};
 ghost use Rattle.std.specs.Coded.{coded_option};
 ghost use Rattle.lin_core.specs.Core.{CoreData};
-ghost use Rattle.lin_core.specs.contracts.Core.{the_row};
+ghost use Rattle.linsim_c.specs.contracts.kept.Kept.{the_row};
 
+use crate::kept::Kept;
 use crate::loose::Loose;
-use lin_core::Core;
 use std::alloc::Global;
 use std::marker::Model;
 use std::mem;
@@ -34,7 +34,7 @@ impl Handle {
         Handle { at: null_mut() }
     }
 
-    fn of(core: Loose<Core, Global>) -> Handle
+    fn of(core: Loose<Kept, Global>) -> Handle
         ensures { result.value ≡ Some core.value }
     {
         let Loose { at, alloc: _ } = core;
@@ -43,7 +43,7 @@ impl Handle {
         }
     }
 
-    fn into_loose(self, alloc: Global) -> Option<Loose<Core, Global>>
+    fn into_loose(self, alloc: Global) -> Option<Loose<Kept, Global>>
         ensures { MatchOption result (self.value ≡ None) (λ l. self.value ≡ Some l.value) }
     {
         let Handle { at } = self;
@@ -51,14 +51,14 @@ impl Handle {
             None
         } else {
             Some(Loose {
-                at: at.cast::<Core>(),
+                at: at.cast::<Kept>(),
                 alloc,
             })
         }
     }
 
     /// Takes the core out.
-    pub fn take(&mut self, alloc: Global) -> Option<Box<Core>>
+    pub fn take(&mut self, alloc: Global) -> Option<Box<Kept>>
         ensures old { MatchOption result (self.old.value ≡ None)
             (λ b. self.old.value ≡ Some b.value) }
         ensures new { self.new.value ≡ None }
@@ -70,7 +70,7 @@ impl Handle {
     }
 
     /// Puts a core in, and frees the one that was there.
-    pub fn put(&mut self, alloc: Global, core: Box<Core>)
+    pub fn put(&mut self, alloc: Global, core: Box<Kept>)
         ensures { self.new.value ≡ Some core.value }
     {
         match mem::replace(self, Handle::of(Loose::of(core))).into_loose(alloc) {

@@ -11,6 +11,7 @@ ghost use Rattle.linsim_c.specs.Statuses.{IsCall};
 
 mod fault;
 mod handle;
+mod kept;
 mod line;
 mod loose;
 mod opening;

@@ -1,9 +1,13 @@
 //! One line of a script, made on the core behind a handle.
 
+ghost use Rattle.std.specs.Prelude.{◌≡◌, ◌-◌, drop, length};
+ghost use Rattle.lin_log.specs.Words.{text};
 ghost use Rattle.linsim_c.specs.Lines.{Makes, MakesOn, StepsBy, TellsNewest};
+ghost use Rattle.linsim_c.specs.Writing.{Writes};
 
 use crate::fault::Fault;
 use crate::handle::Handle;
+use crate::kept::Kept;
 use crate::telling::put_log;
 use lin_core::{Core, Hold};
 use lin_log::{LineFault, Numbers, line_step, without_return};
@@ -32,12 +36,13 @@ fn step_by(alloc: Global, core: &mut Core, line: &[u8]) -> Result<(), Fault>
 ///
 /// # Errors
 /// Those of `step_by`; `NoRoom` and `Untold` after the step. Nothing is written.
-fn make_on(alloc: Global, core: &mut Core, line: &[u8], out: &mut [u8]) -> Result<usize, Fault>
-    ensures { MakesOn result line.now core.old core.new out.old out.new }
+fn make_on(alloc: Global, kept: &mut Kept, line: &[u8], out: &mut [u8]) -> Result<usize, Fault>
+    ensures { MakesOn result line.now kept.old kept.new out.old out.new }
 {
+    let Kept { core, buffer } = kept;
     let from = core.log().len();
     step_by(alloc, core, line)?;
-    match put_log(alloc, core.log(), from, out) {
+    match put_log(alloc, core.log(), from, buffer, out) {
         Err(Fault::OutOfMemory) => Err(Fault::Untold),
         written => written,
     }
@@ -55,12 +60,25 @@ pub(crate) fn make(
 ) -> Result<usize, Fault>
     ensures { Makes handle.old.value handle.new.value result line.now out.old out.new }
 {
-    let Some(mut core) = handle.take(alloc) else {
+    let Some(mut kept) = handle.take(alloc) else {
         return Err(Fault::IsClosed);
     };
-    let made = make_on(alloc, &mut core, line, out);
-    handle.put(alloc, core);
+    let made = make_on(alloc, &mut kept, line, out);
+    handle.put(alloc, kept);
     made
+}
+
+/// Writes the newest entry.
+///
+/// # Errors
+/// `NoRoom` and `OutOfMemory`. Nothing is written.
+fn put_newest(alloc: Global, kept: &mut Kept, out: &mut [u8]) -> Result<usize, Fault>
+    ensures log { kept.new ≡ kept.old }
+    ensures text { Writes result (text (drop (length kept.old.log - 1) kept.old.log)) out.old out.new }
+{
+    let Kept { core, buffer } = kept;
+    let log = core.log();
+    put_log(alloc, log, log.len().saturating_sub(1), buffer, out)
 }
 
 /// Writes the newest entry of the core behind a handle.
@@ -74,11 +92,10 @@ pub(crate) fn tell_newest(
 ) -> Result<usize, Fault>
     ensures { TellsNewest handle.old.value handle.new.value result out.old out.new }
 {
-    let Some(core) = handle.take(alloc) else {
+    let Some(mut kept) = handle.take(alloc) else {
         return Err(Fault::IsClosed);
     };
-    let log = core.log();
-    let told = put_log(alloc, log, log.len().saturating_sub(1), out);
-    handle.put(alloc, core);
+    let told = put_newest(alloc, &mut kept, out);
+    handle.put(alloc, kept);
     told
 }

@@ -4,6 +4,7 @@ ghost use Rattle.linsim_c.specs.Opening.{Opens, OpensCore};
 
 use crate::fault::Fault;
 use crate::handle::Handle;
+use crate::kept::Kept;
 use crate::settings::{Settings, set_up};
 use lin_core::Core;
 use std::alloc::Global;
@@ -12,15 +13,15 @@ use std::alloc::Global;
 ///
 /// # Errors
 /// Those of `set_up`.
-fn new_core(alloc: Global, ldf: &[u8], settings: &Settings) -> Result<Box<Core>, Fault>
+fn new_core(alloc: Global, ldf: &[u8], settings: &Settings) -> Result<Box<Kept>, Fault>
     ensures { OpensCore (λ core. core.value) result ldf.now settings.now }
 {
     let cluster = set_up(alloc, ldf, settings)?;
     let Ok(core) = Core::new(alloc, cluster, settings.table, settings.capacity) else {
         return Err(Fault::OutOfMemory);
     };
-    match Box::new(alloc, core) {
-        Ok(core) => Ok(core),
+    match Box::new(alloc, Kept::new(core)) {
+        Ok(kept) => Ok(kept),
         Err(_) => Err(Fault::OutOfMemory),
     }
 }

@@ -7,6 +7,7 @@ use crate::settings::{Settings, set_up};
 use crate::telling::put_log;
 use lin_core::Core;
 use lin_log::{ScriptFault, run_script};
+use lin_text::TextBuffer;
 use std::alloc::Global;
 
 /// The most bytes that a script may have.
@@ -45,5 +46,5 @@ pub(crate) fn replay(
     ensures { Replays result ldf.now settings.now script.now out.old out.new }
 {
     let core = run(alloc, ldf, settings, script)?;
-    put_log(alloc, core.log(), 0, out)
+    put_log(alloc, core.log(), 0, &mut TextBuffer::empty(), out)
 }

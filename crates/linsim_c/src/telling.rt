@@ -30,12 +30,17 @@ fn put(bytes: &[u8], out: &mut [u8]) -> Result<usize, Fault>
 ///
 /// # Errors
 /// `NoRoom` and `OutOfMemory`; nothing was written.
-pub(crate) fn put_log(alloc: Global, log: &Log, from: usize, out: &mut [u8]) -> Result<usize, Fault>
+pub(crate) fn put_log(
+    alloc: Global,
+    log: &Log,
+    from: usize,
+    buffer: &mut TextBuffer,
+    out: &mut [u8],
+) -> Result<usize, Fault>
     ensures { Writes result (text (drop from log.now.entries)) out.old out.new }
 {
     let mut bytes = Vec::new(alloc);
-    let mut buffer = TextBuffer::empty();
-    let mut lines = TextWriter::new(&mut bytes, &mut buffer);
+    let mut lines = TextWriter::new(&mut bytes, buffer);
     put_entries(&mut lines, log, from);
     if lines.finish().is_err() {
         return Err(Fault::OutOfMemory);
