@@ -3,6 +3,7 @@ pub mod ByteTable
 pub mod Lines
 pub mod Closes
 pub mod Stream
+pub mod Skimming
 pub mod Runs
 pub mod TokenForms
 pub mod Numbers

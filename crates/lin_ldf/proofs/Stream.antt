@@ -13,29 +13,43 @@ use Rattle.lin_ldf.specs.declared.lexer.Lexer.{Lexer}
 use Rattle.lin_ldf.specs.declared.lexer.Scanned.TheVariants as pieces
 use Rattle.lin_parts.specs.declared.place.Place.{Place}
 
--- bytes that are passed over only move the offset and the place
-passed : (n at : ℕ) (p : Place) (text : List ℕ) → ahead_at n at p text ≡ ahead_at 0 (at + length (take n text)) (place_behind p (take n text)) (drop n text)
+-- bytes that are passed over only move the offset and the place, all of them or the first alone
+pub passed : (k n m at : ℕ) (p : Place) (text : List ℕ) → m ≡ k + n → ahead_at m at p text ≡ ahead_at n (at + length (take k text)) (place_behind p (take k text)) (drop k text)
 unfolding ahead_at
-passed zero at p text = let same : at ≡ at + 0 = omega arith in ap (λ (k : ℕ). ahead_at 0 k p text) same
-passed (suc n) at p [] = refl
-passed (suc n) at p (c ∷ cs) =
-    let same : at + 1 + length (take n cs) ≡ at + suc (length (take n cs)) = omega arith in
-    passed n (at + 1) (step p c) cs ∙ ap (λ (k : ℕ). ahead_at 0 k (place_behind (step p c) (take n cs)) (drop n cs)) same
+passed zero n m at p text e =
+    let same : at ≡ at + 0 = omega arith in
+    ap (λ (j : ℕ). ahead_at j at p text) (omega (arith, e)) ∙ ap (λ (j : ℕ). ahead_at n j p text) same
+passed (suc k) n m at p [] e = refl
+passed (suc k) n zero at p (c ∷ cs) e = absurd (omega (arith, e))
+passed (suc k) n (suc m) at p (c ∷ cs) e =
+    let same : at + 1 + length (take k cs) ≡ at + suc (length (take k cs)) = omega arith in
+    passed k n m (at + 1) (step p c) cs (omega (arith, e)) ∙ ap (λ (j : ℕ). ahead_at n j (place_behind (step p c) (take k cs)) (drop k cs)) same
+
+passed_all : (n at : ℕ) (p : Place) (text : List ℕ) → ahead_at n at p text ≡ ahead_at 0 (at + length (take n text)) (place_behind p (take n text)) (drop n text)
+passed_all n at p text = passed n 0 n at p text (omega arith)
+
+pub gap_here : (at : ℕ) (p : Place) (c : ℕ) (cs : List ℕ) (n : ℕ) → 0 < n → piece_at c cs ≡ pieces.Gap n → ahead_at 0 at p (c ∷ cs) ≡ ahead_at n at p (c ∷ cs)
+unfolding ahead_at
+gap_here at p c cs zero lt h = absurd (omega arith)
+gap_here at p c cs (suc n) lt h =
+    let same : suc n - 1 ≡ n = omega arith in
+    rw (h, ahead_at, same) refl
+
+pub token_here : (k : TokenKind) (at : ℕ) (p : Place) (c : ℕ) (cs : List ℕ) (n : ℕ) → 0 < n → piece_at c cs ≡ pieces.Token k n
+    → ahead_at 0 at p (c ∷ cs) ≡ more (token_from k at (length (take n (c ∷ cs))) p) (ahead_at n at p (c ∷ cs))
+unfolding ahead_at
+token_here k at p c cs zero lt h = absurd (omega arith)
+token_here k at p c cs (suc n) lt h =
+    let same : suc n - 1 ≡ n = omega arith in
+    rw (h, ahead_at, same) refl
 
 pub gap_at : (at : ℕ) (p : Place) (c : ℕ) (cs : List ℕ) (n : ℕ) → 0 < n → piece_at c cs ≡ pieces.Gap n → ahead_at 0 at p (c ∷ cs) ≡ ahead_at 0 (at + length (take n (c ∷ cs))) (place_behind p (take n (c ∷ cs))) (drop n (c ∷ cs))
-unfolding ahead_at
-gap_at at p c cs zero lt h = absurd (omega arith)
-gap_at at p c cs (suc n) lt h =
-    let same : suc n - 1 ≡ n = omega arith in
-    rw (h, ahead_at, same) (passed (suc n) at p (c ∷ cs))
+gap_at at p c cs n lt h = gap_here at p c cs n lt h ∙ passed_all n at p (c ∷ cs)
 
 pub token_at : (k : TokenKind) (at : ℕ) (p : Place) (c : ℕ) (cs : List ℕ) (n : ℕ) → 0 < n → piece_at c cs ≡ pieces.Token k n
     → ahead_at 0 at p (c ∷ cs) ≡ more (token_from k at (length (take n (c ∷ cs))) p) (ahead_at 0 (at + length (take n (c ∷ cs))) (place_behind p (take n (c ∷ cs))) (drop n (c ∷ cs)))
-unfolding ahead_at
-token_at k at p c cs zero lt h = absurd (omega arith)
-token_at k at p c cs (suc n) lt h =
-    let same : suc n - 1 ≡ n = omega arith in
-    rw (h, ahead_at, same) (ap (λ (r : Ahead). more (token_from k at (length (take (suc n) (c ∷ cs))) p) r) (passed (suc n) at p (c ∷ cs)))
+token_at k at p c cs n lt h =
+    token_here k at p c cs n lt h ∙ ap (λ (r : Ahead). more (token_from k at (length (take n (c ∷ cs))) p) r) (passed_all n at p (c ∷ cs))
 
 pub bad_byte_at : (at : ℕ) (p : Place) (c : ℕ) (cs : List ℕ) → piece_at c cs ≡ pieces.BadByte → ahead_at 0 at p (c ∷ cs) ≡ stop_with (faults.BadByte p) p
 unfolding ahead_at
@@ -62,23 +76,29 @@ at_end source at p le = none (drop at source) (omega (arith, length-drop at sour
     none [] e = nothing_ahead 0 at p
     none (c ∷ cs) e = absurd (omega arith)
 
+pub passed_in : (source : List ℕ) (at n : ℕ) (p : Place) → n ≤ length (drop at source)
+    → ahead_at n at p (drop at source) ≡ ahead_at 0 (at + n) (place_behind p (take n (drop at source))) (drop (at + n) source)
+passed_in source at n p le =
+    let len : length (take n (drop at source)) ≡ n = omega (arith, length-take n (drop at source)) in
+    passed_all n at p (drop at source)
+    ∙ ap (λ (k : ℕ). ahead_at 0 (at + k) (place_behind p (take n (drop at source))) (drop n (drop at source))) len
+    ∙ ap (ahead_at 0 (at + n) (place_behind p (take n (drop at source)))) (drop-drop n at source)
+
 pub behind_gap : (source rest : List ℕ) (at n : ℕ) (p : Place) → at < length source → rest ≡ drop at source → 0 < n → n ≤ length rest → front_piece rest ≡ pieces.Gap n
     → ahead_at 0 at p (drop at source) ≡ ahead_at 0 (at + n) (place_behind p (take n (drop at source))) (drop (at + n) source)
 behind_gap source [] at n p lt e some within h = absurd (omega arith)
 behind_gap source (c ∷ cs) at n p lt e some within h =
-    let len : length (take n (c ∷ cs)) ≡ n = omega (arith, length-take n (c ∷ cs)) in
-    subst (λ (r : List ℕ). ahead_at 0 at p r ≡ ahead_at 0 (at + n) (place_behind p (take n r)) (drop (at + n) source)) e
-    (gap_at at p c cs n some h ∙ ap (λ (k : ℕ). ahead_at 0 (at + k) (place_behind p (take n (c ∷ cs))) (drop n (c ∷ cs))) len
-    ∙ ap (λ (r : List ℕ). ahead_at 0 (at + n) (place_behind p (take n (c ∷ cs))) r) (ap (drop n) e ∙ drop-drop n at source))
+    subst (λ (r : List ℕ). ahead_at 0 at p r ≡ ahead_at n at p r) e (gap_here at p c cs n some h)
+    ∙ passed_in source at n p (subst (λ (r : List ℕ). n ≤ length r) e within)
 
 pub behind_token : (source rest : List ℕ) (at n : ℕ) (k : TokenKind) (p : Place) → at < length source → rest ≡ drop at source → 0 < n → n ≤ length rest → front_piece rest ≡ pieces.Token k n
     → ahead_at 0 at p (drop at source) ≡ more (token_from k at n p) (ahead_at 0 (at + n) (place_behind p (take n (drop at source))) (drop (at + n) source))
 behind_token source [] at n k p lt e some within h = absurd (omega arith)
 behind_token source (c ∷ cs) at n k p lt e some within h =
     let len : length (take n (c ∷ cs)) ≡ n = omega (arith, length-take n (c ∷ cs)) in
-    subst (λ (r : List ℕ). ahead_at 0 at p r ≡ more (token_from k at n p) (ahead_at 0 (at + n) (place_behind p (take n r)) (drop (at + n) source))) e
-    (token_at k at p c cs n some h ∙ ap (λ (m : ℕ). more (token_from k at m p) (ahead_at 0 (at + m) (place_behind p (take n (c ∷ cs))) (drop n (c ∷ cs)))) len
-    ∙ ap (λ (r : List ℕ). more (token_from k at n p) (ahead_at 0 (at + n) (place_behind p (take n (c ∷ cs))) r)) (ap (drop n) e ∙ drop-drop n at source))
+    subst (λ (r : List ℕ). ahead_at 0 at p r ≡ more (token_from k at n p) (ahead_at n at p r)) e
+    (token_here k at p c cs n some h ∙ ap (λ (m : ℕ). more (token_from k at m p) (ahead_at n at p (c ∷ cs))) len)
+    ∙ ap (more (token_from k at n p)) (passed_in source at n p (subst (λ (r : List ℕ). n ≤ length r) e within))
 
 pub at_bad_byte : (source rest : List ℕ) (at : ℕ) (p : Place) → rest ≡ drop at source → front_piece rest ≡ pieces.BadByte → ahead_at 0 at p (drop at source) ≡ stop_with (faults.BadByte p) p
 at_bad_byte source [] at p e h = absurd cc

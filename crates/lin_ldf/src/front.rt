@@ -4,10 +4,12 @@ ghost use Rattle.std.specs.Prelude.{◌≡◌, ◌≤◌, ◌∷◌, IfOk, true,
 ghost use Rattle.lin_ldf.specs.Symbols.{symbols_in};
 ghost use Rattle.lin_ldf.specs.Stream.{IsReady, start_of, still, symbols_of};
 ghost use Rattle.lin_ldf.specs.Forms.{has_front, front, tail};
+ghost use Rattle.lin_ldf.specs.Skimming.{Over};
 ghost use Rattle.lin_ldf.specs.UpTo.{front_kind};
 ghost use Rattle.lin_ldf.specs.Words.{place_of};
 
 use crate::lexer::Lexer;
+use crate::skim::skimmed;
 use crate::token::{Token, TokenKind};
 use lin_parts::Place;
 use lin_text::Text;
@@ -140,6 +142,21 @@ impl<'a> Front<'a> {
                 }
             }
         }
+    }
+
+    /// The next token is passed over, and then those that are read over on the way to an `end`
+    /// outside of all braces; how many braces are open then, where `depth` are open behind the first.
+    pub fn skim(&mut self, end: TokenKind, depth: usize) -> usize
+        requires ready { IsReady self.old.lexer }
+        requires front { has_front (symbols_of self.old) ≡ true }
+        ensures ready { IsReady self.new.lexer }
+        ensures over { Over end depth result (tail (symbols_of self.old)) (symbols_of self.new) }
+    {
+        let (_, text) = self.lexer.source.split_at(self.lexer.offset);
+        let (size, depth) = skimmed(end, depth, text);
+        self.lexer.pass(size);
+        self.advance();
+        depth
     }
 
     /// The same as a call.

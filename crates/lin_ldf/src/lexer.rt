@@ -25,7 +25,7 @@ use std::alloc::Global;
 /// What begins at a byte: a piece, with the number of its bytes (a gap is a separator or a
 /// comment), or a fault.
 #[derive(Clone, Copy)]
-enum Scanned {
+pub enum Scanned {
     Gap(usize),
     Token(TokenKind, usize),
     BadByte,
@@ -270,7 +270,7 @@ fn piece_at(first: u8, rest: &[u8]) -> Scanned
 
 /// The piece at the front of a text that isn't empty.
 #[inline(always)]
-fn front_piece(text: &[u8]) -> Scanned
+pub fn front_piece(text: &[u8]) -> Scanned
     requires { 0 < length text.now }
     ensures value { result ≡ front_piece text.now }
     ensures within { IsWithin result (length text.now) }
@@ -393,7 +393,7 @@ impl<'a> Lexer<'a> {
 
     /// A piece of so many bytes is passed over.
     #[inline(always)]
-    fn pass(&mut self, size: usize)
+    pub fn pass(&mut self, size: usize)
         requires ready { IsReady self.old }
         requires within { self.old.offset + size ≤ length self.old.source.now }
         ensures ready { IsReady self.new }

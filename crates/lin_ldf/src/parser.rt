@@ -204,7 +204,6 @@ impl<'a> Parser<'a> {
 
     /// The next token as a name. It is passed over.
     #[inline(always)]
-    #[inline(always)]
     fn name(&mut self) -> Result<Name, LdfFault>
         requires { has_front self.old ≡ true }
         ensures { Gives result self.new (Some (name_of (front self.old), tail self.old)) }
@@ -215,7 +214,6 @@ impl<'a> Parser<'a> {
         Ok(Name { text, line, column })
     }
 
-    #[inline(always)]
     #[inline(always)]
     pub fn word(&mut self) -> Result<Name, LdfFault>
         ensures { Gives result self.new (word.read self.old) }
