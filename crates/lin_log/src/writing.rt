@@ -39,10 +39,12 @@ pub(crate) fn put_called<W: Write>(out: &mut TextWriter<'_, W>, name: Option<&[u
     ensures { Grows W.contents out.old out.new
         (spaced_word (option_map_or (λ w. w.now) name.entry (decimal number))) }
 {
-    out.put_byte(b' ');
     match name {
-        Some(name) => out.put(name),
-        None => out.put_unsigned(number),
+        Some(name) => {
+            out.put_byte(b' ');
+            out.put(name);
+        }
+        None => out.put_numbered(b' ', number),
     }
 }
 
@@ -79,13 +81,13 @@ fn put_lettered<N: Naming, W: Write>(out: &mut TextWriter<'_, W>, names: &N, let
     ensures { Grows W.contents out.old out.new
         (letter ∷ port_number_word (N.language names.now) node) }
 {
-    out.put_byte(letter);
     match names.name_of_node(node) {
         Some(name) => {
+            out.put_byte(letter);
             out.put_byte(b':');
             out.put(name);
         }
-        None => out.put_unsigned(u64::from(node)),
+        None => out.put_numbered(letter, u64::from(node)),
     }
 }
 

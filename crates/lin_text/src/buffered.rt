@@ -165,14 +165,16 @@ impl<'a, W: Write> TextWriter<'a, W> {
         self.put_few(digits.format(number).as_bytes());
     }
 
-    /// Puts a number in decimal digits. (Most have one digit, which is put at once.)
+    /// Puts a byte, and a number in decimal digits. (Most have one digit, which is put with it at
+    /// once.)
     #[inline(always)]
-    pub fn put_unsigned(&mut self, number: u64)
-        ensures { Grows W.contents self.old self.new (decimal number) }
+    pub fn put_numbered(&mut self, first: u8, number: u64)
+        ensures { Grows W.contents self.old self.new (first ∷ decimal number) }
     {
         if number < 10 {
-            self.put_byte(b'0' + number as u8);
+            self.put_array([first, b'0' + number as u8]);
         } else {
+            self.put_byte(first);
             self.put_number(number);
         }
     }

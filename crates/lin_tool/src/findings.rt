@@ -23,9 +23,8 @@ pub struct Remarks(pub Many<Remark>);
 pub(crate) fn put_place<W: Write>(out: &mut TextWriter<'_, W>, line: u64, column: u64)
     ensures { Grows W.contents out.old out.new (place_word line column) }
 {
-    out.put_unsigned(line);
-    out.put_byte(b':');
-    out.put_unsigned(column);
+    out.put_number(line);
+    out.put_numbered(b':', column);
 }
 
 /// Of a slot that is too short (9) the time in microseconds that it needs, and the line's end.
@@ -49,8 +48,7 @@ fn put_told<W: Write>(out: &mut TextWriter<'_, W>, finding: &Finding, word: &str
     put_place(out, finding.line, finding.column);
     out.put_byte(b' ');
     out.put_text(word);
-    out.put_byte(b' ');
-    out.put_unsigned(u64::from(finding.number));
+    out.put_numbered(b' ', u64::from(finding.number));
     out.put_byte(b' ');
     out.put(finding.name().as_bytes());
     put_needed(out, finding);

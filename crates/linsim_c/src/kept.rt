@@ -6,8 +6,8 @@ use lin_core::Core;
 use lin_text::TextBuffer;
 use std::marker::Model;
 
-/// A core, and the buffer that the texts of its entries wait in, so that none is made for each. Contracts see
-/// the core.
+/// A core, and the buffer that the texts of its entries wait in, so that none is made for each.
+/// Contracts see the core.
 #[derive(Drop)]
 pub struct Kept {
     pub(crate) core: Core,

@@ -5,4 +5,4 @@ pub returns-in-Some : goal.returns-in-Some
 returns-in-Some g c = rw c.in-Some.is (grows-more c.put_byte.ensures c.put.ensures)
 
 pub returns-in-None : goal.returns-in-None
-returns-in-None g c = rw c.in-None.is (grows-more c.put_byte.ensures c.put_unsigned.ensures)
+returns-in-None g c = rw c.in-None.is c.put_numbered.ensures

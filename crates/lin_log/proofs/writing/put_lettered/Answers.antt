@@ -11,4 +11,4 @@ returns-in-Some g c =
 pub returns-in-None : goal.returns-in-None
 returns-in-None g c =
     same-growth (ap (λ (w : List ℕ). c.args.letter ∷ w) (rw c.in-None.is at (port-called (g.N.Naming.language c.args.names.now) c.args.node c.name_of_node.result c.name_of_node.ensures)))
-    (grows-more c.put_byte.ensures (rw c.from.ensures at c.put_unsigned.ensures))
+    (rw c.from.ensures at c.put_numbered.ensures)

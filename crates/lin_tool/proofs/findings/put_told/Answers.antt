@@ -4,5 +4,5 @@ use Rattle.lin_tool.proofs.findings.put_told.Goals as goal
 pub returns : goal.returns
 returns g c =
     rw (c.from.ensures, c.as_bytes.ensures.value, c.name.ensures) at
-    (grows-more c.put_place.ensures (grows-more c.put_byte.ensures (grows-more c.put_text.ensures (grows-more c.put_byte-2.ensures
-    (grows-more c.put_unsigned.ensures (grows-more c.put_byte-3.ensures (grows-more c.put.ensures c.put_needed.ensures)))))))
+    (grows-more c.put_place.ensures (grows-more c.put_byte.ensures (grows-more c.put_text.ensures
+    (grows-more c.put_numbered.ensures (grows-more c.put_byte-2.ensures (grows-more c.put.ensures c.put_needed.ensures))))))
