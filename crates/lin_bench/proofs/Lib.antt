@@ -1,3 +1,4 @@
+pub mod LineWords
 pub mod WordedValues
 pub mod Unwished
 pub mod WordedLines

@@ -8,7 +8,7 @@ use Rattle.std.proofs.lemmas.Int.{ints, to_z-of_z}
 use Rattle.lin_values.specs.Coded.{CodedData}
 use Rattle.lin_values.specs.Raws.{values_of}
 use Rattle.lin_bench.specs.Fields.{◌>>=◌, words}
-use Rattle.lin_bench.specs.Texts.{fields_text}
+use Rattle.lin_bench.specs.LineWords.{fields_text}
 use Rattle.lin_bench.specs.Words.{around, between, decimal_field, decimal_fields, expected_values}
 use Rattle.lin_bench.specs.declared.reason.Reason.{Reason}
 

@@ -25,5 +25,6 @@ pub mod Bench
 pub mod Strict
 pub mod Played
 pub mod Plays
+pub mod LineWords
 pub mod Texts
 pub mod Plain

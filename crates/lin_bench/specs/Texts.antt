@@ -5,11 +5,15 @@ use Rattle.std.specs.Fmt.{decimal}
 use Rattle.std.specs.Option.{option_map_or}
 use Rattle.lin_parts.specs.declared.parts.Parts.{Parts}
 use Rattle.lin_core.specs.Tables.{cause_word, look_word, refusal_word}
-use Rattle.lin_log.specs.Language.{named, word_of}
+use Rattle.lin_log.specs.Language.{named, nameless, plain, word_of}
 use Rattle.lin_log.specs.Words.{hex_word, spaced_word, value_word}
 use Rattle.lin_log.specs.declared.reason.Reason.{Reason as StepReason}
 use Rattle.lin_log.specs.declared.reason.Reason.TheVariants as step
 use Rattle.lin_bench.specs.Fields.{frames_called}
+use Rattle.lin_bench.specs.LineWords.{Word, words_text}
+use Rattle.lin_bench.specs.LineWords.Word.{Node, Signal, Table, Frame, Number, Range}
+use Rattle.lin_bench.specs.LineWords.Word.{Hex, Raw, Fixed, Said, Fields}
+use Rattle.lin_bench.specs.LineWords.Word.{Listed, Mark}
 use Rattle.lin_bench.specs.declared.expected.Carried.{Carried}
 use Rattle.lin_bench.specs.declared.expected.Carried.TheVariants.{Signals, Request, Response}
 use Rattle.lin_bench.specs.declared.reason.Reason.{Reason}
@@ -25,174 +29,175 @@ use Rattle.lin_bench.specs.declared.got.Judged.TheVariants as judged
 use Rattle.lin_bench.specs.declared.got.Judgement.{Judgement}
 use Rattle.lin_bench.specs.Played.{is_unmet}
 
--- fields with one space between two
-abbrev pub fields_text : List (List ℕ) → List ℕ
-fields_text [] = []
-fields_text (f ∷ fs) = f ++ flat_map spaced_word fs
-
 abbrev pub fields_word : ℕ → List ℕ
-fields_word count = if count == 1 then codes " field" else codes " fields"
+fields_word count = if count == 1 then codes "field" else codes "fields"
 
 -- why a line of a step is bad
-abbrev pub step_reason_text : StepReason → List ℕ
-step_reason_text step.NoPort = codes "no port"
-step_reason_text step.NoStep = codes "no step"
-step_reason_text (step.UnknownStep word) = codes "no step " ++ word
-step_reason_text (step.NoNode name) = codes "no node " ++ name
-step_reason_text (step.NoSignal name) = codes "no signal " ++ name
-step_reason_text (step.NoTable name) = codes "no table " ++ name
-step_reason_text (step.NoNumber field most) =
-    field ++ (codes " is no number up to " ++ decimal most)
-step_reason_text step.NoBytes = codes "no bytes"
-step_reason_text (step.NotBytes fields) = fields_text fields ++ codes " is no bytes"
-step_reason_text (step.TooManyBytes field) = field ++ codes " has more than 8 bytes"
-step_reason_text (step.Takes word fields) =
-    word ++ (codes " takes " ++ (decimal fields ++ fields_word fields))
-step_reason_text step.SendForm = codes "send takes two nodes and bytes"
-step_reason_text step.WriteForm = codes "write takes a signal and a value"
-step_reason_text step.TimeoutForm = codes "timeout takes down or up"
+abbrev pub step_reason_words : StepReason → List Word
+step_reason_words step.NoPort = Fixed (codes "no port") ∷ []
+step_reason_words step.NoStep = Fixed (codes "no step") ∷ []
+step_reason_words (step.UnknownStep word) = Fixed (codes "no step") ∷ Said word ∷ []
+step_reason_words (step.NoNode name) = Fixed (codes "no node") ∷ Said name ∷ []
+step_reason_words (step.NoSignal name) = Fixed (codes "no signal") ∷ Said name ∷ []
+step_reason_words (step.NoTable name) = Fixed (codes "no table") ∷ Said name ∷ []
+step_reason_words (step.NoNumber field most) =
+    Said field ∷ Fixed (codes "is no number up to") ∷ Number most ∷ []
+step_reason_words step.NoBytes = Fixed (codes "no bytes") ∷ []
+step_reason_words (step.NotBytes fields) = Fields fields ∷ Fixed (codes "is no bytes") ∷ []
+step_reason_words (step.TooManyBytes field) =
+    Said field ∷ Fixed (codes "has more than 8 bytes") ∷ []
+step_reason_words (step.Takes word fields) =
+    Said word ∷ Fixed (codes "takes") ∷ Number fields ∷ Fixed (fields_word fields) ∷ []
+step_reason_words step.SendForm = Fixed (codes "send takes two nodes and bytes") ∷ []
+step_reason_words step.WriteForm = Fixed (codes "write takes a signal and a value") ∷ []
+step_reason_words step.TimeoutForm = Fixed (codes "timeout takes down or up") ∷ []
 
--- decimals that are next to one that is no value
-abbrev pub near_text : List (List ℕ) → List ℕ
-near_text [] = []
-near_text (t ∷ ts) = codes " (nearest: " ++ t ++ (flat_map (λ u. codes ", " ++ u) ts ++ codes ")")
+-- no value means a text; decimals that are next to it, where there are such
+abbrev pub no_value_words : List ℕ → List ℕ → List (List ℕ) → List Word
+no_value_words text signal [] = Said text ∷ Fixed (codes "is no value of") ∷ Said signal ∷ []
+no_value_words text signal (t ∷ ts) =
+    Said text ∷ Fixed (codes "is no value of") ∷ Said signal ∷ Fixed (codes "(nearest:")
+    ∷ Listed (t ∷ ts) ∷ Mark (codes ")") ∷ []
 
 -- why a line is bad
+abbrev pub reason_words : Reason → List Word
+reason_words (reason.Step why) = step_reason_words why
+reason_words (reason.NoRefusal name) = Fixed (codes "no refusal") ∷ Said name ∷ []
+reason_words (reason.NoFrame name) = Fixed (codes "no frame") ∷ Said name ∷ []
+reason_words (reason.NoRange field) = Said field ∷ Fixed (codes "is no range") ∷ []
+reason_words reason.TooSmall = Fixed (codes "0 is too small") ∷ []
+reason_words reason.SlotsForm =
+    Fixed (codes "slots takes a number, a number and ms, or idle") ∷ []
+reason_words (reason.SlotForm word) =
+    Fixed (codes "slot takes hurt or leave, not") ∷ Said word ∷ []
+reason_words reason.LeaveForm = Fixed (codes "slot leave takes nodes") ∷ []
+reason_words reason.ExpectForm = Fixed (codes "expect takes what is expected") ∷ []
+reason_words (reason.UnknownExpectation fields) =
+    Fixed (codes "expect has no form") ∷ Fields fields ∷ []
+reason_words reason.UntilForm = Fixed (codes "until takes what is expected") ∷ []
+reason_words (reason.UnknownUntil fields) = Fixed (codes "until has no form") ∷ Fields fields ∷ []
+reason_words reason.WhenForm = Fixed (codes "when takes a node, a pattern and answers") ∷ []
+reason_words (reason.NoResponder field) =
+    Said field ∷ Fixed (codes "is no responder with an address") ∷ []
+reason_words (reason.NoPattern fields) = Fields fields ∷ Fixed (codes "is no pattern") ∷ []
+reason_words reason.TimeoutsForm = Fixed (codes "timeouts takes a time and ms, or off") ∷ []
+reason_words reason.EveryForm = Fixed (codes "every takes a time and a step, or off") ∷ []
+reason_words reason.EveryStep = Fixed (codes "every takes a send or a write") ∷ []
+reason_words reason.ErrorsForm = Fixed (codes "response_errors takes on or off") ∷ []
+reason_words reason.NoErrorSignal = Fixed (codes "no response_error signal") ∷ []
+reason_words (reason.NoDecimal field) = Said field ∷ Fixed (codes "is no number") ∷ []
+reason_words reason.NoWords = Fixed (codes "no value") ∷ []
+reason_words (reason.NoValue text signal near) = no_value_words text signal near
+reason_words (reason.SeveralValues count text signal) =
+    Number count ∷ Fixed (codes "values of") ∷ Said signal ∷ Fixed (codes "are") ∷ Said text ∷ []
+
 abbrev pub reason_text : Reason → List ℕ
-reason_text (reason.Step why) = step_reason_text why
-reason_text (reason.NoRefusal name) = codes "no refusal " ++ name
-reason_text (reason.NoFrame name) = codes "no frame " ++ name
-reason_text (reason.NoRange field) = field ++ codes " is no range"
-reason_text reason.TooSmall = codes "0 is too small"
-reason_text reason.SlotsForm = codes "slots takes a number, a number and ms, or idle"
-reason_text (reason.SlotForm word) = codes "slot takes hurt or leave, not " ++ word
-reason_text reason.LeaveForm = codes "slot leave takes nodes"
-reason_text reason.ExpectForm = codes "expect takes what is expected"
-reason_text (reason.UnknownExpectation fields) = codes "expect has no form " ++ fields_text fields
-reason_text reason.UntilForm = codes "until takes what is expected"
-reason_text (reason.UnknownUntil fields) = codes "until has no form " ++ fields_text fields
-reason_text reason.WhenForm = codes "when takes a node, a pattern and answers"
-reason_text (reason.NoResponder field) = field ++ codes " is no responder with an address"
-reason_text (reason.NoPattern fields) = fields_text fields ++ codes " is no pattern"
-reason_text reason.TimeoutsForm = codes "timeouts takes a time and ms, or off"
-reason_text reason.EveryForm = codes "every takes a time and a step, or off"
-reason_text reason.EveryStep = codes "every takes a send or a write"
-reason_text reason.ErrorsForm = codes "response_errors takes on or off"
-reason_text reason.NoErrorSignal = codes "no response_error signal"
-reason_text (reason.NoDecimal field) = field ++ codes " is no number"
-reason_text reason.NoWords = codes "no value"
-reason_text (reason.NoValue text signal near) =
-    text ++ (codes " is no value of " ++ signal ++ near_text near)
-reason_text (reason.SeveralValues count text signal) =
-    decimal count ++ (codes " values of " ++ signal ++ (codes " are " ++ text))
+reason_text why = words_text plain nameless (reason_words why)
 
 -- the line of a bad line
 abbrev pub bad_line_text : ℕ → Reason → List ℕ
 bad_line_text n why =
     codes "script " ++ (decimal n ++ (codes " bad line: " ++ (reason_text why ++ 10 ∷ [])))
 
--- the name of a node, a signal or a table, or the number where it is none's
+-- the name of a node or a table, or the number where it is none's
 abbrev pub node_word : Parts → ℕ → List ℕ
 node_word c n = word_of (named c).nodes n
-
-abbrev pub signal_word : Parts → ℕ → List ℕ
-signal_word c s = word_of (named c).signals s
 
 abbrev pub table_word : Parts → ℕ → List ℕ
 table_word c t = word_of (named c).tables t
 
-abbrev pub frame_word : Parts → Carried → List ℕ
-frame_word c (Signals f) = word_of (frames_called c) f
-frame_word c Request = codes "MasterReq"
-frame_word c Response = codes "SlaveResp"
-
--- bytes, where they are said
-abbrev pub said_word : Option (List ℕ) → List ℕ
-said_word None = []
-said_word (Some bytes) = spaced_word (hex_word bytes)
+-- words with the names of a cluster
+abbrev pub cluster_text : Parts → List Word → List ℕ
+cluster_text c ws = words_text (named c) (frames_called c) ws
 
 -- what is expected
+abbrev pub expected_words : Expected → List Word
+expected_words (expected.Signal node signal value) =
+    Fixed (codes "signal") ∷ Node node ∷ Signal signal ∷ Raw value ∷ []
+expected_words (expected.SignalWithin node signal low high) =
+    Fixed (codes "signal") ∷ Node node ∷ Signal signal ∷ Range low high ∷ []
+expected_words (expected.SignalMeans node signal text values) =
+    Fixed (codes "signal") ∷ Node node ∷ Signal signal ∷ Fixed (codes "=") ∷ Said text ∷ []
+expected_words (expected.Waiting host count) =
+    Fixed (codes "waiting") ∷ Node host ∷ Number count ∷ []
+expected_words (expected.Message from to bytes) =
+    Fixed (codes "message") ∷ Node from ∷ Node to ∷ Hex bytes ∷ []
+expected_words (expected.MessageWithin from to bytes most) =
+    Fixed (codes "message") ∷ Node from ∷ Node to ∷ Hex bytes
+    ∷ Fixed (codes "within") ∷ Number most ∷ Fixed (codes "ms") ∷ []
+expected_words (expected.NoMessage from to) =
+    Fixed (codes "no message") ∷ Node from ∷ Node to ∷ []
+expected_words (expected.NoLost None) = Fixed (codes "no lost") ∷ []
+expected_words (expected.NoLost (Some host)) = Fixed (codes "no lost") ∷ Node host ∷ []
+expected_words (expected.Sent host) = Fixed (codes "sent") ∷ Node host ∷ []
+expected_words (expected.Lost host cause) =
+    Fixed (codes "lost") ∷ Node host ∷ Fixed (cause_word cause) ∷ []
+expected_words (expected.Seen how) = Fixed (codes "seen") ∷ Fixed (look_word how) ∷ []
+expected_words (expected.Frame frame None) = Fixed (codes "frame") ∷ Frame frame ∷ []
+expected_words (expected.Frame frame (Some bytes)) =
+    Fixed (codes "frame") ∷ Frame frame ∷ Hex bytes ∷ []
+expected_words (expected.Slot table entry) =
+    Fixed (codes "slot") ∷ Table table ∷ Number entry ∷ []
+expected_words expected.Done = Fixed (codes "done") ∷ []
+expected_words (expected.Refused why) = Fixed (codes "refused") ∷ Fixed (refusal_word why) ∷ []
+expected_words expected.Asleep = Fixed (codes "asleep") ∷ []
+expected_words expected.Awake = Fixed (codes "awake") ∷ []
+expected_words expected.Idle = Fixed (codes "idle") ∷ []
+
 abbrev pub expected_text : Parts → Expected → List ℕ
-expected_text c (expected.Signal node signal value) =
-    codes "signal "
-    ++ (node_word c node ++ (spaced_word (signal_word c signal) ++ spaced_word (value_word value)))
-expected_text c (expected.SignalWithin node signal low high) =
-    codes "signal "
-    ++ (node_word c node
-    ++ (spaced_word (signal_word c signal)
-    ++ spaced_word (decimal low ++ (codes ".." ++ decimal high))))
-expected_text c (expected.SignalMeans node signal text values) =
-    codes "signal "
-    ++ (node_word c node ++ (spaced_word (signal_word c signal) ++ (codes " = " ++ text)))
-expected_text c (expected.Waiting host count) =
-    codes "waiting " ++ (node_word c host ++ spaced_word (decimal count))
-expected_text c (expected.Message from to bytes) =
-    codes "message "
-    ++ (node_word c from ++ (spaced_word (node_word c to) ++ spaced_word (hex_word bytes)))
-expected_text c (expected.MessageWithin from to bytes most) =
-    codes "message "
-    ++ (node_word c from
-    ++ (spaced_word (node_word c to)
-    ++ (spaced_word (hex_word bytes) ++ (codes " within " ++ (decimal most ++ codes " ms")))))
-expected_text c (expected.NoMessage from to) =
-    codes "no message " ++ (node_word c from ++ spaced_word (node_word c to))
-expected_text c (expected.NoLost None) = codes "no lost"
-expected_text c (expected.NoLost (Some host)) = codes "no lost " ++ node_word c host
-expected_text c (expected.Sent host) = codes "sent " ++ node_word c host
-expected_text c (expected.Lost host cause) =
-    codes "lost " ++ (node_word c host ++ spaced_word (cause_word cause))
-expected_text c (expected.Seen how) = codes "seen " ++ look_word how
-expected_text c (expected.Frame frame bytes) =
-    codes "frame " ++ (frame_word c frame ++ said_word bytes)
-expected_text c (expected.Slot table entry) =
-    codes "slot " ++ (table_word c table ++ spaced_word (decimal entry))
-expected_text c expected.Done = codes "done"
-expected_text c (expected.Refused why) = codes "refused " ++ refusal_word why
-expected_text c expected.Asleep = codes "asleep"
-expected_text c expected.Awake = codes "awake"
-expected_text c expected.Idle = codes "idle"
+expected_text c what = cluster_text c (expected_words what)
 
 -- how many messages of a host wait, or answers of a node are noted
-abbrev pub pending_word : Parts → Pending → List ℕ
-pending_word c (MessagesWait host count) =
-    decimal count ++ (codes " of " ++ (node_word c host ++ codes " waiting"))
-pending_word c (AnswersNoted node count) =
-    decimal count ++ (codes " of " ++ (node_word c node ++ codes " noted"))
+abbrev pub pending_words : Pending → List Word
+pending_words (MessagesWait host count) =
+    Number count ∷ Fixed (codes "of") ∷ Node host ∷ Fixed (codes "waiting") ∷ []
+pending_words (AnswersNoted node count) =
+    Number count ∷ Fixed (codes "of") ∷ Node node ∷ Fixed (codes "noted") ∷ []
 
-abbrev pub other_pending_text : Parts → Pending → List ℕ
-other_pending_text c p = codes ", " ++ pending_word c p
+abbrev pub other_pending_words : Pending → List Word
+other_pending_words p = Mark (codes ",") ∷ pending_words p
+
+abbrev pub all_pending_words : List Pending → List Word
+all_pending_words [] = []
+all_pending_words (p ∷ ps) = pending_words p ++ flat_map other_pending_words ps
 
 abbrev pub pending_text : Parts → List Pending → List ℕ
-pending_text c [] = []
-pending_text c (p ∷ ps) = pending_word c p ++ flat_map (other_pending_text c) ps
+pending_text c ps = cluster_text c (all_pending_words ps)
+
+-- what is so in its place, in few words
+abbrev pub short_words : Got → List Word
+short_words (got.Value value) = Raw value ∷ []
+short_words (got.Meaning text) = Said text ∷ []
+short_words (got.Waiting count) = Number count ∷ []
+short_words (got.Message bytes) = Hex bytes ∷ []
+short_words (got.Took time) = Number time ∷ Fixed (codes "us") ∷ []
+short_words (got.Sent number) = Fixed (codes "message") ∷ Number number ∷ Fixed (codes "sent") ∷ []
+short_words (got.Lost number cause) =
+    Fixed (codes "message") ∷ Number number ∷ Fixed (codes "lost") ∷ Fixed (cause_word cause) ∷ []
+short_words (got.LostOf host number cause) =
+    Fixed (codes "message") ∷ Number number ∷ Fixed (codes "of") ∷ Node host
+    ∷ Fixed (codes "lost") ∷ Fixed (cause_word cause) ∷ []
+short_words got.NoEvent = Fixed (codes "none") ∷ []
+short_words (got.Seen how) = Fixed (look_word how) ∷ []
+short_words (got.Frame frame bytes) = Frame frame ∷ Hex bytes ∷ []
+short_words (got.Slot table entry) = Table table ∷ Number entry ∷ []
+short_words got.NoSlot = Fixed (codes "no slot") ∷ []
+short_words got.Done = Fixed (codes "done") ∷ []
+short_words (got.Refused why) = Fixed (codes "refused") ∷ Fixed (refusal_word why) ∷ []
+short_words got.NoStep = Fixed (codes "no step") ∷ []
+short_words got.Asleep = Fixed (codes "asleep") ∷ []
+short_words got.Awake = Fixed (codes "awake") ∷ []
+short_words (got.StillPending all) = []
+short_words got.NoNode = Fixed (codes "no such node") ∷ []
+short_words got.NoNodeOrSignal = Fixed (codes "no such node or signal") ∷ []
 
 -- what is so in its place
+abbrev pub got_words : Got → List Word
+got_words (got.StillPending all) = all_pending_words all
+got_words is = short_words is
+
 abbrev pub got_text : Parts → Got → List ℕ
-got_text c (got.Value value) = value_word value
-got_text c (got.Meaning text) = text
-got_text c (got.Waiting count) = decimal count
-got_text c (got.Message bytes) = hex_word bytes
-got_text c (got.Took time) = decimal time ++ codes " us"
-got_text c (got.Sent number) = codes "message " ++ (decimal number ++ codes " sent")
-got_text c (got.Lost number cause) =
-    codes "message " ++ (decimal number ++ (codes " lost " ++ cause_word cause))
-got_text c (got.LostOf host number cause) =
-    codes "message "
-    ++ (decimal number
-    ++ (codes " of " ++ (node_word c host ++ (codes " lost " ++ cause_word cause))))
-got_text c got.NoEvent = codes "none"
-got_text c (got.Seen how) = look_word how
-got_text c (got.Frame frame bytes) = frame_word c frame ++ spaced_word (hex_word bytes)
-got_text c (got.Slot table entry) = table_word c table ++ spaced_word (decimal entry)
-got_text c got.NoSlot = codes "no slot"
-got_text c got.Done = codes "done"
-got_text c (got.Refused why) = codes "refused " ++ refusal_word why
-got_text c got.NoStep = codes "no step"
-got_text c got.Asleep = codes "asleep"
-got_text c got.Awake = codes "awake"
-got_text c (got.StillPending all) = pending_text c all
-got_text c got.NoNode = codes "no such node"
-got_text c got.NoNodeOrSignal = codes "no such node or signal"
+got_text c is = cluster_text c (got_words is)
 
 -- what is expected and what is so
 abbrev pub verdict_text : List ℕ → List ℕ → List ℕ

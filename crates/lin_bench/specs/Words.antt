@@ -21,7 +21,7 @@ use Rattle.lin_values.specs.Value.{is_small}
 use Rattle.lin_bench.specs.Fields.{◌>>=◌, fields, signal_field}
 use Rattle.lin_bench.specs.Lines.{read_line}
 use Rattle.lin_bench.specs.Meant.{values_within}
-use Rattle.lin_bench.specs.Texts.{fields_text}
+use Rattle.lin_bench.specs.LineWords.{fields_text}
 use Rattle.lin_bench.specs.declared.expected.Expected.{Expected}
 use Rattle.lin_bench.specs.declared.expected.Expected.TheVariants as expected
 use Rattle.lin_bench.specs.declared.line.Line.{Line}

@@ -31,6 +31,7 @@ mod fields;
 mod got;
 mod law;
 mod line;
+mod line_words;
 mod lines;
 mod losses;
 mod meanings;
@@ -57,6 +58,7 @@ pub use got::{Got, Judged, Judgement, Pending, Verdict, is_unmet, some_unmet};
 pub use law::{plain_scripts_say_the_same, rules_alone_add_steps};
 pub use lin_core::Look;
 pub use line::{Disturbance, Extent, Line};
+pub use line_words::{LineNaming, Word, put_seen, put_spaced, put_texts, put_words};
 pub use lines::read_line;
 pub use meanings::{told_meaning, told_meanings};
 pub use meant::MeantValues;
@@ -66,7 +68,7 @@ pub use replies::first_refusal;
 pub use rules::{Answer, Every, Part, Pattern, Rule, When};
 pub use script::{bad_lines, read, without_mark};
 pub use texts::{
-    put_fields, put_found, put_judged, put_pending, put_reason, put_unmet, put_verdict, put_what,
+    put_found, put_judged, put_pending, put_reason, put_unmet, put_verdict, put_what,
     write_bad_line, write_unmet,
 };
 pub use words::read_worded_line;

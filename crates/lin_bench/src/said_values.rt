@@ -8,7 +8,7 @@ ghost use Rattle.lin_values.specs.Read.{number_and_unit};
 ghost use Rattle.lin_values.specs.Shown.{plain_shown};
 ghost use Rattle.lin_bench.specs.Fields.{words};
 ghost use Rattle.lin_bench.specs.Read.{Gives};
-ghost use Rattle.lin_bench.specs.Texts.{fields_text};
+ghost use Rattle.lin_bench.specs.LineWords.{fields_text};
 ghost use Rattle.lin_bench.specs.Words.{around, begins_number, between, decimal_field, decimal_fields};
 ghost use Rattle.lin_bench.specs.Words.{expected_values, from_to, is_bad_number, near_number};
 ghost use Rattle.lin_bench.specs.Words.{near_words, nearest_value, no_value, only_value, why_none};

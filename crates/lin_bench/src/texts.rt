@@ -1,133 +1,186 @@
 //! What is said of bad lines and of expectations that aren't met.
 
-ghost use Rattle.std.specs.Prelude.{◌++◌, [], codes, flat_map};
-ghost use Rattle.std.specs.Fmt.{decimal};
+ghost use Rattle.std.specs.Prelude.{◌≡◌, ◌++◌, [], flat_map, map};
 ghost use Rattle.std.specs.Option.{option_map_or};
 ghost use Rattle.lin_log.specs.Words.{spaced_word};
 ghost use Rattle.lin_text.specs.Written.{Grows, WritesText};
-ghost use Rattle.lin_bench.specs.Texts.{bad_line_text, expected_text, fields_text, fields_word};
-ghost use Rattle.lin_bench.specs.Texts.{found_text, frame_word, got_text, judged_text, node_word};
-ghost use Rattle.lin_bench.specs.Texts.{other_pending_text, pending_text, said_word};
-ghost use Rattle.lin_bench.specs.Texts.{near_text};
-ghost use Rattle.lin_bench.specs.Texts.{pending_word, reason_text, step_reason_text, unmet_text, verdict_text, what_text};
+ghost use Rattle.lin_log.specs.Language.{named};
+ghost use Rattle.lin_bench.specs.Fields.{frames_called};
+ghost use Rattle.lin_bench.specs.LineWords.{said, spaced_words};
+ghost use Rattle.lin_bench.specs.Texts.{bad_line_text, expected_text, expected_words, fields_word};
+ghost use Rattle.lin_bench.specs.Texts.{found_text, got_text, judged_text};
+ghost use Rattle.lin_bench.specs.Texts.{no_value_words, other_pending_words, pending_text};
+ghost use Rattle.lin_bench.specs.Texts.{pending_words, reason_text, reason_words};
+ghost use Rattle.lin_bench.specs.Texts.{short_words, step_reason_words};
+ghost use Rattle.lin_bench.specs.Texts.{unmet_text, verdict_text, what_text};
 
-use crate::expected::{Carried, Expected};
+use crate::expected::Expected;
 use crate::got::{Got, Judged, Judgement, Pending, is_unmet};
+use crate::line_words::{Line, Word, put_line, put_spaced, put_words};
 use crate::reason::Reason;
-use lin_core::{Listed, Payload};
-use lin_log::{
-    Reason as StepReason, put_bytes, put_node, put_number, put_signal, put_table, put_value,
-    put_word,
-};
+use lin_core::Listed;
+use lin_log::{Numbers, Reason as StepReason, put_node};
 use lin_parts::Cluster;
 use lin_text::{Text, TextBuffer, TextWriter, WriteFailed};
 use std::io::Write;
 
-/// A text and bytes after it.
-fn put_after<W: Write>(out: &mut TextWriter<'_, W>, text: &str, bytes: &[u8])
-    ensures { Grows W.contents out.old out.new (text.now ++ bytes.now) }
+/// `field`, or `fields`.
+fn plural(fields: u8) -> &'static str
+    ensures { result.now ≡ fields_word fields }
 {
-    out.put_text(text);
-    out.put(bytes);
-}
-
-fn put_all_spaced<W: Write>(out: &mut TextWriter<'_, W>, words: &[Text])
-    ensures { Grows W.contents out.old out.new (flat_map spaced_word words.now) }
-{
-    for word in words {
-        out.put_byte(b' ');
-        out.put(word.as_slice());
-    }
-}
-
-/// Fields with one space between two.
-pub fn put_fields<W: Write>(out: &mut TextWriter<'_, W>, fields: &[Text])
-    ensures { Grows W.contents out.old out.new (fields_text fields.now) }
-{
-    match fields {
-        [] => {}
-        [first, rest @ ..] => {
-            out.put(first.as_slice());
-            put_all_spaced(out, rest);
-        }
-    }
-}
-
-/// That a field is no number up to a limit.
-fn put_no_number<W: Write>(out: &mut TextWriter<'_, W>, field: &[u8], most: u32)
-    ensures { Grows W.contents out.old out.new
-        (field.now ++ (codes " is no number up to " ++ decimal most)) }
-{
-    out.put(field);
-    out.put_text(" is no number up to ");
-    out.put_number(most);
-}
-
-fn put_plural<W: Write>(out: &mut TextWriter<'_, W>, fields: u8)
-    ensures { Grows W.contents out.old out.new (fields_word fields) }
-{
-    if fields == 1 {
-        out.put_text(" field");
-    } else {
-        out.put_text(" fields");
-    }
-}
-
-/// How many fields a word takes.
-fn put_takes<W: Write>(out: &mut TextWriter<'_, W>, word: &[u8], fields: u8)
-    ensures { Grows W.contents out.old out.new
-        (word.now ++ (codes " takes " ++ (decimal fields ++ fields_word fields))) }
-{
-    out.put(word);
-    out.put_text(" takes ");
-    out.put_number(fields);
-    put_plural(out, fields);
+    if fields == 1 { "field" } else { "fields" }
 }
 
 /// Why a line of a step is bad.
-fn put_step_reason<W: Write>(out: &mut TextWriter<'_, W>, reason: &StepReason)
-    ensures { Grows W.contents out.old out.new (step_reason_text reason.now) }
+fn step_line(reason: &StepReason) -> Line<'_>
+    ensures { result ≡ step_reason_words reason.now }
 {
     match reason {
-        StepReason::NoPort => out.put_text("no port"),
-        StepReason::NoStep => out.put_text("no step"),
-        StepReason::UnknownStep(word) => put_after(out, "no step ", word.as_slice()),
-        StepReason::NoNode(name) => put_after(out, "no node ", name.as_slice()),
-        StepReason::NoSignal(name) => put_after(out, "no signal ", name.as_slice()),
-        StepReason::NoTable(name) => put_after(out, "no table ", name.as_slice()),
-        StepReason::NoNumber { field, most } => put_no_number(out, field.as_slice(), *most),
-        StepReason::NoBytes => out.put_text("no bytes"),
+        StepReason::NoPort => return Line::of(&[Word::Fixed("no port")]),
+        StepReason::NoStep => return Line::of(&[Word::Fixed("no step")]),
+        StepReason::UnknownStep(word) => {
+            return Line::of(&[Word::Fixed("no step"), Word::Said(word.as_slice())]);
+        }
+        StepReason::NoNode(name) => {
+            return Line::of(&[Word::Fixed("no node"), Word::Said(name.as_slice())]);
+        }
+        StepReason::NoSignal(name) => {
+            return Line::of(&[Word::Fixed("no signal"), Word::Said(name.as_slice())]);
+        }
+        StepReason::NoTable(name) => {
+            return Line::of(&[Word::Fixed("no table"), Word::Said(name.as_slice())]);
+        }
+        StepReason::NoNumber { field, most } => {
+            return Line::of(&[
+                Word::Said(field.as_slice()),
+                Word::Fixed("is no number up to"),
+                Word::Number(u64::from(*most)),
+            ]);
+        }
+        StepReason::NoBytes => return Line::of(&[Word::Fixed("no bytes")]),
         StepReason::NotBytes(fields) => {
-            put_fields(out, fields.as_slice());
-            out.put_text(" is no bytes");
+            return Line::of(&[Word::Fields(fields.as_slice()), Word::Fixed("is no bytes")]);
         }
         StepReason::TooManyBytes(field) => {
-            out.put(field.as_slice());
-            out.put_text(" has more than 8 bytes");
+            return Line::of(&[
+                Word::Said(field.as_slice()),
+                Word::Fixed("has more than 8 bytes"),
+            ]);
         }
-        StepReason::Takes { word, fields } => put_takes(out, word.as_slice(), *fields),
-        StepReason::SendForm => out.put_text("send takes two nodes and bytes"),
-        StepReason::WriteForm => out.put_text("write takes a signal and a value"),
-        StepReason::TimeoutForm => out.put_text("timeout takes down or up"),
+        StepReason::Takes { word, fields } => {
+            return Line::of(&[
+                Word::Said(word.as_slice()),
+                Word::Fixed("takes"),
+                Word::Number(u64::from(*fields)),
+                Word::Fixed(plural(*fields)),
+            ]);
+        }
+        StepReason::SendForm => return Line::of(&[Word::Fixed("send takes two nodes and bytes")]),
+        StepReason::WriteForm => {
+            return Line::of(&[Word::Fixed("write takes a signal and a value")]);
+        }
+        StepReason::TimeoutForm => return Line::of(&[Word::Fixed("timeout takes down or up")]),
     }
 }
 
-fn put_all_near<W: Write>(out: &mut TextWriter<'_, W>, texts: &[Text])
-    ensures { Grows W.contents out.old out.new (flat_map (λ u. codes ", " ++ u) texts.now) }
+/// That no value means a text, and decimals that are next to it.
+fn no_value_line<'a>(text: &'a [u8], signal: &'a [u8], near: &'a [Text]) -> Line<'a>
+    ensures { result ≡ no_value_words text.now signal.now near.now }
 {
-    for text in texts {
-        put_after(out, ", ", text.as_slice());
+    let (text, signal) = (Word::Said(text), Word::Said(signal));
+    let none = Word::Fixed("is no value of");
+    if near.is_empty() {
+        return Line::of(&[text, none, signal]);
     }
+    let nearest = Word::Fixed("(nearest:");
+    Line::of(&[
+        text,
+        none,
+        signal,
+        nearest,
+        Word::Listed(near),
+        Word::Mark(")"),
+    ])
 }
 
-/// Decimals that are next to one that is no value.
-fn put_near<W: Write>(out: &mut TextWriter<'_, W>, texts: &[Text])
-    ensures { Grows W.contents out.old out.new (near_text texts.now) }
+/// Why a line is bad.
+fn reason_line(reason: &Reason) -> Line<'_>
+    ensures { result ≡ reason_words reason.now }
 {
-    if let [first, rest @ ..] = texts {
-        put_after(out, " (nearest: ", first.as_slice());
-        put_all_near(out, rest);
-        out.put_text(")");
+    match reason {
+        Reason::Step(why) => return step_line(why),
+        Reason::NoRefusal(name) => return Line::of(&[
+            Word::Fixed("no refusal"),
+            Word::Said(name.as_slice()),
+        ]),
+        Reason::NoFrame(name) => return Line::of(&[
+            Word::Fixed("no frame"),
+            Word::Said(name.as_slice()),
+        ]),
+        Reason::NoRange(field) => return Line::of(&[
+            Word::Said(field.as_slice()),
+            Word::Fixed("is no range"),
+        ]),
+        Reason::TooSmall => return Line::of(&[Word::Fixed("0 is too small")]),
+        Reason::SlotsForm => return Line::of(&[Word::Fixed(
+            "slots takes a number, a number and ms, or idle",
+        )]),
+        Reason::SlotForm(word) => return Line::of(&[
+            Word::Fixed("slot takes hurt or leave, not"),
+            Word::Said(word.as_slice()),
+        ]),
+        Reason::LeaveForm => return Line::of(&[Word::Fixed("slot leave takes nodes")]),
+        Reason::ExpectForm => return Line::of(&[Word::Fixed("expect takes what is expected")]),
+        Reason::UnknownExpectation(fields) => return Line::of(&[
+            Word::Fixed("expect has no form"),
+            Word::Fields(fields.as_slice()),
+        ]),
+        Reason::UntilForm => return Line::of(&[Word::Fixed("until takes what is expected")]),
+        Reason::UnknownUntil(fields) => return Line::of(&[
+            Word::Fixed("until has no form"),
+            Word::Fields(fields.as_slice()),
+        ]),
+        Reason::WhenForm => return Line::of(&[Word::Fixed(
+            "when takes a node, a pattern and answers",
+        )]),
+        Reason::NoResponder(field) => return Line::of(&[
+            Word::Said(field.as_slice()),
+            Word::Fixed("is no responder with an address"),
+        ]),
+        Reason::NoPattern(fields) => return Line::of(&[
+            Word::Fields(fields.as_slice()),
+            Word::Fixed("is no pattern"),
+        ]),
+        Reason::TimeoutsForm => return Line::of(&[Word::Fixed(
+            "timeouts takes a time and ms, or off",
+        )]),
+        Reason::EveryForm => return Line::of(&[Word::Fixed(
+            "every takes a time and a step, or off",
+        )]),
+        Reason::EveryStep => return Line::of(&[Word::Fixed("every takes a send or a write")]),
+        Reason::ErrorsForm => return Line::of(&[Word::Fixed("response_errors takes on or off")]),
+        Reason::NoErrorSignal => return Line::of(&[Word::Fixed("no response_error signal")]),
+        Reason::NoDecimal(field) => return Line::of(&[
+            Word::Said(field.as_slice()),
+            Word::Fixed("is no number"),
+        ]),
+        Reason::NoWords => return Line::of(&[Word::Fixed("no value")]),
+        Reason::NoValue { text, signal, near } => {
+            return no_value_line(text.as_slice(), signal.as_slice(), near.as_slice());
+        }
+        Reason::SeveralValues {
+            count,
+            text,
+            signal,
+        } => {
+            return Line::of(&[
+                Word::Number(*count),
+                Word::Fixed("values of"),
+                Word::Said(signal.as_slice()),
+                Word::Fixed("are"),
+                Word::Said(text.as_slice()),
+            ]);
+        }
     }
 }
 
@@ -135,64 +188,7 @@ fn put_near<W: Write>(out: &mut TextWriter<'_, W>, texts: &[Text])
 pub fn put_reason<W: Write>(out: &mut TextWriter<'_, W>, reason: &Reason)
     ensures { Grows W.contents out.old out.new (reason_text reason.now) }
 {
-    match reason {
-        Reason::Step(why) => put_step_reason(out, why),
-        Reason::NoRefusal(name) => put_after(out, "no refusal ", name.as_slice()),
-        Reason::NoFrame(name) => put_after(out, "no frame ", name.as_slice()),
-        Reason::NoRange(field) => {
-            out.put(field.as_slice());
-            out.put_text(" is no range");
-        }
-        Reason::TooSmall => out.put_text("0 is too small"),
-        Reason::SlotsForm => out.put_text("slots takes a number, a number and ms, or idle"),
-        Reason::SlotForm(word) => {
-            put_after(out, "slot takes hurt or leave, not ", word.as_slice());
-        }
-        Reason::LeaveForm => out.put_text("slot leave takes nodes"),
-        Reason::ExpectForm => out.put_text("expect takes what is expected"),
-        Reason::UnknownExpectation(fields) => {
-            out.put_text("expect has no form ");
-            put_fields(out, fields.as_slice());
-        }
-        Reason::UntilForm => out.put_text("until takes what is expected"),
-        Reason::UnknownUntil(fields) => {
-            out.put_text("until has no form ");
-            put_fields(out, fields.as_slice());
-        }
-        Reason::WhenForm => out.put_text("when takes a node, a pattern and answers"),
-        Reason::NoResponder(field) => {
-            out.put(field.as_slice());
-            out.put_text(" is no responder with an address");
-        }
-        Reason::NoPattern(fields) => {
-            put_fields(out, fields.as_slice());
-            out.put_text(" is no pattern");
-        }
-        Reason::TimeoutsForm => out.put_text("timeouts takes a time and ms, or off"),
-        Reason::EveryForm => out.put_text("every takes a time and a step, or off"),
-        Reason::EveryStep => out.put_text("every takes a send or a write"),
-        Reason::ErrorsForm => out.put_text("response_errors takes on or off"),
-        Reason::NoErrorSignal => out.put_text("no response_error signal"),
-        Reason::NoDecimal(field) => {
-            out.put(field.as_slice());
-            out.put_text(" is no number");
-        }
-        Reason::NoWords => out.put_text("no value"),
-        Reason::NoValue { text, signal, near } => {
-            out.put(text.as_slice());
-            put_after(out, " is no value of ", signal.as_slice());
-            put_near(out, near.as_slice());
-        }
-        Reason::SeveralValues {
-            count,
-            text,
-            signal,
-        } => {
-            out.put_number(*count);
-            put_after(out, " values of ", signal.as_slice());
-            put_after(out, " are ", text.as_slice());
-        }
-    }
+    put_line(out, &Numbers, &reason_line(reason));
 }
 
 fn put_bad_line<W: Write>(out: &mut TextWriter<'_, W>, line: u64, reason: &Reason)
@@ -224,31 +220,128 @@ pub fn write_bad_line<W: Write>(
     out.finish()
 }
 
-/// A frame's name, or its number where it has none, with a space before it.
-fn put_frame<W: Write>(out: &mut TextWriter<'_, W>, cluster: &Cluster, frame: Carried)
-    ensures { Grows W.contents out.old out.new (spaced_word (frame_word cluster.now frame)) }
+/// What is expected.
+fn expected_line(expected: &Expected) -> Line<'_>
+    ensures { result ≡ expected_words expected.now }
 {
-    match frame {
-        Carried::Signals(number) => {
-            if (number as usize) < cluster.frames() {
-                out.put_byte(b' ');
-                out.put(cluster.frame_name(number));
-            } else {
-                put_number(out, number);
-            }
+    match expected {
+        Expected::Signal {
+            node,
+            signal,
+            value,
+        } => {
+            return Line::of(&[
+                Word::Fixed("signal"),
+                Word::Node(*node),
+                Word::Signal(*signal),
+                Word::Value(value),
+            ]);
         }
-        Carried::Request => out.put_text(" MasterReq"),
-        Carried::Response => out.put_text(" SlaveResp"),
-    }
-}
-
-/// Bytes, where they are said.
-fn put_said<W: Write>(out: &mut TextWriter<'_, W>, bytes: &Option<Payload>)
-    ensures { Grows W.contents out.old out.new (said_word bytes.now) }
-{
-    match bytes {
-        Some(bytes) => put_bytes(out, bytes.as_slice()),
-        None => {}
+        Expected::SignalWithin {
+            node,
+            signal,
+            low,
+            high,
+        } => {
+            return Line::of(&[
+                Word::Fixed("signal"),
+                Word::Node(*node),
+                Word::Signal(*signal),
+                Word::Range(u64::from(*low), u64::from(*high)),
+            ]);
+        }
+        Expected::SignalMeans {
+            node,
+            signal,
+            text,
+            values: _,
+        } => {
+            return Line::of(&[
+                Word::Fixed("signal"),
+                Word::Node(*node),
+                Word::Signal(*signal),
+                Word::Fixed("="),
+                Word::Said(text.as_slice()),
+            ]);
+        }
+        Expected::Waiting { host, count } => {
+            return Line::of(&[
+                Word::Fixed("waiting"),
+                Word::Node(*host),
+                Word::Number(u64::from(*count)),
+            ]);
+        }
+        Expected::Message { from, to, bytes } => {
+            return Line::of(&[
+                Word::Fixed("message"),
+                Word::Node(*from),
+                Word::Node(*to),
+                Word::Bytes(bytes.as_slice()),
+            ]);
+        }
+        Expected::MessageWithin {
+            from,
+            to,
+            bytes,
+            most_ms,
+        } => {
+            return Line::of(&[
+                Word::Fixed("message"),
+                Word::Node(*from),
+                Word::Node(*to),
+                Word::Bytes(bytes.as_slice()),
+                Word::Fixed("within"),
+                Word::Number(u64::from(*most_ms)),
+                Word::Fixed("ms"),
+            ]);
+        }
+        Expected::NoMessage { from, to } => {
+            return Line::of(&[
+                Word::Fixed("no message"),
+                Word::Node(*from),
+                Word::Node(*to),
+            ]);
+        }
+        Expected::NoLost { host: None } => return Line::of(&[Word::Fixed("no lost")]),
+        Expected::NoLost { host: Some(host) } => {
+            return Line::of(&[Word::Fixed("no lost"), Word::Node(*host)]);
+        }
+        Expected::Sent { host } => return Line::of(&[Word::Fixed("sent"), Word::Node(*host)]),
+        Expected::Lost { host, cause } => {
+            return Line::of(&[
+                Word::Fixed("lost"),
+                Word::Node(*host),
+                Word::Fixed(cause.word()),
+            ]);
+        }
+        Expected::Seen(how) => return Line::of(&[Word::Fixed("seen"), Word::Fixed(how.word())]),
+        Expected::Frame { frame, bytes: None } => {
+            return Line::of(&[Word::Fixed("frame"), Word::Frame(*frame)]);
+        }
+        Expected::Frame {
+            frame,
+            bytes: Some(bytes),
+        } => {
+            return Line::of(&[
+                Word::Fixed("frame"),
+                Word::Frame(*frame),
+                Word::Bytes(bytes.as_slice()),
+            ]);
+        }
+        Expected::Slot { table, entry } => {
+            return Line::of(&[
+                Word::Fixed("slot"),
+                Word::Table(*table),
+                Word::Number(u64::from(*entry)),
+            ]);
+        }
+        Expected::Done => return Line::of(&[Word::Fixed("done")]),
+        Expected::Refused(why) => {
+            return Line::of(&[Word::Fixed("refused"), Word::Fixed(why.word())]);
+        }
+        Expected::Asleep => return Line::of(&[Word::Fixed("asleep")]),
+        Expected::Awake => return Line::of(&[Word::Fixed("awake")]),
+        Expected::Idle => return Line::of(&[Word::Fixed("idle")]),
     }
 }
 
@@ -257,145 +350,34 @@ fn put_expected<W: Write>(out: &mut TextWriter<'_, W>, cluster: &Cluster, expect
     ensures { Grows W.contents out.old out.new
         (spaced_word (expected_text cluster.now expected.now)) }
 {
-    match expected {
-        Expected::Signal {
-            node,
-            signal,
-            value,
-        } => {
-            out.put_text(" signal");
-            put_node(out, cluster, *node);
-            put_signal(out, cluster, *signal);
-            put_value(out, value);
-        }
-        Expected::SignalWithin {
-            node,
-            signal,
-            low,
-            high,
-        } => {
-            out.put_text(" signal");
-            put_node(out, cluster, *node);
-            put_signal(out, cluster, *signal);
-            put_number(out, *low);
-            out.put_text("..");
-            out.put_number(*high);
-        }
-        Expected::SignalMeans {
-            node,
-            signal,
-            text,
-            values: _,
-        } => {
-            out.put_text(" signal");
-            put_node(out, cluster, *node);
-            put_signal(out, cluster, *signal);
-            put_after(out, " = ", text.as_slice());
-        }
-        Expected::Waiting { host, count } => {
-            out.put_text(" waiting");
-            put_node(out, cluster, *host);
-            put_number(out, *count);
-        }
-        Expected::Message { from, to, bytes } => {
-            out.put_text(" message");
-            put_node(out, cluster, *from);
-            put_node(out, cluster, *to);
-            put_bytes(out, bytes.as_slice());
-        }
-        Expected::MessageWithin {
-            from,
-            to,
-            bytes,
-            most_ms,
-        } => {
-            out.put_text(" message");
-            put_node(out, cluster, *from);
-            put_node(out, cluster, *to);
-            put_bytes(out, bytes.as_slice());
-            out.put_text(" within ");
-            out.put_number(*most_ms);
-            out.put_text(" ms");
-        }
-        Expected::NoMessage { from, to } => {
-            out.put_text(" no message");
-            put_node(out, cluster, *from);
-            put_node(out, cluster, *to);
-        }
-        Expected::NoLost { host } => {
-            out.put_text(" no lost");
-            if let Some(host) = host {
-                put_node(out, cluster, *host);
-            }
-        }
-        Expected::Sent { host } => {
-            out.put_text(" sent");
-            put_node(out, cluster, *host);
-        }
-        Expected::Lost { host, cause } => {
-            out.put_text(" lost");
-            put_node(out, cluster, *host);
-            put_word(out, cause.word());
-        }
-        Expected::Seen(how) => {
-            out.put_text(" seen");
-            put_word(out, how.word());
-        }
-        Expected::Frame { frame, bytes } => {
-            out.put_text(" frame");
-            put_frame(out, cluster, *frame);
-            put_said(out, bytes);
-        }
-        Expected::Slot { table, entry } => {
-            out.put_text(" slot");
-            put_table(out, cluster, *table);
-            put_number(out, *entry);
-        }
-        Expected::Done => out.put_text(" done"),
-        Expected::Refused(why) => {
-            out.put_text(" refused");
-            put_word(out, why.word());
-        }
-        Expected::Asleep => out.put_text(" asleep"),
-        Expected::Awake => out.put_text(" awake"),
-        Expected::Idle => out.put_text(" idle"),
-    }
-}
-
-/// So many of a node, and what is so of them.
-fn put_counted<W: Write>(
-    out: &mut TextWriter<'_, W>,
-    cluster: &Cluster,
-    node: u8,
-    count: usize,
-    text: &str,
-)
-    ensures { Grows W.contents out.old out.new
-        (decimal count ++ (codes " of " ++ (node_word cluster.now node ++ text.now))) }
-{
-    out.put_number(count);
-    out.put_text(" of");
-    put_node(out, cluster, node);
-    out.put_text(text);
+    out.put_byte(b' ');
+    put_line(out, cluster, &expected_line(expected));
 }
 
 /// How many messages of a host wait, or answers of a node are noted.
-fn put_one_pending<W: Write>(out: &mut TextWriter<'_, W>, cluster: &Cluster, pending: &Pending)
-    ensures { Grows W.contents out.old out.new (pending_word cluster.now pending.now) }
+fn pending_words(pending: &Pending) -> [Word<'_>; 4]
+    ensures { map said result ≡ pending_words pending.now }
 {
-    match pending {
-        Pending::MessagesWait(host, count) => put_counted(out, cluster, *host, *count, " waiting"),
-        Pending::AnswersNoted(node, count) => put_counted(out, cluster, *node, *count, " noted"),
-    }
+    let (node, count, how) = match pending {
+        Pending::MessagesWait(host, count) => (*host, *count, "waiting"),
+        Pending::AnswersNoted(node, count) => (*node, *count, "noted"),
+    };
+    [
+        Word::Number(count as u64),
+        Word::Fixed("of"),
+        Word::Node(node),
+        Word::Fixed(how),
+    ]
 }
 
 fn put_others<W: Write>(out: &mut TextWriter<'_, W>, cluster: &Cluster, pending: &[Pending])
     ensures { Grows W.contents out.old out.new
-        (flat_map (other_pending_text cluster.now) pending.now) }
+        (spaced_words (named cluster.now) (frames_called cluster.now)
+        (flat_map other_pending_words pending.now)) }
 {
     for one in pending {
-        out.put_text(", ");
-        put_one_pending(out, cluster, one);
+        out.put_byte(b',');
+        put_spaced(out, cluster, &pending_words(one));
     }
 }
 
@@ -406,9 +388,74 @@ pub fn put_pending<W: Write>(out: &mut TextWriter<'_, W>, cluster: &Cluster, pen
     match pending {
         [] => {}
         [first, rest @ ..] => {
-            put_one_pending(out, cluster, first);
+            put_words(out, cluster, &pending_words(first));
             put_others(out, cluster, rest);
         }
+    }
+}
+
+/// What is so in its place, in few words.
+fn got_line(got: &Got) -> Line<'_>
+    ensures { result ≡ short_words got.now }
+{
+    match got {
+        Got::Value(value) => return Line::of(&[Word::Value(value)]),
+        Got::Meaning(text) => return Line::of(&[Word::Said(text.as_slice())]),
+        Got::Waiting(count) => return Line::of(&[Word::Number(*count as u64)]),
+        Got::Message(bytes) => return Line::of(&[Word::Bytes(bytes.as_slice())]),
+        Got::Took(time) => return Line::of(&[Word::Number(*time), Word::Fixed("us")]),
+        Got::Sent { number } => return Line::of(&[
+            Word::Fixed("message"),
+            Word::Number(u64::from(*number)),
+            Word::Fixed("sent"),
+        ]),
+        Got::Lost { number, cause } => return Line::of(&[
+            Word::Fixed("message"),
+            Word::Number(u64::from(*number)),
+            Word::Fixed("lost"),
+            Word::Fixed(cause.word()),
+        ]),
+        Got::LostOf {
+            host,
+            number,
+            cause,
+        } => return Line::of(&[
+            Word::Fixed("message"),
+            Word::Number(u64::from(*number)),
+            Word::Fixed("of"),
+            Word::Node(*host),
+            Word::Fixed("lost"),
+            Word::Fixed(cause.word()),
+        ]),
+        Got::NoEvent => return Line::of(&[Word::Fixed("none")]),
+        Got::Seen(how) => return Line::of(&[Word::Fixed(how.word())]),
+        Got::Frame { frame, bytes } => return Line::of(&[
+            Word::Frame(*frame),
+            Word::Bytes(bytes.as_slice()),
+        ]),
+        Got::Slot { table, entry } => return Line::of(&[
+            Word::Table(*table),
+            Word::Number(u64::from(*entry)),
+        ]),
+        Got::NoSlot => return Line::of(&[Word::Fixed("no slot")]),
+        Got::Done => return Line::of(&[Word::Fixed("done")]),
+        Got::Refused(why) => return Line::of(&[Word::Fixed("refused"), Word::Fixed(why.word())]),
+        Got::NoStep => return Line::of(&[Word::Fixed("no step")]),
+        Got::Asleep => return Line::of(&[Word::Fixed("asleep")]),
+        Got::Awake => return Line::of(&[Word::Fixed("awake")]),
+        Got::StillPending(_) => return Line::of(&[]),
+        Got::NoNode => return Line::of(&[Word::Fixed("no such node")]),
+        Got::NoNodeOrSignal => return Line::of(&[Word::Fixed("no such node or signal")]),
+    }
+}
+
+/// What is so in its place.
+fn put_is<W: Write>(out: &mut TextWriter<'_, W>, cluster: &Cluster, got: &Got)
+    ensures { Grows W.contents out.old out.new (got_text cluster.now got.now) }
+{
+    match got {
+        Got::StillPending(pending) => put_pending(out, cluster, pending.as_slice()),
+        _ => put_line(out, cluster, &got_line(got)),
     }
 }
 
@@ -416,64 +463,8 @@ pub fn put_pending<W: Write>(out: &mut TextWriter<'_, W>, cluster: &Cluster, pen
 fn put_got<W: Write>(out: &mut TextWriter<'_, W>, cluster: &Cluster, got: &Got)
     ensures { Grows W.contents out.old out.new (spaced_word (got_text cluster.now got.now)) }
 {
-    match got {
-        Got::Value(value) => put_value(out, value),
-        Got::Meaning(text) => put_after(out, " ", text.as_slice()),
-        Got::Waiting(count) => put_number(out, *count),
-        Got::Message(bytes) => put_bytes(out, bytes.as_slice()),
-        Got::Took(time) => {
-            put_number(out, *time);
-            out.put_text(" us");
-        }
-        Got::Sent { number } => {
-            out.put_text(" message");
-            put_number(out, *number);
-            out.put_text(" sent");
-        }
-        Got::Lost { number, cause } => {
-            out.put_text(" message");
-            put_number(out, *number);
-            out.put_text(" lost");
-            put_word(out, cause.word());
-        }
-        Got::LostOf {
-            host,
-            number,
-            cause,
-        } => {
-            out.put_text(" message");
-            put_number(out, *number);
-            out.put_text(" of");
-            put_node(out, cluster, *host);
-            out.put_text(" lost");
-            put_word(out, cause.word());
-        }
-        Got::NoEvent => out.put_text(" none"),
-        Got::Seen(how) => put_word(out, how.word()),
-        Got::Frame { frame, bytes } => {
-            put_frame(out, cluster, *frame);
-            put_bytes(out, bytes.as_slice());
-        }
-        Got::Slot { table, entry } => {
-            put_table(out, cluster, *table);
-            put_number(out, *entry);
-        }
-        Got::NoSlot => out.put_text(" no slot"),
-        Got::Done => out.put_text(" done"),
-        Got::Refused(why) => {
-            out.put_text(" refused");
-            put_word(out, why.word());
-        }
-        Got::NoStep => out.put_text(" no step"),
-        Got::Asleep => out.put_text(" asleep"),
-        Got::Awake => out.put_text(" awake"),
-        Got::StillPending(pending) => {
-            out.put_byte(b' ');
-            put_pending(out, cluster, pending.as_slice());
-        }
-        Got::NoNode => out.put_text(" no such node"),
-        Got::NoNodeOrSignal => out.put_text(" no such node or signal"),
-    }
+    out.put_byte(b' ');
+    put_is(out, cluster, got);
 }
 
 /// What is expected and what is so, with the line's end.

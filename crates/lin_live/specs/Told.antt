@@ -27,7 +27,8 @@ use Rattle.lin_bench.specs.Slots.{pending, slot_limit}
 use Rattle.lin_bench.specs.Strict.{entries_since, first_refusal}
 use Rattle.lin_bench.specs.declared.got.Pending.{Pending}
 use Rattle.lin_bench.specs.declared.rules.Noted.{Noted}
-use Rattle.lin_bench.specs.Texts.{expected_text, fields_text, got_text, pending_text}
+use Rattle.lin_bench.specs.LineWords.{seen_texts}
+use Rattle.lin_bench.specs.Texts.{expected_text, got_text, pending_text}
 use Rattle.lin_bench.specs.Texts.{reason_text as script_text, table_word, verdict_text}
 use Rattle.lin_bench.specs.declared.got.Verdict.{Verdict}
 use Rattle.lin_bench.specs.declared.got.Verdict.TheVariants.{Unmet, SlotLimit}
@@ -52,7 +53,7 @@ ending words = codes "# " ++ (words ++ 10 ∷ [])
 abbrev pub reason_text : Reason → List ℕ
 reason_text (Script why) = script_text why
 reason_text AskForm = codes "? takes what is asked"
-reason_text (UnknownQuestion fields) = codes "? has no form " ++ fields_text fields
+reason_text (UnknownQuestion fields) = codes "? has no form " ++ seen_texts (codes " ") fields
 reason_text NoNode = codes "no such node"
 reason_text NoNodeOrSignal = codes "no such node or signal"
 reason_text TooLong = codes "line too long"

@@ -13,7 +13,7 @@ ghost use Rattle.lin_live.specs.Told.{slot_text, steps_ending, value_shown, verd
 use crate::reason::Reason;
 use crate::value::Value;
 use lin_bench::{
-    Pending, Verdict, first_refusal, put_fields, put_pending, put_reason, put_verdict,
+    Pending, Verdict, first_refusal, put_pending, put_reason, put_texts, put_verdict,
 };
 use lin_core::{Core, Event, Listed, Log, Refusal};
 use lin_export::{Track, named_text, put_slot_names};
@@ -52,7 +52,7 @@ fn put_why<W: Write>(out: &mut TextWriter<'_, W>, reason: &Reason)
         Reason::AskForm => out.put_text("? takes what is asked"),
         Reason::UnknownQuestion(fields) => {
             out.put_text("? has no form ");
-            put_fields(out, fields.as_slice());
+            put_texts(out, " ", fields.as_slice());
         }
         Reason::NoNode => out.put_text("no such node"),
         Reason::NoNodeOrSignal => out.put_text("no such node or signal"),

@@ -9,12 +9,7 @@ pub mod Remarks
 pub mod LogLines
 pub mod LastLines
 pub mod Reasons
-pub mod StepForms
-pub mod ScriptForms
-pub mod LineForms
-pub mod WordedForms
-pub mod HeardForms
-pub mod JudgedWords
+pub mod OneLine
 pub mod OneLines
 pub mod Transcripts
 pub mod Scripts

@@ -14,7 +14,7 @@ use Rattle.lin_live.proofs.Growth.{answers-are-the-log, answers-are-written, tol
 use Rattle.lin_live.specs.Answers.{answers, answers_text}
 use Rattle.lin_bench.specs.Made.{made}
 use Rattle.lin_bench.specs.Strict.{entries_since}
-use Rattle.lin_live.specs.Told.{Answer, HandData, answered, entries_text, heard_as, reason_text, shown_coding, told, unmarked}
+use Rattle.lin_live.specs.Told.{Answer, HandData, answered, entries_text, heard_as, in_words, reason_text, shown_coding, told, unmarked}
 use Rattle.lin_live.specs.Lines.{HasNoLf, but_last, last_line, pieces, tail}
 use Rattle.lin_live.specs.Transcript.{short}
 use Rattle.lin_live.specs.declared.format.AnswerFormat.{AnswerFormat}
@@ -24,9 +24,8 @@ use Rattle.lin_live.specs.declared.heard.Heard.TheVariants.{Ask, Make}
 use Rattle.lin_live.specs.declared.reason.Reason.{Reason}
 use Rattle.lin_tool.specs.laws.NamedScripts.{AreOneLine, HasFrameNames}
 use Rattle.lin_tool.specs.laws.Transcripts.{FitsCluster, IsRemark, LastLinesAreRemarks, LinesHaveNoLf, TranscriptsAreLogs, without_remarks}
-use Rattle.lin_tool.proofs.laws.LastLines.{ending-remark, value-remark, worded-remark}
-use Rattle.lin_tool.proofs.laws.HeardForms.{FineHeard, said-fine}
-use Rattle.lin_tool.proofs.laws.JudgedWords.{made-clean}
+use Rattle.lin_tool.proofs.laws.LastLines.{ending-remark, value-remark, verdict-remark}
+use Rattle.lin_tool.proofs.laws.OneLine.{live-clean}
 use Rattle.lin_tool.proofs.laws.LogLines.{entries-append, entries-stay}
 use Rattle.lin_tool.proofs.laws.Reasons.{each-way}
 use Rattle.lin_tool.proofs.laws.Remarks.{remark-goes}
@@ -47,30 +46,29 @@ shown-one h one = one-by h.is_physical h.coded one
 abbrev HasRemark : Answer → Type 0
 HasRemark a = IsRemark a.last_line
 
-told-remark : (h : HandData) → HasNames (named h.cluster) → HasFrameNames h.cluster → IfSome h.coded AreOneLine → (said : Result (Option Heard) Reason) → FineHeard said
+told-remark : (h : HandData) → HasNames (named h.cluster) → HasFrameNames h.cluster → IfSome h.coded AreOneLine → (said : Result (Option Heard) Reason)
     → HasRemark (told h said).1
-told-remark h a b one (Err why) f = ending-remark h.cluster a b (codes "bad line: " ++ reason_text why) f.said
-told-remark h a b one (Ok None) f = ending-remark h.cluster a b (codes "ok") refl
-told-remark h a b one (Ok (Some (Ask asked))) f =
+told-remark h a b one (Err why) = ending-remark h.cluster a b (codes "bad line: " ++ reason_text why) (live-clean why)
+told-remark h a b one (Ok None) = ending-remark h.cluster a b (codes "ok") refl
+told-remark h a b one (Ok (Some (Ask asked))) =
     value-remark h.cluster a b (shown_coding h) (shown-one h one) h.opening h.bench.past h.bench.rules.noted asked
-told-remark h a b one (Ok (Some (Make line))) f =
-    let m = made h.cluster h.opening h.capacity h.bench line in
-    worded-remark h.cluster a b h.coded one m.1 (entries_since h.bench.past m.0.past) (made-clean h.cluster h.opening h.capacity h.bench line f.said)
+told-remark h a b one (Ok (Some (Make line))) =
+    let m = made h.cluster h.opening h.capacity h.bench line in verdict-remark h.cluster a b (in_words h.coded m.1) (entries_since h.bench.past m.0.past)
 
-all-remarks : (h : HandData) (c : Parts) (k : Option CodedData) → h.cluster ≡ c → h.coded ≡ k → HasNames (named c) → HasFrameNames c → IfSome k AreOneLine → (ls : List (List ℕ)) → AllByRecursion HasNoLf ls
+all-remarks : (h : HandData) (c : Parts) (k : Option CodedData) → h.cluster ≡ c → h.coded ≡ k → HasNames (named c) → HasFrameNames c → IfSome k AreOneLine → (ls : List (List ℕ))
     → AllByRecursion HasRemark (answers h ls)
-all-remarks h c k is so a b one [] clean = tt
-all-remarks h c k is so a b one (line ∷ more) clean =
+all-remarks h c k is so a b one [] = tt
+all-remarks h c k is so a b one (line ∷ more) =
     let begun = record h { begun = true } in
     let said = heard_as h.cluster h.coded (unmarked h (short line)) in
     let here : IfSome h.coded AreOneLine = subst (λ (o : Option CodedData). IfSome o AreOneLine) (sym so) one in
     let kept = told-kept begun said in (
-      told-remark begun (subst (λ (x : Parts). HasNames (named x)) (sym is) a) (subst HasFrameNames (sym is) b) here said (said-fine h here line clean.0),
-      all-remarks (answered h (short line)).0 c k (kept.1 ∙ is) (kept.2 ∙ so) a b one more clean.1,
+      told-remark begun (subst (λ (x : Parts). HasNames (named x)) (sym is) a) (subst HasFrameNames (sym is) b) here said,
+      all-remarks (answered h (short line)).0 c k (kept.1 ∙ is) (kept.2 ∙ so) a b one more,
     )
 
 pub last-lines-are-remarks : LastLinesAreRemarks
-last-lines-are-remarks h ls t = all-remarks h h.cluster h.coded refl refl t.names t.frames (fits-one h.cluster h.coded t.coded) ls t.lines
+last-lines-are-remarks h ls t = all-remarks h h.cluster h.coded refl refl t.names t.frames (fits-one h.cluster h.coded t.coded) ls
 
 -- ---- the entries of answers
 none-told : (f : AnswerFormat) (c : Parts) (k : Option CodedData) (past : List LogEntry) → [] ≡ entries_text f c k past []

@@ -1,7 +1,11 @@
-use Rattle.std.proofs.Common.{take, flat_map}
+use Rattle.std.proofs.Common.{flat_map, take}
+use Rattle.lin_log.specs.Language.{named}
 use Rattle.lin_text.specs.Written.{Grows}
-use Rattle.lin_bench.specs.Texts.{other_pending_text}
+use Rattle.lin_bench.specs.Fields.{frames_called}
+use Rattle.lin_bench.specs.LineWords.{spaced_words}
+use Rattle.lin_bench.specs.Texts.{other_pending_words}
 use Rattle.lin_bench.proofs.texts.put_others.Given as goal
 
 abbrev pub invariant-loop-one : goal.invariant-loop-one
-invariant-loop-one g l = Grows g.W.Write.contents l.initial.out l.out (flat_map (other_pending_text l.cluster) (take l.one-index l.pending))
+invariant-loop-one g l =
+    Grows g.W.Write.contents l.initial.out l.out (spaced_words (named l.cluster) (frames_called l.cluster) (flat_map other_pending_words (take l.one-index l.pending)))

@@ -3,7 +3,7 @@ use Rattle.lin_live.proofs.telling.put_why.Goals as goal
 
 pub returns-in-UnknownQuestion : goal.returns-in-UnknownQuestion
 returns-in-UnknownQuestion g c =
-    rw c.in-UnknownQuestion.is (grows-more c.put_text-in-UnknownQuestion.ensures (rw c.as_slice.ensures at c.put_fields.ensures))
+    rw c.in-UnknownQuestion.is (grows-more c.put_text-in-UnknownQuestion.ensures (rw c.as_slice.ensures at c.put_texts.ensures))
 
 pub returns-in-NoNode : goal.returns-in-NoNode
 returns-in-NoNode g c = rw c.in-NoNode.is c.put_text-in-NoNode.ensures

@@ -1,0 +1,10 @@
+use Rattle.std.proofs.Common.{ap}
+use Rattle.lin_log.specs.Language.{named}
+use Rattle.lin_text.proofs.Growing.{same-growth}
+use Rattle.lin_bench.specs.Texts.{cluster_text}
+use Rattle.lin_bench.proofs.LineWords.{few-words}
+use Rattle.lin_bench.proofs.texts.put_is.Goals as goal
+
+pub returns-in_default : goal.returns-in_default
+returns-in_default g c =
+    same-growth (ap (cluster_text c.args.cluster.now) (few-words c.args.got.now c.in_default.not-StillPending)) (rw c.got_line.ensures at c.put_line.ensures)

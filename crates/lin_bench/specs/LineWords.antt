@@ -1,0 +1,99 @@
+-- Lines as lists of words and marks.
+use Rattle.std.specs.Prelude.{ℕ, ◌==◌, Bool, true, false, if◌then◌else◌, List, [], ◌∷◌, ◌++◌, codes, flat_map, map}
+use Rattle.std.specs.Fmt.{decimal}
+use Rattle.lin_frame.specs.declared.value.Value.{Value}
+use Rattle.lin_log.specs.Language.{Called, Language, word_of}
+use Rattle.lin_log.specs.Words.{hex_word, spaced_word, value_word}
+use Rattle.lin_bench.specs.declared.expected.Carried.{Carried}
+use Rattle.lin_bench.specs.declared.expected.Carried.TheVariants.{Signals, Request, Response}
+use Rattle.lin_bench.specs.declared.line_words.Word.{Word as CodeWord}
+use Rattle.lin_bench.specs.declared.line_words.Word.TheVariants as code
+
+-- a word of a line; or a mark, which has no space before it
+pub data Word : Type 0 where
+  Node : (node : ℕ) → Word
+  Signal : (signal : ℕ) → Word
+  Table : (table : ℕ) → Word
+  Frame : (frame : Carried) → Word
+  Number : (number : ℕ) → Word
+  Range : (low : ℕ) → (high : ℕ) → Word
+  Hex : (bytes : List ℕ) → Word
+  Raw : (value : Value) → Word
+  Fixed : (text : List ℕ) → Word
+  Said : (text : List ℕ) → Word
+  Fields : (fields : List (List ℕ)) → Word
+  Listed : (texts : List (List ℕ)) → Word
+  Mark : (text : List ℕ) → Word
+
+-- what a word of the code says
+abbrev pub said : CodeWord → Word
+said (code.Node n) = Node n
+said (code.Signal s) = Signal s
+said (code.Table t) = Table t
+said (code.Frame f) = Frame f
+said (code.Number n) = Number n
+said (code.Range low high) = Range low high
+said (code.Bytes bytes) = Hex bytes.now
+said (code.Value v) = Raw v.now
+said (code.Fixed text) = Fixed text.now
+said (code.Said text) = Said text.now
+said (code.Fields fields) = Fields fields.now
+said (code.Listed texts) = Listed texts.now
+said (code.Mark text) = Mark text.now
+
+-- fields with one space between two
+abbrev pub fields_text : List (List ℕ) → List ℕ
+fields_text [] = []
+fields_text (f ∷ fs) = f ++ flat_map spaced_word fs
+
+-- a caller's text is seen with `?` in the place of each LF, which no line has
+abbrev pub seen_byte : ℕ → ℕ
+seen_byte b = if b == 10 then 63 else b
+
+abbrev pub seen_text : List ℕ → List ℕ
+seen_text text = map seen_byte text
+
+abbrev pub seen_after : List ℕ → List ℕ → List ℕ
+seen_after gap text = gap ++ seen_text text
+
+-- texts of a caller's, with what stands between two
+abbrev pub seen_texts : List ℕ → List (List ℕ) → List ℕ
+seen_texts gap [] = []
+seen_texts gap (t ∷ ts) = seen_text t ++ flat_map (seen_after gap) ts
+
+abbrev pub carried_word : Called → Carried → List ℕ
+carried_word frames (Signals f) = word_of frames f
+carried_word frames Request = codes "MasterReq"
+carried_word frames Response = codes "SlaveResp"
+
+-- the text of a word
+abbrev pub word_text : Language → Called → Word → List ℕ
+word_text l frames (Node n) = word_of l.nodes n
+word_text l frames (Signal s) = word_of l.signals s
+word_text l frames (Table t) = word_of l.tables t
+word_text l frames (Frame f) = carried_word frames f
+word_text l frames (Number n) = decimal n
+word_text l frames (Range low high) = decimal low ++ (codes ".." ++ decimal high)
+word_text l frames (Hex bytes) = hex_word bytes
+word_text l frames (Raw v) = value_word v
+word_text l frames (Fixed text) = text
+word_text l frames (Said text) = seen_text text
+word_text l frames (Fields fields) = seen_texts (codes " ") fields
+word_text l frames (Listed texts) = seen_texts (codes ", ") texts
+word_text l frames (Mark text) = text
+
+abbrev pub is_mark : Word → Bool
+is_mark (Mark text) = true
+is_mark w = false
+
+abbrev pub spaced : Language → Called → Word → List ℕ
+spaced l frames w =
+    if is_mark w then word_text l frames w else spaced_word (word_text l frames w)
+
+-- words, each after a space, and words with one space between two
+abbrev pub spaced_words : Language → Called → List Word → List ℕ
+spaced_words l frames ws = flat_map (spaced l frames) ws
+
+abbrev pub words_text : Language → Called → List Word → List ℕ
+words_text l frames [] = []
+words_text l frames (w ∷ ws) = word_text l frames w ++ spaced_words l frames ws

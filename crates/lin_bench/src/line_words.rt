@@ -1,0 +1,267 @@
+//! Lines as lists of words.
+
+ghost use Rattle.std.specs.Prelude.{◌≡◌, ◌≤◌, ◌++◌, codes, flat_map, length, map, option_map};
+ghost use Rattle.std.specs.Fmt.{decimal};
+ghost use Rattle.std.specs.Option.{option_map_or};
+ghost use Rattle.lin_log.specs.Language.{Called, name_at, nameless, word_of};
+ghost use Rattle.lin_log.specs.Words.{value_word};
+ghost use Rattle.lin_text.specs.Written.{Grows};
+ghost use Rattle.lin_bench.specs.Fields.{frames_called};
+ghost use Rattle.lin_bench.specs.LineWords.{carried_word, is_mark, said, seen_after, seen_byte};
+ghost use Rattle.lin_bench.specs.LineWords.{seen_text, seen_texts, spaced, spaced_words, word_text};
+ghost use Rattle.lin_bench.specs.LineWords.{words_text};
+
+use crate::expected::Carried;
+use lin_frame::Value;
+use lin_log::{Naming, Numbers, put_hex};
+use lin_parts::Cluster;
+use lin_text::{Text, TextWriter};
+use std::io::Write;
+use std::marker::Model;
+
+/// How nodes, signals, schedule tables and frames are called in lines.
+pub trait LineNaming: Naming {
+    ghost frames: { Self → Called };
+
+    /// The name of a frame, where it has one.
+    fn name_of_frame(&self, frame: u16) -> Option<&[u8]>
+        ensures { option_map (λ w. w.now) result ≡ name_at (frames self.now) frame };
+}
+
+impl LineNaming for Numbers {
+    ghost frames = { λ _. nameless };
+
+    fn name_of_frame(&self, _frame: u16) -> Option<&[u8]> {
+        None
+    }
+}
+
+impl LineNaming for Cluster {
+    ghost frames = { λ c. frames_called c };
+
+    fn name_of_frame(&self, frame: u16) -> Option<&[u8]> {
+        if (frame as usize) < self.frames() {
+            Some(self.frame_name(frame))
+        } else {
+            None
+        }
+    }
+}
+
+/// A word of a line, or a mark.
+#[derive(Clone, Copy)]
+pub enum Word<'a> {
+    Node(u8),
+    Signal(u16),
+    Table(u16),
+    Frame(Carried),
+    Number(u64),
+    /// A number to another.
+    Range(u64, u64),
+    Bytes(&'a [u8]),
+    Value(&'a Value),
+    /// A word of the language, or several.
+    Fixed(&'a str),
+    /// A word of the caller's.
+    Said(&'a [u8]),
+    /// Words of the caller's.
+    Fields(&'a [Text]),
+    /// Texts with a comma between two.
+    Listed(&'a [Text]),
+    /// A mark, with no space before it.
+    Mark(&'a str),
+}
+
+/// The words of a line, seven at most.
+#[derive(Drop)]
+pub struct Line<'a> {
+    words: [Word<'a>; 7],
+    len: usize,
+}
+
+impl<'a> Model for Line<'a> {
+    ghost use Rattle.std.specs.Prelude.{List, map, take, ◌≤◌};
+    ghost use Rattle.lin_bench.specs.LineWords.{Word, said};
+
+    ghost Value = { List Word };
+
+    ghost view = { λ l. map said (take l.len l.words) };
+
+    ghost invariant = { λ l. l.len ≤ 7 };
+}
+
+impl<'a> Line<'a> {
+    /// These words.
+    pub fn of(words: &[Word<'a>]) -> Line<'a>
+        requires { length words.now ≤ 7 }
+        ensures { result ≡ map said words.now }
+    {
+        let mut all = [Word::Mark(""); 7];
+        all[..words.len()].copy_from_slice(words);
+        Line {
+            words: all,
+            len: words.len(),
+        }
+    }
+}
+
+/// A name, or the number of what has none.
+fn put_called<W: Write>(out: &mut TextWriter<'_, W>, name: Option<&[u8]>, number: u64)
+    ensures { Grows W.contents out.old out.new
+        (option_map_or (λ w. w.now) name.entry (decimal number)) }
+{
+    match name {
+        Some(name) => out.put(name),
+        None => out.put_number(number),
+    }
+}
+
+fn put_frame<N: LineNaming, W: Write>(out: &mut TextWriter<'_, W>, names: &N, frame: Carried)
+    ensures { Grows W.contents out.old out.new (carried_word (N.frames names.now) frame) }
+{
+    match frame {
+        Carried::Signals(number) => {
+            put_called(out, names.name_of_frame(number), u64::from(number));
+        }
+        Carried::Request => out.put_text("MasterReq"),
+        Carried::Response => out.put_text("SlaveResp"),
+    }
+}
+
+fn put_range<W: Write>(out: &mut TextWriter<'_, W>, low: u64, high: u64)
+    ensures { Grows W.contents out.old out.new (decimal low ++ (codes ".." ++ decimal high)) }
+{
+    out.put_number(low);
+    out.put_text("..");
+    out.put_number(high);
+}
+
+fn put_value<W: Write>(out: &mut TextWriter<'_, W>, value: &Value)
+    ensures { Grows W.contents out.old out.new (value_word value.now) }
+{
+    match value {
+        Value::Scalar(number) => out.put_number(*number),
+        Value::Bytes(bytes) => {
+            out.put_byte(b'x');
+            put_hex(out, bytes.as_slice());
+        }
+    }
+}
+
+fn seen(byte: u8) -> u8
+    ensures { result ≡ seen_byte byte }
+{
+    if byte == b'\n' { b'?' } else { byte }
+}
+
+/// A text of the caller's, with `?` in the place of each LF.
+pub fn put_seen<W: Write>(out: &mut TextWriter<'_, W>, text: &[u8])
+    ensures { Grows W.contents out.old out.new (seen_text text.now) }
+{
+    for byte in text {
+        out.put_byte(seen(*byte));
+    }
+}
+
+fn put_all_seen<W: Write>(out: &mut TextWriter<'_, W>, gap: &str, texts: &[Text])
+    ensures { Grows W.contents out.old out.new (flat_map (seen_after gap.now) texts.now) }
+{
+    for text in texts {
+        out.put_text(gap);
+        put_seen(out, text.as_slice());
+    }
+}
+
+/// Texts of the caller's, with what stands between two.
+pub fn put_texts<W: Write>(out: &mut TextWriter<'_, W>, gap: &str, texts: &[Text])
+    ensures { Grows W.contents out.old out.new (seen_texts gap.now texts.now) }
+{
+    match texts {
+        [] => {}
+        [first, rest @ ..] => {
+            put_seen(out, first.as_slice());
+            put_all_seen(out, gap, rest);
+        }
+    }
+}
+
+/// A word alone.
+fn put_word<N: LineNaming, W: Write>(out: &mut TextWriter<'_, W>, names: &N, word: Word<'_>)
+    ensures { Grows W.contents out.old out.new
+        (word_text (N.language names.now) (N.frames names.now) (said word.entry)) }
+{
+    match word {
+        Word::Node(node) => put_called(out, names.name_of_node(node), u64::from(node)),
+        Word::Signal(signal) => put_called(out, names.name_of_signal(signal), u64::from(signal)),
+        Word::Table(table) => put_called(out, names.name_of_table(table), u64::from(table)),
+        Word::Frame(frame) => put_frame(out, names, frame),
+        Word::Number(number) => out.put_number(number),
+        Word::Range(low, high) => put_range(out, low, high),
+        Word::Bytes(bytes) => put_hex(out, bytes),
+        Word::Value(value) => put_value(out, value),
+        Word::Fixed(text) => out.put_text(text),
+        Word::Said(text) => put_seen(out, text),
+        Word::Fields(fields) => put_texts(out, " ", fields),
+        Word::Listed(texts) => put_texts(out, ", ", texts),
+        Word::Mark(mark) => out.put_text(mark),
+    }
+}
+
+fn is_mark(word: Word<'_>) -> bool
+    ensures { result ≡ is_mark (said word.entry) }
+{
+    matches!(word, Word::Mark(_))
+}
+
+/// A word after a space, or a mark.
+fn put_after<N: LineNaming, W: Write>(out: &mut TextWriter<'_, W>, names: &N, word: Word<'_>)
+    ensures { Grows W.contents out.old out.new
+        (spaced (N.language names.now) (N.frames names.now) (said word.entry)) }
+{
+    if is_mark(word) {
+        put_word(out, names, word);
+    } else {
+        out.put_byte(b' ');
+        put_word(out, names, word);
+    }
+}
+
+/// Words, each after a space, and marks.
+pub fn put_spaced<N: LineNaming, W: Write>(
+    out: &mut TextWriter<'_, W>,
+    names: &N,
+    words: &[Word<'_>],
+)
+    ensures { Grows W.contents out.old out.new
+        (spaced_words (N.language names.now) (N.frames names.now) (map said words.now)) }
+{
+    for word in words {
+        put_after(out, names, *word);
+    }
+}
+
+/// Words with one space between two, and marks.
+pub fn put_words<N: LineNaming, W: Write>(
+    out: &mut TextWriter<'_, W>,
+    names: &N,
+    words: &[Word<'_>],
+)
+    ensures { Grows W.contents out.old out.new
+        (words_text (N.language names.now) (N.frames names.now) (map said words.now)) }
+{
+    match words {
+        [] => {}
+        [first, rest @ ..] => {
+            put_word(out, names, *first);
+            put_spaced(out, names, rest);
+        }
+    }
+}
+
+/// The words of a line.
+pub fn put_line<N: LineNaming, W: Write>(out: &mut TextWriter<'_, W>, names: &N, line: &Line<'_>)
+    ensures { Grows W.contents out.old out.new
+        (words_text (N.language names.now) (N.frames names.now) line.now) }
+{
+    put_words(out, names, &line.words[..line.len]);
+}
