@@ -1,8 +1,10 @@
 -- What the values of signals mean (LIN 2.2A, section 9.2.6), as lines.
 use Rattle.std.specs.Prelude.{ℕ, List, [], ◌∷◌, ◌++◌, length, flat_map, codes, Option, Some, None}
+use Rattle.std.specs.Prelude.{Bool, ◌||◌, if◌then◌else◌, nat_lt}
 use Rattle.std.specs.Fmt.{decimal}
 use lib.IntN.{pos, ◌+ℤ◌, ◌*ℤ◌}
 use Rattle.lin_parts.specs.Cluster.{signal_of}
+use Rattle.lin_parts.specs.Rules.{is_array}
 use Rattle.lin_parts.specs.declared.parts.Parts.{Parts}
 use Rattle.lin_frame.specs.Words.{numbers}
 use Rattle.lin_log.specs.Words.{line, value_word}
@@ -50,17 +52,20 @@ abbrev pub value_line : ℕ → ℕ → List ℕ → List ℕ
 value_line s n text =
     line (codes "value" ∷ decimal s ∷ decimal n ∷ text_or_number n text ∷ [])
 
-abbrev pub item_line : ℕ → Item → List ℕ
-item_line s (Logical v text) = value_line s v text
-item_line s (Physical from to scale offset unit) =
-    range_line s
+-- the line of an item, if it says what some value of the signal means: values and ranges say it of
+-- scalars alone, and a range has no value if its first one is above its last
+abbrev pub item_line : Bool → ℕ → Item → List ℕ
+item_line array s (Logical v text) = if array then [] else value_line s v text
+item_line array s (Physical from to scale offset unit) =
+    if array || nat_lt to from then []
+    else range_line s
     (record { min = from; max = to; scale = scale; offset = offset; unit = unit })
-item_line s Bcd = line (codes "bcd" ∷ decimal s ∷ [])
-item_line s Ascii = line (codes "ascii" ∷ decimal s ∷ [])
+item_line array s Bcd = line (codes "bcd" ∷ decimal s ∷ [])
+item_line array s Ascii = line (codes "ascii" ∷ decimal s ∷ [])
 
-abbrev pub item_lines : ℕ → Option CodingType → List ℕ
-item_lines s None = []
-item_lines s (Some t) = flat_map (λ p. item_line s p.item) t.items
+abbrev pub item_lines : Bool → ℕ → Option CodingType → List ℕ
+item_lines array s None = []
+item_lines array s (Some t) = flat_map (λ p. item_line array s p.item) t.items
 
 -- ---- the initial value, and its text where it has one
 
@@ -77,7 +82,8 @@ initial_line c k s =
 
 abbrev pub signal_lines : Parts → CodedData → ℕ → List ℕ
 signal_lines c k s =
-    coding_line c k s ++ (item_lines s (encoding_of k s) ++ initial_line c k s)
+    coding_line c k s
+    ++ (item_lines (is_array (signal_of c s).initial) s (encoding_of k s) ++ initial_line c k s)
 
 abbrev pub signal_list : Parts → CodedData → List ℕ
 signal_list c k = flat_map (signal_lines c k) (numbers (length c.signals))

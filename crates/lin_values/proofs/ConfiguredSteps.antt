@@ -11,8 +11,8 @@ use Rattle.lin_ldf.specs.Words.{is_word_next, name_of}
 use Rattle.lin_ldf.specs.declared.token.TokenKind.TheVariants.{Word, OpenBrace}
 use Rattle.lin_values.specs.Configured.{with_name, with_names, with_attribute, listed_names, with_listed, with_block, with_blocks, with_section, with_statement}
 use Rattle.lin_values.specs.Passed.{has_line, behind_line, behind_group, steps_while}
-use Rattle.lin_values.proofs.PassedSteps.{shorter, no-more}
-use Rattle.lin_values.proofs.ReadingSteps.{TakesOne, repeated-keeps, group-keeps, tail-keeps}
+use Rattle.lin_values.proofs.PassedSteps.{shorter, no-more, group-keeps, tail-keeps}
+use Rattle.lin_values.proofs.ReadingSteps.{TakesOne, repeated-keeps}
 use Rattle.lin_values.proofs.Repeating.{one-step, no-step}
 
 pub name-takes : TakesOne with_name

@@ -12,6 +12,7 @@ use Rattle.lin_values.specs.Real.{real_units}
 use Rattle.lin_values.specs.Texts.{shown_text}
 use Rattle.lin_values.specs.Value.{shortest}
 use Rattle.lin_values.specs.Coding.{between_quotes, small, next_small, is_mark, sign, is_part, run_from, run, real, text_of_item, logical, physical, bcd, ascii, item, type_head, coded_line}
+use Rattle.lin_values.proofs.PassedSteps.{tail-keeps}
 
 -- fewer than n tokens are left behind what is read, if it is read
 abbrev pub Leaves : {A : Type 0} → ℕ → Option (A × List Symbol) → Type 0
@@ -47,10 +48,6 @@ small-leaves n ts h =
 
 next_small-leaves : (n : ℕ) (ts : List Symbol) → length ts < n → Leaves n (next_small ts)
 next_small-leaves n ts h = after n ((mark kinds.Comma).read ts) _ (keeping n (mark_takes kinds.Comma).lawful ts h) (λ u less. small-leaves n u.1 less)
-
-tail-keeps : (ts : List Symbol) → length (tail ts) ≤ length ts
-tail-keeps [] = omega arith
-tail-keeps (t ∷ ts) = omega arith
 
 sign-keeps : (ts : List Symbol) → length (sign ts).1 ≤ length ts
 sign-keeps ts =

@@ -15,11 +15,11 @@ use Rattle.lin_ldf.proofs.Parsed.{faulty_tokens}
 use Rattle.lin_ldf.proofs.Unique.{same_tokens}
 use Rattle.lin_ldf.specs.declared.token.TokenKind.TheVariants.{Word, OpenBrace, CloseBrace}
 use Rattle.lin_values.specs.Coding.{item, type_head, coded_line}
-use Rattle.lin_values.specs.Passed.{has_line, behind_line, behind_closing, behind_group, behind_lines, steps_while}
+use Rattle.lin_values.specs.Passed.{has_line, behind_block, behind_line, behind_closing, behind_group, steps_while}
 use Rattle.lin_values.specs.Reading.{or_bad_item, or_bad_type, or_bad_line, repeated, with_item, with_items, with_type, with_types, with_line, with_lines, with_section, with_statement}
 use Rattle.lin_values.specs.declared.items.Codings.{Codings}
 use Rattle.lin_values.proofs.FormsTaking.{Leaves, item-leaves, head-leaves, line-leaves}
-use Rattle.lin_values.proofs.PassedSteps.{shorter, no-more}
+use Rattle.lin_values.proofs.PassedSteps.{shorter, no-more, block-shorter, closing-keeps, tail-keeps, group-keeps}
 use Rattle.lin_values.proofs.Repeating.{one-step, no-step, steps-keep}
 
 -- ---- lines that take a token each, up to the brace that closes their group
@@ -29,14 +29,6 @@ TakesOne {S} line = (x : List Symbol × S) → has_line x.0 ≡ true → length 
 
 abbrev pub lines_from : {S : Type 0} → (List Symbol × S → List Symbol × S) → List Symbol × S → List Symbol × S
 lines_from line x = steps_while (length x.0) (λ y. has_line y.0) line x
-
-closing-keeps : (ts : List Symbol) → length (behind_closing ts) ≤ length ts
-closing-keeps [] = omega arith
-closing-keeps (t ∷ ts) =
-    elim (is_next CloseBrace (t ∷ ts)) as (λ b. length (cond b ts (t ∷ ts)) ≤ length (t ∷ ts)) [
-      | true ↦ omega arith
-      | false ↦ omega arith
-    ]
 
 module _ {S : Type 0} (line : List Symbol × S → List Symbol × S) (takes : TakesOne line) where
   pub line-more : (x y total : List Symbol × S) → has_line x.0 ≡ true → y ≡ line x → lines_from line x ≡ total → lines_from line y ≡ total
@@ -71,7 +63,7 @@ one_type x = with_type x.0 x.1
 
 pub type-takes : TakesOne one_type
 type-takes x h =
-    let less : length (behind_line 0 x.0) < length x.0 = shorter x.0 h in
+    let less : length (behind_block x.0) < length x.0 = block-shorter x.0 h in
     let leaves : Leaves (length x.0) (type_head x.0) = head-leaves x.0 in
     elim (type_head x.0) as (λ o. Leaves (length x.0) o → length (or_bad_type o x).0 < length x.0) [
       | None ↦ λ l. less
@@ -96,17 +88,6 @@ line-takes x h =
 
 abbrev pub one_statement : List Symbol × Codings → List Symbol × Codings
 one_statement x = with_statement x.0 x.1
-
-pub tail-keeps : (ts : List Symbol) → length (tail ts) ≤ length ts
-tail-keeps [] = omega arith
-tail-keeps (t ∷ ts) = omega arith
-
-pub group-keeps : (ts : List Symbol) → length (behind_group ts) ≤ length ts
-group-keeps ts =
-    let p : length (behind_lines (tail ts)) ≤ length (tail ts) = steps-keep (length {A = Symbol}) has_line (behind_line 0) shorter (length (tail ts)) (tail ts) in
-    let q : length (behind_closing (behind_lines (tail ts))) ≤ length (behind_lines (tail ts)) = closing-keeps (behind_lines (tail ts)) in
-    let r : length (tail ts) ≤ length ts = tail-keeps ts in
-    omega arith
 
 section-keeps : (w : List ℕ) (ts : List Symbol) (f : Codings) → length (with_section w ts f).0 ≤ length ts
 section-keeps w ts f =

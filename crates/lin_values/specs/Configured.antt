@@ -12,9 +12,10 @@ use Rattle.lin_ldf.specs.declared.token.TokenKind.TheVariants.{Word, OpenBrace}
 use Rattle.lin_values.specs.Passed.{behind_line, behind_group, steps_while}
 use Rattle.lin_values.specs.Reading.{repeated}
 
--- the name with which a line of a list begins: NAME ';', or in LIN 2.0 NAME '=' INT ';'
+-- the WORD with which a line of a list begins: WORD ';', or in LIN 2.0 WORD '=' INT ';'
 abbrev pub with_name : List Symbol × List Name → List Symbol × List Name
-with_name x = (behind_line 0 x.0, x.1 ++ name_of (front x.0) ∷ [])
+with_name x =
+    (behind_line 0 x.0, if is_next Word x.0 then x.1 ++ name_of (front x.0) ∷ [] else x.1)
 
 -- the names of a list, which begins with a brace
 abbrev pub with_names : List Symbol → List Name → List Symbol × List Name

@@ -41,3 +41,13 @@ behind_closing ts = if is_next CloseBrace ts then tail ts else ts
 -- what stands behind a group, which begins with a brace
 abbrev pub behind_group : List Symbol → List Symbol
 behind_group ts = behind_closing (behind_lines (tail ts))
+
+-- what stands behind the next group or the next semicolon, whichever comes first, or from the brace
+-- on that closes more
+abbrev pub behind_block : List Symbol → List Symbol
+behind_block [] = []
+behind_block (t ∷ ts) =
+    if is_kind CloseBrace t.kind then t ∷ ts
+    else if is_kind OpenBrace t.kind then behind_group (t ∷ ts)
+    else if is_kind Semicolon t.kind then ts
+    else behind_block ts

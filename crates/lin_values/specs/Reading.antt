@@ -1,5 +1,6 @@
 -- What the two sections say, among all tokens of a text. What is in no form is noted at its first
--- token, and reading goes on behind the next semicolon of its depth.
+-- token. Reading goes on behind the next semicolon of its depth; of a type without a name that is
+-- one, behind its group.
 use Rattle.std.specs.Prelude.{◌≡◌, ℕ, List, [], ◌∷◌, ◌++◌, length, Option, Some, None}
 use Rattle.std.specs.Prelude.{codes, if◌then◌else◌}
 use Rattle.std.specs.Str.{bytes_eq}
@@ -12,7 +13,7 @@ use Rattle.lin_ldf.specs.Words.{place_of}
 use Rattle.lin_ldf.specs.declared.token.TokenKind.TheVariants.{Word, OpenBrace}
 use Rattle.lin_values.specs.Coding.{item, type_head, coded_line}
 use Rattle.lin_values.specs.Passed.{has_line, behind_line, behind_closing, behind_group}
-use Rattle.lin_values.specs.Passed.{steps_while}
+use Rattle.lin_values.specs.Passed.{behind_block, steps_while}
 use Rattle.lin_values.specs.declared.items.CodedLine.{CodedLine}
 use Rattle.lin_values.specs.declared.items.Codings.{Codings}
 use Rattle.lin_values.specs.declared.items.Item.{Item}
@@ -31,13 +32,13 @@ repeated line x =
     let y = steps_while (length x.0) (λ y. has_line y.0) line x in (behind_closing y.0, y.1)
 
 -- ---- what a call read ahead: a value in a form, behind which the parser then stands; or the place of
--- a line in no form, which is passed over
+-- what is in no form, where the parser still stands
 
 abbrev pub IsOrBad : {X : Type 0} → Option X → Option (X × List Symbol) → List Symbol → List Symbol
     → List Place → List Place → Type 0
 IsOrBad (Some x) read ts left bad now = (read ≡ Some (x, left)) × (now ≡ bad)
 IsOrBad None read ts left bad now =
-    (read ≡ None) × (left ≡ behind_line 0 ts) × (now ≡ bad ++ place_of (front ts) ∷ [])
+    (read ≡ None) × (left ≡ ts) × (now ≡ bad ++ place_of (front ts) ∷ [])
 
 -- ---- items
 
@@ -60,9 +61,9 @@ with_items ts bad = repeated with_item (ts, ([], bad))
 
 -- ---- types
 
-abbrev pub with_bad : List Symbol × Codings → List Symbol × Codings
-with_bad x =
-    (behind_line 0 x.0, record x.1 { bad = x.1.bad ++ place_of (front x.0) ∷ [] })
+-- the place of what is in no form, behind which these tokens are left
+abbrev pub with_bad : List Symbol → List Symbol × Codings → List Symbol × Codings
+with_bad left x = (left, record x.1 { bad = x.1.bad ++ place_of (front x.0) ∷ [] })
 
 abbrev pub typed : Name → List Symbol × (List PlacedItem × List Place) → Codings
     → List Symbol × Codings
@@ -76,7 +77,7 @@ typed name read f = (
 
 abbrev pub or_bad_type : Option (Name × List Symbol) → List Symbol × Codings → List Symbol × Codings
 or_bad_type (Some head) x = typed head.0 (with_items head.1 x.1.bad) x.1
-or_bad_type None x = with_bad x
+or_bad_type None x = with_bad (behind_block x.0) x
 
 abbrev pub with_type : List Symbol → Codings → List Symbol × Codings
 with_type ts f = or_bad_type (type_head ts) (ts, f)
@@ -90,7 +91,7 @@ with_types ts f = repeated (λ x. with_type x.0 x.1) (tail ts, f)
 abbrev pub or_bad_line : Option (CodedLine × List Symbol) → List Symbol × Codings
     → List Symbol × Codings
 or_bad_line (Some read) x = (read.1, record x.1 { lines = x.1.lines ++ read.0 ∷ [] })
-or_bad_line None x = with_bad x
+or_bad_line None x = with_bad (behind_line 0 x.0) x
 
 abbrev pub with_line : List Symbol → Codings → List Symbol × Codings
 with_line ts f = or_bad_line (coded_line ts) (ts, f)

@@ -31,12 +31,14 @@ fn name_here(parser: &Parser<'_>) -> Result<Name, AllocError>
     Ok(Name { text, line, column })
 }
 
-/// The name with which a line of a list begins.
+/// The name with which a line of a list begins, if it begins with one.
 fn add_name(parser: &mut Parser<'_>, names: &mut Vec<Name>) -> Result<(), AllocError>
     requires { has_line parser.old ≡ true }
     ensures { OnOk result ((parser.new, names.new.items) ≡ with_name (parser.old, names.old.items)) }
 {
-    names.push(name_here(parser)?)?;
+    if parser.is_at(TokenKind::Word) {
+        names.push(name_here(parser)?)?;
+    }
     pass_line(parser);
     Ok(())
 }

@@ -1,7 +1,7 @@
 //! Tokens that are passed over: lines, and groups in braces.
 
 ghost use Rattle.std.specs.Prelude.{◌≡◌, ◌+◌, ◌<◌, ◌≤◌, ◌^◌};
-ghost use Rattle.lin_values.specs.Passed.{behind_closing, behind_group, behind_line};
+ghost use Rattle.lin_values.specs.Passed.{behind_block, behind_closing, behind_group, behind_line};
 ghost use Rattle.lin_values.specs.Passed.{behind_lines, depth_behind, has_line};
 
 use lin_ldf::{Parser, TokenKind};
@@ -74,4 +74,25 @@ pub(crate) fn pass_group(parser: &mut Parser<'_>)
     parser.skip();
     pass_lines(parser);
     pass_closing(parser);
+}
+
+/// Tokens up to the end of the next group, or up to a semicolon before it, and with it; or up to the
+/// brace that closes more.
+#[tactic(auto, using(crate::proofs::PassedSteps::passing_a_block))]
+pub(crate) fn pass_block(parser: &mut Parser<'_>)
+    ensures { parser.new ≡ behind_block parser.old }
+{
+    while let Some(kind) = parser.front_kind() {
+        if kind == TokenKind::CloseBrace {
+            return;
+        }
+        if kind == TokenKind::OpenBrace {
+            pass_group(parser);
+            return;
+        }
+        parser.skip();
+        if kind == TokenKind::Semicolon {
+            return;
+        }
+    }
 }

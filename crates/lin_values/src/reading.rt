@@ -13,7 +13,7 @@ ghost use Rattle.lin_values.specs.Reading.{with_type, with_types};
 
 use crate::grammar::{coded_line, item, type_head};
 use crate::items::{CodedLine, CodingType, Codings, PlacedItem};
-use crate::lines::{has_line, pass_closing, pass_group, pass_line};
+use crate::lines::{has_line, pass_block, pass_closing, pass_group, pass_line};
 use crate::mentioned::mentions;
 use lin_ldf::{LdfFault, Parser, TokenKind};
 use lin_parts::Place;
@@ -29,7 +29,7 @@ struct Found {
 }
 
 /// What was read ahead, if it is in a form; the parser then stands behind it. Else the place where
-/// it begins is noted, and the parser stands behind the line.
+/// it begins is noted, and the parser stays there.
 fn or_bad<'a, T: Drop>(
     parser: &mut Parser<'a>,
     ahead: Parser<'a>,
@@ -48,7 +48,6 @@ fn or_bad<'a, T: Drop>(
         Err(LdfFault::OutOfMemory) => Err(AllocError),
         Err(_) => {
             bad.push(parser.place())?;
-            pass_line(parser);
             Ok(None)
         }
     }
@@ -67,8 +66,9 @@ fn add_item(
     let place = parser.place();
     let mut ahead = parser.ahead();
     let read = item(&mut ahead);
-    if let Some(item) = or_bad(parser, ahead, read, bad)? {
-        items.push(PlacedItem { item, place })?;
+    match or_bad(parser, ahead, read, bad)? {
+        Some(item) => items.push(PlacedItem { item, place })?,
+        None => pass_line(parser),
     }
     Ok(())
 }
@@ -86,7 +86,7 @@ fn items(parser: &mut Parser<'_>, bad: &mut Vec<Place>) -> Result<Vec<PlacedItem
     Ok(items)
 }
 
-/// A type, or a line that is none.
+/// A type, or what is none, up to the end of its group.
 fn add_type(parser: &mut Parser<'_>, found: &mut Found) -> Result<(), AllocError>
     requires { has_line parser.old ≡ true }
     ensures { OnOk result
@@ -95,6 +95,7 @@ fn add_type(parser: &mut Parser<'_>, found: &mut Found) -> Result<(), AllocError
     let mut ahead = parser.ahead();
     let read = type_head(&mut ahead);
     let Some(name) = or_bad(parser, ahead, read, &mut found.bad)? else {
+        pass_block(parser);
         return Ok(());
     };
     let items = items(parser, &mut found.bad)?;
@@ -124,8 +125,9 @@ fn add_line(parser: &mut Parser<'_>, found: &mut Found) -> Result<(), AllocError
 {
     let mut ahead = parser.ahead();
     let read = coded_line(&mut ahead);
-    if let Some(line) = or_bad(parser, ahead, read, &mut found.bad)? {
-        found.lines.push(line)?;
+    match or_bad(parser, ahead, read, &mut found.bad)? {
+        Some(line) => found.lines.push(line)?,
+        None => pass_line(parser),
     }
     Ok(())
 }
@@ -199,9 +201,10 @@ fn found_in(alloc: Global, source: &[u8]) -> Result<Found, AllocError>
 }
 
 /// What the sections `Signal_encoding_types` and `Signal_representation` of an LDF text say (LIN
-/// 2.2A, section 9.2.6), wherever they stand among its sections. It is never a fault: a line that is
-/// in no form is noted, and reading goes on behind the next semicolon of its depth. A text that
-/// doesn't mention the sections is only searched for their words.
+/// 2.2A, section 9.2.6), wherever they stand among its sections. It is never a fault: an item or a
+/// line that is in no form is noted, and reading goes on behind the next semicolon of its depth. A
+/// type whose name isn't a word is noted, and reading goes on behind its group. A text that doesn't
+/// mention the sections is only searched for their words.
 ///
 /// The text is one that was read as an LDF text; of any other the tokens before the first fault of
 /// its tokens are read. An error means out of memory.

@@ -1,6 +1,8 @@
 //! What the values of signals mean, as lines.
 
 ghost use Rattle.std.specs.Prelude.{◌≡◌, ◌<◌, flat_map, length, option_map};
+ghost use Rattle.lin_parts.specs.Cluster.{signal_of};
+ghost use Rattle.lin_parts.specs.Rules.{is_array};
 ghost use Rattle.lin_log.specs.Words.{spaced_word};
 ghost use Rattle.lin_text.specs.Written.{Grows, WritesText};
 ghost use Rattle.lin_export.specs.ListedSignals.{coding_line, encoding_word, initial_line, item_line};
@@ -12,6 +14,7 @@ ghost use Rattle.lin_values.specs.Meaning.{meant};
 ghost use Rattle.lin_values.specs.Shown.{decimal_shown};
 ghost use Rattle.lin_values.specs.Value.{decimal_of};
 
+use lin_frame::Value;
 use lin_log::{Word, put_head, put_line, put_spaced, value_word};
 use lin_parts::Cluster;
 use lin_text::{TextBuffer, TextWriter, WriteFailed};
@@ -121,15 +124,27 @@ fn put_value<W: Write>(out: &mut TextWriter<'_, W>, signal: u16, value: u16, tex
     );
 }
 
-fn put_item<W: Write>(out: &mut TextWriter<'_, W>, signal: u16, item: &Item)
-    ensures { Grows W.contents out.old out.new (item_line signal item.now) }
+/// The line of an item, if it says what some value of the signal means. Values and ranges say it of
+/// scalars alone, and a range has no value if its first one is above its last.
+fn put_item<W: Write>(out: &mut TextWriter<'_, W>, signal: u16, array: bool, item: &Item)
+    ensures { Grows W.contents out.old out.new (item_line array signal item.now) }
 {
     let number = Word::Number(u64::from(signal));
     match item {
-        Item::Logical { value, text } => put_value(out, signal, *value, text.as_slice()),
         Item::Bcd => put_line(out, b"bcd", &[number]),
         Item::Ascii => put_line(out, b"ascii", &[number]),
-        Item::Physical { .. } => {
+        Item::Logical { value, text } => {
+            if !array {
+                put_value(out, signal, *value, text.as_slice());
+            }
+        }
+        Item::Physical { min, max, .. } => {
+            if array {
+                return;
+            }
+            if *max < *min {
+                return;
+            }
             if let Some(range) = item.as_range() {
                 put_range(out, signal, &range);
             }
@@ -137,21 +152,30 @@ fn put_item<W: Write>(out: &mut TextWriter<'_, W>, signal: u16, item: &Item)
     }
 }
 
-fn put_all_items<W: Write>(out: &mut TextWriter<'_, W>, signal: u16, items: &[PlacedItem])
-    ensures { Grows W.contents out.old out.new (flat_map (λ p. item_line signal p.item) items.now) }
+fn put_all_items<W: Write>(
+    out: &mut TextWriter<'_, W>,
+    signal: u16,
+    array: bool,
+    items: &[PlacedItem],
+)
+    ensures { Grows W.contents out.old out.new
+        (flat_map (λ p. item_line array signal p.item) items.now) }
 {
     for one in items {
-        put_item(out, signal, &one.item);
+        put_item(out, signal, array, &one.item);
     }
 }
 
 /// The lines of the items of a signal's encoding.
-fn put_items<W: Write>(out: &mut TextWriter<'_, W>, coded: &Coded, signal: u16)
+fn put_items<W: Write>(out: &mut TextWriter<'_, W>, cluster: &Cluster, coded: &Coded, signal: u16)
+    requires { signal < length cluster.now.signals }
     ensures { Grows W.contents out.old out.new
-        (item_lines signal (encoding_of coded.now signal)) }
+        (item_lines (is_array (signal_of cluster.now signal).initial) signal
+        (encoding_of coded.now signal)) }
 {
+    let array = matches!(cluster.initial(signal), Value::Bytes(_));
     if let Some(encoding) = coded.encoding_of(signal) {
-        put_all_items(out, signal, encoding.coding().items.as_slice());
+        put_all_items(out, signal, array, encoding.coding().items.as_slice());
     }
 }
 
@@ -191,7 +215,7 @@ fn put_signal<W: Write>(out: &mut TextWriter<'_, W>, cluster: &Cluster, coded: &
     ensures { Grows W.contents out.old out.new (signal_lines cluster.now coded.now signal) }
 {
     put_coding(out, cluster, coded, signal);
-    put_items(out, coded, signal);
+    put_items(out, cluster, coded, signal);
     put_initial(out, cluster, coded, signal);
 }
 
@@ -203,8 +227,9 @@ fn put_signals<W: Write>(out: &mut TextWriter<'_, W>, cluster: &Cluster, coded: 
     }
 }
 
-/// Writes for each signal a line with its bits and its encoding, one for each range and each value of
-/// the encoding, and one for its initial value, with what that means (LIN 2.2A, section 9.2.6).
+/// Writes for each signal a line with its bits and its encoding, one for each item of the encoding
+/// that says what a value of the signal means, and one for its initial value, with what that means
+/// (LIN 2.2A, section 9.2.6).
 ///
 /// It goes through a buffer of fixed size, and takes no memory. The writer isn't flushed.
 ///
