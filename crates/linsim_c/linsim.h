@@ -11,6 +11,9 @@
  *
  * Texts are bytes with a length, and no NUL is read or written. Each call sets all of `report`. A call whose
  * status is another than LINSIM_DONE writes nothing at `out`.
+ *
+ * Memory is taken by malloc and realloc, and given back by free. On x86-64 a call took less than 160 KiB of stack, and
+ * linsim_line, linsim_newest and linsim_close less than 80 KiB, over the clusters and scripts of the tests.
  */
 #ifndef LINSIM_H
 #define LINSIM_H
@@ -22,16 +25,19 @@
 extern "C" {
 #endif
 
-/* The statuses. Where several faults are there, the one reported is the one with the lowest number of 1 to 8. */
+/* The statuses. If several are true, a call returns LINSIM_IS_OPEN or LINSIM_IS_CLOSED first, and else the lowest number
+ * from 1 to 8. LINSIM_NO_MEMORY and LINSIM_LOG_FULL can take the place of any number from 3 to 8. */
 enum {
     LINSIM_DONE = 0,
     LINSIM_UNKNOWN_FLAGS = 1, /* settings.flags isn't 0 */
     LINSIM_BAD_CAPACITY = 2,  /* settings.capacity isn't 1 to 1,024 */
-    LINSIM_BAD_LDF = 3,       /* the LDF text has a fault: its line, column and number (1 to 7) */
+    LINSIM_BAD_LDF = 3,       /* the LDF text has a fault: its line, column and number (1 to 7); all are 0 if the text has
+                                 more than 4,194,304 bytes */
     LINSIM_FINDING = 4,       /* the LDF text describes no cluster: the first finding's line, column and number (1 to 18) */
     LINSIM_NO_TABLE = 5,      /* the cluster has no schedule table settings.table */
     LINSIM_LONG_SCRIPT = 6,   /* the script has more than 16,777,216 bytes */
-    LINSIM_BAD_LINE = 7,      /* a line of the script is in no form: its number */
+    LINSIM_BAD_LINE = 7,      /* a line of the script has no form: its number. In linsim_line also a line of more than
+                                 16,777,216 bytes */
     LINSIM_NO_ROOM = 8,       /* the text is longer than `room`: its length. A line's step is made: see linsim_newest */
     LINSIM_NO_MEMORY = 9,     /* nothing was done */
     LINSIM_LOG_FULL = 10,     /* the log has 4,294,967,295 entries; nothing was done */
@@ -74,7 +80,7 @@ uint32_t linsim_open(const uint8_t *ldf, size_t ldf_length, const linsim_setting
 
 /* Makes the step of one line of a script, given without its LF, and writes the text of its entry: the line itself, and a
  * line for each event. A line that says no step (empty, or one that begins with # or >) writes 0 bytes.
- * Statuses: 0, 7 (line 1), 8 to 11, 13. After 7, 9, 10 and 13 nothing was done. */
+ * Statuses: 0, 7 (line 1), 8 to 11, 13. After 7, 9, 10 and 13 nothing was done; after 8 and 11 the step is made. */
 uint32_t linsim_line(linsim_handle *handle, const uint8_t *line, size_t length, uint8_t *out, size_t room,
                      linsim_report *report);
 

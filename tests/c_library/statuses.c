@@ -90,6 +90,42 @@ static void whole_runs(void) {
                   LINSIM_DONE, 0, 0, 0, 0));
 }
 
+/* The longest LDF text and the longest line, and those of a byte more. The statuses' numbers are those that callers were
+ * compiled with. */
+static void limits(void) {
+    enum { LONGEST_LDF = 4194304, LONGEST_LINE = 16777216 };
+    static uint8_t text[LONGEST_LDF + 1], line[LONGEST_LINE + 2];
+    linsim_settings settings = {16, 0, 0};
+    linsim_handle handle = {NULL};
+    memset(text, ' ', sizeof text);
+    memcpy(text, ldf, ldf_length);
+    clear();
+    CHECK(is_left(linsim_replay(text, LONGEST_LDF + 1, &settings, bytes("bus open"), 8, out, sizeof out, &report), LINSIM_BAD_LDF,
+                  0, 0, 0, 0));
+    clear();
+    CHECK(is_left(linsim_open(text, LONGEST_LDF + 1, &settings, &handle, &report), LINSIM_BAD_LDF, 0, 0, 0, 0));
+    CHECK(handle.at == NULL);
+    settings.capacity = 0;
+    clear();
+    CHECK(is_left(linsim_open(text, LONGEST_LDF + 1, &settings, &handle, &report), LINSIM_BAD_CAPACITY, 0, 0, 0, 0));
+    settings.capacity = 16;
+    clear();
+    CHECK(is_left(linsim_open(text, LONGEST_LDF, &settings, &handle, &report), LINSIM_DONE, 0, 0, 0, 0));
+    memset(line, '#', sizeof line);
+    clear();
+    CHECK(is_left(linsim_line(&handle, line, LONGEST_LINE + 1, out, sizeof out, &report), LINSIM_BAD_LINE, 0, 1, 0, 0));
+    clear();
+    CHECK(is_left(linsim_line(&handle, line, LONGEST_LINE, out, sizeof out, &report), LINSIM_DONE, 0, 0, 0, 0));
+    line[LONGEST_LINE] = '\r';
+    clear();
+    CHECK(is_left(linsim_line(&handle, line, LONGEST_LINE + 1, out, sizeof out, &report), LINSIM_DONE, 0, 0, 0, 0));
+    linsim_close(&handle);
+    CHECK(LINSIM_DONE == 0 && LINSIM_UNKNOWN_FLAGS == 1 && LINSIM_BAD_CAPACITY == 2 && LINSIM_BAD_LDF == 3);
+    CHECK(LINSIM_FINDING == 4 && LINSIM_NO_TABLE == 5 && LINSIM_LONG_SCRIPT == 6 && LINSIM_BAD_LINE == 7);
+    CHECK(LINSIM_NO_ROOM == 8 && LINSIM_NO_MEMORY == 9 && LINSIM_LOG_FULL == 10 && LINSIM_UNTOLD == 11);
+    CHECK(LINSIM_IS_OPEN == 12 && LINSIM_IS_CLOSED == 13);
+}
+
 static void handles(void) {
     linsim_handle handle = {NULL}, other = {NULL};
     linsim_settings settings = {16, 0, 0}, wrong = {16, 0, 9};
@@ -152,6 +188,7 @@ int main(int argc, char **argv) {
     fclose(file);
     whole_runs();
     handles();
+    limits();
     printf("%lu passed, %lu failed\n", passed, failed);
     return failed != 0;
 }

@@ -1,5 +1,5 @@
 -- One line of a script, made on the core behind a handle.
-use Rattle.std.specs.Prelude.{◌≡◌, ◌-◌, ◌^◌, ℕ, List, [], ◌∷◌, ◌++◌, length, drop, Option, Some}
+use Rattle.std.specs.Prelude.{◌≡◌, ◌⊎◌, ◌<◌, ◌≤◌, ◌-◌, ◌^◌, ℕ, List, [], ◌∷◌, ◌++◌, length, drop, Option, Some}
 use Rattle.std.specs.Prelude.{None, Result, Ok, Err, IsErr}
 use Rattle.std.specs.Str.Lines.{strip_carriage_return}
 use Rattle.lin_core.specs.Core.{CoreData, IsAlike, answered}
@@ -20,19 +20,26 @@ use Rattle.linsim_c.specs.declared.fault.Fault.TheVariants.{Untold, IsClosed}
 abbrev pub says : List ℕ → Result (Option (PortId × Step)) Reason
 says line = line_says plain (strip_carriage_return line)
 
+-- the most bytes of a line that is read, without that CR
+abbrev pub most_bytes : ℕ
+most_bytes = 16777216
+
+abbrev pub bytes_in : List ℕ → ℕ
+bytes_in line = length (strip_carriage_return line)
+
 -- the entry that a step gets, if there is a step
 abbrev pub entries_of : CoreData → Option (PortId × Step) → List LogEntry
 entries_of c None = []
 entries_of c (Some s) = answered c s.0 s.1 ∷ []
 
--- the line says this, and the log grew by its entry
+-- the line is read and says this, and the log grew by its entry
 abbrev pub IsMade : List ℕ → CoreData → CoreData → Option (PortId × Step) → Type 0
 IsMade line c d said =
-    (says line ≡ Ok said) × (d.log ≡ c.log ++ entries_of c said) × IsAlike c d
+    (bytes_in line ≤ most_bytes) × (says line ≡ Ok said) × (d.log ≡ c.log ++ entries_of c said) × IsAlike c d
 
 -- why a line isn't made
 abbrev pub LineFaults : Fault → List ℕ → CoreData → Type 0
-LineFaults (BadLine n) line c = (n ≡ 1) × IsErr (says line)
+LineFaults (BadLine n) line c = (n ≡ 1) × ((most_bytes < bytes_in line) ⊎ IsErr (says line))
 LineFaults LogFull line c = length c.log ≡ 2 ^ 32 - 1
 LineFaults OutOfMemory line c = Unit {0}
 LineFaults _ line c = ⊥

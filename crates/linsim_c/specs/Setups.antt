@@ -12,6 +12,7 @@ use Rattle.lin_parts.specs.declared.parts.Parts.{Parts}
 use Rattle.linsim_c.specs.declared.settings.Settings.{Settings}
 use Rattle.linsim_c.specs.declared.fault.Fault.{Fault}
 use Rattle.linsim_c.specs.declared.fault.Fault.TheVariants.{UnknownFlags, BadCapacity, Ldf}
+use Rattle.linsim_c.specs.declared.fault.Fault.TheVariants.{LdfTooLong}
 use Rattle.linsim_c.specs.declared.fault.Fault.TheVariants.{NoSuchTable, OutOfMemory}
 use Rattle.linsim_c.specs.declared.fault.Fault.TheVariants as fault
 
@@ -57,18 +58,27 @@ AnswersText (Err why) text = TextFaults why text
 abbrev pub AreSound : Settings → Type 0
 AreSound s = (s.flags ≡ 0) × (1 ≤ s.capacity) × (s.capacity ≤ 1024)
 
+-- the most bytes of an LDF text that is read
+abbrev pub most_bytes : ℕ
+most_bytes = 4194304
+
+-- such settings, and a text that is read
+abbrev pub AreRead : List ℕ → Settings → Type 0
+AreRead text s = AreSound s × (length text ≤ most_bytes)
+
 -- the cluster of the text, where the settings fit it
 abbrev pub IsSetUp : Parts → List ℕ → Settings → Type 0
-IsSetUp c text s = AreSound s × IsClusterOf text c × (s.table < length c.tables)
+IsSetUp c text s = AreRead text s × IsClusterOf text c × (s.table < length c.tables)
 
 -- why a text with settings gives none, the settings' own faults first, and a missing table last
 abbrev pub SetupFaults : Fault → List ℕ → Settings → Type 0
 SetupFaults UnknownFlags text s = s.flags ≢ 0
 SetupFaults BadCapacity text s = (s.flags ≡ 0) × ((s.capacity ≡ 0) ⊎ (1024 < s.capacity))
-SetupFaults (Ldf f) text s = AreSound s × IsTextFault text f
-SetupFaults (fault.Finding f) text s = AreSound s × IsFirstFinding text f
+SetupFaults LdfTooLong text s = AreSound s × (most_bytes < length text)
+SetupFaults (Ldf f) text s = AreRead text s × IsTextFault text f
+SetupFaults (fault.Finding f) text s = AreRead text s × IsFirstFinding text f
 SetupFaults NoSuchTable text s =
-    AreSound s × ((c : Parts) × IsClusterOf text c × (length c.tables ≤ s.table))
+    AreRead text s × ((c : Parts) × IsClusterOf text c × (length c.tables ≤ s.table))
 SetupFaults OutOfMemory text s = Unit {0}
 SetupFaults _ text s = ⊥
 

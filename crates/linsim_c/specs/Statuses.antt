@@ -8,6 +8,7 @@ use Rattle.lin_ldf.specs.declared.fault.LdfFault.TheVariants.{SectionTwice, Name
 use Rattle.lin_ldf.specs.declared.fault.LdfFault.TheVariants as ldf
 use Rattle.linsim_c.specs.declared.fault.Fault.{Fault}
 use Rattle.linsim_c.specs.declared.fault.Fault.TheVariants.{UnknownFlags, BadCapacity, Ldf}
+use Rattle.linsim_c.specs.declared.fault.Fault.TheVariants.{LdfTooLong}
 use Rattle.linsim_c.specs.declared.fault.Fault.TheVariants.{NoSuchTable, ScriptTooLong, BadLine}
 use Rattle.linsim_c.specs.declared.fault.Fault.TheVariants.{NoRoom, OutOfMemory, LogFull, Untold}
 use Rattle.linsim_c.specs.declared.fault.Fault.TheVariants.{IsOpen, IsClosed}
@@ -22,6 +23,7 @@ abbrev pub status_of : Answer → ℕ
 status_of (Ok length) = 0
 status_of (Err UnknownFlags) = 1
 status_of (Err BadCapacity) = 2
+status_of (Err LdfTooLong) = 3
 status_of (Err (Ldf f)) = 3
 status_of (Err (fault.Finding f)) = 4
 status_of (Err NoSuchTable) = 5
@@ -70,6 +72,7 @@ report_of (Err (Ldf f)) = at_place (place_of f).line (place_of f).column (fault_
 report_of (Err (fault.Finding f)) = at_place f.line f.column f.number
 report_of (Err UnknownFlags) = of_length 0
 report_of (Err BadCapacity) = of_length 0
+report_of (Err LdfTooLong) = of_length 0
 report_of (Err NoSuchTable) = of_length 0
 report_of (Err ScriptTooLong) = of_length 0
 report_of (Err OutOfMemory) = of_length 0

@@ -14,6 +14,8 @@ pub(crate) enum Fault {
     UnknownFlags,
     /// The capacity isn't 1 to 1,024.
     BadCapacity,
+    /// The LDF text has more than 4,194,304 bytes.
+    LdfTooLong,
     /// The first fault of the LDF text.
     Ldf(LdfFault),
     /// The first finding in what the LDF text describes.
@@ -21,7 +23,7 @@ pub(crate) enum Fault {
     NoSuchTable,
     /// The script has more than 16,777,216 bytes.
     ScriptTooLong,
-    /// The first line in no form, counted from 1.
+    /// The first line that has no form, or is too long, counted from 1.
     BadLine { line: u64 },
     /// The text has this many bytes, and there is less room.
     NoRoom { length: usize },
@@ -36,7 +38,7 @@ pub(crate) enum Fault {
     IsClosed,
 }
 
-/// What a status is about; what it isn't about is 0.
+/// What a status is about; what it isn't about is 0, and so is all of an LDF text that is too long.
 #[derive(Drop)]
 #[repr(C)]
 pub struct Report {
@@ -90,7 +92,7 @@ fn status(answer: &Result<usize, Fault>) -> u32
         Ok(_) => 0,
         Err(Fault::UnknownFlags) => 1,
         Err(Fault::BadCapacity) => 2,
-        Err(Fault::Ldf(_)) => 3,
+        Err(Fault::LdfTooLong | Fault::Ldf(_)) => 3,
         Err(Fault::Finding(_)) => 4,
         Err(Fault::NoSuchTable) => 5,
         Err(Fault::ScriptTooLong) => 6,

@@ -13,14 +13,21 @@ use lin_core::{Core, Hold};
 use lin_log::{LineFault, Numbers, line_step, without_return};
 use std::alloc::Global;
 
+/// The most bytes that a line may have, without its return.
+const LONGEST_LINE: usize = 16_777_216;
+
 /// Makes the step that a line says, if it says one.
 ///
 /// # Errors
-/// `BadLine`, `LogFull` and `OutOfMemory`; nothing was changed.
+/// `BadLine`, also if the line is too long, `LogFull` and `OutOfMemory`; nothing was changed.
 fn step_by(alloc: Global, core: &mut Core, line: &[u8]) -> Result<(), Fault>
     ensures { StepsBy result line.now core.old core.new }
 {
-    match line_step(alloc, &Numbers, without_return(line)) {
+    let line = without_return(line);
+    if line.len() > LONGEST_LINE {
+        return Err(Fault::BadLine { line: 1 });
+    }
+    match line_step(alloc, &Numbers, line) {
         Ok(None) => Ok(()),
         Ok(Some((by, step))) => match core.step(by, step) {
             Ok(()) => Ok(()),

@@ -7,6 +7,9 @@ use lin_cluster::{CheckFault, Cluster, check};
 use lin_ldf::{LdfFault, parse};
 use std::alloc::Global;
 
+/// The most bytes that an LDF text may have.
+const LONGEST_LDF: usize = 4_194_304;
+
 /// The settings of a run or of an open core.
 #[derive(Drop)]
 #[repr(C)]
@@ -50,8 +53,8 @@ fn cluster_of(alloc: Global, ldf: &[u8]) -> Result<Cluster, Fault>
 /// The cluster that an LDF text describes, where the settings fit it.
 ///
 /// # Errors
-/// By the settings and the text: `UnknownFlags`, then `BadCapacity`, `Ldf`, `Finding` and
-/// `NoSuchTable`. `OutOfMemory`.
+/// By the settings and the text: `UnknownFlags`, then `BadCapacity`, `LdfTooLong`, `Ldf`, `Finding`
+/// and `NoSuchTable`. `OutOfMemory`.
 pub(crate) fn set_up(alloc: Global, ldf: &[u8], settings: &Settings) -> Result<Cluster, Fault>
     ensures { SetsUp result ldf.now settings.now }
 {
@@ -60,6 +63,9 @@ pub(crate) fn set_up(alloc: Global, ldf: &[u8], settings: &Settings) -> Result<C
     }
     if settings.capacity == 0 || settings.capacity > 1024 {
         return Err(Fault::BadCapacity);
+    }
+    if ldf.len() > LONGEST_LDF {
+        return Err(Fault::LdfTooLong);
     }
     let cluster = cluster_of(alloc, ldf)?;
     if usize::from(settings.table) >= cluster.tables() {
