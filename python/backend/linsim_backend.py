@@ -1,12 +1,13 @@
 """Builds the package with the standard library alone, so that pip needs no network for it.
 
 The hooks are those of PEP 517 and PEP 660. What is built is a function of the files: times are left
-out of it.
+out of it. With the path of a program in LINSIM_PROGRAM a wheel brings this program.
 """
 import base64
 import hashlib
 import io
 import os
+import stat
 import tarfile
 import zipfile
 
@@ -23,14 +24,23 @@ Description-Content-Type: text/markdown
 """
 WHEEL = f"""Wheel-Version: 1.0
 Generator: {os.path.splitext(os.path.basename(__file__))[0]}
-Root-Is-Purelib: true
-Tag: py3-none-any
+Root-Is-Purelib: {{is_pure}}
+Tag: {{tag}}
 """
+PURE = "py3-none-any"
+WITH_PROGRAM = "py3-none-manylinux_2_34_x86_64"      # the program needs glibc 2.34
+PROGRAM = f"{NAME}/bin/linsim"
+# The plugin has its module's name, so a conftest.py may name it too.
+ENTRY_POINTS = f"[pytest11]\n{NAME}.pytest_plugin = {NAME}.pytest_plugin\n"
 
 
 def build_wheel(wheel_directory, config_settings=None, metadata_directory=None):
     """The wheel's name; it is in that folder then."""
-    return wheel_of(wheel_directory, files("linsim"))
+    content, path = files("linsim"), os.environ.get("LINSIM_PROGRAM")
+    if not path:
+        return wheel_of(wheel_directory, content)
+    content[PROGRAM] = program(path)
+    return wheel_of(wheel_directory, content, WITH_PROGRAM)
 
 
 def build_editable(wheel_directory, config_settings=None, metadata_directory=None):
@@ -60,23 +70,37 @@ def read(name):
 
 def files(folder):
     """The files of a folder, by their names from the top."""
-    names = sorted(it for it in os.listdir(os.path.join(HERE, folder)) if it != "__pycache__")
-    return {f"{folder}/{name}": read(f"{folder}/{name}") for name in names}
+    names = sorted(f"{folder}/{name}" for name in os.listdir(os.path.join(HERE, folder)))
+    return {name: read(name) for name in names if os.path.isfile(os.path.join(HERE, name))}
+
+
+def program(path):
+    """The program's bytes. Raises ValueError if the path isn't absolute, because this runs in a
+    folder of its own, or if it isn't a program for x86-64."""
+    if not os.path.isabs(path):
+        raise ValueError(f"LINSIM_PROGRAM isn't an absolute path: {path}")
+    data = read(path)
+    if data[:5] != b"\x7fELF\2" or data[18:20] != b"\x3e\0":
+        raise ValueError(f"LINSIM_PROGRAM isn't an ELF file for x86-64: {path}")
+    return data
 
 
 def metadata():
     return METADATA.encode() + read("README.md")
 
 
-def wheel_of(folder, content):
-    name = f"{NAME}-{VERSION}-py3-none-any.whl"
-    content = {**content, f"{INFO}/METADATA": metadata(), f"{INFO}/WHEEL": WHEEL.encode()}
+def wheel_of(folder, content, tag=PURE):
+    name = f"{NAME}-{VERSION}-{tag}.whl"
+    wheel = WHEEL.format(is_pure="true" if tag == PURE else "false", tag=tag)
+    content = {**content, f"{INFO}/METADATA": metadata(), f"{INFO}/WHEEL": wheel.encode(),
+               f"{INFO}/entry_points.txt": ENTRY_POINTS.encode()}
     record = [f"{path},sha256={digest(data)},{len(data)}\n" for path, data in content.items()]
     content[f"{INFO}/RECORD"] = "".join([*record, f"{INFO}/RECORD,,\n"]).encode()
     with zipfile.ZipFile(os.path.join(folder, name), "w", zipfile.ZIP_DEFLATED) as archive:
         for path, data in content.items():
             entry = zipfile.ZipInfo(path)
-            entry.external_attr = 0o644 << 16
+            mode = stat.S_IFREG | (0o755 if path == PROGRAM else 0o644)
+            entry.external_attr = mode << 16
             entry.compress_type = zipfile.ZIP_DEFLATED
             archive.writestr(entry, data)
     return name

@@ -3,14 +3,27 @@ from __future__ import annotations
 
 import difflib
 import os
+import re
+import threading
+from contextlib import contextmanager
 from functools import partial
-from typing import Callable, Dict, List, Optional, Sequence, Tuple, Type, TypeVar, Union
+from typing import (TYPE_CHECKING, Callable, Dict, Iterator, List, Optional, Sequence, Tuple, Type,
+                    TypeVar, Union)
 
-from .errors import LinsimError, Refused, UnknownName, Unmet
-from .log import ROW, Data, History, Received, Run, Slot, as_bytes, hex_of
-from .node import Node
-from .process import SECONDS, Answer, Live, Program, check
+from .errors import LinsimError, Refused, StartError, UnknownName, Unmet
+from .log import (REQUEST_NAME, RESPONSE_NAME, Data, History, Received, Run, Slot, as_bytes,
+                  count_of, hex_of)
+from .node import Handler, Node, answers_of
+from .process import SECONDS, Answer, Live, Program, check, options_of
+from .values import Meaning, Texts
 
+__tracebackhide__ = True                # pytest shows the lines of tests alone
+
+if TYPE_CHECKING:
+    from .bench import Bench
+
+PORT = r"(?:(?:bus|[hn]\d+|[hn]:\S+)\s+)?"
+MAKES_SLOTS = re.compile(rf"\s*{PORT}(?:slots?|open|answer|leave|hurt|finish)(?:\s|$)")
 Before = TypeVar("Before", bound=Callable[[], object])
 Result = TypeVar("Result")
 After = TypeVar("After", bound=Callable[[Slot], object])
@@ -20,24 +33,34 @@ class Cluster:
     """A LIN cluster of an LDF file, in a process of its own, which ends with a `with` block.
 
     `bus["Heater"]` is a node. It begins with the schedule table `table`, or with the first one;
-    `capacity` is how many messages of a host may wait (16); the program is `program`, or the
-    environment's LINSIM, or `linsim` on the path; an answer that takes longer than `seconds` by
-    the clock raises `TimeLimit`. Raises `LdfError` with the place of each fault of the LDF, and
-    `StartError`. `nodes`, `signals`, `frames` and `tables` have the names in the LDF's order.
+    `capacity` is how many messages of a host may wait (16); the program is `program`, the
+    environment's LINSIM, the one that the wheel brings, or `linsim` on the path; an answer that
+    takes longer than `seconds` by the clock raises `TimeLimit`. Raises `LdfError` with the place of
+    each fault of the LDF, and `StartError`. `nodes`, `signals`, `frames` and `tables` have the
+    names in the LDF's order.
     """
 
     def __init__(self, ldf: Union[str, os.PathLike[str]], table: Optional[str] = None, *,
                  capacity: Optional[int] = None, program: Optional[Program] = None,
                  seconds: float = SECONDS) -> None:
-        self.ldf = os.fspath(ldf)
+        self.ldf, self.program = os.fsdecode(ldf), program
+        self.path = os.path.abspath(self.ldf)
+        self.options = options_of(table, capacity)
         self.nodes: Dict[str, Node] = {}
         self.signals: List[str] = []
         self.frames: List[str] = []
         self.tables: List[str] = []
+        self.entries: Dict[Tuple[str, int], Tuple[str, int]] = {}   # name, delay in microseconds
+        self.meanings: Dict[str, Meaning] = {}                  # by the signal
+        self._publisher = ""                                    # of the frame that is declared
+        self.texts = Texts(partial(Live, self.ldf, program=program, seconds=seconds))
         for line in check(self.ldf, program, seconds):
-            self._declare(line.split(" "))
+            try:
+                self._declare(line.split(" "))
+            except (IndexError, ValueError):
+                raise StartError(0, f"unexpected output of linsim check: {line}") from None
         self._names = {"node": set(self.nodes), "signal": set(self.signals),
-                       "frame": {*self.frames, "MasterReq", "SlaveResp"},
+                       "frame": {*self.frames, REQUEST_NAME, RESPONSE_NAME},
                        "table": set(self.tables)}
         if table is not None:
             self.known("table", table)
@@ -50,11 +73,15 @@ class Cluster:
         self._slot_damage: Dict[int, bytes] = {}                # by the number of the slot
         self._frame_damage: List[Tuple[str, int, bytes]] = []   # of the frame's slots, from now
         self._noted: List[Tuple[int, Node, str, bytes]] = []    # answers of handlers to come
-        self._in_hook = False
+        self.bench: Optional[Bench] = None
+        self._later: List[str] = []             # lines for the end of the open slot
+        self.turn = threading.RLock()           # a line and its answer belong to one thread
+        self._slots_turn = threading.RLock()    # and so do the slots of one call
+        self._hook_thread: Optional[int] = None         # the one that runs a hook
 
     def _declare(self, fields: Sequence[str]) -> None:
-        """Keeps what a line of `check --frames` declares."""
-        kind, name = fields[0], fields[2]
+        """Keeps what a line of `check` declares."""
+        kind, name = fields[0], "".join(fields[2:3])
         if kind == "node":
             nad = None if fields[3] == "-" else int(fields[3])
             self.nodes[name] = Node(self, name, int(fields[1]), nad)
@@ -64,6 +91,20 @@ class Cluster:
             self.tables.append(name)
         elif kind in ("frame", "sporadic", "event"):
             self.frames.append(name)
+            self._publisher = fields[6] if kind == "frame" else ""
+        elif kind == "place":
+            self.texts.publishers[fields[4]] = self._publisher
+        elif kind == "slot":
+            entry = self.tables[int(fields[1])], int(fields[2])
+            self.entries[entry] = fields[3], int(fields[6])
+        elif kind == "value":
+            self._meaning(fields[1]).values[int(fields[2])] = " ".join(fields[3:])
+        elif kind == "range":
+            self._meaning(fields[1]).ranges.append((int(fields[2]), int(fields[3])))
+
+    def _meaning(self, number: str) -> Meaning:
+        """The encoding of the signal with this number."""
+        return self.meanings.setdefault(self.signals[int(number)], Meaning())
 
     def __enter__(self) -> Cluster:
         return self
@@ -97,6 +138,12 @@ class Cluster:
         return self.history.time
 
     @property
+    def table(self) -> str:
+        """The schedule table of the next slot, or of the slot that is open."""
+        table, *entry = self.ask("next").split(" ")
+        return table if entry else self.history.opened.table
+
+    @property
     def asleep(self) -> bool:
         """Whether the cluster is asleep."""
         return self.history.asleep
@@ -122,8 +169,7 @@ class Cluster:
         """Another process in the same state: the lines of `script` are made again. Hooks, handlers
         and the answers that they still owe are not copied, nor is damage to slots to come."""
         other = self._fresh()
-        for answer in other.live.ask_all(self.live.lines):
-            other.history.take(answer.log)
+        other._made(self.live.lines)
         return other
 
     # -- lines
@@ -131,9 +177,27 @@ class Cluster:
     def line(self, text: str) -> Answer:
         """Makes a line of a bench script, as it stands: slots that it makes have no hooks, handlers
         and damage. Raises `BadLine`, `Refused`, `SlotLimit` and `Unmet`."""
-        answer = self.live.ask(text)
-        self.history.take(answer.log)
+        if not MAKES_SLOTS.match(text):
+            return self.step(text)
+        self._refuse_in_bench()
+        with self._alone():
+            return self.step(text)
+
+    def step(self, text: str) -> Answer:
+        """Makes a line that makes no slots."""
+        with self.turn:
+            answer = self.live.ask(text)
+            if answer.log:
+                self.history.take(answer.log)
         return answer.check(self.place)
+
+    def _made(self, lines: List[str]) -> List[Answer]:
+        """Makes the lines, and follows what came of them."""
+        with self.turn:
+            answers = self.live.ask_all(lines)
+            for answer in answers:
+                self.history.take(answer.log)
+            return answers
 
     def expect(self, form: str) -> None:
         """Raises `Unmet`, which is an AssertionError, where the expectation of a bench script isn't
@@ -142,11 +206,16 @@ class Cluster:
 
     def ask(self, question: str) -> str:
         """The answer to a question of `linsim live`: `bus.ask("signal BCM SeatTemp")`."""
-        return self.line(f"? {question}").text
+        return self.step(f"? {question}").text
 
     def switch(self, table: str) -> None:
-        """The schedule goes on with the first entry of this table. Refused in an open slot."""
-        self.line(f"switch {self.known('table', table)}")
+        """The schedule goes on with the first entry of this table. Refused in an open slot; but in
+        a `Bench` it goes on so after this slot."""
+        line = f"switch {self.known('table', table)}"
+        if self.bench and self.bench.is_open(self):
+            self._later.append(line)
+        else:
+            self.line(line)
 
     def sleep(self) -> None:
         """The commander is asked to put the cluster to sleep, by the next free MasterReq slot."""
@@ -171,7 +240,8 @@ class Cluster:
         """Calls the function before each slot of this frame opens (of an entry of this name, or of
         a sporadic frame that will send it); without a frame, before each slot.
 
-        Hooks and handlers may write, send, ask and expect, but make no slots.
+        Hooks and handlers may write, send, ask and expect. If they make slots, that is a
+        `LinsimError`.
         """
         if frame is not None:
             self.known("frame", frame)
@@ -200,10 +270,10 @@ class Cluster:
         None, and the refusal stands in the `Run`. The cluster itself."""
         if (slot is None) == (frame is None):
             raise ValueError("damage takes a slot or a frame")
-        if min(slot or 0, nth) < 0:
-            raise ValueError("damage takes a slot to come")
+        nth = count_of(nth, "slots")
         if slot is not None:
-            self._slot_damage[self.history.finished + slot] = as_bytes(data)
+            number = self.history.finished + count_of(slot, "slots")
+            self._slot_damage[number] = as_bytes(data)
         elif frame is not None:
             self._frame_damage.append((self.known("frame", frame), nth, as_bytes(data)))
         return self
@@ -212,77 +282,108 @@ class Cluster:
 
     def slot(self, hurt: Optional[Data] = None, leave: Sequence[str] = ()) -> Slot:
         """Makes one slot, with its hooks. `hurt` damages its response, in place of which the nodes
-        see these bytes; the nodes of `leave`, which must be due, leave their responses out. Refused
-        (Asleep, SlotOpen) where it can't be opened."""
-        for node in leave:
-            self.known("node", node)
-        run = self._begin()
-        try:
-            self._make(hurt, leave)
-        finally:
-            self.history.begin()
+        see these bytes; the nodes of `leave`, which must be due, leave their responses out. If no
+        response is left to damage, the refusal stands in the `Run`. Refused (Asleep, SlotOpen)
+        where it can't be opened."""
+        left = [self.known("node", node) for node in leave]
+        damage = None if hurt is None else as_bytes(hurt)
+        self._refuse_in_bench()
+        with self._run() as run:
+            self._make(damage, left)
         return run.slots[-1]
 
     def run(self, slots: Optional[int] = None, ms: Optional[int] = None,
             until: Optional[Callable[[], object]] = None) -> Run:
         """Makes so many slots, or slots while less than `ms` milliseconds are over; with `until`,
-        only up to where it holds, which is asked before each slot. What came of them. Refused
-        (Asleep, SlotOpen) where a slot can't be opened."""
+        only up to where it holds, which is asked before each slot as a hook is called. What came of
+        them. Refused (Asleep, SlotOpen) where a slot can't be opened."""
         if (slots is None) == (ms is None):
             raise ValueError("run takes slots or ms")
-        run = self._begin()
-        start = self.time
+        count = count_of(slots, "slots") if slots is not None else 0
+        time = count_of(ms, "ms") if ms is not None else 0
+        if self.bench:
+            return self.bench.run_of(self, slots, ms, until)
+        with self._run() as run:
+            start = self.time
 
-        def is_over() -> bool:
-            if slots is not None:
-                return len(run.slots) >= slots
-            return self.time >= start + 1000 * (ms or 0)
+            def is_over() -> bool:
+                if ms is None:
+                    return len(run.slots) >= count
+                return self.time >= start + 1000 * time
 
-        try:
-            if self._is_looked_at or until or (ms is not None and self._slot_damage):
-                while not is_over() and not (until and until()):
+            if self._is_looked_at or until or time and self._slot_damage:
+                while not is_over() and not (until and self._call(until)):
                     self._make()
-            else:
-                self._slots(self._stretches(slots) if slots is not None else [f"slots {ms} ms"])
-        finally:
-            self.history.begin()
+            elif time:
+                self._slots([f"slots {time} ms"])
+            elif count:
+                self._slots(self._stretches(count))
         return run
 
     def idle(self, most: int = 10_000) -> Run:
         """Makes slots until no message waits and no answer of a rule or a handler is to come, at
         most so many. `Unmet` where some still do. What came of the slots."""
-        run = self._begin()
-        try:
-            if self._is_looked_at or self._slot_damage:
+        most = count_of(most, "slots")
+        if self.bench:
+            return self.bench.idle_of(self, most)
+        with self._run() as run:
+            if self._is_looked_at or self._slot_damage or not most:
                 self._make_until_idle(run, most)
             else:
                 self.line(f"slots idle {most}")
-        finally:
-            self.history.begin()
         return run
 
     def _make_until_idle(self, run: Run, most: int) -> None:
-        while True:
-            told = self.ask("idle")
-            left = [] if told == "idle" else [told]
-            if self._noted:
-                left.append(f"{len(self._noted)} of handlers noted")
-            if not left:
-                return
+        left = self._left()
+        while left:
             if len(run.slots) >= most:
-                raise Unmet("idle", ", ".join(left), self.place())
+                raise Unmet("idle", left, self.place())
             self._make()
+            left = self._left()
 
-    def _begin(self) -> Run:
-        """Of what the slots come to that are made now."""
-        if self._in_hook:
-            raise LinsimError("a hook makes no slots")
-        return self.history.begin()
+    def _left(self) -> str:
+        """What waits or is to come; nothing where the cluster is idle."""
+        told = self.ask("idle")
+        left = [] if told == "idle" else [told]
+        if self._noted:
+            left.append(f"{len(self._noted)} of handlers noted")
+        return ", ".join(left)
+
+    @contextmanager
+    def _run(self) -> Iterator[Run]:
+        """What comes of the slots that are made in the block."""
+        with self._alone():
+            try:
+                yield self.history.begin()
+            finally:
+                self.history.begin()
+
+    @contextmanager
+    def _alone(self) -> Iterator[None]:
+        """No other thread makes slots in the block. Raises `LinsimError` in a hook, and if another
+        thread makes slots for longer than an answer may take."""
+        self.refuse_in_hook()
+        if not self._slots_turn.acquire(timeout=self.live.seconds):
+            raise LinsimError(f"another thread makes slots ({self.place()})")
+        try:
+            yield
+        finally:
+            self._slots_turn.release()
+
+    def _refuse_in_bench(self) -> None:
+        """Raises `LinsimError` if other clusters are on the same clock."""
+        if self.bench:
+            raise LinsimError(f"one cluster of a bench makes no slots ({self.place()})")
+
+    def refuse_in_hook(self) -> None:
+        """Raises `LinsimError` in a hook, a handler or an `until`."""
+        if self._hook_thread == threading.get_ident():
+            raise LinsimError(f"a hook makes no slots ({self.place()})")
 
     @property
     def _is_looked_at(self) -> bool:
         """Whether slots are made one by one, since something may be done between them."""
-        return bool(self._before or self._after or self._frame_damage
+        return bool(self._before or self._after or self._frame_damage or self._noted
                     or any(node.handlers for node in self.nodes.values()))
 
     def _stretches(self, slots: int) -> List[str]:
@@ -298,9 +399,7 @@ class Cluster:
     def _slots(self, lines: List[str]) -> None:
         """Makes lines of slots. Raises where one ended at a slot that couldn't be opened; what else
         was refused stands in the Run."""
-        answers = self.live.ask_all(lines)
-        for answer in answers:
-            self.history.take(answer.log)
+        answers = self._made(lines)
         for number in [it for it in self._slot_damage if it < self.history.finished]:
             del self._slot_damage[number]
         for answer in answers:
@@ -310,29 +409,61 @@ class Cluster:
                 refusal, name = answer.log[-1].split(" ")[2:]
                 raise Refused(answer.line, int(refusal), name, self.place())
 
-    def _make(self, hurt: Optional[Data] = None, leave: Sequence[str] = ()) -> None:
+    def _make(self, hurt: Optional[bytes] = None, leave: Sequence[str] = ()) -> None:
         """One slot with its hooks."""
         heard = len(self.received)
-        names = self._next_names() if any(frame for frame, _ in self._before) else []
-        for frame, hook in self._before:
-            if frame is None or frame in names:
-                self._call(hook)
-        damage = self._damage()
+        damage = self._prepare()
         hurt = damage if hurt is None else hurt
         if hurt is not None and leave:
-            raise ValueError("a slot is hurt, or responses are left out")
-        tail = ["hurt", hex_of(hurt)] if hurt is not None else ["leave", *leave] if leave else []
-        self._slots([" ".join(["slot", *tail])])
+            self._open(leave)
+            self._finish(hurt)
+        else:
+            tail = [] if hurt is None else ["hurt", hex_of(hurt)]
+            self._slots([" ".join(["slot", *tail, *(["leave", *leave] if leave else [])])])
+        self._after_slot(heard, leave)
+
+    def _prepare(self) -> Optional[bytes]:
+        """Calls the hooks before a slot. Returns the damage that is asked for of it."""
+        names = self._next_names() if any(frame for frame, _ in self._before) else []
+        for hook in [it for frame, it in self._before if frame is None or frame in names]:
+            self._call(hook)
+        return self._damage()
+
+    def _open(self, leave: Sequence[str] = ()) -> Slot:
+        """The first half of a slot: its header, and the responses of the nodes that are due."""
+        self._slots(["open"])
+        slot = self.history.opened
+        self._slots([f"{'leave' if it in leave else 'answer'} {it}" for it in slot.due])
+        return slot
+
+    def _finish(self, hurt: Optional[bytes]) -> None:
+        """The second half of a slot: its end."""
+        self._slots([*([] if hurt is None else [f"hurt {hex_of(hurt)}"]), "finish"])
+        lines, self._later = self._later, []
+        for line in lines:
+            self.line(line)
+
+    def _after_slot(self, heard: int, leave: Sequence[str] = ()) -> None:
+        """Calls the handlers and the hooks of the slot that was finished: all of them, and then
+        raises the first exception of one."""
         slot = self.history.run.slots[-1]
+        calls: List[Callable[[], object]] = [
+            partial(self._hear, handler, it)
+            for it in self.received[heard:] for handler in self.nodes[it.target].handlers]
+        calls += [partial(self._call, hook, slot) for frame, hook in self._after
+                  if frame is None or slot.is_of(frame)]
+        calls.append(self._send_noted)
+        first: Optional[BaseException] = None
+        for call in calls:
+            try:
+                call()
+            except BaseException as error:      # also what a test's framework raises
+                first = error if first is None else first
+        if first is not None:
+            raise first
         for node in leave:
             if node not in slot.due:
                 raise LinsimError(f"{node} isn't due ({self.place()})")
-        for received in self.received[heard:]:
-            self._hear(received)
-        for frame, after in self._after:
-            if frame is None or slot.is_of(frame):
-                self._call(after, slot)
-        self._send_noted()
 
     def _next_names(self) -> List[str]:
         """The names of the slot that comes next: of its entry, and the member of a sporadic
@@ -355,23 +486,20 @@ class Cluster:
         return found
 
     def _call(self, hook: Callable[..., Result], *arguments: object) -> Result:
-        self._in_hook = True
+        self._hook_thread = threading.get_ident()
         try:
             return hook(*arguments)
         finally:
-            self._in_hook = False
+            self._hook_thread = None
 
-    def _hear(self, received: Received) -> None:
-        """Calls the handlers of a message that arrived, and notes their answers."""
-        node = self.nodes[received.target]
-        for handler in node.handlers:
-            answers = self._call(handler, received.data)
-            if answers is None or received.functional:
-                continue
-            at = self.time
-            for wait, data in [(0, answers)] if isinstance(answers, ROW) else answers:
+    def _hear(self, handler: Handler, received: Received) -> None:
+        """Calls a handler with a message that arrived, and notes its answers."""
+        answers = self._call(answers_of, handler, received.data)
+        if not received.functional:
+            node, at = self.nodes[received.target], self.time
+            for data, wait in answers:
                 at += 1000 * wait
-                self._noted.append((at, node, received.source, as_bytes(data)))
+                self._noted.append((at, node, received.source, data))
 
     def _send_noted(self) -> None:
         """Sends the answers whose time has come."""

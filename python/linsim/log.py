@@ -1,12 +1,16 @@
 """What the log with names says of a run: its slots, its messages, and the time."""
 from __future__ import annotations
 
+import operator
 from collections import deque
 from dataclasses import dataclass, field
 from typing import Any, Callable, Deque, Dict, Iterable, List, NamedTuple, Optional, Tuple, Union
 
+__tracebackhide__ = True                # pytest shows the lines of tests alone
+
 ALL = 126                               # the address of all responders (functional addressing)
 REQUEST, RESPONSE = 0x3C, 0x7D          # protected identifiers of the diagnostic frames
+REQUEST_NAME, RESPONSE_NAME = "MasterReq", "SlaveResp"
 SLEEP = 0                               # the first data byte of the sleep frame
 
 ROW = (str, bytes, bytearray)           # the types of one row of bytes
@@ -21,6 +25,19 @@ def as_bytes(data: Data) -> bytes:
     if isinstance(data, int):
         raise TypeError(f"no bytes: {data}")
     return bytes(data)
+
+
+def is_integer(it: object) -> bool:
+    """Whether it is an int, or of a type that stands for one, as those of numpy."""
+    return hasattr(it, "__index__")
+
+
+def count_of(number: int, what: str) -> int:
+    """The number. Raises TypeError if it isn't an integer, and ValueError if it is below 0."""
+    number = operator.index(number)
+    if number < 0:
+        raise ValueError(f"expected a number of {what} from 0 on, not {number}")
+    return number
 
 
 def hex_of(data: Data) -> str:
@@ -38,14 +55,23 @@ def value_of(text: str) -> Value:
     return bytes_of(text[1:]) if text.startswith("x") else int(text)
 
 
+def field_of(value: Value) -> str:
+    """A raw value as scripts have it."""
+    if isinstance(value, (bytes, bytearray)):
+        return "x" + hex_of(value)
+    return format(operator.index(value), "d")
+
+
 @dataclass(frozen=True)
 class Message:
     """A message that was accepted: of this host, to a node or to `"all"` responders. Numbers count
-    the messages of a host from 1."""
+    the messages of a host from 1. `functional` tells a message to all responders from one to a
+    responder that is called `all`."""
     source: str
     target: str
     number: int
     data: bytes
+    functional: bool = field(default=False, compare=False)      # to all responders
 
 
 @dataclass(frozen=True)
@@ -104,8 +130,9 @@ class Run:
 class History:
     """Follows the lines of a log with names.
 
-    It keeps no rule of LIN of its own but one: what a diagnostic frame carries is of its host's
-    oldest message that is neither sent nor lost, unless it is the sleep frame.
+    It has two rules of LIN of its own. A diagnostic frame carries the oldest message of its host
+    that is neither sent nor lost, unless it is the sleep frame. A request frame with the address
+    126 is for all responders (a responder may be called `all`, as the log calls them).
     """
 
     def __init__(self, nodes: Iterable[str]) -> None:
@@ -113,16 +140,27 @@ class History:
         self.received: List[Received] = []
         self.run = Run()
         self.newest: Optional[Message] = None           # the message that was accepted last
+        self.losses: Dict[Message, str] = {}            # all lost messages, with the cause
         self._waiting: Dict[str, Deque[Message]] = {node: deque() for node in nodes}
         self._slot: Slot                                # the last one that was opened
         self._arrived: List[Tuple[str, str, bytes]] = []        # in the slot that is finished
         self._functional = False                        # whether the last message went to all
-        self._step: List[str] = []
+        self._step = ""                                 # the last line that is a step
+
+    @property
+    def opened(self) -> Slot:
+        """The slot that was opened last."""
+        return self._slot
 
     def begin(self) -> Run:
         """What comes from here on is in this new `Run`, and no longer in the one before."""
         self.run = Run()
         return self.run
+
+    def is_waiting(self, message: Message) -> bool:
+        """Whether the message is neither sent nor lost."""
+        waiting = self._waiting[message.source]
+        return bool(waiting) and waiting[0].number <= message.number
 
     def take(self, log: List[str]) -> None:
         """Follows the lines of an answer."""
@@ -133,22 +171,23 @@ class History:
                 if reply:                               # (a later program may say more)
                     reply(self, fields[2:])
             else:
-                self._step = fields
-                following = log[number + 1] if number + 1 < len(log) else ""
-                if not following.startswith("> refused "):
-                    self._done(fields[1:])
+                self._step = line
+                if fields[1] in ("hurt", "wake"):
+                    following = log[number + 1] if number + 1 < len(log) else ""
+                    if not following.startswith("> refused "):
+                        self._done(fields[1:])
 
     def _done(self, step: List[str]) -> None:
         """A step that has no reply of its own."""
         if step[0] == "hurt":
             self._slot.hurt = bytes_of(step[1])
-        elif step[0] == "wake":
+        else:
             self.asleep = False
 
     def _accepted(self, fields: List[str]) -> None:
-        target, data = self._step[3:5]
+        target, data = self._step.split(" ")[3:5]
         to = "all" if target == str(ALL) else target
-        self.newest = Message(fields[0], to, int(fields[1]), bytes_of(data))
+        self.newest = Message(fields[0], to, int(fields[1]), bytes_of(data), to != target)
         self._waiting[fields[0]].append(self.newest)
 
     def _opened(self, fields: List[str]) -> None:
@@ -175,9 +214,10 @@ class History:
         self._slot.frame = fields[0]
         self._slot.signals = dict(zip(fields[1::2], map(value_of, fields[2::2])))
 
-    def _transport(self, fields: List[str]) -> None:
+    def _transport(self, _: List[str]) -> None:
         self._slot.frame = self._slot.name
-        self._functional = fields[0] == "all"
+        data = self._slot.data or b""
+        self._functional = self._slot.header == REQUEST and data[:1] == bytes([ALL])
 
     def _message(self, fields: List[str]) -> None:
         self._arrived.append((fields[0], fields[1], bytes_of(fields[2])))
@@ -186,13 +226,14 @@ class History:
         self.run.sent.append(self._waiting[fields[0]].popleft())
 
     def _lost(self, fields: List[str]) -> None:
-        self.run.lost[self._waiting[fields[0]].popleft()] = fields[2]
+        message = self._waiting[fields[0]].popleft()
+        self.run.lost[message] = self.losses[message] = fields[2]
 
     def _asleep(self, _: List[str]) -> None:
         self.asleep = True
 
     def _refused(self, fields: List[str]) -> None:
-        self.run.refused.append(RefusedStep(" ".join(self._step), int(fields[0]), fields[1]))
+        self.run.refused.append(RefusedStep(self._step, int(fields[0]), fields[1]))
 
     def _time(self, fields: List[str]) -> None:
         """The last line of a slot that was finished."""

@@ -1,20 +1,26 @@
 """The co-process: lines to `linsim live`, and its answers."""
 from __future__ import annotations
 
+import errno
 import os
 import re
 import select
 import subprocess
-import tempfile
+import threading
 import time
 import weakref
-from typing import IO, Callable, Iterable, List, Optional, Sequence, Union
+from typing import Callable, Iterable, List, Optional, Sequence, Union
 
 from .errors import (BadLine, Ended, LinsimError, Refused, SlotLimit, StartError, TimeLimit, Unmet,
                      start_error)
 
+__tracebackhide__ = True                # pytest shows the lines of tests alone
+
 Program = Union[str, "os.PathLike[str]", Sequence[str]]
 
+PACKAGED = os.path.join(os.path.dirname(os.path.abspath(__file__)), "bin", "linsim")
+# The system has no files, processes or memory left: the program's path isn't the cause.
+EXHAUSTED = (errno.EMFILE, errno.ENFILE, errno.EAGAIN, errno.ENOMEM)
 SECONDS = 60.0      # the time limit of an answer where no other is given
 LAST_LINE = re.compile(r"(ok|is|refused|expected|bad line|slot limit)(?::? (.*))?")
 
@@ -25,15 +31,20 @@ class Answer:
     __slots__ = ("line", "log", "kind", "text")
 
     def __init__(self, line: str, log: List[str], last: str) -> None:
+        self.line, self.log = line, log
+        if last == "ok":                    # most lines
+            self.kind, self.text = last, ""
+            return
         found = LAST_LINE.fullmatch(last)
         if not found:
             raise LinsimError(f"{line}: an answer of no known form: {last}")
-        self.line, self.log = line, log
         self.kind, self.text = found[1], found[2] or ""
 
     def check(self, where: Callable[[], str] = str) -> Answer:
         """Itself. Raises `BadLine`, `SlotLimit`, `Unmet` or `Refused` where it is that, which tell
         what `where` gives."""
+        if self.kind in ("ok", "is"):
+            return self
         if self.kind == "bad line":
             raise BadLine(self.line, self.text, where())
         if self.kind == "slot limit":
@@ -48,25 +59,42 @@ class Answer:
 
 
 def command(program: Optional[Program] = None) -> List[str]:
-    """The words that start the program: a path, or several words; where it is None, the path in
-    the environment's LINSIM, or else `linsim`, which is looked for on the path."""
+    """The words that start the program: a path, or several words. If it is None, the path in the
+    environment's LINSIM, or else the program that came with the package, or else `linsim` on the
+    path."""
     if program is None:
-        program = os.environ.get("LINSIM") or "linsim"
+        brought = PACKAGED if os.path.exists(PACKAGED) else "linsim"
+        program = os.environ.get("LINSIM") or brought
     if isinstance(program, (str, os.PathLike)):
         return [os.fspath(program)]
     return list(program)
 
 
+def options_of(table: Optional[str], capacity: Optional[int]) -> List[str]:
+    """Returns the options of a command for these settings."""
+    return [*([] if table is None else ["--table", table]),
+            *([] if capacity is None else ["--capacity", str(capacity)])]
+
+
+def path_of(file: Union[str, bytes, os.PathLike[str]]) -> str:
+    """Returns the file's name as an argument, which is no option even if it begins with `-`."""
+    name = os.fsdecode(file)
+    return os.path.join(".", name) if name.startswith("-") else name
+
+
 def not_started(words: List[str], why: OSError) -> StartError:
-    """What to raise where the system can't start the program."""
-    hint = "set LINSIM to the program's path, or give program="
-    return StartError(None, f"{words[0]} can't be started: {why.strerror}; {hint}")
+    """What to raise if the system can't start the program."""
+    hint = "; set LINSIM to the program's path, or give program="
+    text = f"{words[0]} can't be started: {why.strerror}"
+    return StartError(None, text if why.errno in EXHAUSTED else text + hint)
 
 
 def check(ldf: str, program: Optional[Program] = None, seconds: float = SECONDS) -> List[str]:
-    """The lines of `linsim check --frames`. Raises `LdfError` with each fault's file, line and
-    column, and else `StartError`, or `TimeLimit`."""
-    words = command(program) + ["check", ldf, "--frames", "--where"]
+    """The lines of `linsim check`: frames, slots, and what the values of signals mean. Raises
+    `LdfError` with the file, line and column of each fault, and otherwise `StartError` or
+    `TimeLimit`."""
+    words = command(program) + ["check", path_of(ldf), "--frames", "--slots", "--signals",
+                                "--physical", "--where"]
     try:
         done = subprocess.run(words, stdin=subprocess.DEVNULL, stdout=subprocess.PIPE,
                               stderr=subprocess.PIPE, timeout=seconds, check=False)
@@ -75,18 +103,19 @@ def check(ldf: str, program: Optional[Program] = None, seconds: float = SECONDS)
     except subprocess.TimeoutExpired:
         raise TimeLimit(f"check {ldf}", seconds) from None
     if done.returncode:
-        raise start_error(ldf, done.returncode, done.stderr.decode(errors="replace"))
+        raise start_error(path_of(ldf), done.returncode, done.stderr.decode(errors="replace"))
     return done.stdout.decode(errors="replace").splitlines()
 
 
-def end(process: subprocess.Popen[bytes], errors: IO[bytes], parent: int) -> None:
+def end(process: subprocess.Popen[bytes], errors: int, parent: int) -> None:
     """Ends the process, and lets go of what it held; but not in a fork of its parent."""
     if os.getpid() == parent:
         process.kill()
         process.wait()
-        for file in (process.stdin, process.stdout, errors):
+        for file in (process.stdin, process.stdout):
             if file:
                 file.close()
+        os.close(errors)
 
 
 class Live:
@@ -94,27 +123,23 @@ class Live:
 
     `form` is `"log"` or `"named"`. An answer that isn't whole after `seconds` by the clock raises
     `TimeLimit`. After that, and after each other exception in the middle of answers, the process
-    is ended. `lines` has the lines that make the run: all but questions and bad ones.
+    is ended. `lines` has the lines that make the run: all but questions and bad ones. A line and
+    its answer belong to one thread; other threads wait.
     """
 
     def __init__(self, ldf: Union[str, os.PathLike[str]], table: Optional[str] = None,
                  form: str = "named", *, capacity: Optional[int] = None,
                  program: Optional[Program] = None, seconds: float = SECONDS) -> None:
-        words = command(program) + ["live", os.fspath(ldf), "--to", form]
-        if table is not None:
-            words += ["--table", table]
-        if capacity is not None:
-            words += ["--capacity", str(capacity)]
+        words = command(program) + ["live", path_of(ldf), "--to", form]
+        if form == "named":
+            words.append("--physical")
+        words += options_of(table, capacity)
         self.seconds = seconds
         self.lines: List[str] = []
-        self._errors: IO[bytes] = tempfile.TemporaryFile()
-        try:
-            self._process = subprocess.Popen(words, stdin=subprocess.PIPE, stdout=subprocess.PIPE,
-                                             stderr=self._errors, bufsize=0)
-        except OSError as why:
-            self._errors.close()
-            raise not_started(words, why) from None
-        self._end = weakref.finalize(self, end, self._process, self._errors, os.getpid())
+        self._turn = threading.RLock()
+        self._start(words)
+        self._parent = os.getpid()
+        self._end = weakref.finalize(self, end, self._process, self._errors, self._parent)
         assert self._process.stdin and self._process.stdout
         self._in, self._out = self._process.stdin.fileno(), self._process.stdout.fileno()
         os.set_blocking(self._in, False)
@@ -127,10 +152,23 @@ class Live:
         try:
             self.ask("")                    # the program has read the LDF, or has ended
         except Ended as ended:
-            raise start_error(os.fspath(ldf), ended.status, ended.text) from None
+            raise start_error(path_of(ldf), ended.status, ended.text) from None
         except TimeLimit:
-            raise TimeLimit(f"live {os.fspath(ldf)}", seconds) from None
+            raise TimeLimit(f"live {path_of(ldf)}", seconds) from None
         self.lines.clear()
+
+    def _start(self, words: List[str]) -> None:
+        """Starts the process. Its standard error goes to memory, so no folder is needed."""
+        errors = None
+        try:
+            errors = os.memfd_create("linsim", os.MFD_CLOEXEC)
+            self._process = subprocess.Popen(words, stdin=subprocess.PIPE, stdout=subprocess.PIPE,
+                                             stderr=errors, bufsize=0)
+        except OSError as why:
+            if errors is not None:
+                os.close(errors)
+            raise not_started(words, why) from None
+        self._errors = errors
 
     def ask(self, line: str) -> Answer:
         """The answer to one line."""
@@ -142,42 +180,48 @@ class Live:
         text = "".join([line + "\n" for line in lines])
         if text.count("\n") != len(lines):
             raise ValueError("a line has no line feed")
-        if not self._end.alive:
-            raise LinsimError("the program was ended")
         unwritten = memoryview(text.encode())
         answers: List[Answer] = []
-        try:
-            for line in lines:
-                limit = time.monotonic() + self.seconds
-                answer = self._take(line)
-                while answer is None:
-                    unwritten = self._exchange(line, unwritten, limit)
+        with self._turn:
+            if not self._end.alive:
+                raise LinsimError("the program was ended")
+            try:
+                for line in lines:
+                    limit = time.monotonic() + self.seconds
                     answer = self._take(line)
-                answers.append(answer)
-        except BaseException:
-            self.kill()
-            raise
+                    while answer is None:
+                        unwritten = self._exchange(line, unwritten, limit)
+                        answer = self._take(line)
+                    answers.append(answer)
+            except BaseException:
+                self.kill()
+                raise
         return answers
 
     def close(self) -> int:
         """Ends the lines, and waits for the program's end. Its exit status: 0; 6 where an
         expectation wasn't met, 1 where a line was bad or met the limit of slots. Raises
         `TimeLimit` where it doesn't end in time."""
-        if self._end.alive:
-            limit = time.monotonic() + self.seconds
-            assert self._process.stdin
-            self._process.stdin.close()
-            try:
-                while self._more("the end of the lines", self._reading, limit):
-                    pass
-                self._wait("the end of the lines", limit)
-            finally:
-                self.kill()
-        return self._process.returncode
+        with self._turn:
+            if self._end.alive:
+                limit = time.monotonic() + self.seconds
+                assert self._process.stdin
+                self._process.stdin.close()
+                try:
+                    while self._more("the end of the lines", self._reading, limit):
+                        pass
+                    self._wait("the end of the lines", limit)
+                finally:
+                    self.kill()
+            return self._process.returncode
 
     def kill(self) -> None:
-        """Ends the program at once, whatever it does."""
-        self._end()
+        """Ends the program at once, whatever it does. A thread that waits for an answer gets
+        `Ended`."""
+        if os.getpid() == self._parent:
+            self._process.kill()
+            with self._turn:
+                self._end()
 
     def _take(self, line: str) -> Optional[Answer]:
         """The next answer, where it was read to its end."""
@@ -206,9 +250,8 @@ class Live:
                 unwritten = unwritten[:0]
         if self._more(line, self._both if unwritten else self._reading, limit) == b"":
             self._wait(line, limit)
-            self._errors.seek(0)
-            text = self._errors.read().decode(errors="replace")
-            raise Ended(line, self._process.returncode, text)
+            text = os.pread(self._errors, os.fstat(self._errors).st_size, 0)
+            raise Ended(line, self._process.returncode, text.decode(errors="replace"))
         return unwritten
 
     def _wait(self, line: str, limit: float) -> None:

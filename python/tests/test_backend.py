@@ -10,6 +10,7 @@ import sys
 import tarfile
 import tempfile
 import unittest
+import unittest.mock
 import zipfile
 
 from tests import SEAT
@@ -26,9 +27,10 @@ def loaded(path):
 
 backend = loaded(os.path.join(PACKAGE, "backend", "linsim_backend.py"))
 MODULES = {f"linsim/{name}" for name in os.listdir(os.path.join(PACKAGE, "linsim"))} - {
-    "linsim/__pycache__"}
+    "linsim/__pycache__", "linsim/bin"}
 NAME = f"linsim-{backend.VERSION}"
-INFO = {f"{NAME}.dist-info/{name}" for name in ("METADATA", "WHEEL", "RECORD")}
+INFO = {f"{NAME}.dist-info/{name}" for name in (
+    "METADATA", "WHEEL", "RECORD", "entry_points.txt")}
 
 
 class Backend(unittest.TestCase):
@@ -67,6 +69,61 @@ class Backend(unittest.TestCase):
             metadata = archive.read(f"{NAME}.dist-info/METADATA").decode()
             self.assertIn(f"\nName: linsim\nVersion: {backend.VERSION}\n", metadata)
         self.assertTrue(self.imported_from(path).startswith(path))
+
+    def built(self, program):
+        """The wheel's path, built with this program."""
+        with unittest.mock.patch.dict(os.environ, LINSIM_PROGRAM=program):
+            return os.path.join(self.room, backend.build_wheel(self.room))
+
+    def elf(self):
+        """The program, unless LINSIM names a script that starts it."""
+        path = os.path.abspath(os.environ["LINSIM"])
+        with open(path, "rb") as file:
+            if file.read(4) != b"\x7fELF":
+                self.skipTest("LINSIM is no program of its own")
+        return path
+
+    def test_wheel_with_the_program(self):
+        path = self.built(self.elf())
+        self.assertEqual(os.path.basename(path), f"{NAME}-py3-none-manylinux_2_34_x86_64.whl")
+        with zipfile.ZipFile(path) as archive:
+            self.assertEqual(set(archive.namelist()), MODULES | INFO | {"linsim/bin/linsim"})
+            self.assertEqual(archive.getinfo("linsim/bin/linsim").external_attr >> 16, 0o100755)
+            self.assertEqual(archive.getinfo("linsim/node.py").external_attr >> 16, 0o100644)
+            with open(os.environ["LINSIM"], "rb") as file:
+                self.assertEqual(archive.read("linsim/bin/linsim"), file.read())
+            told = archive.read(f"{NAME}.dist-info/WHEEL").decode()
+            self.assertIn("\nRoot-Is-Purelib: false\nTag: py3-none-manylinux_2_34_x86_64\n", told)
+
+    def test_wheel_with_the_program_in_an_empty_environment(self):
+        """Installed without a network; it runs with nothing on the path."""
+        path, room = self.built(self.elf()), os.path.join(self.room, "environment")
+        quiet = {"stdout": subprocess.PIPE, "stderr": subprocess.STDOUT, "timeout": 120}
+        made = subprocess.run([sys.executable, "-m", "venv", room], check=False, **quiet)
+        if made.returncode:
+            self.skipTest("there is no venv, or no pip")
+        python = os.path.join(room, "bin", "python")
+        words = [python, "-m", "pip", "install", "--no-index", "--disable-pip-version-check", path]
+        done = subprocess.run(words, check=False, **quiet)
+        self.assertEqual(done.returncode, 0, done.stdout)
+        text = f"import linsim\nprint(linsim.Cluster({SEAT!r}).run(slots=1).slots[0].seen)"
+        done = subprocess.run([python, "-c", text], env={"PATH": "/nowhere"}, cwd=self.room,
+                              check=False, **quiet)
+        self.assertEqual(done.stdout, b"silent\n")
+
+    def test_programs_that_a_wheel_cannot_bring(self):
+        script, other = os.path.join(self.room, "linsim"), os.path.join(self.room, "other")
+        with open(script, "w", encoding="ascii") as file:
+            file.write("#!/bin/sh\n")
+        with open(other, "wb") as file:                     # for ARM
+            file.write(b"\x7fELF\2\1\1" + bytes(9) + b"\2\0\xb7\0" + bytes(40))
+        for program, reason in ((script, "isn't an ELF file"), (other, "isn't an ELF file"),
+                                ("out/linsim", "isn't an absolute path")):
+            with self.assertRaisesRegex(ValueError, f"^LINSIM_PROGRAM {reason}"):
+                self.built(program)
+        with self.assertRaises(OSError):
+            self.built("/nowhere/linsim")
+        self.assertEqual(sorted(os.listdir(self.room)), ["linsim", "other"])
 
     def test_wheel_that_leads_here(self):
         with zipfile.ZipFile(os.path.join(self.room, backend.build_editable(self.room))) as archive:

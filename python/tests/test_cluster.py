@@ -115,7 +115,6 @@ class Errors(unittest.TestCase):
                 bus.run, bus.damage, functools.partial(bus.run, 1, 1),
                 functools.partial(bus.damage, 1, "BCM_Heat"), functools.partial(bus.damage, -1),
                 functools.partial(bus.damage, frame="BCM_Heat", nth=-1),
-                functools.partial(bus.slot, b"", ["BCM"]),
                 functools.partial(bus["BCM"].send, "Heater", "1"),
             ):
                 with self.assertRaises(ValueError):
@@ -186,8 +185,8 @@ class Slots(unittest.TestCase):
             with self.assertRaisesRegex(linsim.LinsimError, "^Heater isn't due"):
                 bus.slot(leave=["BCM", "Heater"])
             bus.damage(slot=0)
-            with self.assertRaises(ValueError):
-                bus.slot(leave=["Heater"])
+            slot = bus.slot(leave=["Heater"])                   # no response, so no damage
+            self.assertEqual((slot.seen, slot.hurt), ("none", None))
 
     def test_hooks(self):
         with cluster("Regul") as bus:
@@ -330,6 +329,17 @@ class Messages(unittest.TestCase):
             self.assertEqual([(it.data, it.time) for it in run.received],
                              [(b"\1", 20_000), (b"\2", 60_000), (b"\3", 160_000)])
 
+    def test_answers_in_the_order_of_their_times(self):
+        """Of whichever handler they are."""
+        with cluster("Diag") as bus:
+            heater = bus["Heater"]
+            heater.on_message(lambda _: [(200, b"\3")])
+            heater.on_message(lambda _: [(40, b"\1"), (60, b"\2")])
+            bus["BCM"].send("Heater", "3E00")
+            run = bus.idle()
+            self.assertEqual([(it.data, it.time) for it in run.received if it.target == "BCM"],
+                             [(b"\1", 60_000), (b"\2", 120_000), (b"\3", 220_000)])
+
     def test_timeouts_of_both_links(self):
         with cluster("Diag") as bus:
             for source, target in (("BCM", "Heater"), ("Heater", "BCM")):
@@ -360,7 +370,7 @@ class Messages(unittest.TestCase):
             bus.expect("message Heater BCM 62F190 within 40 ms")
             bus.expect("message Heater BCM 00")
             bus.expect("no lost")
-            self.assertEqual(bus["BCM"].request("Heater", "1003"), b"\x7F\x00\x11")
+            self.assertEqual(bus["BCM"].request("Heater", "1003", match=None), b"\x7F\x00\x11")
             with self.assertRaises(linsim.NoAnswer):
                 bus["BCM"].request("Heater", "3E80")
             bus.timeouts(50)
@@ -472,6 +482,10 @@ class Records(unittest.TestCase):
         with bus.copy() as other:
             self.assertEqual((other.script, other.received), (bus.script, bus.received))
             self.assertEqual(other.live.seconds, 30)
+            for _ in range(3):
+                other["BCM"].send("Vent", "3E00")
+            with self.assertRaisesRegex(linsim.Refused, "QueueFull"):
+                other["BCM"].send("Vent", "3E00")
 
 
 if __name__ == "__main__":
