@@ -12,9 +12,7 @@ ghost use Rattle.lin_live.specs.Told.{slot_text, steps_ending, value_shown, verd
 
 use crate::reason::Reason;
 use crate::value::Value;
-use lin_bench::{
-    Pending, Verdict, first_refusal, put_pending, put_reason, put_texts, put_verdict,
-};
+use lin_bench::{Pending, Verdict, first_refusal, put_pending, put_reason, put_texts, put_verdict};
 use lin_core::{Core, Event, Listed, Log, Refusal};
 use lin_export::{Track, named_text, put_slot_names};
 use lin_log::{put_entries, put_number, put_table, put_value, put_word};

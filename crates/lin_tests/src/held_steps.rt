@@ -1,5 +1,5 @@
 //! Logs that are made again from their own text, where a step that is held is made a second time.
-//! `bench/refused_memory` refuses each request for memory of these tests in turn: they then end for
+//! `checks/refused_memory` refuses each request for memory of these tests in turn: they then end for
 //! lack of memory, or with the same text.
 
 use crate::samples::{

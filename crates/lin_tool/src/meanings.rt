@@ -167,7 +167,8 @@ static FINDINGS: [(&str, &str); 26] = [
 static ENCODINGS: [(&str, &str); 11] = [
     (
         "an item, an encoding or a line in no form, or with a number that is too large or has too \
-         many decimals: it is left out, up to the next semicolon",
+         many decimals: it is left out, up to the next semicolon, or a type up to the end of its \
+         braces",
         "values up to 65,535; a scale or an offset below 1,000,000,000 with at most 24 decimals",
     ),
     (
