@@ -5,38 +5,36 @@ use lin_tool::{Encodings, Extras, Format, Lists, Reading, Settings, Wanted};
 use std::alloc::{AllocError, Global};
 
 const STATUS_NOTE: &str =
-    "Exit status: 0 done; 1 a fault of the input; 2 a wrong command line; 3 out of memory;\n4 a read or a write failed; 5 the run met a limit; 6 the log isn't that of its own steps (replay --same),\nor an expectation isn't met (play, live).\nA fault is one line on standard error; with --explain, lines below it say more.";
+    "Exit status: 0 success; 1 invalid input; 2 invalid command line; 3 out of memory; 4 read or write error;\n5 a limit of the run was reached; 6 an expectation failed (play, live) or the log differs (replay --same).\nEach error is one line on standard error. With --explain, more lines explain it.";
 
 const REPLAY_NOTE: &str =
-    "Without FILE the cluster is the built-in one: the commander cem, the responder door with the diagnostic\naddress 1, and the schedule table diag with a master request and a slave response, 10 ms each.\n\nExample: linsim replay door.ldf --to csv < door.script > door.csv";
+    "The script is read from standard input. A log is a script too, so this command also converts logs.\n\nThe built-in cluster has the commander cem, the responder door (NAD 1) and the schedule table diag, with a master\nrequest and a slave response of 10 ms each.\n\nExample: linsim replay door.ldf --to csv < door.script > door.csv";
 
 const RUN_NOTE: &str =
-    "The script's steps are the hosts' own: sends, writes and closes, each by its host's port. They are put while the slots run,\nso where a step stands among the slots isn't fixed; the log, read by replay, is written again.";
+    "The script is read from standard input and has only send, write and close steps, each by its host's own port. The\nhosts execute them while the slots run, so their positions in the log differ from run to run. Every log can be\nreplayed.\n\nExample: linsim run door.ldf --slots 100 < hosts.script > door.log";
 
 const PLAY_NOTE: &str =
-    "A bench script has the steps of replay's scripts, and lines of its own: slot, slots N, slots N ms, slots N until WHAT,\nslots idle, slot hurt BYTES, slot leave NODE.., expect WHAT, forget; and rules, which are in force from their line on:\nwhen NODE PATTERN answer BYTES (silent), timeouts N ms, every N ms STEP, response_errors on. Nodes, signals and schedule\ntables stand by their names or numbers, values by numbers, or in words behind = or ~: write S = 5 degC. A bad line,\nand each expectation that isn't met, is a line on standard error; the log is written before expectations are told.\nThe format junit is a report of what was judged, and not of the log.\n\nExample: linsim play door.ldf door.bench > door.log";
+    "Lines of a bench script:\n  the steps of replay's scripts, by name or number\n  slot, slot hurt BYTES, slot leave NODE.., slots N, slots N ms, slots idle, slots N until FORM\n  expect FORM, forget\n  when NODE PATTERN answer BYTES, when NODE PATTERN silent, timeouts N ms, every N ms STEP, response_errors on\n\nValues are numbers, or physical values and texts after = or ~: write Temp = 5 degC.\n\nThe log is written first, then one line on standard error for each expectation that failed. The format junit is a\ntest report instead of the log.\n\nExample: linsim play door.ldf door.bench --where > door.log";
 
 const LIVE_NOTE: &str =
-    "Lines are those of bench scripts, and questions: ? signal NODE SIGNAL, ? waiting NODE, ? idle, ? time, ? asleep, ? next.\nEach is answered before the next is read: the log of its entries, with names if wanted, and a line that begins with #.\n\nExample: linsim live door.ldf < door.bench";
+    "Each line of standard input is answered before the next one is read. The answer is the log of that line, then one\nline that begins with #: ok, is VALUE, expected WHAT: GOT, refused NUMBER NAME, bad line: REASON or slot limit.\n\nQuestions: ? signal NODE SIGNAL, ? waiting NODE, ? idle, ? time, ? asleep, ? next.\n\nExample: linsim live door.ldf < door.bench";
 
 const CHECK_NOTE: &str =
-    "On standard output: node NUMBER NAME NAD (- for none), signal NUMBER NAME, table NUMBER NAME ENTRIES, one a line.\nOn standard error: ldf LINE:COLUMN fault NUMBER NAME for the first fault of the text, or ldf too long above 4,194,304 bytes;\notherwise a line LINE:COLUMN finding NUMBER NAME for each reason why it describes no cluster;\nwith --field also LINE:COLUMN warning NUMBER NAME for what is read otherwise than it stands,\nwith --physical for what is wrong with the encodings of signals,\nand with --lint for what is declared and not used, or not as LIN asks for, where nothing is wrong.";
+    "Standard output has one line per item: node NUMBER NAME NAD (- for none), signal NUMBER NAME, and\ntable NUMBER NAME ENTRIES.\n\nStandard error has one line per problem. A syntax error is ldf LINE:COLUMN fault NUMBER NAME; only the first is\nreported. An error in the description is LINE:COLUMN finding NUMBER NAME. A warning of --field, --physical or\n--lint is LINE:COLUMN warning NUMBER NAME, and doesn't change the exit status. A file of more than 4,194,304\nbytes is ldf too long.\n\nExample: linsim check door.ldf --lint --where --explain";
 
-fn file<'a>(alloc: Global) -> Arg<'a> {
-    Arg::new(alloc, "file")
-        .value_name("FILE")
-        .help("The LDF file of the cluster")
+fn file<'a>(alloc: Global, help: &'a str) -> Arg<'a> {
+    Arg::new(alloc, "file").value_name("FILE").help(help)
 }
 
 fn script<'a>(alloc: Global) -> Arg<'a> {
     Arg::new(alloc, "script").value_name("SCRIPT").help(
-        "The file of the bench script; without it, or as -, standard input",
+        "Bench script, or - for standard input [default: standard input]",
     )
 }
 
 fn table<'a>(alloc: Global) -> Arg<'a> {
     Arg::new(alloc, "table").long("table").value_name("T").help(
-        "The schedule table to begin with, by its name [default: the first one]",
+        "Name of the schedule table to start with [default: the first one]",
     )
 }
 
@@ -46,18 +44,18 @@ fn capacity<'a>(alloc: Global) -> Arg<'a> {
         .value_name("N")
         .value_parser(value_parser!(u16).range(1..=1024))
         .default_value("16")
-        .help("How many messages of a host may wait, 1 to 1024")
+        .help("Maximum number of waiting messages per host, 1 to 1024")
 }
 
-/// The words for the formats.
+/// The values of `--to` of `replay` and `run`.
 static FORMATS: [&str; 7] = ["log", "named", "csv", "jsonl", "pcap", "vcd", "html"];
 
-/// Those of a play.
+/// The values of `--to` of `play`.
 static PLAY_FORMATS: [&str; 8] = [
     "log", "named", "csv", "jsonl", "pcap", "vcd", "html", "junit",
 ];
 
-/// The words for those in which answers tell entries.
+/// The values of `--to` of `live`.
 static ANSWER_FORMATS: [&str; 2] = ["log", "named"];
 
 fn format<'a>(alloc: Global, words: &'a [&'a str]) -> Arg<'a> {
@@ -66,7 +64,7 @@ fn format<'a>(alloc: Global, words: &'a [&'a str]) -> Arg<'a> {
         .value_name("FORMAT")
         .value_parser(words)
         .default_value("log")
-        .help("The format in which the log is written")
+        .help("Output format")
 }
 
 /// An option without a value.
@@ -78,52 +76,55 @@ fn flag<'a>(alloc: Global, name: &'a str, help: &'a str) -> Arg<'a> {
 }
 
 fn same<'a>(alloc: Global) -> Result<Arg<'a>, AllocError> {
-    let help = "Writes nothing, and compares the script with its log";
+    let help = "Write nothing, but check that the script is the log of its own steps";
     flag(alloc, "same", help).conflicts_with("to")
 }
 
 fn listed_frames<'a>(alloc: Global) -> Arg<'a> {
-    let help = "Lists the frames with the places of their signals, too";
+    let help = "Also list the frames and the position of each signal";
     flag(alloc, "frames", help)
 }
 
 fn listed_slots<'a>(alloc: Global) -> Arg<'a> {
-    let help = "Lists the slots with the time that they need, and the load of each table, too";
+    let help = "Also list the slots with their required time, and the bus load of each table";
     flag(alloc, "slots", help)
 }
 
 fn places<'a>(alloc: Global) -> Arg<'a> {
-    let help =
-        "Begins the lines of faults and findings with FILE:LINE:COLUMN, and ends them with the token there";
+    let help = "Report errors and warnings as FILE:LINE:COLUMN: MESSAGE: TOKEN";
     flag(alloc, "where", help)
 }
 
 fn script_places<'a>(alloc: Global) -> Arg<'a> {
     let help =
-        "Begins the lines of faults and expectations with FILE:LINE, reports all bad lines, and tells the slot and the time of each expectation";
+        "Report problems as FILE:LINE: MESSAGE, expectations with slot and time; report every bad line";
     flag(alloc, "where", help)
 }
 
 fn strict<'a>(alloc: Global) -> Arg<'a> {
     let help =
-        "Judges refused steps too, of which the script doesn't speak, and what is left out in vain; ends with a line of numbers on standard error";
+        "Also fail for unexpected refusals, slot leave without effect, no expectations; print a summary";
     flag(alloc, "strict", help)
 }
 
+fn explained_file<'a>(alloc: Global) -> Arg<'a> {
+    let help = "Explain errors and warnings on standard error";
+    flag(alloc, "explain", help)
+}
+
 fn explain<'a>(alloc: Global) -> Arg<'a> {
-    let help = "Says more of faults, findings and refused steps, on standard error";
+    let help = "Explain errors, warnings and refused steps on standard error";
     flag(alloc, "explain", help)
 }
 
 fn field<'a>(alloc: Global) -> Arg<'a> {
     let help =
-        "Reads the LDF as one of the field (LIN 1.3, 2.0, J2602, ISO 17987), with warnings on standard error";
+        "Accept LIN 1.3, 2.0, J2602, ISO 17987 and old editors' LDF files; warn about each deviation";
     flag(alloc, "field", help)
 }
 
 fn plain<'a>(alloc: Global) -> Result<Arg<'a>, AllocError> {
-    let help =
-        "Writes the LDF as --field reads it, as a plain one that other tools read, in place of the list";
+    let help = "Write the LDF as LIN 2.2A text instead of the list (needs --field)";
     flag(alloc, "plain", help)
         .requires_arg("field")?
         .conflicts_with("frames")?
@@ -134,23 +135,23 @@ fn plain<'a>(alloc: Global) -> Result<Arg<'a>, AllocError> {
 }
 
 fn physical<'a>(alloc: Global) -> Arg<'a> {
-    let help = "Reads the LDF's encodings of signals, too, with warnings on standard error";
+    let help = "Read the signal encodings and warn about errors in them";
     flag(alloc, "physical", help)
 }
 
 fn meanings<'a>(alloc: Global) -> Arg<'a> {
     let help =
-        "Writes values of signals as what the LDF's encodings say they mean, too, with warnings on standard error";
+        "Also write physical values and value texts; warn about errors in the signal encodings";
     flag(alloc, "physical", help)
 }
 
 fn linted<'a>(alloc: Global) -> Arg<'a> {
-    let help = "Warns of what is odd in an LDF in which nothing is wrong, too, on standard error";
+    let help = "If the LDF has no errors, warn about unused declarations and disregarded LIN rules";
     flag(alloc, "lint", help)
 }
 
 fn listed_signals<'a>(alloc: Global) -> Result<Arg<'a>, AllocError> {
-    let help = "Lists the signals with what their values mean, too";
+    let help = "Also list the physical values and texts of each signal (needs --physical)";
     flag(alloc, "signals", help).requires_arg("physical")
 }
 
@@ -160,16 +161,14 @@ fn slots<'a>(alloc: Global) -> Arg<'a> {
         .value_name("N")
         .value_parser(value_parser!(u32).range(1..=1_000_000))
         .required(true)
-        .help("How many slots of the schedule run, 1 to 1000000")
+        .help("Number of slots to run, 1 to 1000000")
 }
 
 fn replay<'a>(alloc: Global) -> Result<Command<'a>, AllocError> {
     Command::new(alloc, "replay")
-        .about(
-            "Makes the steps of a script from standard input, and writes the log on standard output",
-        )
+        .about("Run a script of steps and write the log")
         .after_help(REPLAY_NOTE)
-        .arg(file(alloc))?
+        .arg(file(alloc, "LDF file [default: the built-in cluster]"))?
         .arg(table(alloc))?
         .arg(capacity(alloc))?
         .arg(format(alloc, FORMATS.as_slice()))?
@@ -181,11 +180,9 @@ fn replay<'a>(alloc: Global) -> Result<Command<'a>, AllocError> {
 
 fn check<'a>(alloc: Global) -> Result<Command<'a>, AllocError> {
     Command::new(alloc, "check")
-        .about(
-            "Checks an LDF file, and lists the nodes, signals and schedule tables of its cluster",
-        )
+        .about("Check an LDF file and list its nodes, signals and schedule tables")
         .after_help(CHECK_NOTE)
-        .arg(file(alloc).required(true))?
+        .arg(file(alloc, "LDF file, or - for standard input").required(true))?
         .arg(listed_frames(alloc))?
         .arg(listed_slots(alloc))?
         .arg(listed_signals(alloc)?)?
@@ -194,16 +191,14 @@ fn check<'a>(alloc: Global) -> Result<Command<'a>, AllocError> {
         .arg(linted(alloc))?
         .arg(plain(alloc)?)?
         .arg(places(alloc))?
-        .arg(explain(alloc))
+        .arg(explained_file(alloc))
 }
 
 fn run<'a>(alloc: Global) -> Result<Command<'a>, AllocError> {
     Command::new(alloc, "run")
-        .about(
-            "Runs slots whose hosts put the steps of a script from standard input, and writes the log on standard output",
-        )
+        .about("Run each host and each node in a thread of its own and write the log")
         .after_help(RUN_NOTE)
-        .arg(file(alloc).required(true))?
+        .arg(file(alloc, "LDF file").required(true))?
         .arg(slots(alloc))?
         .arg(table(alloc))?
         .arg(capacity(alloc))?
@@ -215,11 +210,9 @@ fn run<'a>(alloc: Global) -> Result<Command<'a>, AllocError> {
 
 fn play<'a>(alloc: Global) -> Result<Command<'a>, AllocError> {
     Command::new(alloc, "play")
-        .about(
-            "Makes the slots and steps of a bench script, writes the log, and judges what is expected",
-        )
+        .about("Run a bench script and check its expectations")
         .after_help(PLAY_NOTE)
-        .arg(file(alloc).required(true))?
+        .arg(file(alloc, "LDF file").required(true))?
         .arg(script(alloc))?
         .arg(table(alloc))?
         .arg(capacity(alloc))?
@@ -233,11 +226,9 @@ fn play<'a>(alloc: Global) -> Result<Command<'a>, AllocError> {
 
 fn live<'a>(alloc: Global) -> Result<Command<'a>, AllocError> {
     Command::new(alloc, "live")
-        .about(
-            "Answers each line of a bench script, and questions, on standard output before it reads the next one",
-        )
+        .about("Run the lines of a bench script interactively")
         .after_help(LIVE_NOTE)
-        .arg(file(alloc).required(true))?
+        .arg(file(alloc, "LDF file").required(true))?
         .arg(table(alloc))?
         .arg(capacity(alloc))?
         .arg(format(alloc, ANSWER_FORMATS.as_slice()))?
@@ -246,11 +237,11 @@ fn live<'a>(alloc: Global) -> Result<Command<'a>, AllocError> {
         .arg(explain(alloc))
 }
 
-/// What the program takes.
+/// The program's command line, with its subcommands.
 fn command<'a>(alloc: Global) -> Result<Command<'a>, AllocError> {
     Command::new(alloc, "linsim")
         .version("0.2.0")
-        .about("Simulates a LIN cluster with its schedules and its diagnostic transport")
+        .about("Simulate a LIN cluster: its schedule tables, signals and diagnostic messages")
         .after_help(STATUS_NOTE)
         .subcommand_required(true)
         .subcommand(check(alloc)?)?
@@ -260,14 +251,14 @@ fn command<'a>(alloc: Global) -> Result<Command<'a>, AllocError> {
         .subcommand(run(alloc)?)
 }
 
-/// What the command line asks for, and what it wants on standard error.
+/// The parsed command line.
 #[derive(Clone, Copy)]
 pub(crate) struct Asked<'a> {
     pub request: Request<'a>,
     pub wanted: Wanted<'a>,
 }
 
-/// What the command line asks for.
+/// The subcommand with its settings.
 #[derive(Clone, Copy)]
 pub(crate) enum Request<'a> {
     /// `linsim check FILE [--field] [--frames] [--slots] [--physical [--signals]] [--lint]`
@@ -282,8 +273,7 @@ pub(crate) enum Request<'a> {
     /// `linsim live FILE [--table T] [--capacity N] [--to log|named] [--physical]`
     Live(Settings<'a>),
     /// `linsim play FILE [SCRIPT] [--table T] [--capacity N] [--to FORMAT] [--physical] [--where]
-    /// [--strict]`;
-    /// without a script's file it is read from standard input.
+    /// [--strict]`. `script` is `None` for standard input.
     Play {
         settings: Settings<'a>,
         script: Option<&'a str>,
@@ -299,8 +289,8 @@ pub(crate) enum Request<'a> {
     },
 }
 
-/// The format of this word; the log's own text for any other. A picture tells the LDF by the name
-/// of its file.
+/// Returns the format with this name, or the log for any other. A picture shows the name of the
+/// LDF file.
 fn format_of<'a>(word: Option<&str>, file: Option<&'a str>) -> Format<'a> {
     match word {
         Some("named") => Format::Named,
@@ -313,8 +303,8 @@ fn format_of<'a>(word: Option<&str>, file: Option<&'a str>) -> Format<'a> {
     }
 }
 
-/// What is wanted on standard error: `[--explain]` of each subcommand, `[--where]` of `check` and
-/// `play`.
+/// Returns what standard error has to contain: `[--explain]` of each subcommand, `[--where]` of
+/// `check` and `play`.
 fn wanted_of<'a>(matches: &ArgMatches<'a>) -> Wanted<'a> {
     let Some((name, found)) = matches.subcommand() else {
         return Wanted::default();
@@ -339,7 +329,7 @@ fn wanted_of<'a>(matches: &ArgMatches<'a>) -> Wanted<'a> {
     }
 }
 
-/// How the LDF file is read.
+/// Returns how the LDF file is read: `[--field]`.
 fn reading_of(found: &ArgMatches<'_>) -> Reading {
     if found.get_flag("field") {
         Reading::Field
@@ -348,7 +338,7 @@ fn reading_of(found: &ArgMatches<'_>) -> Reading {
     }
 }
 
-/// What is told of it beside its cluster.
+/// Returns what is reported in addition to the cluster: `[--physical]`, `[--lint]`.
 fn extras_of(found: &ArgMatches<'_>) -> Extras {
     Extras {
         encodings: if found.get_flag("physical") {
@@ -360,7 +350,7 @@ fn extras_of(found: &ArgMatches<'_>) -> Extras {
     }
 }
 
-/// What a run begins with.
+/// Returns the settings of `replay`, `run` and `live`.
 fn settings_of<'a>(found: &ArgMatches<'a>) -> Settings<'a> {
     let file = found.get_str("file");
     Settings {
@@ -374,7 +364,7 @@ fn settings_of<'a>(found: &ArgMatches<'a>) -> Settings<'a> {
     }
 }
 
-/// What a play begins with. A report tells the script by its name, as `--where` does.
+/// Returns the settings of `play`. A JUnit report has the name of the script, as `--where` does.
 fn play_settings_of<'a>(found: &ArgMatches<'a>) -> Settings<'a> {
     let mut settings = settings_of(found);
     settings.is_strict = found.get_flag("strict");
@@ -384,7 +374,7 @@ fn play_settings_of<'a>(found: &ArgMatches<'a>) -> Settings<'a> {
     settings
 }
 
-/// The name of a bench script: its file as it was given, `-` for standard input.
+/// Returns the name of the bench script: its file as it was given, `-` for standard input.
 fn script_of<'a>(found: &ArgMatches<'a>) -> &'a str {
     found.get_str("script").unwrap_or("-")
 }
@@ -421,11 +411,10 @@ fn request_of<'a>(matches: &ArgMatches<'a>) -> Option<Request<'a>> {
     }
 }
 
-/// What these words ask for, of which the first is the program's name.
+/// Parses the command line, of which the first word is the program's name.
 ///
 /// # Errors
-/// What clap answers in place of matches: a mistake in the words, a text that they ask for, or out
-/// of memory.
+/// The error of clap: an invalid command line, a requested help or version text, or out of memory.
 pub(crate) fn read_words<'a>(
     alloc: Global,
     words: &'a [String],
