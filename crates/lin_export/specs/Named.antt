@@ -63,12 +63,10 @@ frame_words c f answer =
     ∷ flat_map (signal_words c answer) (zip (frame_of c f).signals (frame_of c f).layout.places)
 
 -- a good frame of a message (ISO 17987-2, protocol control information): the node with its address,
--- `all` for the functional one
+-- or the number of an address that no node has, as 126 of all responders: no name begins with a digit
 abbrev pub who_word : Parts → ℕ → List ℕ
 who_word c address =
-    option_map_or
-    (λ n. (node_of c n).name) (node_with c address)
-    (if address == 126 then codes "all" else decimal address)
+    option_map_or (λ n. (node_of c n).name) (node_with c address) (decimal address)
 
 abbrev pub control_words : ℕ → ℕ → List (List ℕ)
 control_words control length =
@@ -82,13 +80,16 @@ transport_words c way answer =
     codes "transport" ∷ who_word c (slice_index answer 0) ∷ way
     ∷ control_words (slice_index answer 1) (slice_index answer 2)
 
--- what a response of a master request or a slave response is; a master request whose first byte is
--- 0 puts the cluster to sleep
+-- what a master request is; one whose first byte is 0 puts the cluster to sleep
+abbrev pub request_words : Parts → List ℕ → List (List ℕ)
+request_words c answer =
+    if slice_index answer 0 == 0 then codes "transport" ∷ codes "sleep" ∷ []
+    else transport_words c (codes "down") answer
+
+-- what a response of a master request or a slave response is
 abbrev pub transport : Parts → Option ℕ → List ℕ → Option (List (List ℕ))
 transport c header answer =
-    if header_is 0x3C header
-    then Some (if slice_index answer 0 == 0 then codes "transport" ∷ codes "sleep" ∷ []
-    else transport_words c (codes "down") answer)
+    if header_is 0x3C header then Some (request_words c answer)
     else (if header_is 0x7D header then Some (transport_words c (codes "up") answer) else None)
 
 abbrev pub good_words : Parts → List ℕ → Slot → Option (List (List ℕ))

@@ -12,7 +12,8 @@ ghost use Rattle.lin_log.specs.Words.{reply_line, spaced_word};
 ghost use Rattle.lin_text.specs.Written.{Grows, WritesText};
 ghost use Rattle.lin_export.specs.Named.{behind, control_words, frame_words, good_words};
 ghost use Rattle.lin_export.specs.Named.{named_entries, named_event, named_log, signal_words, slot_names};
-ghost use Rattle.lin_export.specs.Named.{sporadic_frame, time_words, transport, transport_words};
+ghost use Rattle.lin_export.specs.Named.{request_words, sporadic_frame, time_words, transport};
+ghost use Rattle.lin_export.specs.Named.{transport_words};
 ghost use Rattle.lin_export.specs.Named.{who_word};
 ghost use Rattle.lin_export.specs.NamedWords.{event_text, line_or_none, named_entry};
 ghost use Rattle.lin_export.specs.Open.{slot_in};
@@ -137,7 +138,6 @@ fn who_word(cluster: &Cluster, address: u8) -> Word<'_>
 {
     match node_with(cluster, address) {
         Some(node) => Word::Name(node_name(cluster, node)),
-        None if address == 126 => Word::Text("all"),
         None => Word::Number(u64::from(address)),
     }
 }
@@ -176,6 +176,18 @@ fn put_transport<'a, W: Write>(
     );
 }
 
+/// A good master request: a frame of a message, or the one that puts the cluster to sleep.
+fn put_request<W: Write>(out: &mut TextWriter<'_, W>, cluster: &Cluster, answer: &[u8])
+    ensures { Grows W.contents out.old out.new
+        (reply_line (request_words cluster.now answer.now)) }
+{
+    if byte_at(answer, 0) == 0 {
+        put_reply(out, &[Word::Text("transport"), Word::Text("sleep")]);
+    } else {
+        put_transport(out, cluster, "down", answer);
+    }
+}
+
 fn put_transport_line<W: Write>(
     out: &mut TextWriter<'_, W>,
     cluster: &Cluster,
@@ -186,10 +198,7 @@ fn put_transport_line<W: Write>(
         (line_or_none (transport cluster.now header answer.now)) }
 {
     match header {
-        Some(0x3C) if byte_at(answer, 0) == 0 => {
-            put_reply(out, &[Word::Text("transport"), Word::Text("sleep")]);
-        }
-        Some(0x3C) => put_transport(out, cluster, "down", answer),
+        Some(0x3C) => put_request(out, cluster, answer),
         Some(0x7D) => put_transport(out, cluster, "up", answer),
         _ => {}
     }

@@ -100,10 +100,6 @@ pub value-quiet : (v : Value) → is_quiet (value_word v) ≡ true
 value-quiet (Scalar n) = quiet-decimal n
 value-quiet (Bytes bytes) = rw (quiet-hex bytes) refl
 
-if-quiet : (t : Bool) (a b : List ℕ) → is_quiet a ≡ true → is_quiet b ≡ true → is_quiet (if t then a else b) ≡ true
-if-quiet true a b p q = p
-if-quiet false a b p q = q
-
 -- ---- what a good response means
 signals-quiet : (c : Parts) → HasNames (named c) → (answer : List ℕ) (ps : List (ℕ × Place)) → are_quiet (flat_map (signal_words c answer) ps) ≡ true
 signals-quiet c a answer [] = refl
@@ -122,8 +118,7 @@ option-quiet f (Some k) other p q = p k
 
 who-quiet : (c : Parts) → HasNames (named c) → (address : ℕ) → is_quiet (who_word c address) ≡ true
 who-quiet c a address =
-    option-quiet (λ n. (node_of c n).name) (node_with c address) (if address == 126 then codes "all" else decimal address) (node-name c a)
-    (if-quiet (address == 126) (codes "all") (decimal address) refl (quiet-decimal address))
+    option-quiet (λ n. (node_of c n).name) (node_with c address) (decimal address) (node-name c a) (quiet-decimal address)
 
 word-and-number : (w : List ℕ) (n : ℕ) → is_quiet w ≡ true → are_quiet (w ∷ decimal n ∷ []) ≡ true
 word-and-number w n h = rw (h, quiet-decimal n) refl
