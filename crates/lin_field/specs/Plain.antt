@@ -194,10 +194,14 @@ without_last (t ∷ (u ∷ ts)) = t ∷ without_last (u ∷ ts)
 abbrev pub inside : List Token → List Token
 inside ts = without_last (drop 2 ts)
 
+-- a section of this word; a line of the header may begin with it, too
+abbrev pub is_section_of : List ℕ → List ℕ → List Token → Bool
+is_section_of source word p = is_section p && bytes_eq (word_of source p) word
+
 -- what stands in the braces of the section of this word
 abbrev pub inside_of : List ℕ → List (List Token) → List ℕ → List Token
 inside_of source ps word =
-    option_map_or inside (find (λ p. bytes_eq (word_of source p) word) ps) []
+    option_map_or inside (find (is_section_of source word) ps) []
 
 abbrev pub kept_text : List ℕ → List ℕ → List Token → List ℕ
 kept_text source before part = between before (bytes_of source part) (codes "\n")
@@ -230,7 +234,7 @@ kept_lines source ps = flat_map (kept_line source) ps
 -- a section, where it has this word
 abbrev pub kept_section : List ℕ → List ℕ → List Token → List ℕ
 kept_section source word p =
-    if is_section p && bytes_eq (word_of source p) word then kept_text source [] p else []
+    if is_section_of source word p then kept_text source [] p else []
 
 abbrev pub kept_sections : List ℕ → List (List Token) → List ℕ → List ℕ
 kept_sections source ps word = flat_map (kept_section source word) ps

@@ -30,8 +30,8 @@ use lin_parts::description::{Attributes, Description, EventFrame, Frame, Signal,
 use lin_text::{Text, TextBuffer, TextWriter, WriteFailed};
 use names::{declared_names, event_tables, node_names, table_names};
 use parts::{
-    behind_head, bytes_of, filled_parts, inside_at, is_line, is_one_of, is_section, next_part,
-    node_blocks, parts, tokens_of, word_of,
+    behind_head, bytes_of, filled_parts, inside_at, is_line, is_one_of, is_section, is_section_of,
+    next_part, node_blocks, parts, tokens_of, word_of,
 };
 use std::alloc::{AllocError, Global};
 use std::io::Write;
@@ -362,8 +362,7 @@ fn put_lines<W: Write>(out: &mut TextWriter<'_, W>, source: &[u8], parts: &[&[To
 fn put_section<W: Write>(out: &mut TextWriter<'_, W>, source: &[u8], part: &[Token], word: &[u8])
     ensures { Grows W.contents out.old out.new (kept_section source.now word.now part.now) }
 {
-    let is_kept = is_section(part) && word_of(source, part) == word;
-    put_kept(out, source, "", part, is_kept);
+    put_kept(out, source, "", part, is_section_of(source, part, word));
 }
 
 /// The sections of this word.

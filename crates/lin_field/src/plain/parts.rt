@@ -8,8 +8,8 @@ ghost use Rattle.lin_ldf.specs.Symbols.{is_kind};
 ghost use Rattle.lin_ldf.specs.Tokens.{AreTokens};
 ghost use Rattle.lin_ldf.specs.declared.token.Token.{Token};
 ghost use Rattle.lin_field.specs.Plain.{depth_after, before_end, is_next, part_end, IsPart, parts};
-ghost use Rattle.lin_field.specs.Plain.{word_of, bytes_of, is_line, is_section, inside, inside_of};
-ghost use Rattle.lin_field.specs.Plain.{inside_at, blocks_of, is_filled_part, table_parts};
+ghost use Rattle.lin_field.specs.Plain.{word_of, bytes_of, is_line, is_section, inside, is_section_of};
+ghost use Rattle.lin_field.specs.Plain.{inside_of, inside_at, blocks_of, is_filled_part, table_parts};
 
 use lin_ldf::{LdfFault, Token, TokenKind, lex};
 use std::alloc::{AllocError, Global};
@@ -199,12 +199,19 @@ pub fn inside_at<'a>(parts: &[&'a [Token]], number: usize) -> &'a [Token]
     }
 }
 
-/// What stands in the braces of the first part with this word.
+/// Whether a part is the section of this word. (A line of the header may begin with it, too.)
+pub fn is_section_of(source: &[u8], part: &[Token], word: &[u8]) -> bool
+    ensures { result ≡ is_section_of source.now word.now part.now }
+{
+    is_section(part) && word_of(source, part) == word
+}
+
+/// What stands in the braces of the first section of this word.
 fn inside_of<'a>(source: &[u8], parts: &[&'a [Token]], word: &[u8]) -> &'a [Token]
     ensures { result.now ≡ inside_of source.now (map (λ p. p.now) parts.now) word.now }
 {
     for part in parts {
-        if word_of(source, *part) == word {
+        if is_section_of(source, *part, word) {
             return inside(*part);
         }
     }
