@@ -1,7 +1,7 @@
 -- The times of slots in a text of the field (ISO 17987-3, frame slots).
-use Rattle.std.specs.Prelude.{ℕ, ◌+◌, ◌-◌, ◌*◌, ◌/◌, ◌==◌, ◌&&◌, ◌||◌, List, [], ◌++◌}
-use Rattle.std.specs.Prelude.{Bool, false, not, map, filter, flat_map, find, Option, Some, None, is_some}
-use Rattle.std.specs.Prelude.{option_and_then, nat_le, if◌then◌else◌}
+use Rattle.std.specs.Prelude.{ℕ, ◌+◌, ◌-◌, ◌*◌, ◌/◌, ◌==◌, ◌&&◌, ◌||◌, List, [], ◌∷◌, ◌++◌}
+use Rattle.std.specs.Prelude.{Bool, true, false, not, map, filter, flat_map, find, Option, Some, None, is_some}
+use Rattle.std.specs.Prelude.{length, option_and_then, nat_le, if◌then◌else◌}
 use Rattle.std.specs.List.{list_any}
 use Rattle.std.specs.Option.{option_map, option_map_or}
 use Rattle.lin_ldf.specs.Numbers.{number_in_limit}
@@ -72,21 +72,39 @@ first_delay ts n = option_map (λ e. e.delay) (find (λ e. same_name e.name n) (
 abbrev pub entry_at : Name → Number → TableEntry
 entry_at member delay = record { name = member; has_group = false; delay = delay }
 
--- the member's own time, where no entry names its frame; 0 where that isn't known
+-- a delay within its limit: of a slot whose time isn't known, since something else is wrong, so that
+-- no more is found of it
+abbrev pub longest_us : ℕ
+longest_us = 1000000000
+
+-- the member's own time
 abbrev pub own_entry : Description → Number → Name → TableEntry
 own_entry d id member =
     entry_at member
-    (with_value id (option_map_or (λ us. us) (time_of d (entry_at member (with_value id 0))) 0))
+    (with_value id
+    (option_map_or (λ us. us) (time_of d (entry_at member (with_value id 0))) longest_us))
 
+-- its frame's delay, where an entry names that with one
 abbrev pub member_entry : Description → Number → Option Number → Name → TableEntry
 member_entry d id None member = own_entry d id member
-member_entry d id (Some delay) member = entry_at member delay
+member_entry d id (Some delay) member =
+    if delay.value == 0 then own_entry d id member else entry_at member delay
+
+-- a slot without a frame
+abbrev pub idle_entry : EventFrame → TableEntry
+idle_entry e =
+    record { name = e.table; has_group = true; delay = with_value e.id longest_us }
+
+-- entries, and where there are none a slot without a frame
+abbrev pub or_idle : EventFrame → List TableEntry → List TableEntry
+or_idle e entries = entries ++ (if length entries == 0 then idle_entry e ∷ [] else [])
 
 abbrev pub member_table_by : Description → Option Number → EventFrame → Table
 member_table_by d delay e = record {
   name = e.table;
   entries =
-      map (member_entry d e.id delay) (filter (λ m. is_some (frame_named d m)) e.members);
+      or_idle e
+      (map (member_entry d e.id delay) (filter (λ m. is_some (frame_named d m)) e.members));
 }
 
 abbrev pub member_table : Description → List Table → EventFrame → Table

@@ -10,7 +10,7 @@ ghost use Rattle.lin_cluster.specs.Names.{NumbersFirst};
 ghost use Rattle.lin_field.specs.Tables.{is_members_name};
 ghost use Rattle.lin_field.specs.Times.{nominal_us, rounded_up, asked_us, time_of, timed_entry};
 ghost use Rattle.lin_field.specs.Times.{entry_warnings, timed_tables, timing_warnings};
-ghost use Rattle.lin_field.specs.Times.{member_entry, member_table_by, member_tables, calls};
+ghost use Rattle.lin_field.specs.Times.{member_entry, member_table_by, member_tables, or_idle, calls};
 ghost use Rattle.lin_field.specs.Times.{has_no_delay, is_timed, all_tables};
 ghost use Rattle.lin_field.specs.Times.{tight_slot, tight_slots};
 ghost use Rattle.lin_field.specs.Attributes.{listed};
@@ -72,6 +72,31 @@ fn rounded_up(us: u64, base: u32) -> u64
     } else {
         us.div_ceil(u64::from(base)) * u64::from(base)
     }
+}
+
+/// The greatest delay within its limit, in microseconds. It stands where a time isn't known, since
+/// something else is wrong, so that no more is found of its slot.
+const LONGEST_US: u32 = 1_000_000_000;
+
+/// A slot without a frame, where there are no entries.
+fn add_idle(
+    alloc: Global,
+    event: &EventFrame,
+    entries: &mut Vec<TableEntry>,
+) -> Result<(), AllocError>
+    ensures { OnOk result (entries.new.items ≡ or_idle event.now entries.old.items) }
+{
+    if entries.is_empty() {
+        entries.push(TableEntry {
+            name: copied(alloc, &event.table)?,
+            has_group: true,
+            delay: Number {
+                value: LONGEST_US,
+                ..event.id
+            },
+        })?;
+    }
+    Ok(())
 }
 
 impl<'a> Slots<'a> {
@@ -165,7 +190,8 @@ impl<'a> Slots<'a> {
         Ok(timed)
     }
 
-    /// An entry for a member, with this delay, or without one with the time that its slot takes.
+    /// An entry for a member, with this delay, or without one or with 0 with the time that its slot
+    /// takes.
     fn member_entry(
         &self,
         alloc: Global,
@@ -178,11 +204,15 @@ impl<'a> Slots<'a> {
         let mut entry = TableEntry {
             name: copied(alloc, member)?,
             has_group: false,
-            delay: delay.unwrap_or(Number { value: 0, ..id }),
+            delay: Number { value: 0, ..id },
         };
-        if delay.is_none() {
-            entry.delay.value = self.time_of(&entry).unwrap_or(0);
-        }
+        entry.delay = match delay {
+            Some(delay) if delay.value != 0 => delay,
+            _ => Number {
+                value: self.time_of(&entry).unwrap_or(LONGEST_US),
+                ..id
+            },
+        };
         Ok(entry)
     }
 
@@ -201,6 +231,7 @@ impl<'a> Slots<'a> {
                 entries.push(self.member_entry(alloc, member, event.id, delay)?)?;
             }
         }
+        add_idle(alloc, event, &mut entries)?;
         Ok(Table {
             name: copied(alloc, &event.table)?,
             entries: Many::new(entries),
