@@ -366,13 +366,18 @@ nad-silent d (Some n) each =
     in ap (λ b. when (not b) (at_number BadNad n) ++ when (b && is_repeated (addresses d) n) (at_number NadTwice n)) good.address
     ∙ ap (λ b. when b (at_number NadTwice n)) good.once
 
+nothing-either : (b : Bool) → cond {A = List Finding} b [] [] ≡ []
+nothing-either true = refl
+nothing-either false = refl
+
 attributes-silent : (d : Description) → NothingElse d → attribute_warnings (nothing_elsewhere d) (blocks_in d) ≡ []
 attributes-silent d none =
     let e = nothing_elsewhere d
     in ap (λ fs. fs ++ flat_map (draft_nad_warnings e (responder_nads (nodes_in d) (drafts e (blocks_in d)))) (drafts e (blocks_in d)))
     (none-of-each (draft_warnings e) (blocks_in d) (All-map (λ a. draft_warnings e a ≡ []) loose_block d.attributes (λ k a lt.
     let node = (get_or d.attributes k a).node
-    in ap (λ b. when b (at_name UnknownName node) ++ []) (not_from_true (is_node (nodes_in d) node) (known-blocks d none k a lt)))))
+    in ap (λ b. when b (at_name UnknownName node) ++ cond (is_responder (nodes_in d) node) [] []) (not_from_true (is_node (nodes_in d) node) (known-blocks d none k a lt))
+    ∙ nothing-either (is_responder (nodes_in d) node))))
     ∙ (ap (λ ds. flat_map (draft_nad_warnings e (responder_nads (nodes_in d) ds)) ds) (drafts-stay d none)
     ∙ none-of-each (draft_nad_warnings e (addresses d)) d.attributes (λ k a lt.
     let here = get_or d.attributes k a

@@ -1,10 +1,10 @@
 -- Attributes of a text of the field (LIN 2.2A, section 9.2.2.2; LIN 1.3 for the addresses): one
 -- block for each node that something is told of.
-use Rattle.std.specs.Prelude.{ℕ, List, [], ◌∷◌, ◌++◌, ◌&&◌, Bool, not, map, filter, flat_map}
+use Rattle.std.specs.Prelude.{ℕ, List, [], ◌∷◌, ◌++◌, ◌&&◌, ◌==◌, Bool, false, not, map, filter, flat_map}
 use Rattle.std.specs.Prelude.{filter_map, find, Option, Some, None, is_none, option_and_then}
 use Rattle.std.specs.Prelude.{nat_le, if◌then◌else◌}
 use Rattle.std.specs.List.{list_any}
-use Rattle.std.specs.Option.{option_map, option_or}
+use Rattle.std.specs.Option.{option_map, option_map_or, option_or}
 use Rattle.lin_cluster.specs.FindingsNames.{at_number, same_name, when}
 use Rattle.lin_cluster.specs.Identifiers.{is_repeated}
 use Rattle.lin_cluster.specs.declared.finding.Finding.{Finding}
@@ -118,22 +118,52 @@ abbrev pub settled_attributes : Elsewhere → List LooseAttributes → List Attr
 settled_attributes e blocks =
     map (settled_draft e (responder_nads e.nodes (drafts e blocks))) (drafts e blocks)
 
--- 24 InitialNad, where that is the address
+-- whether a responder has no address but its initial one
+abbrev pub takes_initial : Elsewhere → LooseAttributes → Bool
+takes_initial e a = is_none a.block.configured_nad && is_none (line_nad e a.block.node)
+
+-- 24 InitialNad, where that is the address; 11 BadNad, where it is none and couldn't be one
 abbrev pub initial_warning : Bool → Option Number → List Finding
 initial_warning is_taken None = []
-initial_warning is_taken (Some n) = when is_taken (at_number InitialNad n)
+initial_warning is_taken (Some n) =
+    when is_taken (at_number InitialNad n)
+    ++ when (not is_taken && not (is_nad n)) (at_number BadNad n)
 
--- 1 UnknownName of a block or a line of no node
+-- 12 NadTwice of the line of a responder that is configured to another address
+abbrev pub beside_configured : Option Number → Option Number → List Finding
+beside_configured None configured = []
+beside_configured (Some n) None = []
+beside_configured (Some n) (Some m) =
+    when (not (n.value == m.value)) (at_number NadTwice n)
+
+-- of a responder's block
+abbrev pub address_warnings : Elsewhere → LooseAttributes → List Finding
+address_warnings e a =
+    initial_warning (takes_initial e a) a.initial_nad
+    ++ beside_configured (line_nad e a.block.node) a.block.configured_nad
+
+-- 1 UnknownName of a block of no node
 abbrev pub draft_warnings : Elsewhere → LooseAttributes → List Finding
 draft_warnings e a =
     unknown_node e.nodes a.block.node
-    ++ initial_warning
-    (is_responder e.nodes a.block.node
-    && (is_none a.block.configured_nad && is_none (line_nad e a.block.node)))
-    a.initial_nad
+    ++ (if is_responder e.nodes a.block.node then address_warnings e a else [])
+
+-- whether a number stands at the place of another
+abbrev pub is_there : Number → Number → Bool
+is_there n m = n.line == m.line && n.column == m.column
+
+-- whether a line isn't the first one of its node
+abbrev pub is_later : Elsewhere → NodeAddress → Bool
+is_later e l = option_map_or (λ n. not (is_there n l.nad)) (line_nad e l.node) false
+
+-- 1 UnknownName of a line of no node; 12 NadTwice of a responder's later line
+abbrev pub line_warning : Elsewhere → NodeAddress → List Finding
+line_warning e l =
+    unknown_node e.nodes l.node
+    ++ when (is_responder e.nodes l.node && is_later e l) (at_number NadTwice l.nad)
 
 abbrev pub line_warnings : Elsewhere → List Finding
-line_warnings e = flat_map (λ l. unknown_node e.nodes l.node) e.lines
+line_warnings e = flat_map (line_warning e) e.lines
 
 abbrev pub draft_nad_warnings : Elsewhere → List Number → Attributes → List Finding
 draft_nad_warnings e nads a = if is_responder e.nodes a.node then nad_warnings nads a else []

@@ -6,12 +6,12 @@ use Rattle.std.specs.Prelude.{Option, Some, None, is_some, if◌then◌else◌, 
 use Rattle.std.specs.Str.{bytes_eq}
 use Rattle.lin_ldf.specs.Symbols.{Symbol, is_kind}
 use Rattle.lin_ldf.specs.Forms.{Form, ◌>>=◌, end, token, mark, keyword, as_value, either, choice}
-use Rattle.lin_ldf.specs.Forms.{front, is_front, nothing, ◌&◌, ◌&>◌, ◌<&◌, ◌&=◌}
+use Rattle.lin_ldf.specs.Forms.{front, is_front, is_keyword, nothing, ◌&◌, ◌&>◌, ◌<&◌, ◌&=◌}
 use Rattle.lin_ldf.specs.Loops.{gathering, is_next}
 use Rattle.lin_ldf.specs.Numbers.{thousandths, fraction_part, fraction_digit, has_zero_tail}
 use Rattle.lin_ldf.specs.Numbers.{is_hexadecimal, is_in_limit}
 use Rattle.lin_ldf.specs.Words.{open_brace, close_brace, colon, semicolon, comma, equals, word}
-use Rattle.lin_ldf.specs.Words.{is_word_but, new_word, number_of, int, is_word_next, words}
+use Rattle.lin_ldf.specs.Words.{is_word_but, name_of, new_word, number_of, int, is_word_next, words}
 use Rattle.lin_ldf.specs.Words.{same_state, with_name, block, no_word, list, once}
 use Rattle.lin_ldf.specs.Grammar.{slaves, placed_signals, frame_before, event_rest}
 use Rattle.lin_ldf.specs.Grammar.{protocol_text, nad, attr, no_settings, with_node, entry_before}
@@ -132,6 +132,10 @@ line_word w =
 abbrev pub front_line : List Symbol → LineWord
 front_line ts = line_word (front ts).text
 
+-- word ';', whose place counts
+abbrev pub order_line : List ℕ → Form Name
+order_line w = token (is_keyword w) name_of <& semicolon
+
 abbrev pub with_version : Lines → List ℕ → Lines
 with_version s x = record s { version = Some x }
 
@@ -141,10 +145,10 @@ with_language s x = record s { language = Some x }
 abbrev pub with_speed : Lines → Decimal → Lines
 with_speed s x = record s { speed = Some x }
 
-abbrev pub with_little : Lines → Unit {0} → Lines
+abbrev pub with_little : Lines → Name → Lines
 with_little s x = record s { little_endian = Some x }
 
-abbrev pub with_big : Lines → Unit {0} → Lines
+abbrev pub with_big : Lines → Name → Lines
 with_big s x = record s { big_endian = Some x }
 
 abbrev pub with_other : Lines → Option Name → Lines
@@ -160,10 +164,10 @@ line_of line_words.Language s =
 line_of line_words.Speed s = as_value (with_speed s) (once s.speed speed)
 line_of line_words.LittleEndian s =
     as_value (with_little s)
-    (once s.little_endian (keyword (codes "LIN_sig_byte_order_little_endian") <& semicolon))
+    (once s.little_endian (order_line (codes "LIN_sig_byte_order_little_endian")))
 line_of line_words.BigEndian s =
     as_value (with_big s)
-    (once s.big_endian (keyword (codes "LIN_sig_byte_order_big_endian") <& semicolon))
+    (once s.big_endian (order_line (codes "LIN_sig_byte_order_big_endian")))
 line_of line_words.Other s = as_value (with_other s) (unless line_words_known other_line)
 
 abbrev pub line : Lines → Form Lines
@@ -197,13 +201,19 @@ lines_behind s = gathering no_line one_line s
 abbrev pub lines : Form Lines
 lines = keyword (codes "LIN_description_file") <& semicolon &> lines_behind no_lines
 
+-- the line of little endian, which a line of big endian leaves out
+abbrev pub order_left_out : Option Name → Option Name → List Name
+order_left_out None big = []
+order_left_out (Some little) None = []
+order_left_out (Some little) (Some big) = little ∷ []
+
 abbrev pub header_by : Lines → List ℕ → Decimal → Header
 header_by s version speed = record {
   version = version;
   language = s.language;
   speed = speed;
   is_big_endian = is_some s.big_endian;
-  unknown = s.unknown;
+  unknown = s.unknown ++ order_left_out s.little_endian s.big_endian;
 }
 
 abbrev pub header_of : Lines → Option Header

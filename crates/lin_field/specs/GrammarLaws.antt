@@ -7,7 +7,7 @@ use Rattle.lin_ldf.specs.Names.{has_name}
 use Rattle.lin_ldf.specs.Forms.{Form, is_front, is_keyword, ◌>>=◌, ◌&>◌, ◌<&◌}
 use Rattle.lin_ldf.specs.Loops.{is_next}
 use Rattle.lin_ldf.specs.Words.{word, int, comma, is_word_but, no_comma, no_word}
-use Rattle.lin_ldf.specs.Words.{same_state, with_name}
+use Rattle.lin_ldf.specs.Words.{name_of, same_state, with_name}
 use Rattle.lin_ldf.specs.KindLaws.{number_is, open_brace_is, semicolon_is, is_other_kind}
 use Rattle.lin_ldf.specs.Laws.{Lawful, Taking, anything, Follows, Passes, before}
 use Rattle.lin_ldf.specs.Laws.{comes_before, token_takes, mark_takes, keyword_takes, both_lawful}
@@ -28,7 +28,7 @@ use Rattle.lin_ldf.specs.declared.node_attributes.NodeBlocks.{NodeBlocks}
 use Rattle.lin_field.specs.Grammar.{unless, made_of, some_of, decimal, decimal_in, version}
 use Rattle.lin_field.specs.Grammar.{speed, line_words_known, line_ends, other_of, other_line}
 use Rattle.lin_field.specs.Grammar.{line_word, front_line, with_version, with_language, with_speed}
-use Rattle.lin_field.specs.Grammar.{with_little, with_big, with_other, line_of, line, no_line}
+use Rattle.lin_field.specs.Grammar.{order_line, with_little, with_big, with_other, line_of, line, no_line}
 use Rattle.lin_field.specs.Grammar.{one_line, no_lines, lines, header_of, header, master_rest, master, nodes_of}
 use Rattle.lin_field.specs.Grammar.{nodes, node_names, no_loose_sections, loose_of, field_file}
 use Rattle.lin_field.specs.Grammar.{frame_size}
@@ -139,6 +139,10 @@ line_begin line_words.LittleEndian = is_keyword (codes "LIN_sig_byte_order_littl
 line_begin line_words.BigEndian = is_keyword (codes "LIN_sig_byte_order_big_endian")
 line_begin line_words.Other = is_word_but line_words_known
 
+order_line_takes : (w : List ℕ) → Taking (is_keyword w) anything (order_line w)
+order_line_takes w =
+    left_take (token_takes (is_keyword w) name_of) (mark_takes kinds.Semicolon).lawful
+
 line_of_takes : (s : Lines) (w : LineWord) → Taking (line_begin w) anything (line_of w s)
 unfolding line_begin
 line_of_takes s line_words.Version =
@@ -147,9 +151,9 @@ line_of_takes s line_words.Language =
     value_takes (with_language s) (once_takes s.language (version_takes _))
 line_of_takes s line_words.Speed = value_takes (with_speed s) (once_takes s.speed speed_takes)
 line_of_takes s line_words.LittleEndian =
-    value_takes (with_little s) (once_takes s.little_endian (keyword_before _ kinds.Semicolon))
+    value_takes (with_little s) (once_takes s.little_endian (order_line_takes _))
 line_of_takes s line_words.BigEndian =
-    value_takes (with_big s) (once_takes s.big_endian (keyword_before _ kinds.Semicolon))
+    value_takes (with_big s) (once_takes s.big_endian (order_line_takes _))
 line_of_takes s line_words.Other =
     value_takes (with_other s) (unless_takes line_words_known other_line_takes)
 

@@ -9,6 +9,8 @@ ghost use Rattle.lin_field.specs.Attributes.{new_drafts, drafts, draft_warnings,
 ghost use Rattle.lin_field.specs.Attributes.{responder_nads, is_nad, settled_block, nad_warnings};
 ghost use Rattle.lin_field.specs.Attributes.{settled_draft, draft_nad_warnings, line_warnings};
 ghost use Rattle.lin_field.specs.Attributes.{settled_attributes, attribute_warnings};
+ghost use Rattle.lin_field.specs.Attributes.{address_warnings, initial_warning, beside_configured};
+ghost use Rattle.lin_field.specs.Attributes.{is_there, line_warning};
 
 use crate::loose::{LooseAttributes, NodeAddress};
 use crate::names::{NodeNames, copied, is_named};
@@ -152,13 +154,95 @@ impl<'a, 'n> Told<'a, 'n> {
     {
         let node = &attributes.block.node;
         push_when(warned, !is_known, at_name(FindingKind::UnknownName, node))?;
-        let Some(nad) = &attributes.initial_nad else {
-            return Ok(());
+        if self.nodes.is_responder(node) {
+            self.warn_of_addresses(warned, attributes)?;
+        }
+        Ok(())
+    }
+
+    /// The addresses of a responder's block and line that it doesn't have, and an initial one that it
+    /// has.
+    fn warn_of_addresses(
+        &self,
+        warned: &mut Vec<Finding>,
+        attributes: &LooseAttributes,
+    ) -> Result<(), AllocError>
+        ensures { OnOk result
+            (warned.new.items ≡ warned.old.items ++ address_warnings self.now attributes.now) }
+    {
+        let configured = attributes.block.configured_nad;
+        let line = self.line_nad(&attributes.block.node);
+        let is_taken = configured.is_none() && line.is_none();
+        warn_of_initial(warned, is_taken, attributes.initial_nad)?;
+        warn_beside(warned, line, configured)
+    }
+
+    /// A line of no node, or a responder's later one.
+    fn warn_of_line(&self, warned: &mut Vec<Finding>, line: &NodeAddress) -> Result<(), AllocError>
+        ensures { OnOk result
+            (warned.new.items ≡ warned.old.items ++ line_warning self.now line.now) }
+    {
+        let is_known = self.nodes.is_node(&line.node);
+        push_when(
+            warned,
+            !is_known,
+            at_name(FindingKind::UnknownName, &line.node),
+        )?;
+        let is_later = match self.line_nad(&line.node) {
+            Some(first) => !is_there(first, line.nad),
+            None => false,
         };
-        let is_taken = self.nodes.is_responder(node)
-            && attributes.block.configured_nad.is_none()
-            && self.line_nad(node).is_none();
-        push_when(warned, is_taken, at_number(FindingKind::InitialNad, nad))
+        push_when(
+            warned,
+            self.nodes.is_responder(&line.node) && is_later,
+            at_number(FindingKind::NadTwice, &line.nad),
+        )
+    }
+}
+
+/// Whether a number stands at the place of another.
+fn is_there(one: Number, other: Number) -> bool
+    ensures { result ≡ is_there one other }
+{
+    one.line == other.line && one.column == other.column
+}
+
+/// The initial address, where it is the address, or isn't and couldn't be.
+fn warn_of_initial(
+    warned: &mut Vec<Finding>,
+    is_taken: bool,
+    initial: Option<Number>,
+) -> Result<(), AllocError>
+    ensures { OnOk result
+        (warned.new.items ≡ warned.old.items ++ initial_warning is_taken initial) }
+{
+    let Some(nad) = initial else {
+        return Ok(());
+    };
+    push_when(warned, is_taken, at_number(FindingKind::InitialNad, &nad))?;
+    push_when(
+        warned,
+        !is_taken && !is_nad(nad),
+        at_number(FindingKind::BadNad, &nad),
+    )
+}
+
+/// The address of a line, where another one is configured.
+fn warn_beside(
+    warned: &mut Vec<Finding>,
+    line: Option<Number>,
+    configured: Option<Number>,
+) -> Result<(), AllocError>
+    ensures { OnOk result
+        (warned.new.items ≡ warned.old.items ++ beside_configured line configured) }
+{
+    match (line, configured) {
+        (Some(nad), Some(other)) => push_when(
+            warned,
+            nad.value != other.value,
+            at_number(FindingKind::NadTwice, &nad),
+        ),
+        _ => Ok(()),
     }
 }
 
@@ -293,12 +377,7 @@ fn warn_of_lines(told: &Told<'_, '_>, warned: &mut Vec<Finding>) -> Result<(), A
     ensures { OnOk result (warned.new.items ≡ warned.old.items ++ line_warnings told.now) }
 {
     for line in told.lines {
-        let is_known = told.nodes.is_node(&line.node);
-        push_when(
-            warned,
-            !is_known,
-            at_name(FindingKind::UnknownName, &line.node),
-        )?;
+        told.warn_of_line(warned, line)?;
     }
     Ok(())
 }

@@ -1,17 +1,18 @@
 //! The header of a text of the field, whose lines may stand in any order.
 
 ghost use Rattle.std.specs.Prelude.{◌≡◌};
-ghost use Rattle.lin_ldf.specs.Forms.{Gives, Gathers, keyword, ◌<&◌};
-ghost use Rattle.lin_ldf.specs.Words.{semicolon};
-ghost use Rattle.lin_field.specs.Grammar.{line_word, version, speed, other_line, line, lines};
-ghost use Rattle.lin_field.specs.Grammar.{header, no_lines, is_line_next};
+ghost use Rattle.std.specs.Prelude.{◌++◌, OnOk};
+ghost use Rattle.lin_ldf.specs.Forms.{Gives, Gathers};
+ghost use Rattle.lin_field.specs.Grammar.{line_word, version, speed, other_line, order_line, line};
+ghost use Rattle.lin_field.specs.Grammar.{lines, header, no_lines, is_line_next, order_left_out};
 
 use crate::decimals::decimal_in;
 use crate::loose::{Decimal, Header};
 use lin_ldf::{LdfFault, Parser, TokenKind, once};
+use lin_parts::Place;
 use lin_parts::description::Name;
 use lin_text::{Many, Text};
-use std::alloc::Global;
+use std::alloc::{AllocError, Global};
 
 /// The lines of a header that were read.
 #[derive(Drop)]
@@ -19,8 +20,8 @@ pub struct Lines {
     pub version: Option<Text>,
     pub language: Option<Text>,
     pub speed: Option<Decimal>,
-    pub little_endian: Option<()>,
-    pub big_endian: Option<()>,
+    pub little_endian: Option<Name>,
+    pub big_endian: Option<Name>,
     pub unknown: Many<Name>,
 }
 
@@ -75,11 +76,18 @@ fn speed(parser: &mut Parser<'_>) -> Result<Decimal, LdfFault>
     decimal_in(parser, b"kbps", TokenKind::Semicolon)
 }
 
-// word ';'
-fn byte_order(parser: &mut Parser<'_>, word: &[u8]) -> Result<(), LdfFault>
-    ensures { Gives result parser.new ((keyword word.now <& semicolon).read parser.old) }
+// word ';', whose place counts
+fn order_line(parser: &mut Parser<'_>, word: &[u8]) -> Result<Name, LdfFault>
+    ensures { Gives result parser.new ((order_line word.now).read parser.old) }
 {
-    parser.keyword_before(word, TokenKind::Semicolon)
+    if !parser.is_at_word(word) {
+        return Err(LdfFault::Unexpected(parser.place()));
+    }
+    let Place { line, column } = parser.place();
+    let text = Text::copied(parser.alloc(), parser.text())?;
+    parser.skip();
+    parser.mark(TokenKind::Semicolon)?;
+    Ok(Name { text, line, column })
 }
 
 // other = WORD '=' list ';' | WORD ';', of which the second's word is kept
@@ -130,11 +138,11 @@ impl Lines {
             }
             LineWord::LittleEndian => {
                 once(&self.little_endian, twice)?;
-                self.little_endian = Some(byte_order(parser, LITTLE_ENDIAN)?);
+                self.little_endian = Some(order_line(parser, LITTLE_ENDIAN)?);
             }
             LineWord::BigEndian => {
                 once(&self.big_endian, twice)?;
-                self.big_endian = Some(byte_order(parser, BIG_ENDIAN)?);
+                self.big_endian = Some(order_line(parser, BIG_ENDIAN)?);
             }
             LineWord::Other => {
                 if let Some(name) = other(parser)? {
@@ -166,18 +174,36 @@ fn read_lines(parser: &mut Parser<'_>) -> Result<Lines, LdfFault>
     Ok(lines)
 }
 
+/// Of both lines of the byte order big endian counts, and the other one is left out.
+fn add_left_out(
+    unknown: &mut Many<Name>,
+    little_endian: Option<Name>,
+    big_endian: &Option<Name>,
+) -> Result<(), AllocError>
+    ensures { OnOk result
+        (unknown.new ≡ unknown.old ++ order_left_out little_endian big_endian.now) }
+{
+    match little_endian {
+        Some(line) if big_endian.is_some() => unknown.push(line)?,
+        _ => {}
+    }
+    Ok(())
+}
+
 // header = lines, among them a version and a speed
 pub fn read_header(parser: &mut Parser<'_>) -> Result<Header, LdfFault>
     ensures { Gives result parser.new (header.read parser.old) }
 {
     let lines = read_lines(parser)?;
+    let mut unknown = lines.unknown;
+    add_left_out(&mut unknown, lines.little_endian, &lines.big_endian)?;
     match (lines.version, lines.speed) {
         (Some(version), Some(speed)) => Ok(Header {
             version,
             language: lines.language,
             speed,
             is_big_endian: lines.big_endian.is_some(),
-            unknown: lines.unknown,
+            unknown,
         }),
         _ => Err(LdfFault::Unexpected(parser.place())),
     }

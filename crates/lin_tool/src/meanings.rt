@@ -94,8 +94,9 @@ static FINDINGS: [(&str, &str); 26] = [
         "an address from 1 to 125, or leave the line out: the node then has none",
     ),
     (
-        "a responder's address that an earlier block of a responder has",
-        "another address for one of them",
+        "a responder's address that an earlier block of a responder has, or a second address of one \
+         responder",
+        "another address for one of them, or delete the second one",
     ),
     (
         "a member of an event-triggered frame that is no frame, that the commander publishes, \
@@ -158,7 +159,8 @@ static FINDINGS: [(&str, &str); 26] = [
         "place it within a byte, or write its bytes as signals of their own",
     ),
     (
-        "a word alone in the header that isn't known: it is left out",
+        "a word alone in the header that isn't known, or little endian beside big endian: it is \
+         left out",
         "delete the line",
     ),
 ];
