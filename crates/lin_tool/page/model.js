@@ -48,8 +48,8 @@ function readRun(text) {
 			continue;
 		}
 		if (line[0] === 'u') {
-			const [, entries, ...why] = line.split(' ');
-			problem('unmet', slots[places[entries - 1] || 0] || s, why.join(' '));
+			const [, entries, why] = line.split(' ');
+			problem('unmet', slots[places[entries - 1] || 0] || s, un(why));
 			continue;
 		}
 		const f = line[2] === 'd' ? ['>', 'due'] : line.split(' '), [, w, x, y, z] = f;

@@ -6,4 +6,5 @@ pub mod Plays
 pub mod Moments
 pub mod Tallies
 pub mod Reports
+pub mod Inert
 pub mod laws

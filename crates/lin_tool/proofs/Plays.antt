@@ -80,7 +80,7 @@ unwritten format k shows named strict c opening capacity told old silent heard k
 pub plays : (format : Format) (k : Option CodedData) (shows : Bool) (named : Option (Bor (List ℕ))) (strict : Bool) (c : Parts) (opening capacity : ℕ) (result : Result Unit Fault)
     (told old new silent mid heard : Option (List ℕ)) (ls : List (ℕ × Line)) (run : Run) → Says c k told (Ok ls) → played strict c opening capacity ls ≡ Ok run
     → Keeps silent mid
-    → WritesPlayed format (run_as format k shows c opening capacity run) (in_words k run.judgements)
+    → WritesPlayed format (run_as format k shows named c opening capacity run) (in_words k run.judgements)
     (told_text named strict c (reverse run.bench.past) (in_words k run.judgements)) result old new mid heard
     → PlaysScript format k shows named strict c opening capacity result told old new silent heard
 plays format k shows named strict c opening capacity (Ok done) told old new silent mid heard ls run says comes kept (shown, met, (outcome, said)) =

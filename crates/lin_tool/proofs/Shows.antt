@@ -10,15 +10,14 @@ use Rattle.lin_log.specs.Replay.{IsReplay, IsScriptOf, log_of}
 use Rattle.lin_log.specs.declared.fault.ReplayFault.{ReplayFault}
 use Rattle.lin_log.specs.declared.fault.ReplayFault.TheVariants as replay
 use Rattle.lin_log.specs.declared.fault.ScriptFault.TheVariants as script
-use Rattle.lin_bench.specs.declared.got.Judgement.{Judgement}
 use Rattle.lin_export.specs.Vcd.{vcd}
 use Rattle.lin_export.specs.declared.fault.ExportFault.{ExportFault}
 use Rattle.lin_export.specs.declared.fault.ExportFault.TheVariants as export
 use Rattle.lin_values.specs.Coded.{CodedData}
-use Rattle.lin_tool.specs.Formats.{Begins, export_fault, log_as}
+use Rattle.lin_tool.specs.Formats.{Begins, export_fault}
 use Rattle.lin_tool.specs.Replaying.{IsLogOf, Replays, Stops, replay_fault}
 use Rattle.lin_tool.specs.declared.formats.Format.{Format}
-use Rattle.lin_tool.specs.declared.formats.Format.TheVariants.{Log, Vcd}
+use Rattle.lin_tool.specs.declared.formats.Format.TheVariants.{Log}
 
 pub shows : (E : Type 0) (old new : Option (List ℕ)) (whole : List ℕ)
     → WritesText {E = E} old new (Ok tt) whole → Appends old new whole
@@ -31,10 +30,9 @@ begins old new whole fault h = (h.part, h.rest, h.whole, h.written)
 
 -- a dump of a log over the same cluster
 pub shows-dump : {E : Type 0} (old new : Option (List ℕ)) (result : Result Unit E)
-    (a b : Parts) (k : Option CodedData) (opening capacity : ℕ) (xs ys : List LogEntry) (js : List Judgement) → a ≡ b → xs ≡ ys
-    → WritesText old new result (vcd a k xs)
-    → WritesText old new result (log_as Vcd b k opening capacity ys js)
-shows-dump old new result a b k opening capacity xs ys js cluster log h =
+    (a b : Parts) (k : Option CodedData) (xs ys : List LogEntry) → a ≡ b → xs ≡ ys
+    → WritesText old new result (vcd a k xs) → WritesText old new result (vcd b k ys)
+shows-dump old new result a b k xs ys cluster log h =
     let P : List LogEntry → Type 0 = λ l. WritesText old new result (vcd a k l) in
     let Q : Parts → Type 0 = λ c. WritesText old new result (vcd c k ys) in
     subst Q cluster (subst P log h)

@@ -1,5 +1,6 @@
 -- What is written of a log in each format.
 use Rattle.std.specs.Prelude.{◌≡◌, ℕ, List, ◌++◌, Option}
+use Rattle.std.specs.Borrow.{Bor}
 use Rattle.std.specs.Io.KnownBytes.{Appends}
 use Rattle.lin_parts.specs.declared.parts.Parts.{Parts}
 use Rattle.lin_core.specs.declared.log.LogEntry.{LogEntry}
@@ -22,18 +23,19 @@ use Rattle.lin_tool.specs.declared.formats.Format.TheVariants.{Log, Named, Csv, 
 use Rattle.lin_tool.specs.declared.formats.Format.TheVariants.{Vcd, Html, Junit}
 
 -- a log in a format, of a run that opened with this table and this capacity of the queues; a picture
--- and a report also have the judgements of a play, and the log with names, a table, objects, a dump and
--- a picture what signals mean, where that is told
-abbrev pub log_as : Format → Parts → Option CodedData → ℕ → ℕ → List LogEntry → List Judgement
-    → List ℕ
-log_as Log c k opening capacity log js = text log
-log_as Named c k opening capacity log js = named_log c k log
-log_as Csv c k opening capacity log js = csv c k log
-log_as Jsonl c k opening capacity log js = jsonl c k opening capacity log
-log_as Pcap c k opening capacity log js = pcap c log
-log_as Vcd c k opening capacity log js = vcd c k log
-log_as (Html file) c k opening capacity log js = page c k file.now log js
-log_as (Junit file) c k opening capacity log js = junit file.now c log js
+-- and a report also have the judgements of a play, a picture as they are told of a script whose file
+-- has this name, and the log with names, a table, objects, a dump and a picture what signals mean,
+-- where that is told
+abbrev pub log_as : Format → Option (Bor (List ℕ)) → Parts → Option CodedData → ℕ → ℕ
+    → List LogEntry → List Judgement → List ℕ
+log_as Log named c k opening capacity log js = text log
+log_as Named named c k opening capacity log js = named_log c k log
+log_as Csv named c k opening capacity log js = csv c k log
+log_as Jsonl named c k opening capacity log js = jsonl c k opening capacity log
+log_as Pcap named c k opening capacity log js = pcap c log
+log_as Vcd named c k opening capacity log js = vcd c k log
+log_as (Html file) named c k opening capacity log js = page named c k file.now log js
+log_as (Junit file) named c k opening capacity log js = junit file.now c log js
 
 -- a beginning of a text was written
 abbrev pub Begins : Option (List ℕ) → Option (List ℕ) → List ℕ → Type 0

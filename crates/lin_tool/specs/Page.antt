@@ -1,7 +1,8 @@
 -- The page of a run: what its cluster has and the log itself, between the pieces of a page whose
 -- scripts draw them.
-use Rattle.std.specs.Prelude.{ℕ, ◌==◌, Bool, true, false, if◌then◌else◌, Option}
+use Rattle.std.specs.Prelude.{ℕ, ◌≡◌, ◌==◌, Bool, true, false, if◌then◌else◌, Option}
 use Rattle.std.specs.Prelude.{List, [], ◌∷◌, ◌++◌, length, flat_map, reverse, sum_by, codes}
+use Rattle.std.specs.Borrow.{Bor}
 use Rattle.std.specs.List.{count_by}
 use Rattle.std.specs.Fmt.{decimal}
 use Rattle.lin_frame.specs.Words.{numbers}
@@ -15,26 +16,28 @@ use Rattle.lin_core.specs.declared.event.Look.{Look}
 use Rattle.lin_core.specs.declared.log.LogEntry.{LogEntry}
 use Rattle.lin_core.specs.declared.reply.Reply.{Reply}
 use Rattle.lin_core.specs.declared.reply.Reply.TheVariants.{Done, Refused}
-use Rattle.lin_log.specs.Words.{line, spaced_word, text, value_word}
+use Rattle.lin_log.specs.Words.{line, text, value_word}
 use Rattle.lin_export.specs.ListedFrames.{frames}
 use Rattle.lin_export.specs.Listing.{listing}
 use Rattle.lin_export.specs.ListedSlots.{slots}
 use Rattle.lin_export.specs.FirstSlots.{first_slots}
 use Rattle.lin_bench.specs.Played.{is_unmet}
-use Rattle.lin_bench.specs.Texts.{unmet_text}
 use Rattle.lin_bench.specs.declared.got.Judgement.{Judgement}
-use Rattle.lin_tool.specs.PageFields.{field}
+use Rattle.lin_tool.specs.PageFields.{field, guarded, is_inert}
 use Rattle.lin_tool.specs.PageMeanings.{coded_lines}
+use Rattle.lin_tool.specs.Placing.{missed_line}
 use Rattle.lin_values.specs.Coded.{CodedData}
 use Rattle.lin_tool.specs.declared.page.pieces.TheConstants.{HEAD, MIDDLE, TAIL}
 
--- what stands before the listing of the cluster: the version of these lines, the LDF's name and the
--- speed
-abbrev pub page_head : Parts → List ℕ → List ℕ
-page_head c file =
-    HEAD.now
-    ++ (line (codes "page" ∷ codes "1" ∷ [])
-    ++ (line (codes "file" ∷ field file ∷ []) ++ line (codes "speed" ∷ decimal c.speed ∷ [])))
+-- what the data begin with: the version of these lines, the LDF's name and the speed
+abbrev pub data_head : Parts → List ℕ → List ℕ
+data_head c file =
+    line (codes "page" ∷ codes "1" ∷ [])
+    ++ (line (codes "file" ∷ field file ∷ []) ++ line (codes "speed" ∷ decimal c.speed ∷ []))
+
+-- what the cluster has
+abbrev pub cluster_lines : Parts → List ℕ
+cluster_lines c = listing c ++ frames c ++ slots c
 
 -- a signal that no frame has, with its initial value
 abbrev pub alone_line : Parts → ℕ → List ℕ
@@ -48,12 +51,12 @@ log_head c k =
     flat_map (alone_line c) (numbers (length c.signals))
     ++ (coded_lines c k ++ line (codes "log" ∷ []))
 
--- a judgement after so many entries, where it isn't met
-abbrev pub unmet_line : Parts → Judgement → List ℕ
-unmet_line c j =
+-- a judgement after so many entries, where it isn't met, with what is said of it; where the script's
+-- file has a name, as `play --where` says it
+abbrev pub unmet_line : Option (Bor (List ℕ)) → Parts → List LogEntry → Judgement → List ℕ
+unmet_line named c log j =
     if is_unmet j.judged
-    then codes "unmet" ++ (spaced_word (decimal j.entries) ++ spaced_word (unmet_text c j))
-    else []
+    then line (codes "unmet" ∷ decimal j.entries ∷ field (missed_line named c log j) ∷ []) else []
 
 -- how many events of a log pass a test, and how many of its steps were refused
 abbrev pub events_so : (Event → Bool) → List LogEntry → ℕ
@@ -93,14 +96,25 @@ summary c log =
     ++ number_of (codes ", time_us") (decimal (time c (reverse log)))
     ++ (codes "</p>" ++ 10 ∷ [])
 
--- what stands up to the end of the log
-abbrev pub log_page : Parts → Option CodedData → List ℕ → List LogEntry → List ℕ
-log_page c k file log =
-    page_head c file ++ listing c ++ frames c ++ slots c ++ log_head c k ++ text log
+-- the data that the page's scripts read
+abbrev pub page_data : Option (Bor (List ℕ)) → Parts → Option CodedData → List ℕ → List LogEntry
+    → List Judgement → List ℕ
+page_data named c k file log judgements =
+    data_head c file ++ guarded (cluster_lines c) ++ log_head c k ++ text log
+    ++ flat_map (unmet_line named c log) judgements
 
--- the page of a log of a cluster, with what its values mean, the name of its LDF and the judgements
--- of its play
-abbrev pub page : Parts → Option CodedData → List ℕ → List LogEntry → List Judgement → List ℕ
-page c k file log judgements =
-    log_page c k file log ++ (flat_map (unmet_line c) judgements ++ MIDDLE.now ++ summary c log)
+-- the page of a log of a cluster, with what its values mean, the name of its LDF, and the judgements
+-- of its play, whose script has this name
+abbrev pub page : Option (Bor (List ℕ)) → Parts → Option CodedData → List ℕ → List LogEntry
+    → List Judgement → List ℕ
+page named c k file log judgements =
+    HEAD.now ++ page_data named c k file log judgements ++ (MIDDLE.now ++ summary c log)
     ++ first_slots c log ++ TAIL.now
+
+-- Whatever the names, the texts and the lines are, nothing in the data ends them: what stands in
+-- them is never a script's.
+abbrev pub DataAreInert : Type 0
+DataAreInert =
+    (named : Option (Bor (List ℕ))) (c : Parts) (k : Option CodedData) (file : List ℕ)
+    (log : List LogEntry) (judgements : List Judgement)
+    → is_inert (page_data named c k file log judgements) ≡ true

@@ -1,6 +1,7 @@
 -- Texts as fields of the page's lines.
 use Rattle.std.specs.Prelude.{ℕ, ◌==◌, nat_lt, Bool, not, ◌&&◌, if◌then◌else◌}
-use Rattle.std.specs.Prelude.{List, [], ◌∷◌, flat_map}
+use Rattle.std.specs.Prelude.{List, [], ◌∷◌, flat_map, codes}
+use Rattle.std.specs.List.{list_all}
 use Rattle.hex.specs.Hex.{encode_upper}
 
 -- a text as one field: printable bytes but `%`, `&` and `<` stand for themselves, each other byte is
@@ -13,3 +14,19 @@ escaped b = if is_plain b then b ∷ [] else 37 ∷ encode_upper (b ∷ [])
 
 abbrev pub field : List ℕ → List ℕ
 field text = 34 ∷ flat_map escaped text
+
+-- lines of a cluster: names are words, in which no `<` stands; one that did would be `%3C`
+abbrev pub guarded_byte : ℕ → List ℕ
+guarded_byte b = if b == 60 then codes "%3C" else b ∷ []
+
+abbrev pub guarded : List ℕ → List ℕ
+guarded text = flat_map guarded_byte text
+
+-- not `<`
+abbrev pub no_less : ℕ → Bool
+no_less b = not (b == 60)
+
+-- In this text no `<` stands: a browser takes it for text of the element that it is in, and ends
+-- that no sooner (HTML, script data).
+abbrev pub is_inert : List ℕ → Bool
+is_inert = list_all no_less

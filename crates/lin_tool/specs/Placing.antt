@@ -51,6 +51,11 @@ abbrev pub placed_unmet : List ℕ → Parts → List LogEntry → Judgement →
 placed_unmet file c log j =
     if is_unmet j.judged then placed_missed file c log j ++ 10 ∷ [] else []
 
+-- the same, where the file has a name; otherwise the line's number stands before it
+abbrev pub missed_line : Option (Bor (List ℕ)) → Parts → List LogEntry → Judgement → List ℕ
+missed_line None c log j = codes "script " ++ (decimal j.line ++ judged_text c j.judged)
+missed_line (Some file) c log j = placed_missed file.now c log j
+
 -- what is said of a script's bad lines: all of them after the file's name, or without a name the
 -- first one
 abbrev pub bad_text : Option (Bor (List ℕ)) → Parts → Option CodedData → List ℕ → ℕ → Reason

@@ -59,9 +59,10 @@ abbrev pub shown_coding : Option CodedData → Bool → Option CodedData
 shown_coding k is_physical = if is_physical then k else None
 
 -- the log of a run in a format, with what signals mean, where that is shown
-abbrev pub run_as : Format → Option CodedData → Bool → Parts → ℕ → ℕ → Run → List ℕ
-run_as format k is_physical c opening capacity run =
-    log_as format c (shown_coding k is_physical) opening capacity (reverse run.bench.past)
+abbrev pub run_as : Format → Option CodedData → Bool → Option (Bor (List ℕ)) → Parts → ℕ → ℕ → Run
+    → List ℕ
+run_as format k is_physical named c opening capacity run =
+    log_as format named c (shown_coding k is_physical) opening capacity (reverse run.bench.past)
     (in_words k run.judgements)
 
 -- a text was written, as far as the writer took it
@@ -95,7 +96,7 @@ abbrev pub WritesRunOf : Format → Option CodedData → Bool → Option (Bor (L
     → Option (List ℕ) → Option (List ℕ) → Type 0
 WritesRunOf format k shows named strict c opening capacity result told old new silent heard =
     (run : Run) × ComesTo strict k c opening capacity told (Ok run)
-    × WritesPlayed format (run_as format k shows c opening capacity run) (in_words k run.judgements)
+    × WritesPlayed format (run_as format k shows named c opening capacity run) (in_words k run.judgements)
     (told_text named strict c (reverse run.bench.past) (in_words k run.judgements)) result old new
     silent heard
 

@@ -1,5 +1,5 @@
 -- What the program's replay answers.
-use Rattle.std.specs.Prelude.{◌≡◌, ◌≢◌, ◌⊎◌, ℕ, List, [], Option, IfSome, Result, Ok, Err}
+use Rattle.std.specs.Prelude.{◌≡◌, ◌≢◌, ◌⊎◌, ℕ, List, [], Option, None, IfSome, Result, Ok, Err}
 use Rattle.std.specs.Io.KnownBytes.{Appends, Keeps}
 use Rattle.lin_parts.specs.declared.parts.Parts.{Parts}
 use Rattle.lin_core.specs.declared.log.LogEntry.{LogEntry}
@@ -47,7 +47,7 @@ abbrev pub Stops : Format → Option CodedData → Parts → ℕ → ℕ
     → Option (List ℕ) → Option (List ℕ) → Option (List ℕ) → Type 0
 Stops format k c opening capacity told old new =
     (log : List LogEntry) × IsLogOf c opening capacity told log
-    × Begins old new (log_as format c k opening capacity log [])
+    × Begins old new (log_as format None c k opening capacity log [])
 
 -- What a replay in this format answers, and what the writer took. (The log's own text takes no
 -- memory: where there isn't enough, nothing of it was written.)
@@ -55,7 +55,7 @@ abbrev pub Replays : Format → Option CodedData → Parts → ℕ → ℕ → R
     → Option (List ℕ) → Option (List ℕ) → Option (List ℕ) → Type 0
 Replays format k c opening capacity (Ok done) told old new =
     (log : List LogEntry) × IsLogOf c opening capacity told log
-    × Appends old new (log_as format c k opening capacity log [])
+    × Appends old new (log_as format None c k opening capacity log [])
 Replays format k c opening capacity (Err (BadLine n)) told old new =
     IsRefused (script.BadLine n) told old new
 Replays format k c opening capacity (Err ScriptTooLong) told old new =

@@ -43,7 +43,7 @@ pub enum Format<'a> {
 
 /// How the log of a run is shown, and what is shown beside it.
 #[derive(Clone, Copy)]
-pub struct Shown<'a> {
+pub struct Shown<'a, 's> {
     pub format: Format<'a>,
     /// What signals mean, which the log with names, tables, objects, dumps and pictures tell, too.
     pub coded: Option<&'a Coded>,
@@ -53,6 +53,8 @@ pub struct Shown<'a> {
     pub capacity: usize,
     /// The judgements of a play, which a picture and a report have.
     pub judgements: &'a [Judgement],
+    /// The name of the play's script, where a picture tells judgements by their places in it.
+    pub script: Option<&'s str>,
 }
 
 /// Writes the log of a core as it is to be shown. A log's own text takes no memory, and the other
@@ -63,13 +65,13 @@ pub struct Shown<'a> {
 /// beginning of the whole.
 pub fn write_shown<W: Write>(
     alloc: Global,
-    shown: &Shown<'_>,
+    shown: &Shown<'_, '_>,
     core: &Core,
     writer: &mut W,
 ) -> Result<(), ExportFault>
     ensures text { WritesText (W.contents writer.old) (W.contents writer.new) result
-        (log_as shown.now.format core.now.cluster (told shown.now.coded) shown.now.table
-        shown.now.capacity core.now.log shown.now.judgements.now) }
+        (log_as shown.now.format shown.now.script core.now.cluster (told shown.now.coded)
+        shown.now.table shown.now.capacity core.now.log shown.now.judgements.now) }
     ensures memory { shown.now.format ≡ Log → IfErr result (λ fault. fault ≡ WriteFailed) }
 {
     let cluster = core.cluster();
@@ -92,7 +94,9 @@ pub fn write_shown<W: Write>(
         }
         Format::Pcap => write_pcap(alloc, cluster, log, writer),
         Format::Vcd => write_vcd(alloc, cluster, coded, log, writer),
-        Format::Html(file) => write_page(alloc, core, coded, file, judgements, writer),
+        Format::Html(file) => {
+            write_page(alloc, core, coded, file, shown.script, judgements, writer)
+        }
         Format::Junit(file) => write_junit(alloc, file, cluster, log, judgements, writer),
     }
 }

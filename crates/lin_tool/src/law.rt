@@ -1,5 +1,6 @@
-//! What holds of logs with names, of transcripts, and of plain LDF texts.
+//! What holds of logs with names, of transcripts, of pages, and of plain LDF texts.
 
+ghost use Rattle.lin_tool.specs.Page.{DataAreInert};
 ghost use Rattle.lin_tool.specs.laws.NamedScripts.{CodingsAreOneLine, NamedLogs, NamedLogsOfTexts};
 ghost use Rattle.lin_tool.specs.laws.Texts.{PlainTextsAreRead, PlainTextsSayTheSame};
 ghost use Rattle.lin_tool.specs.laws.Transcripts.{LastLinesAreRemarks, LinesHaveNoLf};
@@ -32,6 +33,13 @@ pub fn transcripts_are_logs()
     ensures inputs { TranscriptsAreInputs }
     ensures remarks { LastLinesAreRemarks }
     ensures lines { LinesHaveNoLf }
+{}
+
+/// No `<` stands in the data of a page, whatever the names, the texts and the lines are, so that no
+/// script begins there: texts and lines are fields, the lines of the cluster are guarded, and the rest
+/// are numbers and fixed words.
+pub fn page_data_are_inert()
+    ensures { DataAreInert }
 {}
 
 /// What a plain LDF text describes, it says as a text of the field too, with the versions of its

@@ -50,7 +50,9 @@ pub use fault::{Fault, exit_status};
 pub use field::field_of_reader;
 pub use findings::{Findings, Remarks};
 pub use formats::{Format, Shown, write_shown};
-pub use law::{named_logs_say_the_same, plain_texts_are_read, transcripts_are_logs};
+pub use law::{
+    named_logs_say_the_same, page_data_are_inert, plain_texts_are_read, transcripts_are_logs,
+};
 pub use lin_export::write_list;
 pub use listing::{Lists, write_lists};
 pub use living::{answer_lines, bench_in_hand, live};

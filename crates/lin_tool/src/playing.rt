@@ -176,15 +176,15 @@ fn judge<E: Write>(
 /// met.
 fn put_played<W: Write, E: Write>(
     alloc: Global,
-    shown: &Shown<'_>,
+    shown: &Shown<'_, '_>,
     core: &Core,
     script: Script<'_>,
     writer: &mut W,
     errors: &mut E,
 ) -> Result<(), Fault>
     ensures { WritesPlayed shown.now.format
-        (log_as shown.now.format core.now.cluster (told shown.now.coded) shown.now.table
-        shown.now.capacity core.now.log shown.now.judgements.now)
+        (log_as shown.now.format shown.now.script core.now.cluster (told shown.now.coded)
+        shown.now.table shown.now.capacity core.now.log shown.now.judgements.now)
         shown.now.judgements.now
         (told_text script.entry.name script.entry.is_strict core.now.cluster core.now.log
         shown.now.judgements.now) result
@@ -277,6 +277,7 @@ pub fn play_script<R: Read, W: Write, E: Write>(
         table,
         capacity,
         judgements: judgements.as_slice(),
+        script: script.name,
     };
     let judged = put_played(alloc, &shown, &core, script, writer, errors);
     notes.add_refusals(core.log());

@@ -79,6 +79,7 @@ pub fn replay_script<R: Read, W: Write>(
         table,
         capacity,
         judgements: &[],
+        script: None::<&'static str>,
     };
     let written = write_shown(alloc, &shown, &core, writer);
     notes.add_refusals(core.log());

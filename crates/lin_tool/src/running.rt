@@ -138,15 +138,15 @@ fn run_steps<R: AllocGlobal + Threads + Wait + Copy + Send + 'static>(
 /// its turns before it was done.
 fn put_report<W: Write>(
     alloc: Global,
-    shown: &Shown<'_>,
+    shown: &Shown<'_, '_>,
     report: &RunReport,
     writer: &mut W,
 ) -> Result<(), Fault>
     requires table { report.now.core.opening ≡ shown.now.table }
     requires capacity { report.now.core.capacity ≡ shown.now.capacity }
     ensures { WritesRun shown.now.format
-        (log_as shown.now.format report.now.core.cluster (told shown.now.coded) shown.now.table
-        shown.now.capacity report.now.core.log shown.now.judgements.now)
+        (log_as shown.now.format shown.now.script report.now.core.cluster (told shown.now.coded)
+        shown.now.table shown.now.capacity report.now.core.log shown.now.judgements.now)
         report.now.ended.items (W.contents writer.old) (W.contents writer.new) result }
 {
     write_shown(alloc, shown, &report.core, writer)?;
@@ -186,6 +186,7 @@ fn run_over<R: AllocGlobal + Input + Print + Eprint + Threads + Wait + Copy + Se
         table,
         capacity,
         judgements: &[],
+        script: None::<&'static str>,
     };
     let written = put_report(rt.alloc(), &shown, &report, &mut io::writer(rt));
     notes.add_refusals(report.core.log());

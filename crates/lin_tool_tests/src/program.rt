@@ -351,6 +351,7 @@ fn formats_end_where_a_write_fails(rt: HostRuntime) -> Result<(), Fail> {
             table,
             capacity: 16,
             judgements: &[],
+            script: None,
         };
         let mut whole = Vec::new(alloc);
         write_shown(alloc, &shown, &core, &mut whole)?;

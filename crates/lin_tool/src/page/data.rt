@@ -1,42 +1,98 @@
 //! The lines that a page has beside the log: what its script needs to read it.
 
-ghost use Rattle.std.specs.Prelude.{◌<◌, flat_map, length};
+ghost use Rattle.std.specs.Prelude.{◌≡◌, ◌<◌, flat_map, length, IfOk};
 ghost use Rattle.lin_export.specs.WhereTold.{told};
 ghost use Rattle.lin_frame.specs.Words.{numbers};
 ghost use Rattle.lin_text.specs.Written.{Grows, WritesText};
-ghost use Rattle.lin_tool.specs.Page.{alone_line, log_head, page_head, unmet_line};
+ghost use Rattle.lin_tool.specs.Page.{alone_line, cluster_lines, data_head, log_head};
+ghost use Rattle.lin_tool.specs.PageFields.{guarded};
 
-use crate::page::field::put_field;
+use crate::page::field::{put_field, put_guarded};
 use crate::page::meanings::put_coded;
-use crate::page::pieces::HEAD;
-use lin_bench::{Judgement, is_unmet, put_unmet};
+use lin_export::{ExportFault, write_frames, write_list, write_slots};
 use lin_log::{put_number, put_value};
 use lin_parts::Cluster;
 use lin_text::{TextBuffer, TextWriter, WriteFailed};
 use lin_values::Coded;
+use std::alloc::{AllocError, Global};
 use std::io::Write;
 
 /// Writes what stands before the listing of the cluster.
 ///
 /// # Errors
 /// `WriteFailed`; what was written then is the beginning of it.
-pub(crate) fn write_head<W: Write>(
+pub(crate) fn write_data_head<W: Write>(
     cluster: &Cluster,
     file: &[u8],
     writer: &mut W,
 ) -> Result<(), WriteFailed>
     ensures { WritesText (W.contents writer.old) (W.contents writer.new) result
-        (page_head cluster.now file.now) }
+        (data_head cluster.now file.now) }
 {
     let mut buffer = TextBuffer::empty();
     let mut out = TextWriter::new(writer, &mut buffer);
-    out.put_text(HEAD);
     out.put_text("page 1\nfile ");
     put_field(&mut out, file);
     out.put_text("\nspeed ");
     out.put_number(cluster.speed());
     out.put_byte(b'\n');
     out.finish()
+}
+
+/// Writes what a cluster has.
+///
+/// # Errors
+/// `WriteFailed`; what was written then is the beginning of it.
+fn write_lines<W: Write>(cluster: &Cluster, writer: &mut W) -> Result<(), WriteFailed>
+    ensures { WritesText (W.contents writer.old) (W.contents writer.new) result
+        (cluster_lines cluster.now) }
+{
+    write_list(cluster, writer)?;
+    write_frames(cluster, writer)?;
+    write_slots(cluster, writer)
+}
+
+/// What a cluster has. An error means out of memory.
+fn lines_of(alloc: Global, cluster: &Cluster) -> Result<Vec<u8>, AllocError>
+    ensures { IfOk result (λ v. v.items ≡ cluster_lines cluster.now) }
+{
+    let mut text = Vec::new(alloc);
+    match write_lines(cluster, &mut text) {
+        Ok(()) => Ok(text),
+        Err(_) => Err(AllocError),
+    }
+}
+
+/// Writes lines of a cluster, without `<`.
+///
+/// # Errors
+/// `WriteFailed`; what was written then is the beginning of them.
+fn write_guarded<W: Write>(lines: &[u8], writer: &mut W) -> Result<(), WriteFailed>
+    ensures { WritesText (W.contents writer.old) (W.contents writer.new) result
+        (guarded lines.now) }
+{
+    let mut buffer = TextBuffer::empty();
+    let mut out = TextWriter::new(writer, &mut buffer);
+    put_guarded(&mut out, lines);
+    out.finish()
+}
+
+/// Writes what a cluster has, without `<`.
+///
+/// # Errors
+/// `OutOfMemory`, where nothing was written; `WriteFailed`; what was written then is the beginning
+/// of it.
+pub(crate) fn write_cluster<W: Write>(
+    alloc: Global,
+    cluster: &Cluster,
+    writer: &mut W,
+) -> Result<(), ExportFault>
+    ensures { WritesText (W.contents writer.old) (W.contents writer.new) result
+        (guarded (cluster_lines cluster.now)) }
+{
+    let lines = lines_of(alloc, cluster)?;
+    write_guarded(lines.as_slice(), writer)?;
+    Ok(())
 }
 
 /// The line of a signal, where no frame has it.
@@ -79,28 +135,4 @@ pub(crate) fn write_log_head<W: Write>(
     put_coded(&mut out, cluster, coded);
     out.put_text("log\n");
     out.finish()
-}
-
-/// The line of a judgement, where it isn't met.
-fn put_unmet_line<W: Write>(out: &mut TextWriter<'_, W>, cluster: &Cluster, judgement: &Judgement)
-    ensures { Grows W.contents out.old out.new (unmet_line cluster.now judgement.now) }
-{
-    if is_unmet(&judgement.judged) {
-        out.put_text("unmet");
-        put_number(out, judgement.entries);
-        out.put_byte(b' ');
-        put_unmet(out, cluster, judgement);
-    }
-}
-
-pub(crate) fn put_unmet_lines<W: Write>(
-    out: &mut TextWriter<'_, W>,
-    cluster: &Cluster,
-    judgements: &[Judgement],
-)
-    ensures { Grows W.contents out.old out.new (flat_map (unmet_line cluster.now) judgements.now) }
-{
-    for one in judgements {
-        put_unmet_line(out, cluster, one);
-    }
 }

@@ -2,7 +2,7 @@
 
 ghost use Rattle.std.specs.Prelude.{◌≡◌, ◌∷◌, flat_map};
 ghost use Rattle.lin_text.specs.Written.{Grows};
-ghost use Rattle.lin_tool.specs.PageFields.{escaped, field, is_plain};
+ghost use Rattle.lin_tool.specs.PageFields.{escaped, field, guarded, guarded_byte, is_plain};
 
 use lin_text::TextWriter;
 use std::io::Write;
@@ -33,5 +33,26 @@ pub(crate) fn put_field<W: Write>(out: &mut TextWriter<'_, W>, text: &[u8])
     out.put_byte(b'"');
     for byte in text {
         put_escaped(out, *byte);
+    }
+}
+
+/// A byte of a cluster's lines.
+fn put_guarded_byte<W: Write>(out: &mut TextWriter<'_, W>, byte: u8)
+    ensures { Grows W.contents out.old out.new (guarded_byte byte) }
+{
+    if byte == b'<' {
+        out.put_text("%3C");
+    } else {
+        out.put_byte(byte);
+    }
+}
+
+/// The lines of a cluster, in which no `<` stands, as none does in a name of an LDF; one that did
+/// would be `%3C`.
+pub(crate) fn put_guarded<W: Write>(out: &mut TextWriter<'_, W>, text: &[u8])
+    ensures { Grows W.contents out.old out.new (guarded text.now) }
+{
+    for byte in text {
+        put_guarded_byte(out, *byte);
     }
 }

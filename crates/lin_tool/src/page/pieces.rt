@@ -142,8 +142,8 @@ function readRun(text) {
 \t\t\tcontinue;
 \t\t}
 \t\tif (line[0] === 'u') {
-\t\t\tconst [, entries, ...why] = line.split(' ');
-\t\t\tproblem('unmet', slots[places[entries - 1] || 0] || s, why.join(' '));
+\t\t\tconst [, entries, why] = line.split(' ');
+\t\t\tproblem('unmet', slots[places[entries - 1] || 0] || s, un(why));
 \t\t\tcontinue;
 \t\t}
 \t\tconst f = line[2] === 'd' ? ['>', 'due'] : line.split(' '), [, w, x, y, z] = f;

@@ -4,7 +4,7 @@ use Rattle.lin_tool.proofs.page.write_middle.Goals as goal
 
 pub returns : goal.returns
 returns g c =
-    let put = grows-more (grows-more (rw c.cluster.ensures at c.put_unmet_lines.ensures) c.put_text.ensures) c.put_summary.ensures in
+    let put = grows-more c.put_text.ensures c.put_summary.ensures in
     let same = sym (put.same ∙ c.new-out.ensures.same) in
     let written = text-written c.new-out.ensures put c.finish.ensures in
     search rules
