@@ -16,7 +16,7 @@ use crate::findings::Findings;
 use crate::notes::Notes;
 use lin_cluster::{CheckFault, check};
 use lin_field::Checked;
-use lin_ldf::{LdfFault, parse};
+use lin_ldf::{LdfFault, Parser, TokenKind, parse};
 use lin_parts::Cluster;
 use lin_parts::description::Description;
 use lin_text::{Many, ReadFault, read_whole};
@@ -154,9 +154,28 @@ fn check_parsed(
     coded_noted(alloc, checked, codings, extras.encodings, text, notes)
 }
 
+/// Whether the version in the header of a text begins with `1.`, as in LIN 1.2 and 1.3. A version that
+/// isn't among the first 64 tokens isn't found.
+fn is_old(alloc: Global, text: &[u8]) -> bool {
+    let mut parser = Parser::new(alloc, text);
+    let mut is_version = false;
+    for _ in 0..64 {
+        match parser.front_kind() {
+            Some(TokenKind::Text) if is_version => return parser.text().starts_with(b"\"1."),
+            Some(TokenKind::Word) => is_version = parser.text()
+                == b"LIN_protocol_version".as_slice(),
+            Some(_) => {}
+            None => return false,
+        }
+        parser.skip();
+    }
+    false
+}
+
 /// The cluster that an LDF text describes, as of `cluster_of_text`, and what the values of its signals
 /// mean. The notes keep the warnings that the extras want, or tell where it is at fault; where they want
-/// no text, its memory is let go of before the description is checked.
+/// no text, its memory is let go of before the description is checked. Of a text of LIN 1.x that
+/// `--field` reads, too, they tell that.
 fn cluster_of_bytes(
     alloc: Global,
     mut bytes: Vec<u8>,
@@ -166,12 +185,16 @@ fn cluster_of_bytes(
     ensures { AnswersCoded extras result notes.new.warnings bytes.items }
 {
     let parsed = parse_text(alloc, bytes.as_slice(), extras);
-    if !notes.is_text_wanted() {
+    let is_old = is_old(alloc, bytes.as_slice());
+    if !is_old && !notes.is_text_wanted() {
         let_go(&mut bytes);
     }
     let answer = check_parsed(alloc, parsed, extras, bytes.as_slice(), notes);
     if let Err(fault) = &answer {
         notes.add_text(alloc, Reading::Plain, bytes.as_slice(), fault)?;
+    }
+    if is_old && answer.is_ok() {
+        notes.add_old(alloc, bytes.as_mut_slice());
     }
     notes.add_field(alloc, bytes.as_mut_slice(), &answer);
     answer

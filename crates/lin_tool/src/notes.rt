@@ -11,6 +11,7 @@ use crate::explaining::{
     put_tables, put_text,
 };
 use crate::fault::Fault;
+use crate::field::warnings_of;
 use crate::findings::put_remarks as put_remark_lines;
 use crate::locating::{put_places, put_remark_places};
 use crate::nearest::put_bad_bench_line;
@@ -42,6 +43,7 @@ pub struct Notes<'a> {
     /// The warnings of an LDF text that is accepted.
     pub warnings: Many<Remark>,
     is_script_read: bool,
+    is_old: bool,
     are_warnings_told: bool,
     places: String,
     text: String,
@@ -55,6 +57,7 @@ impl<'a> Notes<'a> {
             wanted,
             warnings: Many::new(Vec::new(alloc)),
             is_script_read: false,
+            is_old: false,
             are_warnings_told: false,
             places: String::new(alloc),
             text: String::new(alloc),
@@ -97,6 +100,7 @@ impl<'a> Notes<'a> {
         writer: &mut W,
     ) -> Result<(), WriteFailed> {
         if !self.are_warnings_told {
+            self.write_old(writer)?;
             self.write_warnings(writer)?;
         }
         if let Some(fault) = fault {
@@ -111,8 +115,24 @@ impl<'a> Notes<'a> {
 
     /// Writes the warnings of an LDF text that is accepted before what else is said.
     pub(crate) fn tell_warnings<W: Write>(&mut self, writer: &mut W) {
+        let _ = self.write_old(writer);
         let _ = self.write_warnings(writer);
         self.are_warnings_told = true;
+    }
+
+    /// Writes that an LDF text of LIN 1.x was read as one of LIN 2.x, if it was.
+    fn write_old<W: Write>(&self, writer: &mut W) -> Result<(), WriteFailed> {
+        if !self.is_old {
+            return Ok(());
+        }
+        let mut buffer = TextBuffer::empty();
+        let mut lines = TextWriter::new(writer, &mut buffer);
+        if let Some(file) = self.wanted.file {
+            lines.put_text(file);
+            lines.put_text(": ");
+        }
+        lines.put_text("ldf of LIN 1.x read as LIN 2.x; use --field\n");
+        lines.finish()
     }
 
     /// Writes the warnings of an LDF text that is accepted.
@@ -230,6 +250,13 @@ impl<'a> Notes<'a> {
         ensures { self.new.warnings ≡ warnings }
     {
         self.warnings = warnings;
+    }
+
+    /// Keeps that an LDF text of LIN 1.x was read as one of LIN 2.x, if `--field` reads it.
+    pub(crate) fn add_old(&mut self, alloc: Global, text: &mut [u8])
+        ensures { self.new.warnings ≡ self.old.warnings }
+    {
+        self.is_old = warnings_of(alloc, text).is_ok();
     }
 
     /// Adds what `--field` would make of an LDF text that was read without it.
