@@ -2,14 +2,11 @@
 
 use crate::describing::Reading;
 use crate::explaining::put_shown;
+use crate::nearest::edits_between;
 use crate::wanted::before;
 use lin_field::{Settled, read_field, settle};
-use lin_ldf::{Description, LdfFault, Name, Parser, Place, TokenKind, parse};
+use lin_ldf::{Description, LdfFault, Parser, Place, TokenKind, parse};
 use std::alloc::{AllocError, Global};
-use strsim::generic_damerau_levenshtein;
-
-/// How many bytes of a name are compared.
-const COMPARED: usize = 64;
 
 /// How many letters of a word that is nearly another differ.
 const SLIPS: usize = 2;
@@ -34,6 +31,7 @@ enum Kind {
     Signal,
     Frame,
     Table,
+    Entry,
 }
 
 /// What an LDF text describes; nothing where it is at fault.
@@ -67,67 +65,6 @@ pub(crate) fn described(
     }
 }
 
-fn is_at(name: &Name, place: Place) -> bool {
-    name.line == place.line && name.column == place.column
-}
-
-fn has_one_at(names: &[Name], place: Place) -> bool {
-    names.iter().any(|name| is_at(name, place))
-}
-
-/// Whether a node is named at a place.
-fn is_node_at(description: &Description, place: Place) -> bool {
-    let of_signals = description.signals().iter().any(|signal| {
-        is_at(&signal.publisher, place) || has_one_at(signal.subscribers.as_slice(), place)
-    });
-    of_signals
-        || description
-            .frames()
-            .iter()
-            .any(|frame| is_at(&frame.publisher, place))
-        || description
-            .attributes()
-            .iter()
-            .any(|block| is_at(&block.node, place))
-}
-
-/// Whether a signal of a frame is named at a place.
-fn is_signal_at(description: &Description, place: Place) -> bool {
-    description.frames().iter().any(|frame| {
-        frame
-            .placed
-            .as_slice()
-            .iter()
-            .any(|placed| is_at(&placed.signal, place))
-    })
-}
-
-/// Whether the table of an event-triggered frame is named at a place.
-fn is_table_at(description: &Description, place: Place) -> bool {
-    description
-        .events()
-        .iter()
-        .any(|event| is_at(&event.table, place))
-}
-
-/// What a name at a place should be: a member or an entry is a frame.
-fn kind_at(description: &Description, place: Place) -> Kind {
-    if is_node_at(description, place) {
-        Kind::Node
-    } else if is_signal_at(description, place) {
-        Kind::Signal
-    } else if is_table_at(description, place) {
-        Kind::Table
-    } else {
-        Kind::Frame
-    }
-}
-
-/// The beginning of a name.
-fn beginning(name: &[u8]) -> &[u8] {
-    name.get(..COMPARED).unwrap_or(name)
-}
-
 /// Of names the one nearest to a word, of which at most half of the letters differ.
 #[derive(Drop)]
 struct Nearest<'a> {
@@ -148,7 +85,7 @@ impl<'a> Nearest<'a> {
     }
 
     fn ask(&mut self, name: &'a [u8]) -> Result<(), AllocError> {
-        let edits = generic_damerau_levenshtein(self.alloc, beginning(name), beginning(self.word))?;
+        let edits = edits_between(self.alloc, name, self.word)?;
         if edits < self.edits {
             self.edits = edits;
             self.name = Some(name);
@@ -201,7 +138,7 @@ impl<'a> Nearest<'a> {
 }
 
 /// The word that begins a text.
-fn first_word(text: &[u8]) -> &[u8] {
+pub(crate) fn first_word(text: &[u8]) -> &[u8] {
     let len = text
         .iter()
         .take_while(|byte| byte.is_ascii_alphanumeric() || **byte == b'_')
@@ -221,7 +158,7 @@ pub(crate) fn put_near(
     let from = before(text, place).len();
     let word = first_word(text.get(from..).unwrap_or(&[]));
     let mut near = Nearest::new(alloc, word);
-    let kind = match kind_at(description, place) {
+    let kind = match kind_at(alloc, text, place) {
         Kind::Node => {
             near.ask_nodes(description)?;
             "node"
@@ -238,6 +175,14 @@ pub(crate) fn put_near(
             near.ask_plain_frames(description)?;
             near.ask_sporadic(description)?;
             near.ask_events(description)?;
+            "frame"
+        }
+        Kind::Entry => {
+            near.ask_plain_frames(description)?;
+            near.ask_sporadic(description)?;
+            near.ask_events(description)?;
+            near.ask(b"MasterReq")?;
+            near.ask(b"SlaveResp")?;
             "frame"
         }
     };
@@ -261,9 +206,7 @@ fn nearly(
         if bytes == word {
             return Ok(None);
         }
-        if bytes.eq_ignore_ascii_case(word)
-            || generic_damerau_levenshtein(alloc, bytes, beginning(word))? <= SLIPS
-        {
+        if bytes.eq_ignore_ascii_case(word) || edits_between(alloc, bytes, word)? <= SLIPS {
             found = Some(*other);
         }
     }
@@ -272,13 +215,34 @@ fn nearly(
 
 /// A scan of a text: how many braces are open, and the last section's word.
 #[derive(Drop)]
-struct Scan<'a> {
-    parser: Parser<'a>,
-    depth: u64,
-    section: &'a [u8],
+pub(crate) struct Scan<'a> {
+    pub parser: Parser<'a>,
+    pub depth: u64,
+    pub section: &'a [u8],
 }
 
 impl<'a> Scan<'a> {
+    pub(crate) fn new(alloc: Global, text: &'a [u8]) -> Scan<'a> {
+        Scan {
+            parser: Parser::new(alloc, text),
+            depth: 0,
+            section: &[],
+        }
+    }
+
+    /// What a name behind a token should be: a member or an entry is a frame.
+    fn kind_after(&self, last: Option<TokenKind>) -> Kind {
+        match (self.section, self.depth) {
+            (b"Nodes" | b"Signals" | b"Diagnostic_addresses", _)
+            | (b"Frames" | b"Node_attributes", 1) => Kind::Node,
+            (b"Frames" | b"Node_attributes", 2)
+            | (b"Signal_groups" | b"Signal_representation", _) => Kind::Signal,
+            (b"Event_triggered_frames", _) if last == Some(TokenKind::Colon) => Kind::Table,
+            (b"Schedule_tables", _) => Kind::Entry,
+            _ => Kind::Frame,
+        }
+    }
+
     /// What the word before the next token names, and the words that are read there.
     fn kind(&self, next: TokenKind) -> Option<(&'static str, &'static [&'static str])> {
         if self.depth == 0 && next == TokenKind::OpenBrace {
@@ -294,7 +258,7 @@ impl<'a> Scan<'a> {
     }
 
     /// Passes over a token.
-    fn pass(&mut self, kind: TokenKind, word: &'a [u8]) {
+    pub(crate) fn pass(&mut self, kind: TokenKind, word: &'a [u8]) {
         match kind {
             TokenKind::OpenBrace => self.depth = self.depth.saturating_add(1),
             TokenKind::CloseBrace => self.depth = self.depth.saturating_sub(1),
@@ -304,14 +268,31 @@ impl<'a> Scan<'a> {
     }
 }
 
+/// What a name at a place of an LDF text should be: told by the section in which it is, since a name
+/// that nothing declares may be left out of what the text describes.
+fn kind_at(alloc: Global, text: &[u8], place: Place) -> Kind {
+    let mut scan = Scan::new(alloc, text);
+    let mut last = None;
+    for _ in 0..scan.parser.left() {
+        let Place { line, column } = scan.parser.place();
+        let Some(kind) = scan.parser.front_kind() else {
+            break;
+        };
+        if (line, column) >= (place.line, place.column) {
+            break;
+        }
+        let word = scan.parser.text();
+        scan.parser.skip();
+        scan.pass(kind, word);
+        last = Some(kind);
+    }
+    scan.kind_after(last)
+}
+
 /// Puts each section and each attribute of an LDF text that isn't read, and whose word is nearly one
 /// of those that are.
 pub(crate) fn put_unread(alloc: Global, out: &mut String, text: &[u8]) -> Result<(), AllocError> {
-    let mut scan = Scan {
-        parser: Parser::new(alloc, text),
-        depth: 0,
-        section: &[],
-    };
+    let mut scan = Scan::new(alloc, text);
     for _ in 0..scan.parser.left() {
         let Some(kind) = scan.parser.front_kind() else {
             break;

@@ -6,7 +6,7 @@ use lin_core::{Listed, Refusal};
 use lin_log::Reason as StepReason;
 use lin_parts::Cluster;
 use std::alloc::{AllocError, Global};
-use strsim::generic_levenshtein;
+use strsim::generic_damerau_levenshtein;
 
 /// How many bytes of a name are compared.
 const COMPARED: usize = 64;
@@ -50,6 +50,12 @@ fn beginning(name: &[u8]) -> &[u8] {
     name.get(..COMPARED).unwrap_or(name)
 }
 
+/// How many edits two names are apart by their beginnings: bytes that are put in, left out or replaced,
+/// and neighbours that are exchanged.
+pub(crate) fn edits_between(alloc: Global, a: &[u8], b: &[u8]) -> Result<usize, AllocError> {
+    generic_damerau_levenshtein(alloc, beginning(a), beginning(b))
+}
+
 /// Puts names, the ones nearest to the name that was read first.
 fn put_nearest(
     alloc: Global,
@@ -60,8 +66,7 @@ fn put_nearest(
 ) -> Result<(), AllocError> {
     let mut near: Vec<(usize, &[u8])> = Vec::new(alloc);
     for name in names {
-        let edits = generic_levenshtein(alloc, beginning(name), beginning(read))?;
-        near.push((edits, *name))?;
+        near.push((edits_between(alloc, name, read)?, *name))?;
     }
     near.as_mut_slice().sort_by_key(alloc, |pair| pair.0)?;
     write!(out, "  the {things} are")?;
@@ -98,6 +103,10 @@ fn put_signals(
     put_nearest(alloc, out, "signals", names.as_slice(), read)
 }
 
+fn has_name(names: &[&[u8]], name: &[u8]) -> bool {
+    names.iter().any(|other| *other == name)
+}
+
 /// The names of frames that `expect frame` takes: those of signals, and of messages.
 fn put_frames(
     alloc: Global,
@@ -111,7 +120,9 @@ fn put_frames(
         names.push(cluster.frame_name(frame))?;
     }
     for frame in MESSAGE_FRAMES.iter() {
-        names.push(frame.as_bytes())?;
+        if !has_name(names.as_slice(), frame.as_bytes()) {
+            names.push(frame.as_bytes())?;
+        }
     }
     put_nearest(alloc, out, "frames", names.as_slice(), read)
 }

@@ -68,7 +68,8 @@ pub(crate) fn before(text: &[u8], place: Place) -> &[u8] {
 }
 
 impl<'a> Beginning<'a> {
-    /// (A token is tried behind a space, so that it doesn't continue the one before it.)
+    /// (A token is tried in a line of its own, so that it continues neither the token before it nor a
+    /// comment.)
     fn new(alloc: Global, reading: Reading, text: &'a [u8], place: Place) -> Beginning<'a> {
         Beginning {
             alloc,
@@ -76,8 +77,8 @@ impl<'a> Beginning<'a> {
             text: before(text, place),
             tried: Vec::new(alloc),
             place: Place {
-                line: place.line,
-                column: place.column.saturating_add(1),
+                line: place.line.saturating_add(1),
+                column: 1,
             },
         }
     }
@@ -86,7 +87,7 @@ impl<'a> Beginning<'a> {
     fn fault_with(&mut self, token: &[u8]) -> Result<Option<LdfFault>, AllocError> {
         self.tried.clear();
         self.tried.extend_from_slice(self.text)?;
-        self.tried.push(b' ')?;
+        self.tried.push(b'\n')?;
         self.tried.extend_from_slice(token)?;
         let fault = match self.reading {
             Reading::Plain => parse(self.alloc, self.tried.as_slice()).err(),
