@@ -1,7 +1,8 @@
 -- The judgements of a play as a report for what reads those of tests (JUnit's, in XML 1.0).
-use Rattle.std.specs.Prelude.{ℕ, ◌==◌, ◌&&◌, nat_le, if◌then◌else◌, List, [], ◌∷◌, ◌++◌, flat_map}
+use Rattle.std.specs.Prelude.{ℕ, ◌==◌, ◌&&◌, ◌||◌, Bool, nat_le, if◌then◌else◌, List, [], ◌∷◌, ◌++◌, flat_map}
 use Rattle.std.specs.Prelude.{length, codes, Option, Some, None}
 use Rattle.std.specs.List.{count_by}
+use Rattle.std.specs.Str.{is_utf8}
 use Rattle.std.specs.Fmt.{decimal}
 use Rattle.lin_parts.specs.declared.parts.Parts.{Parts}
 use Rattle.lin_core.specs.declared.log.LogEntry.{LogEntry}
@@ -12,18 +13,18 @@ use Rattle.lin_bench.specs.declared.got.Judgement.{Judgement}
 use Rattle.lin_tool.specs.Placing.{placed_missed}
 
 -- a byte as it stands in XML: `&`, `<`, `>` and `"` are escaped, and `?` stands for one that isn't
--- printable
-abbrev pub escaped : ℕ → List ℕ
-escaped b =
+-- printable; those above 7F stand for themselves in a text that is UTF-8
+abbrev pub escaped : Bool → ℕ → List ℕ
+escaped is_text b =
     if b == 38 then codes "&amp;"
     else if b == 60 then codes "&lt;"
     else if b == 62 then codes "&gt;"
     else if b == 34 then codes "&quot;"
-    else if nat_le 32 b && nat_le b 126 then b ∷ []
+    else if nat_le 32 b && nat_le b 126 || is_text && nat_le 128 b then b ∷ []
     else codes "?"
 
 abbrev pub escaped_text : List ℕ → List ℕ
-escaped_text text = flat_map escaped text
+escaped_text text = flat_map (escaped (is_utf8 text)) text
 
 -- what stands before the cases: how many judgements there are, and how many aren't met
 abbrev pub head : List ℕ → List Judgement → List ℕ

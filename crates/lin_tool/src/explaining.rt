@@ -26,21 +26,36 @@ const UNKNOWN_NAME: u8 = 1;
 /// How many findings, or bad lines of a bench script, are explained at most.
 pub(crate) const MOST: usize = 10;
 
-/// A byte in one column, and never as a part of a terminal's command.
-pub(crate) fn shown(byte: u8) -> char {
-    match byte {
-        b'\t' => ' ',
-        b' '..=b'~' => char::from(byte),
-        _ => '?',
+/// The first character of a text, and how many bytes it has: `?` for a byte that begins none in UTF-8,
+/// and for a control, which could be a part of a terminal's command.
+fn first_shown(text: &[u8]) -> (char, usize) {
+    let len = match text.first().copied() {
+        Some(0xC2..=0xDF) => 2,
+        Some(0xE0..=0xEF) => 3,
+        Some(0xF0..=0xF4) => 4,
+        _ => 1,
+    };
+    let first = std::str::from_utf8(text.get(..len).unwrap_or(&[])).unwrap_or("");
+    match first.chars().next() {
+        Some('\t') => (' ', len),
+        Some(char) if !char.is_control() => (char, len),
+        Some(_) => ('?', len),
+        None => ('?', 1),
     }
 }
 
-/// Puts the bytes of a text, each in one column.
-pub(crate) fn put_shown(out: &mut String, bytes: &[u8]) -> Result<(), AllocError> {
-    for byte in bytes {
-        out.push(shown(*byte))?;
+/// Puts the characters of a text, each in one column, and returns how many there are.
+pub(crate) fn put_shown(out: &mut String, bytes: &[u8]) -> Result<usize, AllocError> {
+    let mut rest = bytes;
+    for count in 0..bytes.len() {
+        if rest.is_empty() {
+            return Ok(count);
+        }
+        let (char, len) = first_shown(rest);
+        out.push(char)?;
+        rest = rest.get(len..).unwrap_or(&[]);
     }
-    Ok(())
+    Ok(bytes.len())
 }
 
 /// The line of this number, from 1; no bytes where there is none.
@@ -62,9 +77,10 @@ pub(crate) fn put_place(out: &mut String, text: &[u8], place: Place) -> Result<(
     let from = at.saturating_sub(BEFORE);
     let to = line.len().min(from.saturating_add(WIDTH));
     out.push_str("  ")?;
-    put_shown(out, line.get(from..to).unwrap_or(&[]))?;
+    let columns = put_shown(out, line.get(from..at).unwrap_or(&[]))?;
+    put_shown(out, line.get(at..to).unwrap_or(&[]))?;
     out.push_str("\n  ")?;
-    for _ in from..at {
+    for _ in 0..columns {
         out.push_str(" ")?;
     }
     out.push_str("^\n")

@@ -2,6 +2,7 @@
 
 ghost use Rattle.std.specs.Prelude.{◌≡◌, ◌++◌, [], codes, drop, flat_map, IfOk, List, Some, ℕ};
 ghost use Rattle.std.specs.Option.{option_map_or};
+ghost use Rattle.std.specs.Str.{is_utf8};
 ghost use Rattle.lin_core.specs.declared.log.LogEntry.{LogEntry};
 ghost use Rattle.lin_log.specs.Words.{spaced_word};
 ghost use Rattle.lin_bench.specs.Texts.{found_text, what_text};
@@ -21,9 +22,15 @@ use lin_text::{TextBuffer, TextWriter};
 use std::alloc::{AllocError, Global};
 use std::io::Write;
 
-/// A byte as it stands in XML: `?` for one that isn't printable.
-fn put_escaped_byte<W: Write>(out: &mut TextWriter<'_, W>, byte: u8)
-    ensures { Grows W.contents out.old out.new (escaped byte) }
+fn is_utf8(text: &[u8]) -> bool
+    ensures { result ≡ is_utf8 text.now }
+{
+    std::str::from_utf8(text).is_ok()
+}
+
+/// A byte as it stands in XML: `?` for one that isn't printable, and for one above 7F but in UTF-8.
+fn put_escaped_byte<W: Write>(out: &mut TextWriter<'_, W>, byte: u8, is_text: bool)
+    ensures { Grows W.contents out.old out.new (escaped is_text byte) }
 {
     if byte == b'&' {
         out.put_text("&amp;");
@@ -33,7 +40,7 @@ fn put_escaped_byte<W: Write>(out: &mut TextWriter<'_, W>, byte: u8)
         out.put_text("&gt;");
     } else if byte == b'"' {
         out.put_text("&quot;");
-    } else if 32 <= byte && byte <= 126 {
+    } else if 32 <= byte && byte <= 126 || is_text && 128 <= byte {
         out.put_byte(byte);
     } else {
         out.put_byte(b'?');
@@ -43,8 +50,9 @@ fn put_escaped_byte<W: Write>(out: &mut TextWriter<'_, W>, byte: u8)
 fn put_escaped<W: Write>(out: &mut TextWriter<'_, W>, text: &[u8])
     ensures { Grows W.contents out.old out.new (escaped_text text.now) }
 {
+    let is_text = is_utf8(text);
     for byte in text {
-        put_escaped_byte(out, *byte);
+        put_escaped_byte(out, *byte, is_text);
     }
 }
 
@@ -204,7 +212,7 @@ fn put_head<W: Write>(out: &mut TextWriter<'_, W>, file: &str, judgements: &[Jud
 }
 
 /// Writes the judgements of a play as a report for what reads those of tests: a case for each, in
-/// order, under the name of the script. Bytes that aren't 20 to 7E are `?`.
+/// order, under the name of the script. Bytes that aren't 20 to 7E are `?`, but in UTF-8 those above.
 ///
 /// # Errors
 /// `OutOfMemory` and `WriteFailed`, where what was written is the beginning of the report.
