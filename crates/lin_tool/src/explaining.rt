@@ -1,10 +1,12 @@
 //! `--explain`: what is said below the lines of a fault, for who meets it first.
 
+use crate::causes::{is_utf16, put_cause};
 use crate::describing::Reading;
 use crate::fault::Fault;
 use crate::field::warnings_of;
 use crate::meanings::{FAULTS, REFUSALS, finding_meaning};
 use crate::misspelled::{described, put_near, put_unread};
+use crate::parties::{put_declared, put_party};
 use crate::wanted::put_wanted;
 use lin_cluster::Finding;
 use lin_core::{Listed, Log, Refusal, Reply};
@@ -110,32 +112,46 @@ fn put_fault(
     let Some((place, number)) = place_of(fault) else {
         return Ok(());
     };
+    if is_utf16(text) {
+        return out.push_str("  UTF-16 file\n  help: save it as UTF-8 or Latin-1\n");
+    }
     put_place(out, text, place)?;
     if let Some((_, meaning)) = FAULTS.get(number.wrapping_sub(1)) {
         writeln!(out, "  {meaning}")?;
     }
+    put_cause(alloc, out, text, fault, place)?;
     match fault {
         LdfFault::Unexpected(_) => put_wanted(alloc, out, reading, text, place),
+        LdfFault::NameTwice(_) => put_declared(alloc, out, text, place),
         _ => Ok(()),
     }
 }
 
-fn put_finding(out: &mut String, text: &[u8], finding: &Finding) -> Result<(), AllocError> {
+/// Puts the place of a finding, its line and a mark.
+fn put_found(out: &mut String, text: &[u8], finding: &Finding) -> Result<(), AllocError> {
     let Finding {
-        number,
+        number: _,
         line,
         column,
         needed_us: _,
     } = *finding;
     writeln!(out, "{line}:{column}")?;
-    put_place(out, text, Place { line, column })?;
-    match finding_meaning(number) {
-        Some((meaning, change)) => writeln!(out, "  {meaning}\n  to change: {change}"),
-        None => Ok(()),
-    }
+    put_place(out, text, Place { line, column })
 }
 
-/// Puts the nearest name to one that nothing declares.
+/// Puts what a finding of a number means and what to change, and how many of it there are where there
+/// are several.
+fn put_meaning(out: &mut String, number: u8, count: usize) -> Result<(), AllocError> {
+    if let Some((meaning, change)) = finding_meaning(number) {
+        writeln!(out, "  {meaning}\n  to change: {change}")?;
+    }
+    if count > 1 {
+        writeln!(out, "  {count} of this kind")?;
+    }
+    Ok(())
+}
+
+/// Puts the nearest name to one that nothing declares, and of other findings the other party.
 fn put_unknown(
     alloc: Global,
     out: &mut String,
@@ -149,23 +165,44 @@ fn put_unknown(
         column,
         needed_us: _,
     } = *finding;
+    let place = Place { line, column };
     match description {
         Some(description) if number == UNKNOWN_NAME => {
-            put_near(alloc, out, text, description, Place { line, column })
+            put_near(alloc, out, text, description, place)
         }
-        _ => Ok(()),
+        Some(description) => put_party(alloc, out, description, number, place),
+        None => Ok(()),
     }
 }
 
-fn put_findings(
+/// Whether a number is met for the first time. It is met from now on.
+fn is_new(met: &mut [bool; 256], number: u8) -> bool {
+    let is_new = !met[usize::from(number)];
+    met[usize::from(number)] = true;
+    is_new
+}
+
+/// Puts the first ten findings of an LDF text, and at the first one of each number what it means.
+fn put_all(
     alloc: Global,
     out: &mut String,
+    reading: Reading,
     text: &[u8],
     findings: &[Finding],
 ) -> Result<(), AllocError> {
-    let description = described(alloc, Reading::Plain, text)?;
+    let description = if findings.is_empty() {
+        None
+    } else {
+        described(alloc, reading, text)?
+    };
+    let mut explained = [false; 256];
     for finding in findings.iter().take(MOST) {
-        put_finding(out, text, finding)?;
+        let number = finding.number;
+        put_found(out, text, finding)?;
+        if is_new(&mut explained, number) {
+            let alike = findings.iter().filter(|other| other.number == number);
+            put_meaning(out, number, alike.count())?;
+        }
         put_unknown(alloc, out, text, description.as_ref(), finding)?;
     }
     put_unread(alloc, out, text)
@@ -183,7 +220,9 @@ pub(crate) fn put_text(
     let text = text.strip_prefix(b"\xEF\xBB\xBF").unwrap_or(text);
     match fault {
         Fault::Ldf(fault) => put_fault(alloc, out, reading, text, fault),
-        Fault::Findings(findings) => put_findings(alloc, out, text, findings.0.as_slice()),
+        Fault::Findings(findings) => {
+            put_all(alloc, out, Reading::Plain, text, findings.0.as_slice())
+        }
         _ => Ok(()),
     }
 }
@@ -197,20 +236,11 @@ pub(crate) fn put_remarks(
     remarks: &[Remark],
 ) -> Result<(), AllocError> {
     let text = text.strip_prefix(b"\xEF\xBB\xBF").unwrap_or(text);
-    let unknown = remarks
-        .iter()
-        .take(MOST)
-        .any(|remark| remark.finding.number == UNKNOWN_NAME);
-    let description = if unknown {
-        described(alloc, Reading::Field, text)?
-    } else {
-        None
-    };
-    for remark in remarks.iter().take(MOST) {
-        put_finding(out, text, &remark.finding)?;
-        put_unknown(alloc, out, text, description.as_ref(), &remark.finding)?;
+    let mut findings = Vec::new(alloc);
+    for remark in remarks {
+        findings.push(remark.finding)?;
     }
-    put_unread(alloc, out, text)
+    put_all(alloc, out, Reading::Field, text, findings.as_slice())
 }
 
 /// Puts what `--field` makes of a text that is refused without it: with how many warnings it reads

@@ -10,6 +10,7 @@
 //! ```
 #![tactic(auto)]
 
+mod causes;
 mod checking;
 mod coding;
 mod comparing;
@@ -30,6 +31,7 @@ mod nearest;
 mod notes;
 mod opening;
 mod page;
+mod parties;
 mod placing;
 mod playing;
 mod replaying;
