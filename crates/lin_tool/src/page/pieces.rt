@@ -246,7 +246,8 @@ const say = (line = '') => line.split(' ').slice(1).map((v, k, f) => k && (OF[f[
 const did = q => [q.why, say(q.line)].filter(v => v).join(': ');
 const map = (s, v) => s.maps.find(m => v >= +m.lo && v <= +m.hi);
 const named = (s, v) => s.init[0] || map(s, v)?.text;
-const shown = (s, v) => { const m = map(s, v); return m ? m.text || +(v * m.k + m.o).toPrecision(9) + ' ' + m.unit : String(v); };
+const digits = x => { const s = String(+x.toPrecision(9)), e = /e-(\\d+)$/.exec(s); return e ? (+s).toFixed(+e[1] + 8).replace(/0+$/, '') : s; };
+const shown = (s, v) => { const m = map(s, v); return m ? m.text || digits(v * m.k + m.o) + (m.unit && ' ' + m.unit) : String(v); };
 const heard = (s, i) => s.val[bisect(s.at.length, k => s.at[k] > i) - 1] ?? s.init;
 const news = s => s.news & 1 ? signals.filter(g => g.at[bisect(g.at.length, k => g.at[k] >= s.i)] === s.i).map(g => `${g.name} = ${shown(g, heard(g, s.i))}`) : [];
 const look = s => s.good ? bytes(s.good) : LABEL[KINDS[s.kind]] || KINDS[s.kind];
