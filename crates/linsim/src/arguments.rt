@@ -270,7 +270,7 @@ pub(crate) enum Request<'a> {
     },
     /// `linsim check FILE --field --plain`
     CheckPlain(&'a str),
-    /// `linsim live FILE [--table T] [--capacity N] [--to log|named] [--physical]`
+    /// `linsim live FILE [--table T] [--capacity N] [--to log|named] [--field] [--physical]`
     Live(Settings<'a>),
     /// `linsim play FILE [SCRIPT] [--table T] [--capacity N] [--to FORMAT] [--physical] [--where]
     /// [--strict]`. `script` is `None` for standard input.
