@@ -64,3 +64,20 @@ abbrev pub junit : List ℕ → Parts → List LogEntry → List Judgement → L
 junit file c log js =
     head file js
     ++ (flat_map (case_text file c log) js ++ codes "</testsuite>\n</testsuites>\n")
+
+-- what is wrong, after the number of the line, where it is of one
+abbrev pub error_name : Option ℕ → List ℕ → List ℕ
+error_name None what = what
+error_name (Some n) what = codes "line " ++ (decimal n ++ (codes ": " ++ what))
+
+-- the report of a script that wasn't played: one case with an error
+abbrev pub error_report : List ℕ → Option ℕ → List ℕ → List ℕ
+error_report file line what =
+    codes "<?xml version=\"1.0\" encoding=\"UTF-8\"?>\n<testsuites>\n<testsuite name=\""
+    ++ (escaped_text file
+    ++ (codes "\" tests=\"1\" failures=\"0\" errors=\"1\" skipped=\"0\">\n<testcase classname=\""
+    ++ (escaped_text file
+    ++ (codes "\" name=\""
+    ++ (error_name line what
+    ++ (codes "\">\n<error message=\""
+    ++ (what ++ codes "\"/>\n</testcase>\n</testsuite>\n</testsuites>\n")))))))

@@ -9,7 +9,7 @@ ghost use Rattle.lin_bench.specs.Texts.{found_text, what_text};
 ghost use Rattle.lin_export.specs.Putting.{PutsAll};
 ghost use Rattle.lin_text.specs.Written.{Grows, WritesText};
 ghost use Rattle.lin_tool.specs.Junit.{case_end, case_name, case_text, escaped, escaped_text, head};
-ghost use Rattle.lin_tool.specs.Junit.{junit};
+ghost use Rattle.lin_tool.specs.Junit.{error_name, error_report, junit};
 ghost use Rattle.lin_tool.specs.Placing.{moment_of, past_at, placed_missed};
 
 use crate::placing::{Moment, put_missed, within};
@@ -18,7 +18,7 @@ use lin_bench::{Judged, Judgement, is_unmet, put_found, put_what};
 use lin_core::Log;
 use lin_export::ExportFault;
 use lin_parts::Cluster;
-use lin_text::{TextBuffer, TextWriter};
+use lin_text::{TextBuffer, TextWriter, WriteFailed};
 use std::alloc::{AllocError, Global};
 use std::io::Write;
 
@@ -234,4 +234,55 @@ pub(crate) fn write_junit<W: Write>(
     out.finish()?;
     put?;
     Ok(())
+}
+
+/// What is wrong, after the number of the line, where it is of one.
+fn put_error_name<W: Write>(out: &mut TextWriter<'_, W>, line: Option<u64>, what: &str)
+    ensures { Grows W.contents out.old out.new (error_name line what.now) }
+{
+    match line {
+        None => out.put_text(what),
+        Some(line) => {
+            out.put_text("line ");
+            out.put_number(line);
+            out.put_text(": ");
+            out.put_text(what);
+        }
+    }
+}
+
+fn put_error<W: Write>(out: &mut TextWriter<'_, W>, file: &str, line: Option<u64>, what: &str)
+    ensures { Grows W.contents out.old out.new (error_report file.now line what.now) }
+{
+    out.put_text("<?xml version=\"1.0\" encoding=\"UTF-8\"?>\n<testsuites>\n<testsuite name=\"");
+    put_escaped(out, file.as_bytes());
+    out.put_text(
+        "\" tests=\"1\" failures=\"0\" errors=\"1\" skipped=\"0\">\n<testcase classname=\"",
+    );
+    put_escaped(out, file.as_bytes());
+    out.put_text("\" name=\"");
+    put_error_name(out, line, what);
+    out.put_text("\">\n<error message=\"");
+    out.put_text(what);
+    out.put_text("\"/>\n</testcase>\n</testsuite>\n</testsuites>\n");
+}
+
+/// Writes the report of a script that wasn't played, under its name: one case with an error, which says
+/// in words without marks of XML what is wrong, and in which line.
+///
+/// # Errors
+/// `WriteFailed`, where what was written is the beginning of the report.
+pub(crate) fn write_error<W: Write>(
+    file: &str,
+    line: Option<u64>,
+    what: &str,
+    writer: &mut W,
+) -> Result<(), WriteFailed>
+    ensures { WritesText (W.contents writer.old) (W.contents writer.new) result
+        (error_report file.now line what.now) }
+{
+    let mut buffer = TextBuffer::empty();
+    let mut out = TextWriter::new(writer, &mut buffer);
+    put_error(&mut out, file, line, what);
+    out.finish()
 }

@@ -12,7 +12,8 @@ ghost use Rattle.lin_tool.specs.Playing.{in_words, shown_coding};
 ghost use Rattle.lin_tool.specs.Playing.{Judges, PlaysScript, ReadsLines, TellsBad, WritesPlayed, told_text};
 
 use crate::fault::Fault;
-use crate::formats::{Shown, write_shown};
+use crate::formats::{Format, Shown, write_shown};
+use crate::junit::write_error;
 use crate::notes::Notes;
 use crate::opening::{Opened, Settings, begin, within_limits};
 use crate::placing::{write_bad_lines, write_placed_unmet};
@@ -285,8 +286,20 @@ pub fn play_script<R: Read, W: Write, E: Write>(
     judged
 }
 
+/// Writes the report of a script that wasn't played, where it is at fault or can't be read.
+fn tell_unplayed<W: Write>(file: &str, fault: &Fault, writer: &mut W) -> Result<(), WriteFailed> {
+    match fault {
+        Fault::BadBenchLine { line, told: _ } => write_error(file, Some(*line), "bad line", writer),
+        Fault::SlotLimit { line } => write_error(file, Some(*line), "slot limit", writer),
+        Fault::ScriptTooLong => write_error(file, None, "script too long", writer),
+        Fault::ReadFailed => write_error(file, None, "read failed", writer),
+        _ => Ok(()),
+    }
+}
+
 /// Reads the bench script in the file at the path `script`, or without one that on standard input,
-/// plays it over the cluster of the settings, and writes the log on standard output in their format.
+/// plays it over the cluster of the settings, and writes the log on standard output in their format;
+/// where that is a report, one of a script that wasn't played has an error.
 /// Warnings of the LDF, and what is said of a bad line and of expectations that aren't met, go to
 /// `errors`.
 ///
@@ -312,5 +325,8 @@ pub fn play<R: AllocGlobal + Files + Input + Print, E: Write>(
         },
     };
     notes.add_unread(&answer, script);
+    if let (Format::Junit(file), Err(fault)) = (settings.format, &answer) {
+        let _ = tell_unplayed(file, fault, &mut writer);
+    }
     answer
 }
