@@ -7,4 +7,5 @@ pub mod Moments
 pub mod Tallies
 pub mod Reports
 pub mod Inert
+pub mod Openings
 pub mod laws

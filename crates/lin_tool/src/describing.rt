@@ -310,7 +310,8 @@ pub fn cluster_at<R: AllocGlobal + Files + Input>(
     extras: Extras,
     notes: &mut Notes<'_>,
 ) -> Result<Described, Fault>
-    ensures { reading ≡ Plain → IfOk result (λ d. NoSlotIsShort d.cluster) }
+    ensures answers { AnswersReading reading extras result notes.new.warnings None }
+    ensures long { reading ≡ Plain → IfOk result (λ d. NoSlotIsShort d.cluster) }
 {
     if path == "-" {
         cluster_of_input(rt, reading, extras, notes)

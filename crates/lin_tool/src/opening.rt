@@ -2,7 +2,7 @@
 //! wait.
 
 ghost use Rattle.std.specs.Prelude.{◌≡◌, ◌≤◌, ◌<◌, length, IfOk};
-ghost use Rattle.lin_tool.specs.Opening.{Opens, opening_of, room_for};
+ghost use Rattle.lin_tool.specs.Opening.{IsOpened, Opens, encodings_of, opening_of, room_for};
 
 use crate::coding::{Described, Encodings, Extras};
 use crate::describing::{Reading, cluster_of_file};
@@ -62,7 +62,9 @@ pub struct Opened<'a> {
 impl Settings<'_> {
     /// How a run reads the sections of encodings, which it reads in any case where lines may say
     /// values in words.
-    fn encodings(&self, has_words: bool) -> Encodings {
+    fn encodings(&self, has_words: bool) -> Encodings
+        ensures { result ≡ encodings_of self.now.is_physical has_words }
+    {
         if self.is_physical {
             Encodings::Told
         } else if has_words {
@@ -84,7 +86,8 @@ pub(crate) fn begin<'a, R: AllocGlobal + Files>(
     has_words: bool,
     notes: &mut Notes<'_>,
 ) -> Result<Opened<'a>, Fault>
-    ensures { IfOk result (λ it. it.table < length it.cluster.tables) }
+    ensures begins { IfOk result (λ it. IsOpened settings.now has_words it notes.new.warnings) }
+    ensures range { IfOk result (λ it. it.table < length it.cluster.tables) }
 {
     let (file, reading) = (settings.file, settings.reading);
     let extras = Extras {

@@ -2,6 +2,7 @@
 //! nodes in threads of their own, and writes the log.
 
 ghost use Rattle.std.specs.Prelude.{◌≡◌, ◌≤◌, ◌<◌, [], length, vec_len, IfOk, IfSome};
+ghost use Rattle.std.specs.List.{All};
 ghost use Rattle.lin_parts.specs.Cluster.{nodes};
 ghost use Rattle.lin_core.specs.declared.port.PortId.TheVariants.{Bus};
 ghost use Rattle.lin_threads.specs.Steps.{logged};
@@ -57,8 +58,11 @@ fn host_steps<R: Read>(
 /// A plan of so many slots, in which no response is damaged and no node leaves its response out.
 fn undisturbed(alloc: Global, slots: u32, nodes: usize) -> Result<Plan, AllocError>
     ensures slots { IfOk result (λ plan. plan.slots ≡ slots) }
+    ensures turns { IfOk result (λ plan. plan.turns ≡ 4000000000) }
+    ensures rounds { IfOk result (λ plan. plan.rounds ≡ 1000000) }
     ensures hurt { IfOk result (λ plan. plan.hurt.items ≡ []) }
     ensures leave { IfOk result (λ plan. vec_len plan.leave ≡ nodes) }
+    ensures none { IfOk result (λ plan. All (λ own. own.items ≡ []) plan.leave.items) }
 {
     let mut leave = Vec::with_capacity(alloc, nodes)?;
     for _ in 0..nodes {
