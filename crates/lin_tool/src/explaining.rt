@@ -143,7 +143,7 @@ fn put_found(out: &mut String, text: &[u8], finding: &Finding) -> Result<(), All
 /// are several.
 fn put_meaning(out: &mut String, number: u8, count: usize) -> Result<(), AllocError> {
     if let Some((meaning, change)) = finding_meaning(number) {
-        writeln!(out, "  {meaning}\n  to change: {change}")?;
+        writeln!(out, "  {meaning}\n  help: {change}")?;
     }
     if count > 1 {
         writeln!(out, "  {count} of this kind")?;
@@ -251,7 +251,10 @@ pub(crate) fn put_refused_field(
     text: &mut [u8],
 ) -> Result<(), AllocError> {
     match warnings_of(alloc, text) {
-        Ok(count) => writeln!(out, "  --field reads this text, with {count} warnings"),
+        Ok(count) => writeln!(
+            out,
+            "  with --field, this LDF is accepted (warnings: {count})"
+        ),
         Err(Fault::OutOfMemory) => Err(AllocError),
         Err(_) => Ok(()),
     }
@@ -260,12 +263,12 @@ pub(crate) fn put_refused_field(
 /// Puts what of a text that was read is read by `--field` alone.
 fn put_loose(out: &mut String, loose: &Loose) -> Result<(), AllocError> {
     if loose.header.is_old() {
-        out.push_str("  the header's version is ")?;
+        out.push_str("  the version in the header is ")?;
         put_shown(out, loose.header.version.as_slice())?;
-        out.push_str(": --field reads each node without LIN_protocol as one of LIN 1.x\n")?;
+        out.push_str(": with --field, each node without LIN_protocol is a node of LIN 1.x\n")?;
     }
     if !loose.addresses.as_slice().is_empty() {
-        out.push_str("  --field reads the addresses of Diagnostic_addresses\n")?;
+        out.push_str("  with --field, the NADs of Diagnostic_addresses are used\n")?;
     }
     Ok(())
 }
@@ -285,7 +288,7 @@ pub(crate) fn put_accepted_field(
 
 /// Puts the names of a cluster's schedule tables.
 pub(crate) fn put_tables(out: &mut String, cluster: &Cluster) -> Result<(), AllocError> {
-    out.push_str("  the schedule tables are")?;
+    out.push_str("  schedule tables:")?;
     for table in 0..cluster.tables() as u16 {
         out.push_str(" ")?;
         put_shown(out, cluster.table_name(table))?;
@@ -304,7 +307,7 @@ pub(crate) fn put_line(out: &mut String, script: &[u8], number: u64) -> Result<(
 /// Puts a line of a script that is in no form.
 pub(crate) fn put_bad_line(out: &mut String, script: &[u8], number: u64) -> Result<(), AllocError> {
     put_line(out, script, number)?;
-    out.push_str("  a line is a port (bus, h0, n1 ..), a step (open, send ..) and its fields\n")
+    out.push_str("  expected: a port (bus, h0, n1 ..), a step (open, send ..) and its arguments\n")
 }
 
 /// How many steps of a log were refused, by the refusals' numbers.
@@ -332,7 +335,7 @@ pub(crate) fn put_refusals(out: &mut String, log: &Log) -> Result<(), AllocError
             let (number, name) = (refusal.number(), refusal.word());
             writeln!(
                 out,
-                "  refused: {count} of {steps} steps, {number} {name}: {meaning}"
+                "  refused steps: {count} of {steps} ({number} {name}): {meaning}"
             )?;
         }
     }

@@ -5,27 +5,23 @@
 pub(crate) static FAULTS: [(&str, &str); 7] = [
     (
         "BadByte",
-        "outside comments and texts, a control byte that is no separator, 0x7F, or a byte from \
-         0x80",
+        "invalid character: control characters and non-ASCII bytes are allowed only in comments \
+         and strings",
     ),
-    ("OpenComment", "no */ follows"),
-    ("OpenText", "no closing \" follows"),
+    ("OpenComment", "the comment isn't closed: missing */"),
+    ("OpenText", "the string isn't closed: missing \""),
     (
         "Unexpected",
-        "the token can't stand there; at the end of the text the place after its last byte. \
-         This includes a fraction where INT is wanted, a fourth decimal that isn't zero, and a \
-         hexadecimal NUM where DEC is wanted",
+        "unexpected token, or the file ends here. Also: a fraction where an integer is required, \
+         a fourth decimal place other than 0, or a hexadecimal number where a decimal one is \
+         required",
     ),
-    ("NumberTooLarge", "an INT or DEC above its limit"),
-    (
-        "SectionTwice",
-        "one of the six used sections a second time, or Nodes again where a section may begin",
-    ),
+    ("NumberTooLarge", "the number is too large"),
+    ("SectionTwice", "duplicate section"),
     (
         "NameTwice",
-        "a name declared a second time among nodes; among signals; among frames, sporadic and \
-         event-triggered frames together; among tables; a second attribute block of a node; a \
-         second LIN_protocol or configured_NAD in a block",
+        "duplicate name (nodes; signals; frames of all kinds; schedule tables), duplicate \
+         attribute block, or duplicate LIN_protocol or configured_NAD",
     ),
 ];
 
@@ -41,126 +37,115 @@ pub(crate) fn finding_meaning(number: u8) -> Option<&'static (&'static str, &'st
 /// What a finding means, and what to change.
 static FINDINGS: [(&str, &str); 26] = [
     (
-        "a publisher, a subscriber or an attribute block that is no node; a signal of a frame \
-         that isn't declared; a member that is no frame of any kind; a table that isn't \
-         declared; an entry that is nothing declared",
-        "spell the name as it is declared, or declare it. An entry takes a frame of any kind, \
-         never a node, a signal or a table",
+        "no node, signal, frame or schedule table of this name is declared",
+        "correct the spelling or add the declaration; a schedule entry must name a frame",
     ),
     (
-        "a signal in a frame of another publisher",
+        "the publisher of the signal isn't the publisher of the frame",
         "give both the same publisher, or move the signal into a frame of its own publisher",
     ),
     (
-        "the identifier of a frame or an event-triggered frame above 59; 60 and 61 are the \
-         diagnostic frames, which need no declaration",
-        "take a free identifier from 0 to 59",
+        "the frame identifier is above 59 (the diagnostic frames 60 and 61 need no declaration)",
+        "use an unused identifier from 0 to 59",
     ),
     (
-        "an identifier that stands earlier in the text for a frame or an event-triggered frame",
-        "take a free identifier",
+        "an earlier frame has the same identifier",
+        "use an unused identifier",
     ),
     (
-        "a scalar that hasn't 1 to 16 bits; an array that hasn't 8, 16, .. or 64 bits; a frame \
-         that hasn't 1 to 8 bytes",
-        "correct the size; a longer number is an array of bytes",
+        "invalid size: a scalar has 1 to 16 bits, an array 8, 16, .. or 64 bits, a frame 1 to 8 \
+         bytes",
+        "correct the size; a number of more than 16 bits is an array of bytes",
     ),
     (
-        "a signal that reaches beyond the end of its frame, or an array that doesn't begin with \
-         a byte",
-        "a smaller offset, a longer frame; for an array an offset of 0, 8, 16, ..",
+        "the signal extends past the end of the frame, or the array doesn't start at a byte \
+         boundary",
+        "use a smaller offset or a longer frame; an array has an offset of 0, 8, 16, ..",
     ),
     (
-        "a signal on a bit of an earlier one of the frame, or a signal that the frame has \
-         already",
+        "the signal overlaps an earlier signal of the frame, or is in the frame twice",
         "move the later signal after the earlier one",
     ),
     (
-        "a scalar's value that doesn't fit its bits; an array's values that aren't one for each \
-         byte, or one above 255",
-        "a value that fits; an array has one value for each 8 bits, in braces",
+        "the initial value doesn't fit: a scalar must fit its bits, an array has one value from 0 \
+         to 255 for each byte",
+        "use a value that fits; an array has one value for each 8 bits, in braces",
     ),
     (
-        "a delay shorter than the entry's frame may take. The line ends with the microseconds \
-         that it needs",
-        "at least that delay, a faster bus or a shorter frame",
+        "the delay is shorter than the maximum frame time; the line ends with the required time \
+         in microseconds",
+        "use at least that delay, a faster bus or a shorter frame",
     ),
     (
-        "a delay of 0",
-        "at least the delay that the slot needs (finding 9)",
+        "the delay is 0",
+        "use at least the delay that the slot requires (finding 9)",
     ),
     (
-        "a responder's configured_NAD that isn't 1 to 125",
-        "an address from 1 to 125, or leave the line out: the node then has none",
+        "the NAD of the responder isn't 1 to 125",
+        "use a NAD from 1 to 125, or delete the line: the node then has no NAD",
     ),
     (
-        "a responder's address that an earlier block of a responder has, or a second address of one \
-         responder",
-        "another address for one of them, or delete the second one",
+        "an earlier responder has the same NAD, or the responder has two",
+        "use another NAD for one of them, or delete the second NAD",
     ),
     (
-        "a member of an event-triggered frame that is no frame, that the commander publishes, \
-         whose publisher an earlier member has, whose size isn't that of the first member, or \
-         that has a signal in its first byte, where the member's own identifier is sent",
-        "members of one size from different responders, with their signals from bit 8 on",
+        "invalid member of an event-triggered frame: members are unconditional frames of \
+         different responders, of the same size, and without a signal in the first byte (it \
+         carries the protected identifier)",
+        "use members of one size from different responders, with their signals from bit 8 on",
     ),
     (
-        "a member of a sporadic frame that is no frame, or that the commander doesn't publish",
-        "members of the commander alone",
+        "invalid member of a sporadic frame: members are unconditional frames that the commander \
+         publishes",
+        "list only frames that the commander publishes",
     ),
     (
-        "the table that resolves a collision has an event-triggered frame as an entry",
-        "name the member frames in its place",
+        "the collision resolving table contains an event-triggered frame",
+        "list its member frames instead",
     ),
     (
-        "a table without entries: at its name; a description without a table: at 1:1",
-        "give it an entry, or leave it out",
+        "the schedule table is empty; at 1:1, the LDF has no schedule table",
+        "add an entry, or delete the table",
     ),
     (
-        "the 16th responder, 61st frame, 61st event-triggered frame, 1,025th signal, 257th \
-         sporadic frame, 257th table or 1,025th entry of a table: at its name or word, that one \
-         alone; a delay, time base or jitter above 1,000,000,000 us, or a speed that isn't 1 to \
-         20,000 bit/s",
-        "a smaller cluster or number. LIN has at most 20 kbit/s",
+        "limit exceeded: at most 15 responders, 60 frames, 60 event-triggered frames, 1,024 \
+         signals, 256 sporadic frames, 256 tables, 1,024 entries in a table, 1,000,000,000 us for \
+         a delay, time base or jitter, and 1 to 20,000 bit/s",
+        "use fewer items or a smaller number; LIN allows at most 20 kbit/s",
     ),
     (
-        "a member of an event-triggered frame that is a frame with another checksum than the \
-         first member, where that is a frame",
-        "members that all have the classic checksum, or none",
+        "the checksum model of this member differs from that of the first member",
+        "list only members with the classic checksum, or only members with the enhanced checksum",
     ),
     (
-        "a frame without a size: it has the bytes that bits 5 and 4 of its identifier tell",
-        "write the size after the publisher",
+        "the frame has no size: bits 5 and 4 of the identifier determine it",
+        "add the size after the publisher",
     ),
     (
-        "an event-triggered frame without a table, or with an empty one: its collisions are \
-         resolved by a table of its members",
-        "name a table with the members as entries",
+        "the event-triggered frame has no collision resolving table, or an empty one: a table of \
+         its members is used",
+        "name a table that has the members as entries",
     ),
     (
-        "a scalar of 24, 32, .. or 64 bits: it is an array, with the number's bytes, the lowest \
+        "a scalar of 24, 32, .. or 64 bits: read as an array with the bytes of the number, lowest \
          first",
         "write the initial value as bytes in braces",
     ),
     (
-        "a number with a further decimal that isn't zero: it is rounded to thousandths",
-        "write three decimals",
+        "a fourth or later decimal place other than 0: the number is rounded",
+        "write three decimal places",
+    ),
+    ("surplus comma or semicolon: ignored", "delete it"),
+    (
+        "the responder has no configured_NAD and no other NAD: its initial_NAD is used",
+        "add configured_NAD",
     ),
     (
-        "a comma before ; or }, or a semicolon before another: it is left out",
-        "delete the mark",
+        "big-endian signals: this scalar crosses a byte boundary, which isn't supported",
+        "place it within a byte, or declare a signal for each of its bytes",
     ),
     (
-        "a responder without configured_NAD and without an address: it has its initial_NAD",
-        "write configured_NAD",
-    ),
-    (
-        "in a text with the bytes of its signals in big endian, a scalar over the border of a byte",
-        "place it within a byte, or write its bytes as signals of their own",
-    ),
-    (
-        "a word alone in the header that isn't known, or little endian beside big endian: it is \
-         left out",
+        "unknown header line, or both byte orders: ignored",
         "delete the line",
     ),
 ];
@@ -168,128 +153,127 @@ static FINDINGS: [(&str, &str); 26] = [
 /// What a warning of encodings means, from 31 on, and what to change.
 static ENCODINGS: [(&str, &str); 11] = [
     (
-        "an item, an encoding or a line in no form, or with a number that is too large or has too \
-         many decimals: it is left out, up to the next semicolon, or a type up to the end of its \
-         braces",
-        "values up to 65,535; a scale or an offset below 1,000,000,000 with at most 24 decimals",
+        "syntax error, or a number out of range, in a signal encoding: ignored up to the next \
+         semicolon, or up to the closing brace if the name is wrong",
+        "use values up to 65,535, and a scale or an offset below 1,000,000,000 with at most 24 \
+         decimal places",
     ),
     (
-        "an encoding whose name an earlier one has: the first counts",
-        "another name",
+        "an earlier encoding has the same name: the first is used",
+        "use another name",
     ),
     (
-        "a line of signals whose encoding isn't declared",
-        "spell the name as it is declared, or declare it",
+        "Signal_representation names an undeclared encoding",
+        "correct the spelling or add the declaration",
     ),
     (
-        "a name of such a line that is no signal",
-        "spell the name as it is declared, or leave it out",
+        "Signal_representation names an undeclared signal",
+        "correct the spelling or delete the name",
     ),
     (
-        "a signal that stands in such a line already: the first counts",
-        "leave one of them out",
+        "the signal already has an encoding: the first is used",
+        "delete one of them",
     ),
     (
-        "a range whose first value is above its last: it has no value",
-        "exchange the two",
+        "the first value of the range is above the last: the range has no value",
+        "exchange the two values",
     ),
     (
-        "a range with a value of an earlier range of the encoding: the first counts",
-        "ranges that have no value in common",
+        "the range has a value of an earlier range of the encoding: the first is used",
+        "use ranges without a common value",
     ),
     (
-        "a value that an earlier item of the encoding has: the first counts",
-        "leave one of them out",
+        "an earlier item of the encoding has the same value: the first is used",
+        "delete one of them",
     ),
     (
-        "an encoding with a value, or an end of a range, that the signal's bits can't hold",
-        "values that fit, or an encoding of its own for the signal",
+        "a value, or an end of a range, of the encoding doesn't fit in the bits of the signal",
+        "use values that fit, or another encoding for the signal",
     ),
     (
-        "a scale of 0: all values of the range mean the same",
-        "the scale that the signal has",
+        "the scale is 0: all values of the range have the same physical value",
+        "write the scale of the signal",
     ),
     (
-        "numbers for an array; digits for a scalar whose bits aren't a multiple of 4, or \
-         characters for one whose bits aren't a multiple of 8",
-        "an encoding of the signal's kind",
+        "the encoding doesn't suit the signal: ranges are for scalars; bcd_value needs a multiple \
+         of 4 bits, ascii_value of 8",
+        "use an encoding that suits the signal",
     ),
 ];
 
 /// What a warning of a text in which nothing is wrong means, from 51 on, and what to change.
 static LINTS: [(&str, &str); 10] = [
     (
-        "a signal that no frame has",
-        "place it in a frame of its publisher, or delete it: it is never sent",
+        "the signal is in no frame",
+        "add it to a frame of its publisher, or delete it: it is never sent",
     ),
     (
-        "a frame for which no table has an entry, and which no sporadic or event-triggered frame \
-         lists",
-        "give it an entry in a table, or delete it: it is never sent",
+        "no schedule table has an entry for the frame, and no sporadic or event-triggered frame \
+         lists it",
+        "add a schedule entry for it, or delete it: it is never sent",
     ),
     (
-        "a sporadic or event-triggered frame for which no table has an entry",
-        "give it an entry in a table; those of the frames that it lists don't send it",
+        "no schedule table has an entry for the sporadic or event-triggered frame",
+        "add a schedule entry for it; the entries of its member frames don't send it",
     ),
     (
-        "a signal without a subscriber",
+        "the signal has no subscriber",
         "name its subscribers after the publisher",
     ),
     (
-        "a subscriber that publishes the signal itself",
-        "delete it there: a node has the values of its own signals anyway",
+        "the publisher of the signal is also its subscriber",
+        "remove this subscriber: a publisher always has its own values",
     ),
     (
-        "a delay that is no multiple of the time base",
-        "a multiple of the time base: a commander that counts in it can't keep this delay",
+        "the delay isn't a multiple of the time base",
+        "use a multiple of the time base; a real commander can't produce this delay",
     ),
     (
-        "a responder without configured_NAD, where a table has an entry MasterReq or SlaveResp",
-        "write configured_NAD, or take the diagnostic entries out",
+        "the responder has no configured_NAD, but a table has an entry MasterReq or SlaveResp",
+        "add configured_NAD, or remove the diagnostic entries",
     ),
     (
-        "a response_error that names no signal, or one that the node doesn't publish, or one that \
-         hasn't 1 bit (or 8, where the node's LIN_protocol begins with J2602)",
+        "response_error must name a signal of 1 bit that the node publishes (1 or 8 bits if the \
+         node's LIN_protocol begins with J2602)",
         "name a signal of 1 bit that the node publishes",
     ),
     (
-        "a name in the configurable_frames of a node that is of no frame of the node. It has the \
-         frames that it publishes or of which it subscribes a signal, and the sporadic and \
+        "configurable_frames has a name that isn't a frame of the node. A node has the frames \
+         that it publishes, the frames with a signal that it subscribes to, and the sporadic and \
          event-triggered frames that list one of these",
         "name a frame of the node, or delete the line",
     ),
     (
-        "a type of Signal_encoding_types that no signal has. A signal has the first type with the \
-         name of the first line of Signal_representation that names the signal, so that no signal \
-         has a later type of the same name",
+        "no signal has the encoding. A signal has the first encoding with the name in the first \
+         line of Signal_representation that lists the signal; no signal has a later encoding of \
+         the same name",
         "name its signals in Signal_representation, or delete it",
     ),
 ];
 
 /// When a step is refused, for each refusal in the order of their numbers.
 pub(crate) static REFUSALS: [&str; 18] = [
-    "send, write, answer, leave, timeout, close: a number that is no node of the cluster; the \
-     receiver of a send may also be 126",
-    "write: a number that is no signal of the cluster",
-    "switch: a number that is no schedule table of the cluster",
+    "send, write, answer, leave, timeout, close: no node has this number (send also accepts the \
+     receiver 126)",
+    "write: no signal has this number",
+    "switch: no schedule table has this number",
     "write: the node doesn't publish the signal",
-    "write: an array for a scalar signal or the other way round; a scalar with more bits \
-     than the signal; an array of another length",
-    "send: not exactly one of the two is node 0, or the other one has no diagnostic address; \
-     to 126: the sender isn't node 0, or no responder has an address",
-    "send: no bytes, or more than 4,095; to 126 more than 6",
+    "write: the value doesn't suit the signal: scalar or array, range, or length",
+    "send: a message goes from node 0 to a responder with a NAD, or from such a responder to node \
+     0; to 126 only from node 0, and some responder must have a NAD",
+    "send: the message has no bytes or more than 4,095 bytes (to 126: more than 6)",
     "send, close: the host is closed",
-    "send: as many of the host's messages wait as the capacity (--capacity); one that is \
-     begun counts until its end",
+    "send: the host's queue is full (--capacity); a message in transfer counts until it ends",
     "open, sleep: the cluster is asleep",
     "wake: the cluster isn't asleep",
     "open, timeout, switch: a slot is open",
     "answer, leave, hurt, finish: no slot is open",
-    "any step: this port may not give it; answer, leave: the node isn't due in the open slot",
-    "answer, leave: the node has answered in this slot, or left its answer out; hurt: the \
-     slot's answer is damaged already",
-    "hurt: the slot has no answer, or more than one",
-    "hurt: the bytes would pass for an answer in this slot: they have its length and the \
-     right checksum, classic or enhanced as the slot's frame has it",
-    "timeout: no message is begun on that link",
+    "any step: this port isn't allowed to execute the step; answer, leave: the node isn't due in \
+     the open slot",
+    "answer, leave: the node has already answered or left in this slot; hurt: the response is \
+     already corrupted",
+    "hurt: the slot has no response, or several",
+    "hurt: the bytes are a valid response in this slot (right length and checksum), so they \
+     wouldn't corrupt it",
+    "timeout: no message is in transfer on this link",
 ];

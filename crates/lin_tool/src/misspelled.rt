@@ -189,7 +189,7 @@ pub(crate) fn put_near(
     let Some(name) = near.name else {
         return Ok(());
     };
-    write!(out, "  near it: the {kind} ")?;
+    write!(out, "  similar name: the {kind} ")?;
     put_shown(out, name)?;
     out.push_str("\n")
 }
@@ -312,7 +312,7 @@ pub(crate) fn put_unread(alloc: Global, out: &mut String, text: &[u8]) -> Result
         if let Some(read) = nearly(alloc, word, words)? {
             write!(out, "  {}:{} the {what} ", place.line, place.column)?;
             put_shown(out, word)?;
-            writeln!(out, " isn't read; near it: {read}")?;
+            writeln!(out, " is ignored; did you mean {read}?")?;
         }
     }
     Ok(())

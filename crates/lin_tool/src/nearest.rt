@@ -69,7 +69,7 @@ fn put_nearest(
         near.push((edits_between(alloc, name, read)?, *name))?;
     }
     near.as_mut_slice().sort_by_key(alloc, |pair| pair.0)?;
-    write!(out, "  the {things} are")?;
+    write!(out, "  valid {things}, most similar first:")?;
     for (_, name) in near.iter() {
         out.push_str(" ")?;
         put_shown(out, name)?;

@@ -108,7 +108,7 @@ impl<'a> Notes<'a> {
         }
         write_out(writer, self.text.as_bytes())?;
         if self.is_cut {
-            write_out(writer, b"\n  no memory for more\n")?;
+            write_out(writer, b"\n  (out of memory: explanation truncated)\n")?;
         }
         Ok(())
     }
@@ -185,8 +185,8 @@ impl<'a> Notes<'a> {
             && self.is_more_explained()
         {
             let put = match path {
-                Some(path) => writeln!(self.text, "  the file is {path}"),
-                None => writeln!(self.text, "  it is standard input"),
+                Some(path) => writeln!(self.text, "  while reading {path}"),
+                None => writeln!(self.text, "  while reading standard input"),
             };
             self.is_cut |= put.is_err();
         }

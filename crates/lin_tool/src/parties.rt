@@ -152,7 +152,7 @@ pub(crate) fn put_party(
         NAD_TWICE => {
             let parties = addresses(alloc, description)?;
             match first_alike(parties.as_slice(), place) {
-                Some(party) => put_name(out, "the node with this address:", party.name),
+                Some(party) => put_name(out, "the node with this NAD:", party.name),
                 None => Ok(()),
             }
         }
@@ -340,7 +340,7 @@ fn put_first(
                 && are_together(first.section, later.section)
                 && (first.next == later.next || first.section == b"Nodes".as_slice()) => {
             let Place { line, column } = first.place;
-            writeln!(out, "  the first one: at {line}:{column}")
+            writeln!(out, "  first declared at {line}:{column}")
         }
         _ => Ok(()),
     }

@@ -225,7 +225,7 @@ pub(crate) fn put_wanted(
     if words.is_empty() {
         return Ok(());
     }
-    out.push_str("  wanted: ")?;
+    out.push_str("  expected: ")?;
     put_words(out, words.as_slice())?;
     match end_before(alloc, text, place) {
         Some(end) if end.line < place.line && are_marks(words.as_slice()) => {

@@ -73,7 +73,7 @@ fn answer<
 >(rt: &R, asked: Asked<'_>, terminals: Terminals, errors: &mut W) -> ExitCode {
     let Asked { request, wanted } = asked;
     if wanted.explained && terminals.input && is_read(request) {
-        let _ = eprintln!(rt; "linsim: reads from the terminal, up to its end (Ctrl-D)");
+        let _ = eprintln!(rt; "linsim: reading from the terminal; end with Ctrl-D");
     }
     let mut notes = Notes::new(rt.alloc(), wanted);
     let done = perform(rt, request, terminals.error, &mut notes, errors);
