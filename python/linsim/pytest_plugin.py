@@ -10,7 +10,8 @@ import os
 import re
 import shlex
 import subprocess
-from typing import Any, Callable, Dict, Generator, Iterator, List, Optional
+from collections import Counter
+from typing import Any, Callable, Dict, Generator, Iterator, List, Optional, Set
 
 import pytest
 
@@ -22,6 +23,7 @@ from .process import command, path_of
 __tracebackhide__ = True
 
 MADE = pytest.StashKey[List[Cluster]]()
+SHARED = pytest.StashKey[Set[str]]()    # names of files that several tests would have
 FORMS = ("log", "html")                 # what `play` makes of the script of a failed test
 SECONDS = 60                            # at most, for each of them
 LONGEST = 200                           # of a file's name, without its suffix
@@ -37,6 +39,14 @@ def pytest_addoption(parser: pytest.Parser) -> None:
 def pytest_configure(config: pytest.Config) -> None:
     config.addinivalue_line("markers", "linsim(ldf, table, **options): arguments of "
                                        "linsim.Cluster for the fixture bus")
+
+
+@pytest.hookimpl(tryfirst=True)         # type: ignore[misc]
+def pytest_collection_modifyitems(config: pytest.Config, items: List[pytest.Item]) -> None:
+    """Finds the names of files that several tests would have. Each process of xdist collects all
+    tests, so each finds the same."""
+    counts = Counter(plain_name(it.nodeid) for it in items)
+    config.stash[SHARED] = {name for name, count in counts.items() if count > 1}
 
 
 @pytest.fixture
@@ -59,11 +69,14 @@ def bus(request: pytest.FixtureRequest, new_bus: Callable[..., Cluster]) -> Clus
     config = request.config
     arguments: Dict[str, Any] = {}
     if config.getini("linsim_ldf"):
-        path = os.path.join(str(config.rootpath), config.getini("linsim_ldf"))
+        path = os.path.join(folder_of(config), config.getini("linsim_ldf"))
         arguments["ldf"] = os.path.relpath(path)
     if config.getini("linsim_table"):
         arguments["table"] = config.getini("linsim_table")
     for mark in reversed(list(request.node.iter_markers("linsim"))):    # the nearest one last
+        if len(mark.args) > 2:
+            raise pytest.UsageError("the mark linsim takes an LDF and a table, and then options by "
+                                    f"their names, not {mark.args[2:]}")
         arguments.update(zip(("ldf", "table"), mark.args))
         arguments.update(mark.kwargs)
     if "ldf" not in arguments:
@@ -79,18 +92,29 @@ def pytest_runtest_makereport(item: pytest.Item) -> Generator[None, Any, None]:
     clusters: List[Cluster] = item.stash.get(MADE, [])
     if report.failed and clusters:
         lines: List[str] = []
+        shared: Set[str] = item.config.stash.get(SHARED, set())
         for number, cluster in enumerate(clusters, 1):
-            name = name_of(item.nodeid) + (f"-{number}" if len(clusters) > 1 else "")
+            name = name_of(item.nodeid, shared) + (f"-{number}" if len(clusters) > 1 else "")
             lines += [cluster.place(), *kept(item.config, cluster, name)]
         report.sections.append(("linsim", "\n".join(lines)))
 
 
-def name_of(test: str) -> str:
+def folder_of(config: pytest.Config) -> str:
+    """Returns the folder of the configuration file, or else the root folder of the tests."""
+    return str(config.inipath.parent if config.inipath else config.rootpath)
+
+
+def plain_name(test: str) -> str:
+    """Returns the test's name, in which parts are joined by `_`."""
+    return test.replace("::", "_").replace("/", "_")
+
+
+def name_of(test: str, shared: Set[str]) -> str:
     """Returns the test's name as a file's name. If that could be the name of another test too, it
     ends with a hash."""
-    plain = test.replace("::", "_").replace("/", "_")
+    plain = plain_name(test)
     name = re.sub(r"[^A-Za-z0-9.\-_\[\]]", "_", plain)
-    if name == plain and len(name) <= LONGEST:
+    if name == plain and len(name) <= LONGEST and plain not in shared:
         return name
     return f"{name[:LONGEST]}-{hashlib.sha256(test.encode()).hexdigest()[:8]}"
 
@@ -99,7 +123,7 @@ def kept(config: pytest.Config, cluster: Cluster, name: str) -> Iterator[str]:
     """Writes the run of a cluster: its bench script, its log and its page. Yields the files, as
     seen from where pytest was started."""
     start = str(config.invocation_params.dir)
-    base = os.path.join(str(config.rootpath), config.getini("linsim_artifacts"), name)
+    base = os.path.join(folder_of(config), config.getini("linsim_artifacts"), name)
     shown = os.path.relpath(base, start)
     words = ["play", path_of(os.path.relpath(cluster.path, start)), *cluster.options,
              path_of(shown + ".bench")]

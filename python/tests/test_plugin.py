@@ -13,7 +13,9 @@ from tests import DOOR, TOP
 
 HAS_XDIST = importlib.util.find_spec("xdist") is not None
 SUITE = os.path.join(os.path.dirname(os.path.abspath(__file__)), "suite")
-FAILED = ["test_door.py_test_window_reaches_its_target[50]", "test_more.py_test_ended",
+FAILED = ["test_door.py_test_window_reaches_its_target[50]",
+          "test_more.py_TestOne_TestTwo_test_fails-0329a007",
+          "test_more.py_TestOne_TestTwo_test_fails-9e741b1f", "test_more.py_test_ended",
           "test_more.py_test_fails[_xe4_b]-99e1d748", "test_more.py_test_fails[a_b]",
           "test_more.py_test_fails[a_b]-206ee6e5", "test_more.py_test_fails_elsewhere-1",
           "test_more.py_test_fails_elsewhere-2", "test_more.py_test_fails_in_a_hook",
@@ -48,7 +50,7 @@ class Plugin(unittest.TestCase):
         for words in [[], ["-n", "2"]][:1 + HAS_XDIST]:
             told, status = self.pytest(*words)
             self.assertEqual(status, 1, told)
-            self.assertIn("9 failed, 6 passed, 1 xfailed in ", told)
+            self.assertIn("11 failed, 6 passed, 1 xfailed in ", told)
             for part in (
                 "E       assert WinPos of DCU == 50\n"
                 "E         DCU sees WinPos as 100 (50 %)\n"
@@ -62,7 +64,7 @@ class Plugin(unittest.TestCase):
                 "E       TypeError: <signal WinPos of DCU> has no truth value",
                 "E       assert WinTemp of DCU != WinTemp of DCU\n"
                 "E         DCU sees WinTemp as 450 (5 degC)\n",
-                "E       linsim.errors.LinsimError: the program was ended\n",
+                "E       linsim.errors.LinsimError: the program was ended (door_zone.ldf, script",
             ):
                 self.assertIn(part, told)
             for part in ("cluster.py:", "process.py:", "node.py:", "contextlib.py:", "INTERNAL"):
@@ -92,11 +94,21 @@ class Plugin(unittest.TestCase):
         told, status = self.pytest("-k", "session or gateway or of_the")
         self.assertEqual((status, self.kept()), (0, []), told)
 
+    def test_a_mark_with_more_than_an_ldf_and_a_table(self):
+        with open(os.path.join(self.folder, "test_door.py"), "w", encoding="ascii") as file:
+            file.write("import pytest\n@pytest.mark.linsim('door_zone.ldf', 'Run', 5)\n"
+                       "def test_it(bus):\n    pass\n")
+        told, status = self.pytest("test_door.py")
+        self.assertEqual(status, 1)
+        self.assertIn("and then options by their names, not (5,)", told)
+
     def test_settings(self):
         with open(os.path.join(self.folder, "pytest.ini"), "a", encoding="ascii") as file:
             file.write("linsim_artifacts = kept/here\n")
         told, _ = self.pytest("-k", "raises")
         self.assertIn("\nkept/here/test_more.py_test_raises.bench\n", told)
+        told, status = self.pytest("-k", "session", "--rootdir", TOP)
+        self.assertEqual(status, 0, told)       # files are in the configuration's folder
         os.remove(os.path.join(self.folder, "pytest.ini"))
         told, status = self.pytest("test_door.py", "-k", "window")
         self.assertEqual(status, 1)

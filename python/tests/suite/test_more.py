@@ -38,6 +38,18 @@ def test_fails_elsewhere(new_bus, tmp_path, monkeypatch, pytestconfig):
     assert first["DCU"]["WinTemp"] != second["DCU"]["WinTemp"]
 
 
+class TestOne:
+    class TestTwo:
+        def test_fails(self, bus):
+            bus.expect("asleep")
+
+
+class TestOne_TestTwo:
+    def test_fails(self, bus):
+        """It has the name of the test before, with `_` for `::`."""
+        bus.expect("asleep")
+
+
 def test_fails_in_a_hook(bus):
     @bus.after()
     def hook(slot):
