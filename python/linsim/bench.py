@@ -27,6 +27,8 @@ class Bench:
     """
 
     def __init__(self, *clusters: Cluster) -> None:
+        if not all(isinstance(it, Cluster) for it in clusters):
+            raise TypeError("a bench takes clusters")
         if not clusters or len(set(map(id, clusters))) < len(clusters) or any(
                 it.bench or it.history.finished or it.ask("next") == "open" for it in clusters):
             raise ValueError("a bench takes clusters that have run nothing yet")
@@ -48,9 +50,12 @@ class Bench:
         """Makes what happens in the next `ms` milliseconds: slots that start before the end. With
         `until`, only up to where it holds; it is asked before the first slot and after each. What
         came of the slots that ended, for each cluster in their order."""
-        end = self.time + 1000 * count_of(ms, "ms")
+        ms = count_of(ms, "ms")
+        for it in self.clusters:
+            it.refuse_in_hook()
         with ExitStack() as held:
-            runs = [held.enter_context(it._run()) for it in self.clusters]
+            runs = [held.enter_context(it.slots_turn) for it in self.clusters]
+            end = self.time + 1000 * ms
             is_over = self._holds(until)
             while not is_over:
                 at, is_start, place = min(it.next_event() for it in self._lines)
@@ -68,13 +73,15 @@ class Bench:
     def run_of(self, cluster: Cluster, slots: Optional[int], ms: Optional[int],
                until: Optional[Callable[[], object]]) -> Run:
         """What `run` of a cluster does."""
-        wanted = cluster.history.finished + (slots or 0)
         if ms is None:
             longest = max(delay for _, delay in cluster.entries.values())
             ms = (longest // 1000 + 1) * ((slots or 0) + 1)
+        start: List[int] = []               # slots that were finished before the first one
 
         def is_over() -> bool:
-            is_made = slots is not None and cluster.history.finished >= wanted
+            finished = cluster.history.finished
+            start.extend([] if start else [finished])
+            is_made = slots is not None and finished >= start[0] + slots
             return is_made or bool(until and until())
         return self.run(ms, is_over)[self.clusters.index(cluster)]
 

@@ -5,16 +5,16 @@ import difflib
 import os
 import re
 import threading
-from contextlib import contextmanager
 from functools import partial
-from typing import (TYPE_CHECKING, Callable, Dict, Iterator, List, Optional, Sequence, Tuple, Type,
-                    TypeVar, Union)
+from threading import get_ident
+from typing import (TYPE_CHECKING, Callable, Dict, List, Optional, Sequence, Tuple, Type, TypeVar,
+                    Union)
 
 from .errors import LinsimError, Refused, StartError, UnknownName, Unmet
 from .log import (REQUEST_NAME, RESPONSE_NAME, Data, History, Received, Run, Slot, as_bytes,
                   count_of, hex_of)
 from .node import Handler, Node, answers_of
-from .process import SECONDS, Answer, Live, Program, check, options_of
+from .process import SECONDS, Answer, Live, Program, check, located, options_of
 from .values import Meaning, Texts
 
 __tracebackhide__ = True                # pytest shows the lines of tests alone
@@ -43,7 +43,8 @@ class Cluster:
     def __init__(self, ldf: Union[str, os.PathLike[str]], table: Optional[str] = None, *,
                  capacity: Optional[int] = None, program: Optional[Program] = None,
                  seconds: float = SECONDS) -> None:
-        self.ldf, self.program = os.fsdecode(ldf), program
+        # (later processes start in whatever folder and environment the test has by then)
+        self.ldf, self.program = os.fsdecode(ldf), located(program)
         self.path = os.path.abspath(self.ldf)
         self.options = options_of(table, capacity)
         self.nodes: Dict[str, Node] = {}
@@ -53,8 +54,8 @@ class Cluster:
         self.entries: Dict[Tuple[str, int], Tuple[str, int]] = {}   # name, delay in microseconds
         self.meanings: Dict[str, Meaning] = {}                  # by the signal
         self._publisher = ""                                    # of the frame that is declared
-        self.texts = Texts(partial(Live, self.ldf, program=program, seconds=seconds))
-        for line in check(self.ldf, program, seconds):
+        self.texts = Texts(partial(Live, self.path, program=self.program, seconds=seconds))
+        for line in check(self.ldf, self.program, seconds):
             try:
                 self._declare(line.split(" "))
             except (IndexError, ValueError):
@@ -64,9 +65,10 @@ class Cluster:
                        "table": set(self.tables)}
         if table is not None:
             self.known("table", table)
-        self._fresh = partial(type(self), self.ldf, table, capacity=capacity, program=program,
-                              seconds=seconds)
-        self.live = Live(self.ldf, table, capacity=capacity, program=program, seconds=seconds)
+        self._fresh = partial(type(self), self.path, table, capacity=capacity,
+                              program=self.program, seconds=seconds)
+        self.live = Live(self.ldf, table, capacity=capacity, program=self.program,
+                         seconds=seconds)
         self.history = History(self.nodes)
         self._before: List[Tuple[Optional[str], Callable[[], object]]] = []
         self._after: List[Tuple[Optional[str], Callable[[Slot], object]]] = []
@@ -76,7 +78,7 @@ class Cluster:
         self.bench: Optional[Bench] = None
         self._later: List[str] = []             # lines for the end of the open slot
         self.turn = threading.RLock()           # a line and its answer belong to one thread
-        self._slots_turn = threading.RLock()    # and so do the slots of one call
+        self.slots_turn = SlotsTurn(self)       # and so do the slots of one call
         self._hook_thread: Optional[int] = None         # the one that runs a hook
 
     def _declare(self, fields: Sequence[str]) -> None:
@@ -129,7 +131,7 @@ class Cluster:
         if name in names:
             return str(name)
         nearest = " or ".join(difflib.get_close_matches(str(name), names))
-        hint = f" (is it {nearest}?)" if nearest else ""
+        hint = f"; did you mean {nearest}?" if nearest else ""
         raise UnknownName(f"{self.ldf} has no {kind} {name}{hint}")
 
     @property
@@ -169,6 +171,7 @@ class Cluster:
         """Another process in the same state: the lines of `script` are made again. Hooks, handlers
         and the answers that they still owe are not copied, nor is damage to slots to come."""
         other = self._fresh()
+        other.ldf = self.ldf
         other._made(self.live.lines)
         return other
 
@@ -180,23 +183,23 @@ class Cluster:
         if not MAKES_SLOTS.match(text):
             return self.step(text)
         self._refuse_in_bench()
-        with self._alone():
+        with self.slots_turn:
             return self.step(text)
 
     def step(self, text: str) -> Answer:
         """Makes a line that makes no slots."""
-        with self.turn:
-            answer = self.live.ask(text)
-            if answer.log:
-                self.history.take(answer.log)
-        return answer.check(self.place)
+        return self._made([text])[0].check(self.place)
 
     def _made(self, lines: List[str]) -> List[Answer]:
         """Makes the lines, and follows what came of them."""
         with self.turn:
-            answers = self.live.ask_all(lines)
+            try:
+                answers = self.live.ask_all(lines)
+            except LinsimError as error:
+                raise error.at(self.place()) from None
             for answer in answers:
-                self.history.take(answer.log)
+                if answer.log:
+                    self.history.take(answer.log)
             return answers
 
     def expect(self, form: str) -> None:
@@ -227,12 +230,12 @@ class Cluster:
 
     def timeouts(self, ms: Optional[int]) -> None:
         """Messages whose next frame is so late are given up (N_As, N_Cr); None: none are."""
-        self.line("timeouts off" if ms is None else f"timeouts {ms} ms")
+        self.line("timeouts off" if ms is None else f"timeouts {count_of(ms, 'ms')} ms")
 
     def every(self, ms: int, step: str) -> None:
         """Each time that so many milliseconds are over the step is made, a `send` or a `write`:
         `bus.every(2000, "send BCM 126 3E80")`."""
-        self.line(f"every {ms} ms {step}")
+        self.line(f"every {count_of(ms, 'ms')} ms {step}")
 
     # -- hooks and damage
 
@@ -288,7 +291,7 @@ class Cluster:
         left = [self.known("node", node) for node in leave]
         damage = None if hurt is None else as_bytes(hurt)
         self._refuse_in_bench()
-        with self._run() as run:
+        with self.slots_turn as run:
             self._make(damage, left)
         return run.slots[-1]
 
@@ -303,7 +306,7 @@ class Cluster:
         time = count_of(ms, "ms") if ms is not None else 0
         if self.bench:
             return self.bench.run_of(self, slots, ms, until)
-        with self._run() as run:
+        with self.slots_turn as run:
             start = self.time
 
             def is_over() -> bool:
@@ -326,7 +329,7 @@ class Cluster:
         most = count_of(most, "slots")
         if self.bench:
             return self.bench.idle_of(self, most)
-        with self._run() as run:
+        with self.slots_turn as run:
             if self._is_looked_at or self._slot_damage or not most:
                 self._make_until_idle(run, most)
             else:
@@ -349,27 +352,6 @@ class Cluster:
             left.append(f"{len(self._noted)} of handlers noted")
         return ", ".join(left)
 
-    @contextmanager
-    def _run(self) -> Iterator[Run]:
-        """What comes of the slots that are made in the block."""
-        with self._alone():
-            try:
-                yield self.history.begin()
-            finally:
-                self.history.begin()
-
-    @contextmanager
-    def _alone(self) -> Iterator[None]:
-        """No other thread makes slots in the block. Raises `LinsimError` in a hook, and if another
-        thread makes slots for longer than an answer may take."""
-        self.refuse_in_hook()
-        if not self._slots_turn.acquire(timeout=self.live.seconds):
-            raise LinsimError(f"another thread makes slots ({self.place()})")
-        try:
-            yield
-        finally:
-            self._slots_turn.release()
-
     def _refuse_in_bench(self) -> None:
         """Raises `LinsimError` if other clusters are on the same clock."""
         if self.bench:
@@ -377,7 +359,7 @@ class Cluster:
 
     def refuse_in_hook(self) -> None:
         """Raises `LinsimError` in a hook, a handler or an `until`."""
-        if self._hook_thread == threading.get_ident():
+        if self._hook_thread is not None and self._hook_thread == get_ident():
             raise LinsimError(f"a hook makes no slots ({self.place()})")
 
     @property
@@ -400,8 +382,9 @@ class Cluster:
         """Makes lines of slots. Raises where one ended at a slot that couldn't be opened; what else
         was refused stands in the Run."""
         answers = self._made(lines)
-        for number in [it for it in self._slot_damage if it < self.history.finished]:
-            del self._slot_damage[number]
+        if self._slot_damage:
+            for number in [it for it in self._slot_damage if it < self.history.finished]:
+                del self._slot_damage[number]
         for answer in answers:
             if answer.kind != "refused":
                 answer.check(self.place)
@@ -424,9 +407,10 @@ class Cluster:
 
     def _prepare(self) -> Optional[bytes]:
         """Calls the hooks before a slot. Returns the damage that is asked for of it."""
-        names = self._next_names() if any(frame for frame, _ in self._before) else []
-        for hook in [it for frame, it in self._before if frame is None or frame in names]:
-            self._call(hook)
+        if self._before:
+            names = self._next_names() if any(frame for frame, _ in self._before) else []
+            for hook in [it for frame, it in self._before if frame is None or frame in names]:
+                self._call(hook)
         return self._damage()
 
     def _open(self, leave: Sequence[str] = ()) -> Slot:
@@ -452,7 +436,8 @@ class Cluster:
             for it in self.received[heard:] for handler in self.nodes[it.target].handlers]
         calls += [partial(self._call, hook, slot) for frame, hook in self._after
                   if frame is None or slot.is_of(frame)]
-        calls.append(self._send_noted)
+        if calls or self._noted:
+            calls.append(self._send_noted)
         first: Optional[BaseException] = None
         for call in calls:
             try:
@@ -486,7 +471,7 @@ class Cluster:
         return found
 
     def _call(self, hook: Callable[..., Result], *arguments: object) -> Result:
-        self._hook_thread = threading.get_ident()
+        self._hook_thread = get_ident()
         try:
             return hook(*arguments)
         finally:
@@ -507,3 +492,24 @@ class Cluster:
         while self._noted and self._noted[0][0] <= self.time:
             _, node, target, data = self._noted.pop(0)
             node.send(target, data)
+
+
+class SlotsTurn:
+    """In a block of it no other thread makes slots, and what comes of them is in a `Run` of their
+    own. Raises `LinsimError` in a hook, and if another thread makes slots for longer than an answer
+    may take."""
+
+    def __init__(self, cluster: Cluster) -> None:
+        self.cluster = cluster
+        self.lock = threading.RLock()
+
+    def __enter__(self) -> Run:
+        cluster = self.cluster
+        cluster.refuse_in_hook()
+        if not self.lock.acquire(timeout=cluster.live.seconds):
+            raise LinsimError(f"another thread makes slots ({cluster.place()})")
+        return cluster.history.begin()
+
+    def __exit__(self, *_: object) -> None:
+        self.cluster.history.begin()
+        self.lock.release()

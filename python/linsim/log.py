@@ -19,17 +19,26 @@ Value = Any                             # of a scalar an int, of an array its by
 
 
 def as_bytes(data: Data) -> bytes:
-    """Bytes, of bytes or of hexadecimal digits as in scripts (`"22 F1 90"`)."""
+    """Bytes, of bytes, of hexadecimal digits as in scripts (`"22 F1 90"`), or of numbers from 0 to
+    255."""
+    if isinstance(data, (bytes, bytearray)):
+        return bytes(data)
     if isinstance(data, str):
         return bytes.fromhex(data)
-    if isinstance(data, int):
+    if is_integer(data):
         raise TypeError(f"no bytes: {data}")
-    return bytes(data)
+    return bytes(iter(data))                # (not of its memory, as of an array of words)
 
 
 def is_integer(it: object) -> bool:
     """Whether it is an int, or of a type that stands for one, as those of numpy."""
-    return hasattr(it, "__index__")
+    if isinstance(it, int):
+        return True
+    try:
+        operator.index(it)                  # type: ignore[arg-type]
+    except TypeError:                       # also of an array of numpy, which has __index__
+        return False
+    return True
 
 
 def count_of(number: int, what: str) -> int:
@@ -59,6 +68,9 @@ def field_of(value: Value) -> str:
     """A raw value as scripts have it."""
     if isinstance(value, (bytes, bytearray)):
         return "x" + hex_of(value)
+    if not is_integer(value):
+        raise TypeError(f"a raw value is an int or bytes, not {value!r}; .physical takes numbers"
+                        " and texts")
     return format(operator.index(value), "d")
 
 
@@ -164,10 +176,11 @@ class History:
 
     def take(self, log: List[str]) -> None:
         """Follows the lines of an answer."""
+        replies = self._replies
         for number, line in enumerate(log):
             fields = line.split(" ")
             if fields[0] == ">":
-                reply = self._replies.get(fields[1])
+                reply = replies.get(fields[1])
                 if reply:                               # (a later program may say more)
                     reply(self, fields[2:])
             else:
@@ -240,10 +253,11 @@ class History:
         self.time = self._slot.end = int(fields[0])
         self.finished += 1
         self.run.slots.append(self._slot)
-        received = [Received(*arrived, self.time, self._functional) for arrived in self._arrived]
-        self._arrived.clear()
-        self.received += received
-        self.run.received += received
+        if self._arrived:
+            received = [Received(*it, self.time, self._functional) for it in self._arrived]
+            self._arrived.clear()
+            self.received += received
+            self.run.received += received
 
     _replies: Dict[str, Callable[[History, List[str]], None]] = {
         "accepted": _accepted, "slot": _opened, "due": _due, "put": _put, "seen": _seen,

@@ -2,11 +2,12 @@
 from __future__ import annotations
 
 import operator
+import re
 from decimal import Decimal
 from itertools import islice
 from typing import TYPE_CHECKING, Any, Callable, Iterable, List, Optional, Tuple, Union
 
-from .errors import LinsimError, NoAnswer
+from .errors import BadLine, LinsimError, NoAnswer
 from .log import (ALL, REQUEST_NAME, RESPONSE_NAME, ROW, Data, Message, Value, as_bytes, count_of,
                   field_of, hex_of, is_integer, value_of)
 from .values import Physical, text_of
@@ -23,6 +24,7 @@ Match = Callable[[bytes, bytes], bool]
 NEGATIVE, PENDING = 0x7F, 0x78          # a negative response, response pending (ISO 14229-1)
 MOST_PENDING = 100                      # so many of these in a row, and a request still waits
 MOST_ANSWERS = 10_000                   # so many of a handler to one message
+COMMENT = re.compile(r"(?:^|[ \t])#")   # where a comment of a line of a script starts
 POSITIVE = 0x40                         # what a positive response adds to the service
 # How many bytes of a request its positive response repeats, by the service, and the services whose
 # first such byte is a subfunction: its bit 7 suppresses the response, and isn't repeated.
@@ -34,17 +36,20 @@ WITH_SUBFUNCTION = (0x10, 0x11, 0x19, 0x27, 0x28, 0x31, 0x3E, 0x85)
 def is_answer(request: bytes, response: bytes) -> bool:
     """Whether a message can be the response to a request (ISO 14229-1): a negative response to its
     service, or a positive one that repeats the request's identifier or subfunction as far as it is
-    long. For the services 40 to 7F and from C0 on, each message can."""
+    long. For the services 40 to 7F and from C0 on, each message can; for no bytes, none."""
+    if not request:
+        return False
     service = request[0]
     if service >= 0xC0 or POSITIVE <= service < 0x80:
         return True
     if response[:1] == bytes([NEGATIVE]):
         return response[1:2] == request[:1]
-    repeated = bytearray(request[1:1 + REPEATED.get(service, 0)])
+    if response[:1] != bytes([service + POSITIVE]):
+        return False
+    repeated = request[1:1 + REPEATED.get(service, 0)]
     if service in WITH_SUBFUNCTION and repeated:
-        repeated[0] &= 0x7F
-    given = response[1:1 + len(repeated)]
-    return response[:1] == bytes([service + POSITIVE]) and given == repeated[:len(given)]
+        repeated = bytes([repeated[0] & 0x7F]) + repeated[1:]
+    return repeated.startswith(response[1:1 + len(repeated)])
 
 
 def answers_of(handler: Handler, data: bytes) -> List[Tuple[bytes, int]]:
@@ -74,6 +79,13 @@ def waited(answer: Any) -> Tuple[Data, int]:
         return answer, 0
     wait, data = answer if is_integer(answer[0]) else reversed(answer)
     return data, count_of(wait, "ms")
+
+
+def without_comment(text: str, cluster: Cluster) -> None:
+    """Raises `BadLine` if a part of the text would be a comment of a script's line, and so be
+    ignored."""
+    if COMMENT.search(text):
+        raise BadLine(text, "a field that begins with # starts a comment", cluster.place())
 
 
 class Signal:
@@ -122,11 +134,15 @@ class Signal:
 
     @physical.setter
     def physical(self, value: Physical) -> None:
-        self._write(f"= {text_of(value)}")
+        self._write_text(f"= {text_of(value)}")
 
     def set_nearest(self, value: Physical) -> None:
         """Writes the raw value whose physical value is nearest, the lower of two."""
-        self._write(f"~ {text_of(value)}")
+        self._write_text(f"~ {text_of(value)}")
+
+    def _write_text(self, value: str) -> None:
+        without_comment(value, self.node.cluster)
+        self._write(value)
 
     def _write(self, value: str) -> None:
         node = self.node
@@ -173,9 +189,9 @@ class Signal:
     def _raws(self, other: object) -> Tuple[Value, Value]:
         """Returns the raw value, and what it compares with: both are numbers, or both are bytes."""
         mine, theirs = self.raw, other.raw if isinstance(other, Signal) else other
-        is_number = is_integer(theirs)
-        if isinstance(mine, int) and is_number or isinstance(theirs, (bytes, bytearray)) and (
-                not isinstance(mine, int)):
+        if isinstance(mine, int) and is_integer(theirs):
+            return mine, operator.index(theirs)
+        if isinstance(mine, bytes) and isinstance(theirs, (bytes, bytearray)):
             return mine, theirs
         kind = "a number" if isinstance(mine, int) else "bytes"
         raise TypeError(f"{self!r} has {kind} and doesn't compare with {other!r};"
@@ -214,10 +230,11 @@ class Node:
         responders. Refused with no room (QueueFull) and where no such message can go."""
         if to != ALL:
             self.cluster.known("node", to)
-        with self.cluster.turn:
-            self.host(f"send {self.name} {to} {hex_of(data)}")
-            assert self.cluster.history.newest
-            return self.cluster.history.newest
+        cluster = self.cluster
+        with cluster.turn:
+            cluster.step(f"h:{self.name} send {self.name} {to} {hex_of(data)}")
+            assert cluster.history.newest
+            return cluster.history.newest
 
     def close(self) -> None:
         """The host sends nothing more; what waits still goes."""
@@ -243,12 +260,15 @@ class Node:
         `..` is any byte, and `*` at its end any bytes. An answer is bytes, or a text in which `$K`
         is byte K of the message; or `(answer, ms)`, to wait before it. Without answers the message
         isn't answered."""
+        if not isinstance(pattern, str):
+            raise TypeError(f"a pattern is a text such as '22F190*', not {pattern!r}")
         texts = []
         for answer in answers:
             data, wait = waited(answer)
             text = data if isinstance(data, str) else hex_of(data)
             texts.append(f"{text} after {wait} ms" if wait else text)
         tail = "answer " + " then ".join(texts) if texts else "silent"
+        without_comment(f"{pattern} {tail}", self.cluster)
         self.cluster.line(f"when {self.name} {pattern} {tail}")
 
     def request(self, to: str, data: Data, timeout_ms: int = 1000, pending_ms: int = 5000,
@@ -266,8 +286,11 @@ class Node:
         data = as_bytes(data)
         timeout_ms, pending_ms = count_of(timeout_ms, "ms"), count_of(pending_ms, "ms")
         self.cluster.refuse_in_hook()
+        if not isinstance(to, str):
+            raise TypeError(f"a request goes to one node, by its name, and not to {to!r}")
         pending = bytes([NEGATIVE, *data[:1], PENDING])
-        wait = Wait(self, to, self.send(to, data), match)
+        with self.cluster.turn:             # (slots of other threads may bring the response)
+            wait = Wait(self, to, self.send(to, data), match)
         limit = timeout_ms
         for _ in range(MOST_PENDING + 1):
             answer = wait.run(limit)
@@ -283,8 +306,8 @@ class Wait:
 
     def __init__(self, node: Node, to: str, message: Message, match: Optional[Match]) -> None:
         self.cluster, self.node, self.to = node.cluster, node, to
-        self.message, self.match = message, match
-        self.looked = len(self.cluster.received)
+        self.message, self.match, self.history = message, match, node.cluster.history
+        self.looked = len(self.history.received)
         self.others: List[bytes] = []           # messages of `to` that are no response to it
         self.found: Optional[bytes] = None
 
@@ -298,16 +321,16 @@ class Wait:
 
     def _is_over(self) -> bool:
         """Whether the response is there, or the request is lost."""
-        losses = self.cluster.history.losses
-        if self.looked < len(self.cluster.received):
+        history = self.history
+        if self.looked < len(history.received):
             self._look()
-        return self.found is not None or bool(losses) and self.message in losses
+        return self.found is not None or bool(history.losses) and self.message in history.losses
 
     def _look(self) -> None:
         """Looks at the messages that arrived since the last look, up to a response. While the
         request waits, they belong to earlier requests."""
-        received = self.cluster.received
-        waits = self.cluster.history.is_waiting(self.message)
+        received = self.history.received
+        waits = self.history.is_waiting(self.message)
         while self.found is None and self.looked < len(received):
             it = received[self.looked]
             self.looked += 1
@@ -320,7 +343,7 @@ class Wait:
 
     def _why(self, ms: int) -> str:
         """Why there is no response."""
-        data, history = hex_of(self.message.data), self.cluster.history
+        data, history = hex_of(self.message.data), self.history
         is_down = self.node.number == 0
         if self.message in history.losses:
             return f"{data} to {self.to} was lost: {history.losses[self.message]}"

@@ -13,6 +13,7 @@ from typing import Callable, Iterable, List, Optional, Sequence, Union
 
 from .errors import (BadLine, Ended, LinsimError, Refused, SlotLimit, StartError, TimeLimit, Unmet,
                      start_error)
+from .log import count_of
 
 __tracebackhide__ = True                # pytest shows the lines of tests alone
 
@@ -22,6 +23,7 @@ PACKAGED = os.path.join(os.path.dirname(os.path.abspath(__file__)), "bin", "lins
 # The system has no files, processes or memory left: the program's path isn't the cause.
 EXHAUSTED = (errno.EMFILE, errno.ENFILE, errno.EAGAIN, errno.ENOMEM)
 SECONDS = 60.0      # the time limit of an answer where no other is given
+MOST_SECONDS = 1e6  # what the system's calls take
 LAST_LINE = re.compile(r"(ok|is|refused|expected|bad line|slot limit)(?::? (.*))?")
 
 
@@ -67,13 +69,29 @@ def command(program: Optional[Program] = None) -> List[str]:
         program = os.environ.get("LINSIM") or brought
     if isinstance(program, (str, os.PathLike)):
         return [os.fspath(program)]
+    if not program:
+        raise ValueError("the program is a path, or at least one word")
     return list(program)
+
+
+def located(program: Optional[Program]) -> List[str]:
+    """Returns the words that start the program, from any folder."""
+    first, *words = command(program)
+    return [os.path.abspath(first) if os.sep in os.fsdecode(first) else first, *words]
+
+
+def limit_of(seconds: float) -> float:
+    """Returns the time limit of an answer. Raises TypeError if it isn't a number, and ValueError if
+    it isn't above 0."""
+    if not seconds > 0:
+        raise ValueError(f"expected a number of seconds above 0, not {seconds}")
+    return min(float(seconds), MOST_SECONDS)
 
 
 def options_of(table: Optional[str], capacity: Optional[int]) -> List[str]:
     """Returns the options of a command for these settings."""
     return [*([] if table is None else ["--table", table]),
-            *([] if capacity is None else ["--capacity", str(capacity)])]
+            *([] if capacity is None else ["--capacity", str(count_of(capacity, "messages"))])]
 
 
 def path_of(file: Union[str, bytes, os.PathLike[str]]) -> str:
@@ -95,6 +113,7 @@ def check(ldf: str, program: Optional[Program] = None, seconds: float = SECONDS)
     `TimeLimit`."""
     words = command(program) + ["check", path_of(ldf), "--frames", "--slots", "--signals",
                                 "--physical", "--where"]
+    seconds = limit_of(seconds)
     try:
         done = subprocess.run(words, stdin=subprocess.DEVNULL, stdout=subprocess.PIPE,
                               stderr=subprocess.PIPE, timeout=seconds, check=False)
@@ -134,7 +153,7 @@ class Live:
         if form == "named":
             words.append("--physical")
         words += options_of(table, capacity)
-        self.seconds = seconds
+        self.seconds = limit_of(seconds)
         self.lines: List[str] = []
         self._turn = threading.RLock()
         self._start(words)
@@ -154,21 +173,24 @@ class Live:
         except Ended as ended:
             raise start_error(path_of(ldf), ended.status, ended.text) from None
         except TimeLimit:
-            raise TimeLimit(f"live {path_of(ldf)}", seconds) from None
+            raise TimeLimit(f"live {path_of(ldf)}", self.seconds) from None
         self.lines.clear()
 
     def _start(self, words: List[str]) -> None:
         """Starts the process. Its standard error goes to memory, so no folder is needed."""
-        errors = None
         try:
-            errors = os.memfd_create("linsim", os.MFD_CLOEXEC)
-            self._process = subprocess.Popen(words, stdin=subprocess.PIPE, stdout=subprocess.PIPE,
-                                             stderr=errors, bufsize=0)
+            self._errors = os.memfd_create("linsim", os.MFD_CLOEXEC)
         except OSError as why:
-            if errors is not None:
-                os.close(errors)
             raise not_started(words, why) from None
-        self._errors = errors
+        try:
+            self._process = subprocess.Popen(words, stdin=subprocess.PIPE, stdout=subprocess.PIPE,
+                                             stderr=self._errors, bufsize=0)
+        except OSError as why:
+            os.close(self._errors)
+            raise not_started(words, why) from None
+        except BaseException:               # words that no program can have
+            os.close(self._errors)
+            raise
 
     def ask(self, line: str) -> Answer:
         """The answer to one line."""
@@ -177,18 +199,19 @@ class Live:
     def ask_all(self, lines: Iterable[str]) -> List[Answer]:
         """The answers to several lines, which are written ahead of them."""
         lines = list(lines)
-        text = "".join([line + "\n" for line in lines])
+        text = "\n".join(lines) + "\n" if lines else ""
         if text.count("\n") != len(lines):
             raise ValueError("a line has no line feed")
         unwritten = memoryview(text.encode())
         answers: List[Answer] = []
+        self._refuse_in_fork()
         with self._turn:
             if not self._end.alive:
                 raise LinsimError("the program was ended")
             try:
                 for line in lines:
                     limit = time.monotonic() + self.seconds
-                    answer = self._take(line)
+                    answer = self._take(line) if answers else None
                     while answer is None:
                         unwritten = self._exchange(line, unwritten, limit)
                         answer = self._take(line)
@@ -202,6 +225,7 @@ class Live:
         """Ends the lines, and waits for the program's end. Its exit status: 0; 6 where an
         expectation wasn't met, 1 where a line was bad or met the limit of slots. Raises
         `TimeLimit` where it doesn't end in time."""
+        self._refuse_in_fork()
         with self._turn:
             if self._end.alive:
                 limit = time.monotonic() + self.seconds
@@ -223,16 +247,22 @@ class Live:
             with self._turn:
                 self._end()
 
+    def _refuse_in_fork(self) -> None:
+        """Raises `LinsimError` in a fork, which would take answers that aren't its own."""
+        if os.getpid() != self._parent:
+            raise LinsimError("the program belongs to the process that started it")
+
     def _take(self, line: str) -> Optional[Answer]:
         """The next answer, where it was read to its end."""
-        start = self._read.find(b"\n# ", self._searched)
-        self._searched = start if start >= 0 else max(len(self._read) - 2, 0)
-        ended = self._read.find(b"\n", start + 3) if start >= 0 else -1
+        read = self._read
+        start = read.find(b"\n# ", self._searched)
+        self._searched = start if start >= 0 else max(len(read) - 2, 0)
+        ended = read.find(b"\n", start + 3) if start >= 0 else -1
         if ended < 0:
             return None
-        log = self._read[1:start].decode(errors="replace").split("\n") if start else []
-        answer = Answer(line, log, self._read[start + 3:ended].decode(errors="replace"))
-        del self._read[:ended]
+        log = read[1:start].decode(errors="replace").split("\n") if start else []
+        answer = Answer(line, log, read[start + 3:ended].decode(errors="replace"))
+        del read[:ended]
         self._searched = 0
         if answer.kind not in ("is", "bad line"):
             self.lines.append(line)

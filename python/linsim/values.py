@@ -13,6 +13,7 @@ from .process import Answer, Live
 __tracebackhide__ = True                # pytest shows the lines of tests alone
 
 Physical = Union[int, float, Decimal, str]
+MOST_DIGITS = 400                       # more than any float has; no value has so many
 
 
 @dataclass
@@ -33,7 +34,7 @@ def text_of(value: Physical) -> str:
     if isinstance(value, str):
         return value
     exact = Decimal(float.__repr__(value)) if isinstance(value, float) else Decimal(value)
-    return format(exact, "f")
+    return format(exact, "f") if abs(exact.adjusted()) < MOST_DIGITS else str(exact)
 
 
 class Texts:

@@ -152,8 +152,26 @@ class Wrong(unittest.TestCase):
                     bench.run(ms=10, until=lambda: makes_slots() and False)
             self.assertEqual(bench.time, 0)
 
+    def test_a_hook_that_makes_slots(self):
+        """Of any cluster. The run of the slots in hand keeps them."""
+        with linsim.Bench(door(), door()) as bench:
+            first, second = bench.clusters
+            raised = []
+
+            @second.after()
+            def hook(_):
+                for call in (lambda: bench.run(ms=10), lambda: first.run(slots=1), first.idle):
+                    try:
+                        call()
+                    except linsim.LinsimError as error:
+                        raised.append(str(error)[:20])
+            self.assertEqual([len(it.slots) for it in bench.run(ms=40)], [4, 4])
+            self.assertEqual(raised, ["a hook makes no slot"] * 12)
+
     def test_clusters(self):
         with door() as bus, door() as other:
+            for wrong in (DOOR, [bus, other], None):
+                self.assertRaises(TypeError, linsim.Bench, wrong)
             self.assertRaises(ValueError, linsim.Bench)
             self.assertRaises(ValueError, linsim.Bench, bus, bus)
             other.line("open")

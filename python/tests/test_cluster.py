@@ -37,15 +37,15 @@ class Names(unittest.TestCase):
     def test_names_that_there_are_not(self):
         with cluster() as bus:
             for wrong, text in (
-                (lambda: bus["Haeter"], r"node Haeter \(is it Heater\?\)$"),
-                (lambda: bus["BCM"]["HeatLvl"], r"signal HeatLvl \(is it HeatLevel\?\)$"),
-                (lambda: bus.switch("Dag"), r"table Dag \(is it Diag\?\)$"),
-                (lambda: bus.before("Heat_State"), r"frame Heat_State \(is it Heat_Stat"),
+                (lambda: bus["Haeter"], r"node Haeter; did you mean Heater\?$"),
+                (lambda: bus["BCM"]["HeatLvl"], r"signal HeatLvl; did you mean HeatLevel\?$"),
+                (lambda: bus.switch("Dag"), r"table Dag; did you mean Diag\?$"),
+                (lambda: bus.before("Heat_State"), r"frame Heat_State; did you mean Heat_Stat"),
                 (lambda: bus.after("xyz"), r"seat.ldf has no frame xyz$"),
-                (lambda: bus.damage(frame="MasterReqs"), r"frame MasterReqs \(is it MasterReq"),
+                (lambda: bus.damage(frame="MasterReqs"), "frame MasterReqs; did you mean Master"),
                 (lambda: bus["BCM"].send(127, "00"), r"seat.ldf has no node 127$"),
-                (lambda: bus.slot(leave=["Vents"]), r"node Vents \(is it Vent\?\)$"),
-                (lambda: cluster("Rum"), r"table Rum \(is it Run\?\)$"),
+                (lambda: bus.slot(leave=["Vents"]), r"node Vents; did you mean Vent\?$"),
+                (lambda: cluster("Rum"), r"table Rum; did you mean Run\?$"),
             ):
                 with self.assertRaisesRegex(linsim.UnknownName, text):
                     wrong()

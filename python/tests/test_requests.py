@@ -139,7 +139,8 @@ class Matching(unittest.TestCase):
             ("8501", "C501", True), ("8501", "C502", False), ("190209", "5902", True),
             ("140000", "54", True), ("B21F", "F201", True), ("B21F", "7FB212", True),
             ("B21F", "7FB012", False), ("C012", "00", True), ("4012", "1234", True),
-            ("7F01", "1234", True), ("10", "50", True),
+            ("7F01", "1234", True), ("10", "50", True), ("", "50", False), ("", "", False),
+            ("3E00", "", False), ("1001", "50 01 00", True), ("31 81 0203", "71 01 0203", True),
         ):
             answer = linsim.is_answer(bytes.fromhex(request), bytes.fromhex(response))
             self.assertEqual(answer, matches, (request, response))

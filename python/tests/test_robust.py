@@ -1,14 +1,19 @@
 """What ends or raises: hooks that make slots or more hooks, handlers that raise, threads, odd
 arguments, odd names, a system without files or folders."""
 import os
+import pickle
 import resource
 import shutil
+import signal
 import subprocess
 import sys
 import tempfile
 import threading
 import time
 import unittest
+import unittest.mock
+from array import array
+from decimal import Decimal
 
 import linsim
 from tests import DOOR, SEAT, TOP
@@ -176,6 +181,83 @@ class Arguments(unittest.TestCase):
                 with self.assertRaisesRegex(linsim.Unmet, "^expected idle: 1 of DCU waiting "):
                     bus.idle(0)
 
+    def test_of_rules(self):
+        with door("Diag") as bus:
+            for wrong in (lambda: bus.timeouts(2.5), lambda: bus.timeouts("5"),
+                          lambda: bus.every(2.5, "send DCU 126 3E80"),
+                          lambda: bus["WinMot"].when(b"\x3E", "7E"),
+                          lambda: bus["DCU"].request(linsim.ALL, "3E00")):
+                self.assertRaises(TypeError, wrong)
+            for wrong in (lambda: bus.timeouts(-1), lambda: bus.every(-1, "send DCU 126 3E80")):
+                self.assertRaises(ValueError, wrong)
+            self.assertEqual(bus.script, "")
+
+    def test_of_a_cluster(self):
+        for options, error in (({"seconds": "5"}, TypeError), ({"seconds": None}, TypeError),
+                               ({"seconds": 0}, ValueError), ({"seconds": -1}, ValueError),
+                               ({"seconds": float("nan")}, ValueError),
+                               ({"capacity": 2.5}, TypeError), ({"capacity": -1}, ValueError),
+                               ({"capacity": "5"}, TypeError), ({"table": 5}, (
+                                   TypeError, linsim.UnknownName)),
+                               ({"program": []}, ValueError), ({"program": [5]}, TypeError),
+                               ({"program": "a\0b"}, ValueError)):
+            before = os.listdir("/proc/self/fd")
+            for start in (linsim.Cluster, linsim.Live):
+                with self.assertRaises(error, msg=options):
+                    start(DOOR, **options)
+            self.assertEqual(len(os.listdir("/proc/self/fd")), len(before), options)
+        for wrong in (5, None, [DOOR]):
+            self.assertRaises(TypeError, linsim.Cluster, wrong)
+            self.assertRaises(TypeError, linsim.Live, wrong)
+
+    def test_no_limit_of_time(self):
+        for seconds in (float("inf"), 1e12, 10**30):
+            with door(seconds=seconds) as bus:
+                bus.after()(lambda slot: None)
+                self.assertEqual(len(bus.run(slots=2).slots), 2)
+
+    def test_integers_of_other_types(self):
+        """As those of numpy, of which bytes() would make as many zeros."""
+        class Number:
+            def __index__(self):
+                return 5
+
+        class Numbers(list):
+            def __index__(self):
+                raise TypeError("only a row of one number is an integer")
+        with door("Diag") as bus:
+            for wrong in (Number(), 5, True, 0.5, None, [256], [-1], ["3E"]):
+                self.assertRaises((TypeError, ValueError), bus["DCU"].send, "WinMot", wrong)
+            for data in (Numbers([0x3E, 0x80]), array("H", [0x3E, 0x80]), memoryview(b"\x3E\x80"),
+                         (it for it in (0x3E, 0x80)), (0x3E, 0x80)):
+                self.assertEqual(bus["DCU"].send("WinMot", data).data, b"\x3E\x80")
+            bus["DCU"]["WinTarget"] = Number()
+            self.assertTrue(bus["DCU"]["WinTarget"] == Number())
+            with self.assertRaisesRegex(TypeError, "doesn't compare with"):
+                bool(bus["DCU"]["WinTarget"] == Numbers([5, 6]))
+            for wrong in (0.5, "opening", None, bus["DCU"]["WinTarget"]):
+                with self.assertRaisesRegex(TypeError, r"^a raw value is an int or bytes, not "):
+                    bus["DCU"]["WinTarget"] = wrong
+
+    def test_texts_that_would_be_comments(self):
+        with door("Diag") as bus:
+            motor = bus["WinMot"]
+            for wrong in (lambda: setattr(motor["WinTemp"], "physical", "20.5 # 30"),
+                          lambda: setattr(motor["WinTemp"], "physical", "20.5\t#"),
+                          lambda: motor["WinTemp"].set_nearest("#20.5"),
+                          lambda: motor.when("3E00 #", "7E"), lambda: motor.when("3E00", "7E #")):
+                with self.assertRaisesRegex(linsim.BadLine, ": a field that begins with # starts a "
+                                            r"comment \(.*, no slot, 0 us\)$"):
+                    wrong()
+            self.assertEqual((motor["WinTemp"] == 450, bus.script), (True, ""))
+
+    def test_numbers_of_many_digits(self):
+        with door() as bus:
+            for value in (1e300, Decimal("1E+999999999999"), Decimal("-1E-999999999999"),
+                          float("inf"), float("nan"), 10**300):
+                with self.assertRaises(linsim.BadLine, msg=value):
+                    bus["DCU"]["WinTarget"].physical = value
+
     def test_waits_of_handlers(self):
         for wait, error in ((-1, ValueError), (0.5, TypeError)):
             with door("Diag") as bus:
@@ -203,6 +285,50 @@ class Pending(unittest.TestCase):
                 else:
                     with self.assertRaisesRegex(linsim.NoAnswer, "with response pending alone"):
                         bus["DCU"].request("WinMot", "3E00")
+
+
+class Ends(unittest.TestCase):
+    def test_place(self):
+        """Also errors of the process say where the run was."""
+        where = r"\(.*door_zone.ldf, script line 1, slot 2, 30000 us\)$"
+        with door() as bus:
+            bus.run(slots=3)
+            bus.live._process.kill()
+            with self.assertRaisesRegex(linsim.Ended, r"^\? time: linsim was ended by SIGKILL "
+                                        + where) as raised:
+                bus.ask("time")
+            self.assertEqual(str(pickle.loads(pickle.dumps(raised.exception))),
+                             str(raised.exception))
+            for call in (lambda: bus.ask("time"), lambda: bus.run(slots=2), bus.slot, bus.idle):
+                with self.assertRaisesRegex(linsim.LinsimError, "^the program was ended " + where):
+                    call()
+        with door() as bus:
+            bus.run(slots=3)
+            bus.live.seconds = 0.2
+            bus.live._process.send_signal(signal.SIGSTOP)
+            with self.assertRaisesRegex(linsim.TimeLimit, r"^\? time: no answer from linsim within "
+                                        "0.2 seconds; terminated " + where) as raised:
+                bus.ask("time")
+            self.assertEqual(str(pickle.loads(pickle.dumps(raised.exception))),
+                             str(raised.exception))
+
+    def test_a_fork(self):
+        """It would take answers that aren't its own, or wait for an end that never comes."""
+        text = f"""
+import os, linsim
+bus = linsim.Cluster({DOOR!r})
+if not os.fork():
+    for call in (lambda: bus.ask("time"), bus.slot, bus.close):
+        try:
+            call()
+        except linsim.LinsimError as error:
+            print(str(error).partition(" (")[0], flush=True)
+    os._exit(0)
+os.wait()
+print(bus.slot().end, bus.close())
+"""
+        told = "the program belongs to the process that started it\n" * 3
+        self.assertEqual(in_python(text), told + "10000 0\n")
 
 
 class Threads(unittest.TestCase):
@@ -272,6 +398,40 @@ class Threads(unittest.TestCase):
             bus.slot()
             self.assertRegex(str(raised[0]), "^another thread makes slots ")
 
+    def test_a_request_whose_response_another_thread_brings(self):
+        """It may arrive right after the request was handed over."""
+        with door("Diag") as bus:
+            bus["WinMot"].when("3E00", "7E00")
+            commander = bus["DCU"]
+            sends = commander.send
+
+            def send(to, data):
+                message = sends(to, data)
+                self.assertEqual(self.in_threads(works), [])
+                return message
+
+            def works():
+                if bus.turn.acquire(timeout=0.2):       # else the request still has it
+                    bus.turn.release()
+                    bus.run(slots=4)
+            commander.send = send
+            self.assertEqual(commander.request("WinMot", "3E00", timeout_ms=100), b"\x7E\x00")
+
+    def test_benches(self):
+        """Each call has its own time and its own slots."""
+        first, second = door("Run"), door("Mixed")
+        with linsim.Bench(first, second) as bench:
+            runs = []
+
+            def works():
+                for _ in range(10):
+                    runs.append(len(bench.run(ms=30)[0].slots))
+                    runs.append(len(first.run(slots=2).slots))
+            self.assertEqual(self.in_threads(*[works] * 3), [])
+            self.assertEqual(bench.time, first.time)
+            self.assertEqual(bench.time, 30 * 30_000 + 30 * 20_000)
+            self.assertEqual(sorted(runs), [2] * 30 + [3] * 30)
+
     def test_a_thread_that_ends_the_program(self):
         with door() as bus:
             def ends():
@@ -313,6 +473,25 @@ class Odd(unittest.TestCase):
             with self.assertRaisesRegex(linsim.StartError,
                                         f"^unexpected output of linsim check: {text}$"):
                 linsim.Cluster(SEAT, program=words)
+
+    def test_another_folder(self):
+        """A test may change it, and also the environment."""
+        before = os.getcwd()
+        self.addCleanup(os.chdir, before)
+        with tempfile.TemporaryDirectory() as folder:
+            os.makedirs(os.path.join(folder, "bin"))
+            os.symlink(os.path.abspath(os.environ["LINSIM"]), os.path.join(folder, "bin", "linsim"))
+            shutil.copy(DOOR, os.path.join(folder, "door.ldf"))
+            os.chdir(folder)
+            with unittest.mock.patch.dict(os.environ, LINSIM="bin/linsim"):
+                bus = linsim.Cluster("door.ldf")
+            os.chdir("/")
+            with bus, unittest.mock.patch.dict(os.environ, LINSIM="/nowhere"):
+                self.assertTrue(bus["DCU"]["WinTemp"] != "20.5 degC")
+                with bus.copy() as other, other.copy() as third:
+                    self.assertEqual(third.ldf, "door.ldf")
+                    self.assertRegex(third.place(), "^door.ldf, ")
+            os.chdir(before)
 
     def test_no_folder_for_temporary_files(self):
         text = f"import linsim\nprint(linsim.Cluster({DOOR!r}).run(slots=1).slots[0].seen)"
