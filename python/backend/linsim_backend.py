@@ -80,6 +80,9 @@ def program(path):
     if not os.path.isabs(path):
         raise ValueError(f"LINSIM_PROGRAM isn't an absolute path: {path}")
     data = read(path)
+    if data[:2] == b"#!":
+        raise ValueError(f"LINSIM_PROGRAM is a script, not the program that it starts: {path} "
+                         "(./linsim --proved prints the path of the proved program)")
     if data[:5] != b"\x7fELF\2" or data[18:20] != b"\x3e\0":
         raise ValueError(f"LINSIM_PROGRAM isn't an ELF file for x86-64: {path}")
     return data

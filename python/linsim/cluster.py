@@ -122,6 +122,8 @@ class Cluster:
         was bad or met the limit of slots."""
         return self.live.close()
 
+    __iter__ = __contains__ = None          # by __getitem__ they would look for a node 0
+
     def __getitem__(self, node: str) -> Node:
         return self.nodes[self.known("node", node)]
 

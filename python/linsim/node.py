@@ -209,6 +209,8 @@ class Node:
     def __repr__(self) -> str:
         return f"<node {self.name}>"
 
+    __iter__ = __contains__ = None          # by __getitem__ they would look for a signal 0
+
     def __getitem__(self, signal: str) -> Signal:
         return Signal(self, signal)
 

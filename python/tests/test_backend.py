@@ -117,7 +117,8 @@ class Backend(unittest.TestCase):
             file.write("#!/bin/sh\n")
         with open(other, "wb") as file:                     # for ARM
             file.write(b"\x7fELF\2\1\1" + bytes(9) + b"\2\0\xb7\0" + bytes(40))
-        for program, reason in ((script, "isn't an ELF file"), (other, "isn't an ELF file"),
+        for program, reason in ((script, "is a script, not the program that it starts"),
+                                (other, "isn't an ELF file"),
                                 ("out/linsim", "isn't an absolute path")):
             with self.assertRaisesRegex(ValueError, f"^LINSIM_PROGRAM {reason}"):
                 self.built(program)

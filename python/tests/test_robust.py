@@ -239,6 +239,14 @@ class Arguments(unittest.TestCase):
                 with self.assertRaisesRegex(TypeError, r"^a raw value is an int or bytes, not "):
                     bus["DCU"]["WinTarget"] = wrong
 
+    def test_loops_over_a_cluster_and_a_node(self):
+        with door() as bus:
+            for wrong in (lambda: "WinMot" in bus, lambda: list(bus),
+                          lambda: "WinPos" in bus["DCU"], lambda: list(bus["DCU"]),
+                          lambda: bus["DCU"].send("WinMot", bus["DCU"])):
+                self.assertRaises(TypeError, wrong)
+            self.assertIn("WinMot", bus.nodes)
+
     def test_texts_that_would_be_comments(self):
         with door("Diag") as bus:
             motor = bus["WinMot"]
