@@ -399,12 +399,13 @@ class Cluster:
         heard = len(self.received)
         damage = self._prepare()
         hurt = damage if hurt is None else hurt
-        if hurt is not None and leave:
+        if hurt is None:
+            self._slots([" ".join(["slot leave", *leave]) if leave else "slot"])
+        elif leave:
             self._open(leave)
             self._finish(hurt)
         else:
-            tail = [] if hurt is None else ["hurt", hex_of(hurt)]
-            self._slots([" ".join(["slot", *tail, *(["leave", *leave] if leave else [])])])
+            self._slots([f"slot hurt {hex_of(hurt)}"])
         self._after_slot(heard, leave)
 
     def _prepare(self) -> Optional[bytes]:
@@ -432,12 +433,14 @@ class Cluster:
     def _after_slot(self, heard: int, leave: Sequence[str] = ()) -> None:
         """Calls the handlers and the hooks of the slot that was finished: all of them, and then
         raises the first exception of one."""
-        slot = self.history.run.slots[-1]
-        calls: List[Callable[[], object]] = [
-            partial(self._hear, handler, it)
-            for it in self.received[heard:] for handler in self.nodes[it.target].handlers]
-        calls += [partial(self._call, hook, slot) for frame, hook in self._after
-                  if frame is None or slot.is_of(frame)]
+        slot, received = self.history.run.slots[-1], self.history.received
+        calls: List[Callable[[], object]] = []
+        if len(received) > heard:
+            calls += [partial(self._hear, handler, it)
+                      for it in received[heard:] for handler in self.nodes[it.target].handlers]
+        if self._after:
+            calls += [partial(self._call, hook, slot) for frame, hook in self._after
+                      if frame is None or slot.is_of(frame)]
         if calls or self._noted:
             calls.append(self._send_noted)
         first: Optional[BaseException] = None
