@@ -52,7 +52,8 @@ def pytest_collection_modifyitems(config: pytest.Config, items: List[pytest.Item
 @pytest.fixture
 def new_bus(request: pytest.FixtureRequest) -> Iterator[Callable[..., Cluster]]:
     """Makes clusters, with the arguments of `linsim.Cluster`. They end with the test."""
-    made: List[Cluster] = request.node.stash.setdefault(MADE, [])
+    made: List[Cluster] = []
+    request.node.stash[MADE] = made         # also in place of those of an earlier try of the test
 
     def make(*arguments: Any, **options: Any) -> Cluster:
         cluster = Cluster(*arguments, **options)

@@ -102,6 +102,21 @@ class Plugin(unittest.TestCase):
         self.assertEqual(status, 1)
         self.assertIn("and then options by their names, not (5,)", told)
 
+    def test_a_test_that_is_tried_again(self):
+        """As by pytest-rerunfailures. The files are those of the last try."""
+        with open(os.path.join(self.folder, "conftest.py"), "a", encoding="ascii") as file:
+            file.write("from _pytest.runner import runtestprotocol\n"
+                       "def pytest_runtest_protocol(item, nextitem):\n"
+                       "    for _ in range(2):\n"
+                       "        item._initrequest()\n"
+                       "        runtestprotocol(item, nextitem=nextitem)\n"
+                       "    return True\n")
+        told, status = self.pytest("-k", "raises")
+        self.assertEqual(status, 1, told)
+        self.assertIn("2 failed", told)
+        self.assertEqual(self.kept(), [f"test_more.py_test_raises.{suffix}"
+                                       for suffix in ("bench", "html", "log")])
+
     def test_settings(self):
         with open(os.path.join(self.folder, "pytest.ini"), "a", encoding="ascii") as file:
             file.write("linsim_artifacts = kept/here\n")
