@@ -24,6 +24,8 @@ PACKAGED = os.path.join(os.path.dirname(os.path.abspath(__file__)), "bin", "lins
 EXHAUSTED = (errno.EMFILE, errno.ENFILE, errno.EAGAIN, errno.ENOMEM)
 SECONDS = 60.0      # the time limit of an answer where no other is given
 MOST_SECONDS = 1e6  # what the system's calls take
+# A fork would take answers that aren't its own.
+FORKED = "the program belongs to the process that started it"
 LAST_LINE = re.compile(r"(ok|is|refused|expected|bad line|slot limit)(?::? (.*))?")
 
 
@@ -204,7 +206,8 @@ class Live:
             raise ValueError("a line has no line feed")
         unwritten = memoryview(text.encode())
         answers: List[Answer] = []
-        self._refuse_in_fork()
+        if os.getpid() != self._parent:
+            raise LinsimError(FORKED)
         with self._turn:
             if not self._end.alive:
                 raise LinsimError("the program was ended")
@@ -225,7 +228,8 @@ class Live:
         """Ends the lines, and waits for the program's end. Its exit status: 0; 6 where an
         expectation wasn't met, 1 where a line was bad or met the limit of slots. Raises
         `TimeLimit` where it doesn't end in time."""
-        self._refuse_in_fork()
+        if os.getpid() != self._parent:
+            raise LinsimError(FORKED)
         with self._turn:
             if self._end.alive:
                 limit = time.monotonic() + self.seconds
@@ -246,11 +250,6 @@ class Live:
             self._process.kill()
             with self._turn:
                 self._end()
-
-    def _refuse_in_fork(self) -> None:
-        """Raises `LinsimError` in a fork, which would take answers that aren't its own."""
-        if os.getpid() != self._parent:
-            raise LinsimError("the program belongs to the process that started it")
 
     def _take(self, line: str) -> Optional[Answer]:
         """The next answer, where it was read to its end."""
