@@ -193,8 +193,10 @@ fn cluster_of_bytes(
     if let Err(fault) = &answer {
         notes.add_text(alloc, Reading::Plain, bytes.as_slice(), fault)?;
     }
-    if is_old && answer.is_ok() {
-        notes.add_old(alloc, bytes.as_mut_slice());
+    if is_old {
+        if let Ok(described) = &answer {
+            notes.add_old(alloc, bytes.as_mut_slice(), &described.cluster);
+        }
     }
     notes.add_field(alloc, bytes.as_mut_slice(), &answer);
     answer

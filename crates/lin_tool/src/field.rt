@@ -8,9 +8,11 @@ use crate::describing::{Reading, fault_of, let_go, read_text};
 use crate::fault::Fault;
 use crate::findings::Remarks;
 use crate::notes::Notes;
+use crate::page::data::lines_of;
 use lin_field::{
     Checked, FieldFault, Settled, check_field, read_field, read_over_bytes, settle, write_plain,
 };
+use lin_parts::Cluster;
 use std::alloc::{AllocError, Global};
 use std::io::{Read, Write};
 
@@ -44,6 +46,25 @@ fn check_settled(alloc: Global, settled: &Settled) -> Result<Checked, Fault>
 pub(crate) fn warnings_of(alloc: Global, bytes: &mut [u8]) -> Result<usize, Fault> {
     let settled = settled_of(alloc, bytes)?;
     Ok(check_settled(alloc, &settled)?.warnings.as_slice().len())
+}
+
+/// Whether `--field` reads another cluster in a text than this one: other lists of nodes, frames or
+/// slots.
+///
+/// # Errors
+/// As of `warnings_of`.
+pub(crate) fn is_read_otherwise(
+    alloc: Global,
+    bytes: &mut [u8],
+    cluster: &Cluster,
+) -> Result<bool, Fault> {
+    let settled = settled_of(alloc, bytes)?;
+    let Checked {
+        cluster: other,
+        warnings: _warnings,
+    } = check_settled(alloc, &settled)?;
+    let lines = lines_of(alloc, &other)?;
+    Ok(lines.as_slice() != lines_of(alloc, cluster)?.as_slice())
 }
 
 /// The text where the notes want it; its bytes that are read over are spaces. (Its marks stand.)

@@ -11,7 +11,7 @@ use crate::explaining::{
     put_tables, put_text,
 };
 use crate::fault::Fault;
-use crate::field::warnings_of;
+use crate::field::is_read_otherwise;
 use crate::findings::put_remarks as put_remark_lines;
 use crate::locating::{put_places, put_remark_places};
 use crate::nearest::put_bad_bench_line;
@@ -252,11 +252,12 @@ impl<'a> Notes<'a> {
         self.warnings = warnings;
     }
 
-    /// Keeps that an LDF text of LIN 1.x was read as one of LIN 2.x, if `--field` reads it.
-    pub(crate) fn add_old(&mut self, alloc: Global, text: &mut [u8])
+    /// Keeps that an LDF of LIN 1.x was read as one of LIN 2.x, if `--field` accepts it and reads
+    /// another cluster.
+    pub(crate) fn add_old(&mut self, alloc: Global, text: &mut [u8], cluster: &Cluster)
         ensures { self.new.warnings ≡ self.old.warnings }
     {
-        self.is_old = warnings_of(alloc, text).is_ok();
+        self.is_old = is_read_otherwise(alloc, text, cluster).unwrap_or(false);
     }
 
     /// Adds what `--field` would make of an LDF text that was read without it.

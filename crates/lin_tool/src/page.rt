@@ -6,7 +6,7 @@ ghost use Rattle.lin_export.specs.WhereTold.{told};
 ghost use Rattle.lin_text.specs.Written.{WritesText};
 ghost use Rattle.lin_tool.specs.Page.{page, page_data, summary};
 
-mod data;
+pub(crate) mod data;
 mod field;
 mod meanings;
 mod pieces;

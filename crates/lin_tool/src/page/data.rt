@@ -53,7 +53,7 @@ fn write_lines<W: Write>(cluster: &Cluster, writer: &mut W) -> Result<(), WriteF
 }
 
 /// What a cluster has. An error means out of memory.
-fn lines_of(alloc: Global, cluster: &Cluster) -> Result<Vec<u8>, AllocError>
+pub(crate) fn lines_of(alloc: Global, cluster: &Cluster) -> Result<Vec<u8>, AllocError>
     ensures { IfOk result (λ v. v.items ≡ cluster_lines cluster.now) }
 {
     let mut text = Vec::new(alloc);
