@@ -1,19 +1,33 @@
 -- Events of a log.
-use Rattle.std.proofs.Common.{◌≡◌, ◌∙◌, ℕ, suc, zero, ◌+◌, ◌<◌, ◌≤◌, Bool, true, false, cond, List, [], ◌∷◌, ◌++◌, reverse, length, take, drop, get_or, refl, sym, ap, arith, append_assoc, add-one, zero-add, drop-cons, Some, None}
+use Rattle.std.proofs.Common.{◌≡◌, ◌∙◌, ℕ, suc, zero, ◌+◌, ◌<◌, ◌≤◌, Bool, true, false, cond, List, [], ◌∷◌, ◌++◌, reverse, length, take, drop, get_or, refl, sym, ap, arith, append_assoc, add-one, zero-add, drop-cons, Option, Some, None}
 use Rattle.std.specs.Prelude.{count_by, filter, find, flat_map, slice_get}
 use Rattle.std.proofs.lemmas.List.{reverse-append, take-append-drop, take_more}
-use Rattle.std.proofs.lemmas.List.Sums.{length-filter, sum_by-append}
+use Rattle.std.proofs.lemmas.List.Sums.{length-filter, sum_by-append, sum_by-cons}
 use Rattle.std.proofs.lemmas.List.Elements.{filter-append}
 use Rattle.std.proofs.lemmas.List.Folds.{find-append}
 use Rattle.std.proofs.lemmas.Grind.{flat_map-append}
-use Rattle.std.specs.Option.{option_or}
+use Rattle.std.specs.List.{cons_option, filter_map}
+use Rattle.std.specs.Option.{option_map_or, option_or}
 use Rattle.lin_core.specs.History.{events}
 use Rattle.lin_core.specs.declared.event.Event.{Event}
 use Rattle.lin_core.specs.declared.log.LogEntry.{LogEntry}
-use Rattle.lin_bench.specs.Verdicts.{all_events, is_of}
+use Rattle.lin_bench.specs.Verdicts.{all_events, is_of, kind_of, same_kind}
 use Rattle.lin_bench.specs.declared.taken.EventKind.{EventKind}
 use Rattle.lin_bench.proofs.Makes.{append-nothing}
 
+-- ---- kinds of events
+one-kind : (kind : EventKind) (o : Option EventKind) (ks : List EventKind)
+    → cond (option_map_or (same_kind kind) o false) 1 0 + count_by (same_kind kind) ks ≡ count_by (same_kind kind) (cons_option o ks)
+one-kind kind None ks = zero-add (count_by (same_kind kind) ks)
+one-kind kind (Some k) ks = sym (sum_by-cons (λ x. cond (same_kind kind x) 1 0) k ks)
+
+-- the events of a kind are as many as the kinds of all events have it
+pub count-kinds : (kind : EventKind) (es : List Event) → count_by (is_of kind) es ≡ count_by (same_kind kind) (filter_map kind_of es)
+count-kinds kind [] = refl
+count-kinds kind (e ∷ es) =
+    sum_by-cons (λ x. cond (is_of kind x) 1 0) e es ∙ ap (λ n. cond (is_of kind e) 1 0 + n) (count-kinds kind es) ∙ one-kind kind (kind_of e) (filter_map kind_of es)
+
+-- ---- a log
 events-oldest : (ps : List LogEntry) (e : LogEntry) → all_events (ps ++ e ∷ []) ≡ events e ++ all_events ps
 events-oldest [] e = sym (append-nothing (events e))
 events-oldest (p ∷ ps) e = ap (λ l. l ++ events p) (events-oldest ps e) ∙ append_assoc (events e) (all_events ps) (events p)
@@ -94,6 +108,18 @@ with-entry kind es i e told h is same =
     ap (λ l. count_by (is_of kind) (flat_map events l)) here
     ∙ ap (count_by (is_of kind)) (flat_map-append events (take i es) (e ∷ []) ∙ ap (λ l. before ++ l) (append-nothing (events e) ∙ sym same))
     ∙ sum_by-append (λ x. cond (is_of kind x) 1 0) before told
+
+within : {A : Type 0} (xs : List A) (k : ℕ) (x : A) → slice_get xs k ≡ Some x → k < length xs
+within [] k x h = cc
+within (y ∷ xs) zero x h = omega arith
+within (y ∷ xs) (suc k) x h = let w = within xs k x h in omega (arith, w)
+
+-- an event after others of its entry is one of those up to the entry
+pub reached-at : (kind : EventKind) (es : List LogEntry) (i : ℕ) (e : LogEntry) (told : List Event) (k : ℕ) (x : Event) → i < length es
+    → e ≡ get_or es i e → told ≡ events e → slice_get (filter (is_of kind) told) k ≡ Some x
+    → count_by (is_of kind) (flat_map events (take i es)) + (k + 1) ≤ count_by (is_of kind) (flat_map events (take (i + 1) es))
+reached-at kind es i e told k x h is same found =
+    omega (arith, with-entry kind es i e told h is same, within (filter (is_of kind) told) k x found, length-filter (is_of kind) told)
 
 kept-more : {A : Type 0} (p : A → Bool) (y : A) (ys zs : List A) (x : A) (b : Bool) → p y ≡ b → slice_get (filter p ys) (length (filter p zs)) ≡ Some x
     → slice_get (filter p (y ∷ ys)) (length (filter p (y ∷ zs))) ≡ Some x

@@ -2,7 +2,7 @@
 use Rattle.std.proofs.Common.{◌≡◌, ◌∙◌, ◌+◌, ◌≤◌, ℕ, Bool, true, false, cond, List, [], ◌∷◌, ◌++◌, length, reverse, take, refl, sym, ap, subst, append_assoc, arith, add-zero, zero-add, length-append, Option, Some, None}
 use Rattle.std.specs.List.{cons_option, filter_map}
 use Rattle.std.specs.Option.{option_map_or}
-use Rattle.std.specs.Prelude.{count_by, filter, find, flat_map, is_some, slice_get}
+use Rattle.std.specs.Prelude.{count_by, filter, find, flat_map, is_some, replicate, slice_get}
 use Rattle.std.proofs.lemmas.Bool.Decides.{nat_tests}
 use Rattle.std.proofs.lemmas.Grind.{flat_map-append}
 use Rattle.std.proofs.lemmas.List.{reverse-append, take-append-le, take_all}
@@ -12,27 +12,17 @@ use Rattle.lin_core.specs.History.{events}
 use Rattle.lin_core.specs.declared.event.Event.{Event}
 use Rattle.lin_core.specs.declared.log.LogEntry.{LogEntry}
 use Rattle.lin_bench.specs.Making.{IsGrown}
-use Rattle.lin_bench.specs.Searches.{Finds, IsKnown, before, end_of, how_many, kind_found, last_end, last_search, taken_by}
-use Rattle.lin_bench.specs.Verdicts.{all_taken, is_of, kind_of, next_event, same_kind, with_taken}
+use Rattle.lin_bench.specs.Searches.{AreClear, Finds, IsBehind, IsKnown, IsReached, KeepsCleared, before, cleared, end_of, how_many, kind_found, last_end, last_search, place_before, same_host, taken_by}
+use Rattle.lin_bench.specs.Verdicts.{all_taken, is_of, kind_of, loss_after, next_event, same_kind, with_taken}
+use Rattle.lin_bench.specs.declared.taken.Cleared.{Cleared}
 use Rattle.lin_bench.specs.declared.taken.EventKind.{EventKind}
 use Rattle.lin_bench.specs.declared.taken.EventKind.TheVariants.{Messages, Fates, Ends, Begins}
 use Rattle.lin_bench.specs.declared.taken.Place.{Place}
 use Rattle.lin_bench.specs.declared.taken.Search.{Search}
 use Rattle.lin_bench.specs.declared.taken.Taken.{Taken}
-use Rattle.lin_bench.proofs.Events.{events-of-log}
+use Rattle.lin_bench.proofs.Events.{count-kinds, events-of-log}
+use Rattle.lin_bench.proofs.LossSearches.{clear-at-first, each-at-most, fewer, grown-count, none-more}
 use Rattle.lin_bench.proofs.Makes.{append-nothing}
-
--- ---- kinds of events
-one-kind : (kind : EventKind) (o : Option EventKind) (ks : List EventKind)
-    → cond (option_map_or (same_kind kind) o false) 1 0 + count_by (same_kind kind) ks ≡ count_by (same_kind kind) (cons_option o ks)
-one-kind kind None ks = zero-add (count_by (same_kind kind) ks)
-one-kind kind (Some k) ks = sym (sum_by-cons (λ x. cond (same_kind kind x) 1 0) k ks)
-
--- the events of a kind are as many as the kinds of all events have it
-pub count-kinds : (kind : EventKind) (es : List Event) → count_by (is_of kind) es ≡ count_by (same_kind kind) (filter_map kind_of es)
-count-kinds kind [] = refl
-count-kinds kind (e ∷ es) =
-    sum_by-cons (λ x. cond (is_of kind x) 1 0) e es ∙ ap (λ n. cond (is_of kind e) 1 0 + n) (count-kinds kind es) ∙ one-kind kind (kind_of e) (filter_map kind_of es)
 
 -- what is taken where nothing was searched for since these entries
 forgotten-taken : (es : List LogEntry) (t : Taken) → t.searches.items ≡ [] → taken_by es t ≡ filter_map kind_of (flat_map events (take t.forgotten es))
@@ -40,8 +30,16 @@ forgotten-taken es t none =
     ap (λ ss. filter_map kind_of (flat_map events (take t.forgotten es)) ++ flat_map kind_found ss) none
     ∙ append-nothing (filter_map kind_of (flat_map events (take t.forgotten es)))
 
-known-nothing : (es : List LogEntry) (t : Taken) → t.searches.items ≡ [] → t.forgotten ≤ length es → IsKnown es t
-known-nothing es t none few =
+-- as many entries as are forgotten hold no loss that is left
+abbrev pub AreFirst : Taken → Type 0
+AreFirst t = (which : Option ℕ) → cleared t.cleared which ≤ t.forgotten
+
+pub first-cleared : (t : Taken) → t.cleared.all ≡ t.forgotten → t.cleared.hosts ≡ replicate 256 t.forgotten → AreFirst t
+first-cleared t all hosts None = omega (arith, all)
+first-cleared t all hosts (Some host) = rw hosts (each-at-most 256 t.forgotten host)
+
+known-nothing : (es : List LogEntry) (t : Taken) → t.searches.items ≡ [] → AreFirst t → t.forgotten ≤ length es → IsKnown es t
+known-nothing es t none first few =
     let end : (kind : EventKind) → last_end kind t ≡ record { entry = t.forgotten; events = 0 } =
     λ kind. ap (λ ss. end_of t.forgotten (last_search kind ss)) none in
     record {
@@ -50,18 +48,20 @@ known-nothing es t none few =
       taken = λ kind.
           ap (before es kind) (end kind) ∙ add-zero (count_by (is_of kind) (flat_map events (take t.forgotten es)))
           ∙ count-kinds kind (flat_map events (take t.forgotten es)) ∙ ap (count_by (same_kind kind)) (sym (forgotten-taken es t none));
+      reached = λ kind. rw (end kind) (let more = fewer kind es t.forgotten (t.forgotten + 1) (omega arith) in omega (arith, more));
+      clear = λ which. clear-at-first which es t (cleared t.cleared which) few (first which);
     }
 
 -- nothing is taken of a new log
-pub known-first : (es : List LogEntry) (t : Taken) → t.searches.items ≡ [] → t.forgotten ≡ 0 → IsKnown es t × (taken_by es t ≡ [])
-known-first es t none zero =
-    (known-nothing es t none (omega (arith, zero)), forgotten-taken es t none ∙ ap (λ n. filter_map kind_of (flat_map events (take n es))) zero)
+pub known-first : (es : List LogEntry) (t : Taken) → t.searches.items ≡ [] → AreFirst t → t.forgotten ≡ 0 → IsKnown es t × (taken_by es t ≡ [])
+known-first es t none first zero =
+    (known-nothing es t none first (omega (arith, zero)), forgotten-taken es t none ∙ ap (λ n. filter_map kind_of (flat_map events (take n es))) zero)
 
 -- all events are taken
-pub known-forgotten : (core : CoreData) (t : Taken) → t.searches.items ≡ [] → t.forgotten ≡ length core.log
+pub known-forgotten : (core : CoreData) (t : Taken) → t.searches.items ≡ [] → AreFirst t → t.forgotten ≡ length core.log
     → IsKnown core.log t × (taken_by core.log t ≡ all_taken (past_of core))
-known-forgotten core t none all = (
-  known-nothing core.log t none (omega (arith, all)),
+known-forgotten core t none first all = (
+  known-nothing core.log t none first (omega (arith, all)),
   forgotten-taken core.log t none ∙ ap (λ l. filter_map kind_of (flat_map events l)) (take_all t.forgotten core.log (omega (arith, all)))
       ∙ ap (filter_map kind_of) (sym (events-of-log core.log)),
 )
@@ -74,6 +74,20 @@ taken-append : (es more : List LogEntry) (t : Taken) → t.forgotten ≤ length 
 taken-append es more t h =
     ap (λ l. filter_map kind_of (flat_map events l) ++ flat_map kind_found t.searches.items) (take-append-le t.forgotten es more h)
 
+reached-append : (es more : List LogEntry) (kind : EventKind) (p : Place) → p.entry ≤ length es → IsReached es kind p → IsReached (es ++ more) kind p
+reached-append es more kind p h r =
+    let same = before-more es more kind p h in
+    let grown = grown-count kind es more (p.entry + 1) in
+    omega (arith, same, grown, r)
+
+clear-append : (es more : List LogEntry) (t : Taken) (which : Option ℕ) (n : ℕ) → t.forgotten ≤ length es → AreClear es t which n
+    → AreClear (es ++ more) t which n
+clear-append es more t which n h c = (
+  omega (arith, c.0, length-append es more),
+  ap (λ ts. loss_after which ts [] (flat_map events (take n (es ++ more)))) (taken-append es more t h)
+      ∙ ap (λ l. loss_after which (taken_by es t) [] (flat_map events l)) (take-append-le n es more c.0) ∙ c.1,
+)
+
 known-append : (es more : List LogEntry) (t : Taken) → IsKnown es t → IsKnown (es ++ more) t
 known-append es more t k =
     record {
@@ -82,6 +96,8 @@ known-append es more t k =
       taken = λ kind.
           before-more es more kind (last_end kind t) (k.within kind) ∙ k.taken kind
           ∙ ap (count_by (same_kind kind)) (sym (taken-append es more t k.forgotten));
+      reached = λ kind. reached-append es more kind (last_end kind t) (k.within kind) (k.reached kind);
+      clear = λ which. clear-append es more t which (cleared t.cleared which) k.forgotten (k.clear which);
     }
 
 pub known-grown : (a b : CoreData) (t : Taken) → IsGrown a b → IsKnown a.log t → IsKnown b.log t
@@ -113,6 +129,7 @@ same-kind Begins Begins h = refl
 pub record IsOneMore (t : Taken) (s : Search) (u : Taken) : Type 0 where
   pub forgotten : u.forgotten ≡ t.forgotten
   pub searches : u.searches.items ≡ t.searches.items ++ s ∷ []
+  pub cleared : u.cleared ≡ t.cleared
 
 last-first : (q : EventKind) (n : ℕ) (ss : List Search) (s : Search) (b : Bool) → same_kind q s.kind ≡ b
     → end_of n (find (λ t. same_kind q t.kind) (s ∷ reverse ss)) ≡ cond (same_kind q s.kind) s.end (end_of n (last_search q ss))
@@ -139,35 +156,90 @@ cond-same : (b : Bool) (n : ℕ) → n ≡ cond b n n
 cond-same true n = refl
 cond-same false n = refl
 
-same-count : (q : EventKind) (s : Search) (event : Option Event) → s.found ≡ is_some event
-    → count_by (same_kind q) (kind_found s) ≡ cond (same_kind q s.kind) (how_many event) 0
-same-count q s None found = rw found (cond-same (same_kind q s.kind) 0)
-same-count q s (Some e) found = rw found (zero-add (cond (same_kind q s.kind) 1 0))
+abbrev pub found-count : Search → ℕ
+found-count s = cond s.found 1 0
 
--- where the last search ended, for the kind of a search that found this event and for any other
-place-more : (es : List LogEntry) (t : Taken) (s : Search) (event : Option Event) (q : EventKind) (b : Bool) → same_kind q s.kind ≡ b
-    → IsKnown es t → Finds es s.kind (last_end s.kind t) event s.end
+same-count : (q : EventKind) (s : Search) (b : Bool) → s.found ≡ b
+    → count_by (same_kind q) (kind_found s) ≡ cond (same_kind q s.kind) (found-count s) 0
+same-count q s false found = rw found (cond-same (same_kind q s.kind) 0)
+same-count q s true found = rw found (zero-add (cond (same_kind q s.kind) 1 0))
+
+-- where the last search ended, for the kind of a search that ended so many events behind and for any other
+place-more : (es : List LogEntry) (t : Taken) (s : Search) (n : ℕ) (q : EventKind) (b : Bool) → same_kind q s.kind ≡ b
+    → IsKnown es t → IsBehind es s.kind (last_end s.kind t) n s.end
     → ((cond b s.end (last_end q t)).entry ≤ length es)
-    × (before es q (cond b s.end (last_end q t)) ≡ count_by (same_kind q) (taken_by es t) + cond b (how_many event) 0)
-place-more es t s event q true is k f =
+    × ((before es q (cond b s.end (last_end q t)) ≡ count_by (same_kind q) (taken_by es t) + cond b n 0)
+    × IsReached es q (cond b s.end (last_end q t)))
+place-more es t s n q true is k f =
     let same : s.kind ≡ q = sym (same-kind q s.kind is) in
-    let at : before es s.kind s.end ≡ count_by (same_kind s.kind) (taken_by es t) + how_many event = f.place ∙ ap (λ n. n + how_many event) (k.taken s.kind) in
-    (f.within, rw same at at)
-place-more es t s event q false is k f = (k.within q, k.taken q ∙ sym (add-zero (count_by (same_kind q) (taken_by es t))))
+    let at : before es s.kind s.end ≡ count_by (same_kind s.kind) (taken_by es t) + n = f.place ∙ ap (λ m. m + n) (k.taken s.kind) in
+    (f.within, (rw same at at, rw same at f.reached))
+place-more es t s n q false is k f = (k.within q, (k.taken q ∙ sym (add-zero (count_by (same_kind q) (taken_by es t))), k.reached q))
+
+-- what holds no loss that is left holds none when more is taken
+clear-more : (es : List LogEntry) (t : Taken) (s : Search) (u : Taken) (which : Option ℕ) → IsOneMore t s u → IsKnown es t
+    → AreClear es u which (cleared u.cleared which)
+clear-more es t s u which more k =
+    let n = cleared t.cleared which in
+    rw more.cleared (
+      (k.clear which).0,
+      ap (λ ts. loss_after which ts [] (flat_map events (take n es))) (taken-more es t s u more)
+          ∙ none-more which (taken_by es t) (kind_found s) [] (flat_map events (take n es)) (k.clear which).1,
+    )
 
 -- the places are known after a search from the last one's end
-pub known-search : (es : List LogEntry) (t : Taken) (s : Search) (u : Taken) (event : Option Event) → IsOneMore t s u → IsKnown es t
-    → Finds es s.kind (last_end s.kind t) event s.end → s.found ≡ is_some event → IsKnown es u
-known-search es t s u event more k f found =
+pub known-search : (es : List LogEntry) (t : Taken) (s : Search) (u : Taken) → IsOneMore t s u → IsKnown es t
+    → IsBehind es s.kind (last_end s.kind t) (found-count s) s.end → IsKnown es u
+known-search es t s u more k f =
     record {
       forgotten = rw more.forgotten k.forgotten;
-      within = λ q. rw (last-more q t s u more) (place-more es t s event q (same_kind q s.kind) refl k f).0;
+      within = λ q. rw (last-more q t s u more) (place-more es t s (found-count s) q (same_kind q s.kind) refl k f).0;
       taken = λ q.
           ap (before es q) (last-more q t s u more)
-          ∙ (place-more es t s event q (same_kind q s.kind) refl k f).1
-          ∙ ap (λ n. count_by (same_kind q) (taken_by es t) + n) (sym (same-count q s event found))
+          ∙ (place-more es t s (found-count s) q (same_kind q s.kind) refl k f).1.0
+          ∙ ap (λ n. count_by (same_kind q) (taken_by es t) + n) (sym (same-count q s s.found refl))
           ∙ sym (sum_by-append (λ x. cond (same_kind q x) 1 0) (taken_by es t) (kind_found s))
           ∙ ap (count_by (same_kind q)) (sym (taken-more es t s u more));
+      reached = λ q. rw (last-more q t s u more) (place-more es t s (found-count s) q (same_kind q s.kind) refl k f).1.1;
+      clear = λ which. clear-more es t s u which more k;
+    }
+
+-- ... or from the event that it found, which isn't taken
+pub before-found : (es : List LogEntry) (kind : EventKind) (from : Place) (event : Option Event) (end : Place) → Finds es kind from event end
+    → IsBehind es kind from 0 (place_before event end)
+before-found es kind from None end f = f.behind
+before-found es kind from (Some e) end f =
+    let place = f.behind.place in
+    let some = f.some in
+    let reached = f.behind.reached in
+    record { within = f.behind.within; place = omega (arith, place, some); reached = omega (arith, reached, some) }
+
+pub behind-found : (es : List LogEntry) (s : Search) (from : Place) (event : Option Event) → Finds es s.kind from event s.end → s.found ≡ is_some event
+    → IsBehind es s.kind from (found-count s) s.end
+behind-found es s from None f found = rw found f.behind
+behind-found es s from (Some e) f found = rw found f.behind
+
+same-host : (which q : Option ℕ) → same_host q which ≡ true → q ≡ which
+same-host None None h = refl
+same-host None (Some k) h = cc
+same-host (Some j) None h = cc
+same-host (Some j) (Some k) h = ap Some (grind (arith, nat_tests))
+
+clear-kept : (es : List LogEntry) (t : Taken) (which q : Option ℕ) (n m : ℕ) (b : Bool) → same_host q which ≡ b → AreClear es t which n → AreClear es t q m
+    → AreClear es t q (cond b n m)
+clear-kept es t which q n m true is new old = subst (λ w. AreClear es t w n) (sym (same-host which q is)) new
+clear-kept es t which q n m false is new old = old
+
+-- and after a search for losses
+pub known-cleared : (es : List LogEntry) (t : Taken) (which : Option ℕ) (n : ℕ) (c : Cleared) → IsKnown es t → AreClear es t which n
+    → KeepsCleared which n t.cleared c → IsKnown es (record t { cleared = c })
+known-cleared es t which n c k new keeps =
+    record {
+      forgotten = k.forgotten;
+      within = k.within;
+      taken = k.taken;
+      reached = k.reached;
+      clear = λ q. rw (keeps q) (clear-kept es t which q n (cleared t.cleared q) (same_host q which) refl new (k.clear q));
     }
 
 -- what a search finds is the oldest event that wasn't taken

@@ -1,22 +1,17 @@
--- A search for a loss that isn't taken, of which it is kept how many fates of each host are taken
--- that are still to come.
-use Rattle.std.specs.Prelude.{◌≡◌, ◌-◌, ℕ, List, ◌++◌, count_by, slice_index, Option, Some, None}
+-- The events of an entry, of which a search for losses asks which are taken.
+use Rattle.std.specs.Prelude.{◌≡◌, ◌+◌, ℕ, Bool, List, ◌++◌, count_by, flat_map, nat_le, take}
+use Rattle.lin_core.specs.History.{events}
 use Rattle.lin_core.specs.declared.event.Event.{Event}
-use Rattle.lin_bench.specs.Verdicts.{is_of, loss_after, same_kind}
+use Rattle.lin_core.specs.declared.log.LogEntry.{LogEntry}
+use Rattle.lin_bench.specs.Verdicts.{is_of, same_kind}
 use Rattle.lin_bench.specs.declared.taken.EventKind.{EventKind}
 use Rattle.lin_bench.specs.declared.taken.EventKind.TheVariants.{Fates}
 
-abbrev pub IsLeft : List EventKind → List Event → List ℕ → Type 0
-IsLeft taken before counts =
-    (h : ℕ)
-    → slice_index counts h ≡ count_by (same_kind (Fates h)) taken - count_by (is_of (Fates h)) before
+-- these are the events of an entry of a log, by its number
+abbrev pub AreOf : List LogEntry → ℕ → List Event → Type 0
+AreOf es i told = flat_map events (take (i + 1) es) ≡ flat_map events (take i es) ++ told
 
--- what a search among more events finds, or where it goes on
-abbrev pub SearchesOn : Option ℕ → List EventKind → List Event → List Event → List ℕ → Option Event
-    → Type 0
-SearchesOn which taken before es counts (Some e) =
-    (rest : List Event) → loss_after which taken before (es ++ rest) ≡ Some e
-SearchesOn which taken before es counts None =
-    IsLeft taken (before ++ es) counts
-    × ((rest : List Event)
-    → loss_after which taken before (es ++ rest) ≡ loss_after which taken (before ++ es) rest)
+-- what became of a host's message isn't taken, where these events stand before it
+abbrev pub is_left : List EventKind → ℕ → List Event → Bool
+is_left taken host before =
+    nat_le (count_by (same_kind (Fates host)) taken) (count_by (is_of (Fates host)) before)

@@ -1,13 +1,15 @@
 -- Events that expectations took, and the searches that found them, given the entries of a log, the
 -- oldest first.
-use Rattle.std.specs.Prelude.{◌≡◌, ◌≤◌, ◌+◌, ℕ, List, [], ◌∷◌, ◌++◌, count_by, find, flat_map, length}
+use Rattle.std.specs.Prelude.{◌≡◌, ◌≤◌, ◌+◌, ◌-◌, ◌==◌, ℕ, Bool, true, false, List, [], ◌∷◌, ◌++◌}
+use Rattle.std.specs.Prelude.{count_by, find, flat_map, length, slice_index}
 use Rattle.std.specs.Prelude.{if◌then◌else◌, filter, reverse, slice_get, take, Option, Some, None}
 use Rattle.std.specs.Prelude.{Result, Ok, Err}
 use Rattle.std.specs.List.{filter_map}
 use Rattle.lin_core.specs.History.{events}
 use Rattle.lin_core.specs.declared.event.Event.{Event}
 use Rattle.lin_core.specs.declared.log.LogEntry.{LogEntry}
-use Rattle.lin_bench.specs.Verdicts.{is_of, kind_of, same_kind}
+use Rattle.lin_bench.specs.Verdicts.{is_of, kind_of, loss_after, same_kind}
+use Rattle.lin_bench.specs.declared.taken.Cleared.{Cleared}
 use Rattle.lin_bench.specs.declared.taken.EventKind.{EventKind}
 use Rattle.lin_bench.specs.declared.taken.Place.{Place}
 use Rattle.lin_bench.specs.declared.taken.Search.{Search}
@@ -37,23 +39,63 @@ last_end kind t = end_of t.forgotten (last_search kind t.searches.items)
 abbrev pub before : List LogEntry → EventKind → Place → ℕ
 before es kind p = count_by (is_of kind) (flat_map events (take p.entry es)) + p.events
 
+-- so many events of a kind stand in the entries up to that of a place
+abbrev pub IsReached : List LogEntry → EventKind → Place → Type 0
+IsReached es kind p =
+    before es kind p ≤ count_by (is_of kind) (flat_map events (take (p.entry + 1) es))
+
+-- how many entries hold no loss that isn't taken, of a host's messages or of any
+abbrev pub cleared : Cleared → Option ℕ → ℕ
+cleared c None = c.all
+cleared c (Some host) = slice_index c.hosts host
+
+-- so many entries hold none
+abbrev pub AreClear : List LogEntry → Taken → Option ℕ → ℕ → Type 0
+AreClear es t which n =
+    (n ≤ length es)
+    × (loss_after which (taken_by es t) [] (flat_map events (take n es)) ≡ None)
+
 -- the last search for each kind ended behind all events that were taken of it
 pub record IsKnown (es : List LogEntry) (t : Taken) : Type 0 where
   pub forgotten : t.forgotten ≤ length es
   pub within : (kind : EventKind) → (last_end kind t).entry ≤ length es
   pub taken : (kind : EventKind)
       → before es kind (last_end kind t) ≡ count_by (same_kind kind) (taken_by es t)
+  pub reached : (kind : EventKind) → IsReached es kind (last_end kind t)
+  pub clear : (which : Option ℕ) → AreClear es t which (cleared t.cleared which)
+
+abbrev pub same_host : Option ℕ → Option ℕ → Bool
+same_host None None = true
+same_host (Some h) (Some k) = h == k
+same_host which other = false
+
+-- how many entries hold none is kept for one host, or for all
+abbrev pub KeepsCleared : Option ℕ → ℕ → Cleared → Cleared → Type 0
+KeepsCleared which n old new =
+    (q : Option ℕ) → cleared new q ≡ (if same_host q which then n else cleared old q)
 
 abbrev pub how_many : Option Event → ℕ
 how_many None = 0
 how_many (Some e) = 1
 
+-- a place stands so many events of a kind behind another
+pub record IsBehind (es : List LogEntry) (kind : EventKind) (from : Place) (n : ℕ) (end : Place)
+    : Type 0 where
+  pub within : end.entry ≤ length es
+  pub place : before es kind end ≡ before es kind from + n
+  pub reached : IsReached es kind end
+
 -- a search from a place on finds this event, or none, and ends at this place
 pub record Finds (es : List LogEntry) (kind : EventKind) (from : Place) (event : Option Event)
     (end : Place) : Type 0 where
   pub event_is : event ≡ slice_get (filter (is_of kind) (flat_map events es)) (before es kind from)
-  pub within : end.entry ≤ length es
-  pub place : before es kind end ≡ before es kind from + how_many event
+  pub behind : IsBehind es kind from (how_many event) end
+  pub some : how_many event ≤ end.events
+
+-- the place before the event that a search found, by the place behind it
+abbrev pub place_before : Option Event → Place → Place
+place_before None end = end
+place_before (Some e) end = record { entry = end.entry; events = end.events - 1 }
 
 -- the event of a kind after so many others, and how many there are up to it; or how many of the
 -- others are left

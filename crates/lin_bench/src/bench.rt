@@ -15,7 +15,7 @@ use crate::got::{Pending, Verdict};
 use crate::line::{Disturbance, Extent, Line};
 use crate::ruled::{RuledCore, pending};
 use crate::slots::{SLOT_LIMIT, slots};
-use crate::taken::Taken;
+use crate::taken::{Cleared, Taken};
 use crate::verdicts::verdict;
 use lin_core::Core;
 use std::alloc::{AllocError, Global};
@@ -94,6 +94,7 @@ impl Bench {
             taken: Taken {
                 forgotten: 0,
                 searches: Vec::new(alloc),
+                cleared: Cleared::of(0),
             },
             left: SLOT_LIMIT,
         }
@@ -144,9 +145,11 @@ impl Bench {
     fn forget(&mut self, alloc: Global)
         ensures { self.new ≡ forgotten self.old }
     {
+        let entries = self.core().log().len();
         self.taken = Taken {
-            forgotten: self.core().log().len(),
+            forgotten: entries,
             searches: Vec::new(alloc),
+            cleared: Cleared::of(entries),
         };
     }
 

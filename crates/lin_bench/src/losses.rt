@@ -1,18 +1,16 @@
 //! Losses that no expectation has taken.
 
-ghost use Rattle.std.specs.Prelude.{◌≡◌, ◌==◌, ◌+◌, ◌-◌, ◌++◌, ◌∷◌, ◌<◌, ◌≤◌, ◌^◌, [], ℕ, List, count_by, flat_map, if◌then◌else◌, length, option_map, reverse, slice_index};
+ghost use Rattle.std.specs.Prelude.{◌≡◌, ◌++◌, ◌∷◌, List, count_by, flat_map, option_map, reverse, take, true};
+ghost use Rattle.lin_core.specs.History.{events};
 ghost use Rattle.lin_core.specs.declared.event.Event.{Event};
-ghost use Rattle.lin_bench.specs.Losses.{IsLeft, SearchesOn};
-ghost use Rattle.lin_bench.specs.Searches.{IsKnown, kind_found, taken_by};
-ghost use Rattle.lin_bench.specs.Verdicts.{first_loss, is_host, is_loss_left, same_kind};
-ghost use Rattle.lin_bench.specs.declared.taken.EventKind.{EventKind};
+ghost use Rattle.lin_core.specs.declared.log.LogEntry.{LogEntry};
+ghost use Rattle.lin_bench.specs.Losses.{AreOf, is_left};
+ghost use Rattle.lin_bench.specs.Searches.{AreClear, IsKnown, taken_by};
+ghost use Rattle.lin_bench.specs.Verdicts.{first_loss, is_host, is_loss_left, is_of, loss_after};
 ghost use Rattle.lin_bench.specs.declared.taken.EventKind.TheVariants.{Fates};
 
-use crate::taken::{EventKind, Search, Taken, events_of};
+use crate::taken::{EventKind, Taken, events_of, last_end};
 use lin_core::{Event, Log};
-
-/// How many numbers of hosts there are.
-const HOSTS: usize = 256;
 
 fn is_host(which: Option<u8>, host: u8) -> bool
     ensures { result ≡ is_host which host }
@@ -23,88 +21,98 @@ fn is_host(which: Option<u8>, host: u8) -> bool
     }
 }
 
-/// Counts what a search took.
-fn count_found(counts: &mut [usize; HOSTS], search: &Search)
-    requires { (h : ℕ) → slice_index counts.old h < 2 ^ 63 }
-    ensures { (h : ℕ) → slice_index counts.new h
-        ≡ slice_index counts.old h + count_by (same_kind (Fates h)) (kind_found search.now) }
+/// How many events of a kind there are.
+fn count_of(told: &[Event], kind: EventKind) -> usize
+    ensures { result ≡ count_by (is_of kind) told.now }
 {
-    match search.kind {
-        EventKind::Fates { host } if search.found => counts[host as usize] += 1,
-        _ => {}
+    told.iter().filter(|event| kind.has(event)).count()
+}
+
+/// Whether what became of a host's message isn't taken, by its entry and the events before it there.
+fn is_left(taken: &Taken, host: u8, entry: usize, before: &[Event]) -> bool
+    ensures { (es : List LogEntry) → (e : Event) → (rest : List Event) → IsKnown es taken.now
+        → AreOf es entry (before.now ++ e ∷ rest) → is_of (Fates host) e ≡ true
+        → result ≡ is_left (taken_by es taken.now) host
+        (flat_map events (take entry es) ++ before.now) }
+{
+    let kind = EventKind::Fates { host };
+    let end = last_end(taken, kind);
+    if entry == end.entry {
+        return end.events <= count_of(before, kind);
     }
+    entry > end.entry
 }
 
-/// How many fates of each host searches took.
-fn fates_found(searches: &[Search]) -> [usize; HOSTS]
-    ensures { (h : ℕ) → slice_index result h
-        ≡ count_by (same_kind (Fates h)) (flat_map kind_found searches.now) }
-{
-    let mut counts = [0; HOSTS];
-    for search in searches {
-        count_found(&mut counts, search);
-    }
-    counts
-}
-
-/// One fate of a host less is to come, where there is one.
-fn count_down(counts: &mut [usize; HOSTS], host: u8)
-    ensures { (h : ℕ) → slice_index counts.new h
-        ≡ (if h == host then slice_index counts.old h - 1 else slice_index counts.old h) }
-{
-    let left = counts[host as usize].saturating_sub(1);
-    counts[host as usize] = left;
-}
-
-/// Whether the next event is the loss that is looked for.
-fn is_loss_left(event: &Event, which: Option<u8>, counts: &mut [usize; HOSTS]) -> bool
-    ensures loss { (taken : List EventKind) → (before : List Event)
-        → IsLeft taken before counts.old → result ≡ is_loss_left which taken before event.now }
-    ensures left { (taken : List EventKind) → (before : List Event)
-        → IsLeft taken before counts.old → IsLeft taken (before ++ event.now ∷ []) counts.new }
+/// Whether an event is a loss, of a message of this host where there is one, that isn't taken.
+fn is_loss_left(
+    taken: &Taken,
+    which: Option<u8>,
+    entry: usize,
+    before: &[Event],
+    event: &Event,
+) -> bool
+    ensures { (es : List LogEntry) → (rest : List Event) → IsKnown es taken.now
+        → AreOf es entry (before.now ++ event.now ∷ rest)
+        → result ≡ is_loss_left which (taken_by es taken.now)
+        (flat_map events (take entry es) ++ before.now) event.now }
 {
     match event {
-        Event::Sent { host, .. } => {
-            count_down(counts, *host);
-            false
-        }
         Event::Lost { host, .. } => {
-            let is_left = counts[*host as usize] == 0;
-            count_down(counts, *host);
-            is_host(which, *host) && is_left
+            is_host(which, *host) && is_left(taken, *host, entry, before)
         }
         _ => false,
     }
 }
 
-/// The first loss among events that isn't taken.
+/// The first loss among the events of an entry that isn't taken.
 fn loss_in<'a>(
-    events: &'a [Event],
+    taken: &Taken,
     which: Option<u8>,
-    counts: &mut [usize; HOSTS],
+    entry: usize,
+    told: &'a [Event],
 ) -> Option<&'a Event>
-    ensures { (taken : List EventKind) → (before : List Event) → IsLeft taken before counts.old
-        → SearchesOn which taken before events.now counts.new (option_map (λ e. e.now) result) }
+    ensures { (es : List LogEntry) → IsKnown es taken.now → AreOf es entry told.now
+        → option_map (λ e. e.now) result
+        ≡ loss_after which (taken_by es taken.now) (flat_map events (take entry es)) told.now }
 {
-    for event in events {
-        if is_loss_left(event, which, counts) {
-            return Some(event);
+    for index in 0..told.len() {
+        if is_loss_left(taken, which, entry, &told[..index], &told[index]) {
+            return Some(&told[index]);
         }
     }
     None
 }
 
-/// The first loss, of a message of this host where there is one, that isn't taken.
-pub(crate) fn first_loss<'a>(log: &'a Log, taken: &Taken, which: Option<u8>) -> Option<&'a Event>
-    requires { taken.now.forgotten ≤ length log.now.entries }
-    ensures { option_map (λ e. e.now) result
+/// The first loss, of a message of this host where there is one, that isn't taken; and how many
+/// entries hold none.
+fn find_loss<'a>(log: &'a Log, taken: &Taken, which: Option<u8>) -> (Option<&'a Event>, usize)
+    requires { IsKnown log.now.entries taken.now }
+    ensures loss { option_map (λ e. e.now) result.0
         ≡ first_loss (reverse log.now.entries) (taken_by log.now.entries taken.now) which }
+    ensures clear { AreClear log.now.entries taken.now which result.1 }
 {
-    let mut counts = fates_found(taken.searches.as_slice());
-    for index in taken.forgotten..log.len() {
-        if let Some(event) = loss_in(events_of(log.entry(index)), which, &mut counts) {
-            return Some(event);
+    for index in taken.cleared.before(which)..log.len() {
+        if let Some(event) = loss_in(taken, which, index, events_of(log.entry(index))) {
+            return (Some(event), index);
         }
     }
-    None
+    (None, log.len())
+}
+
+/// The first loss, of a message of this host where there is one, that isn't taken. The next search
+/// begins there.
+pub(crate) fn first_loss<'a>(
+    log: &'a Log,
+    taken: &mut Taken,
+    which: Option<u8>,
+) -> Option<&'a Event>
+    requires { IsKnown log.now.entries taken.old }
+    ensures loss { option_map (λ e. e.now) result
+        ≡ first_loss (reverse log.now.entries) (taken_by log.now.entries taken.old) which }
+    ensures taken { taken_by log.now.entries taken.new ≡ taken_by log.now.entries taken.old }
+    ensures known { IsKnown log.now.entries taken.new }
+{
+    let (event, clear) = find_loss(log, taken, which);
+    taken.cleared.keep(which, clear);
+    event
 }

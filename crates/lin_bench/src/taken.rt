@@ -1,9 +1,10 @@
 //! Events that expectations speak of.
 
-ghost use Rattle.std.specs.Prelude.{◌≡◌, ◌≤◌, length, filter, find, option_map, reverse};
+ghost use Rattle.std.specs.Prelude.{◌≡◌, ◌≤◌, length, filter, find, option_map, replicate, reverse};
 ghost use Rattle.lin_core.specs.History.{events};
 ghost use Rattle.lin_core.specs.declared.event.Event.{Event};
-ghost use Rattle.lin_bench.specs.Searches.{Finds, Skips};
+ghost use Rattle.lin_bench.specs.Searches.{Finds, IsReached, KeepsCleared, Skips, cleared};
+ghost use Rattle.lin_bench.specs.Searches.{last_end, last_search, place_before};
 ghost use Rattle.lin_bench.specs.Verdicts.{all_events, is_of, same_kind};
 
 use lin_core::{Event, Log, LogEntry, Reply};
@@ -73,6 +74,50 @@ pub(crate) struct Search {
     pub(crate) end: Place,
 }
 
+/// How many numbers of hosts there are.
+const HOSTS: usize = 256;
+
+/// How many entries hold no loss that isn't taken: none of any host's messages, and none of each
+/// host's.
+#[derive(Clone, Copy)]
+pub(crate) struct Cleared {
+    all: usize,
+    hosts: [usize; HOSTS],
+}
+
+impl Cleared {
+    /// So many entries hold none.
+    pub(crate) fn of(entries: usize) -> Cleared
+        ensures all { result.all ≡ entries }
+        ensures hosts { result.hosts ≡ replicate 256 entries }
+    {
+        Cleared {
+            all: entries,
+            hosts: [entries; HOSTS],
+        }
+    }
+
+    /// How many entries hold none of a host's messages, or of any.
+    pub(crate) fn before(&self, which: Option<u8>) -> usize
+        ensures { result ≡ cleared self.now which }
+    {
+        match which {
+            Some(host) => self.hosts[host as usize],
+            None => self.all,
+        }
+    }
+
+    /// Keeps how many entries hold none of a host's messages, or of any.
+    pub(crate) fn keep(&mut self, which: Option<u8>, entries: usize)
+        ensures { KeepsCleared which entries self.old self.new }
+    {
+        match which {
+            Some(host) => self.hosts[host as usize] = entries,
+            None => self.all = entries,
+        }
+    }
+}
+
 /// What expectations have taken.
 #[derive(Drop)]
 pub(crate) struct Taken {
@@ -80,6 +125,8 @@ pub(crate) struct Taken {
     pub(crate) forgotten: usize,
     /// The searches since these, each behind them.
     pub(crate) searches: Vec<Search>,
+    /// How many entries hold no loss that isn't taken.
+    pub(crate) cleared: Cleared,
 }
 
 /// The events of an entry.
@@ -116,7 +163,8 @@ pub(crate) fn skipped(
 /// The first event of a kind from a place on, and the place behind it: the end of the log where
 /// there is none.
 pub(crate) fn event_from(log: &Log, kind: EventKind, from: Place) -> (Option<&Event>, Place)
-    requires { from.entry ≤ length log.now.entries }
+    requires within { from.entry ≤ length log.now.entries }
+    requires reached { IsReached log.now.entries kind from }
     ensures { Finds log.now.entries kind from (option_map (λ e. e.now) result.0) result.1 }
 {
     let mut skip = from.events;
@@ -137,6 +185,39 @@ pub(crate) fn event_from(log: &Log, kind: EventKind, from: Place) -> (Option<&Ev
         events: skip,
     };
     (None, end)
+}
+
+/// The last search for a kind.
+fn last_search(searches: &[Search], kind: EventKind) -> Option<&Search>
+    ensures { option_map (λ s. s.now) result ≡ last_search kind searches.now }
+{
+    searches.iter().rev().find(|search| kind.is(search.kind))
+}
+
+/// Where it ended, or the end of what is forgotten.
+pub(crate) fn last_end(taken: &Taken, kind: EventKind) -> Place
+    ensures { result ≡ last_end kind taken.now }
+{
+    match last_search(taken.searches.as_slice(), kind) {
+        Some(search) => search.end,
+        None => Place {
+            entry: taken.forgotten,
+            events: 0,
+        },
+    }
+}
+
+/// The place before an event that a search found, by the place behind it.
+pub(crate) fn place_before(event: Option<&Event>, end: Place) -> Place
+    ensures { result ≡ place_before (option_map (λ e. e.now) event.entry) end }
+{
+    match event {
+        Some(_) => Place {
+            events: end.events.saturating_sub(1),
+            ..end
+        },
+        None => end,
+    }
 }
 
 /// The last event of a kind among events.

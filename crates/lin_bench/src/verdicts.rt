@@ -3,11 +3,11 @@
 ghost use Rattle.std.specs.Prelude.{◌≡◌, ◌==◌, ◌<◌, ◌≤◌, ◌&&◌, IfOk, OnOk, None, option_map};
 ghost use Rattle.lin_core.specs.Core.{past_of};
 ghost use Rattle.lin_bench.specs.Made.{comes};
-ghost use Rattle.lin_bench.specs.Searches.{IsKnown, last_end, last_search, taken_by};
+ghost use Rattle.lin_bench.specs.Searches.{IsKnown, taken_by};
 ghost use Rattle.lin_bench.specs.Making.{course_on};
 ghost use Rattle.lin_bench.specs.Meant.{is_among};
 ghost use Rattle.lin_bench.specs.Slots.{pending};
-ghost use Rattle.lin_bench.specs.Verdicts.{same_kind, done_verdict, idle_verdict, kind_taken, last_event};
+ghost use Rattle.lin_bench.specs.Verdicts.{done_verdict, idle_verdict, kind_taken, last_event};
 ghost use Rattle.lin_bench.specs.Verdicts.{lost_verdict, message_verdict, newest_reply};
 ghost use Rattle.lin_bench.specs.Verdicts.{next_event, refused_verdict};
 ghost use Rattle.lin_bench.specs.Verdicts.{is_within, no_lost_verdict, no_message_verdict, same_value, seen_verdict, sent_verdict};
@@ -21,7 +21,7 @@ use crate::got::Got;
 use crate::losses::first_loss;
 use crate::meant::MeantValues;
 use crate::ruled::{RuledCore, pending};
-use crate::taken::{EventKind, Place, Search, Taken, event_from, last_event};
+use crate::taken::{EventKind, Search, Taken, event_from, last_end, last_event, place_before};
 use lin_core::{Cause, Core, Event, Look, Payload, Refusal, Reply, Seen};
 use lin_frame::Value;
 use lin_text::Many;
@@ -378,26 +378,6 @@ fn idle(alloc: Global, ruled: &RuledCore) -> Result<Option<Got>, AllocError>
     Ok(Some(Got::StillPending(Many::new(all))))
 }
 
-/// The last search for a kind.
-fn last_search(searches: &[Search], kind: EventKind) -> Option<&Search>
-    ensures { option_map (λ s. s.now) result ≡ last_search kind searches.now }
-{
-    searches.iter().rev().find(|search| kind.is(search.kind))
-}
-
-/// Where it ended, or the end of what is forgotten.
-fn last_end(taken: &Taken, kind: EventKind) -> Place
-    ensures { result ≡ last_end kind taken.now }
-{
-    match last_search(taken.searches.as_slice(), kind) {
-        Some(search) => search.end,
-        None => Place {
-            entry: taken.forgotten,
-            events: 0,
-        },
-    }
-}
-
 /// The oldest event of a kind that isn't taken.
 fn look_for<'a>(
     core: &'a Core,
@@ -413,17 +393,12 @@ fn look_for<'a>(
 {
     let from = last_end(taken, kind);
     let (event, end) = event_from(core.log(), kind, from);
-    match event {
-        Some(event) => Ok(Some(event)),
-        None => {
-            taken.searches.push(Search {
-                kind,
-                found: false,
-                end,
-            })?;
-            Ok(None)
-        }
-    }
+    taken.searches.push(Search {
+        kind,
+        found: false,
+        end: place_before(event, end),
+    })?;
+    Ok(event)
 }
 
 /// The oldest event of a kind that no expectation has taken, which is taken now.

@@ -1,31 +1,36 @@
-use Rattle.std.proofs.Common.{◌∙◌, ◌≡◌, ◌+◌, ◌∷◌, [], ◌++◌, None, ap, arith, refl, subst, sym, take}
-use Rattle.std.proofs.lemmas.List.{take_all, take_more}
-use Rattle.lin_bench.specs.Losses.{SearchesOn}
-use Rattle.lin_bench.proofs.LossSearches.{loss-found, one-searched}
+use Rattle.std.proofs.Common.{◌≡◌, ◌∙◌, ◌+◌, ◌++◌, ◌∷◌, [], List, Some, ap, arith, drop, false, refl, sym, take, true}
+use Rattle.std.specs.Prelude.{flat_map}
+use Rattle.std.proofs.lemmas.List.{take_more}
+use Rattle.lin_core.specs.History.{events}
+use Rattle.lin_core.specs.declared.log.LogEntry.{LogEntry}
+use Rattle.lin_bench.specs.Losses.{AreOf}
+use Rattle.lin_bench.specs.Searches.{taken_by}
+use Rattle.lin_bench.specs.Verdicts.{is_loss_left, loss_after}
+use Rattle.lin_bench.proofs.LossSearches.{loss-at, none-with, same-item, split-at}
 use Rattle.lin_bench.proofs.losses.loss_in.Goals as goal
 
 pub returns-then-is_loss_left : goal.returns-then-is_loss_left
-returns-then-is_loss_left c = λ taken before left.
-    let es = c.args.events.now in
-    let i = c.loop-event.event-index in
-    let on = c.loop-event.invariant taken before left in
-    let is = sym (c.is_loss_left.ensures.loss taken (before ++ take i es) on.0) ∙ c.if-is_loss_left.true in
-    loss-found c.args.which taken before es i c.event-item.result c.loop-event.counts (omega arith) c.event-item.is on is
+returns-then-is_loss_left c = λ es known are.
+    let told = c.args.told.now in
+    let i = c.loop-index.index in
+    let e = c.index-told-index.result in
+    let taken = taken_by es c.args.taken.now in
+    let before = flat_map events (take c.args.entry es) in
+    let there = are ∙ ap (λ l. before ++ l) (split-at told i e (omega arith) c.index-told-index.is) in
+    let is : is_loss_left c.args.which taken (before ++ take i told) e ≡ true =
+    sym (c.is_loss_left.ensures es (drop (i + 1) told) known there) ∙ c.if-is_loss_left.true in
+    ap Some (same-item told i c.index-told-index-then-is_loss_left.result e (omega arith) c.index-told-index-then-is_loss_left.is c.index-told-index.is)
+    ∙ sym (loss-at c.args.which taken before told i e (omega arith) c.index-told-index.is (c.loop-index.invariant es known are) is)
 
-pub loop-event-preserved : goal.loop-event-preserved
-loop-event-preserved c = λ taken before left.
-    let es = c.args.events.now in
-    let i = c.loop-event.event-index in
-    let e = c.event-item.result in
-    let on = c.loop-event.invariant taken before left in
-    let is = sym (c.is_loss_left.ensures.loss taken (before ++ take i es) on.0) ∙ c.if-is_loss_left.false in
-    let here : take (i + 1) es ≡ take i es ++ e ∷ [] = take_more es i e (omega arith) ∙ ap (λ x. take i es ++ x ∷ []) (sym c.event-item.is) in
-    subst (λ l. SearchesOn c.args.which taken before l c.is_loss_left.new.counts None) (sym here)
-    (one-searched c.args.which taken before (take i es) e c.loop-event.counts c.is_loss_left.new.counts on is
-    (c.is_loss_left.ensures.left taken (before ++ take i es) on.0))
-
-pub returns : goal.returns
-returns c = λ taken before left.
-    let es = c.args.events.now in
-    let i = c.loop-event.event-index in
-    subst (λ l. SearchesOn c.args.which taken before l c.loop-event.counts None) (take_all i es (omega arith)) (c.loop-event.invariant taken before left)
+pub loop-index-preserved : goal.loop-index-preserved
+loop-index-preserved c = λ es known are.
+    let told = c.args.told.now in
+    let i = c.loop-index.index in
+    let e = c.index-told-index.result in
+    let taken = taken_by es c.args.taken.now in
+    let before = flat_map events (take c.args.entry es) in
+    let there = are ∙ ap (λ l. before ++ l) (split-at told i e (omega arith) c.index-told-index.is) in
+    let is : is_loss_left c.args.which taken (before ++ take i told) e ≡ false =
+    sym (c.is_loss_left.ensures es (drop (i + 1) told) known there) ∙ c.if-is_loss_left.false in
+    let here : take (i + 1) told ≡ take i told ++ e ∷ [] = take_more told i e (omega arith) ∙ ap (λ x. take i told ++ x ∷ []) (sym c.index-told-index.is) in
+    ap (loss_after c.args.which taken before) here ∙ none-with c.args.which taken before (take i told) e (c.loop-index.invariant es known are) is

@@ -1,10 +1,13 @@
-use Rattle.std.proofs.Common.{List, None, take}
-use Rattle.lin_core.specs.declared.event.Event.{Event}
-use Rattle.lin_bench.specs.Losses.{IsLeft, SearchesOn}
-use Rattle.lin_bench.specs.declared.taken.EventKind.{EventKind}
+use Rattle.std.proofs.Common.{List, None, ◌≡◌, take}
+use Rattle.std.specs.Prelude.{flat_map}
+use Rattle.lin_core.specs.History.{events}
+use Rattle.lin_core.specs.declared.log.LogEntry.{LogEntry}
+use Rattle.lin_bench.specs.Losses.{AreOf}
+use Rattle.lin_bench.specs.Searches.{IsKnown, taken_by}
+use Rattle.lin_bench.specs.Verdicts.{loss_after}
 use Rattle.lin_bench.proofs.losses.loss_in.Given as goal
 
-abbrev pub invariant-loop-event : goal.invariant-loop-event
-invariant-loop-event l =
-    (taken : List EventKind) → (before : List Event) → IsLeft taken before l.initial.counts
-    → SearchesOn l.which taken before (take l.event-index l.events) l.counts None
+abbrev pub invariant-loop-index : goal.invariant-loop-index
+invariant-loop-index l =
+    (es : List LogEntry) → IsKnown es l.taken → AreOf es l.entry l.told
+    → loss_after l.which (taken_by es l.taken) (flat_map events (take l.entry es)) (take l.index l.told) ≡ None

@@ -47,6 +47,9 @@ returns-in_err-slot-clause-made c =
     c.loop.invariant.begun (omega (arith, c.most-end.ensures)) c.loop.invariant.began goes
     (some-left c.loop.left _ (sym limit ∙ c.if-is_at_limit.false)) c.in_err-slot.ensures.steps)
 
+pub returns-in_err-slot-clause-known : goal.returns-in_err-slot-clause-known
+returns-in_err-slot-clause-known c = known-grown _ _ _ c.in_err-slot.ensures.steps.1 c.in_ok-goes.ensures.known
+
 pub returns-then-not-branch-clause-made : goal.returns-then-not-branch-clause-made
 returns-then-not-branch-clause-made c =
     let n = most c.args.extent - (c.loop.counter + 1) in

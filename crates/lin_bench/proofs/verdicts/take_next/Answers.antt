@@ -3,7 +3,7 @@ use Rattle.std.specs.Prelude.{is_some, option_map}
 use Rattle.lin_bench.specs.Searches.{Finds, last_end}
 use Rattle.lin_bench.specs.declared.taken.Search.{Search}
 use Rattle.lin_bench.specs.declared.taken.Taken.{Taken}
-use Rattle.lin_bench.proofs.Searches.{IsOneMore, known-search, next-found, taken-found}
+use Rattle.lin_bench.proofs.Searches.{IsOneMore, behind-found, known-search, next-found, taken-found}
 use Rattle.lin_bench.proofs.verdicts.take_next.Goals as goal
 
 is-some : {A B : Type 0} (f : A → B) (o : Option A) → is_some o ≡ is_some (option_map f o)
@@ -23,9 +23,9 @@ returns c =
     let finds : Finds core.log kind (last_end kind t) event end =
     subst (λ from. Finds core.log kind from event end) c.last_end-from.ensures
     (subst (λ log. Finds log kind c.last_end-from.result event end) c.log.ensures.entries c.event_from.ensures) in
-    let more : IsOneMore t s u = record { forgotten = refl; searches = c.in_ok-push.ensures.items } in
+    let more : IsOneMore t s u = record { forgotten = refl; searches = c.in_ok-push.ensures.items; cleared = refl } in
     record {
       event = next-found core t kind event end c.requires finds;
       taken = taken-found core t s u event more c.requires finds found;
-      known = known-search core.log t s u event more c.requires finds found;
+      known = known-search core.log t s u more c.requires (behind-found core.log s (last_end kind t) event finds found);
     }

@@ -8,6 +8,9 @@ use Rattle.lin_bench.proofs.bench.Bench.make.Goals as goal
 pub invariant_of-self-in-Step : goal.invariant_of-self-in-Step
 invariant_of-self-in-Step c = known-grown _ _ _ (steps-grown _ _ _ c.make.result c.make.ensures) c.self.invariant
 
+pub invariant_of-self : goal.invariant_of-self
+invariant_of-self c = known-grown _ _ _ c.in_err-make-in-Step.ensures.1 c.self.invariant
+
 pub returns-in_err-make-in-Step : goal.returns-in_err-make-in-Step
 returns-in_err-make-in-Step c =
     let p = err_from_is_err_and c.from_residual.result c.from_residual.ensures.1 in
