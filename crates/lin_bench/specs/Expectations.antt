@@ -8,10 +8,10 @@ use Rattle.lin_core.specs.Tables.{cause_word, causes, look_word, looks, named, n
 use Rattle.lin_core.specs.Tables.{refusal_number, refusal_word, refusals}
 use Rattle.lin_core.specs.declared.reply.Refusal.{Refusal}
 use Rattle.lin_log.specs.Said.{is_number}
-use Rattle.lin_bench.specs.Fields.{frame_field}
-use Rattle.lin_bench.specs.Fields.{◌>>=◌, bytes_fields, node_field, number_field, or_bad}
-use Rattle.lin_bench.specs.Fields.{count_field, range_ends, range_field, rows_and_time, signal_field}
-use Rattle.lin_bench.specs.Fields.{table_field, value_field}
+use Rattle.lin_bench.specs.Fields.{◌>>=◌, bytes_fields, count_field, frame_field, host_field}
+use Rattle.lin_bench.specs.Fields.{number_field, or_bad, pair_fields, present_node, present_signal}
+use Rattle.lin_bench.specs.Fields.{present_table, range_ends, range_field, rows_and_time}
+use Rattle.lin_bench.specs.Fields.{value_field}
 use Rattle.lin_bench.specs.declared.reason.Reason.{Reason}
 use Rattle.lin_bench.specs.declared.reason.Reason.TheVariants.{NoRefusal, TooSmall, ExpectForm}
 use Rattle.lin_bench.specs.declared.reason.Reason.TheVariants.{UnknownExpectation, UntilForm, UnknownUntil}
@@ -35,14 +35,14 @@ signal_value c node signal v (Some ends) =
 
 abbrev pub signal_form : Parts → List (List ℕ) → List (List ℕ) → Result Expected Reason
 signal_form c all (n ∷ s ∷ v ∷ []) = do
-  node ← node_field c n
-  signal ← signal_field c s
+  node ← present_node c n
+  signal ← present_signal c s
   signal_value c node signal v (range_ends v)
 signal_form c all fs = Err (UnknownExpectation all)
 
 abbrev pub waiting_form : Parts → List (List ℕ) → List (List ℕ) → Result Expected Reason
 waiting_form c all (n ∷ k ∷ []) = do
-  host ← node_field c n
+  host ← present_node c n
   count ← number_field 1024 k
   Ok (expected.Waiting host count)
 waiting_form c all fs = Err (UnknownExpectation all)
@@ -58,18 +58,17 @@ bytes_form c from to (rows, Some n) = do
 
 abbrev pub message_form : Parts → List (List ℕ) → List (List ℕ) → Result Expected Reason
 message_form c all (from ∷ to ∷ f ∷ fs) = do
-  sender ← node_field c from
-  receiver ← node_field c to
-  bytes_form c sender receiver (rows_and_time (codes "within") (f ∷ fs))
+  pair ← pair_fields c from to
+  bytes_form c pair.0 pair.1 (rows_and_time (codes "within") (f ∷ fs))
 message_form c all fs = Err (UnknownExpectation all)
 
 abbrev pub sent_form : Parts → List (List ℕ) → List (List ℕ) → Result Expected Reason
-sent_form c all (n ∷ []) = node_field c n >>= (λ host. Ok (expected.Sent host))
+sent_form c all (n ∷ []) = host_field c n >>= (λ host. Ok (expected.Sent host))
 sent_form c all fs = Err (UnknownExpectation all)
 
 abbrev pub loss_of : Parts → List (List ℕ) → List ℕ → List ℕ → Result Expected Reason
 loss_of c all n why = do
-  host ← node_field c n
+  host ← host_field c n
   how ← or_bad (named cause_word causes why) (UnknownExpectation all)
   Ok (expected.Lost host how)
 
@@ -94,7 +93,7 @@ seen_form all fs = Err (UnknownExpectation all)
 
 abbrev pub slot_form : Parts → List (List ℕ) → List (List ℕ) → Result Expected Reason
 slot_form c all (t ∷ e ∷ []) = do
-  table ← table_field c t
+  table ← present_table c t
   entry ← number_field 1023 e
   Ok (expected.Slot table entry)
 slot_form c all fs = Err (UnknownExpectation all)
@@ -108,15 +107,13 @@ lone_form all what [] = Ok what
 lone_form all what (f ∷ fs) = Err (UnknownExpectation all)
 
 abbrev pub no_message_form : Parts → List (List ℕ) → List (List ℕ) → Result Expected Reason
-no_message_form c all (from ∷ to ∷ []) = do
-  sender ← node_field c from
-  receiver ← node_field c to
-  Ok (expected.NoMessage sender receiver)
+no_message_form c all (from ∷ to ∷ []) =
+    pair_fields c from to >>= (λ pair. Ok (expected.NoMessage pair.0 pair.1))
 no_message_form c all fs = Err (UnknownExpectation all)
 
 abbrev pub no_lost_form : Parts → List (List ℕ) → List (List ℕ) → Result Expected Reason
 no_lost_form c all [] = Ok (expected.NoLost None)
-no_lost_form c all (n ∷ []) = node_field c n >>= (λ host. Ok (expected.NoLost (Some host)))
+no_lost_form c all (n ∷ []) = host_field c n >>= (λ host. Ok (expected.NoLost (Some host)))
 no_lost_form c all fs = Err (UnknownExpectation all)
 
 -- what isn't to be

@@ -1,6 +1,6 @@
 -- The fields of a bench script's line, as the language of a cluster's names has them, and what is
 -- said of one that is bad.
-use Rattle.std.specs.Prelude.{ℕ, ◌==◌, ◌&&◌, nat_lt, if◌then◌else◌, true, List, [], ◌∷◌, map}
+use Rattle.std.specs.Prelude.{ℕ, ◌==◌, ◌&&◌, ◌||◌, Bool, not, is_some, nat_lt, if◌then◌else◌, true, List, [], ◌∷◌, map}
 use Rattle.std.specs.Prelude.{drop, slice_index, Option, Some, None, option_map, Result, Ok, Err}
 use Rattle.std.specs.Prelude.{codes, length, reverse}
 use Rattle.std.specs.Borrow.{Bor}
@@ -8,13 +8,15 @@ use Rattle.std.specs.Str.{bytes_eq}
 use Rattle.lin_frame.specs.declared.value.Value.{Value}
 use Rattle.lin_frame.specs.declared.value.Value.TheVariants.{Scalar}
 use Rattle.lin_parts.specs.declared.parts.Parts.{Parts}
-use Rattle.lin_parts.specs.Cluster.{frame_name}
+use Rattle.lin_parts.specs.Cluster.{frame_name, nad, nodes}
 use Rattle.lin_log.specs.Language.{Called, named, number_named}
 use Rattle.lin_log.specs.Said.{is_number}
 use Rattle.lin_log.specs.Said as log
 use Rattle.lin_log.specs.declared.reason.Reason.{Reason as StepReason}
+use Rattle.lin_log.specs.declared.reason.Reason.TheVariants.{NoNode, NoSignal, NoTable}
 use Rattle.lin_bench.specs.declared.reason.Reason.{Reason}
 use Rattle.lin_bench.specs.declared.reason.Reason.TheVariants.{Step, NoFrame, NoRange, TooSmall}
+use Rattle.lin_bench.specs.declared.reason.Reason.TheVariants.{NoMessages, NoResponder}
 use Rattle.lin_bench.specs.declared.expected.Carried.{Carried}
 use Rattle.lin_bench.specs.declared.expected.Carried.TheVariants.{Signals, Request, Response}
 
@@ -58,9 +60,13 @@ abbrev pub frame_called : List ℕ → Option ℕ → Option Carried
 frame_called name (Some f) = Some (Signals f)
 frame_called name None = message_frame name
 
+-- the unconditional frame with a number
+abbrev pub frame_numbered : Parts → ℕ → Option Carried
+frame_numbered c n = if nat_lt n (length c.frames) then Some (Signals n) else None
+
 abbrev pub frame_field : Parts → List ℕ → Result Carried Reason
 frame_field c f =
-    if is_number f then number_field 65535 f >>= (λ n. Ok (Signals n))
+    if is_number f then number_field 65535 f >>= (λ n. or_bad (frame_numbered c n) (NoFrame f))
     else or_bad (frame_called f (number_named (frames_called c) f)) (NoFrame f)
 
 -- 1 to 1,000,000
@@ -75,6 +81,42 @@ signal_field c f = of_step (log.signal_field (named c) f)
 
 abbrev pub table_field : Parts → List ℕ → Result ℕ Reason
 table_field c f = of_step (log.table_field (named c) f)
+
+-- a node, a signal and a table that the cluster has
+abbrev pub present_node : Parts → List ℕ → Result ℕ Reason
+present_node c f =
+    node_field c f >>= (λ n. if nat_lt n (nodes c) then Ok n else Err (Step (NoNode f)))
+
+abbrev pub present_signal : Parts → List ℕ → Result ℕ Reason
+present_signal c f =
+    signal_field c f
+    >>= (λ s. if nat_lt s (length c.signals) then Ok s else Err (Step (NoSignal f)))
+
+abbrev pub present_table : Parts → List ℕ → Result ℕ Reason
+present_table c f =
+    table_field c f
+    >>= (λ t. if nat_lt t (length c.tables) then Ok t else Err (Step (NoTable f)))
+
+-- a node that sends messages: the commander, or a responder with an address (ISO 17987-2)
+abbrev pub sends : Parts → ℕ → Bool
+sends c n = n == 0 || is_some (nad c n)
+
+abbrev pub host_field : Parts → List ℕ → Result ℕ Reason
+host_field c f = present_node c f >>= (λ n. if sends c n then Ok n else Err (NoResponder f))
+
+-- whether exactly one of two nodes is the commander
+abbrev pub has_commander : ℕ → ℕ → Bool
+has_commander m n = if m == 0 then not (n == 0) else n == 0
+
+-- the sender of messages and their receiver, of which exactly one is the commander (ISO 17987-2)
+abbrev pub pair_of : List ℕ → List ℕ → ℕ → ℕ → Result (ℕ × ℕ) Reason
+pair_of from to m n = if has_commander m n then Ok (m, n) else Err (NoMessages from to)
+
+abbrev pub pair_fields : Parts → List ℕ → List ℕ → Result (ℕ × ℕ) Reason
+pair_fields c from to = do
+  sender ← host_field c from
+  receiver ← host_field c to
+  pair_of from to sender receiver
 
 abbrev pub bytes_fields : Parts → List (List ℕ) → Result (List ℕ) Reason
 bytes_fields c fs = of_step (log.bytes_fields (named c) fs)

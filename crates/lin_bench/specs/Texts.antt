@@ -79,6 +79,8 @@ reason_words (reason.UnknownUntil fields) = Fixed (codes "until has no form") �
 reason_words reason.WhenForm = Fixed (codes "when takes a node, a pattern and answers") ∷ []
 reason_words (reason.NoResponder field) =
     Said field ∷ Fixed (codes "is no responder with an address") ∷ []
+reason_words (reason.NoMessages from to) =
+    Fixed (codes "no message goes from") ∷ Said from ∷ Fixed (codes "to") ∷ Said to ∷ []
 reason_words (reason.NoPattern fields) = Fields fields ∷ Fixed (codes "is no pattern") ∷ []
 reason_words reason.TimeoutsForm = Fixed (codes "timeouts takes a time and ms, or off") ∷ []
 reason_words reason.EveryForm = Fixed (codes "every takes a time and a step, or off") ∷ []

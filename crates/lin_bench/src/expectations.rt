@@ -14,8 +14,8 @@ ghost use Rattle.lin_bench.specs.declared.reason.Reason.{Reason};
 use crate::expected::Expected;
 use crate::fault::LineFault;
 use crate::fields::{
-    count_field, fields, frame_field, node_field, number_field, range_ends, range_field,
-    rows_and_time, rows_bytes, signal_field, table_field, value_field,
+    count_field, fields, frame_field, host_field, number_field, pair_fields, present_node,
+    present_signal, present_table, range_ends, range_field, rows_and_time, rows_bytes, value_field,
 };
 use crate::reason::Reason;
 use lin_core::{Refusal, named, numbered};
@@ -88,8 +88,8 @@ fn signal(
 {
     match parts {
         [node, signal, value] => {
-            let node = node_field(alloc, cluster, node)?;
-            let signal = signal_field(alloc, cluster, signal)?;
+            let node = present_node(alloc, cluster, node)?;
+            let signal = present_signal(alloc, cluster, signal)?;
             signal_value(alloc, cluster, node, signal, value)
         }
         _ => Err(no_form(alloc, cluster, all)?),
@@ -106,7 +106,7 @@ fn waiting(
 {
     match parts {
         [host, count] => Ok(Expected::Waiting {
-            host: node_field(alloc, cluster, host)?,
+            host: present_node(alloc, cluster, host)?,
             count: number_field(alloc, count, 1024)? as u16,
         }),
         _ => Err(no_form(alloc, cluster, all)?),
@@ -149,8 +149,7 @@ fn message(alloc: Global, cluster: &Cluster, all: &[u8], line: &[u8]) -> Result<
     if is_over(cluster, bytes) {
         return Err(no_form(alloc, cluster, all)?);
     }
-    let from = node_field(alloc, cluster, from)?;
-    let to = node_field(alloc, cluster, to)?;
+    let (from, to) = pair_fields(alloc, cluster, from, to)?;
     let rows = fields(alloc, cluster, bytes)?;
     message_bytes(alloc, cluster, from, to, rows.as_slice())
 }
@@ -165,7 +164,7 @@ fn sent(
 {
     match parts {
         [host] => Ok(Expected::Sent {
-            host: node_field(alloc, cluster, host)?,
+            host: host_field(alloc, cluster, host)?,
         }),
         _ => Err(no_form(alloc, cluster, all)?),
     }
@@ -181,7 +180,7 @@ fn loss(
 ) -> Result<Expected, LineFault>
     ensures { Gives (λ e. e) result (loss_of cluster.now (fields all.now) host.now why.now) }
 {
-    let host = node_field(alloc, cluster, host)?;
+    let host = host_field(alloc, cluster, host)?;
     match named(why) {
         Some(cause) => Ok(Expected::Lost { host, cause }),
         None => Err(no_form(alloc, cluster, all)?),
@@ -255,7 +254,7 @@ fn slot(
 {
     match parts {
         [table, entry] => Ok(Expected::Slot {
-            table: table_field(alloc, cluster, table)?,
+            table: present_table(alloc, cluster, table)?,
             entry: number_field(alloc, entry, 1023)? as u16,
         }),
         _ => Err(no_form(alloc, cluster, all)?),
@@ -286,10 +285,10 @@ fn no_message(
         (no_message_form cluster.now (fields all.now) (words parts.now)) }
 {
     match parts {
-        [from, to] => Ok(Expected::NoMessage {
-            from: node_field(alloc, cluster, from)?,
-            to: node_field(alloc, cluster, to)?,
-        }),
+        [from, to] => {
+            let (from, to) = pair_fields(alloc, cluster, from, to)?;
+            Ok(Expected::NoMessage { from, to })
+        }
         _ => Err(no_form(alloc, cluster, all)?),
     }
 }
@@ -305,7 +304,7 @@ fn no_lost(
     match parts {
         [] => Ok(Expected::NoLost { host: None }),
         [host] => Ok(Expected::NoLost {
-            host: Some(node_field(alloc, cluster, host)?),
+            host: Some(host_field(alloc, cluster, host)?),
         }),
         _ => Err(no_form(alloc, cluster, all)?),
     }

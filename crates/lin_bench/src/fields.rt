@@ -4,11 +4,15 @@ ghost use Rattle.std.specs.Prelude.{◌≡◌, ◌∷◌, ◌&&◌, codes, true,
 ghost use Rattle.std.specs.Str.{bytes_eq};
 ghost use Rattle.lin_log.specs.Said.{bytes_of, row};
 ghost use Rattle.lin_bench.specs.Fields.{bytes_fields, count_field, fields, node_field, number_field};
-ghost use Rattle.lin_bench.specs.Fields.{after_dots, frame_called, frame_field, frames_called, message_frame};
+ghost use Rattle.lin_bench.specs.Fields.{after_dots, frame_called, frame_field, frame_numbered};
+ghost use Rattle.lin_bench.specs.Fields.{frames_called, has_commander, message_frame, or_bad};
 ghost use Rattle.lin_log.specs.Language.{number_named};
 ghost use Rattle.lin_bench.specs.Fields.{range_ends, range_field, rows_and_time};
+ghost use Rattle.lin_bench.specs.Fields.{host_field, pair_fields, present_node, present_signal};
+ghost use Rattle.lin_bench.specs.Fields.{present_table, sends};
 ghost use Rattle.lin_bench.specs.Fields.{signal_field, table_field, value_field, words};
 ghost use Rattle.lin_bench.specs.Read.{Gives};
+ghost use Rattle.lin_bench.specs.declared.reason.Reason.{Reason};
 
 use crate::expected::Carried;
 use crate::fault::LineFault;
@@ -86,6 +90,95 @@ pub(crate) fn table_field(alloc: Global, cluster: &Cluster, field: &[u8]) -> Res
     Ok(lin_log::table_field(alloc, cluster, field)?)
 }
 
+/// A node that the cluster has, by its name or its number.
+pub(crate) fn present_node(alloc: Global, cluster: &Cluster, field: &[u8]) -> Result<u8, LineFault>
+    ensures { Gives (λ n. n) result (present_node cluster.now field.now) }
+{
+    let node = node_field(alloc, cluster, field)?;
+    if (node as usize) < cluster.nodes() {
+        return Ok(node);
+    }
+    Err(LineFault::Bad(Reason::Step(StepReason::NoNode(Text::copied(alloc, field)?))))
+}
+
+/// A signal that the cluster has, by its name or its number.
+pub(crate) fn present_signal(
+    alloc: Global,
+    cluster: &Cluster,
+    field: &[u8],
+) -> Result<u16, LineFault>
+    ensures { Gives (λ n. n) result (present_signal cluster.now field.now) }
+{
+    let signal = signal_field(alloc, cluster, field)?;
+    if (signal as usize) < cluster.signals() {
+        return Ok(signal);
+    }
+    Err(LineFault::Bad(Reason::Step(StepReason::NoSignal(Text::copied(alloc, field)?))))
+}
+
+/// A schedule table that the cluster has, by its name or its number.
+pub(crate) fn present_table(
+    alloc: Global,
+    cluster: &Cluster,
+    field: &[u8],
+) -> Result<u16, LineFault>
+    ensures { Gives (λ n. n) result (present_table cluster.now field.now) }
+{
+    let table = table_field(alloc, cluster, field)?;
+    if (table as usize) < cluster.tables() {
+        return Ok(table);
+    }
+    Err(LineFault::Bad(Reason::Step(StepReason::NoTable(Text::copied(alloc, field)?))))
+}
+
+/// Whether a node sends messages: the commander does, and a responder that has an address.
+fn sends(cluster: &Cluster, node: u8) -> bool
+    ensures { result ≡ sends cluster.now node }
+{
+    node == 0 || (node as usize) < cluster.nodes() && cluster.nad(node).is_some()
+}
+
+/// A node that sends messages, by its name or its number.
+pub(crate) fn host_field(alloc: Global, cluster: &Cluster, field: &[u8]) -> Result<u8, LineFault>
+    ensures { Gives (λ n. n) result (host_field cluster.now field.now) }
+{
+    let node = present_node(alloc, cluster, field)?;
+    if sends(cluster, node) {
+        return Ok(node);
+    }
+    Err(LineFault::Bad(Reason::NoResponder(Text::copied(alloc, field)?)))
+}
+
+/// Whether exactly one of two nodes is the commander.
+fn has_commander(sender: u8, receiver: u8) -> bool
+    ensures { result ≡ has_commander sender receiver }
+{
+    if sender == 0 {
+        return receiver != 0;
+    }
+    receiver == 0
+}
+
+/// The sender of messages and their receiver, by their names or numbers.
+pub(crate) fn pair_fields(
+    alloc: Global,
+    cluster: &Cluster,
+    from: &[u8],
+    to: &[u8],
+) -> Result<(u8, u8), LineFault>
+    ensures { Gives (λ pair. pair) result (pair_fields cluster.now from.now to.now) }
+{
+    let sender = host_field(alloc, cluster, from)?;
+    let receiver = host_field(alloc, cluster, to)?;
+    if has_commander(sender, receiver) {
+        return Ok((sender, receiver));
+    }
+    Err(LineFault::Bad(Reason::NoMessages {
+        from: Text::copied(alloc, from)?,
+        to: Text::copied(alloc, to)?,
+    }))
+}
+
 /// The unconditional frame with a name.
 fn frame_named(cluster: &Cluster, name: &[u8]) -> Option<u16>
     ensures { result ≡ number_named (frames_called cluster.now) name.now }
@@ -117,7 +210,28 @@ fn frame_called(cluster: &Cluster, name: &[u8]) -> Option<Carried>
     }
 }
 
-/// A frame, by its name or its number.
+/// The frame with a number.
+fn frame_numbered(cluster: &Cluster, number: u16) -> Option<Carried>
+    ensures { result ≡ frame_numbered cluster.now number }
+{
+    if (number as usize) < cluster.frames() {
+        Some(Carried::Signals(number))
+    } else {
+        None
+    }
+}
+
+/// A frame that was found for a field.
+fn found_frame(alloc: Global, field: &[u8], found: Option<Carried>) -> Result<Carried, LineFault>
+    ensures { Gives (λ f. f) result (or_bad found (Reason.NoFrame field.now)) }
+{
+    match found {
+        Some(frame) => Ok(frame),
+        None => Err(LineFault::Bad(Reason::NoFrame(Text::copied(alloc, field)?))),
+    }
+}
+
+/// A frame that the cluster has, by its name or its number.
 pub(crate) fn frame_field(
     alloc: Global,
     cluster: &Cluster,
@@ -126,12 +240,10 @@ pub(crate) fn frame_field(
     ensures { Gives (λ f. f) result (frame_field cluster.now field.now) }
 {
     if is_number(field) {
-        return Ok(Carried::Signals(number_field(alloc, field, 65_535)? as u16));
+        let number = number_field(alloc, field, 65_535)? as u16;
+        return found_frame(alloc, field, frame_numbered(cluster, number));
     }
-    match frame_called(cluster, field) {
-        Some(frame) => Ok(frame),
-        None => Err(LineFault::Bad(Reason::NoFrame(Text::copied(alloc, field)?))),
-    }
+    found_frame(alloc, field, frame_called(cluster, field))
 }
 
 /// The bytes that the fields of a line spell.

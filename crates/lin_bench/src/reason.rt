@@ -33,6 +33,11 @@ pub enum Reason {
     WhenForm,
     /// No responder with an address has this name or number.
     NoResponder(Text),
+    /// No message goes from the first of these nodes to the second: not exactly one is the commander.
+    NoMessages {
+        from: Text,
+        to: Text,
+    },
     /// These fields are no pattern.
     NoPattern(Many<Text>),
     /// `timeouts` takes a time and `ms`, or `off`.

@@ -147,6 +147,12 @@ fn reason_line(reason: &Reason) -> Line<'_>
             Word::Said(field.as_slice()),
             Word::Fixed("is no responder with an address"),
         ]),
+        Reason::NoMessages { from, to } => return Line::of(&[
+            Word::Fixed("no message goes from"),
+            Word::Said(from.as_slice()),
+            Word::Fixed("to"),
+            Word::Said(to.as_slice()),
+        ]),
         Reason::NoPattern(fields) => return Line::of(&[
             Word::Fields(fields.as_slice()),
             Word::Fixed("is no pattern"),

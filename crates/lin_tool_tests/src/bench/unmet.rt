@@ -11,8 +11,8 @@ type Rows<'a> = &'a [(&'a [u8], &'a [u8])];
 
 const ON_BUILT_IN: Rows<'static> = &[
     (
-        b"expect message cem door 3F\nsend cem door 3E\nsend 0 1 22 F1\nslots idle\nexpect message cem door 3F\nexpect message cem door 22F1\nexpect message 0 1 22F1\nexpect lost cem slept\nexpect sent cem\nexpect sent 0\nexpect sent 9\n",
-        b"script 1 expected message cem door 3F: none\nscript 5 expected message cem door 3F: 3E\nscript 7 expected message cem door 22F1: none\nscript 8 expected lost cem slept: message 1 sent\nscript 10 expected sent cem: none\nscript 11 expected sent 9: none\n",
+        b"expect message cem door 3F\nsend cem door 3E\nsend 0 1 22 F1\nslots idle\nexpect message cem door 3F\nexpect message cem door 22F1\nexpect message 0 1 22F1\nexpect lost cem slept\nexpect sent cem\nexpect sent 0\nexpect sent 1\n",
+        b"script 1 expected message cem door 3F: none\nscript 5 expected message cem door 3F: 3E\nscript 7 expected message cem door 22F1: none\nscript 8 expected lost cem slept: message 1 sent\nscript 10 expected sent cem: none\nscript 11 expected sent door: none\n",
     ),
     (
         b"send cem door 3E\nslot hurt -\nexpect sent cem\nexpect seen good\nsend cem door 3E\nslot\nslot hurt 00\nexpect lost cem timedout\nexpect lost cem damaged\n",
@@ -68,14 +68,14 @@ const ON_DOOR_ZONE: Rows<'static> = &[
         WINDOW_SHORT,
         b"script 30 expected asleep: awake\nscript 32 expected refused Asleep: done\n",
     ),
-    // Values and counts, and nodes and signals that aren't there.
+    // Values and counts.
     (
-        b"expect waiting Panel 1\nexpect waiting 9 0\nexpect signal DCU WinPos 0x11\nexpect signal DCU WinPos x11\nexpect signal 9 WinPos 1\nexpect signal DCU 99 1\nexpect signal DCU PanelId x31323334\nexpect signal DCU PanelId 49\n",
-        b"script 1 expected waiting Panel 1: 0\nscript 2 expected waiting 9 0: no such node\nscript 3 expected signal DCU WinPos 17: 0\nscript 4 expected signal DCU WinPos x11: 0\nscript 5 expected signal 9 WinPos 1: no such node or signal\nscript 6 expected signal DCU 99 1: no such node or signal\nscript 8 expected signal DCU PanelId 49: x31323334\n",
+        b"expect waiting Panel 1\nexpect waiting 2 0\nexpect signal DCU WinPos 0x11\nexpect signal DCU WinPos x11\nexpect signal DCU PanelId x31323334\nexpect signal DCU PanelId 49\n",
+        b"script 1 expected waiting Panel 1: 0\nscript 3 expected signal DCU WinPos 17: 0\nscript 4 expected signal DCU WinPos x11: 0\nscript 6 expected signal DCU PanelId 49: x31323334\n",
     ),
     (
-        b"expect signal DCU WinTemp 450..450\nexpect signal DCU WinTemp 0..449\nexpect signal DCU WinTemp 451..0xFFFF\nexpect signal DCU PanelId 0..65535\nexpect signal 9 WinTemp 0..1\n",
-        b"script 2 expected signal DCU WinTemp 0..449: 450\nscript 3 expected signal DCU WinTemp 451..65535: 450\nscript 4 expected signal DCU PanelId 0..65535: x31323334\nscript 5 expected signal 9 WinTemp 0..1: no such node or signal\n",
+        b"expect signal DCU WinTemp 450..450\nexpect signal DCU WinTemp 0..449\nexpect signal DCU WinTemp 451..0xFFFF\nexpect signal DCU PanelId 0..65535\n",
+        b"script 2 expected signal DCU WinTemp 0..449: 450\nscript 3 expected signal DCU WinTemp 451..65535: 450\nscript 4 expected signal DCU PanelId 0..65535: x31323334\n",
     ),
 ];
 
