@@ -11,5 +11,5 @@ and-none false b e = refl
 
 pub unwished : (before : List (List ℕ)) (mark : List ℕ) → is_write before ≡ false → is_expect before ≡ false → wish_of before mark ≡ None
 unwished before mark w e =
-    ap (λ b. cond b (Some (cond (bytes_eq mark (codes "~")) Nearest Write)) (cond (bytes_eq mark (codes "=") && is_expect before) (Some Expect) None)) w
-    ∙ ap (λ b. cond b (Some Expect) None) (and-none (bytes_eq mark (codes "=")) (is_expect before) e)
+    ap (λ b. cond b (cond (bytes_eq mark (codes "=")) (Some Expect) None) (cond (is_write before) (Some (cond (bytes_eq mark (codes "~")) Nearest Write)) None)) e
+    ∙ ap (λ b. cond b (Some (cond (bytes_eq mark (codes "~")) Nearest Write)) None) w

@@ -10,7 +10,6 @@ use Rattle.std.proofs.lemmas.List.Quantifiers.{position-Some}
 use Rattle.lin_bench.specs.Fields.{words}
 use Rattle.lin_bench.specs.Words.{from_end, is_mark, mark_at, wish_of, worded, worded_at, WordedLine}
 use Rattle.lin_bench.specs.declared.words.Wish.{Wish}
-use Rattle.lin_bench.proofs.Unwished.{unwished}
 
 pub field-at : (fs : List (Bor (List ℕ))) (d : Bor (List ℕ)) (i : ℕ) → i < length fs → slice_index_or (words fs) i [] ≡ (get_or fs i d).now
 field-at fs d i lt = get_or-map (λ f. f.now) fs i d [] lt
@@ -67,9 +66,7 @@ mark-within fs at e = (position-Some (λ f. is_mark f.now) fs at (record { ref_p
 
 -- no field stands before the mark
 pub first-marked : (fs : List (Bor (List ℕ))) (at : ℕ) → position (λ f. is_mark f.now) fs ≡ Some at → at ≡ 0 → worded (words fs) ≡ None
-first-marked fs at e z =
-    marked-at fs at e ∙ ap (worded_at (words fs)) z
-    ∙ ap (option_map _) (unwished [] (slice_index_or (words fs) 0 []) refl refl)
+first-marked fs at e z = marked-at fs at e ∙ ap (worded_at (words fs)) z
 
 take-fewer : {X : Type 0} (m n : ℕ) (xs : List X) → m ≤ n → take m (take n xs) ≡ take m xs
 take-fewer zero n xs le = refl

@@ -154,9 +154,16 @@ abbrev pub range_of : List ℕ → Value → Value → Result (ℕ × ℕ) Reaso
 range_of f (Scalar low) (Scalar high) = if nat_lt high low then Err (NoRange f) else Ok (low, high)
 range_of f low high = Err (NoRange f)
 
--- the ends of a range that a field has
-unfoldable pub range_field : Parts → List ℕ → List ℕ → List ℕ → Result (ℕ × ℕ) Reason
-range_field c f low high = do
+-- whether an end of a range is missing
+abbrev pub lacks_end : List ℕ → List ℕ → Bool
+lacks_end low high = length low == 0 || length high == 0
+
+abbrev pub range_between : Parts → List ℕ → List ℕ → List ℕ → Result (ℕ × ℕ) Reason
+range_between c f low high = do
   from ← value_field c low
   to ← value_field c high
   range_of f from to
+
+-- the ends of a range that a field has
+unfoldable pub range_field : Parts → List ℕ → List ℕ → List ℕ → Result (ℕ × ℕ) Reason
+range_field c f low high = if lacks_end low high then Err (NoRange f) else range_between c f low high

@@ -22,6 +22,7 @@ use Rattle.lin_bench.specs.declared.reason.Reason.{Reason}
 use Rattle.lin_bench.specs.declared.reason.Reason.TheVariants.{Step as BadStep, WhenForm, NoResponder}
 use Rattle.lin_bench.specs.declared.reason.Reason.TheVariants.{NoPattern, TimeoutsForm, EveryForm}
 use Rattle.lin_bench.specs.declared.reason.Reason.TheVariants.{EveryStep, ErrorsForm, NoErrorSignal}
+use Rattle.lin_bench.specs.declared.reason.Reason.TheVariants.{LongAnswer}
 use Rattle.lin_bench.specs.declared.rules.Answer.{Answer}
 use Rattle.lin_bench.specs.declared.rules.Part.{Part}
 use Rattle.lin_bench.specs.declared.rules.Part.TheVariants.{Byte, Copied}
@@ -117,9 +118,14 @@ abbrev pub wait_field : Option (List ℕ) → Result ℕ Reason
 wait_field None = Ok 0
 wait_field (Some n) = number_field 1000000 n
 
+-- a message has at most 4,095 bytes (ISO 17987-2)
+abbrev pub answer_parts : List (List ℕ) → Result (List Part) Reason
+answer_parts fs =
+    parts_fields fs >>= (λ parts. if nat_le (length parts) 4095 then Ok parts else Err LongAnswer)
+
 abbrev pub answer_form : List (List ℕ) → Result Answer Reason
 answer_form fs = do
-  parts ← parts_fields (rows_and_wait fs).0
+  parts ← answer_parts (rows_and_wait fs).0
   wait ← wait_field (rows_and_wait fs).1
   Ok (record { parts = parts; wait_ms = wait })
 

@@ -82,6 +82,7 @@ reason_words (reason.NoResponder field) =
 reason_words (reason.NoMessages from to) =
     Fixed (codes "no message goes from") ∷ Said from ∷ Fixed (codes "to") ∷ Said to ∷ []
 reason_words (reason.NoPattern fields) = Fields fields ∷ Fixed (codes "is no pattern") ∷ []
+reason_words reason.LongAnswer = Fixed (codes "answer has more than 4095 bytes") ∷ []
 reason_words reason.TimeoutsForm = Fixed (codes "timeouts takes a time and ms, or off") ∷ []
 reason_words reason.EveryForm = Fixed (codes "every takes a time and a step, or off") ∷ []
 reason_words reason.EveryStep = Fixed (codes "every takes a send or a write") ∷ []

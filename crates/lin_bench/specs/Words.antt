@@ -57,8 +57,8 @@ is_expect before =
 -- what is asked for by the fields before a signal and the mark behind it
 abbrev pub wish_of : List (List ℕ) → List ℕ → Option Wish
 wish_of before mark =
-    if is_write before then Some (if bytes_eq mark (codes "~") then Nearest else Write)
-    else if bytes_eq mark (codes "=") && is_expect before then Some Expect
+    if is_expect before then (if bytes_eq mark (codes "=") then Some Expect else None)
+    else if is_write before then Some (if bytes_eq mark (codes "~") then Nearest else Write)
     else None
 
 -- a line with words: what it asks for, its fields before the signal, the signal's, and the words
@@ -180,28 +180,30 @@ meant_line text values other = other
 abbrev pub in_numbers : List (List ℕ) → List ℕ → Value → List ℕ
 in_numbers before signal v = fields_text (before ++ signal ∷ value_word v ∷ [])
 
-abbrev pub expecting : Parts → WordedLine → List ℕ → List Value → Result (Option Line) Reason
-expecting c w text values =
-    read_line c (in_numbers w.before w.signal (Scalar 0)) >>= (λ said. Ok (meant_line text values said))
-
--- a line that asks for this of a signal, in words of which this is the first
-abbrev pub worded_by : Parts → CodedData → WordedLine → List ℕ → ℕ → Wish → Result (Option Line) Reason
-worded_by c k w word s Write = do
+-- a line that asks for this of a signal, in words of which this is the first; with the value 0 it
+-- says this
+abbrev pub worded_by : Parts → CodedData → WordedLine → Option Line → List ℕ → ℕ → Wish
+    → Result (Option Line) Reason
+worded_by c k w zero word s Write = do
   v ← only_value k s w.signal (fields_text w.words) word (values_of k s (fields_text w.words))
   read_line c (in_numbers w.before w.signal v)
-worded_by c k w word s Nearest = do
+worded_by c k w zero word s Nearest = do
   v ← nearest_value k s w.signal (fields_text w.words) word
   read_line c (in_numbers w.before w.signal v)
-worded_by c k w word s Expect = do
-  values ← expected_values k s w.words
-  expecting c w (fields_text w.words) values
+worded_by c k w zero word s Expect =
+    expected_values k s w.words >>= (λ values. Ok (meant_line (fields_text w.words) values zero))
 
-abbrev pub with_words : Parts → CodedData → WordedLine → List (List ℕ) → Result (Option Line) Reason
-with_words c k w [] = Err NoWords
-with_words c k w (word ∷ ws) = signal_field c w.signal >>= (λ s. worded_by c k w word s w.wish)
+abbrev pub with_words : Parts → CodedData → WordedLine → Option Line → List (List ℕ)
+    → Result (Option Line) Reason
+with_words c k w zero [] = Err NoWords
+with_words c k w zero (word ∷ ws) =
+    signal_field c w.signal >>= (λ s. worded_by c k w zero word s w.wish)
 
+-- all fields before the words are judged as those of a line with a raw value are, and then the words
 unfoldable pub worded_line : Parts → CodedData → WordedLine → Result (Option Line) Reason
-worded_line c k w = with_words c k w w.words
+worded_line c k w = do
+  zero ← read_line c (in_numbers w.before w.signal (Scalar 0))
+  with_words c k w zero w.words
 
 abbrev pub worded_or_plain : Parts → CodedData → List ℕ → Option WordedLine → Result (Option Line) Reason
 worded_or_plain c k l None = read_line c l

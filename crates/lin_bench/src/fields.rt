@@ -5,9 +5,9 @@ ghost use Rattle.std.specs.Str.{bytes_eq};
 ghost use Rattle.lin_log.specs.Said.{bytes_of, row};
 ghost use Rattle.lin_bench.specs.Fields.{bytes_fields, count_field, fields, node_field, number_field};
 ghost use Rattle.lin_bench.specs.Fields.{after_dots, frame_called, frame_field, frame_numbered};
-ghost use Rattle.lin_bench.specs.Fields.{frames_called, has_commander, message_frame, or_bad};
+ghost use Rattle.lin_bench.specs.Fields.{frames_called, has_commander, lacks_end, message_frame};
 ghost use Rattle.lin_log.specs.Language.{number_named};
-ghost use Rattle.lin_bench.specs.Fields.{range_ends, range_field, rows_and_time};
+ghost use Rattle.lin_bench.specs.Fields.{or_bad, range_ends, range_field, rows_and_time};
 ghost use Rattle.lin_bench.specs.Fields.{host_field, pair_fields, present_node, present_signal};
 ghost use Rattle.lin_bench.specs.Fields.{present_table, sends};
 ghost use Rattle.lin_bench.specs.Fields.{signal_field, table_field, value_field, words};
@@ -357,6 +357,13 @@ pub(crate) fn range_ends(field: &[u8]) -> Option<(&[u8], &[u8])>
     None
 }
 
+/// Whether an end of a range is missing.
+fn lacks_end(low: &[u8], high: &[u8]) -> bool
+    ensures { result ≡ lacks_end low.now high.now }
+{
+    low.is_empty() || high.is_empty()
+}
+
 /// A scalar from one end of a range, which stands in this field, to the other.
 #[tactic(auto, unfolding(crate::specs::Fields::range_field))]
 pub(crate) fn range_field(
@@ -368,6 +375,9 @@ pub(crate) fn range_field(
 ) -> Result<(u16, u16), LineFault>
     ensures { Gives (λ r. r) result (range_field cluster.now field.now low.now high.now) }
 {
+    if lacks_end(low, high) {
+        return Err(LineFault::Bad(Reason::NoRange(Text::copied(alloc, field)?)));
+    }
     let low = value_field(alloc, cluster, low)?;
     let high = value_field(alloc, cluster, high)?;
     match (low, high) {

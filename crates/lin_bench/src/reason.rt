@@ -40,6 +40,8 @@ pub enum Reason {
     },
     /// These fields are no pattern.
     NoPattern(Many<Text>),
+    /// An answer of `when` has more bytes than a message may have.
+    LongAnswer,
     /// `timeouts` takes a time and `ms`, or `off`.
     TimeoutsForm,
     /// `every` takes a time and a step, or `off`.

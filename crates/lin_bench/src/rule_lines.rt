@@ -6,7 +6,7 @@ ghost use Rattle.std.specs.Str.{bytes_eq};
 ghost use Rattle.hex.specs.Hex.{hex_digit_value};
 ghost use Rattle.lin_bench.specs.Fields.{fields, words};
 ghost use Rattle.lin_bench.specs.Read.{Gives};
-ghost use Rattle.lin_bench.specs.RuleLines.{AddsRow, answer_form, answers_form, answers_of, copied};
+ghost use Rattle.lin_bench.specs.RuleLines.{AddsRow, answer_form, answer_parts, answers_form, answers_of, copied};
 ghost use Rattle.lin_bench.specs.RuleLines.{errors_form, every_fields, every_form, has_star, hex_byte, hex_part};
 ghost use Rattle.lin_bench.specs.RuleLines.{joined, last_field, parts_field, parts_fields, pattern_byte};
 ghost use Rattle.lin_bench.specs.RuleLines.{pattern_fields, pattern_of, repeated_step, responder_field};
@@ -26,6 +26,9 @@ use std::alloc::{AllocError, Global};
 
 /// The most that a wait may be, in milliseconds.
 const LONGEST_WAIT: u32 = 1_000_000;
+
+/// How many bytes a message has at most.
+const LONGEST_MESSAGE: usize = 4_095;
 
 /// The last byte of a message that may be copied into an answer.
 const LAST_BYTE: u32 = 4_094;
@@ -218,12 +221,23 @@ fn wait(alloc: Global, number: Option<&[u8]>) -> Result<u32, LineFault>
     }
 }
 
+/// The bytes of an answer, at most as many as a message has.
+fn answer_parts(alloc: Global, all: &[&[u8]]) -> Result<Many<Part>, LineFault>
+    ensures { Gives (λ p. p) result (answer_parts (words all.now)) }
+{
+    let parts = parts(alloc, all)?;
+    if parts.as_slice().len() > LONGEST_MESSAGE {
+        return Err(LineFault::Bad(Reason::LongAnswer));
+    }
+    Ok(parts)
+}
+
 /// An answer: its rows, and its wait.
 fn answer(alloc: Global, all: &[&[u8]]) -> Result<Answer, LineFault>
     ensures { Gives (λ a. a) result (answer_form (words all.now)) }
 {
     let (rows, number) = rows_and_time(b"after".as_slice(), all);
-    let parts = parts(alloc, rows)?;
+    let parts = answer_parts(alloc, rows)?;
     let wait_ms = wait(alloc, number)?;
     Ok(Answer { parts, wait_ms })
 }

@@ -157,6 +157,7 @@ fn reason_line(reason: &Reason) -> Line<'_>
             Word::Fields(fields.as_slice()),
             Word::Fixed("is no pattern"),
         ]),
+        Reason::LongAnswer => return Line::of(&[Word::Fixed("answer has more than 4095 bytes")]),
         Reason::TimeoutsForm => return Line::of(&[Word::Fixed(
             "timeouts takes a time and ms, or off",
         )]),

@@ -7,8 +7,9 @@ ghost use Rattle.lin_bench.specs.Fields.{fields, words};
 ghost use Rattle.lin_bench.specs.Lines.{read_line};
 ghost use Rattle.lin_bench.specs.Parts.{parts_of};
 ghost use Rattle.lin_bench.specs.Read.{Gives};
-ghost use Rattle.lin_bench.specs.Words.{expecting, from_end, in_numbers, is_expect, is_mark, is_write};
-ghost use Rattle.lin_bench.specs.Words.{meant_by, read_worded_line, wish_of, worded, worded_line};
+ghost use Rattle.lin_bench.specs.Words.{from_end, in_numbers, is_expect, is_mark, is_write, meant_by};
+ghost use Rattle.lin_bench.specs.Words.{meant_line, read_worded_line, wish_of, with_words, worded};
+ghost use Rattle.lin_bench.specs.Words.{worded_line};
 
 use crate::expected::Expected;
 use crate::fault::LineFault;
@@ -72,15 +73,19 @@ fn is_expect(before: &[&[u8]]) -> bool
 fn wish_of(before: &[&[u8]], mark: &[u8]) -> Option<Wish>
     ensures { result ≡ wish_of (words before.now) mark.now }
 {
+    if is_expect(before) {
+        return if mark == b"=".as_slice() {
+            Some(Wish::Expect)
+        } else {
+            None
+        };
+    }
     if is_write(before) {
         return Some(if mark == b"~".as_slice() {
             Wish::Nearest
         } else {
             Wish::Write
         });
-    }
-    if mark == b"=".as_slice() && is_expect(before) {
-        return Some(Wish::Expect);
     }
     None
 }
@@ -158,28 +163,21 @@ fn meant_by(expected: Expected, text: Text, values: MeantValues) -> Expected
     }
 }
 
-/// What a line says that expects a value in words.
-fn expecting(
-    alloc: Global,
-    cluster: &Cluster,
-    line: &Worded<'_>,
-    text: Text,
-    values: MeantValues,
-) -> Result<Option<Line>, LineFault>
-    ensures { Gives (λ l. l) result (expecting cluster.now (parts_of line.now) text values) }
+/// A line that expects a value, with the values that words say in the place of this one.
+fn meant_line(said: Option<Line>, text: Text, values: MeantValues) -> Option<Line>
+    ensures { result ≡ meant_line text values said }
 {
-    let numbers = in_numbers(alloc, line, &Value::Scalar(0))?;
-    match read_line(alloc, cluster, numbers.as_slice())? {
-        Some(Line::Expect(expected)) => Ok(Some(Line::Expect(meant_by(expected, text, values)))),
+    match said {
+        Some(Line::Expect(expected)) => Some(Line::Expect(meant_by(expected, text, values))),
         Some(Line::Until(extent, expected)) => {
-            Ok(Some(Line::Until(extent, meant_by(expected, text, values))))
+            Some(Line::Until(extent, meant_by(expected, text, values)))
         }
-        other => Ok(other),
+        other => other,
     }
 }
 
-/// What a line says that writes the value which words say.
-fn writing(
+/// What a line says with a raw value in the place of its words.
+fn with_value(
     alloc: Global,
     cluster: &Cluster,
     line: &Worded<'_>,
@@ -192,15 +190,16 @@ fn writing(
     read_line(alloc, cluster, numbers.as_slice())
 }
 
-/// What a line with words says.
-#[tactic(auto, unfolding(crate::specs::Words::worded_line))]
-fn read_worded(
+/// What a line with words says, by what it says with the value 0.
+fn with_words(
     alloc: Global,
     cluster: &Cluster,
     coded: &Coded,
     line: &Worded<'_>,
+    zero: Option<Line>,
 ) -> Result<Option<Line>, LineFault>
-    ensures { Gives (λ l. l) result (worded_line cluster.now coded.now (parts_of line.now)) }
+    ensures { Gives (λ l. l) result (with_words cluster.now coded.now (parts_of line.now) zero
+        (parts_of line.now).words) }
 {
     let [first, ..] = line.words else {
         return Err(LineFault::Bad(Reason::NoWords));
@@ -214,19 +213,27 @@ fn read_worded(
         first: *first,
     };
     match line.wish {
-        Wish::Write => writing(alloc, cluster, line, &only_value(alloc, coded, said)?),
-        Wish::Nearest => writing(alloc, cluster, line, &nearest_value(alloc, coded, said)?),
+        Wish::Write => with_value(alloc, cluster, line, &only_value(alloc, coded, said)?),
+        Wish::Nearest => with_value(alloc, cluster, line, &nearest_value(alloc, coded, said)?),
         Wish::Expect => {
             let values = expected_values(alloc, coded, said, line.words)?;
-            expecting(
-                alloc,
-                cluster,
-                line,
-                Text::copied(alloc, said.text)?,
-                values,
-            )
+            Ok(meant_line(zero, Text::copied(alloc, said.text)?, values))
         }
     }
+}
+
+/// What a line with words says. All other fields are judged before the words.
+#[tactic(auto, unfolding(crate::specs::Words::worded_line))]
+fn read_worded(
+    alloc: Global,
+    cluster: &Cluster,
+    coded: &Coded,
+    line: &Worded<'_>,
+) -> Result<Option<Line>, LineFault>
+    ensures { Gives (λ l. l) result (worded_line cluster.now coded.now (parts_of line.now)) }
+{
+    let zero = with_value(alloc, cluster, line, &Value::Scalar(0))?;
+    with_words(alloc, cluster, coded, line, zero)
 }
 
 /// What a line of a bench script, without its end, says, as `read_line`; values of signals may stand
