@@ -1,12 +1,12 @@
 -- What the lines of rules say.
-use Rattle.std.specs.Prelude.{◌≡◌, ℕ, ◌==◌, ◌+◌, ◌-◌, ◌*◌, ◌&&◌, ◌||◌, nat_le, if◌then◌else◌, true, false, Bool}
-use Rattle.std.specs.Prelude.{List, [], ◌∷◌, ◌++◌, drop, length, reverse, slice_index, take}
+use Rattle.std.specs.Prelude.{◌≡◌, ℕ, ◌==◌, ◌+◌, ◌-◌, ◌*◌, ◌&&◌, ◌||◌, nat_le, nat_lt, if◌then◌else◌, true, false, Bool}
+use Rattle.std.specs.Prelude.{List, [], ◌∷◌, ◌++◌, drop, find, length, reverse, slice_index, take}
 use Rattle.std.specs.Prelude.{Option, Some, None, is_some, option_map, Result, Ok, Err, codes}
 use Rattle.std.specs.List.{slice_split}
 use Rattle.std.specs.Option.{option_map_or}
 use Rattle.std.specs.Str.{bytes_eq}
 use Rattle.hex.specs.Hex.{hex_digit_value}
-use Rattle.lin_parts.specs.Cluster.{nad}
+use Rattle.lin_parts.specs.Cluster.{nad, signal_of}
 use Rattle.lin_parts.specs.declared.parts.ErrorSignal.{ErrorSignal}
 use Rattle.lin_parts.specs.declared.parts.Parts.{Parts}
 use Rattle.lin_core.specs.declared.port.PortId.{PortId}
@@ -22,7 +22,7 @@ use Rattle.lin_bench.specs.declared.reason.Reason.{Reason}
 use Rattle.lin_bench.specs.declared.reason.Reason.TheVariants.{Step as BadStep, WhenForm, NoResponder}
 use Rattle.lin_bench.specs.declared.reason.Reason.TheVariants.{NoPattern, TimeoutsForm, EveryForm}
 use Rattle.lin_bench.specs.declared.reason.Reason.TheVariants.{EveryStep, ErrorsForm, NoErrorSignal}
-use Rattle.lin_bench.specs.declared.reason.Reason.TheVariants.{LongAnswer}
+use Rattle.lin_bench.specs.declared.reason.Reason.TheVariants.{LongAnswer, WideErrorSignal}
 use Rattle.lin_bench.specs.declared.rules.Answer.{Answer}
 use Rattle.lin_bench.specs.declared.rules.Part.{Part}
 use Rattle.lin_bench.specs.declared.rules.Part.TheVariants.{Byte, Copied}
@@ -222,13 +222,22 @@ unfoldable pub every_form : Parts → List (List ℕ) → Result Rule Reason
 every_form c fs = if is_only (codes "off") fs then Ok rule.EveryOff else every_fields c fs
 
 -- ---- `response_errors`
--- on, where a responder has a signal by which it tells errors
-abbrev pub errors_on : List ErrorSignal → Result Rule Reason
-errors_on [] = Err NoErrorSignal
-errors_on signals = Ok (rule.Errors true)
+-- a signal of more than one bit is a status of its own, such as that of SAE J2602: which of its
+-- values tells an error isn't known
+abbrev pub is_wide : Parts → ErrorSignal → Bool
+is_wide c e = nat_lt 1 (signal_of c e.signal).size
+
+abbrev pub why_wide : Parts → ErrorSignal → Result Rule Reason
+why_wide c e = Err (WideErrorSignal (signal_of c e.signal).name (signal_of c e.signal).size)
+
+-- on, where a responder has a signal by which it tells errors, and each has one bit (LIN 2.2A, 2.7.3)
+abbrev pub errors_on : Parts → List ErrorSignal → Result Rule Reason
+errors_on c [] = Err NoErrorSignal
+errors_on c (e ∷ es) =
+    option_map_or (why_wide c) (find (is_wide c) (e ∷ es)) (Ok (rule.Errors true))
 
 unfoldable pub errors_form : Parts → List (List ℕ) → Result Rule Reason
 errors_form c fs =
-    if is_only (codes "on") fs then errors_on c.errors
+    if is_only (codes "on") fs then errors_on c c.errors
     else if is_only (codes "off") fs then Ok (rule.Errors false)
     else Err ErrorsForm

@@ -88,6 +88,9 @@ reason_words reason.EveryForm = Fixed (codes "every takes a time and a step, or 
 reason_words reason.EveryStep = Fixed (codes "every takes a send or a write") ∷ []
 reason_words reason.ErrorsForm = Fixed (codes "response_errors takes on or off") ∷ []
 reason_words reason.NoErrorSignal = Fixed (codes "no response_error signal") ∷ []
+reason_words (reason.WideErrorSignal signal bits) =
+    Fixed (codes "response_error signal") ∷ Said signal ∷ Fixed (codes "has") ∷ Number bits
+    ∷ Fixed (codes "bits") ∷ []
 reason_words (reason.NoDecimal field) = Said field ∷ Fixed (codes "is no number") ∷ []
 reason_words reason.NoWords = Fixed (codes "no value") ∷ []
 reason_words (reason.NoValue text signal near) = no_value_words text signal near

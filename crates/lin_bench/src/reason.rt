@@ -52,6 +52,11 @@ pub enum Reason {
     ErrorsForm,
     /// No responder has a signal by which it tells errors in responses.
     NoErrorSignal,
+    /// The signal by which a responder tells errors in responses has more than one bit.
+    WideErrorSignal {
+        signal: Text,
+        bits: u8,
+    },
     /// A field is no decimal below 1,000,000,000 with at most 24 places.
     NoDecimal(Text),
     /// No value behind `=` or `~`.

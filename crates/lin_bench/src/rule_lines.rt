@@ -1,13 +1,13 @@
 //! The forms of lines of rules.
 
-ghost use Rattle.std.specs.Prelude.{◌≡◌, ◌<◌, ◌&&◌, ◌∷◌, [], ◌++◌, codes, length, option_map, position};
+ghost use Rattle.std.specs.Prelude.{◌≡◌, ◌<◌, ◌&&◌, ◌∷◌, [], ◌++◌, codes, find, length, option_map, position};
 ghost use Rattle.std.specs.Prelude.{IfOk, IfSome};
 ghost use Rattle.std.specs.Str.{bytes_eq};
 ghost use Rattle.hex.specs.Hex.{hex_digit_value};
 ghost use Rattle.lin_bench.specs.Fields.{fields, words};
 ghost use Rattle.lin_bench.specs.Read.{Gives};
 ghost use Rattle.lin_bench.specs.RuleLines.{AddsRow, answer_form, answer_parts, answers_form, answers_of, copied};
-ghost use Rattle.lin_bench.specs.RuleLines.{errors_form, every_fields, every_form, has_star, hex_byte, hex_part};
+ghost use Rattle.lin_bench.specs.RuleLines.{errors_form, errors_on, is_wide, every_fields, every_form, has_star, hex_byte, hex_part};
 ghost use Rattle.lin_bench.specs.RuleLines.{joined, last_field, parts_field, parts_fields, pattern_byte};
 ghost use Rattle.lin_bench.specs.RuleLines.{pattern_fields, pattern_of, repeated_step, responder_field};
 ghost use Rattle.lin_bench.specs.RuleLines.{row, sends_or_writes, timeouts_form};
@@ -428,6 +428,36 @@ pub(crate) fn every(alloc: Global, cluster: &Cluster, line: &[u8]) -> Result<Rul
     }
 }
 
+/// The first signal by which a responder tells errors in responses that has more than one bit.
+fn wide_signal(cluster: &Cluster) -> Option<u16>
+    ensures wide { result ≡ option_map (λ e. e.signal) (find (is_wide cluster.now) cluster.now.errors) }
+    ensures range { IfSome result (λ s. s < length cluster.now.signals) }
+{
+    cluster.sound();
+    for error in cluster.error_signals() {
+        if cluster.signal_size(error.signal) > 1 {
+            return Some(error.signal);
+        }
+    }
+    None
+}
+
+/// That responders tell errors in responses, where each that does has a signal of one bit for them.
+fn errors_on(alloc: Global, cluster: &Cluster) -> Result<Rule, LineFault>
+    ensures { Gives (λ r. r) result (errors_on cluster.now cluster.now.errors) }
+{
+    if cluster.error_signals().is_empty() {
+        return Err(LineFault::Bad(Reason::NoErrorSignal));
+    }
+    match wide_signal(cluster) {
+        None => Ok(Rule::Errors(true)),
+        Some(signal) => Err(LineFault::Bad(Reason::WideErrorSignal {
+            signal: Text::copied(alloc, cluster.signal_name(signal))?,
+            bits: cluster.signal_size(signal),
+        })),
+    }
+}
+
 /// Whether responders tell errors in responses, by the fields after `response_errors`.
 #[tactic(auto, unfolding(crate::specs::RuleLines::errors_form))]
 pub(crate) fn response_errors(
@@ -439,10 +469,7 @@ pub(crate) fn response_errors(
 {
     let all = fields(alloc, cluster, line)?;
     match all.as_slice() {
-        [word] if *word == b"on".as_slice() => match cluster.error_signals() {
-            [] => Err(LineFault::Bad(Reason::NoErrorSignal)),
-            _ => Ok(Rule::Errors(true)),
-        },
+        [word] if *word == b"on".as_slice() => errors_on(alloc, cluster),
         [word] if *word == b"off".as_slice() => Ok(Rule::Errors(false)),
         _ => Err(LineFault::Bad(Reason::ErrorsForm)),
     }

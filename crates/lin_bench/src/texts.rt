@@ -167,6 +167,13 @@ fn reason_line(reason: &Reason) -> Line<'_>
         Reason::EveryStep => return Line::of(&[Word::Fixed("every takes a send or a write")]),
         Reason::ErrorsForm => return Line::of(&[Word::Fixed("response_errors takes on or off")]),
         Reason::NoErrorSignal => return Line::of(&[Word::Fixed("no response_error signal")]),
+        Reason::WideErrorSignal { signal, bits } => return Line::of(&[
+            Word::Fixed("response_error signal"),
+            Word::Said(signal.as_slice()),
+            Word::Fixed("has"),
+            Word::Number(u64::from(*bits)),
+            Word::Fixed("bits"),
+        ]),
         Reason::NoDecimal(field) => return Line::of(&[
             Word::Said(field.as_slice()),
             Word::Fixed("is no number"),
