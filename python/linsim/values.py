@@ -65,8 +65,8 @@ class Texts:
             written, *told = answer.log
             if "#" not in text or f"> value {signal} {text}" in told:
                 return value_of(written.split(" ")[4])
-            raise BadLine(f"{signal} == {text!r}", f"{text} is no value of {signal}", where())
-        if re.fullmatch(rf"\d+ values of {signal} are {re.escape(text)}", answer.text):
+            raise BadLine(f"{signal} == {text!r}", f"{signal} has no value {text}", where())
+        if re.fullmatch(rf"\d+ values of {signal} have the text {re.escape(text)}", answer.text):
             return None
         raise BadLine(f"{signal} == {text!r}", answer.text, where())
 

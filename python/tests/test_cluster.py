@@ -94,8 +94,8 @@ class Errors(unittest.TestCase):
             with self.assertRaisesRegex(linsim.Refused, "^write HeatLevel 99: refused 5 BadValue "
                                         + place.format(3, "slot 4, 50000 us")):
                 bus.line("write HeatLevel 99")
-            with self.assertRaisesRegex(linsim.BadLine, "^slots many: many is no number up to "
-                                        "1000000 " + place.format(3, "slot 4, 50000 us")):
+            with self.assertRaisesRegex(linsim.BadLine, "^slots many: expected a number from 0 to "
+                                        "1000000, not many " + place.format(3, "slot 4, 50000 us")):
                 bus.line("slots many")
             with self.assertRaisesRegex(linsim.LinsimError, "^Vent isn't due "
                                         + place.format(4, "slot 5, 60000 us")):

@@ -136,11 +136,11 @@ class Comparisons(unittest.TestCase):
     def test_texts_that_no_value_has(self):
         with door() as bus:
             for signal, text, reason in (
-                ("WinState", "stoped", "stoped is no value of WinState"),
-                ("WinPos", "50.3 %", r"50.3 % is no value of WinPos \(nearest: 50, 50.5\)"),
-                ("WinPos", "50 degC", "50 degC is no value of WinPos"),
-                ("WinErr", "on", "on is no value of WinErr"),
-                ("WinPos", "", "no value"),
+                ("WinState", "stoped", "WinState has no value stoped"),
+                ("WinPos", "50.3 %", r"WinPos has no value 50.3 % \(nearest: 50, 50.5\)"),
+                ("WinPos", "50 degC", "WinPos has no value 50 degC"),
+                ("WinErr", "on", "WinErr has no value on"),
+                ("WinPos", "", "missing value"),
             ):
                 bus.run(slots=1)
                 for compare in (lambda: bus["WinMot"][signal] == text,

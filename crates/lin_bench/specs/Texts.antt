@@ -30,72 +30,79 @@ use Rattle.lin_bench.specs.declared.got.Judgement.{Judgement}
 use Rattle.lin_bench.specs.Played.{is_unmet}
 
 abbrev pub fields_word : ℕ → List ℕ
-fields_word count = if count == 1 then codes "field" else codes "fields"
+fields_word count = if count == 1 then codes "argument" else codes "arguments"
 
 -- why a line of a step is bad
 abbrev pub step_reason_words : StepReason → List Word
-step_reason_words step.NoPort = Fixed (codes "no port") ∷ []
-step_reason_words step.NoStep = Fixed (codes "no step") ∷ []
-step_reason_words (step.UnknownStep word) = Fixed (codes "no step") ∷ Said word ∷ []
-step_reason_words (step.NoNode name) = Fixed (codes "no node") ∷ Said name ∷ []
-step_reason_words (step.NoSignal name) = Fixed (codes "no signal") ∷ Said name ∷ []
-step_reason_words (step.NoTable name) = Fixed (codes "no table") ∷ Said name ∷ []
+step_reason_words step.NoPort = Fixed (codes "missing port") ∷ []
+step_reason_words step.NoStep = Fixed (codes "missing step after the port") ∷ []
+step_reason_words (step.UnknownStep word) = Fixed (codes "unknown step") ∷ Said word ∷ []
+step_reason_words (step.NoNode name) = Fixed (codes "unknown node") ∷ Said name ∷ []
+step_reason_words (step.NoSignal name) = Fixed (codes "unknown signal") ∷ Said name ∷ []
+step_reason_words (step.NoTable name) = Fixed (codes "unknown table") ∷ Said name ∷ []
 step_reason_words (step.NoNumber field most) =
-    Said field ∷ Fixed (codes "is no number up to") ∷ Number most ∷ []
-step_reason_words step.NoBytes = Fixed (codes "no bytes") ∷ []
-step_reason_words (step.NotBytes fields) = Fields fields ∷ Fixed (codes "is no bytes") ∷ []
+    Fixed (codes "expected a number from 0 to") ∷ Number most ∷ Mark (codes ",")
+    ∷ Fixed (codes "not") ∷ Said field ∷ []
+step_reason_words step.NoBytes = Fixed (codes "expected hexadecimal bytes") ∷ []
+step_reason_words (step.NotBytes fields) =
+    Fixed (codes "expected hexadecimal bytes, not") ∷ Fields fields ∷ []
 step_reason_words (step.TooManyBytes field) =
     Said field ∷ Fixed (codes "has more than 8 bytes") ∷ []
 step_reason_words (step.Takes word fields) =
     Said word ∷ Fixed (codes "takes") ∷ Number fields ∷ Fixed (fields_word fields) ∷ []
-step_reason_words step.SendForm = Fixed (codes "send takes two nodes and bytes") ∷ []
-step_reason_words step.WriteForm = Fixed (codes "write takes a signal and a value") ∷ []
-step_reason_words step.TimeoutForm = Fixed (codes "timeout takes down or up") ∷ []
+step_reason_words step.SendForm = Fixed (codes "usage: send NODE NODE BYTES") ∷ []
+step_reason_words step.WriteForm = Fixed (codes "usage: write SIGNAL VALUE") ∷ []
+step_reason_words step.TimeoutForm =
+    Fixed (codes "usage: timeout NODE down or timeout NODE up") ∷ []
 
 -- no value means a text; decimals that are next to it, where there are such
 abbrev pub no_value_words : List ℕ → List ℕ → List (List ℕ) → List Word
-no_value_words text signal [] = Said text ∷ Fixed (codes "is no value of") ∷ Said signal ∷ []
+no_value_words text signal [] = Said signal ∷ Fixed (codes "has no value") ∷ Said text ∷ []
 no_value_words text signal (t ∷ ts) =
-    Said text ∷ Fixed (codes "is no value of") ∷ Said signal ∷ Fixed (codes "(nearest:")
+    Said signal ∷ Fixed (codes "has no value") ∷ Said text ∷ Fixed (codes "(nearest:")
     ∷ Listed (t ∷ ts) ∷ Mark (codes ")") ∷ []
 
 -- why a line is bad
 abbrev pub reason_words : Reason → List Word
 reason_words (reason.Step why) = step_reason_words why
-reason_words (reason.NoRefusal name) = Fixed (codes "no refusal") ∷ Said name ∷ []
-reason_words (reason.NoFrame name) = Fixed (codes "no frame") ∷ Said name ∷ []
-reason_words (reason.NoRange field) = Said field ∷ Fixed (codes "is no range") ∷ []
-reason_words reason.TooSmall = Fixed (codes "0 is too small") ∷ []
-reason_words reason.SlotsForm =
-    Fixed (codes "slots takes a number, a number and ms, or idle") ∷ []
+reason_words (reason.NoRefusal name) = Fixed (codes "unknown refusal") ∷ Said name ∷ []
+reason_words (reason.NoFrame name) = Fixed (codes "unknown frame") ∷ Said name ∷ []
+reason_words (reason.NoRange field) =
+    Fixed (codes "expected a range LOW..HIGH, not") ∷ Said field ∷ []
+reason_words reason.TooSmall = Fixed (codes "expected a number of at least 1, not 0") ∷ []
+reason_words reason.SlotsForm = Fixed (codes "usage: slots N, slots N ms or slots idle") ∷ []
 reason_words (reason.SlotForm word) =
-    Fixed (codes "slot takes hurt or leave, not") ∷ Said word ∷ []
-reason_words reason.LeaveForm = Fixed (codes "slot leave takes nodes") ∷ []
-reason_words reason.ExpectForm = Fixed (codes "expect takes what is expected") ∷ []
+    Fixed (codes "expected hurt or leave after slot, not") ∷ Said word ∷ []
+reason_words reason.LeaveForm = Fixed (codes "usage: slot leave NODE ..") ∷ []
+reason_words reason.ExpectForm = Fixed (codes "missing expectation after expect") ∷ []
 reason_words (reason.UnknownExpectation fields) =
-    Fixed (codes "expect has no form") ∷ Fields fields ∷ []
-reason_words reason.UntilForm = Fixed (codes "until takes what is expected") ∷ []
-reason_words (reason.UnknownUntil fields) = Fixed (codes "until has no form") ∷ Fields fields ∷ []
-reason_words reason.WhenForm = Fixed (codes "when takes a node, a pattern and answers") ∷ []
+    Fixed (codes "unknown expectation") ∷ Fields fields ∷ []
+reason_words reason.UntilForm = Fixed (codes "missing expectation after until") ∷ []
+reason_words (reason.UnknownUntil fields) =
+    Fixed (codes "until doesn't accept") ∷ Fields fields ∷ []
+reason_words reason.WhenForm =
+    Fixed (codes "usage: when NODE PATTERN answer BYTES or when NODE PATTERN silent") ∷ []
 reason_words (reason.NoResponder field) =
-    Said field ∷ Fixed (codes "is no responder with an address") ∷ []
+    Said field ∷ Fixed (codes "isn't a responder with a NAD") ∷ []
 reason_words (reason.NoMessages from to) =
     Fixed (codes "no message goes from") ∷ Said from ∷ Fixed (codes "to") ∷ Said to ∷ []
-reason_words (reason.NoPattern fields) = Fields fields ∷ Fixed (codes "is no pattern") ∷ []
+reason_words (reason.NoPattern fields) = Fields fields ∷ Fixed (codes "isn't a pattern") ∷ []
 reason_words reason.LongAnswer = Fixed (codes "answer has more than 4095 bytes") ∷ []
-reason_words reason.TimeoutsForm = Fixed (codes "timeouts takes a time and ms, or off") ∷ []
-reason_words reason.EveryForm = Fixed (codes "every takes a time and a step, or off") ∷ []
-reason_words reason.EveryStep = Fixed (codes "every takes a send or a write") ∷ []
-reason_words reason.ErrorsForm = Fixed (codes "response_errors takes on or off") ∷ []
-reason_words reason.NoErrorSignal = Fixed (codes "no response_error signal") ∷ []
+reason_words reason.TimeoutsForm = Fixed (codes "usage: timeouts N ms or timeouts off") ∷ []
+reason_words reason.EveryForm = Fixed (codes "usage: every N ms STEP or every off") ∷ []
+reason_words reason.EveryStep = Fixed (codes "every accepts only send and write") ∷ []
+reason_words reason.ErrorsForm =
+    Fixed (codes "usage: response_errors on or response_errors off") ∷ []
+reason_words reason.NoErrorSignal = Fixed (codes "no responder has a response_error signal") ∷ []
 reason_words (reason.WideErrorSignal signal bits) =
     Fixed (codes "response_error signal") ∷ Said signal ∷ Fixed (codes "has") ∷ Number bits
     ∷ Fixed (codes "bits") ∷ []
-reason_words (reason.NoDecimal field) = Said field ∷ Fixed (codes "is no number") ∷ []
-reason_words reason.NoWords = Fixed (codes "no value") ∷ []
+reason_words (reason.NoDecimal field) = Said field ∷ Fixed (codes "isn't a number") ∷ []
+reason_words reason.NoWords = Fixed (codes "missing value") ∷ []
 reason_words (reason.NoValue text signal near) = no_value_words text signal near
 reason_words (reason.SeveralValues count text signal) =
-    Number count ∷ Fixed (codes "values of") ∷ Said signal ∷ Fixed (codes "are") ∷ Said text ∷ []
+    Number count ∷ Fixed (codes "values of") ∷ Said signal ∷ Fixed (codes "have the text")
+    ∷ Said text ∷ []
 
 abbrev pub reason_text : Reason → List ℕ
 reason_text why = words_text plain nameless (reason_words why)

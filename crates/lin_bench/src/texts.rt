@@ -24,11 +24,11 @@ use lin_parts::Cluster;
 use lin_text::{Text, TextBuffer, TextWriter, WriteFailed};
 use std::io::Write;
 
-/// `field`, or `fields`.
+/// `argument`, or `arguments`.
 fn plural(fields: u8) -> &'static str
     ensures { result.now ≡ fields_word fields }
 {
-    if fields == 1 { "field" } else { "fields" }
+    if fields == 1 { "argument" } else { "arguments" }
 }
 
 /// Why a line of a step is bad.
@@ -36,30 +36,35 @@ fn step_line(reason: &StepReason) -> Line<'_>
     ensures { result ≡ step_reason_words reason.now }
 {
     match reason {
-        StepReason::NoPort => return Line::of(&[Word::Fixed("no port")]),
-        StepReason::NoStep => return Line::of(&[Word::Fixed("no step")]),
+        StepReason::NoPort => return Line::of(&[Word::Fixed("missing port")]),
+        StepReason::NoStep => return Line::of(&[Word::Fixed("missing step after the port")]),
         StepReason::UnknownStep(word) => {
-            return Line::of(&[Word::Fixed("no step"), Word::Said(word.as_slice())]);
+            return Line::of(&[Word::Fixed("unknown step"), Word::Said(word.as_slice())]);
         }
         StepReason::NoNode(name) => {
-            return Line::of(&[Word::Fixed("no node"), Word::Said(name.as_slice())]);
+            return Line::of(&[Word::Fixed("unknown node"), Word::Said(name.as_slice())]);
         }
         StepReason::NoSignal(name) => {
-            return Line::of(&[Word::Fixed("no signal"), Word::Said(name.as_slice())]);
+            return Line::of(&[Word::Fixed("unknown signal"), Word::Said(name.as_slice())]);
         }
         StepReason::NoTable(name) => {
-            return Line::of(&[Word::Fixed("no table"), Word::Said(name.as_slice())]);
+            return Line::of(&[Word::Fixed("unknown table"), Word::Said(name.as_slice())]);
         }
         StepReason::NoNumber { field, most } => {
             return Line::of(&[
-                Word::Said(field.as_slice()),
-                Word::Fixed("is no number up to"),
+                Word::Fixed("expected a number from 0 to"),
                 Word::Number(u64::from(*most)),
+                Word::Mark(","),
+                Word::Fixed("not"),
+                Word::Said(field.as_slice()),
             ]);
         }
-        StepReason::NoBytes => return Line::of(&[Word::Fixed("no bytes")]),
+        StepReason::NoBytes => return Line::of(&[Word::Fixed("expected hexadecimal bytes")]),
         StepReason::NotBytes(fields) => {
-            return Line::of(&[Word::Fields(fields.as_slice()), Word::Fixed("is no bytes")]);
+            return Line::of(&[
+                Word::Fixed("expected hexadecimal bytes, not"),
+                Word::Fields(fields.as_slice()),
+            ]);
         }
         StepReason::TooManyBytes(field) => {
             return Line::of(&[
@@ -75,11 +80,13 @@ fn step_line(reason: &StepReason) -> Line<'_>
                 Word::Fixed(plural(*fields)),
             ]);
         }
-        StepReason::SendForm => return Line::of(&[Word::Fixed("send takes two nodes and bytes")]),
+        StepReason::SendForm => return Line::of(&[Word::Fixed("usage: send NODE NODE BYTES")]),
         StepReason::WriteForm => {
-            return Line::of(&[Word::Fixed("write takes a signal and a value")]);
+            return Line::of(&[Word::Fixed("usage: write SIGNAL VALUE")]);
         }
-        StepReason::TimeoutForm => return Line::of(&[Word::Fixed("timeout takes down or up")]),
+        StepReason::TimeoutForm => return Line::of(&[Word::Fixed(
+            "usage: timeout NODE down or timeout NODE up",
+        )]),
     }
 }
 
@@ -88,15 +95,15 @@ fn no_value_line<'a>(text: &'a [u8], signal: &'a [u8], near: &'a [Text]) -> Line
     ensures { result ≡ no_value_words text.now signal.now near.now }
 {
     let (text, signal) = (Word::Said(text), Word::Said(signal));
-    let none = Word::Fixed("is no value of");
+    let none = Word::Fixed("has no value");
     if near.is_empty() {
-        return Line::of(&[text, none, signal]);
+        return Line::of(&[signal, none, text]);
     }
     let nearest = Word::Fixed("(nearest:");
     Line::of(&[
-        text,
-        none,
         signal,
+        none,
+        text,
         nearest,
         Word::Listed(near),
         Word::Mark(")"),
@@ -110,42 +117,44 @@ fn reason_line(reason: &Reason) -> Line<'_>
     match reason {
         Reason::Step(why) => return step_line(why),
         Reason::NoRefusal(name) => return Line::of(&[
-            Word::Fixed("no refusal"),
+            Word::Fixed("unknown refusal"),
             Word::Said(name.as_slice()),
         ]),
         Reason::NoFrame(name) => return Line::of(&[
-            Word::Fixed("no frame"),
+            Word::Fixed("unknown frame"),
             Word::Said(name.as_slice()),
         ]),
         Reason::NoRange(field) => return Line::of(&[
+            Word::Fixed("expected a range LOW..HIGH, not"),
             Word::Said(field.as_slice()),
-            Word::Fixed("is no range"),
         ]),
-        Reason::TooSmall => return Line::of(&[Word::Fixed("0 is too small")]),
+        Reason::TooSmall => return Line::of(&[Word::Fixed(
+            "expected a number of at least 1, not 0",
+        )]),
         Reason::SlotsForm => return Line::of(&[Word::Fixed(
-            "slots takes a number, a number and ms, or idle",
+            "usage: slots N, slots N ms or slots idle",
         )]),
         Reason::SlotForm(word) => return Line::of(&[
-            Word::Fixed("slot takes hurt or leave, not"),
+            Word::Fixed("expected hurt or leave after slot, not"),
             Word::Said(word.as_slice()),
         ]),
-        Reason::LeaveForm => return Line::of(&[Word::Fixed("slot leave takes nodes")]),
-        Reason::ExpectForm => return Line::of(&[Word::Fixed("expect takes what is expected")]),
+        Reason::LeaveForm => return Line::of(&[Word::Fixed("usage: slot leave NODE ..")]),
+        Reason::ExpectForm => return Line::of(&[Word::Fixed("missing expectation after expect")]),
         Reason::UnknownExpectation(fields) => return Line::of(&[
-            Word::Fixed("expect has no form"),
+            Word::Fixed("unknown expectation"),
             Word::Fields(fields.as_slice()),
         ]),
-        Reason::UntilForm => return Line::of(&[Word::Fixed("until takes what is expected")]),
+        Reason::UntilForm => return Line::of(&[Word::Fixed("missing expectation after until")]),
         Reason::UnknownUntil(fields) => return Line::of(&[
-            Word::Fixed("until has no form"),
+            Word::Fixed("until doesn't accept"),
             Word::Fields(fields.as_slice()),
         ]),
         Reason::WhenForm => return Line::of(&[Word::Fixed(
-            "when takes a node, a pattern and answers",
+            "usage: when NODE PATTERN answer BYTES or when NODE PATTERN silent",
         )]),
         Reason::NoResponder(field) => return Line::of(&[
             Word::Said(field.as_slice()),
-            Word::Fixed("is no responder with an address"),
+            Word::Fixed("isn't a responder with a NAD"),
         ]),
         Reason::NoMessages { from, to } => return Line::of(&[
             Word::Fixed("no message goes from"),
@@ -155,18 +164,20 @@ fn reason_line(reason: &Reason) -> Line<'_>
         ]),
         Reason::NoPattern(fields) => return Line::of(&[
             Word::Fields(fields.as_slice()),
-            Word::Fixed("is no pattern"),
+            Word::Fixed("isn't a pattern"),
         ]),
         Reason::LongAnswer => return Line::of(&[Word::Fixed("answer has more than 4095 bytes")]),
         Reason::TimeoutsForm => return Line::of(&[Word::Fixed(
-            "timeouts takes a time and ms, or off",
+            "usage: timeouts N ms or timeouts off",
         )]),
-        Reason::EveryForm => return Line::of(&[Word::Fixed(
-            "every takes a time and a step, or off",
+        Reason::EveryForm => return Line::of(&[Word::Fixed("usage: every N ms STEP or every off")]),
+        Reason::EveryStep => return Line::of(&[Word::Fixed("every accepts only send and write")]),
+        Reason::ErrorsForm => return Line::of(&[Word::Fixed(
+            "usage: response_errors on or response_errors off",
         )]),
-        Reason::EveryStep => return Line::of(&[Word::Fixed("every takes a send or a write")]),
-        Reason::ErrorsForm => return Line::of(&[Word::Fixed("response_errors takes on or off")]),
-        Reason::NoErrorSignal => return Line::of(&[Word::Fixed("no response_error signal")]),
+        Reason::NoErrorSignal => return Line::of(&[Word::Fixed(
+            "no responder has a response_error signal",
+        )]),
         Reason::WideErrorSignal { signal, bits } => return Line::of(&[
             Word::Fixed("response_error signal"),
             Word::Said(signal.as_slice()),
@@ -176,9 +187,9 @@ fn reason_line(reason: &Reason) -> Line<'_>
         ]),
         Reason::NoDecimal(field) => return Line::of(&[
             Word::Said(field.as_slice()),
-            Word::Fixed("is no number"),
+            Word::Fixed("isn't a number"),
         ]),
-        Reason::NoWords => return Line::of(&[Word::Fixed("no value")]),
+        Reason::NoWords => return Line::of(&[Word::Fixed("missing value")]),
         Reason::NoValue { text, signal, near } => {
             return no_value_line(text.as_slice(), signal.as_slice(), near.as_slice());
         }
@@ -191,7 +202,7 @@ fn reason_line(reason: &Reason) -> Line<'_>
                 Word::Number(*count),
                 Word::Fixed("values of"),
                 Word::Said(signal.as_slice()),
-                Word::Fixed("are"),
+                Word::Fixed("have the text"),
                 Word::Said(text.as_slice()),
             ]);
         }

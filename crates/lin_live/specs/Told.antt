@@ -52,11 +52,11 @@ ending words = codes "# " ++ (words ++ 10 ∷ [])
 
 abbrev pub reason_text : Reason → List ℕ
 reason_text (Script why) = script_text why
-reason_text AskForm = codes "? takes what is asked"
-reason_text (UnknownQuestion fields) = codes "? has no form " ++ seen_texts (codes " ") fields
+reason_text AskForm = codes "missing question after ?"
+reason_text (UnknownQuestion fields) = codes "unknown question " ++ seen_texts (codes " ") fields
 reason_text NoNode = codes "no such node"
 reason_text NoNodeOrSignal = codes "no such node or signal"
-reason_text TooLong = codes "line too long"
+reason_text TooLong = codes "the line has more than 16,777,216 bytes"
 
 abbrev pub steps_ending : Option Refusal → List ℕ
 steps_ending None = ending (codes "ok")

@@ -47,14 +47,14 @@ fn put_why<W: Write>(out: &mut TextWriter<'_, W>, reason: &Reason)
 {
     match reason {
         Reason::Script(reason) => put_reason(out, reason),
-        Reason::AskForm => out.put_text("? takes what is asked"),
+        Reason::AskForm => out.put_text("missing question after ?"),
         Reason::UnknownQuestion(fields) => {
-            out.put_text("? has no form ");
+            out.put_text("unknown question ");
             put_texts(out, " ", fields.as_slice());
         }
         Reason::NoNode => out.put_text("no such node"),
         Reason::NoNodeOrSignal => out.put_text("no such node or signal"),
-        Reason::TooLong => out.put_text("line too long"),
+        Reason::TooLong => out.put_text("the line has more than 16,777,216 bytes"),
     }
 }
 

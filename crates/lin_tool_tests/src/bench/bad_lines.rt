@@ -20,154 +20,175 @@ fn bad_line(alloc: Global, text: &[u8]) -> Result<Vec<u8>, Fail> {
     }
 }
 
-const SLOTS: &str = "script 1 bad line: slots takes a number, a number and ms, or idle\n";
+const SLOTS: &str = "script 1 bad line: usage: slots N, slots N ms or slots idle\n";
 
 /// Texts, and what is written of them: names that aren't there, words, and numbers and bytes. What
 /// stands before the first bad line is judged, and nothing after it.
 const BAD_LINES: &[(&str, &str)] = &[
     (
         "open\n\nsend DCU dor 3E\nbus",
-        "script 3 bad line: no node dor\n",
+        "script 3 bad line: unknown node dor\n",
     ),
     (
         "send dcu WinMot",
-        "script 1 bad line: send takes two nodes and bytes\n",
+        "script 1 bad line: usage: send NODE NODE BYTES\n",
     ),
-    ("h:door open", "script 1 bad line: no node door\n"),
+    ("h:door open", "script 1 bad line: unknown node door\n"),
     (
         "# x\r\n\nwrite winpos 1\n",
-        "script 3 bad line: no signal winpos\n",
+        "script 3 bad line: unknown signal winpos\n",
     ),
-    ("switch run", "script 1 bad line: no table run\n"),
+    ("switch run", "script 1 bad line: unknown table run\n"),
     (
         "expect refused asleep",
-        "script 1 bad line: no refusal asleep\n",
+        "script 1 bad line: unknown refusal asleep\n",
     ),
-    ("expect refused 0", "script 1 bad line: 0 is too small\n"),
-    ("# x\n  h0\n", "script 2 bad line: no step\n"),
-    ("bus slot", "script 1 bad line: no step slot\n"),
-    ("Open", "script 1 bad line: no step Open\n"),
-    ("open now", "script 1 bad line: open takes 0 fields\n"),
-    ("close 0 1", "script 1 bad line: close takes 1 field\n"),
-    ("timeout DCU", "script 1 bad line: timeout takes 2 fields\n"),
+    (
+        "expect refused 0",
+        "script 1 bad line: expected a number of at least 1, not 0\n",
+    ),
+    (
+        "# x\n  h0\n",
+        "script 2 bad line: missing step after the port\n",
+    ),
+    ("bus slot", "script 1 bad line: unknown step slot\n"),
+    ("Open", "script 1 bad line: unknown step Open\n"),
+    ("open now", "script 1 bad line: open takes 0 arguments\n"),
+    ("close 0 1", "script 1 bad line: close takes 1 argument\n"),
+    (
+        "timeout DCU",
+        "script 1 bad line: timeout takes 2 arguments\n",
+    ),
     (
         "timeout 0 left",
-        "script 1 bad line: timeout takes down or up\n",
+        "script 1 bad line: usage: timeout NODE down or timeout NODE up\n",
     ),
-    (
-        "write 1",
-        "script 1 bad line: write takes a signal and a value\n",
-    ),
+    ("write 1", "script 1 bad line: usage: write SIGNAL VALUE\n"),
     (
         "slot now",
-        "script 1 bad line: slot takes hurt or leave, not now\n",
+        "script 1 bad line: expected hurt or leave after slot, not now\n",
     ),
-    ("slot leave", "script 1 bad line: slot leave takes nodes\n"),
+    (
+        "slot leave",
+        "script 1 bad line: usage: slot leave NODE ..\n",
+    ),
     (
         "expect",
-        "script 1 bad line: expect takes what is expected\n",
+        "script 1 bad line: missing expectation after expect\n",
     ),
     (
         "expect sent # DCU",
-        "script 1 bad line: expect has no form sent\n",
+        "script 1 bad line: unknown expectation sent\n",
     ),
     (
         "expect\tseen  bad",
-        "script 1 bad line: expect has no form seen bad\n",
+        "script 1 bad line: unknown expectation seen bad\n",
     ),
-    ("expect no", "script 1 bad line: expect has no form no\n"),
+    ("expect no", "script 1 bad line: unknown expectation no\n"),
     (
         "expect no sent DCU",
-        "script 1 bad line: expect has no form no sent DCU\n",
+        "script 1 bad line: unknown expectation no sent DCU\n",
     ),
     (
         "expect no message DCU",
-        "script 1 bad line: expect has no form no message DCU\n",
+        "script 1 bad line: unknown expectation no message DCU\n",
     ),
     (
         "expect no message DCU dor",
-        "script 1 bad line: no node dor\n",
+        "script 1 bad line: unknown node dor\n",
     ),
     (
         "expect signal DCU WinPos 5..4",
-        "script 1 bad line: 5..4 is no range\n",
+        "script 1 bad line: expected a range LOW..HIGH, not 5..4\n",
     ),
     (
         "expect signal DCU WinPos 4..x05",
-        "script 1 bad line: 4..x05 is no range\n",
+        "script 1 bad line: expected a range LOW..HIGH, not 4..x05\n",
     ),
     (
         "expect signal DCU WinPos 4..0x10000",
-        "script 1 bad line: 0x10000 is no number up to 65535\n",
+        "script 1 bad line: expected a number from 0 to 65535, not 0x10000\n",
     ),
     (
         "expect signal DCU WinPos ..5",
-        "script 1 bad line:  is no number up to 65535\n",
+        "script 1 bad line: expected a range LOW..HIGH, not ..5\n",
     ),
-    ("forget all", "script 1 bad line: forget takes 0 fields\n"),
-    ("slots 0", "script 1 bad line: 0 is too small\n"),
+    (
+        "forget all",
+        "script 1 bad line: forget takes 0 arguments\n",
+    ),
+    (
+        "slots 0",
+        "script 1 bad line: expected a number of at least 1, not 0\n",
+    ),
     ("slots 2 s", SLOTS),
     ("slots", SLOTS),
     ("slots 2 ms 3", SLOTS),
     ("slots idle until asleep", SLOTS),
     (
         "slots 0 until asleep",
-        "script 1 bad line: 0 is too small\n",
+        "script 1 bad line: expected a number of at least 1, not 0\n",
     ),
     (
         "slots 2 until # asleep",
-        "script 1 bad line: until takes what is expected\n",
+        "script 1 bad line: missing expectation after until\n",
     ),
     (
         "slots 2 ms until done",
-        "script 1 bad line: until has no form done\n",
+        "script 1 bad line: until doesn't accept done\n",
     ),
     (
         "slots 2 until no message DCU WinMot",
-        "script 1 bad line: until has no form no message DCU WinMot\n",
+        "script 1 bad line: until doesn't accept no message DCU WinMot\n",
     ),
     (
         "slots 2 until seen bad",
-        "script 1 bad line: until has no form seen bad\n",
+        "script 1 bad line: until doesn't accept seen bad\n",
     ),
     (
         "slots 2 until message dcu WinMot 3E",
-        "script 1 bad line: no node dcu\n",
+        "script 1 bad line: unknown node dcu\n",
     ),
     (
         "slots 1000001 ms",
-        "script 1 bad line: 1000001 is no number up to 1000000\n",
+        "script 1 bad line: expected a number from 0 to 1000000, not 1000001\n",
     ),
     (
         "write WinPos 0x12345",
-        "script 1 bad line: 0x12345 is no number up to 65535\n",
+        "script 1 bad line: expected a number from 0 to 65535, not 0x12345\n",
     ),
     (
         "answer 256",
-        "script 1 bad line: 256 is no number up to 255\n",
+        "script 1 bad line: expected a number from 0 to 255, not 256\n",
     ),
     (
         "expect waiting DCU 1025",
-        "script 1 bad line: 1025 is no number up to 1024\n",
+        "script 1 bad line: expected a number from 0 to 1024, not 1025\n",
     ),
     (
         "expect slot Run 1024",
-        "script 1 bad line: 1024 is no number up to 1023\n",
+        "script 1 bad line: expected a number from 0 to 1023, not 1024\n",
     ),
     (
         "expect refused 19",
-        "script 1 bad line: 19 is no number up to 18\n",
+        "script 1 bad line: expected a number from 0 to 18, not 19\n",
     ),
-    ("hurt", "script 1 bad line: no bytes\n"),
-    ("send 0 1 22 F", "script 1 bad line: 22 F is no bytes\n"),
-    ("send 0 1 22 -", "script 1 bad line: 22 - is no bytes\n"),
+    ("hurt", "script 1 bad line: expected hexadecimal bytes\n"),
+    (
+        "send 0 1 22 F",
+        "script 1 bad line: expected hexadecimal bytes, not 22 F\n",
+    ),
+    (
+        "send 0 1 22 -",
+        "script 1 bad line: expected hexadecimal bytes, not 22 -\n",
+    ),
     (
         "write PanelId x112233445566778899",
         "script 1 bad line: x112233445566778899 has more than 8 bytes\n",
     ),
     (
         "slots 1\n\tslot \tx\nopen\nslots 0",
-        "script 2 bad line: slot takes hurt or leave, not x\n",
+        "script 2 bad line: expected hurt or leave after slot, not x\n",
     ),
 ];
 
