@@ -14,7 +14,7 @@ use Rattle.lin_cluster.specs.declared.finding.FindingKind.TheVariants.{LimitPass
 use Rattle.lin_cluster.specs.declared.finding.FindingKind.TheVariants.{NoSize, NoTable, WideSignal}
 use Rattle.lin_cluster.specs.declared.finding.FindingKind.TheVariants.{Rounded, ExtraMark}
 use Rattle.lin_cluster.specs.declared.finding.FindingKind.TheVariants.{InitialNad, ByteOrder}
-use Rattle.lin_cluster.specs.declared.finding.FindingKind.TheVariants.{HeaderLine}
+use Rattle.lin_cluster.specs.declared.finding.FindingKind.TheVariants.{HeaderLine, UnknownWord}
 use Rattle.lin_cluster.specs.declared.finding.FindingKind.TheVariants.{BadEncoding, EncodingTwice}
 use Rattle.lin_cluster.specs.declared.finding.FindingKind.TheVariants.{UnknownEncoding}
 use Rattle.lin_cluster.specs.declared.finding.FindingKind.TheVariants.{UnknownSignal}
@@ -57,6 +57,7 @@ number_of ExtraMark = 23
 number_of InitialNad = 24
 number_of ByteOrder = 25
 number_of HeaderLine = 26
+number_of UnknownWord = 27
 number_of BadEncoding = 31
 number_of EncodingTwice = 32
 number_of UnknownEncoding = 33
@@ -87,7 +88,8 @@ finding_names =
     ∷ codes "ZeroDelay" ∷ codes "BadNad" ∷ codes "NadTwice" ∷ codes "BadEventFrame" ∷ codes "BadSporadic"
     ∷ codes "NestedCollision" ∷ codes "EmptyTable" ∷ codes "LimitPassed" ∷ codes "MixedChecksum"
     ∷ codes "NoSize" ∷ codes "NoTable" ∷ codes "WideSignal" ∷ codes "Rounded" ∷ codes "ExtraMark"
-    ∷ codes "InitialNad" ∷ codes "ByteOrder" ∷ codes "HeaderLine" ∷ [] ∷ [] ∷ [] ∷ []
+    ∷ codes "InitialNad" ∷ codes "ByteOrder" ∷ codes "HeaderLine" ∷ codes "UnknownWord"
+    ∷ [] ∷ [] ∷ []
     ∷ codes "BadEncoding" ∷ codes "EncodingTwice" ∷ codes "UnknownEncoding" ∷ codes "UnknownSignal"
     ∷ codes "RepresentedTwice" ∷ codes "MinAboveMax" ∷ codes "RangesOverlap" ∷ codes "LogicalTwice"
     ∷ codes "ValueOutside" ∷ codes "ZeroScale" ∷ codes "KindOfSignal" ∷ [] ∷ [] ∷ [] ∷ [] ∷ [] ∷ []
@@ -126,6 +128,7 @@ needed_by ExtraMark = 0
 needed_by InitialNad = 0
 needed_by ByteOrder = 0
 needed_by HeaderLine = 0
+needed_by UnknownWord = 0
 needed_by BadEncoding = 0
 needed_by EncodingTwice = 0
 needed_by UnknownEncoding = 0

@@ -6,9 +6,9 @@ ghost use Rattle.lin_cluster.specs.Kinds.{finding_at, finding_name, number_of};
 use lin_parts::Place;
 use lin_text::Many;
 
-/// The kinds of findings, in the order of their numbers, 1 to 26, 31 to 41 and 51 to 60. Those from 19
-/// on are told of texts of the field alone, those from 31 on of encodings of signals, and those from 51
-/// on of descriptions in which nothing is wrong.
+/// The kinds of findings, in the order of their numbers, 1 to 27, 31 to 41 and 51 to 60. Those from 19
+/// to 27 are told of texts of the field alone, but for 27, which a lint tells, too; those from 31 on of
+/// encodings of signals, and those from 51 on of descriptions in which nothing is wrong.
 #[derive(Clone, Copy, Debug, PartialEq, Eq)]
 pub enum FindingKind {
     UnknownName,
@@ -38,6 +38,7 @@ pub enum FindingKind {
     InitialNad,
     ByteOrder,
     HeaderLine,
+    UnknownWord,
     BadEncoding,
     EncodingTwice,
     UnknownEncoding,
@@ -62,7 +63,7 @@ pub enum FindingKind {
 }
 
 impl FindingKind {
-    /// The number, 1 to 26, 31 to 41 or 51 to 60.
+    /// The number, 1 to 27, 31 to 41 or 51 to 60.
     pub fn number(self) -> u8
         ensures { result ≡ number_of self }
     {
@@ -93,6 +94,7 @@ impl FindingKind {
             FindingKind::InitialNad => 24,
             FindingKind::ByteOrder => 25,
             FindingKind::HeaderLine => 26,
+            FindingKind::UnknownWord => 27,
             FindingKind::BadEncoding => 31,
             FindingKind::EncodingTwice => 32,
             FindingKind::UnknownEncoding => 33,
@@ -118,7 +120,7 @@ impl FindingKind {
     }
 }
 
-/// What is wrong, and where: the finding's number (1 to 26, 31 to 41 or 51 to 60), line and column, and
+/// What is wrong, and where: the finding's number (1 to 27, 31 to 41 or 51 to 60), line and column, and
 /// for a slot that is too short (9) the time in microseconds that it needs; otherwise 0. Findings are
 /// ordered by place, then by number.
 #[derive(Clone, Copy, Debug, PartialEq, Eq, PartialOrd, Ord)]
@@ -145,7 +147,7 @@ impl Finding {
         }
     }
 
-    /// The name; only numbers from 1 to 26, from 31 to 41 and from 51 to 60 have one.
+    /// The name; only numbers from 1 to 27, from 31 to 41 and from 51 to 60 have one.
     pub fn name(&self) -> &'static str
         ensures { result.now ≡ finding_name self.now.number }
     {
@@ -176,6 +178,7 @@ impl Finding {
             24 => "InitialNad",
             25 => "ByteOrder",
             26 => "HeaderLine",
+            27 => "UnknownWord",
             31 => "BadEncoding",
             32 => "EncodingTwice",
             33 => "UnknownEncoding",

@@ -19,21 +19,21 @@ abbrev pub Leaves : {A : Type 0} → ℕ → Option (A × List Symbol) → Type 
 Leaves n None = Unit {0}
 Leaves n (Some x) = length x.1 < n
 
-taking : {A : Type 0} (read : List Symbol → Option (A × List Symbol)) → Shrinks read → (ts : List Symbol) → Leaves (length ts) (read ts)
+pub taking : {A : Type 0} (read : List Symbol → Option (A × List Symbol)) → Shrinks read → (ts : List Symbol) → Leaves (length ts) (read ts)
 taking read shrinks ts =
     elim (read ts) as (λ o. (read ts ≡ o) → Leaves (length ts) o) [
       | None ↦ λ e. tt
       | Some x ↦ λ e. shrinks ts x.0 x.1 e
     ] refl
 
-keeping : {A : Type 0} {ends : List Symbol → Bool} {f : Form A} (n : ℕ) → Lawful ends f → (ts : List Symbol) → length ts < n → Leaves n (f.read ts)
+pub keeping : {A : Type 0} {ends : List Symbol → Bool} {f : Form A} (n : ℕ) → Lawful ends f → (ts : List Symbol) → length ts < n → Leaves n (f.read ts)
 keeping {f = f} n p ts h =
     elim (f.read ts) as (λ o. (f.read ts ≡ o) → Leaves n o) [
       | None ↦ λ e. tt
       | Some x ↦ λ e. let le : length x.1 ≤ length ts = p.keeps ts x.0 x.1 e in omega arith
     ] refl
 
-after : {A B : Type 0} (n : ℕ) (o : Option (A × List Symbol)) (f : A × List Symbol → Option (B × List Symbol)) → Leaves n o → ((x : A × List Symbol) → length x.1 < n → Leaves n (f x)) → Leaves n (o >>= f)
+pub after : {A B : Type 0} (n : ℕ) (o : Option (A × List Symbol)) (f : A × List Symbol → Option (B × List Symbol)) → Leaves n o → ((x : A × List Symbol) → length x.1 < n → Leaves n (f x)) → Leaves n (o >>= f)
 after n None f h more = tt
 after n (Some x) f h more = more x h
 

@@ -1,5 +1,6 @@
 pub mod AddedRanges
 pub mod CodedAgain
+pub mod Borrowed
 pub mod CodedSignals
 pub mod CodingOrder
 pub mod ConfiguredRows
@@ -41,6 +42,7 @@ pub mod SoughtParts
 pub mod Spacing
 pub mod SpelledSteps
 pub mod SpelledValues
+pub mod UnknownSteps
 pub mod Unmentioned
 pub mod UnmentionedSections
 pub mod UnusedEncodings

@@ -13,7 +13,7 @@ use Rattle.lin_ldf.specs.declared.token.TokenKind.{TokenKind}
 use Rattle.lin_ldf.proofs.Outcomes.{outcome}
 use Rattle.lin_ldf.proofs.Parsed.{faulty_tokens}
 use Rattle.lin_ldf.proofs.Unique.{same_tokens}
-use Rattle.lin_ldf.specs.declared.token.TokenKind.TheVariants.{Word, OpenBrace, CloseBrace}
+use Rattle.lin_ldf.specs.declared.token.TokenKind.TheVariants.{Word, OpenBrace}
 use Rattle.lin_values.specs.Coding.{item, type_head, coded_line}
 use Rattle.lin_values.specs.Passed.{has_line, behind_block, behind_line, behind_closing, behind_group, steps_while}
 use Rattle.lin_values.specs.Reading.{or_bad_item, or_bad_type, or_bad_line, repeated, with_item, with_items, with_type, with_types, with_line, with_lines, with_section, with_statement}

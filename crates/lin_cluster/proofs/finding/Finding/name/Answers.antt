@@ -8,12 +8,11 @@ abbrev Unnamed : ℕ → Type 0
 Unnamed n = ◌≡◌ {A = List ℕ} [] (finding_name n)
 
 -- the numbers between two groups of names
-from_27 : (k : ℕ) → k < 4 → Unnamed (27 + k)
-from_27 zero h = refl
-from_27 (suc zero) h = refl
-from_27 (suc (suc zero)) h = refl
-from_27 (suc (suc (suc zero))) h = refl
-from_27 (suc (suc (suc (suc k)))) h = absurd (omega arith)
+from_28 : (k : ℕ) → k < 3 → Unnamed (28 + k)
+from_28 zero h = refl
+from_28 (suc zero) h = refl
+from_28 (suc (suc zero)) h = refl
+from_28 (suc (suc (suc k))) h = absurd (omega arith)
 
 from_42 : (k : ℕ) → k < 9 → Unnamed (42 + k)
 from_42 zero h = refl
@@ -38,8 +37,8 @@ returns-in_default c =
       | inl past ↦ sym (get_or_past finding_names n [] (omega arith))
       | inr few ↦ elim (cases_lt 41 n) as (λ _. Unnamed n) [
         | inl past ↦ at n 42 (n - 42) (omega arith) (from_42 (n - 42) (omega arith))
-        | inr few ↦ elim (cases_lt 26 n) as (λ _. Unnamed n) [
-          | inl past ↦ at n 27 (n - 27) (omega arith) (from_27 (n - 27) (omega arith))
+        | inr few ↦ elim (cases_lt 27 n) as (λ _. Unnamed n) [
+          | inl past ↦ at n 28 (n - 28) (omega arith) (from_28 (n - 28) (omega arith))
           | inr few ↦ at n 0 0 (omega arith) refl
         ]
       ]

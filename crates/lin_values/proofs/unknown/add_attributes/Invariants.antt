@@ -1,0 +1,10 @@
+use Rattle.std.proofs.Common.{◌≡◌, ◌++◌, flat_map, length}
+use Rattle.lin_values.specs.Known.{known_attributes}
+use Rattle.lin_values.specs.Unknown.{statements, unknown_among}
+use Rattle.lin_values.proofs.unknown.add_attributes.Given as goal
+
+abbrev pub invariant-loop-parser : goal.invariant-loop-parser
+invariant-loop-parser l = l.found.items ++ flat_map (unknown_among known_attributes) (statements l.parser) ≡ l.fn.found.items ++ flat_map (unknown_among known_attributes) (statements l.fn.parser)
+
+abbrev pub decreases-loop-parser : goal.decreases-loop-parser
+decreases-loop-parser l = length l.parser
