@@ -1,5 +1,5 @@
 -- What `read_field`, `settle` and `check_field` say of a text, in the program's words.
-use Rattle.std.proofs.Common.{◌≡◌, ◌≢◌, ◌⊎◌, inl, inr, ℕ, ◌≤◌, List, ◌++◌, take, length, Option, None, IfOk, IfErr, IfSome, IsPermutation, Result, Ok, Err, sym, ap, subst, ◌∙◌}
+use Rattle.std.proofs.Common.{◌≡◌, ◌≢◌, ◌⊎◌, inl, inr, ℕ, ◌≤◌, List, ◌++◌, take, length, map, true, Option, None, IfOk, IfErr, IfSome, IsPermutation, Result, Ok, Err, sym, ap, subst, ◌∙◌}
 use Rattle.std.proofs.Math.Seq.{take-append_seam}
 use Rattle.lin_ldf.specs.Stream.{start_of}
 use Rattle.lin_ldf.specs.Symbols.{symbols_in}
@@ -9,7 +9,7 @@ use Rattle.lin_ldf.specs.declared.fault.LdfFault.TheVariants as ldf
 use Rattle.lin_ldf.specs.declared.token.Token.{Token}
 use Rattle.lin_cluster.specs.SlotTimes.{NoSlotIsShort}
 use Rattle.lin_field.specs.Bytes.{field_bytes}
-use Rattle.lin_field.specs.Checks.{remarks, IsFieldFree}
+use Rattle.lin_field.specs.Checks.{remark, remarks, IsFieldFree}
 use Rattle.lin_field.specs.Describes.{Reads}
 use Rattle.lin_field.specs.Plain.{plain_data, plain_text}
 use Rattle.lin_field.specs.declared.checking.Checked.{Checked}
@@ -55,32 +55,33 @@ unsettled x OutOfMemory text left warned told is short h = tt
 unsettled x _ text left warned told is short h = absurd h
 
 -- what is answered to what a text is settled to, where nothing is wrong and its cluster is this one
-pub described_answer : (x : Extras) (s : Settled) (checked : Checked) (k : Sections) (rs : List Remark) (r : Result Described Fault) (warned : List Remark)
-    → IsChecked s checked → IsPermutation (linted s.description k.configurables k.codings checked.warnings) rs
+pub described_answer : (x : Extras) (s : Settled) (checked : Checked) (k : Sections) (words rs : List Remark) (r : Result Described Fault) (warned : List Remark)
+    → IsChecked s checked → IsPermutation (checked.warnings ++ map (remark true) k.unknown) words
+    → IsPermutation (linted s.description k.configurables k.codings words) rs
     → IfOk r (λ d. d.cluster ≡ checked.cluster) → IfOk r (λ d. d.coded ≡ coded_read x.encodings d.cluster k.codings)
     → IfOk r (λ d. AreWarnings x.encodings d.cluster k.codings rs warned) → IfErr r (λ fault. fault ≡ OutOfMemory) → AnswersChecked x s k r warned
-described_answer x s checked k rs (Ok d) warned is are cluster coded warnings memory = record {
+described_answer x s checked k words rs (Ok d) warned is joined are cluster coded warnings memory = record {
   free = is.free;
   said = cluster ∙ is.said;
   coded = coded;
-  warnings = reordered x.encodings d.cluster k.codings (linted s.description k.configurables k.codings (remarks s)) rs warned
-      (remarked s k.configurables k.codings checked.warnings rs is.warnings are) warnings;
+  warnings = reordered x.encodings d.cluster k.codings (linted s.description k.configurables k.codings (remarks s ++ map (remark true) k.unknown)) rs warned
+      (remarked s k.configurables k.codings (map (remark true) k.unknown) checked.warnings words rs is.warnings joined are) warnings;
 }
-described_answer x s checked k rs (Err fault) warned is are cluster coded warnings memory = subst (λ f. CheckFaults f s) (sym memory) tt
+described_answer x s checked k words rs (Err fault) warned is joined are cluster coded warnings memory = subst (λ f. CheckFaults f s) (sym memory) tt
 
 -- what the sections say of the bytes that are left is what those of the text say
 pub field_says : (x : Extras) (text left : List ℕ) (k : Sections) → IsReadOver text left
-    → k ≡ sections_read x (symbols_in left (start_of left).tokens) → FieldSaysSections x text k
+    → k ≡ sections_read true x (symbols_in left (start_of left).tokens) → FieldSaysSections x text k
 field_says x text left k (ts, are, is) says = (
   ts,
   are,
-  says ∙ ap (λ bytes. sections_read x (symbols_in bytes (start_of bytes).tokens)) is ∙ ap (sections_read x) (marks_blanked (field_bytes text) ts are),
+  says ∙ ap (λ bytes. sections_read true x (symbols_in bytes (start_of bytes).tokens)) is ∙ ap (sections_read true x) (marks_blanked (field_bytes text) ts are),
 )
 
 -- and what is answered to what it is settled to
 pub checked : (x : Extras) (r : Result Described Fault) (text left : List ℕ) (s : Settled) (k : Sections) (warned : List Remark) (told : Option (List ℕ))
     → IfSome told (λ bytes. text ≡ bytes) → length text ≤ 4194304 → IsSettled text s × IsReadOver text left
-    → k ≡ sections_read x (symbols_in left (start_of left).tokens) → AnswersChecked x s k r warned → AnswersField x r warned told
+    → k ≡ sections_read true x (symbols_in left (start_of left).tokens) → AnswersChecked x s k r warned → AnswersField x r warned told
 checked x (Ok d) text left s k warned told is short (settled, over) says h =
     (text, is, short, (s, settled, (k, field_says x text left k over says, h)))
 checked x (Err (Remarks found)) text left s k warned told is short (settled, over) says h = (text, is, short, (s, settled, h))

@@ -94,8 +94,15 @@ reordered e c k qs rs warned are h = record {
   ordered = h.ordered;
 }
 
--- what is odd joins the remarks on what a text of the field is settled to
-pub remarked : (s : Settled) (cs : Option (List Configurable)) (k : Option Codings) (rs all : List Remark) → AreRemarks s rs
-    → IsPermutation (linted s.description cs k rs) all → IsPermutation (linted s.description cs k (remarks s)) all
-remarked s cs k rs all are h = IsPermutation-trans (linted s.description cs k (remarks s)) (linted s.description cs k rs) all
-    (IsPermutation-append_left (map (remark true) (lints_told s.description cs k)) (remarks s) rs are.all) h
+-- what is odd joins warnings in any order
+pub linted_behind : (d : Description) (cs : Option (List Configurable)) (k : Option Codings) (qs rs all : List Remark) → IsPermutation qs rs
+    → IsPermutation (linted d cs k rs) all → IsPermutation (linted d cs k qs) all
+linted_behind d cs k qs rs all are h = IsPermutation-trans (linted d cs k qs) (linted d cs k rs) all
+    (IsPermutation-append_left (map (remark true) (lints_told d cs k)) qs rs are) h
+
+-- and the remarks on what a text of the field is settled to, with further ones
+pub remarked : (s : Settled) (cs : Option (List Configurable)) (k : Option Codings) (us rs with_us all : List Remark) → AreRemarks s rs
+    → IsPermutation (rs ++ us) with_us → IsPermutation (linted s.description cs k with_us) all
+    → IsPermutation (linted s.description cs k (remarks s ++ us)) all
+remarked s cs k us rs with_us all are joined h = linted_behind s.description cs k (remarks s ++ us) with_us all
+    (IsPermutation-trans (remarks s ++ us) (rs ++ us) with_us (IsPermutation-append_left us (remarks s) rs are.all) joined) h

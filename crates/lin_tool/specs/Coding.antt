@@ -1,7 +1,7 @@
 -- A cluster with what the values of its signals mean, by the sections of encodings of its LDF text,
 -- and with what is odd in a text in which nothing is wrong.
 use Rattle.std.specs.Prelude.{◌≡◌, ℕ, List, [], ◌++◌, map, Option, Some, None, option_map}
-use Rattle.std.specs.Prelude.{Bool, true, if◌then◌else◌, IsPermutation, IsSorted, Result, Ok, Err}
+use Rattle.std.specs.Prelude.{Bool, true, false, ◌||◌, if◌then◌else◌, IsPermutation, IsSorted, Result, Ok, Err}
 use Rattle.std.specs.Option.{option_map_or}
 use Rattle.lin_ldf.specs.Describes.{Describes}
 use Rattle.lin_ldf.specs.Symbols.{Symbol, symbols_in}
@@ -24,6 +24,7 @@ use Rattle.lin_tool.specs.declared.fault.Fault.{Fault}
 use Rattle.lin_values.specs.Coded.{coded, CodedData}
 use Rattle.lin_values.specs.Configured.{configurables}
 use Rattle.lin_values.specs.Reading.{codings}
+use Rattle.lin_values.specs.Unknown.{unknown_words}
 use Rattle.lin_values.specs.Unused.{unused_encodings}
 use Rattle.lin_values.specs.Warnings.{warnings}
 use Rattle.lin_values.specs.declared.items.Codings.{Codings}
@@ -42,12 +43,17 @@ codings_read is_read ts = if is_read then Some (codings ts) else None
 abbrev pub configurables_read : Bool → List Symbol → Option (List Configurable)
 configurables_read is_linted ts = if is_linted then Some (configurables ts) else None
 
--- what of both the extras want
-abbrev pub sections_read : Extras → List Symbol → Sections
-sections_read x ts =
+-- the words of sections and attributes among them that aren't known, where they are told
+abbrev pub unknown_read : Bool → List Symbol → List Finding
+unknown_read is_told ts = if is_told then unknown_words ts else []
+
+-- what of all that the extras want; of a text of the field the words in any case
+abbrev pub sections_read : Bool → Extras → List Symbol → Sections
+sections_read is_field x ts =
     record {
       codings = codings_read (are_read x.encodings x.is_linted) ts;
       configurables = configurables_read x.is_linted ts;
+      unknown = unknown_read (is_field || x.is_linted) ts;
     }
 
 -- what of that is kept, and not read for a lint alone
@@ -94,7 +100,7 @@ pub record AreWarnings (e : Encodings) (c : Parts) (k : Option Codings) (rs warn
 -- the sections of a text say this, as far as the extras want them
 abbrev pub SaysSections : Extras → List ℕ → Sections → Type 0
 SaysSections x text s =
-    (ts : List Token) × AreTokens text ts × (s ≡ sections_read x (symbols_in text ts))
+    (ts : List Token) × AreTokens text ts × (s ≡ sections_read false x (symbols_in text ts))
 
 -- what a text describes and what its sections say, or why it describes nothing
 abbrev pub AnswersSections : Extras → Result (Description × Sections) Fault → List ℕ → Type 0
@@ -110,7 +116,9 @@ pub record IsCodedCluster (x : Extras) (text : List ℕ) (d : Described) (warned
   pub coded : d.coded ≡ coded_read x.encodings d.cluster sections.codings
   pub warnings
       : AreWarnings x.encodings d.cluster sections.codings
-      (linted cluster.description sections.configurables sections.codings []) warned
+      (linted cluster.description sections.configurables sections.codings
+      (map (remark true) sections.unknown))
+      warned
 
 -- what is answered to an LDF text, with these warnings
 abbrev pub AnswersCoded : Extras → Result Described Fault → List Remark → List ℕ → Type 0

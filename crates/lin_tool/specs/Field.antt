@@ -1,5 +1,5 @@
 -- What is answered to an LDF text of the field.
-use Rattle.std.specs.Prelude.{◌≡◌, ◌≢◌, ℕ, ◌<◌, ◌≤◌, List, length, Option, IfSome, Result, Ok, Err}
+use Rattle.std.specs.Prelude.{◌≡◌, ◌≢◌, ℕ, ◌<◌, ◌≤◌, ◌++◌, List, length, map, true, Option, IfSome, Result, Ok, Err}
 use Rattle.lin_ldf.specs.Symbols.{symbols_in}
 use Rattle.lin_ldf.specs.Tokens.{AreTokens, IsLexFault}
 use Rattle.lin_ldf.specs.declared.fault.LdfFault.{LdfFault}
@@ -7,7 +7,7 @@ use Rattle.lin_ldf.specs.declared.fault.LdfFault.TheVariants as ldf
 use Rattle.lin_ldf.specs.declared.token.Token.{Token}
 use Rattle.lin_cluster.specs.Described.{parts_of}
 use Rattle.lin_field.specs.Bytes.{field_bytes}
-use Rattle.lin_field.specs.Checks.{remarks, AreRemarks, IsFieldFree, IsRefusalOf}
+use Rattle.lin_field.specs.Checks.{remark, remarks, AreRemarks, IsFieldFree, IsRefusalOf}
 use Rattle.lin_field.specs.Describes.{Reads}
 use Rattle.lin_field.specs.Marks.{blanked, extra_in, mended}
 use Rattle.lin_field.specs.Order.{byte_order}
@@ -79,7 +79,9 @@ pub record IsFieldCluster (x : Extras) (s : Settled) (k : Sections) (d : Describ
   pub coded : d.coded ≡ coded_read x.encodings d.cluster k.codings
   pub warnings
       : AreWarnings x.encodings d.cluster k.codings
-      (linted s.description k.configurables k.codings (remarks s)) warned
+      (linted s.description k.configurables k.codings
+      (remarks s ++ map (remark true) k.unknown))
+      warned
 
 abbrev pub AnswersChecked : Extras → Settled → Sections → Result Described Fault → List Remark
     → Type 0
@@ -91,7 +93,7 @@ AnswersChecked x s k (Err fault) warned = CheckFaults fault s
 abbrev pub FieldSaysSections : Extras → List ℕ → Sections → Type 0
 FieldSaysSections x text k =
     (ts : List Token) × AreTokens (field_bytes text) ts
-    × (k ≡ sections_read x (mended (symbols_in (field_bytes text) ts)))
+    × (k ≡ sections_read true x (mended (symbols_in (field_bytes text) ts)))
 
 -- when a reader has this fault: what it has is told, or it isn't
 abbrev pub ReadFaults : Fault → Option (List ℕ) → Type 0

@@ -9,7 +9,7 @@ ghost use Rattle.lin_ldf.specs.Tokens.{AreTokens};
 ghost use Rattle.lin_ldf.specs.declared.token.Token.{Token};
 ghost use Rattle.lin_field.specs.Checks.{remark, remark_cmp};
 ghost use Rattle.lin_tool.specs.Coding.{are_read, coded_read, codings_kept, codings_read};
-ghost use Rattle.lin_tool.specs.Coding.{configurables_read, linted, sections_read, told_of, unused_told, AreWarnings};
+ghost use Rattle.lin_tool.specs.Coding.{configurables_read, linted, sections_read, told_of, unknown_read, unused_told, AreWarnings};
 ghost use Rattle.lin_tool.specs.declared.fault.Fault.TheVariants.{OutOfMemory};
 
 use crate::fault::Fault;
@@ -19,7 +19,9 @@ use lin_field::{Checked, Remark};
 use lin_parts::Cluster;
 use lin_parts::description::Description;
 use lin_text::Many;
-use lin_values::{Coded, Codings, coded_by, read_codings, read_configurables, unused_encodings};
+use lin_values::{
+    Coded, Codings, coded_by, read_codings, read_configurables, unknown_words, unused_encodings,
+};
 use std::alloc::{AllocError, Global};
 
 /// How the sections of encodings are read.
@@ -43,11 +45,12 @@ pub struct Extras {
 }
 
 /// What sections of an LDF text say beside its description, where they are read: those of encodings,
-/// and in the attributes of nodes the lists of configurable frames.
+/// and in the attributes of nodes the lists of configurable frames; and their words that aren't known.
 #[derive(Drop)]
 pub(crate) struct Sections {
     pub codings: Option<Codings>,
     pub configurables: Option<Many<Configurable>>,
+    pub unknown: Many<Finding>,
 }
 
 /// The cluster of an LDF text, and what the values of its signals mean, where that is read.
@@ -103,31 +106,54 @@ fn configurables_of(
     }
 }
 
-/// What sections of an LDF text say that the extras want.
+/// The words of sections and attributes that aren't known, where they are told.
+///
+/// An error means out of memory.
+fn unknown_of(alloc: Global, text: &[u8], is_told: bool) -> Result<Many<Finding>, AllocError>
+    ensures read { IfOk result
+        (λ u. u ≡ unknown_read is_told (symbols_in text.now (start_of text.now).tokens)) }
+    ensures tokens { (ts : List Token) → AreTokens text.now ts
+        → IfOk result (λ u. u ≡ unknown_read is_told (symbols_in text.now ts)) }
+{
+    if is_told {
+        Ok(Many::new(unknown_words(alloc, text)?))
+    } else {
+        Ok(Many::new(Vec::new(alloc)))
+    }
+}
+
+/// What sections of an LDF text say that the extras want; of a text of the field their words that
+/// aren't known in any case.
 ///
 /// An error means out of memory.
 pub(crate) fn sections_of(
     alloc: Global,
     text: &[u8],
+    is_field: bool,
     extras: Extras,
 ) -> Result<Sections, AllocError>
     ensures read { IfOk result
-        (λ s. s ≡ sections_read extras (symbols_in text.now (start_of text.now).tokens)) }
+        (λ s. s ≡ sections_read is_field extras (symbols_in text.now (start_of text.now).tokens)) }
     ensures tokens { (ts : List Token) → AreTokens text.now ts
-        → IfOk result (λ s. s ≡ sections_read extras (symbols_in text.now ts)) }
+        → IfOk result (λ s. s ≡ sections_read is_field extras (symbols_in text.now ts)) }
 {
     let codings = codings_of(alloc, text, are_read(extras))?;
     let configurables = configurables_of(alloc, text, extras.is_linted)?;
+    let unknown = unknown_of(alloc, text, is_field || extras.is_linted)?;
     Ok(Sections {
         codings,
         configurables,
+        unknown,
     })
 }
 
 /// Warnings, and findings as such, by place and then by number.
 ///
 /// An error means out of memory.
-fn with_findings(warnings: Many<Remark>, findings: &[Finding]) -> Result<Many<Remark>, AllocError>
+pub(crate) fn with_findings(
+    warnings: Many<Remark>,
+    findings: &[Finding],
+) -> Result<Many<Remark>, AllocError>
     ensures all { IfOk result
         (λ all. IsPermutation (warnings ++ map (remark true) findings.now) all) }
     ensures ordered { IfOk result (λ all. IsSorted remark_cmp all) }

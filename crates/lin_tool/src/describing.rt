@@ -9,7 +9,9 @@ ghost use Rattle.lin_tool.specs.Coding.{AnswersCoded, AnswersSections};
 ghost use Rattle.lin_tool.specs.Reading.{AnswersLdf, AnswersReading, ReadsAll};
 ghost use Rattle.lin_tool.specs.declared.describing.Reading.TheVariants.{Plain};
 
-use crate::coding::{Described, Extras, Sections, coded_noted, sections_of, with_lints};
+use crate::coding::{
+    Described, Extras, Sections, coded_noted, sections_of, with_findings, with_lints,
+};
 use crate::fault::Fault;
 use crate::field::field_of_reader;
 use crate::findings::Findings;
@@ -123,7 +125,7 @@ fn parse_text(alloc: Global, text: &[u8], extras: Extras) -> Result<(Description
     ensures { AnswersSections extras result text.now }
 {
     let description = description_of(alloc, text)?;
-    let sections = sections_of(alloc, text, extras)?;
+    let sections = sections_of(alloc, text, false, extras)?;
     Ok((description, sections))
 }
 
@@ -146,9 +148,11 @@ fn check_parsed(
     let Sections {
         codings,
         configurables,
+        unknown,
     } = sections;
     let none = Many::new(Vec::new(alloc));
-    let warnings = with_lints(alloc, none, &description, configurables, codings.as_ref())?;
+    let words = with_findings(none, unknown.as_slice())?;
+    let warnings = with_lints(alloc, words, &description, configurables, codings.as_ref())?;
     let cluster = said_by(alloc, description)?;
     let checked = Checked { cluster, warnings };
     coded_noted(alloc, checked, codings, extras.encodings, text, notes)

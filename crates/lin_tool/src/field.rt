@@ -3,7 +3,9 @@
 ghost use Rattle.lin_tool.specs.Field.{AnswersChecked, AnswersField, AnswersSettled, ChecksField};
 ghost use Rattle.lin_tool.specs.Field.{WritesPlain};
 
-use crate::coding::{Described, Encodings, Extras, Sections, coded_noted, sections_of, with_lints};
+use crate::coding::{
+    Described, Encodings, Extras, Sections, coded_noted, sections_of, with_findings, with_lints,
+};
 use crate::describing::{Reading, fault_of, let_go, read_text};
 use crate::fault::Fault;
 use crate::findings::Remarks;
@@ -13,6 +15,8 @@ use lin_field::{
     Checked, FieldFault, Settled, check_field, read_field, read_over_bytes, settle, write_plain,
 };
 use lin_parts::Cluster;
+use lin_text::Many;
+use lin_values::unknown_words;
 use std::alloc::{AllocError, Global};
 use std::io::{Read, Write};
 
@@ -113,12 +117,14 @@ fn cluster_noted(
     let Sections {
         codings,
         configurables,
+        unknown,
     } = sections;
     match check_settled(alloc, settled) {
         Ok(Checked { cluster, warnings }) => {
+            let words = with_findings(warnings, unknown.as_slice())?;
             let warnings = with_lints(
                 alloc,
-                warnings,
+                words,
                 &settled.description,
                 configurables,
                 codings.as_ref(),
@@ -154,7 +160,7 @@ pub fn field_of_reader<R: Read>(
     let mut bytes = read_text(alloc, reader)?;
     let text = noted_text(alloc, bytes.as_slice(), notes)?;
     let settled = settled_noted(alloc, bytes.as_mut_slice(), text.as_slice(), notes)?;
-    let sections = sections_of(alloc, bytes.as_slice(), extras)?;
+    let sections = sections_of(alloc, bytes.as_slice(), true, extras)?;
     let_go(&mut bytes);
     cluster_noted(alloc, &settled, sections, extras, text.as_slice(), notes)
 }
@@ -178,6 +184,7 @@ pub(crate) fn write_field<W: Write>(
     let sections = Sections {
         codings: None,
         configurables: None,
+        unknown: Many::new(unknown_words(alloc, bytes.as_slice())?),
     };
     let extras = Extras {
         encodings: Encodings::Unread,

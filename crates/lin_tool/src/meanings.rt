@@ -35,7 +35,7 @@ pub(crate) fn finding_meaning(number: u8) -> Option<&'static (&'static str, &'st
 }
 
 /// What a finding means, and what to change.
-static FINDINGS: [(&str, &str); 26] = [
+static FINDINGS: [(&str, &str); 27] = [
     (
         "no node, signal, frame or schedule table of this name is declared",
         "correct the spelling or add the declaration; a schedule entry must name a frame",
@@ -147,6 +147,10 @@ static FINDINGS: [(&str, &str); 26] = [
     (
         "unknown header line, or both byte orders: ignored",
         "delete the line",
+    ),
+    (
+        "no version of LIN has this section or node attribute: ignored",
+        "correct the spelling, or delete it",
     ),
 ];
 

@@ -75,7 +75,7 @@ def wrong_with(text, field, plain):
     if status == 0 and plain_status == 1 and not FAULT.fullmatch(plain_told[0]) and not told and not is_old:
         return f"read in silence: {plain_told}"
     is_plain = not is_old and not re.search(rb"Diagnostic_addresses|initial_NAD|byte_order", text)
-    if plain_status == 0 and is_plain and ((status, listed) != (0, plain_listed) or any(it[2] != 23 for it in places(told))):
+    if plain_status == 0 and is_plain and ((status, listed) != (0, plain_listed) or any(it[2] not in (23, 27) for it in places(told))):
         return f"read otherwise: status {status}, {told}"
     return None
 
