@@ -179,7 +179,8 @@ fn is_old(alloc: Global, text: &[u8]) -> bool {
 /// The cluster that an LDF text describes, as of `cluster_of_text`, and what the values of its signals
 /// mean. The notes keep the warnings that the extras want, or tell where it is at fault; where they want
 /// no text, its memory is let go of before the description is checked. Of a text of LIN 1.x that
-/// `--field` reads, too, they tell that.
+/// `--field` reads, too, they tell that; of one that isn't linted, how many of its sections and
+/// attributes LIN doesn't have.
 fn cluster_of_bytes(
     alloc: Global,
     mut bytes: Vec<u8>,
@@ -189,6 +190,9 @@ fn cluster_of_bytes(
     ensures { AnswersCoded extras result notes.new.warnings bytes.items }
 {
     let parsed = parse_text(alloc, bytes.as_slice(), extras);
+    if parsed.is_ok() && !extras.is_linted {
+        notes.count_unknown(alloc, bytes.as_slice())?;
+    }
     let is_old = is_old(alloc, bytes.as_slice());
     if !is_old && !notes.is_text_wanted() {
         let_go(&mut bytes);

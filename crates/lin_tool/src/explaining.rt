@@ -5,7 +5,7 @@ use crate::describing::Reading;
 use crate::fault::Fault;
 use crate::field::warnings_of;
 use crate::meanings::{FAULTS, REFUSALS, finding_meaning};
-use crate::misspelled::{described, put_near, put_unread};
+use crate::misspelled::{described, put_near, put_near_word, put_unread};
 use crate::parties::{put_declared, put_party};
 use crate::wanted::put_wanted;
 use lin_cluster::Finding;
@@ -24,6 +24,9 @@ const BEFORE: usize = 64;
 
 /// The number of the finding of a name that nothing declares.
 const UNKNOWN_NAME: u8 = 1;
+
+/// The number of the warning about a section or an attribute that LIN doesn't have.
+const UNKNOWN_WORD: u8 = 27;
 
 /// How many findings, or bad lines of a bench script, are explained at most.
 pub(crate) const MOST: usize = 10;
@@ -151,7 +154,8 @@ fn put_meaning(out: &mut String, number: u8, count: usize) -> Result<(), AllocEr
     Ok(())
 }
 
-/// Puts the nearest name to one that nothing declares, and of other findings the other party.
+/// Puts the most similar name to one that nothing declares, or the most similar word to one that LIN
+/// doesn't have; of other findings the other party.
 fn put_unknown(
     alloc: Global,
     out: &mut String,
@@ -167,6 +171,7 @@ fn put_unknown(
     } = *finding;
     let place = Place { line, column };
     match description {
+        _ if number == UNKNOWN_WORD => put_near_word(alloc, out, text, place),
         Some(description) if number == UNKNOWN_NAME => {
             put_near(alloc, out, text, description, place)
         }
@@ -182,7 +187,8 @@ fn is_new(met: &mut [bool; 256], number: u8) -> bool {
     is_new
 }
 
-/// Puts the first ten findings of an LDF text, and at the first one of each number what it means.
+/// Puts the first ten findings of an LDF text, and at the first one of each number what it means; and
+/// the words that LIN doesn't have, if they aren't among the findings.
 fn put_all(
     alloc: Global,
     out: &mut String,
@@ -204,6 +210,12 @@ fn put_all(
             put_meaning(out, number, alike.count())?;
         }
         put_unknown(alloc, out, text, description.as_ref(), finding)?;
+    }
+    if findings
+        .iter()
+        .any(|finding| finding.number == UNKNOWN_WORD)
+    {
+        return Ok(());
     }
     put_unread(alloc, out, text)
 }
@@ -227,8 +239,8 @@ pub(crate) fn put_text(
     }
 }
 
-/// Puts where an LDF text is remarked on, and what that means: of the first ten; and what of it is
-/// nearly a word that is read.
+/// Puts where an LDF text is remarked on, and what that means: of the first ten; and which words in it
+/// LIN doesn't have.
 pub(crate) fn put_remarks(
     alloc: Global,
     out: &mut String,

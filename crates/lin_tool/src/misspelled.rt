@@ -1,28 +1,17 @@
-//! `--explain` of names that nothing declares, and of words that are nearly ones that are read.
+//! `--explain` of names that nothing declares, and of words that LIN doesn't have.
 
 use crate::describing::Reading;
 use crate::explaining::put_shown;
 use crate::nearest::edits_between;
 use crate::wanted::before;
+use lin_cluster::Finding;
 use lin_field::{Settled, read_field, settle};
 use lin_ldf::{Description, LdfFault, Parser, Place, TokenKind, parse};
+use lin_values::{ATTRIBUTE_WORDS, SECTION_WORDS, unknown_words};
 use std::alloc::{AllocError, Global};
 
-/// How many letters of a word that is nearly another differ.
-const SLIPS: usize = 2;
-
-/// The sections that are read.
-static SECTIONS: [&str; 6] = [
-    "Signals",
-    "Frames",
-    "Sporadic_frames",
-    "Event_triggered_frames",
-    "Node_attributes",
-    "Schedule_tables",
-];
-
-/// The attributes of nodes that are read.
-static ATTRIBUTES: [&str; 3] = ["LIN_protocol", "configured_NAD", "response_error"];
+/// How many words that LIN doesn't have are compared with those that it has.
+const COMPARED_WORDS: usize = 256;
 
 /// What a name that nothing declares should be.
 #[derive(Clone, Copy)]
@@ -65,7 +54,8 @@ pub(crate) fn described(
     }
 }
 
-/// Of names the one nearest to a word, of which at most half of the letters differ.
+/// The name that is most similar to a word, if at most half of its letters differ. Names that differ
+/// only by upper and lower case are the most similar.
 #[derive(Drop)]
 struct Nearest<'a> {
     alloc: Global,
@@ -85,7 +75,11 @@ impl<'a> Nearest<'a> {
     }
 
     fn ask(&mut self, name: &'a [u8]) -> Result<(), AllocError> {
-        let edits = edits_between(self.alloc, name, self.word)?;
+        let edits = if name.eq_ignore_ascii_case(self.word) {
+            0
+        } else {
+            edits_between(self.alloc, name, self.word)?
+        };
         if edits < self.edits {
             self.edits = edits;
             self.name = Some(name);
@@ -194,25 +188,6 @@ pub(crate) fn put_near(
     out.push_str("\n")
 }
 
-/// Of words that are read the one that a word nearly is, where it isn't one itself.
-fn nearly(
-    alloc: Global,
-    word: &[u8],
-    words: &[&'static str],
-) -> Result<Option<&'static str>, AllocError> {
-    let mut found = None;
-    for other in words {
-        let bytes = other.as_bytes();
-        if bytes == word {
-            return Ok(None);
-        }
-        if bytes.eq_ignore_ascii_case(word) || edits_between(alloc, bytes, word)? <= SLIPS {
-            found = Some(*other);
-        }
-    }
-    Ok(found)
-}
-
 /// A scan of a text: how many braces are open, and the last section's word.
 #[derive(Drop)]
 pub(crate) struct Scan<'a> {
@@ -243,20 +218,6 @@ impl<'a> Scan<'a> {
         }
     }
 
-    /// What the word before the next token names, and the words that are read there.
-    fn kind(&self, next: TokenKind) -> Option<(&'static str, &'static [&'static str])> {
-        if self.depth == 0 && next == TokenKind::OpenBrace {
-            Some(("section", &SECTIONS))
-        } else if self.depth == 2
-            && next == TokenKind::Equals
-            && self.section == b"Node_attributes".as_slice()
-        {
-            Some(("attribute", &ATTRIBUTES))
-        } else {
-            None
-        }
-    }
-
     /// Passes over a token.
     pub(crate) fn pass(&mut self, kind: TokenKind, word: &'a [u8]) {
         match kind {
@@ -266,54 +227,130 @@ impl<'a> Scan<'a> {
             _ => {}
         }
     }
+
+    /// Passes over the tokens before a place, and returns the kind of the last one.
+    fn pass_to(&mut self, place: Place) -> Option<TokenKind> {
+        let mut last = None;
+        for _ in 0..self.parser.left() {
+            let Place { line, column } = self.parser.place();
+            let Some(kind) = self.parser.front_kind() else {
+                break;
+            };
+            if (line, column) >= (place.line, place.column) {
+                break;
+            }
+            let word = self.parser.text();
+            self.parser.skip();
+            self.pass(kind, word);
+            last = Some(kind);
+        }
+        last
+    }
 }
 
 /// What a name at a place of an LDF text should be: told by the section in which it is, since a name
 /// that nothing declares may be left out of what the text describes.
 fn kind_at(alloc: Global, text: &[u8], place: Place) -> Kind {
     let mut scan = Scan::new(alloc, text);
-    let mut last = None;
-    for _ in 0..scan.parser.left() {
-        let Place { line, column } = scan.parser.place();
-        let Some(kind) = scan.parser.front_kind() else {
-            break;
-        };
-        if (line, column) >= (place.line, place.column) {
-            break;
-        }
-        let word = scan.parser.text();
-        scan.parser.skip();
-        scan.pass(kind, word);
-        last = Some(kind);
-    }
+    let last = scan.pass_to(place);
     scan.kind_after(last)
 }
 
-/// Puts each section and each attribute of an LDF text that isn't read, and whose word is nearly one
-/// of those that are.
+/// The word of a section or an attribute that LIN doesn't have, and the most similar one that it has.
+#[derive(Clone, Copy)]
+struct UnknownWord<'a> {
+    what: &'static str,
+    word: &'a [u8],
+    similar: Option<&'a [u8]>,
+}
+
+/// The word at a place that isn't before the scan's: outside of all braces it is a section's, and
+/// otherwise an attribute's.
+fn word_at<'a>(
+    alloc: Global,
+    scan: &mut Scan<'a>,
+    place: Place,
+) -> Result<UnknownWord<'a>, AllocError> {
+    let _last = scan.pass_to(place);
+    let word = scan.parser.text();
+    let (what, known) = if scan.depth == 0 {
+        ("section", SECTION_WORDS.as_slice())
+    } else {
+        ("attribute", ATTRIBUTE_WORDS.as_slice())
+    };
+    let mut nearest = Nearest::new(alloc, word);
+    for other in known {
+        nearest.ask(*other)?;
+    }
+    Ok(UnknownWord {
+        what,
+        word,
+        similar: nearest.name,
+    })
+}
+
+/// The place of a finding.
+fn place_at(finding: &Finding) -> Place {
+    Place {
+        line: finding.line,
+        column: finding.column,
+    }
+}
+
+/// Puts the section or attribute of LIN whose word is the most similar to the one at a place, which LIN
+/// doesn't have; nothing if none is similar.
+pub(crate) fn put_near_word(
+    alloc: Global,
+    out: &mut String,
+    text: &[u8],
+    place: Place,
+) -> Result<(), AllocError> {
+    let UnknownWord {
+        what,
+        word: _,
+        similar,
+    } = word_at(alloc, &mut Scan::new(alloc, text), place)?;
+    let Some(similar) = similar else {
+        return Ok(());
+    };
+    write!(out, "  similar name: the {what} ")?;
+    put_shown(out, similar)?;
+    out.push_str("\n")
+}
+
+/// Puts each of the first 256 sections and attributes of an LDF text that LIN doesn't have, if its word
+/// is similar to one that LIN has.
 pub(crate) fn put_unread(alloc: Global, out: &mut String, text: &[u8]) -> Result<(), AllocError> {
+    let unknown = unknown_words(alloc, text)?;
     let mut scan = Scan::new(alloc, text);
-    for _ in 0..scan.parser.left() {
-        let Some(kind) = scan.parser.front_kind() else {
-            break;
-        };
-        let (word, place) = (scan.parser.text(), scan.parser.place());
-        scan.parser.skip();
-        scan.pass(kind, word);
-        let Some(next) = scan.parser.front_kind() else {
-            break;
-        };
-        if kind != TokenKind::Word {
-            continue;
-        }
-        let Some((what, words)) = scan.kind(next) else {
-            continue;
-        };
-        if let Some(read) = nearly(alloc, word, words)? {
+    for finding in unknown.as_slice().iter().take(COMPARED_WORDS) {
+        let place = place_at(finding);
+        let UnknownWord {
+            what,
+            word,
+            similar,
+        } = word_at(alloc, &mut scan, place)?;
+        if let Some(similar) = similar {
             write!(out, "  {}:{} the {what} ", place.line, place.column)?;
             put_shown(out, word)?;
-            writeln!(out, " is ignored; did you mean {read}?")?;
+            out.push_str(" is ignored; did you mean ")?;
+            put_shown(out, similar)?;
+            out.push_str("?\n")?;
         }
     }
     Ok(())
+}
+
+/// How many sections and attributes of an LDF text LIN doesn't have, if one of the first 256 is similar
+/// to one that it has; otherwise 0.
+pub(crate) fn count_unread(alloc: Global, text: &[u8]) -> Result<usize, AllocError> {
+    let unknown = unknown_words(alloc, text)?;
+    let mut scan = Scan::new(alloc, text);
+    for finding in unknown.as_slice().iter().take(COMPARED_WORDS) {
+        let word = word_at(alloc, &mut scan, place_at(finding))?;
+        if word.similar.is_some() {
+            return Ok(unknown.len());
+        }
+    }
+    Ok(0)
 }

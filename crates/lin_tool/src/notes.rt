@@ -14,6 +14,7 @@ use crate::fault::Fault;
 use crate::field::is_read_otherwise;
 use crate::findings::put_remarks as put_remark_lines;
 use crate::locating::{put_places, put_remark_places};
+use crate::misspelled::count_unread;
 use crate::nearest::put_bad_bench_line;
 use crate::telling::{put_fault, write_fault};
 use lin_bench::Reason;
@@ -45,6 +46,7 @@ pub struct Notes<'a> {
     is_script_read: bool,
     is_old: bool,
     are_warnings_told: bool,
+    unknown: usize,
     places: String,
     text: String,
     is_cut: bool,
@@ -59,6 +61,7 @@ impl<'a> Notes<'a> {
             is_script_read: false,
             is_old: false,
             are_warnings_told: false,
+            unknown: 0,
             places: String::new(alloc),
             text: String::new(alloc),
             is_cut: false,
@@ -100,7 +103,7 @@ impl<'a> Notes<'a> {
         writer: &mut W,
     ) -> Result<(), WriteFailed> {
         if !self.are_warnings_told {
-            self.write_old(writer)?;
+            self.write_about(writer)?;
             self.write_warnings(writer)?;
         }
         if let Some(fault) = fault {
@@ -115,24 +118,38 @@ impl<'a> Notes<'a> {
 
     /// Writes the warnings of an LDF text that is accepted before what else is said.
     pub(crate) fn tell_warnings<W: Write>(&mut self, writer: &mut W) {
-        let _ = self.write_old(writer);
+        let _ = self.write_about(writer);
         let _ = self.write_warnings(writer);
         self.are_warnings_told = true;
     }
 
-    /// Writes that an LDF text of LIN 1.x was read as one of LIN 2.x, if it was.
-    fn write_old<W: Write>(&self, writer: &mut W) -> Result<(), WriteFailed> {
-        if !self.is_old {
+    /// Writes the lines about a whole LDF text: that one of LIN 1.x was read as one of LIN 2.x, and how
+    /// many of its sections and attributes LIN doesn't have.
+    fn write_about<W: Write>(&self, writer: &mut W) -> Result<(), WriteFailed> {
+        if !self.is_old && self.unknown == 0 {
             return Ok(());
         }
         let mut buffer = TextBuffer::empty();
         let mut lines = TextWriter::new(writer, &mut buffer);
+        if self.is_old {
+            self.put_file(&mut lines);
+            lines.put_text("ldf of LIN 1.x read as LIN 2.x; use --field\n");
+        }
+        if self.unknown > 0 {
+            self.put_file(&mut lines);
+            lines.put_text("ldf with unknown sections or attributes: ");
+            lines.put_number(self.unknown as u64);
+            lines.put_text(" ignored; check --lint lists them\n");
+        }
+        lines.finish()
+    }
+
+    /// Puts the name of the LDF's file before a line about the whole LDF, if places are wanted.
+    fn put_file<W: Write>(&self, lines: &mut TextWriter<'_, W>) {
         if let Some(file) = self.wanted.file {
             lines.put_text(file);
             lines.put_text(": ");
         }
-        lines.put_text("ldf of LIN 1.x read as LIN 2.x; use --field\n");
-        lines.finish()
     }
 
     /// Writes the warnings of an LDF text that is accepted.
@@ -242,6 +259,18 @@ impl<'a> Notes<'a> {
         if self.is_more_explained() {
             self.is_cut |= put_remarks(alloc, &mut self.text, text, remarks).is_err();
         }
+        Ok(())
+    }
+
+    /// Counts the sections and attributes of an LDF text that LIN doesn't have, if the word of one is
+    /// similar to one that it has.
+    ///
+    /// # Errors
+    /// Out of memory.
+    pub(crate) fn count_unknown(&mut self, alloc: Global, text: &[u8]) -> Result<(), AllocError>
+        ensures { self.new.warnings ≡ self.old.warnings }
+    {
+        self.unknown = count_unread(alloc, text)?;
         Ok(())
     }
 
