@@ -1,4 +1,5 @@
 pub mod Scan
+pub mod Borrowed
 pub mod ByteTable
 pub mod Lines
 pub mod Closes

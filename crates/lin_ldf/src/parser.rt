@@ -14,7 +14,7 @@ ghost use Rattle.lin_ldf.specs.UpTo.{front_kind};
 ghost use Rattle.lin_ldf.specs.Words.{word, name_of, place_of, opening, new_word, number_at, int};
 ghost use Rattle.lin_ldf.specs.Words.{dec, dec_in, is_word_next};
 ghost use Rattle.lin_ldf.specs.Grammar.{header_words, is_extra_next, without_quotes, protocol_text};
-ghost use Rattle.lin_ldf.specs.Grammar.{with_node, front_section};
+ghost use Rattle.lin_ldf.specs.Grammar.{file, with_node, front_section};
 ghost use Rattle.lin_ldf.specs.declared.fault.LdfFault.{LdfFault};
 ghost use Rattle.lin_ldf.specs.declared.fault.LdfFault.TheVariants.{OutOfMemory};
 ghost use Rattle.lin_parts.specs.declared.description.Description.{Description};
@@ -37,6 +37,8 @@ use std::marker::Model;
 #[derive(Drop)]
 pub struct Parser<'a> {
     alloc: Global,
+    /// Whether a section or an attribute was read over that no version of LIN has.
+    has_unknown: bool,
     pub(crate) front: Front<'a>,
 }
 
@@ -92,6 +94,7 @@ impl<'a> Parser<'a> {
     {
         Parser {
             alloc,
+            has_unknown: false,
             front: Front::new(source),
         }
     }
@@ -151,7 +154,17 @@ impl<'a> Parser<'a> {
     {
         Parser {
             alloc: self.alloc,
+            has_unknown: self.has_unknown,
             front: self.front,
+        }
+    }
+
+    /// A section or an attribute is read over: whether a version of LIN has its word.
+    pub fn note_word(&mut self, is_known: bool)
+        ensures { self.new ≡ self.old }
+    {
+        if !is_known {
+            self.has_unknown = true;
         }
     }
 
@@ -368,6 +381,16 @@ impl<'a> Parser<'a> {
         }
     }
 
+    /// A whole LDF text; and whether a section or an attribute in it was read over that no version of
+    /// LIN has.
+    fn file_noting(&mut self, has_unknown: &mut bool) -> Result<Description, LdfFault>
+        ensures { Gives result self.new (file.read self.old) }
+    {
+        let read = self.file();
+        *has_unknown = self.has_unknown;
+        read
+    }
+
     /// Whether the next token begins an extra line of the header.
     pub fn is_at_extra(&self) -> bool
         ensures { result ≡ is_extra_next self.now }
@@ -396,8 +419,27 @@ pub fn parse(alloc: Global, source: &[u8]) -> Result<Description, LdfFault>
     ensures first { (e : LdfFault) → IsLexFault source.now e → e ≢ OutOfMemory
         → IsErrAnd result (λ found. (found ≡ e) ⊎ (found ≡ OutOfMemory)) }
 {
+    let mut has_unknown = false;
+    parse_noting(alloc, source, &mut has_unknown)
+}
+
+/// What an LDF text describes, as of `parse`; and whether it has a section or a node attribute that no
+/// version of LIN has. (No contract says the latter. If the text describes something, it is whether
+/// `unknown_words` of `lin_values` finds any.)
+pub fn parse_noting(
+    alloc: Global,
+    source: &[u8],
+    has_unknown: &mut bool,
+) -> Result<Description, LdfFault>
+    ensures found { IfOk result (Describes source.now) }
+    ensures only { (d : Description) → Describes source.now d
+        → MatchResult result (λ found. found ≡ d) (λ e. e ≡ OutOfMemory) }
+    ensures one { (d e : Description) → Describes source.now d → Describes source.now e → d ≡ e }
+    ensures first { (e : LdfFault) → IsLexFault source.now e → e ≢ OutOfMemory
+        → IsErrAnd result (λ found. (found ≡ e) ⊎ (found ≡ OutOfMemory)) }
+{
     let mut parser = Parser::new(alloc, source);
-    match parser.file() {
+    match parser.file_noting(has_unknown) {
         Ok(found) => Ok(found),
         Err(LdfFault::OutOfMemory) => Err(LdfFault::OutOfMemory),
         Err(fault) => match first_fault(source) {

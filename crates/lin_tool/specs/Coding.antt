@@ -43,11 +43,11 @@ codings_read is_read ts = if is_read then Some (codings ts) else None
 abbrev pub configurables_read : Bool → List Symbol → Option (List Configurable)
 configurables_read is_linted ts = if is_linted then Some (configurables ts) else None
 
--- the words of sections and attributes among them that aren't known, where they are told
+-- the words of sections and attributes that LIN doesn't have, if they are reported
 abbrev pub unknown_read : Bool → List Symbol → List Finding
 unknown_read is_told ts = if is_told then unknown_words ts else []
 
--- what of all that the extras want; of a text of the field the words in any case
+-- what the extras want of all that; with --field the unknown words in any case
 abbrev pub sections_read : Bool → Extras → List Symbol → Sections
 sections_read is_field x ts =
     record {

@@ -44,8 +44,8 @@ pub struct Extras {
     pub is_linted: bool,
 }
 
-/// What sections of an LDF text say beside its description, where they are read: those of encodings,
-/// and in the attributes of nodes the lists of configurable frames; and their words that aren't known.
+/// What the sections of an LDF say in addition to its description, if they are read: the encodings, the
+/// configurable frames of node attributes, and the words that LIN doesn't have.
 #[derive(Drop)]
 pub(crate) struct Sections {
     pub codings: Option<Codings>,
@@ -106,7 +106,7 @@ fn configurables_of(
     }
 }
 
-/// The words of sections and attributes that aren't known, where they are told.
+/// Finds the words of sections and attributes that LIN doesn't have, if they are reported.
 ///
 /// An error means out of memory.
 fn unknown_of(alloc: Global, text: &[u8], is_told: bool) -> Result<Many<Finding>, AllocError>
@@ -122,8 +122,8 @@ fn unknown_of(alloc: Global, text: &[u8], is_told: bool) -> Result<Many<Finding>
     }
 }
 
-/// What sections of an LDF text say that the extras want; of a text of the field their words that
-/// aren't known in any case.
+/// Reads what the extras want of the sections of an LDF; with `--field` (`is_field`) the words that LIN
+/// doesn't have in any case.
 ///
 /// An error means out of memory.
 pub(crate) fn sections_of(

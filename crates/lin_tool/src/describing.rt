@@ -18,7 +18,7 @@ use crate::findings::Findings;
 use crate::notes::Notes;
 use lin_cluster::{CheckFault, check};
 use lin_field::Checked;
-use lin_ldf::{LdfFault, Parser, TokenKind, parse};
+use lin_ldf::{LdfFault, Parser, TokenKind, parse_noting};
 use lin_parts::Cluster;
 use lin_parts::description::Description;
 use lin_text::{Many, ReadFault, read_whole};
@@ -68,14 +68,14 @@ pub(crate) fn fault_of(fault: LdfFault) -> Fault
     }
 }
 
-/// What an LDF text describes, as its declarations.
+/// Reads the declarations of an LDF. Sets whether it has sections or attributes that LIN doesn't have.
 ///
 /// # Errors
 /// `Ldf` for the first fault of the text; `OutOfMemory`.
-fn description_of(alloc: Global, text: &[u8]) -> Result<Description, Fault>
+fn description_of(alloc: Global, text: &[u8], has_unknown: &mut bool) -> Result<Description, Fault>
     ensures { AnswersParse result text.now }
 {
-    match parse(alloc, text) {
+    match parse_noting(alloc, text, has_unknown) {
         Ok(description) => Ok(description),
         Err(fault) => Err(fault_of(fault)),
     }
@@ -104,7 +104,8 @@ fn said_by(alloc: Global, description: Description) -> Result<Cluster, Fault>
 pub fn cluster_of_text(alloc: Global, text: &[u8]) -> Result<Cluster, Fault>
     ensures { AnswersText result text.now }
 {
-    match description_of(alloc, text) {
+    let mut has_unknown = false;
+    match description_of(alloc, text, &mut has_unknown) {
         Ok(description) => said_by(alloc, description),
         Err(fault) => Err(fault),
     }
@@ -117,14 +118,20 @@ pub(crate) fn let_go(text: &mut Vec<u8>) {
     text.shrink_to_fit();
 }
 
-/// What an LDF text describes, and what of its sections the extras want.
+/// Reads the declarations of an LDF, and what the extras want of its sections. Sets whether it has unknown
+/// ones, as `description_of` does.
 ///
 /// # Errors
 /// Those of `description_of`.
-fn parse_text(alloc: Global, text: &[u8], extras: Extras) -> Result<(Description, Sections), Fault>
+fn parse_text(
+    alloc: Global,
+    text: &[u8],
+    extras: Extras,
+    has_unknown: &mut bool,
+) -> Result<(Description, Sections), Fault>
     ensures { AnswersSections extras result text.now }
 {
-    let description = description_of(alloc, text)?;
+    let description = description_of(alloc, text, has_unknown)?;
     let sections = sections_of(alloc, text, false, extras)?;
     Ok((description, sections))
 }
@@ -189,8 +196,9 @@ fn cluster_of_bytes(
 ) -> Result<Described, Fault>
     ensures { AnswersCoded extras result notes.new.warnings bytes.items }
 {
-    let parsed = parse_text(alloc, bytes.as_slice(), extras);
-    if parsed.is_ok() && !extras.is_linted {
+    let mut has_unknown = false;
+    let parsed = parse_text(alloc, bytes.as_slice(), extras, &mut has_unknown);
+    if has_unknown && parsed.is_ok() && !extras.is_linted {
         notes.count_unknown(alloc, bytes.as_slice())?;
     }
     let is_old = is_old(alloc, bytes.as_slice());
@@ -293,7 +301,8 @@ pub fn cluster_of_file<R: AllocGlobal + Files>(
 {
     match path {
         None => {
-            let parsed = parse_text(rt.alloc(), BUILT_IN, extras);
+            let mut has_unknown = false;
+            let parsed = parse_text(rt.alloc(), BUILT_IN, extras, &mut has_unknown);
             check_parsed(rt.alloc(), parsed, extras, BUILT_IN, notes)
         }
         Some(path) => {

@@ -6,8 +6,10 @@ use crate::nearest::edits_between;
 use crate::wanted::before;
 use lin_cluster::Finding;
 use lin_field::{Settled, read_field, settle};
-use lin_ldf::{Description, LdfFault, Parser, Place, TokenKind, parse};
-use lin_values::{ATTRIBUTE_WORDS, SECTION_WORDS, unknown_words};
+use lin_ldf::{
+    ATTRIBUTE_WORDS, Description, LdfFault, Parser, Place, SECTION_WORDS, TokenKind, parse,
+};
+use lin_values::unknown_words;
 use std::alloc::{AllocError, Global};
 
 /// How many words that LIN doesn't have are compared with those that it has.
@@ -57,15 +59,15 @@ pub(crate) fn described(
 /// The name that is most similar to a word, if at most half of its letters differ. Names that differ
 /// only by upper and lower case are the most similar.
 #[derive(Drop)]
-struct Nearest<'a> {
+struct Nearest<'w, 'a> {
     alloc: Global,
-    word: &'a [u8],
+    word: &'w [u8],
     edits: usize,
     name: Option<&'a [u8]>,
 }
 
-impl<'a> Nearest<'a> {
-    fn new(alloc: Global, word: &'a [u8]) -> Nearest<'a> {
+impl<'w, 'a> Nearest<'w, 'a> {
+    fn new(alloc: Global, word: &'w [u8]) -> Nearest<'w, 'a> {
         Nearest {
             alloc,
             word,
@@ -261,7 +263,7 @@ fn kind_at(alloc: Global, text: &[u8], place: Place) -> Kind {
 struct UnknownWord<'a> {
     what: &'static str,
     word: &'a [u8],
-    similar: Option<&'a [u8]>,
+    similar: Option<&'static [u8]>,
 }
 
 /// The word at a place that isn't before the scan's: outside of all braces it is a section's, and

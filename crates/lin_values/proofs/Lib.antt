@@ -1,6 +1,5 @@
 pub mod AddedRanges
 pub mod CodedAgain
-pub mod Borrowed
 pub mod CodedSignals
 pub mod CodingOrder
 pub mod ConfiguredRows

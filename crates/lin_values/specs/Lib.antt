@@ -19,7 +19,6 @@ pub mod Traits
 pub mod ItemNumbers
 pub mod Warnings
 pub mod Gathered
-pub mod Known
 pub mod Unknown
 pub mod Unused
 pub mod Meaning

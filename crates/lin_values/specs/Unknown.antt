@@ -14,7 +14,7 @@ use Rattle.lin_ldf.specs.Names.{has_name}
 use Rattle.lin_ldf.specs.Symbols.{Symbol}
 use Rattle.lin_ldf.specs.Words.{group, is_word_next, list}
 use Rattle.lin_ldf.specs.declared.token.TokenKind.TheVariants.{Word, OpenBrace}
-use Rattle.lin_values.specs.Known.{known_attributes, known_sections}
+use Rattle.lin_ldf.specs.Known.{known_attributes, known_sections}
 use Rattle.lin_values.specs.Passed.{has_line}
 
 -- ---- statements: a WORD and its group, or what ends with the next semicolon outside of braces

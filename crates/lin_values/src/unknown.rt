@@ -6,15 +6,14 @@ ghost use Rattle.lin_ldf.specs.Symbols.{symbols_in};
 ghost use Rattle.lin_ldf.specs.Stream.{start_of};
 ghost use Rattle.lin_ldf.specs.Tokens.{AreTokens};
 ghost use Rattle.lin_ldf.specs.declared.token.Token.{Token};
-ghost use Rattle.lin_values.specs.Known.{known_attributes};
+ghost use Rattle.lin_ldf.specs.Known.{known_attributes};
 ghost use Rattle.lin_values.specs.Unknown.{behind, behind_statement, inside, is_group, statements};
 ghost use Rattle.lin_values.specs.Unknown.{unknown_among, unknown_of_node, unknown_of_section};
 ghost use Rattle.lin_values.specs.Unknown.{unknown_unless, unknown_words};
 
-use crate::known::{is_attribute, is_section};
 use crate::lines::has_line;
 use lin_cluster::{Finding, FindingKind, push_when};
-use lin_ldf::{LdfFault, Parser, TokenKind};
+use lin_ldf::{LdfFault, Parser, TokenKind, is_attribute, is_section};
 use std::alloc::{AllocError, Global};
 
 /// Whether a word and a group are next.

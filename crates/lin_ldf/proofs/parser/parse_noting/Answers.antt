@@ -5,17 +5,17 @@ use Rattle.lin_ldf.specs.Grammar.{file}
 use Rattle.lin_ldf.specs.Stream.{start_of}
 use Rattle.lin_ldf.proofs.Described.{described_once}
 use Rattle.lin_ldf.proofs.Parsed.{no_fault, parsed_found, parsed_only, found_no_fault, faulty_only, faulty_first, all_tokens}
-use Rattle.lin_ldf.proofs.parser.parse.Goals as goal
+use Rattle.lin_ldf.proofs.parser.parse_noting.Goals as goal
 
 pub returns-in-Ok : goal.returns-in-Ok
 returns-in-Ok c =
     let source = c.args.source.now in
-    let read = subst (λ (ss : List Symbol). Gives (Ok c.in-Ok.found) c.file.new.self (file.read ss)) c.new-parser.ensures c.in-Ok.ensures in
+    let read = subst (λ (ss : List Symbol). Gives (Ok c.in-Ok.found) c.file_noting.new.self (file.read ss)) c.new-parser.ensures c.in-Ok.ensures in
     record {
-      found = parsed_found source c.in-Ok.found c.file.new.self read;
-      only = parsed_only source (Ok c.in-Ok.found) c.file.new.self read;
+      found = parsed_found source c.in-Ok.found c.file_noting.new.self read;
+      only = parsed_only source (Ok c.in-Ok.found) c.file_noting.new.self read;
       one = described_once source;
-      first = λ e is other. absurd (found_no_fault source c.in-Ok.found c.file.new.self read e is other);
+      first = λ e is other. absurd (found_no_fault source c.in-Ok.found c.file_noting.new.self read e is other);
     }
 
 pub returns-in-Err-OutOfMemory-clause-one : goal.returns-in-Err-OutOfMemory-clause-one
@@ -36,10 +36,10 @@ pub returns-in-None : goal.returns-in-None
 returns-in-None c =
     let source = c.args.source.now in
     let are = all_tokens source (sym c.in-None.ensures) in
-    let read = subst (λ (ss : List Symbol). Gives (Err c.in-Err.fault) c.file.new.self (file.read ss)) c.new-parser.ensures c.in-Err.ensures in
+    let read = subst (λ (ss : List Symbol). Gives (Err c.in-Err.fault) c.file_noting.new.self (file.read ss)) c.new-parser.ensures c.in-Err.ensures in
     record {
       found = tt;
-      only = parsed_only source (Err c.in-Err.fault) c.file.new.self read;
+      only = parsed_only source (Err c.in-Err.fault) c.file_noting.new.self read;
       one = described_once source;
       first = λ e is other. absurd (no_fault source _ are e is other);
     }

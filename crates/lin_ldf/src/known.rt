@@ -1,7 +1,7 @@
 //! The words of sections and of node attributes that a version of LIN has.
 
 ghost use Rattle.std.specs.Prelude.{◌≡◌, map};
-ghost use Rattle.lin_values.specs.Known.{known_attributes, known_sections};
+ghost use Rattle.lin_ldf.specs.Known.{known_attributes, known_sections};
 ghost use Rattle.lin_ldf.specs.Names.{has_name};
 
 /// The words of sections: those of LIN 2.2A, section 9.2, and `Diagnostic_addresses` of LIN 1.3.
