@@ -3,6 +3,8 @@ pub mod WordedValues
 pub mod Unwished
 pub mod WordedLines
 pub mod Wordless
+pub mod SignalPlaces
+pub mod UnmarkedValues
 pub mod SpelledArrays
 pub mod AllValues
 pub mod CountedValues

@@ -20,7 +20,7 @@ use Rattle.lin_bench.specs.Lines.{line_form, of_fields, read_line}
 use Rattle.lin_bench.specs.Scripts.{read, read_lines, without_mark}
 use Rattle.lin_values.specs.Coded.{CodedData}
 use Rattle.lin_bench.specs.Plain.{HasNoMarks, NamedTexts, PlainScripts}
-use Rattle.lin_bench.specs.Words.{read_worded_line, worded}
+use Rattle.lin_bench.specs.Words.{or_unmarked, read_worded_line, worded}
 use Rattle.lin_bench.proofs.Wordless.{wordless}
 use Rattle.lin_bench.specs.Made.{BenchState, course_of, made, said, stepped}
 use Rattle.lin_bench.specs.Played.{come_to, first, in_turn, judged_from, next, with_judgements}
@@ -108,13 +108,16 @@ unfolding line_says
 none-worded c l o true none k h e = ap worded (comment-fields l h) ∙ wordless c [] None none refl
 none-worded c l o false none k h e = wordless c (fields l) o none (rw (h, k) at e)
 
+good-stays : (c : Parts) (k : CodedData) (fs : List (List ℕ)) (o : Option (PortId × Step)) → or_unmarked c k fs (said_line o) ≡ said_line o
+good-stays c k fs o = refl
+
 coded-by : (c : Parts) (k : CodedData) (l : List ℕ) (o : Option (PortId × Step)) (b : Bool) → HasNoMarks c → (slice_index l 0 == 62) ≡ b
     → line_says (named c) l ≡ Ok o → read_worded_line c (Some k) l ≡ read_line c l
 unfolding read_worded_line
 coded-by c k l o true none h e = rw h (sym (reply-read c l h))
 coded-by c k l o false none h e =
     let n : worded (fields l) ≡ None = none-worded c l o (slice_index l 0 == 35) none h refl e in
-    rw (h, n) refl
+    rw (h, n) (ap (or_unmarked c k (fields l)) (line-read c l o e) ∙ good-stays c k (fields l) o ∙ sym (line-read c l o e))
 
 pub worded-line-read : (c : Parts) (k : CodedData) (l : List ℕ) (o : Option (PortId × Step)) → HasNoMarks c → line_says (named c) l ≡ Ok o
     → read_worded_line c (Some k) l ≡ said_line o

@@ -1,6 +1,6 @@
 -- The fields of a bench script's line, as the language of a cluster's names has them, and what is
 -- said of one that is bad.
-use Rattle.std.specs.Prelude.{ℕ, ◌==◌, ◌&&◌, ◌||◌, Bool, not, is_some, nat_lt, if◌then◌else◌, true, List, [], ◌∷◌, map}
+use Rattle.std.specs.Prelude.{ℕ, ◌==◌, ◌&&◌, ◌||◌, Bool, not, is_some, nat_lt, if◌then◌else◌, true, false, List, [], ◌∷◌, map}
 use Rattle.std.specs.Prelude.{drop, slice_index, Option, Some, None, option_map, Result, Ok, Err}
 use Rattle.std.specs.Prelude.{codes, length, reverse}
 use Rattle.std.specs.Borrow.{Bor}
@@ -38,6 +38,13 @@ of_step (Err why) = Err (Step why)
 
 abbrev pub fields : List ℕ → List (List ℕ)
 fields line = log.fields true line
+
+-- those of a comment too: a tab is a space, and `#` begins no comment
+abbrev pub untabbed : ℕ → ℕ
+untabbed b = if b == 9 then 32 else b
+
+abbrev pub all_fields : List ℕ → List (List ℕ)
+all_fields line = log.fields false (map untabbed line)
 
 -- the bytes of fields that are lent
 abbrev pub words : List (Bor (List ℕ)) → List (List ℕ)

@@ -5,6 +5,7 @@ pub mod Rules
 pub mod RuleLines
 pub mod Lines
 pub mod Meant
+pub mod Hints
 pub mod Words
 pub mod Parts
 pub mod Meanings

@@ -1,5 +1,5 @@
 -- What is said of bad lines and of expectations that aren't met.
-use Rattle.std.specs.Prelude.{ℕ, ◌==◌, if◌then◌else◌, List, [], ◌∷◌, ◌++◌, flat_map}
+use Rattle.std.specs.Prelude.{ℕ, ◌==◌, if◌then◌else◌, Bool, List, [], ◌∷◌, ◌++◌, flat_map}
 use Rattle.std.specs.Prelude.{codes, Option, Some, None}
 use Rattle.std.specs.Fmt.{decimal}
 use Rattle.std.specs.Option.{option_map_or}
@@ -16,6 +16,8 @@ use Rattle.lin_bench.specs.LineWords.Word.{Hex, Raw, Fixed, Said, Fields}
 use Rattle.lin_bench.specs.LineWords.Word.{Listed, Mark}
 use Rattle.lin_bench.specs.declared.expected.Carried.{Carried}
 use Rattle.lin_bench.specs.declared.expected.Carried.TheVariants.{Signals, Request, Response}
+use Rattle.lin_bench.specs.declared.reason.Hint.{Hint}
+use Rattle.lin_bench.specs.declared.reason.Hint.TheVariants as hint
 use Rattle.lin_bench.specs.declared.reason.Reason.{Reason}
 use Rattle.lin_bench.specs.declared.reason.Reason.TheVariants as reason
 use Rattle.lin_bench.specs.declared.expected.Expected.{Expected}
@@ -55,12 +57,27 @@ step_reason_words step.WriteForm = Fixed (codes "usage: write SIGNAL VALUE") ∷
 step_reason_words step.TimeoutForm =
     Fixed (codes "usage: timeout NODE down or timeout NODE up") ∷ []
 
--- no value means a text; decimals that are next to it, where there are such
-abbrev pub no_value_words : List ℕ → List ℕ → List (List ℕ) → List Word
-no_value_words text signal [] = Said signal ∷ Fixed (codes "has no value") ∷ Said text ∷ []
-no_value_words text signal (t ∷ ts) =
-    Said signal ∷ Fixed (codes "has no value") ∷ Said text ∷ Fixed (codes "(nearest:")
-    ∷ Listed (t ∷ ts) ∷ Mark (codes ")") ∷ []
+-- the hint about the values of a signal
+abbrev pub hint_words : Hint → List Word
+hint_words hint.Nothing = []
+hint_words hint.NoEncoding = Fixed (codes "(no encoding)") ∷ []
+hint_words (hint.Units us) = Fixed (codes "(units:") ∷ Listed us ∷ Mark (codes ")") ∷ []
+hint_words (hint.Nearest ts) = Fixed (codes "(nearest:") ∷ Listed ts ∷ Mark (codes ")") ∷ []
+hint_words (hint.Values ts) = Fixed (codes "(values:") ∷ Listed ts ∷ Mark (codes ")") ∷ []
+
+-- no raw value has a text
+abbrev pub no_value_words : List ℕ → List ℕ → Hint → List Word
+no_value_words text signal h =
+    Said signal ∷ Fixed (codes "has no value") ∷ Said text ∷ hint_words h
+
+-- a value isn't raw, and `=` is missing
+abbrev pub or_marked : Bool → List ℕ
+or_marked ranged =
+    if ranged then codes ", a range, or = before a text, not" else codes ", or = before a text, not"
+
+abbrev pub unmarked_words : List (List ℕ) → Bool → Hint → List Word
+unmarked_words fields ranged h =
+    Fixed (codes "expected a raw value") ∷ Mark (or_marked ranged) ∷ Fields fields ∷ hint_words h
 
 -- why a line is bad
 abbrev pub reason_words : Reason → List Word
@@ -99,7 +116,8 @@ reason_words (reason.WideErrorSignal signal bits) =
     ∷ Fixed (codes "bits") ∷ []
 reason_words (reason.NoDecimal field) = Said field ∷ Fixed (codes "isn't a number") ∷ []
 reason_words reason.NoWords = Fixed (codes "missing value") ∷ []
-reason_words (reason.NoValue text signal near) = no_value_words text signal near
+reason_words (reason.NoValue text signal h) = no_value_words text signal h
+reason_words (reason.Unmarked fields ranged h) = unmarked_words fields ranged h
 reason_words (reason.SeveralValues count text signal) =
     Number count ∷ Fixed (codes "values of") ∷ Said signal ∷ Fixed (codes "have the text")
     ∷ Said text ∷ []

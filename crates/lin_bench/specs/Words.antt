@@ -1,24 +1,26 @@
 -- Lines that say values of signals in words, behind `=` or `~`. Such a line says what it says with a
 -- raw value in the place of the words; an expectation, that the value is one that the words say.
-use Rattle.std.specs.Prelude.{ℕ, ◌+◌, ◌-◌, ◌==◌, ◌&&◌, ◌||◌, not, Bool, true, false, ℤ, List, []}
+use Rattle.std.specs.Prelude.{ℕ, suc, zero, ◌+◌, ◌-◌, ◌==◌, ◌&&◌, ◌||◌, not, Bool, true, false, ℤ, List, []}
 use Rattle.std.specs.Prelude.{◌∷◌, ◌++◌, length, take, drop, slice_index_or, Option, Some, None}
 use Rattle.std.specs.Prelude.{Result, Ok, Err, codes, nat_lt, if◌then◌else◌, slice_index}
-use Rattle.std.specs.Prelude.{position, int_lt, option_and_then, ◌-ℤ◌}
-use Rattle.std.specs.Option.{option_map, option_map_or, option_to_list}
+use Rattle.std.specs.Prelude.{position, int_lt, is_some, min, option_and_then, ◌-ℤ◌}
+use Rattle.std.specs.List.{list_all}
+use Rattle.std.specs.Option.{option_map, option_map_or}
 use Rattle.std.specs.Str.{bytes_eq}
 use Rattle.std.specs.Char.{is_ascii_digit}
 use lib.IntN.{◌+ℤ◌}
+use Rattle.hex.specs.Hex.{hex_digit_value}
 use Rattle.lin_parts.specs.declared.parts.Parts.{Parts}
 use Rattle.lin_frame.specs.declared.value.Value.{Value}
 use Rattle.lin_frame.specs.declared.value.Value.TheVariants.{Scalar}
 use Rattle.lin_log.specs.Words.{value_word}
-use Rattle.lin_values.specs.Coded.{CodedData}
-use Rattle.lin_values.specs.Meaning.{meaning}
-use Rattle.lin_values.specs.Raws.{above, below, nearest, values_of}
+use Rattle.lin_values.specs.Coded.{CodedData, encoding_of}
+use Rattle.lin_values.specs.Raws.{nearest, values_of}
 use Rattle.lin_values.specs.Read.{number_and_unit, spelled}
-use Rattle.lin_values.specs.Shown.{plain_shown}
 use Rattle.lin_values.specs.Value.{is_small}
-use Rattle.lin_bench.specs.Fields.{◌>>=◌, fields, signal_field}
+use Rattle.lin_values.specs.declared.items.PlacedItem.{PlacedItem}
+use Rattle.lin_bench.specs.Fields.{◌>>=◌, all_fields, fields, range_ends, signal_field}
+use Rattle.lin_bench.specs.Hints.{names_hash, texts_in, unit_hint, units_hint, units_in, value_hint, values_hint}
 use Rattle.lin_bench.specs.Lines.{read_line}
 use Rattle.lin_bench.specs.Meant.{values_within}
 use Rattle.lin_bench.specs.LineWords.{fields_text}
@@ -26,8 +28,9 @@ use Rattle.lin_bench.specs.declared.expected.Expected.{Expected}
 use Rattle.lin_bench.specs.declared.expected.Expected.TheVariants as expected
 use Rattle.lin_bench.specs.declared.line.Line.{Line}
 use Rattle.lin_bench.specs.declared.line.Line.TheVariants as lines
+use Rattle.lin_bench.specs.declared.reason.Hint.{Hint}
 use Rattle.lin_bench.specs.declared.reason.Reason.{Reason}
-use Rattle.lin_bench.specs.declared.reason.Reason.TheVariants.{NoDecimal, NoWords, NoValue, SeveralValues, NoRange}
+use Rattle.lin_bench.specs.declared.reason.Reason.TheVariants.{NoDecimal, NoWords, NoValue, SeveralValues, NoRange, Unmarked}
 use Rattle.lin_bench.specs.declared.words.Wish.{Wish}
 use Rattle.lin_bench.specs.declared.words.Wish.TheVariants.{Write, Nearest, Expect}
 
@@ -98,16 +101,8 @@ small_number text = option_and_then (λ p. if is_small p.0 then Some p else None
 abbrev pub is_bad_number : List ℕ → Bool
 is_bad_number text = option_map_or (λ p. not (is_small p.0)) (number_and_unit text) (begins_number text)
 
--- the texts of the decimals next to a number, without units
-abbrev pub near_words : CodedData → ℕ → Option ℕ → List (List ℕ)
-near_words k s raw =
-    option_to_list (option_map plain_shown (option_and_then (λ n. meaning k s (Scalar n)) raw))
-
-abbrev pub near_number : CodedData → ℕ → ℤ × List ℕ → List (List ℕ)
-near_number k s p = near_words k s (below k s p.0 p.1) ++ near_words k s (above k s p.0 p.1)
-
 abbrev pub no_value : CodedData → ℕ → List ℕ → List ℕ → Reason
-no_value k s field text = NoValue text field (option_map_or (near_number k s) (number_and_unit text) [])
+no_value k s field text = NoValue text field (value_hint k s text)
 
 abbrev pub why_none : CodedData → ℕ → List ℕ → List ℕ → List ℕ → Reason
 why_none k s field text word =
@@ -138,30 +133,50 @@ abbrev pub decimal_fields : List (List ℕ) → Result (ℤ × List ℕ) Reason
 decimal_fields [] = Err NoWords
 decimal_fields (f ∷ fs) = option_map_or (λ p. Ok p) (small_number (fields_text (f ∷ fs))) (Err (NoDecimal f))
 
-abbrev pub between : CodedData → ℕ → List ℕ → ℤ → ℤ → List ℕ → Result (List Value) Reason
-between k s text low high unit =
-    if int_lt high low then Err (NoRange text) else Ok (values_within k s low high unit)
+-- one value at least
+abbrev pub some_values : Reason → List Value → Result (List Value) Reason
+some_values why [] = Err why
+some_values why (v ∷ vs) = Ok (v ∷ vs)
+
+-- the values from one decimal to another with a unit, or with any if it is empty
+abbrev pub some_between : CodedData → ℕ → List ℕ → List ℕ → ℤ → ℤ → List ℕ
+    → Result (List Value) Reason
+some_between k s field text low high unit =
+    some_values (NoValue text field (unit_hint k s unit)) (values_within k s low high unit)
+
+abbrev pub between : CodedData → ℕ → List ℕ → List ℕ → ℤ → ℤ → List ℕ → Result (List Value) Reason
+between k s field text low high unit =
+    if int_lt high low then Err (NoRange text) else some_between k s field text low high unit
 
 -- the values of a decimal, give or take a tolerance
-abbrev pub around : CodedData → ℕ → List ℕ → List ℕ → List (List ℕ) → Result (List Value) Reason
-around k s text f fs = do
+abbrev pub around : CodedData → ℕ → List ℕ → List ℕ → List ℕ → List (List ℕ)
+    → Result (List Value) Reason
+around k s field text f fs = do
   z ← decimal_field f
   t ← decimal_fields fs
-  between k s text (z -ℤ t.0) (z +ℤ t.0) t.1
+  between k s field text (z -ℤ t.0) (z +ℤ t.0) t.1
 
 -- those from one decimal to another
-abbrev pub from_to : CodedData → ℕ → List ℕ → List ℕ → List (List ℕ) → Result (List Value) Reason
-from_to k s text f fs = do
+abbrev pub from_to : CodedData → ℕ → List ℕ → List ℕ → List ℕ → List (List ℕ)
+    → Result (List Value) Reason
+from_to k s field text f fs = do
   low ← decimal_field f
   high ← decimal_fields fs
-  between k s text low high.0 high.1
+  between k s field text low high.0 high.1
 
-unfoldable pub expected_values : CodedData → ℕ → List (List ℕ) → Result (List Value) Reason
-expected_values k s (f ∷ m ∷ fs) =
-    if begins_number f && bytes_eq m (codes "+-") then around k s (fields_text (f ∷ m ∷ fs)) f fs
-    else if begins_number f && bytes_eq m (codes "..") then from_to k s (fields_text (f ∷ m ∷ fs)) f fs
-    else Ok (values_of k s (fields_text (f ∷ m ∷ fs)))
-expected_values k s ws = Ok (values_of k s (fields_text ws))
+-- those with a text, whose first word this is
+abbrev pub by_text : CodedData → ℕ → List ℕ → List ℕ → List ℕ → Result (List Value) Reason
+by_text k s field text word =
+    some_values (why_none k s field text word) (values_of k s text)
+
+-- those that a text says, by its first word and the others
+abbrev pub expected_values : CodedData → ℕ → List ℕ → List ℕ → List ℕ → List (List ℕ)
+    → Result (List Value) Reason
+expected_values k s field text f (m ∷ fs) =
+    if begins_number f && bytes_eq m (codes "+-") then around k s field text f fs
+    else if begins_number f && bytes_eq m (codes "..") then from_to k s field text f fs
+    else by_text k s field text f
+expected_values k s field text f [] = by_text k s field text f
 
 -- an expectation of a value, with the values that words say in its place
 abbrev pub meant_by : Expected → List ℕ → List Value → Expected
@@ -180,34 +195,153 @@ meant_line text values other = other
 abbrev pub in_numbers : List (List ℕ) → List ℕ → Value → List ℕ
 in_numbers before signal v = fields_text (before ++ signal ∷ value_word v ∷ [])
 
--- a line that asks for this of a signal, in words of which this is the first; with the value 0 it
--- says this
-abbrev pub worded_by : Parts → CodedData → WordedLine → Option Line → List ℕ → ℕ → Wish
+-- a write of the one value of a text, whose first word this is, and one of the value nearest to it
+unfoldable pub written_line : Parts → CodedData → ℕ → WordedLine → List ℕ → List ℕ → List ℕ
     → Result (Option Line) Reason
-worded_by c k w zero word s Write = do
-  v ← only_value k s w.signal (fields_text w.words) word (values_of k s (fields_text w.words))
+written_line c k s w field text word = do
+  v ← only_value k s field text word (values_of k s text)
   read_line c (in_numbers w.before w.signal v)
-worded_by c k w zero word s Nearest = do
-  v ← nearest_value k s w.signal (fields_text w.words) word
-  read_line c (in_numbers w.before w.signal v)
-worded_by c k w zero word s Expect =
-    expected_values k s w.words >>= (λ values. Ok (meant_line (fields_text w.words) values zero))
 
-abbrev pub with_words : Parts → CodedData → WordedLine → Option Line → List (List ℕ)
+unfoldable pub nearest_line : Parts → CodedData → ℕ → WordedLine → List ℕ → List ℕ → List ℕ
     → Result (Option Line) Reason
-with_words c k w zero [] = Err NoWords
-with_words c k w zero (word ∷ ws) =
-    signal_field c w.signal >>= (λ s. worded_by c k w zero word s w.wish)
+nearest_line c k s w field text word = do
+  v ← nearest_value k s field text word
+  read_line c (in_numbers w.before w.signal v)
+
+-- an expectation of the values that a text says, by what its line says with the value 0
+unfoldable pub expected_line : CodedData → ℕ → List ℕ → List ℕ → List ℕ → List (List ℕ) → Option Line
+    → Result (Option Line) Reason
+expected_line k s field text word ws at_zero =
+    expected_values k s field text word ws >>= (λ values. Ok (meant_line text values at_zero))
+
+-- a line that asks for this of a signal, by the first of its words and the others; with the value 0
+-- it says this
+abbrev pub by_wish : Parts → CodedData → WordedLine → Option Line → List ℕ → List ℕ → List ℕ
+    → List (List ℕ) → ℕ → Wish → Result (Option Line) Reason
+by_wish c k w at_zero field text word ws s Write = written_line c k s w field text word
+by_wish c k w at_zero field text word ws s Nearest = nearest_line c k s w field text word
+by_wish c k w at_zero field text word ws s Expect = expected_line k s field text word ws at_zero
+
+unfoldable pub worded_by : Parts → CodedData → WordedLine → Option Line → List ℕ → List (List ℕ) → ℕ
+    → Result (Option Line) Reason
+worded_by c k w at_zero word ws s =
+    by_wish c k w at_zero w.signal (fields_text w.words) word ws s w.wish
+
+abbrev pub with_words : Parts → CodedData → WordedLine → Option Line → ℕ → List (List ℕ)
+    → Result (Option Line) Reason
+with_words c k w at_zero s [] = Err NoWords
+with_words c k w at_zero s (word ∷ ws) = worded_by c k w at_zero word ws s
+
+-- a line whose words go on to its end: it has no comment
+abbrev pub without_comment : WordedLine → List ℕ → WordedLine
+without_comment w l = record w { words = drop (length w.before + 2) (all_fields l) }
+
+-- after `=` and `~`, `#` begins no comment if a text or a unit of the signal has one
+abbrev pub with_hash : CodedData → ℕ → WordedLine → List ℕ → WordedLine
+with_hash k s w l = if names_hash k s then without_comment w l else w
+
+abbrev pub with_signal : Parts → CodedData → WordedLine → Option Line → ℕ → Result (Option Line) Reason
+with_signal c k w at_zero s = with_words c k w at_zero s w.words
 
 -- all fields before the words are judged as those of a line with a raw value are, and then the words
-unfoldable pub worded_line : Parts → CodedData → WordedLine → Result (Option Line) Reason
-worded_line c k w = do
-  zero ← read_line c (in_numbers w.before w.signal (Scalar 0))
-  with_words c k w zero w.words
+unfoldable pub worded_line : Parts → CodedData → WordedLine → List ℕ → Result (Option Line) Reason
+worded_line c k w l = do
+  at_zero ← read_line c (in_numbers w.before w.signal (Scalar 0))
+  s ← signal_field c w.signal
+  with_signal c k (with_hash k s w l) at_zero s
+
+-- ---- lines without words: why one is bad in which `=` is missing
+
+-- what is meant as a raw value or a range: digits, `0x` and more, `x-`, or `x` and hexadecimal digits
+abbrev pub is_hex : ℕ → Bool
+is_hex c = is_some (hex_digit_value c)
+
+abbrev pub is_array_word : List ℕ → Bool
+is_array_word f =
+    slice_index f 0 == 120 && (bytes_eq (drop 1 f) (codes "-") || list_all is_hex (drop 1 f))
+
+abbrev pub begins_hex : List ℕ → Bool
+begins_hex f = slice_index f 0 == 48 && slice_index f 1 == 120
+
+abbrev pub is_raw : List ℕ → Bool
+is_raw f = list_all is_ascii_digit f || (begins_hex f || is_array_word f)
+
+abbrev pub is_numeric : List (List ℕ) → Bool
+is_numeric (f ∷ []) = is_raw f || is_some (range_ends f)
+is_numeric fs = false
+
+-- whether a line is good
+abbrev pub is_good : Result (Option Line) Reason → Bool
+is_good (Ok l) = true
+is_good (Err why) = false
+
+-- whether a line with the value 0 after a signal is good
+abbrev pub reads_zero : Parts → List (List ℕ) → List ℕ → Bool
+reads_zero c before signal = is_good (read_line c (in_numbers before signal (Scalar 0)))
+
+-- whether a field is a signal with its value after it, by the fields before it
+abbrev pub asks_value : List (List ℕ) → Bool
+asks_value before = is_write before || is_expect before
+
+abbrev pub is_signal_after : Parts → List (List ℕ) → List ℕ → Bool
+is_signal_after c before signal = asks_value before && reads_zero c before signal
+
+abbrev pub is_signal : Parts → List (List ℕ) → ℕ → Bool
+is_signal c fs i = is_signal_after c (take i fs) (slice_index_or fs i [])
+
+-- the last such field from this one down, not the first of the line
+abbrev pub last_signal : Parts → List (List ℕ) → ℕ → Option ℕ
+last_signal c fs zero = None
+last_signal c fs (suc i) = if is_signal c fs (suc i) then Some (suc i) else last_signal c fs i
+
+-- at most six fields stand before a signal: `every N ms PORT write NODE`, `slots N ms until signal NODE`
+abbrev pub signal_at : Parts → List (List ℕ) → Option ℕ
+signal_at c fs = last_signal c fs (min (length fs - 2) 6)
+
+-- for a number the units, if the signal has some; else the texts, or the units
+abbrev pub missing_hint : CodedData → ℕ → List PlacedItem → List ℕ → Hint
+missing_hint k s ps text =
+    if is_some (number_and_unit text) && nat_lt 0 (length (units_in ps)) then units_hint (units_in ps)
+    else values_hint (units_in ps) (texts_in k s ps)
+
+-- that `=` is missing before a value, if the signal has an encoding
+abbrev pub unmarked : CodedData → ℕ → Bool → List (List ℕ) → List PlacedItem → Reason
+unmarked k s ranged value ps = Unmarked value ranged (missing_hint k s ps (fields_text value))
+
+abbrev pub why_coded : CodedData → ℕ → Bool → List (List ℕ) → Option Reason
+why_coded k s ranged value = option_map (λ t. unmarked k s ranged value t.items) (encoding_of k s)
+
+abbrev pub why_signal : CodedData → Result ℕ Reason → Bool → List (List ℕ) → Option Reason
+why_signal k (Ok s) ranged value = why_coded k s ranged value
+why_signal k (Err other) ranged value = None
+
+abbrev pub why_value : CodedData → Result ℕ Reason → Bool → List (List ℕ) → Option Reason
+why_value k signal ranged value =
+    if is_numeric value then None else why_signal k signal ranged value
+
+abbrev pub why_at : Parts → CodedData → List (List ℕ) → ℕ → Option Reason
+why_at c k fs i =
+    why_value k (signal_field c (slice_index_or fs i [])) (is_expect (take i fs)) (drop (i + 1) fs)
+
+abbrev pub why_unmarked : Parts → CodedData → List (List ℕ) → Option Reason
+why_unmarked c k fs = option_and_then (why_at c k fs) (signal_at c fs)
+
+abbrev pub or_this : Option Reason → Reason → Reason
+or_this None why = why
+or_this (Some better) why = better
+
+-- what a line without words says, by what it says where what signals mean isn't known: that `=` is
+-- missing, or else why the line is bad there
+abbrev pub or_unmarked : Parts → CodedData → List (List ℕ) → Result (Option Line) Reason
+    → Result (Option Line) Reason
+or_unmarked c k fs (Ok l) = Ok l
+or_unmarked c k fs (Err why) = Err (or_this (why_unmarked c k fs) why)
+
+-- ---- all lines
 
 abbrev pub worded_or_plain : Parts → CodedData → List ℕ → Option WordedLine → Result (Option Line) Reason
-worded_or_plain c k l None = read_line c l
-worded_or_plain c k l (Some w) = worded_line c k w
+worded_or_plain c k l None = or_unmarked c k (fields l) (read_line c l)
+worded_or_plain c k l (Some w) = worded_line c k w l
 
 -- what a line of a bench script says, where what signals mean is known, or isn't
 unfoldable pub read_worded_line : Parts → Option CodedData → List ℕ → Result (Option Line) Reason

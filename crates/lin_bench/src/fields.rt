@@ -1,8 +1,8 @@
 //! The fields of a line, as the language of a cluster's names has them.
 
-ghost use Rattle.std.specs.Prelude.{◌≡◌, ◌∷◌, ◌&&◌, codes, true, IfOk, option_map};
+ghost use Rattle.std.specs.Prelude.{◌≡◌, ◌∷◌, ◌&&◌, codes, true, IfOk, map, option_map};
 ghost use Rattle.std.specs.Str.{bytes_eq};
-ghost use Rattle.lin_log.specs.Said.{bytes_of, row};
+ghost use Rattle.lin_log.specs.Said.{bytes_of, fields as said_fields, row};
 ghost use Rattle.lin_bench.specs.Fields.{bytes_fields, count_field, fields, node_field, number_field};
 ghost use Rattle.lin_bench.specs.Fields.{after_dots, frame_called, frame_field, frame_numbered};
 ghost use Rattle.lin_bench.specs.Fields.{frames_called, has_commander, lacks_end, message_frame};
@@ -10,7 +10,7 @@ ghost use Rattle.lin_log.specs.Language.{number_named};
 ghost use Rattle.lin_bench.specs.Fields.{or_bad, range_ends, range_field, rows_and_time};
 ghost use Rattle.lin_bench.specs.Fields.{host_field, pair_fields, present_node, present_signal};
 ghost use Rattle.lin_bench.specs.Fields.{present_table, sends};
-ghost use Rattle.lin_bench.specs.Fields.{signal_field, table_field, value_field, words};
+ghost use Rattle.lin_bench.specs.Fields.{signal_field, table_field, untabbed, value_field, words};
 ghost use Rattle.lin_bench.specs.Read.{Gives};
 ghost use Rattle.lin_bench.specs.declared.reason.Reason.{Reason};
 
@@ -19,26 +19,43 @@ use crate::fault::LineFault;
 use crate::reason::Reason;
 use lin_core::Payload;
 use lin_frame::Value;
-use lin_log::{Reason as StepReason, decoded, first_field, hex_bytes, is_number};
+use lin_log::{Naming, Reason as StepReason, decoded, first_field, hex_bytes, is_number};
 use lin_parts::Cluster;
 use lin_text::{Many, Text};
 use std::alloc::{AllocError, Global};
 
-/// The fields of a line.
-pub(crate) fn fields<'a>(
+/// The fields of a line, as these names have them.
+pub(crate) fn fields<'a, N: Naming>(
     alloc: Global,
-    cluster: &Cluster,
+    names: &N,
     line: &'a [u8],
 ) -> Result<Vec<&'a [u8]>, AllocError>
-    ensures { IfOk result (λ v. words v.items ≡ fields line.now) }
+    ensures { IfOk result (λ v. words v.items ≡ said_fields (N.language names.now).free line.now) }
 {
     let mut fields = Vec::new(alloc);
     let mut left = line;
-    while let Some((field, rest)) = first_field(cluster, left) {
+    while let Some((field, rest)) = first_field(names, left) {
         fields.push(field)?;
         left = rest;
     }
     Ok(fields)
+}
+
+fn without_tab(byte: u8) -> u8
+    ensures { result ≡ untabbed byte }
+{
+    if byte == b'\t' { b' ' } else { byte }
+}
+
+/// A line with a space in place of each tab.
+pub(crate) fn untabbed(alloc: Global, line: &[u8]) -> Result<Vec<u8>, AllocError>
+    ensures { IfOk result (λ text. text.items ≡ map untabbed line.now) }
+{
+    let mut text = Vec::new(alloc);
+    for byte in line {
+        text.push(without_tab(*byte))?;
+    }
+    Ok(text)
 }
 
 /// A number of 1 to 10 digits, at most a limit.

@@ -2,6 +2,22 @@
 
 use lin_text::{Many, Text};
 
+/// The hint about the values of a signal that doesn't have a value. Of more than eight units or texts it
+/// has the first eight, and `..`.
+#[derive(Debug, Drop)]
+pub enum Hint {
+    /// No hint.
+    Nothing,
+    /// The signal has no encoding.
+    NoEncoding,
+    /// The units of its ranges.
+    Units(Many<Text>),
+    /// The decimals next to a number.
+    Nearest(Many<Text>),
+    /// The texts of its values.
+    Values(Many<Text>),
+}
+
 /// Why a line of a bench script is bad. The fields are as they stand in the line.
 #[derive(Debug, Drop)]
 pub enum Reason {
@@ -61,11 +77,17 @@ pub enum Reason {
     NoDecimal(Text),
     /// No value behind `=` or `~`.
     NoWords,
-    /// No value of a signal means this text; decimals that are next to it, where there are such.
+    /// No raw value of a signal has this text, or is in this tolerance or this range.
     NoValue {
         text: Text,
         signal: Text,
-        near: Many<Text>,
+        hint: Hint,
+    },
+    /// These fields aren't a raw value, nor a range if one is possible there: `=` is missing.
+    Unmarked {
+        fields: Many<Text>,
+        ranged: bool,
+        hint: Hint,
     },
     /// Several values of a signal mean this text.
     SeveralValues {

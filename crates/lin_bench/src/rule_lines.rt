@@ -33,7 +33,8 @@ const LONGEST_MESSAGE: usize = 4_095;
 /// The last byte of a message that may be copied into an answer.
 const LAST_BYTE: u32 = 4_094;
 
-fn digit(sign: u8) -> Option<u8>
+/// The value of a hexadecimal digit.
+pub(crate) fn digit(sign: u8) -> Option<u8>
     ensures value { result ≡ hex_digit_value sign }
     ensures small { IfSome result (λ v. v < 16) }
 {

@@ -1,26 +1,24 @@
 //! The values of signals that words say: the one that is written, and those that are expected.
 
-ghost use Rattle.std.specs.Prelude.{◌≡◌, ◌++◌, ◌≤◌, ◌<◌, ◌^◌, [], IfOk, Ok, OnOk, unsigned_abs};
-ghost use Rattle.std.specs.Option.{option_map_or};
-ghost use Rattle.lin_values.specs.Meaning.{meant};
+ghost use Rattle.std.specs.Prelude.{◌≡◌, ◌≤◌, ◌<◌, ◌^◌, IfOk, unsigned_abs};
 ghost use Rattle.lin_values.specs.Raws.{values_of};
-ghost use Rattle.lin_values.specs.Read.{number_and_unit};
-ghost use Rattle.lin_values.specs.Shown.{plain_shown};
 ghost use Rattle.lin_bench.specs.Fields.{words};
+ghost use Rattle.lin_bench.specs.Hints.{unit_hint};
 ghost use Rattle.lin_bench.specs.Read.{Gives};
 ghost use Rattle.lin_bench.specs.LineWords.{fields_text};
-ghost use Rattle.lin_bench.specs.Words.{around, begins_number, between, decimal_field, decimal_fields};
-ghost use Rattle.lin_bench.specs.Words.{expected_values, from_to, is_bad_number, near_number};
-ghost use Rattle.lin_bench.specs.Words.{near_words, nearest_value, no_value, only_value, why_none};
+ghost use Rattle.lin_bench.specs.Words.{around, begins_number, between, by_text, decimal_field};
+ghost use Rattle.lin_bench.specs.Words.{decimal_fields, expected_values, from_to, is_bad_number};
+ghost use Rattle.lin_bench.specs.Words.{nearest_value, no_value, only_value, some_between, why_none};
 ghost use Rattle.lin_bench.specs.declared.fault.LineFault.{LineFault};
 ghost use Rattle.lin_bench.specs.declared.reason.Reason.{Reason};
 
 use crate::fault::LineFault;
+use crate::hints::{unit_hint, value_hint};
 use crate::meant::MeantValues;
 use crate::reason::Reason;
 use lin_frame::Value;
-use lin_text::{Many, Text, TextBuffer, TextWriter};
-use lin_values::{Coded, Meaning, is_small, number_and_unit, put_plain, read_decimal, units};
+use lin_text::Text;
+use lin_values::{Coded, is_small, number_and_unit, read_decimal, units};
 use std::alloc::{AllocError, Global};
 
 /// What a line says in words: the number and the field of the signal, the text of the words, and the
@@ -67,59 +65,6 @@ fn no_decimal(alloc: Global, field: &[u8]) -> Result<LineFault, AllocError>
     Ok(LineFault::Bad(Reason::NoDecimal(Text::copied(alloc, field)?)))
 }
 
-/// The text of a meaning without its unit and without quotes.
-fn plain_text(alloc: Global, meaning: &Meaning<'_>) -> Result<Vec<u8>, AllocError>
-    ensures { IfOk result (λ text. text.items ≡ plain_shown (meant meaning.now)) }
-{
-    let mut text = Vec::new(alloc);
-    let mut buffer = TextBuffer::empty();
-    let mut out = TextWriter::new(&mut text, &mut buffer);
-    put_plain(&mut out, meaning);
-    match out.finish() {
-        Ok(()) => Ok(text),
-        Err(_) => Err(AllocError),
-    }
-}
-
-/// Adds the text, without unit, of what a raw value of a signal means.
-fn add_near(
-    alloc: Global,
-    coded: &Coded,
-    signal: u16,
-    raw: Option<u16>,
-    texts: &mut Vec<Text>,
-) -> Result<(), AllocError>
-    ensures { OnOk result (texts.new.items ≡ texts.old.items ++ near_words coded.now signal raw) }
-{
-    let Some(raw) = raw else {
-        return Ok(());
-    };
-    if let Some(meaning) = coded.meaning(signal, &Value::Scalar(raw)) {
-        let text = plain_text(alloc, &meaning)?;
-        texts.push(Text::copied(alloc, text.as_slice())?)?;
-    }
-    Ok(())
-}
-
-/// What is next to a text's number among the values of a signal.
-fn near_text(
-    alloc: Global,
-    coded: &Coded,
-    signal: u16,
-    text: &[u8],
-) -> Result<Many<Text>, AllocError>
-    ensures { IfOk result (λ texts. texts
-        ≡ option_map_or (near_number coded.now signal) (number_and_unit text.now) []) }
-{
-    let mut texts = Vec::new(alloc);
-    if let Some((number, unit)) = number_and_unit(text) {
-        let (below, above) = coded.neighbours(signal, number, unit);
-        add_near(alloc, coded, signal, below, &mut texts)?;
-        add_near(alloc, coded, signal, above, &mut texts)?;
-    }
-    Ok(Many::new(texts))
-}
-
 /// That no value of a signal is meant by words.
 fn no_value(alloc: Global, coded: &Coded, said: Said<'_>) -> Result<LineFault, AllocError>
     ensures { IfOk result (λ fault. fault ≡ LineFault.Bad
@@ -128,7 +73,7 @@ fn no_value(alloc: Global, coded: &Coded, said: Said<'_>) -> Result<LineFault, A
     Ok(LineFault::Bad(Reason::NoValue {
         text: Text::copied(alloc, said.text)?,
         signal: Text::copied(alloc, said.field)?,
-        near: near_text(alloc, coded, said.signal, said.text)?,
+        hint: value_hint(alloc, coded, said.signal, said.text)?,
     }))
 }
 
@@ -226,6 +171,44 @@ fn decimal_fields<'a>(
     }
 }
 
+/// That no value of a signal is in a tolerance or a range with a unit.
+fn none_between(
+    alloc: Global,
+    coded: &Coded,
+    said: Said<'_>,
+    unit: &[u8],
+) -> Result<LineFault, AllocError>
+    ensures { IfOk result (λ fault. fault ≡ LineFault.Bad (Reason.NoValue said.entry.text.now
+        said.entry.field.now (unit_hint coded.now said.entry.signal unit.now))) }
+{
+    Ok(LineFault::Bad(Reason::NoValue {
+        text: Text::copied(alloc, said.text)?,
+        signal: Text::copied(alloc, said.field)?,
+        hint: unit_hint(alloc, coded, said.signal, unit)?,
+    }))
+}
+
+/// The values of a signal from one decimal to another with a unit, of which there are some.
+fn some_between(
+    alloc: Global,
+    coded: &Coded,
+    said: Said<'_>,
+    low: i128,
+    high: i128,
+    unit: &[u8],
+) -> Result<MeantValues, LineFault>
+    requires low { unsigned_abs low ≤ 10 ^ 38 }
+    requires high { unsigned_abs high ≤ 10 ^ 38 }
+    ensures { Gives (λ m. m) result (some_between coded.now said.entry.signal
+        said.entry.field.now said.entry.text.now low high unit.now) }
+{
+    let values = MeantValues::within(alloc, coded, said.signal, low, high, unit)?;
+    if values.count() > 0 {
+        return Ok(values);
+    }
+    Err(none_between(alloc, coded, said, unit)?)
+}
+
 /// The values of a signal from one decimal to another, which a text says.
 fn between(
     alloc: Global,
@@ -238,12 +221,12 @@ fn between(
     requires low { unsigned_abs low ≤ 10 ^ 38 }
     requires high { unsigned_abs high ≤ 10 ^ 38 }
     ensures { Gives (λ m. m) result
-        (between coded.now said.entry.signal said.entry.text.now low high unit.now) }
+        (between coded.now said.entry.signal said.entry.field.now said.entry.text.now low high unit.now) }
 {
     if low > high {
         return Err(LineFault::Bad(Reason::NoRange(Text::copied(alloc, said.text)?)));
     }
-    Ok(MeantValues::within(alloc, coded, said.signal, low, high, unit)?)
+    some_between(alloc, coded, said, low, high, unit)
 }
 
 /// The values of a signal within a tolerance of a decimal.
@@ -255,7 +238,8 @@ fn around(
     others: &[&[u8]],
 ) -> Result<MeantValues, LineFault>
     ensures { Gives (λ m. m) result
-        (around coded.now said.entry.signal said.entry.text.now first.now (words others.now)) }
+        (around coded.now said.entry.signal said.entry.field.now said.entry.text.now first.now
+        (words others.now)) }
 {
     let middle = decimal_field(alloc, first)?;
     let rest = joined(alloc, others)?;
@@ -279,7 +263,8 @@ fn from_to(
     others: &[&[u8]],
 ) -> Result<MeantValues, LineFault>
     ensures { Gives (λ m. m) result
-        (from_to coded.now said.entry.signal said.entry.text.now first.now (words others.now)) }
+        (from_to coded.now said.entry.signal said.entry.field.now said.entry.text.now first.now
+        (words others.now)) }
 {
     let low = decimal_field(alloc, first)?;
     let rest = joined(alloc, others)?;
@@ -289,35 +274,38 @@ fn from_to(
 
 /// The values of a signal with the text of words.
 fn by_text(alloc: Global, coded: &Coded, said: Said<'_>) -> Result<MeantValues, LineFault>
-    ensures { Gives (λ m. m) result
-        (Ok (values_of coded.now said.entry.signal said.entry.text.now)) }
+    ensures { Gives (λ m. m) result (by_text coded.now said.entry.signal said.entry.field.now
+        said.entry.text.now said.entry.first.now) }
 {
-    Ok(MeantValues::of_text(alloc, coded, said.signal, said.text)?)
+    let values = MeantValues::of_text(alloc, coded, said.signal, said.text)?;
+    if values.count() > 0 {
+        return Ok(values);
+    }
+    Err(why_none(alloc, coded, said)?)
 }
 
 /// The values of a signal that words say: those of a text, those within a tolerance of a decimal, or
-/// those from one decimal to another.
-#[tactic(auto, unfolding(crate::specs::Words::expected_values))]
+/// those from one decimal to another; `others` are the words after the first.
 pub(crate) fn expected_values(
     alloc: Global,
     coded: &Coded,
     said: Said<'_>,
-    all: &[&[u8]],
+    others: &[&[u8]],
 ) -> Result<MeantValues, LineFault>
-    requires { said.text.now ≡ fields_text (words all.now) }
-    ensures { Gives (λ m. m) result (expected_values coded.now said.entry.signal (words all.now)) }
+    ensures { Gives (λ m. m) result (expected_values coded.now said.entry.signal
+        said.entry.field.now said.entry.text.now said.entry.first.now (words others.now)) }
 {
-    let [first, mark, others @ ..] = all else {
+    let [mark, others @ ..] = others else {
         return by_text(alloc, coded, said);
     };
-    if !begins_number(*first) {
+    if !begins_number(said.first) {
         return by_text(alloc, coded, said);
     }
     if *mark == b"+-".as_slice() {
-        return around(alloc, coded, said, *first, others);
+        return around(alloc, coded, said, said.first, others);
     }
     if *mark == b"..".as_slice() {
-        return from_to(alloc, coded, said, *first, others);
+        return from_to(alloc, coded, said, said.first, others);
     }
     by_text(alloc, coded, said)
 }

@@ -1,6 +1,6 @@
 //! What is said of bad lines and of expectations that aren't met.
 
-ghost use Rattle.std.specs.Prelude.{◌≡◌, ◌++◌, [], flat_map, map};
+ghost use Rattle.std.specs.Prelude.{◌≡◌, ◌∷◌, ◌++◌, [], flat_map, map};
 ghost use Rattle.std.specs.Option.{option_map_or};
 ghost use Rattle.lin_log.specs.Words.{spaced_word};
 ghost use Rattle.lin_text.specs.Written.{Grows, WritesText};
@@ -8,8 +8,8 @@ ghost use Rattle.lin_log.specs.Language.{named};
 ghost use Rattle.lin_bench.specs.Fields.{frames_called};
 ghost use Rattle.lin_bench.specs.LineWords.{said, spaced_words};
 ghost use Rattle.lin_bench.specs.Texts.{bad_line_text, expected_text, expected_words, fields_word};
-ghost use Rattle.lin_bench.specs.Texts.{found_text, got_text, judged_text};
-ghost use Rattle.lin_bench.specs.Texts.{no_value_words, other_pending_words, pending_text};
+ghost use Rattle.lin_bench.specs.Texts.{found_text, got_text, hint_words, judged_text};
+ghost use Rattle.lin_bench.specs.Texts.{or_marked, other_pending_words, pending_text};
 ghost use Rattle.lin_bench.specs.Texts.{pending_words, reason_text, reason_words};
 ghost use Rattle.lin_bench.specs.Texts.{short_words, step_reason_words};
 ghost use Rattle.lin_bench.specs.Texts.{unmet_text, verdict_text, what_text};
@@ -17,11 +17,11 @@ ghost use Rattle.lin_bench.specs.Texts.{unmet_text, verdict_text, what_text};
 use crate::expected::Expected;
 use crate::got::{Got, Judged, Judgement, Pending, is_unmet};
 use crate::line_words::{Line, Word, put_line, put_spaced, put_words};
-use crate::reason::Reason;
+use crate::reason::{Hint, Reason};
 use lin_core::Listed;
 use lin_log::{Numbers, Reason as StepReason, put_node};
 use lin_parts::Cluster;
-use lin_text::{Text, TextBuffer, TextWriter, WriteFailed};
+use lin_text::{TextBuffer, TextWriter, WriteFailed};
 use std::io::Write;
 
 /// `argument`, or `arguments`.
@@ -90,24 +90,39 @@ fn step_line(reason: &StepReason) -> Line<'_>
     }
 }
 
-/// That no value means a text, and decimals that are next to it.
-fn no_value_line<'a>(text: &'a [u8], signal: &'a [u8], near: &'a [Text]) -> Line<'a>
-    ensures { result ≡ no_value_words text.now signal.now near.now }
+/// Three words, and the hint about the values of a signal after them.
+fn hinted_line<'a>(one: Word<'a>, two: Word<'a>, three: Word<'a>, hint: &'a Hint) -> Line<'a>
+    ensures { result ≡ said one.entry ∷ said two.entry ∷ said three.entry ∷ hint_words hint.now }
 {
-    let (text, signal) = (Word::Said(text), Word::Said(signal));
-    let none = Word::Fixed("has no value");
-    if near.is_empty() {
-        return Line::of(&[signal, none, text]);
+    let end = Word::Mark(")");
+    match hint {
+        Hint::Nothing => return Line::of(&[one, two, three]),
+        Hint::NoEncoding => {
+            return Line::of(&[one, two, three, Word::Fixed("(no encoding)")]);
+        }
+        Hint::Units(units) => {
+            let units = Word::Listed(units.as_slice());
+            return Line::of(&[one, two, three, Word::Fixed("(units:"), units, end]);
+        }
+        Hint::Nearest(near) => {
+            let near = Word::Listed(near.as_slice());
+            return Line::of(&[one, two, three, Word::Fixed("(nearest:"), near, end]);
+        }
+        Hint::Values(texts) => {
+            let texts = Word::Listed(texts.as_slice());
+            return Line::of(&[one, two, three, Word::Fixed("(values:"), texts, end]);
+        }
     }
-    let nearest = Word::Fixed("(nearest:");
-    Line::of(&[
-        signal,
-        none,
-        text,
-        nearest,
-        Word::Listed(near),
-        Word::Mark(")"),
-    ])
+}
+
+fn or_marked(ranged: bool) -> &'static str
+    ensures { result.now ≡ or_marked ranged }
+{
+    if ranged {
+        ", a range, or = before a text, not"
+    } else {
+        ", or = before a text, not"
+    }
 }
 
 /// Why a line is bad.
@@ -190,9 +205,22 @@ fn reason_line(reason: &Reason) -> Line<'_>
             Word::Fixed("isn't a number"),
         ]),
         Reason::NoWords => return Line::of(&[Word::Fixed("missing value")]),
-        Reason::NoValue { text, signal, near } => {
-            return no_value_line(text.as_slice(), signal.as_slice(), near.as_slice());
-        }
+        Reason::NoValue { text, signal, hint } => return hinted_line(
+            Word::Said(signal.as_slice()),
+            Word::Fixed("has no value"),
+            Word::Said(text.as_slice()),
+            hint,
+        ),
+        Reason::Unmarked {
+            fields,
+            ranged,
+            hint,
+        } => return hinted_line(
+            Word::Fixed("expected a raw value"),
+            Word::Mark(or_marked(*ranged)),
+            Word::Fields(fields.as_slice()),
+            hint,
+        ),
         Reason::SeveralValues {
             count,
             text,

@@ -1,26 +1,30 @@
 //! Lines that say values of signals in words: what stands behind `=` or `~`.
 
-ghost use Rattle.std.specs.Prelude.{◌≡◌, ◌<◌, IfOk, length, option_map, position};
+ghost use Rattle.std.specs.Prelude.{◌≡◌, ◌<◌, IfOk, drop, length, option_map, position};
 ghost use Rattle.std.specs.Str.{bytes_eq};
 ghost use Rattle.lin_log.specs.Words.{value_word};
 ghost use Rattle.lin_bench.specs.Fields.{fields, words};
 ghost use Rattle.lin_bench.specs.Lines.{read_line};
 ghost use Rattle.lin_bench.specs.Parts.{parts_of};
 ghost use Rattle.lin_bench.specs.Read.{Gives};
-ghost use Rattle.lin_bench.specs.Words.{from_end, in_numbers, is_expect, is_mark, is_write, meant_by};
-ghost use Rattle.lin_bench.specs.Words.{meant_line, read_worded_line, wish_of, with_words, worded};
-ghost use Rattle.lin_bench.specs.Words.{worded_line};
+ghost use Rattle.lin_bench.specs.Words.{expected_line, from_end, in_numbers, is_expect, is_mark};
+ghost use Rattle.lin_bench.specs.Words.{by_wish, nearest_line, worded_by, written_line};
+ghost use Rattle.lin_bench.specs.Words.{is_write, meant_by, meant_line, read_worded_line, wish_of};
+ghost use Rattle.lin_bench.specs.Words.{with_signal};
+ghost use Rattle.lin_bench.specs.Words.{without_comment, worded, worded_line};
 
 use crate::expected::Expected;
 use crate::fault::LineFault;
-use crate::fields::{fields, signal_field};
+use crate::fields::{fields, signal_field, untabbed};
+use crate::hints::names_hash;
 use crate::line::Line;
 use crate::lines::read_line;
 use crate::meant::MeantValues;
 use crate::reason::Reason;
 use crate::said_values::{Said, expected_values, joined, nearest_value, only_value};
+use crate::unmarked::read_unworded;
 use lin_frame::Value;
-use lin_log::{put_shown, value_word};
+use lin_log::{Numbers, put_shown, value_word};
 use lin_parts::Cluster;
 use lin_text::{Text, TextBuffer, TextWriter};
 use lin_values::Coded;
@@ -55,14 +59,14 @@ fn is_from_end(fields: &[&[u8]], n: usize, word: &[u8]) -> bool
 }
 
 /// Whether fields are those of a write, before its signal.
-fn is_write(before: &[&[u8]]) -> bool
+pub(crate) fn is_write(before: &[&[u8]]) -> bool
     ensures { result ≡ is_write (words before.now) }
 {
     is_from_end(before, 0, b"write") || is_from_end(before, 1, b"write")
 }
 
 /// Whether fields are those of an expectation of a signal, before the signal.
-fn is_expect(before: &[&[u8]]) -> bool
+pub(crate) fn is_expect(before: &[&[u8]]) -> bool
     ensures { result ≡ is_expect (words before.now) }
 {
     is_from_end(before, 1, b"signal")
@@ -132,14 +136,19 @@ fn raw_word(alloc: Global, value: &Value) -> Result<Vec<u8>, AllocError>
     }
 }
 
-/// A line with a raw value in the place of its words.
-fn in_numbers(alloc: Global, line: &Worded<'_>, value: &Value) -> Result<Vec<u8>, AllocError>
-    ensures { IfOk result (λ text. text.items
-        ≡ in_numbers (words line.now.before.now) line.now.signal.now value.now) }
+/// The fields up to a signal, and a raw value.
+pub(crate) fn in_numbers<'a>(
+    alloc: Global,
+    before: &'a [&'a [u8]],
+    signal: &'a [u8],
+    value: &Value,
+) -> Result<Vec<u8>, AllocError>
+    ensures { IfOk result
+        (λ text. text.items ≡ in_numbers (words before.now) signal.now value.now) }
 {
     let word = raw_word(alloc, value)?;
-    let mut all = Vec::from_slice(alloc, line.before)?;
-    all.push(line.signal)?;
+    let mut all = Vec::from_slice(alloc, before)?;
+    all.push(signal)?;
     all.push(word.as_slice())?;
     joined(alloc, all.as_slice())
 }
@@ -186,54 +195,175 @@ fn with_value(
     ensures { Gives (λ l. l) result (read_line cluster.now
         (in_numbers (words line.now.before.now) line.now.signal.now value.now)) }
 {
-    let numbers = in_numbers(alloc, line, value)?;
+    let numbers = in_numbers(alloc, line.before, line.signal, value)?;
     read_line(alloc, cluster, numbers.as_slice())
 }
 
-/// What a line with words says, by what it says with the value 0.
+/// What a line that writes the one value of words says.
+#[tactic(auto, unfolding(crate::specs::Words::written_line))]
+fn written_line(
+    alloc: Global,
+    cluster: &Cluster,
+    coded: &Coded,
+    line: &Worded<'_>,
+    said: Said<'_>,
+) -> Result<Option<Line>, LineFault>
+    ensures { Gives (λ l. l) result (written_line cluster.now coded.now said.entry.signal
+        (parts_of line.now) said.entry.field.now said.entry.text.now said.entry.first.now) }
+{
+    let value = only_value(alloc, coded, said)?;
+    with_value(alloc, cluster, line, &value)
+}
+
+/// What a line that writes the value nearest to words says.
+#[tactic(auto, unfolding(crate::specs::Words::nearest_line))]
+fn nearest_line(
+    alloc: Global,
+    cluster: &Cluster,
+    coded: &Coded,
+    line: &Worded<'_>,
+    said: Said<'_>,
+) -> Result<Option<Line>, LineFault>
+    ensures { Gives (λ l. l) result (nearest_line cluster.now coded.now said.entry.signal
+        (parts_of line.now) said.entry.field.now said.entry.text.now said.entry.first.now) }
+{
+    let value = nearest_value(alloc, coded, said)?;
+    with_value(alloc, cluster, line, &value)
+}
+
+/// What a line that expects a value in words says, by what it says with the value 0.
+#[tactic(auto, unfolding(crate::specs::Words::expected_line))]
+fn expected_line(
+    alloc: Global,
+    coded: &Coded,
+    said: Said<'_>,
+    others: &[&[u8]],
+    zero: Option<Line>,
+) -> Result<Option<Line>, LineFault>
+    ensures { Gives (λ l. l) result (expected_line coded.now said.entry.signal
+        said.entry.field.now said.entry.text.now said.entry.first.now (words others.now) zero) }
+{
+    let values = expected_values(alloc, coded, said, others)?;
+    Ok(meant_line(zero, Text::copied(alloc, said.text)?, values))
+}
+
+/// What a line asks for with these words, by what it says with the value 0.
+fn by_wish(
+    alloc: Global,
+    cluster: &Cluster,
+    coded: &Coded,
+    line: &Worded<'_>,
+    said: Said<'_>,
+    others: &[&[u8]],
+    zero: Option<Line>,
+) -> Result<Option<Line>, LineFault>
+    ensures { Gives (λ l. l) result (by_wish cluster.now coded.now (parts_of line.now) zero
+        said.entry.field.now said.entry.text.now said.entry.first.now (words others.now)
+        said.entry.signal line.now.wish) }
+{
+    match line.wish {
+        Wish::Write => written_line(alloc, cluster, coded, line, said),
+        Wish::Nearest => nearest_line(alloc, cluster, coded, line, said),
+        Wish::Expect => expected_line(alloc, coded, said, others, zero),
+    }
+}
+
+/// What a line with these words says, by what it says with the value 0.
+#[tactic(auto, unfolding(crate::specs::Words::worded_by))]
+fn worded_by(
+    alloc: Global,
+    cluster: &Cluster,
+    coded: &Coded,
+    line: &Worded<'_>,
+    first: &[u8],
+    others: &[&[u8]],
+    zero: Option<Line>,
+    signal: u16,
+) -> Result<Option<Line>, LineFault>
+    ensures { Gives (λ l. l) result (worded_by cluster.now coded.now (parts_of line.now) zero
+        first.now (words others.now) signal) }
+{
+    let text = joined(alloc, line.words)?;
+    let said = Said {
+        signal,
+        field: line.signal,
+        text: text.as_slice(),
+        first,
+    };
+    by_wish(alloc, cluster, coded, line, said, others, zero)
+}
+
+/// What a line with words of a signal says, by what it says with the value 0.
 fn with_words(
     alloc: Global,
     cluster: &Cluster,
     coded: &Coded,
     line: &Worded<'_>,
     zero: Option<Line>,
+    signal: u16,
 ) -> Result<Option<Line>, LineFault>
-    ensures { Gives (λ l. l) result (with_words cluster.now coded.now (parts_of line.now) zero
-        (parts_of line.now).words) }
+    ensures { Gives (λ l. l) result
+        (with_signal cluster.now coded.now (parts_of line.now) zero signal) }
 {
-    let [first, ..] = line.words else {
-        return Err(LineFault::Bad(Reason::NoWords));
-    };
-    let signal = signal_field(alloc, cluster, line.signal)?;
-    let text = joined(alloc, line.words)?;
-    let said = Said {
-        signal,
-        field: line.signal,
-        text: text.as_slice(),
-        first: *first,
-    };
-    match line.wish {
-        Wish::Write => with_value(alloc, cluster, line, &only_value(alloc, coded, said)?),
-        Wish::Nearest => with_value(alloc, cluster, line, &nearest_value(alloc, coded, said)?),
-        Wish::Expect => {
-            let values = expected_values(alloc, coded, said, line.words)?;
-            Ok(meant_line(zero, Text::copied(alloc, said.text)?, values))
+    match line.words {
+        [first, others @ ..] => {
+            worded_by(alloc, cluster, coded, line, *first, others, zero, signal)
         }
+        [] => Err(LineFault::Bad(Reason::NoWords)),
     }
 }
 
-/// What a line with words says. All other fields are judged before the words.
+/// The fields after the first ones, so many.
+fn fields_after<'a>(all: &'a [&'a [u8]], n: usize) -> &'a [&'a [u8]]
+    ensures { words result.now ≡ drop n (words all.now) }
+{
+    if n < all.len() { &all[n..] } else { &[] }
+}
+
+/// What a line without a comment says, of which these are the parts with one, by what it says with the
+/// value 0.
+fn without_comment(
+    alloc: Global,
+    cluster: &Cluster,
+    coded: &Coded,
+    line: &Worded<'_>,
+    text: &[u8],
+    zero: Option<Line>,
+    signal: u16,
+) -> Result<Option<Line>, LineFault>
+    ensures { Gives (λ l. l) result (with_signal cluster.now coded.now
+        (without_comment (parts_of line.now) text.now) zero signal) }
+{
+    let text = untabbed(alloc, text)?;
+    let all = fields(alloc, &Numbers, text.as_slice())?;
+    let whole = Worded {
+        wish: line.wish,
+        before: line.before,
+        signal: line.signal,
+        words: fields_after(all.as_slice(), line.before.len() + 2),
+    };
+    with_words(alloc, cluster, coded, &whole, zero, signal)
+}
+
+/// What a line with words says, by its parts and its text. All other fields are judged before the
+/// words.
 #[tactic(auto, unfolding(crate::specs::Words::worded_line))]
 fn read_worded(
     alloc: Global,
     cluster: &Cluster,
     coded: &Coded,
     line: &Worded<'_>,
+    text: &[u8],
 ) -> Result<Option<Line>, LineFault>
-    ensures { Gives (λ l. l) result (worded_line cluster.now coded.now (parts_of line.now)) }
+    ensures { Gives (λ l. l) result
+        (worded_line cluster.now coded.now (parts_of line.now) text.now) }
 {
     let zero = with_value(alloc, cluster, line, &Value::Scalar(0))?;
-    with_words(alloc, cluster, coded, line, zero)
+    let signal = signal_field(alloc, cluster, line.signal)?;
+    if names_hash(coded, signal) {
+        return without_comment(alloc, cluster, coded, line, text, zero, signal);
+    }
+    with_words(alloc, cluster, coded, line, zero, signal)
 }
 
 /// What a line of a bench script, without its end, says, as `read_line`; values of signals may stand
@@ -259,7 +389,7 @@ pub fn read_worded_line(
     }
     let all = fields(alloc, cluster, line)?;
     match worded_parts(all.as_slice()) {
-        Some(worded) => read_worded(alloc, cluster, coded, &worded),
-        None => read_line(alloc, cluster, line),
+        Some(worded) => read_worded(alloc, cluster, coded, &worded, line),
+        None => read_unworded(alloc, cluster, coded, line, all.as_slice()),
     }
 }

@@ -221,7 +221,7 @@ fn script_is_replayed(rt: HostRuntime) {
 
 /// Values in words over the text with an encoding, of which one isn't met.
 const WORDS: &[u8] =
-    b"write a = -35.0degC\nwrite a ~ 0.3\nslot\nexpect signal s a = 0.3 +- 0.2 degC\nexpect signal s a = none\n";
+    b"write a = -35.0degC\nwrite a ~ 0.3\nslot\nexpect signal s a = 0.3 +- 0.2 degC\nexpect signal s a = 1 degC\n";
 
 /// What a play of a bench script says on standard error, over a text whose encodings are read so.
 fn told_of_play(
@@ -267,7 +267,7 @@ fn values_in_words_are_played_where_encodings_are_read(rt: HostRuntime) -> Resul
     for encodings in [Encodings::Read, Encodings::Told] {
         let (done, told) = told_of_play(alloc, WORDS, encodings)?;
         assert!(rt; matches!(done, Err(Fault::Unmet { .. })));
-        let unmet = b"script 5 expected signal s a = none: 0.5 degC\n";
+        let unmet = b"script 5 expected signal s a = 1 degC: 0.5 degC\n";
         expect_bytes(&rt, &told, unmet, "values in words", "what is told");
     }
     let (done, _told) = told_of_play(alloc, WORDS, Encodings::Unread)?;

@@ -21,7 +21,7 @@ use Rattle.lin_log.proofs.Quiet.{quiet-called, quiet-decimal, quiet-hex}
 use Rattle.lin_bench.specs.Fields.{frames_called}
 use Rattle.lin_bench.specs.LineWords.{Word, carried_word, is_mark, seen_after, seen_byte, seen_text, seen_texts, spaced, spaced_words, word_text, words_text}
 use Rattle.lin_bench.specs.LineWords.Word.{Node, Signal, Table, Frame, Number, Range, Hex, Raw, Fixed, Said, Fields, Listed, Mark}
-use Rattle.lin_bench.specs.Texts.{all_pending_words, cluster_text, expected_text, expected_words, fields_word, got_text, got_words, no_value_words, other_pending_words, pending_text, pending_words, reason_text, reason_words, step_reason_words}
+use Rattle.lin_bench.specs.Texts.{all_pending_words, cluster_text, expected_text, expected_words, fields_word, got_text, got_words, hint_words, other_pending_words, pending_text, pending_words, reason_text, reason_words, step_reason_words, unmarked_words}
 use Rattle.lin_bench.specs.declared.expected.Carried.{Carried}
 use Rattle.lin_bench.specs.declared.expected.Carried.TheVariants.{Signals, Request, Response}
 use Rattle.lin_bench.specs.declared.expected.Expected.{Expected}
@@ -30,6 +30,8 @@ use Rattle.lin_bench.specs.declared.got.Got.{Got}
 use Rattle.lin_bench.specs.declared.got.Got.TheVariants as got
 use Rattle.lin_bench.specs.declared.got.Pending.{Pending}
 use Rattle.lin_bench.specs.declared.got.Pending.TheVariants.{MessagesWait, AnswersNoted}
+use Rattle.lin_bench.specs.declared.reason.Hint.{Hint}
+use Rattle.lin_bench.specs.declared.reason.Hint.TheVariants as hint
 use Rattle.lin_bench.specs.declared.reason.Reason.{Reason}
 use Rattle.lin_bench.specs.declared.reason.Reason.TheVariants as reason
 use Rattle.lin_live.specs.Told.{reason_text as live_text}
@@ -112,13 +114,21 @@ step-fixed : (why : StepReason) → are_fixed (step_reason_words why) ≡ true
 step-fixed (step.Takes text n) = each-way (λ (t : List ℕ). (is_clean t && true) ≡ true) (n == 1) _ _ refl refl
 step-fixed why = refl
 
-no-value-fixed : (text signal : List ℕ) (near : List (List ℕ)) → are_fixed (no_value_words text signal near) ≡ true
-no-value-fixed text signal [] = refl
-no-value-fixed text signal (t ∷ ts) = refl
+hint-fixed : (h : Hint) → are_fixed (hint_words h) ≡ true
+hint-fixed hint.Nothing = refl
+hint-fixed hint.NoEncoding = refl
+hint-fixed (hint.Units us) = refl
+hint-fixed (hint.Nearest ts) = refl
+hint-fixed (hint.Values ts) = refl
+
+unmarked-fixed : (fields : List (List ℕ)) (ranged : Bool) (h : Hint) → are_fixed (unmarked_words fields ranged h) ≡ true
+unmarked-fixed fields true h = hint-fixed h
+unmarked-fixed fields false h = hint-fixed h
 
 reason-fixed : (why : Reason) → are_fixed (reason_words why) ≡ true
 reason-fixed (reason.Step why) = step-fixed why
-reason-fixed (reason.NoValue text signal near) = no-value-fixed text signal near
+reason-fixed (reason.NoValue text signal h) = hint-fixed h
+reason-fixed (reason.Unmarked fields ranged h) = unmarked-fixed fields ranged h
 reason-fixed why = refl
 
 reason-clean : (why : Reason) → Clean (reason_text why)

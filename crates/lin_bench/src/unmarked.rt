@@ -1,0 +1,289 @@
+//! Lines without words, and why one is bad in which `=` is missing before a value.
+
+ghost use Rattle.std.specs.Prelude.{◌≡◌, ◌<◌, ◌+◌, IfOk, IfSome, length};
+ghost use Rattle.std.specs.Char.{is_ascii_digit};
+ghost use Rattle.std.specs.List.{list_all};
+ghost use Rattle.lin_bench.specs.Fields.{fields, signal_field, words};
+ghost use Rattle.lin_bench.specs.Lines.{read_line};
+ghost use Rattle.lin_bench.specs.Read.{Gives};
+ghost use Rattle.lin_bench.specs.Words.{asks_value, begins_hex, is_array_word, is_hex, is_numeric};
+ghost use Rattle.lin_bench.specs.Words.{is_raw, is_signal, is_signal_after, missing_hint, or_this};
+ghost use Rattle.lin_bench.specs.Words.{or_unmarked, reads_zero, signal_at, unmarked, why_at};
+ghost use Rattle.lin_bench.specs.Words.{why_coded, why_unmarked, why_value};
+
+use crate::fault::LineFault;
+use crate::fields::{copied_fields, range_ends, signal_field};
+use crate::hints::{texts_in, units_hint, units_in, values_hint};
+use crate::line::Line;
+use crate::lines::read_line;
+use crate::reason::{Hint, Reason};
+use crate::rule_lines::digit;
+use crate::said_values::joined;
+use crate::words::{in_numbers, is_expect, is_write};
+use lin_frame::Value;
+use lin_parts::Cluster;
+use lin_values::{Coded, PlacedItem, number_and_unit};
+use std::alloc::{AllocError, Global};
+
+/// How many fields a line has before a signal at most, in `every N ms PORT write NODE SIGNAL VALUE` and
+/// `slots N ms until signal NODE SIGNAL VALUE`.
+const MOST_BEFORE: usize = 6;
+
+fn are_hex(digits: &[u8]) -> bool
+    ensures { result ≡ list_all is_hex digits.now }
+{
+    digits.iter().all(|sign| digit(*sign).is_some())
+}
+
+/// Whether a field is meant as the bytes of an array: `x-`, or `x` and hexadecimal digits.
+fn is_array_word(field: &[u8]) -> bool
+    ensures { result ≡ is_array_word field.now }
+{
+    match field {
+        [b'x', digits @ ..] => digits == b"-".as_slice() || are_hex(digits),
+        _ => false,
+    }
+}
+
+fn are_digits(field: &[u8]) -> bool
+    ensures { result ≡ list_all is_ascii_digit field.now }
+{
+    field.iter().all(|sign| sign.is_ascii_digit())
+}
+
+fn begins_hex(field: &[u8]) -> bool
+    ensures { result ≡ begins_hex field.now }
+{
+    matches!(field, [b'0', b'x', ..])
+}
+
+/// Whether a field is meant as a raw value: digits, `0x` and more, or an array.
+fn is_raw(field: &[u8]) -> bool
+    ensures { result ≡ is_raw field.now }
+{
+    are_digits(field) || begins_hex(field) || is_array_word(field)
+}
+
+/// Whether the fields of a value are meant as a raw value or a range.
+fn is_numeric(value: &[&[u8]]) -> bool
+    ensures { result ≡ is_numeric (words value.now) }
+{
+    match value {
+        [field] => is_raw(*field) || range_ends(*field).is_some(),
+        _ => false,
+    }
+}
+
+/// Whether a line with the value 0 after a signal is good.
+fn reads_zero<'a>(
+    alloc: Global,
+    cluster: &Cluster,
+    before: &'a [&'a [u8]],
+    signal: &'a [u8],
+) -> Result<bool, AllocError>
+    ensures { IfOk result (λ is. is ≡ reads_zero cluster.now (words before.now) signal.now) }
+{
+    let line = in_numbers(alloc, before, signal, &Value::Scalar(0))?;
+    match read_line(alloc, cluster, line.as_slice()) {
+        Ok(_) => Ok(true),
+        Err(LineFault::Bad(_)) => Ok(false),
+        Err(LineFault::OutOfMemory) => Err(AllocError),
+    }
+}
+
+/// Whether the fields before a signal are those of a write or of an expectation.
+fn asks_value(before: &[&[u8]]) -> bool
+    ensures { result ≡ asks_value (words before.now) }
+{
+    is_write(before) || is_expect(before)
+}
+
+/// Whether a field after these is a signal with its value after it.
+fn is_signal_after<'a>(
+    alloc: Global,
+    cluster: &Cluster,
+    before: &'a [&'a [u8]],
+    signal: &'a [u8],
+) -> Result<bool, AllocError>
+    ensures { IfOk result
+        (λ is. is ≡ is_signal_after cluster.now (words before.now) signal.now) }
+{
+    if asks_value(before) {
+        return reads_zero(alloc, cluster, before, signal);
+    }
+    Ok(false)
+}
+
+/// Whether a field is a signal with its value after it.
+fn is_signal<'a>(
+    alloc: Global,
+    cluster: &Cluster,
+    all: &'a [&'a [u8]],
+    at: usize,
+) -> Result<bool, AllocError>
+    requires { at < length all.now }
+    ensures { IfOk result (λ is. is ≡ is_signal cluster.now (words all.now) at) }
+{
+    is_signal_after(alloc, cluster, &all[..at], all[at])
+}
+
+/// The last field of a line that is a signal with its value after it.
+fn signal_at<'a>(
+    alloc: Global,
+    cluster: &Cluster,
+    all: &'a [&'a [u8]],
+) -> Result<Option<usize>, AllocError>
+    ensures at { IfOk result (λ o. o ≡ signal_at cluster.now (words all.now)) }
+    ensures within { IfOk result (λ o. IfSome o (λ at. at + 1 < length all.now)) }
+{
+    let mut at = all.len().saturating_sub(2).min(MOST_BEFORE);
+    while at > 0 {
+        if is_signal(alloc, cluster, all, at)? {
+            return Ok(Some(at));
+        }
+        at -= 1;
+    }
+    Ok(None)
+}
+
+/// The hint if `=` is missing before a value of a signal.
+fn missing_hint(
+    alloc: Global,
+    coded: &Coded,
+    signal: u16,
+    items: &[PlacedItem],
+    text: &[u8],
+) -> Result<Hint, AllocError>
+    ensures { IfOk result (λ h. h ≡ missing_hint coded.now signal items.now text.now) }
+{
+    let units = units_in(alloc, items)?;
+    if number_and_unit(text).is_some() && !units.is_empty() {
+        return units_hint(alloc, units);
+    }
+    values_hint(alloc, units, texts_in(alloc, coded, signal, items)?)
+}
+
+/// That `=` is missing before these fields, the value of a signal with these items.
+fn unmarked(
+    alloc: Global,
+    coded: &Coded,
+    signal: u16,
+    ranged: bool,
+    value: &[&[u8]],
+    items: &[PlacedItem],
+) -> Result<Reason, AllocError>
+    ensures { IfOk result
+        (λ r. r ≡ unmarked coded.now signal ranged (words value.now) items.now) }
+{
+    let text = joined(alloc, value)?;
+    let hint = missing_hint(alloc, coded, signal, items, text.as_slice())?;
+    let fields = copied_fields(alloc, value)?;
+    Ok(Reason::Unmarked {
+        fields,
+        ranged,
+        hint,
+    })
+}
+
+/// That `=` is missing before these fields, the value of a signal, if the signal has an encoding.
+fn why_coded(
+    alloc: Global,
+    coded: &Coded,
+    signal: u16,
+    ranged: bool,
+    value: &[&[u8]],
+) -> Result<Option<Reason>, AllocError>
+    ensures { IfOk result (λ r. r ≡ why_coded coded.now signal ranged (words value.now)) }
+{
+    match coded.encoding_of(signal) {
+        Some(encoding) => {
+            let items = encoding.coding().items.as_slice();
+            Ok(Some(unmarked(alloc, coded, signal, ranged, value, items)?))
+        }
+        None => Ok(None),
+    }
+}
+
+/// That `=` is missing between a signal and these fields, if they aren't a raw value or a range.
+fn why_value(
+    alloc: Global,
+    cluster: &Cluster,
+    coded: &Coded,
+    signal: &[u8],
+    ranged: bool,
+    value: &[&[u8]],
+) -> Result<Option<Reason>, AllocError>
+    ensures { IfOk result (λ r. r ≡ why_value coded.now
+        (signal_field cluster.now signal.now) ranged (words value.now)) }
+{
+    if is_numeric(value) {
+        return Ok(None);
+    }
+    match signal_field(alloc, cluster, signal) {
+        Ok(signal) => why_coded(alloc, coded, signal, ranged, value),
+        Err(LineFault::Bad(_)) => Ok(None),
+        Err(LineFault::OutOfMemory) => Err(AllocError),
+    }
+}
+
+/// That `=` is missing after the signal at this field, if it is.
+fn why_at<'a>(
+    alloc: Global,
+    cluster: &Cluster,
+    coded: &Coded,
+    all: &'a [&'a [u8]],
+    at: usize,
+) -> Result<Option<Reason>, AllocError>
+    requires { at + 1 < length all.now }
+    ensures { IfOk result (λ r. r ≡ why_at cluster.now coded.now (words all.now) at) }
+{
+    let ranged = is_expect(&all[..at]);
+    why_value(alloc, cluster, coded, all[at], ranged, &all[at + 1..])
+}
+
+/// That `=` is missing in a line, if it is.
+fn why_unmarked<'a>(
+    alloc: Global,
+    cluster: &Cluster,
+    coded: &Coded,
+    all: &'a [&'a [u8]],
+) -> Result<Option<Reason>, AllocError>
+    ensures { IfOk result (λ r. r ≡ why_unmarked cluster.now coded.now (words all.now)) }
+{
+    match signal_at(alloc, cluster, all)? {
+        Some(at) => why_at(alloc, cluster, coded, all, at),
+        None => Ok(None),
+    }
+}
+
+/// The reason that is found, or this one.
+fn or_this(found: Option<Reason>, why: Reason) -> Reason
+    ensures { result ≡ or_this found why }
+{
+    match found {
+        Some(better) => better,
+        None => why,
+    }
+}
+
+/// What a line without words, of these fields, says.
+pub(crate) fn read_unworded<'a>(
+    alloc: Global,
+    cluster: &Cluster,
+    coded: &Coded,
+    line: &[u8],
+    all: &'a [&'a [u8]],
+) -> Result<Option<Line>, LineFault>
+    requires { words all.now ≡ fields line.now }
+    ensures { Gives (λ l. l) result
+        (or_unmarked cluster.now coded.now (fields line.now) (read_line cluster.now line.now)) }
+{
+    match read_line(alloc, cluster, line) {
+        Ok(said) => Ok(said),
+        Err(LineFault::Bad(why)) => match why_unmarked(alloc, cluster, coded, all) {
+            Ok(found) => Err(LineFault::Bad(or_this(found, why))),
+            Err(_) => Err(LineFault::OutOfMemory),
+        },
+        Err(LineFault::OutOfMemory) => Err(LineFault::OutOfMemory),
+    }
+}
