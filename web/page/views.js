@@ -83,12 +83,7 @@ function logView(root, label, out) {
 	log.value = decoded(out.subarray(0, MOST_LOG_BYTES)) + (left > 0 ? `\n.. ${plural(left, 'byte')} more: “Save” has all of them` : '');
 }
 
-// The picture is a page of its own, in a frame that may do nothing but run its script. Three of its faults are mended here
-// alone. A failed expectation is in its data with each `<` of the script, which could end the data. By tools/web: it draws
-// an empty image if it has no width, and it sets an address, which such a frame doesn't have. tools/web also adds that a
-// message shows a slot.
-const withoutTags = html => html.replace(/^unmet .*$/gm, line => line.replace(/</g, '‹'));
-const PICTURE = JSON.parse(byId('picture').textContent);
+// The picture is a page of its own, in a frame that may do nothing but run its script. A message shows a slot in it.
 class Picture {
 	constructor(root) {
 		this.root = root;
@@ -96,8 +91,7 @@ class Picture {
 	}
 	show(html) {
 		const next = node('iframe', {title: 'Picture of the run', sandbox: 'allow-scripts'}), old = this.frame && this.frame.isConnected ? this.frame : null;
-		const {head, end, endWithMessages} = PICTURE;
-		next.srcdoc = withoutTags(html).replace('<head>', () => `<head>${head}`).replace(end, () => endWithMessages);
+		next.srcdoc = html;
 		next.classList.toggle('next', !!old);                        // the old one stays until the new one is drawn
 		next.addEventListener('load', () => {
 			next.classList.remove('next');

@@ -1,4 +1,7 @@
 const $ = id => document.getElementById(id), text = $('run').textContent;
+// the slot that the address names, or that the page around this one asks for before the run is drawn
+let wanted = location.hash.slice(1);
+onmessage = e => { if (e.source === parent) wanted = e.data; };
 // a run of very many slots is drawn when it is asked for
 let many = 0;
 for (let at = 0; (at = text.indexOf('\n> seen ', at) + 1);) many++;
@@ -221,8 +224,10 @@ const showProbs = () => {
 	const some = probs.filter(q => !mask || mask[q.i]);
 	$('probs').innerHTML = `<h2>Problems: ${some.length}</h2><ol>` + some.slice(0, 300).map(q => h`<li class="${q.i === sel ? 'on' : ''}"><button data-i="${q.i}">${[dot(q.kind)]}#${q.i} ${LABEL[q.kind] || q.kind}: ${/lost|waits/.test(q.kind) ? say(q.line).slice(5) + ' ' + q.why : did(q)}</button>`).join('') + '</ol>' + (some.length > 300 ? '<p class="l">the others by n and p' : '');
 };
+// (a frame that isn't shown has no width)
+const paint = () => { if (W > G) { drawOver(); drawBus(); drawLanes(); } };
 const draw = now => {
-	frame ||= requestAnimationFrame(() => { frame = 0; drawOver(); drawBus(); drawLanes(); });
+	frame ||= requestAnimationFrame(() => { frame = 0; paint(); });
 	clearTimeout(timer);
 	timer = setTimeout(showRows, now ? 0 : 150);
 };
@@ -242,7 +247,7 @@ const go = i => {
 	if (N > 60 && (t1 - t0) / s.d > 60) view(s.t - 6 * s.d, s.t + 7 * s.d);
 	else if (s.t < t0 || s.t + s.d > t1) view(s.t - (t1 - t0) / 2, s.t + (t1 - t0) / 2);
 	$('line').textContent = about(s).join(' · ');
-	history.replaceState(0, '', '#' + i);
+	try { history.replaceState(0, '', '#' + i); } catch { /* a frame has no address of its own */ }
 	showProbs();
 	draw(1);
 };
@@ -322,7 +327,7 @@ const layout = () => {
 	W = paper ? 1040 : $('lanes').clientWidth;
 	G = W < 600 ? 84 : 124;
 	strip = 0;
-	drawOver(); drawBus(); drawLanes(); showRows();
+	paint(); showRows();
 };
 const print = on => () => { paper = on; document.documentElement.className = on ? 'paper' : ''; layout(); };
 onresize = matchMedia('(prefers-color-scheme:dark)').onchange = layout;
@@ -336,4 +341,5 @@ document.title = run.file + ', LIN run';
 $('sum').textContent = `${N} slots · ${ms(run.end)} · ${run.speed / 1e3} kbit/s · ${nodes.length} nodes · ${msgs.length} messages`;
 $('page').hidden = false;
 colour(); pickLanes(); layout(); showProbs();
-if (location.hash) go(+location.hash.slice(1));
+onmessage = e => { if (e.source === parent) go(+e.data); };
+if (wanted !== '') go(+wanted);

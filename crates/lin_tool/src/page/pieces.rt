@@ -222,6 +222,9 @@ function readRun(text) {
 </script>
 <script type=\"module\">
 const $ = id => document.getElementById(id), text = $('run').textContent;
+// the slot that the address names, or that the page around this one asks for before the run is drawn
+let wanted = location.hash.slice(1);
+onmessage = e => { if (e.source === parent) wanted = e.data; };
 // a run of very many slots is drawn when it is asked for
 let many = 0;
 for (let at = 0; (at = text.indexOf('\\n> seen ', at) + 1);) many++;
@@ -444,8 +447,10 @@ const showProbs = () => {
 \tconst some = probs.filter(q => !mask || mask[q.i]);
 \t$('probs').innerHTML = `<h2>Problems: ${some.length}</h2><ol>` + some.slice(0, 300).map(q => h`<li class=\"${q.i === sel ? 'on' : ''}\"><button data-i=\"${q.i}\">${[dot(q.kind)]}#${q.i} ${LABEL[q.kind] || q.kind}: ${/lost|waits/.test(q.kind) ? say(q.line).slice(5) + ' ' + q.why : did(q)}</button>`).join('') + '</ol>' + (some.length > 300 ? '<p class=\"l\">the others by n and p' : '');
 };
+// (a frame that isn't shown has no width)
+const paint = () => { if (W > G) { drawOver(); drawBus(); drawLanes(); } };
 const draw = now => {
-\tframe ||= requestAnimationFrame(() => { frame = 0; drawOver(); drawBus(); drawLanes(); });
+\tframe ||= requestAnimationFrame(() => { frame = 0; paint(); });
 \tclearTimeout(timer);
 \ttimer = setTimeout(showRows, now ? 0 : 150);
 };
@@ -465,7 +470,7 @@ const go = i => {
 \tif (N > 60 && (t1 - t0) / s.d > 60) view(s.t - 6 * s.d, s.t + 7 * s.d);
 \telse if (s.t < t0 || s.t + s.d > t1) view(s.t - (t1 - t0) / 2, s.t + (t1 - t0) / 2);
 \t$('line').textContent = about(s).join(' · ');
-\thistory.replaceState(0, '', '#' + i);
+\ttry { history.replaceState(0, '', '#' + i); } catch { /* a frame has no address of its own */ }
 \tshowProbs();
 \tdraw(1);
 };
@@ -545,7 +550,7 @@ const layout = () => {
 \tW = paper ? 1040 : $('lanes').clientWidth;
 \tG = W < 600 ? 84 : 124;
 \tstrip = 0;
-\tdrawOver(); drawBus(); drawLanes(); showRows();
+\tpaint(); showRows();
 };
 const print = on => () => { paper = on; document.documentElement.className = on ? 'paper' : ''; layout(); };
 onresize = matchMedia('(prefers-color-scheme:dark)').onchange = layout;
@@ -559,7 +564,8 @@ document.title = run.file + ', LIN run';
 $('sum').textContent = `${N} slots · ${ms(run.end)} · ${run.speed / 1e3} kbit/s · ${nodes.length} nodes · ${msgs.length} messages`;
 $('page').hidden = false;
 colour(); pickLanes(); layout(); showProbs();
-if (location.hash) go(+location.hash.slice(1));
+onmessage = e => { if (e.source === parent) go(+e.data); };
+if (wanted !== '') go(+wanted);
 </script>
 </body></html>
 ";
