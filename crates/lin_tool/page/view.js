@@ -36,6 +36,7 @@ const short = s => s.length > 160 ? s.slice(0, 160) + '…' : s;
 const brief = all => [...all.slice(0, 16).map(short), ...all.length > 16 ? [`… ${all.length} lines in all`] : []].join('\n');
 const about = s => [`#${s.i}  ${ms(s.t)}  ${s.table.name} ${s.entry}`, `${s.name} ${s.id} (${s.pid})  ${look(s)}`, ...s.puts.map(q => `${nodes[q[0]].name} put ${bytes(q[1])}`),
 	...s.steps.map(did), ...news(s), ...s.told.map(say)];
+const count = (n, what) => `${n} ${what}${n === 1 ? '' : 's'}`;
 // pictures
 const x = t => G + (t - t0) / (t1 - t0) * (W - G), slotAt = t => Math.max(0, bisect(N, i => T[i] > t) - 1);
 const fit = (c, high) => {
@@ -179,7 +180,7 @@ const drawLanes = () => {
 	cursor(g, x(slots[sel]?.t), 0, high);
 };
 const pickLanes = () => {
-	const some = signals.filter(s => words().some(w => s.name.toLowerCase().includes(w))), rest = signals.filter(s => !s.at.length);
+	const all = terms(), some = signals.filter(s => all.some(q => q.name && low(s.name).includes(q.name))), rest = signals.filter(s => !s.at.length);
 	const add = (high, l) => { lanes.push({...l, high, y: lanes.high}); lanes.high += high; };
 	lanes = [];
 	lanes.high = 0;
@@ -251,15 +252,30 @@ const go = i => {
 	showProbs();
 	draw(1);
 };
-const words = () => $('find').value.toLowerCase().split(' ').filter(w => w);
+// The terms of the filter: SIGNAL = VALUE up to a comma, a time, #SLOT, "TEXT" or a word. Each has `ok`, whether it takes a
+// slot, and either a text of names or, of a time or #SLOT, the slot.
+const TERM = /([^\s,=<>"]+)\s*([=<>])\s*([^,]*)|([\d.]+)\s*(s|ms|us)(?![^\s,])|#(\d+)|"([^"]*)"?|[^\s,]+/g, low = s => s.toLowerCase();
+const holds = (g, v, op, to) => {
+	const m = map(g, v), n = m && !m.text ? v * m.k + m.o : v;
+	return !to || (op === '=' ? low(shown(g, v)) === to || Math.abs(n - to) <= 1e-9 * Math.abs(n) : op === '<' ? n < parseFloat(to) : n > parseFloat(to));
+};
+const terms = () => [...low($('find').value).matchAll(TERM)].map(([word, name, op, to, time, unit, slot, text = word]) => {
+	if (op) {
+		const same = signals.filter(g => low(g.name) === name), some = same[0] ? same : signals.filter(g => low(g.name).includes(name));
+		const known = new Map(some.map(g => [g, {}])), is = (g, v) => known.get(g)[v] ??= holds(g, v, op, to.trim());
+		return {name, ok: s => s.good && s.frame?.places.some(([g]) => known.has(g) && is(g, heard(g, s.i)))};
+	}
+	const t = time * {s: 1e6, ms: 1e3, us: 1}[unit], at = slot ? +slot : time ? t < END ? slotAt(t) : -1 : undefined;
+	return at === undefined ? {name: text, ok: s => key(s).includes(text)} : {at, ok: s => s.i === at};
+});
 const frameKey = f => f.key ||= [f.name, f.node, ...f.places.map(q => q[0].name)].join(' ');
-const key = s => s.key ||= [s.table.name, s.line.name, s.id, s.pid, ...s.tags, ...s.puts.map(q => nodes[q[0]].name + ' ' + q[1]), s.frame ? frameKey(s.frame) : '',
+const key = s => s.key ||= [s.table.name, s.line.name, s.id, s.pid, ...s.tags, ...s.tags.map(q => LABEL[q] || ''), ...s.puts.map(q => nodes[q[0]].name + ' ' + q[1]), s.frame ? frameKey(s.frame) : '',
 	...s.steps.map(did), ...s.told.map(say)].join(' ').toLowerCase();
 const filter = () => {
-	const all = words();
-	mask = all.length ? Uint8Array.from(slots, s => all.every(w => key(s).includes(w))) : 0;
-	$('found').textContent = mask ? mask.reduce((a, b) => a + b, 0) + ' slots' : '';
-	for (const b of $('kinds').children) b.className = all.includes(b.dataset.w) ? 'on' : '';
+	const all = terms();
+	mask = all.length ? Uint8Array.from(slots, s => all.every(q => q.ok(s))) : 0;
+	$('found').textContent = mask ? count(mask.reduce((a, b) => a + b, 0), 'slot') : '';
+	for (const b of $('kinds').children) b.className = all.some(q => q.name === b.dataset.w) ? 'on' : '';
 	strip = 0;
 	colour(); pickLanes(); showProbs(); draw(1);
 };
@@ -274,8 +290,8 @@ const act = k => {
 onkeydown = e => {
 	if (e.ctrlKey || e.metaKey || e.altKey) return;
 	if (e.target.id === 'find') {
-		const w = words()[0] || '';
-		if (e.key === 'Enter') if (w[0] === '#') go(+w.slice(1)); else act(e.shiftKey ? 'ArrowLeft' : 'ArrowRight');
+		const at = terms().find(q => q.at >= 0)?.at;
+		if (e.key === 'Enter') if (at >= 0) go(at); else act(e.shiftKey ? 'ArrowLeft' : 'ArrowRight');
 		if (e.key !== 'Escape') return;
 	}
 	if (/^(ArrowL|ArrowR|Home|End|\/)/.test(e.key)) e.preventDefault();
@@ -286,7 +302,11 @@ onclick = e => {
 	if (i) go(+i);
 	if (k) act(k);
 	if (r) { rows[r].open = 1; showRows(); }
-	if (w) { $('find').value = words().includes(w) ? '' : w; filter(); }
+	if (w) {
+		const all = $('find').value.split(' ').filter(q => q);
+		$('find').value = [...all.includes(w) ? [] : [w], ...all.filter(q => !Object.hasOwn(tags, q))].join(' ');
+		filter();
+	}
 };
 $('find').oninput = filter;
 $('lanes').onscroll = () => drawLanes();
@@ -333,9 +353,9 @@ const print = on => () => { paper = on; document.documentElement.className = on 
 onresize = matchMedia('(prefers-color-scheme:dark)').onchange = layout;
 onbeforeprint = print(1);
 onafterprint = print(0);
-const count = {damaged: 0, lost: 0};
-for (const s of [...slots, run.rest]) for (const q of s.tags) count[q] = (count[q] || 0) + 1;
-$('kinds').innerHTML = [...KINDS, 'lost', 'refused', 'unmet', 'waits', 'asleep'].map(w => w in count ? `<button data-w="${w}">${dot(w)}${LABEL[w] || w} ${count[w]}</button>` : '').join(' ');
+const tags = {damaged: 0, lost: 0};
+for (const s of [...slots, run.rest]) for (const q of s.tags) tags[q] = (tags[q] || 0) + 1;
+$('kinds').innerHTML = [...KINDS, 'lost', 'refused', 'unmet', 'waits', 'asleep'].map(w => w in tags ? `<button data-w="${w}">${dot(w)}${LABEL[w] || w} ${tags[w]}</button>` : '').join(' ');
 $('name').textContent = run.file;
 document.title = run.file + ', LIN run';
 $('sum').textContent = `${N} slots · ${ms(run.end)} · ${run.speed / 1e3} kbit/s · ${nodes.length} nodes · ${msgs.length} messages`;

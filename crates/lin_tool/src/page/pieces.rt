@@ -25,7 +25,7 @@ button,input{font:inherit;color:inherit;background:var(--box);border:1px solid v
 button{cursor:pointer}
 :focus-visible{outline:2px solid var(--sel);outline-offset:1px}
 #bar{display:flex;flex-wrap:wrap;gap:6px;margin:0 0 10px;align-items:center}
-#find{flex:1 1 210px;max-width:400px}
+#find{flex:1 1 210px;max-width:430px}
 #kinds{display:contents}
 #kinds i,#probs i{display:inline-block;width:9px;height:9px;border-radius:2px;margin-right:5px}
 #kinds .on{border-color:var(--sel);box-shadow:0 0 0 1px var(--sel)}
@@ -73,7 +73,7 @@ h2{break-after:avoid}
 <p id=\"ask\" hidden><button></button></p>
 <div id=\"page\" hidden>
 <header><h1 id=\"name\"></h1><span id=\"sum\"></span><span id=\"zoom\"><button data-k=\"0\">whole run</button> <button data-k=\"-\" aria-label=\"zoom out\">−</button> <button data-k=\"+\" aria-label=\"zoom in\">+</button> <button data-k=\"p\" aria-label=\"problem before\">‹ problem</button> <button data-k=\"n\" aria-label=\"next problem\">problem ›</button></span></header>
-<div id=\"bar\"><input id=\"find\" type=\"search\" placeholder=\"Filter: frame, signal, node, table, 0x10, 22F190, #slot\" aria-label=\"Filter\">
+<div id=\"bar\"><input id=\"find\" type=\"search\" placeholder=\"Filter: frame, signal, node, 0x10, 22F190, Temp = 27, 9.5 s, #slot\" aria-label=\"Filter\">
 <span id=\"found\" role=\"status\"></span><span id=\"kinds\"></span></div>
 <div id=\"time\" tabindex=\"0\" role=\"application\" aria-label=\"The run over time: arrow keys go from slot to slot\" aria-describedby=\"line\">
 <canvas id=\"over\"></canvas><canvas id=\"bus\"></canvas><div id=\"lanes\"><canvas id=\"plot\"></canvas><div id=\"tall\"></div></div><div id=\"hair\"></div></div>
@@ -259,6 +259,7 @@ const short = s => s.length > 160 ? s.slice(0, 160) + '…' : s;
 const brief = all => [...all.slice(0, 16).map(short), ...all.length > 16 ? [`… ${all.length} lines in all`] : []].join('\\n');
 const about = s => [`#${s.i}  ${ms(s.t)}  ${s.table.name} ${s.entry}`, `${s.name} ${s.id} (${s.pid})  ${look(s)}`, ...s.puts.map(q => `${nodes[q[0]].name} put ${bytes(q[1])}`),
 \t...s.steps.map(did), ...news(s), ...s.told.map(say)];
+const count = (n, what) => `${n} ${what}${n === 1 ? '' : 's'}`;
 // pictures
 const x = t => G + (t - t0) / (t1 - t0) * (W - G), slotAt = t => Math.max(0, bisect(N, i => T[i] > t) - 1);
 const fit = (c, high) => {
@@ -402,7 +403,7 @@ const drawLanes = () => {
 \tcursor(g, x(slots[sel]?.t), 0, high);
 };
 const pickLanes = () => {
-\tconst some = signals.filter(s => words().some(w => s.name.toLowerCase().includes(w))), rest = signals.filter(s => !s.at.length);
+\tconst all = terms(), some = signals.filter(s => all.some(q => q.name && low(s.name).includes(q.name))), rest = signals.filter(s => !s.at.length);
 \tconst add = (high, l) => { lanes.push({...l, high, y: lanes.high}); lanes.high += high; };
 \tlanes = [];
 \tlanes.high = 0;
@@ -474,15 +475,30 @@ const go = i => {
 \tshowProbs();
 \tdraw(1);
 };
-const words = () => $('find').value.toLowerCase().split(' ').filter(w => w);
+// The terms of the filter: SIGNAL = VALUE up to a comma, a time, #SLOT, \"TEXT\" or a word. Each has `ok`, whether it takes a
+// slot, and either a text of names or, of a time or #SLOT, the slot.
+const TERM = /([^\\s,=<>\"]+)\\s*([=<>])\\s*([^,]*)|([\\d.]+)\\s*(s|ms|us)(?![^\\s,])|#(\\d+)|\"([^\"]*)\"?|[^\\s,]+/g, low = s => s.toLowerCase();
+const holds = (g, v, op, to) => {
+\tconst m = map(g, v), n = m && !m.text ? v * m.k + m.o : v;
+\treturn !to || (op === '=' ? low(shown(g, v)) === to || Math.abs(n - to) <= 1e-9 * Math.abs(n) : op === '<' ? n < parseFloat(to) : n > parseFloat(to));
+};
+const terms = () => [...low($('find').value).matchAll(TERM)].map(([word, name, op, to, time, unit, slot, text = word]) => {
+\tif (op) {
+\t\tconst same = signals.filter(g => low(g.name) === name), some = same[0] ? same : signals.filter(g => low(g.name).includes(name));
+\t\tconst known = new Map(some.map(g => [g, {}])), is = (g, v) => known.get(g)[v] ??= holds(g, v, op, to.trim());
+\t\treturn {name, ok: s => s.good && s.frame?.places.some(([g]) => known.has(g) && is(g, heard(g, s.i)))};
+\t}
+\tconst t = time * {s: 1e6, ms: 1e3, us: 1}[unit], at = slot ? +slot : time ? t < END ? slotAt(t) : -1 : undefined;
+\treturn at === undefined ? {name: text, ok: s => key(s).includes(text)} : {at, ok: s => s.i === at};
+});
 const frameKey = f => f.key ||= [f.name, f.node, ...f.places.map(q => q[0].name)].join(' ');
-const key = s => s.key ||= [s.table.name, s.line.name, s.id, s.pid, ...s.tags, ...s.puts.map(q => nodes[q[0]].name + ' ' + q[1]), s.frame ? frameKey(s.frame) : '',
+const key = s => s.key ||= [s.table.name, s.line.name, s.id, s.pid, ...s.tags, ...s.tags.map(q => LABEL[q] || ''), ...s.puts.map(q => nodes[q[0]].name + ' ' + q[1]), s.frame ? frameKey(s.frame) : '',
 \t...s.steps.map(did), ...s.told.map(say)].join(' ').toLowerCase();
 const filter = () => {
-\tconst all = words();
-\tmask = all.length ? Uint8Array.from(slots, s => all.every(w => key(s).includes(w))) : 0;
-\t$('found').textContent = mask ? mask.reduce((a, b) => a + b, 0) + ' slots' : '';
-\tfor (const b of $('kinds').children) b.className = all.includes(b.dataset.w) ? 'on' : '';
+\tconst all = terms();
+\tmask = all.length ? Uint8Array.from(slots, s => all.every(q => q.ok(s))) : 0;
+\t$('found').textContent = mask ? count(mask.reduce((a, b) => a + b, 0), 'slot') : '';
+\tfor (const b of $('kinds').children) b.className = all.some(q => q.name === b.dataset.w) ? 'on' : '';
 \tstrip = 0;
 \tcolour(); pickLanes(); showProbs(); draw(1);
 };
@@ -497,8 +513,8 @@ const act = k => {
 onkeydown = e => {
 \tif (e.ctrlKey || e.metaKey || e.altKey) return;
 \tif (e.target.id === 'find') {
-\t\tconst w = words()[0] || '';
-\t\tif (e.key === 'Enter') if (w[0] === '#') go(+w.slice(1)); else act(e.shiftKey ? 'ArrowLeft' : 'ArrowRight');
+\t\tconst at = terms().find(q => q.at >= 0)?.at;
+\t\tif (e.key === 'Enter') if (at >= 0) go(at); else act(e.shiftKey ? 'ArrowLeft' : 'ArrowRight');
 \t\tif (e.key !== 'Escape') return;
 \t}
 \tif (/^(ArrowL|ArrowR|Home|End|\\/)/.test(e.key)) e.preventDefault();
@@ -509,7 +525,11 @@ onclick = e => {
 \tif (i) go(+i);
 \tif (k) act(k);
 \tif (r) { rows[r].open = 1; showRows(); }
-\tif (w) { $('find').value = words().includes(w) ? '' : w; filter(); }
+\tif (w) {
+\t\tconst all = $('find').value.split(' ').filter(q => q);
+\t\t$('find').value = [...all.includes(w) ? [] : [w], ...all.filter(q => !Object.hasOwn(tags, q))].join(' ');
+\t\tfilter();
+\t}
 };
 $('find').oninput = filter;
 $('lanes').onscroll = () => drawLanes();
@@ -556,9 +576,9 @@ const print = on => () => { paper = on; document.documentElement.className = on 
 onresize = matchMedia('(prefers-color-scheme:dark)').onchange = layout;
 onbeforeprint = print(1);
 onafterprint = print(0);
-const count = {damaged: 0, lost: 0};
-for (const s of [...slots, run.rest]) for (const q of s.tags) count[q] = (count[q] || 0) + 1;
-$('kinds').innerHTML = [...KINDS, 'lost', 'refused', 'unmet', 'waits', 'asleep'].map(w => w in count ? `<button data-w=\"${w}\">${dot(w)}${LABEL[w] || w} ${count[w]}</button>` : '').join(' ');
+const tags = {damaged: 0, lost: 0};
+for (const s of [...slots, run.rest]) for (const q of s.tags) tags[q] = (tags[q] || 0) + 1;
+$('kinds').innerHTML = [...KINDS, 'lost', 'refused', 'unmet', 'waits', 'asleep'].map(w => w in tags ? `<button data-w=\"${w}\">${dot(w)}${LABEL[w] || w} ${tags[w]}</button>` : '').join(' ');
 $('name').textContent = run.file;
 document.title = run.file + ', LIN run';
 $('sum').textContent = `${N} slots · ${ms(run.end)} · ${run.speed / 1e3} kbit/s · ${nodes.length} nodes · ${msgs.length} messages`;
