@@ -72,12 +72,12 @@ h2{break-after:avoid}
 </style></head><body>
 <p id=\"ask\" hidden><button></button></p>
 <div id=\"page\" hidden>
-<header><h1 id=\"name\"></h1><span id=\"sum\"></span><span id=\"zoom\"><button data-k=\"0\">whole run</button> <button data-k=\"-\" aria-label=\"zoom out\">−</button> <button data-k=\"+\" aria-label=\"zoom in\">+</button> <button data-k=\"p\" aria-label=\"problem before\">‹ problem</button> <button data-k=\"n\" aria-label=\"next problem\">problem ›</button></span></header>
+<header><h1 id=\"name\"></h1><span id=\"sum\"></span><span id=\"zoom\"><button data-k=\"0\">whole run</button> <button data-k=\"-\" aria-label=\"zoom out\">−</button> <button data-k=\"+\" aria-label=\"zoom in\">+</button> <button data-k=\"p\" aria-label=\"problem before\">‹ problem</button> <button data-k=\"n\" aria-label=\"next problem\">problem ›</button> <button data-k=\"?\" aria-label=\"keys\">?</button></span></header>
 <div id=\"bar\"><input id=\"find\" type=\"search\" placeholder=\"Filter: frame, signal, node, 0x10, 22F190, Temp = 27, 9.5 s, #slot\" aria-label=\"Filter\">
 <span id=\"found\" role=\"status\"></span><span id=\"kinds\"></span></div>
 <div id=\"time\" tabindex=\"0\" role=\"application\" aria-label=\"The run over time: arrow keys go from slot to slot\" aria-describedby=\"line\">
 <canvas id=\"over\"></canvas><canvas id=\"bus\"></canvas><div id=\"lanes\"><canvas id=\"plot\"></canvas><div id=\"tall\"></div></div><div id=\"hair\"></div></div>
-<p id=\"line\" role=\"status\"><span class=\"keys\">← → slot · shift ← → move · + − zoom · 0 whole run · n p problem · / filter, Enter next, Esc clears · drag moves, wheel zooms; in the strip on top drag selects</span></p><p id=\"rest\"></p>
+<p id=\"line\" role=\"status\"><span class=\"keys\">← → slot · shift ← → move · PageUp PageDown window · Home End · + − zoom · 0 whole run · n p problem · m marks a slot, to measure from it (or shift and click) · / filter, Enter next, Esc clears · drag moves, wheel zooms; in the strip on top drag selects · ? keys</span></p><p id=\"rest\"></p>
 <main><aside id=\"probs\"></aside><section id=\"rows\" aria-label=\"Slots\"></section></main>
 <div id=\"tip\"></div>
 </div>
@@ -237,7 +237,7 @@ if (many > 2e5) {
 }
 const run = readRun(text), {nodes, signals, tables, slots, probs, rows, msgs} = run;
 const N = slots.length, END = run.end || 1e3, LABEL = {silent: 'no header', none: 'no answer', missed: 'answer missing'}, BOLD = '600 12px';
-let t0 = 0, t1 = END, sel = -1, mask, W, G, C, paper, frame, timer, most = 40, strip, lanes, drag;
+let t0 = 0, t1 = END, sel = -1, mark = -1, mask, W, G, C, paper, frame, timer, most = 40, strip, lanes, drag;
 const bisect = (n, ok) => { let a = 0; while (a < n) { const m = a + n >> 1; if (ok(m)) n = m; else a = m + 1; } return a; };
 // texts
 const esc = s => String(s).replace(/[&<\"]/g, c => `&#${c.charCodeAt()};`);
@@ -260,6 +260,8 @@ const brief = all => [...all.slice(0, 16).map(short), ...all.length > 16 ? [`…
 const about = s => [`#${s.i}  ${ms(s.t)}  ${s.table.name} ${s.entry}`, `${s.name} ${s.id} (${s.pid})  ${look(s)}`, ...s.puts.map(q => `${nodes[q[0]].name} put ${bytes(q[1])}`),
 \t...s.steps.map(did), ...news(s), ...s.told.map(say)];
 const count = (n, what) => `${n} ${what}${n === 1 ? '' : 's'}`;
+// How far a slot is from the marked one.
+const away = i => mark < 0 ? [] : [i === mark ? 'marked' : `${ms(Math.abs(T[i] - T[mark]))} and ${count(Math.abs(i - mark), 'slot')} ${i < mark ? 'before' : 'after'} #${mark}`];
 // pictures
 const x = t => G + (t - t0) / (t1 - t0) * (W - G), slotAt = t => Math.max(0, bisect(N, i => T[i] > t) - 1);
 const fit = (c, high) => {
@@ -280,7 +282,7 @@ const put = (g, s, x, y, w, c, font = '11px', whole) => {
 \tg.fillStyle = C[c];
 \tg.fillText(need > w ? s.slice(0, some) + '…' : s, x, y);
 };
-const cursor = (g, at, y, high) => { if (sel >= 0) box(g, 'sel', at, y, 1.5, high); };
+const cursors = (g, X, y, high) => { for (const [i, c] of [[mark, 'unmet'], [sel, 'sel']]) if (i >= 0 && X(T[i]) >= G) box(g, c, X(T[i]), y, 1.5, high); };
 // Slots as columns, or as shares of columns, with what is wrong from above.
 const HUES = [...KINDS, 'quiet', 'box'], T = Float64Array.from(slots, s => s.t), hue = new Uint8Array(N);
 const colour = () => slots.forEach((s, i) => { hue[i] = mask && !mask[i] ? 7 : s.kind === 2 && !(s.news & 5) ? 6 : s.kind; });
@@ -321,7 +323,7 @@ const drawOver = () => {
 \tbox(g, 'back', G, 0, a - G, 53); box(g, 'back', b, 0, W - b, 53);
 \tg.globalAlpha = 1;
 \tg.strokeStyle = C.sel; g.lineWidth = 1.5; g.strokeRect(Math.min(a, W - 3) + 1, 14.5, Math.max(2, b - a - 2), 38);
-\tcursor(g, X(slots[sel]?.t), 0, 53);
+\tcursors(g, X, 0, 53);
 };
 const ticks = (g, high, text) => {
 \tlet d = 10 ** Math.ceil(Math.log10((t1 - t0) / (W - G) * 85));
@@ -352,7 +354,7 @@ const drawBus = () => {
 \t\t}
 \t}
 \tg.globalAlpha = 1;
-\tcursor(g, x(slots[sel]?.t), 14, 84);
+\tcursors(g, x, 14, 84);
 \tg.clearRect(0, 0, G - 1, 98);
 \tput(g, N ? slots[first].table.name : '', 0, 7, G - 8, 'text', BOLD);
 \tput(g, 'steps', 0, 27, G, 'soft'); put(g, 'bus', 0, 58, G, 'text', BOLD); put(g, run.speed / 1e3 + ' kbit/s', 0, 75, G, 'soft');
@@ -400,7 +402,7 @@ const drawLanes = () => {
 \t\tput(g, l.s ? l.s.name : nodes[l.host].name, 0, y + 12, G - 8, 'text', BOLD);
 \t\tput(g, l.s ? shown(l.s, heard(l.s, sel < 0 ? slotAt(t1 - 1) : sel)) : 'messages: ' + l.all.length, 0, y + 27, G - 8, l.s ? 'plot' : 'soft');
 \t}
-\tcursor(g, x(slots[sel]?.t), 0, high);
+\tcursors(g, x, 0, high);
 };
 const pickLanes = () => {
 \tconst all = terms(), some = signals.filter(s => all.some(q => q.name && low(s.name).includes(q.name))), rest = signals.filter(s => !s.at.length);
@@ -470,11 +472,17 @@ const go = i => {
 \tsel = i;
 \tif (N > 60 && (t1 - t0) / s.d > 60) view(s.t - 6 * s.d, s.t + 7 * s.d);
 \telse if (s.t < t0 || s.t + s.d > t1) view(s.t - (t1 - t0) / 2, s.t + (t1 - t0) / 2);
-\t$('line').textContent = about(s).join(' · ');
+\tshowLine();
 \ttry { history.replaceState(0, '', '#' + i); } catch { /* a frame has no address of its own */ }
 \tshowProbs();
 \tdraw(1);
 };
+const showLine = () => {
+\tif (sel < 0) return;
+\tconst [place, ...rest] = about(slots[sel]);
+\t$('line').textContent = [place, ...away(sel), ...rest].join(' · ');
+};
+const measure = i => { mark = i === mark ? -1 : i; showLine(); draw(); };
 // The terms of the filter: SIGNAL = VALUE up to a comma, a time, #SLOT, \"TEXT\" or a word. Each has `ok`, whether it takes a
 // slot, and either a text of names or, of a time or #SLOT, the slot.
 const TERM = /([^\\s,=<>\"]+)\\s*([=<>])\\s*([^,]*)|([\\d.]+)\\s*(s|ms|us)(?![^\\s,])|#(\\d+)|\"([^\"]*)\"?|[^\\s,]+/g, low = s => s.toLowerCase();
@@ -504,11 +512,13 @@ const filter = () => {
 };
 const next = (d, ok) => { for (let i = (sel < 0 ? slotAt(t0) - 1 : sel) + d; slots[i]; i += d) if ((!mask || mask[i]) && ok(slots[i])) return go(i); };
 const bad = s => s.tags.some(q => !/silent|none|good|coll|asleep/.test(q));
+const keys = $('line').innerHTML;
 const act = k => {
 \tconst t = slots[sel]?.t, mid = t >= t0 && t <= t1 ? t : (t0 + t1) / 2, d = (t1 - t0) / 4;
 \t({'+': () => zoom(.5, mid), '-': () => zoom(2, mid), 0: () => view(0, END), ArrowRight: () => next(1, s => s), ArrowLeft: () => next(-1, s => s),
-\t\tRight: () => view(t0 + d, t1 + d), Left: () => view(t0 - d, t1 - d), Home: () => go(0), End: () => go(N - 1), n: () => next(1, bad), p: () => next(-1, bad),
-\t\t'/': () => $('find').focus(), Escape: () => { $('find').value = ''; filter(); $('time').focus(); }, more: () => { most += 80; showRows(); }}[k] || (() => 0))();
+\t\tRight: () => view(t0 + d, t1 + d), Left: () => view(t0 - d, t1 - d), PageDown: () => view(t1, 2 * t1 - t0), PageUp: () => view(2 * t0 - t1, t0),
+\t\tHome: () => go(0), End: () => go(N - 1), n: () => next(1, bad), p: () => next(-1, bad), m: () => sel < 0 || measure(sel),
+\t\t'?': () => { $('line').innerHTML = keys; }, '/': () => $('find').focus(), Escape: () => { $('find').value = ''; filter(); $('time').focus(); }, more: () => { most += 80; showRows(); }}[k] || (() => 0))();
 };
 onkeydown = e => {
 \tif (e.ctrlKey || e.metaKey || e.altKey) return;
@@ -517,7 +527,7 @@ onkeydown = e => {
 \t\tif (e.key === 'Enter') if (at >= 0) go(at); else act(e.shiftKey ? 'ArrowLeft' : 'ArrowRight');
 \t\tif (e.key !== 'Escape') return;
 \t}
-\tif (/^(ArrowL|ArrowR|Home|End|\\/)/.test(e.key)) e.preventDefault();
+\tif (/^(ArrowL|ArrowR|Home|End|\\/)/.test(e.key) || /^Page/.test(e.key) && t1 - t0 < END) e.preventDefault();
 \tact(e.shiftKey ? e.key.replace('Arrow', '') : e.key);
 };
 onclick = e => {
@@ -554,7 +564,7 @@ for (const c of [$('over'), $('bus'), $('plot')]) {
 \tc.onpointerup = c.onpointercancel = e => {
 \t\tconst t = time(X(e)), d = (t1 - t0) / 2;
 \t\tfingers.delete(e.pointerId);
-\t\tif (!drag.far && e.type === 'pointerup' && X(e) > G) if (whole) view(t - d, t + d); else go(slotAt(t));
+\t\tif (!drag.far && e.type === 'pointerup' && X(e) > G) if (whole) view(t - d, t + d); else (e.shiftKey ? measure : go)(slotAt(t));
 \t};
 \tc.onpointerleave = () => { $('hair').style.display = $('tip').style.display = ''; };
 \tc.addEventListener('wheel', e => {
