@@ -14,7 +14,7 @@ if (many > 2e5) {
 }
 const run = readRun(text), {nodes, signals, tables, slots, probs, rows, msgs} = run;
 const N = slots.length, END = run.end || 1e3, LABEL = {silent: 'no header', none: 'no answer', missed: 'answer missing'}, BOLD = '600 12px';
-let t0 = 0, t1 = END, sel = -1, mark = -1, mask, W, G, C, paper, frame, timer, most = 40, strip, lanes, drag;
+let t0 = 0, t1 = END, sel = -1, mark = -1, mask, W, G, C, paper, frame, timer, most = 40, strip, lanes, drag, groups;
 const bisect = (n, ok) => { let a = 0; while (a < n) { const m = a + n >> 1; if (ok(m)) n = m; else a = m + 1; } return a; };
 // texts
 const esc = s => String(s).replace(/[&<"]/g, c => `&#${c.charCodeAt()};`);
@@ -33,7 +33,7 @@ const news = s => s.news & 1 ? signals.filter(g => g.at[bisect(g.at.length, k =>
 const look = s => s.good ? bytes(s.good) : LABEL[KINDS[s.kind]] || KINDS[s.kind];
 const times = s => [s.pid === '-' ? 0 : 34e6 / run.speed | 0, s.puts[0] ? s.puts[0][1].length * 5e6 / run.speed | 0 : 0];
 const short = s => s.length > 160 ? s.slice(0, 160) + '…' : s;
-const brief = all => [...all.slice(0, 16).map(short), ...all.length > 16 ? [`… ${all.length} lines in all`] : []].join('\n');
+const brief = (all, end = '\n') => [...all.slice(0, 16).map(short), ...all.length > 16 ? [`… ${all.length} lines in all`] : []].join(end);
 const about = s => [`#${s.i}  ${ms(s.t)}  ${s.table.name} ${s.entry}`, `${s.name} ${s.id} (${s.pid})  ${look(s)}`, ...s.puts.map(q => `${nodes[q[0]].name} put ${bytes(q[1])}`),
 	...s.steps.map(did), ...news(s), ...s.told.map(say)];
 const count = (n, what) => `${n} ${what}${n === 1 ? '' : 's'}`;
@@ -223,9 +223,30 @@ const showRows = () => {
 	$('rows').innerHTML = `<h2>${mask ? 'Slots that the filter takes' : 'Slots of the window'}</h2>` + out;
 };
 const dot = w => `<i style="background:var(--${w})"></i>`;
+// Problems are one group if they differ only in the slot and in a value, the bytes or the number of a message, or in what an
+// expectation found.
+const alike = ({kind, why, line = ''}) => {
+	const f = line.split(' ');
+	return [kind, ...kind === 'unmet' ? /^script \d+|^.*?:\d+:|^.*/.exec(why) : /lost|waits/.test(kind) ? [f[2], f[4]] : [why, ...f.slice(0, Math.max(2, f.length - 1))]].join(' ');
+};
+const pickProbs = () => {
+	const all = new Map();
+	for (const q of probs) if (!mask || mask[q.i]) {
+		const k = q.alike ||= alike(q), same = all.get(k);
+		if (same) { same.push(q); same.differ ||= q.why !== same[0].why || q.line !== same[0].line; } else all.set(k, [q]);
+	}
+	groups = [...all.values()];
+};
+const problem = q => h`${LABEL[q.kind] || q.kind}: ${/lost|waits/.test(q.kind) ? say(q.line).slice(5) + ' ' + q.why : did(q)}`;
+const showProb = q => h`<li class="${q.i === sel ? 'on' : ''}"><button data-i="${q.i}">${[dot(q.kind)]}${q.i < 0 ? '' : `#${q.i} `}${problem(q)}</button>`[0];
+const showGroup = (all, k) => {
+	const [q] = all;
+	return all.length < 2 ? showProb(q) : h`<li class="${!all.open && all.some(q => q.i === sel) ? 'on' : ''}"><button data-i="${q.i}" data-g="${k}" aria-expanded="${!!all.open}">${[dot(q.kind)]}<b>${all.length} ×</b> ${problem(q)}${all.differ ? ' …' : ''}</button>`
+		+ (all.open ? '<ol>' + all.slice(0, 300).map(showProb).join('') + '</ol>' : '');
+};
 const showProbs = () => {
-	const some = probs.filter(q => !mask || mask[q.i]);
-	$('probs').innerHTML = `<h2>Problems: ${some.length}</h2><ol>` + some.slice(0, 300).map(q => h`<li class="${q.i === sel ? 'on' : ''}"><button data-i="${q.i}">${[dot(q.kind)]}#${q.i} ${LABEL[q.kind] || q.kind}: ${/lost|waits/.test(q.kind) ? say(q.line).slice(5) + ' ' + q.why : did(q)}</button>`).join('') + '</ol>' + (some.length > 300 ? '<p class="l">the others by n and p' : '');
+	const all = groups.reduce((n, q) => n + q.length, 0), cut = groups.length > 300 || groups.some(q => q.open && q.length > 300);
+	$('probs').innerHTML = `<h2>Problems: ${all}</h2><ol>` + groups.slice(0, 300).map(showGroup).join('') + '</ol>' + (cut ? '<p class="l">the others by n and p' : '');
 };
 // (a frame that isn't shown has no width)
 const paint = () => { if (W > G) { drawOver(); drawBus(); drawLanes(); } };
@@ -257,7 +278,7 @@ const go = i => {
 const showLine = () => {
 	if (sel < 0) return;
 	const [place, ...rest] = about(slots[sel]);
-	$('line').textContent = [place, ...away(sel), ...rest].join(' · ');
+	$('line').textContent = brief([place, ...away(sel), ...rest], ' · ');
 };
 const measure = i => { mark = i === mark ? -1 : i; showLine(); draw(); };
 // The terms of the filter: SIGNAL = VALUE up to a comma, a time, #SLOT, "TEXT" or a word. Each has `ok`, whether it takes a
@@ -285,7 +306,7 @@ const filter = () => {
 	$('found').textContent = mask ? count(mask.reduce((a, b) => a + b, 0), 'slot') : '';
 	for (const b of $('kinds').children) b.className = all.some(q => q.name === b.dataset.w) ? 'on' : '';
 	strip = 0;
-	colour(); pickLanes(); showProbs(); draw(1);
+	colour(); pickLanes(); pickProbs(); showProbs(); draw(1);
 };
 const next = (d, ok) => { for (let i = (sel < 0 ? slotAt(t0) - 1 : sel) + d; slots[i]; i += d) if ((!mask || mask[i]) && ok(slots[i])) return go(i); };
 const bad = s => s.tags.some(q => !/silent|none|good|coll|asleep/.test(q));
@@ -308,7 +329,8 @@ onkeydown = e => {
 	act(e.shiftKey ? e.key.replace('Arrow', '') : e.key);
 };
 onclick = e => {
-	const {i, k, r, w} = e.target.closest('[data-i],[data-k],[data-r],[data-w]')?.dataset || {};
+	const {i, k, r, w, g} = e.target.closest('[data-i],[data-k],[data-r],[data-w]')?.dataset || {};
+	if (g) { groups[g].open ^= 1; showProbs(); }
 	if (i) go(+i);
 	if (k) act(k);
 	if (r) { rows[r].open = 1; showRows(); }
@@ -370,6 +392,6 @@ $('name').textContent = run.file;
 document.title = run.file + ', LIN run';
 $('sum').textContent = `${N} slots · ${ms(run.end)} · ${run.speed / 1e3} kbit/s · ${nodes.length} nodes · ${msgs.length} messages`;
 $('page').hidden = false;
-colour(); pickLanes(); layout(); showProbs();
+colour(); pickLanes(); pickProbs(); layout(); showProbs();
 onmessage = e => { if (e.source === parent) go(+e.data); };
 if (wanted !== '') go(+wanted);

@@ -42,6 +42,7 @@ background:var(--back);border:1px solid var(--line);border-radius:5px;box-shadow
 main{display:grid;grid-template-columns:250px minmax(0,1fr);gap:22px}
 #probs ol{list-style:none;margin:0;padding:0;max-height:70vh;overflow-y:auto;font-size:12px}
 #probs button{display:block;width:100%;text-align:left;background:none;border:0;border-radius:3px;padding:2px 4px}
+#probs ol ol{max-height:none;padding-left:14px}
 #probs button:hover,.on>button{background:var(--box)!important}
 .r{display:grid;grid-template-columns:104px minmax(0,1fr);padding:5px 0 7px;border-top:1px solid var(--line);break-inside:avoid}
 .x{border-left:3px solid var(--collided);padding-left:8px}
@@ -237,7 +238,7 @@ if (many > 2e5) {
 }
 const run = readRun(text), {nodes, signals, tables, slots, probs, rows, msgs} = run;
 const N = slots.length, END = run.end || 1e3, LABEL = {silent: 'no header', none: 'no answer', missed: 'answer missing'}, BOLD = '600 12px';
-let t0 = 0, t1 = END, sel = -1, mark = -1, mask, W, G, C, paper, frame, timer, most = 40, strip, lanes, drag;
+let t0 = 0, t1 = END, sel = -1, mark = -1, mask, W, G, C, paper, frame, timer, most = 40, strip, lanes, drag, groups;
 const bisect = (n, ok) => { let a = 0; while (a < n) { const m = a + n >> 1; if (ok(m)) n = m; else a = m + 1; } return a; };
 // texts
 const esc = s => String(s).replace(/[&<\"]/g, c => `&#${c.charCodeAt()};`);
@@ -256,7 +257,7 @@ const news = s => s.news & 1 ? signals.filter(g => g.at[bisect(g.at.length, k =>
 const look = s => s.good ? bytes(s.good) : LABEL[KINDS[s.kind]] || KINDS[s.kind];
 const times = s => [s.pid === '-' ? 0 : 34e6 / run.speed | 0, s.puts[0] ? s.puts[0][1].length * 5e6 / run.speed | 0 : 0];
 const short = s => s.length > 160 ? s.slice(0, 160) + '…' : s;
-const brief = all => [...all.slice(0, 16).map(short), ...all.length > 16 ? [`… ${all.length} lines in all`] : []].join('\\n');
+const brief = (all, end = '\\n') => [...all.slice(0, 16).map(short), ...all.length > 16 ? [`… ${all.length} lines in all`] : []].join(end);
 const about = s => [`#${s.i}  ${ms(s.t)}  ${s.table.name} ${s.entry}`, `${s.name} ${s.id} (${s.pid})  ${look(s)}`, ...s.puts.map(q => `${nodes[q[0]].name} put ${bytes(q[1])}`),
 \t...s.steps.map(did), ...news(s), ...s.told.map(say)];
 const count = (n, what) => `${n} ${what}${n === 1 ? '' : 's'}`;
@@ -446,9 +447,30 @@ const showRows = () => {
 \t$('rows').innerHTML = `<h2>${mask ? 'Slots that the filter takes' : 'Slots of the window'}</h2>` + out;
 };
 const dot = w => `<i style=\"background:var(--${w})\"></i>`;
+// Problems are one group if they differ only in the slot and in a value, the bytes or the number of a message, or in what an
+// expectation found.
+const alike = ({kind, why, line = ''}) => {
+\tconst f = line.split(' ');
+\treturn [kind, ...kind === 'unmet' ? /^script \\d+|^.*?:\\d+:|^.*/.exec(why) : /lost|waits/.test(kind) ? [f[2], f[4]] : [why, ...f.slice(0, Math.max(2, f.length - 1))]].join(' ');
+};
+const pickProbs = () => {
+\tconst all = new Map();
+\tfor (const q of probs) if (!mask || mask[q.i]) {
+\t\tconst k = q.alike ||= alike(q), same = all.get(k);
+\t\tif (same) { same.push(q); same.differ ||= q.why !== same[0].why || q.line !== same[0].line; } else all.set(k, [q]);
+\t}
+\tgroups = [...all.values()];
+};
+const problem = q => h`${LABEL[q.kind] || q.kind}: ${/lost|waits/.test(q.kind) ? say(q.line).slice(5) + ' ' + q.why : did(q)}`;
+const showProb = q => h`<li class=\"${q.i === sel ? 'on' : ''}\"><button data-i=\"${q.i}\">${[dot(q.kind)]}${q.i < 0 ? '' : `#${q.i} `}${problem(q)}</button>`[0];
+const showGroup = (all, k) => {
+\tconst [q] = all;
+\treturn all.length < 2 ? showProb(q) : h`<li class=\"${!all.open && all.some(q => q.i === sel) ? 'on' : ''}\"><button data-i=\"${q.i}\" data-g=\"${k}\" aria-expanded=\"${!!all.open}\">${[dot(q.kind)]}<b>${all.length} ×</b> ${problem(q)}${all.differ ? ' …' : ''}</button>`
+\t\t+ (all.open ? '<ol>' + all.slice(0, 300).map(showProb).join('') + '</ol>' : '');
+};
 const showProbs = () => {
-\tconst some = probs.filter(q => !mask || mask[q.i]);
-\t$('probs').innerHTML = `<h2>Problems: ${some.length}</h2><ol>` + some.slice(0, 300).map(q => h`<li class=\"${q.i === sel ? 'on' : ''}\"><button data-i=\"${q.i}\">${[dot(q.kind)]}#${q.i} ${LABEL[q.kind] || q.kind}: ${/lost|waits/.test(q.kind) ? say(q.line).slice(5) + ' ' + q.why : did(q)}</button>`).join('') + '</ol>' + (some.length > 300 ? '<p class=\"l\">the others by n and p' : '');
+\tconst all = groups.reduce((n, q) => n + q.length, 0), cut = groups.length > 300 || groups.some(q => q.open && q.length > 300);
+\t$('probs').innerHTML = `<h2>Problems: ${all}</h2><ol>` + groups.slice(0, 300).map(showGroup).join('') + '</ol>' + (cut ? '<p class=\"l\">the others by n and p' : '');
 };
 // (a frame that isn't shown has no width)
 const paint = () => { if (W > G) { drawOver(); drawBus(); drawLanes(); } };
@@ -480,7 +502,7 @@ const go = i => {
 const showLine = () => {
 \tif (sel < 0) return;
 \tconst [place, ...rest] = about(slots[sel]);
-\t$('line').textContent = [place, ...away(sel), ...rest].join(' · ');
+\t$('line').textContent = brief([place, ...away(sel), ...rest], ' · ');
 };
 const measure = i => { mark = i === mark ? -1 : i; showLine(); draw(); };
 // The terms of the filter: SIGNAL = VALUE up to a comma, a time, #SLOT, \"TEXT\" or a word. Each has `ok`, whether it takes a
@@ -508,7 +530,7 @@ const filter = () => {
 \t$('found').textContent = mask ? count(mask.reduce((a, b) => a + b, 0), 'slot') : '';
 \tfor (const b of $('kinds').children) b.className = all.some(q => q.name === b.dataset.w) ? 'on' : '';
 \tstrip = 0;
-\tcolour(); pickLanes(); showProbs(); draw(1);
+\tcolour(); pickLanes(); pickProbs(); showProbs(); draw(1);
 };
 const next = (d, ok) => { for (let i = (sel < 0 ? slotAt(t0) - 1 : sel) + d; slots[i]; i += d) if ((!mask || mask[i]) && ok(slots[i])) return go(i); };
 const bad = s => s.tags.some(q => !/silent|none|good|coll|asleep/.test(q));
@@ -531,7 +553,8 @@ onkeydown = e => {
 \tact(e.shiftKey ? e.key.replace('Arrow', '') : e.key);
 };
 onclick = e => {
-\tconst {i, k, r, w} = e.target.closest('[data-i],[data-k],[data-r],[data-w]')?.dataset || {};
+\tconst {i, k, r, w, g} = e.target.closest('[data-i],[data-k],[data-r],[data-w]')?.dataset || {};
+\tif (g) { groups[g].open ^= 1; showProbs(); }
 \tif (i) go(+i);
 \tif (k) act(k);
 \tif (r) { rows[r].open = 1; showRows(); }
@@ -593,7 +616,7 @@ $('name').textContent = run.file;
 document.title = run.file + ', LIN run';
 $('sum').textContent = `${N} slots · ${ms(run.end)} · ${run.speed / 1e3} kbit/s · ${nodes.length} nodes · ${msgs.length} messages`;
 $('page').hidden = false;
-colour(); pickLanes(); layout(); showProbs();
+colour(); pickLanes(); pickProbs(); layout(); showProbs();
 onmessage = e => { if (e.source === parent) go(+e.data); };
 if (wanted !== '') go(+wanted);
 </script>
