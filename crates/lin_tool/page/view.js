@@ -2,15 +2,19 @@ const $ = id => document.getElementById(id), text = $('run').textContent;
 // the slot that the address names, or that the page around this one asks for before the run is drawn
 let wanted = location.hash.slice(1);
 onmessage = e => { if (e.source === parent) wanted = e.data; };
-// a run of very many slots is drawn when it is asked for
-let many = 0;
-for (let at = 0; (at = text.indexOf('\n> seen ', at) + 1);) many++;
-if (many > 2e5) {
-	const button = $('ask').firstChild;
-	button.textContent = `Draw ${many} slots`;
+// a run of many slots says how long drawing takes, by its first slots; one of very many is drawn when it is asked for (the page
+// around a frame keeps what it shows until the frame is loaded)
+let many = 0, few;
+for (let at = 0; (at = text.indexOf('\n> seen ', at) + 1);) if (++many === 5e3) few = at;
+if (many > (parent === window ? 2e4 : 2e5)) {
+	const [time, button] = $('ask').children, start = performance.now();
+	readRun(text.slice(0, few));
+	time.textContent = `Drawing ${many} slots takes about ${Math.ceil((performance.now() - start) * many / 5e6)} s.`;
+	button.hidden = many <= 2e5;
 	$('ask').hidden = false;
-	await new Promise(asked => { button.onclick = asked; });
-	$('ask').remove();
+	if (!button.hidden) await new Promise(asked => { button.onclick = asked; });
+	button.remove();
+	await new Promise(shown => setTimeout(shown, 50));
 }
 const run = readRun(text), {nodes, signals, tables, slots, probs, rows, msgs} = run;
 const N = slots.length, END = run.end || 1e3, LABEL = {silent: 'no header', none: 'no answer', missed: 'answer missing'}, BOLD = '600 12px';
@@ -22,7 +26,8 @@ const h = (text, ...v) => [text.reduce((a, t, k) => a + (Array.isArray(v[k - 1])
 const ms = t => END < 1e7 ? +(t / 1e3).toFixed(3) + ' ms' : +(t / 1e6).toFixed(4) + ' s';
 const bytes = s => (s.length > 48 ? s.slice(0, 48) + '…' : s).replace(/\w\w(?=\w)/g, '$& ');
 const OF = {send: [nodes, nodes], message: [nodes, nodes], write: [nodes, signals], switch: [tables], hurt: [], close: [nodes]};
-const say = (line = '') => line.split(' ').slice(1).map((v, k, f) => k && (OF[f[0]] || OF.close)[k - 1]?.[v]?.name || v).join(' ');
+const say = (line = '') => line.split(' ').slice(1).map((v, k, [of, , g]) => k === 3 && of === 'write' && signals[g] && map(signals[g], v) ? '= ' + shown(signals[g], v)
+	: k && (OF[of] || OF.close)[k - 1]?.[v]?.name || v).join(' ');
 const did = q => [q.why, say(q.line)].filter(v => v).join(': ');
 const map = (s, v) => s.maps.find(m => v >= +m.lo && v <= +m.hi);
 const named = (s, v) => s.init[0] || map(s, v)?.text;
@@ -381,7 +386,12 @@ const layout = () => {
 	strip = 0;
 	paint(); showRows();
 };
-const print = on => () => { paper = on; document.documentElement.className = on ? 'paper' : ''; layout(); };
+const print = on => () => {
+	paper = on;
+	document.documentElement.className = on ? 'paper' : '';
+	$('shown').textContent = [`${ms(t0)} to ${ms(t1)}`, ...mask ? ['filter: ' + $('find').value] : [], ''].join(' · ');
+	layout();
+};
 onresize = matchMedia('(prefers-color-scheme:dark)').onchange = layout;
 onbeforeprint = print(1);
 onafterprint = print(0);
@@ -391,6 +401,7 @@ $('kinds').innerHTML = [...KINDS, 'lost', 'refused', 'unmet', 'waits', 'asleep']
 $('name').textContent = run.file;
 document.title = run.file + ', LIN run';
 $('sum').textContent = `${N} slots · ${ms(run.end)} · ${run.speed / 1e3} kbit/s · ${nodes.length} nodes · ${msgs.length} messages`;
+$('ask').remove();
 $('page').hidden = false;
 colour(); pickLanes(); pickProbs(); layout(); showProbs();
 onmessage = e => { if (e.source === parent) go(+e.data); };

@@ -18,7 +18,8 @@ pub const HEAD: &str = "<!DOCTYPE html>
 body{margin:0 auto;padding:14px 18px 24px;font:13px/1.4 system-ui,sans-serif;background:var(--back);color:var(--text)}
 h1{font-size:19px;margin:0}
 h2{font-size:13px;margin:0 0 4px}
-small,.l,.k,#sum,#found,#rest{color:var(--soft)}
+small,.l,.k,#sum,#by,#found,#rest{color:var(--soft)}
+#by{display:none}
 header{display:flex;flex-wrap:wrap;gap:4px 12px;align-items:baseline;margin-bottom:8px}
 #zoom{margin-left:auto}
 button,input{font:inherit;color:inherit;background:var(--box);border:1px solid var(--line);border-radius:5px;padding:2px 8px}
@@ -67,13 +68,13 @@ td,th{text-align:left;padding:0 10px 0 0;font-size:12px}
 @media(max-width:760px){body{padding:10px}main{grid-template-columns:1fr}.r{grid-template-columns:1fr}#probs ol{max-height:150px}
 .t br{display:none}.g{grid-template-columns:repeat(auto-fill,minmax(156px,1fr))}}
 @page{size:A4 landscape;margin:10mm}
-@media print{body{width:1040px;padding:0}#find,#zoom,#hair,#tip,.keys,[data-k=more]{display:none!important}
+@media print{body{width:1040px;padding:0}#by{display:inline}#find,#zoom,#hair,#tip,.keys,[data-k=more]{display:none!important}
 h2{break-after:avoid}
 #lanes,#probs ol{max-height:none}main{display:block}#probs ol{columns:3}}
 </style></head><body>
-<p id=\"ask\" hidden><button></button></p>
+<p id=\"ask\" hidden><span></span> <button>Draw</button></p>
 <div id=\"page\" hidden>
-<header><h1 id=\"name\"></h1><span id=\"sum\"></span><span id=\"zoom\"><button data-k=\"0\">whole run</button> <button data-k=\"-\" aria-label=\"zoom out\">−</button> <button data-k=\"+\" aria-label=\"zoom in\">+</button> <button data-k=\"p\" aria-label=\"problem before\">‹ problem</button> <button data-k=\"n\" aria-label=\"next problem\">problem ›</button> <button data-k=\"?\" aria-label=\"keys\">?</button></span></header>
+<header><h1 id=\"name\"></h1><span id=\"sum\"></span><span id=\"by\"><span id=\"shown\"></span>linsim 0.2.0</span><span id=\"zoom\"><button data-k=\"0\">whole run</button> <button data-k=\"-\" aria-label=\"zoom out\">−</button> <button data-k=\"+\" aria-label=\"zoom in\">+</button> <button data-k=\"p\" aria-label=\"problem before\">‹ problem</button> <button data-k=\"n\" aria-label=\"next problem\">problem ›</button> <button data-k=\"?\" aria-label=\"keys\">?</button></span></header>
 <div id=\"bar\"><input id=\"find\" type=\"search\" placeholder=\"Filter: frame, signal, node, 0x10, 22F190, Temp = 27, 9.5 s, #slot\" aria-label=\"Filter\">
 <span id=\"found\" role=\"status\"></span><span id=\"kinds\"></span></div>
 <div id=\"time\" tabindex=\"0\" role=\"application\" aria-label=\"The run over time: arrow keys go from slot to slot\" aria-describedby=\"line\">
@@ -226,15 +227,19 @@ const $ = id => document.getElementById(id), text = $('run').textContent;
 // the slot that the address names, or that the page around this one asks for before the run is drawn
 let wanted = location.hash.slice(1);
 onmessage = e => { if (e.source === parent) wanted = e.data; };
-// a run of very many slots is drawn when it is asked for
-let many = 0;
-for (let at = 0; (at = text.indexOf('\\n> seen ', at) + 1);) many++;
-if (many > 2e5) {
-\tconst button = $('ask').firstChild;
-\tbutton.textContent = `Draw ${many} slots`;
+// a run of many slots says how long drawing takes, by its first slots; one of very many is drawn when it is asked for (the page
+// around a frame keeps what it shows until the frame is loaded)
+let many = 0, few;
+for (let at = 0; (at = text.indexOf('\\n> seen ', at) + 1);) if (++many === 5e3) few = at;
+if (many > (parent === window ? 2e4 : 2e5)) {
+\tconst [time, button] = $('ask').children, start = performance.now();
+\treadRun(text.slice(0, few));
+\ttime.textContent = `Drawing ${many} slots takes about ${Math.ceil((performance.now() - start) * many / 5e6)} s.`;
+\tbutton.hidden = many <= 2e5;
 \t$('ask').hidden = false;
-\tawait new Promise(asked => { button.onclick = asked; });
-\t$('ask').remove();
+\tif (!button.hidden) await new Promise(asked => { button.onclick = asked; });
+\tbutton.remove();
+\tawait new Promise(shown => setTimeout(shown, 50));
 }
 const run = readRun(text), {nodes, signals, tables, slots, probs, rows, msgs} = run;
 const N = slots.length, END = run.end || 1e3, LABEL = {silent: 'no header', none: 'no answer', missed: 'answer missing'}, BOLD = '600 12px';
@@ -246,7 +251,8 @@ const h = (text, ...v) => [text.reduce((a, t, k) => a + (Array.isArray(v[k - 1])
 const ms = t => END < 1e7 ? +(t / 1e3).toFixed(3) + ' ms' : +(t / 1e6).toFixed(4) + ' s';
 const bytes = s => (s.length > 48 ? s.slice(0, 48) + '…' : s).replace(/\\w\\w(?=\\w)/g, '$& ');
 const OF = {send: [nodes, nodes], message: [nodes, nodes], write: [nodes, signals], switch: [tables], hurt: [], close: [nodes]};
-const say = (line = '') => line.split(' ').slice(1).map((v, k, f) => k && (OF[f[0]] || OF.close)[k - 1]?.[v]?.name || v).join(' ');
+const say = (line = '') => line.split(' ').slice(1).map((v, k, [of, , g]) => k === 3 && of === 'write' && signals[g] && map(signals[g], v) ? '= ' + shown(signals[g], v)
+\t: k && (OF[of] || OF.close)[k - 1]?.[v]?.name || v).join(' ');
 const did = q => [q.why, say(q.line)].filter(v => v).join(': ');
 const map = (s, v) => s.maps.find(m => v >= +m.lo && v <= +m.hi);
 const named = (s, v) => s.init[0] || map(s, v)?.text;
@@ -605,7 +611,12 @@ const layout = () => {
 \tstrip = 0;
 \tpaint(); showRows();
 };
-const print = on => () => { paper = on; document.documentElement.className = on ? 'paper' : ''; layout(); };
+const print = on => () => {
+\tpaper = on;
+\tdocument.documentElement.className = on ? 'paper' : '';
+\t$('shown').textContent = [`${ms(t0)} to ${ms(t1)}`, ...mask ? ['filter: ' + $('find').value] : [], ''].join(' · ');
+\tlayout();
+};
 onresize = matchMedia('(prefers-color-scheme:dark)').onchange = layout;
 onbeforeprint = print(1);
 onafterprint = print(0);
@@ -615,6 +626,7 @@ $('kinds').innerHTML = [...KINDS, 'lost', 'refused', 'unmet', 'waits', 'asleep']
 $('name').textContent = run.file;
 document.title = run.file + ', LIN run';
 $('sum').textContent = `${N} slots · ${ms(run.end)} · ${run.speed / 1e3} kbit/s · ${nodes.length} nodes · ${msgs.length} messages`;
+$('ask').remove();
 $('page').hidden = false;
 colour(); pickLanes(); pickProbs(); layout(); showProbs();
 onmessage = e => { if (e.source === parent) go(+e.data); };
