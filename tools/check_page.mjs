@@ -2,8 +2,8 @@
 //
 // PAGE is what `--to html` writes of a run, LISTING what `check --frames --slots` lists of its LDF, LOG, CSV and NAMED the
 // run in these formats. The page's data hold the listing and the log byte for byte; what the page's own model makes of
-// them, written as a table, is the CSV; no slot, no problem and no message of the log is missing in it; and refusals have
-// the names that the log with names gives them.
+// them, written as a table, is the CSV; no slot, no problem, no missing, damaged or collided response and no message of the
+// log is missing in it; and refusals have the names that the log with names gives them.
 // Prints `same: N slots, M problems`, or what differs; exit status 1 then.
 import fs from 'fs';
 
@@ -34,9 +34,16 @@ const made = table, wanted = csv.split('\n').slice(0, -1), differs = made.findIn
 if (differs >= 0 || made.length !== wanted.length) faults.push(`line ${differs + 1} of the table differs:\n${made[differs]}\n${wanted[differs]}`);
 
 // nothing is missing
-const count = (text, start) => (text.match(new RegExp(`^${start} `, 'gm')) || []).length, problems = kind => run.probs.filter(problem => problem.kind === kind).length;
+const count = (text, start) => (text.match(new RegExp(`^${start}\\b`, 'gm')) || []).length, problems = kind => run.probs.filter(problem => problem.kind === kind).length;
 if (count(log, '> seen') !== run.slots.length) faults.push('a slot is missing');
 if (count(log, '> lost') !== problems('lost') || count(log, '> refused') !== problems('refused') || count(data, 'unmet') !== problems('unmet')) faults.push('a problem is missing');
+const kinds = {
+	damaged: count(log, '> seen damaged'), collided: count(log, '> seen collided'),
+	missed: log.split(/^> slot /m).filter(slot => /^> due /m.test(slot) && /^> seen none/m.test(slot)).length,
+};
+for (const [kind, wanted] of Object.entries(kinds)) {
+	if (run.slots.filter(slot => slot.tags.includes(kind)).length !== wanted || kind !== 'collided' && problems(kind) !== wanted) faults.push(`of slots that are ${kind} one is missing`);
+}
 if (count(log, '> accepted') !== count(log, '> sent') + count(log, '> lost') + problems('waits')) faults.push('a message is missing');
 
 const why = run.probs.filter(problem => problem.kind === 'refused').map(problem => problem.why).join();
