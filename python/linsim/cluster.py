@@ -99,10 +99,13 @@ class Cluster:
         elif kind == "slot":
             entry = self.tables[int(fields[1])], int(fields[2])
             self.entries[entry] = fields[3], int(fields[6])
-        elif kind == "value":
-            self._meaning(fields[1]).values[int(fields[2])] = " ".join(fields[3:])
-        elif kind == "range":
-            self._meaning(fields[1]).ranges.append((int(fields[2]), int(fields[3])))
+        elif kind in ("value", "range"):
+            meaning, first = self._meaning(fields[1]), int(fields[2])
+            if kind == "value":
+                meaning.values[first] = " ".join(fields[3:])
+            else:
+                meaning.ranges.append((first, int(fields[3])))
+            meaning.has_hash |= "#" in "".join(fields[3:])
 
     def _meaning(self, number: str) -> Meaning:
         """The encoding of the signal with this number."""

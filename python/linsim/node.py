@@ -141,7 +141,9 @@ class Signal:
         self._write_text(f"~ {text_of(value)}")
 
     def _write_text(self, value: str) -> None:
-        without_comment(value, self.node.cluster)
+        meaning = self.node.cluster.meanings.get(self.name)
+        if meaning is None or not meaning.has_hash:     # otherwise all of it is the value
+            without_comment(value, self.node.cluster)
         self._write(value)
 
     def _write(self, value: str) -> None:

@@ -18,10 +18,11 @@ MOST_DIGITS = 400                       # more than any float has; no value has 
 
 @dataclass
 class Meaning:
-    """The encoding of a signal: the texts of its logical values, by the raw value, and the first
-    and the last raw value of each physical range."""
+    """The encoding of a signal: the texts of its logical values, by the raw value, the first and
+    the last raw value of each physical range, and whether a text or a unit contains `#`."""
     values: Dict[int, str] = field(default_factory=dict)
     ranges: List[Tuple[int, int]] = field(default_factory=list)
+    has_hash: bool = False
 
     def is_number(self, raw: Value) -> bool:
         """Whether the raw value means a number: a range has it, and no logical value is it."""

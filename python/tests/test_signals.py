@@ -167,11 +167,15 @@ class Comparisons(unittest.TestCase):
             self.assertTrue(lonely == "opening" and lonely != "stopped")
 
     def test_a_text_with_a_number_sign(self):
-        """It begins a comment in a script, so the line doesn't say the whole text."""
+        """It begins a comment only if no text and no unit of the signal contains it."""
         with changed(self, '"opening"', '"Gear #1"') as bus:
             state = bus["WinMot"]["WinState"]
-            state.raw = 1
+            state.physical = "Gear #1"
+            self.assertEqual((state.raw, state.physical), (1, "Gear #1"))
             self.assertTrue(state == "Gear #1")
+            with self.assertRaisesRegex(linsim.BadLine, "no value Gear #2"):
+                state.physical = "Gear #2"
+            self.assertEqual(state.raw, 1)
             with self.assertRaisesRegex(linsim.BadLine, "stopped #2"):
                 state == "stopped #2"                           # noqa: B015
             with self.assertRaisesRegex(linsim.BadLine, "stopped #1"):

@@ -60,7 +60,7 @@ function ldfMarks(err, name, lines, isLatin) {
 // The part of a line that a reason is about, as [from, to].
 function offending(line, reason) {
 	const start = Math.max(0, line.search(/\S/)), end = Math.max(start + 1, line.search(/\s*(?:(?<=^|\s)#.*)?$/));
-	const found = /^(?:no|unknown) \w+ (\S+)|^(.+?) (?:is no|isn't|are) |, not (\S+)$|has no (?:form|value) (.+?)(?: \(|$)|^unknown expectation (.+)$/.exec(reason);
+	const found = /^(?:no|unknown) \w+ (\S+)|^(.+?) (?:is no|isn't|are) |, not (.+?)(?: \((?:units|values): .+\))?$|has no (?:form|value) (.+?)(?: \(|$)|^unknown expectation (.+)$/.exec(reason);
 	const token = found && found.slice(1).find(Boolean), at = token ? line.indexOf(token, start) : -1;
 	return at < 0 ? [start, end] : [at, at + token.length];
 }
@@ -71,7 +71,8 @@ function benchMarks(err, name, lines) {
 	const marks = said.map(({line, text}) => {
 		const whole = lines[line - 1] || '', [, reason] = /^bad line: (.*)$/.exec(text) || [], slot = /\(slot (\d+), \d+ us\)$/.exec(text);
 		const [from, to] = offending(whole, reason || ''), isError = reason !== undefined || text === 'slot limit';
-		const nearest = / \(nearest: (.+)\)$/.exec(reason || ''), fixes = nearest ? nearest[1].split(', ') : [];
+		const near = /has no value .+ \((?:nearest|values): (.+?)(?:, \.\.)?\)$/.exec(reason || ''), fixes = near ? near[1].split(', ') : [];
+		if (/, or = before a text, not /.test(reason)) fixes.push(`= ${whole.slice(from, to)}`);
 		return {line, from, to, kind: isError ? 'error' : 'missed', head: text, text: [], fixes, slot: slot ? Number(slot[1]) : undefined};
 	});
 	// below all bad lines stand, for each of the first ten, the line and what there is
