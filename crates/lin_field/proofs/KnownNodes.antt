@@ -1,9 +1,8 @@
 -- Where all names are nodes', all are kept, and none is warned of.
-use Rattle.std.proofs.Common.{◌≡◌, Bool, true, false, not, List, [], ◌∷◌, ◌++◌, refl, sym, ap, ◌∙◌, filter}
+use Rattle.std.proofs.Common.{◌≡◌, Bool, true, false, not, List, [], ◌∷◌, ◌++◌, refl, ap, ◌∙◌, filter}
 use Rattle.std.specs.Prelude.{◌&&◌}
 use Rattle.std.specs.List.{list_all, flat_map}
 use Rattle.lin_cluster.specs.FindingsNames.{at_name, when}
-use Rattle.lin_cluster.specs.declared.finding.Finding.{Finding}
 use Rattle.lin_cluster.specs.declared.finding.FindingKind.TheVariants.{UnknownName}
 use Rattle.lin_parts.specs.declared.description.Name.{Name}
 use Rattle.lin_field.specs.Names.{is_node}

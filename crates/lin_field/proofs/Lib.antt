@@ -1,3 +1,4 @@
+pub mod Capped
 pub mod DraftedNodes
 pub mod ExtraSteps
 pub mod KnownNodes

@@ -39,9 +39,9 @@ use Rattle.lin_field.proofs.TightSlots.{none-of-each, none-tight}
 use Rattle.lin_field.specs.Attributes.{Elsewhere, attribute_warnings, draft, draft_nad_warnings, draft_warnings, drafts, elsewhere_of, good_nad, has_block, is_nad, listed, nad_warning, new_drafts, responder_nads, settled_attributes, settled_block, settled_draft}
 use Rattle.lin_field.specs.Frames.{frame_warnings, is_diagnostic_frame, kept_frame}
 use Rattle.lin_field.specs.Names.{is_node, is_responder, node_list}
-use Rattle.lin_field.specs.PlainTexts.{NamesTables, StaysPlain, header_in, loose_block, loose_entry, loose_event, loose_frame, loose_table, loosened, nodes_in}
+use Rattle.lin_field.specs.PlainTexts.{NamesTables, StaysPlain, header_in, loose_block, loose_entry, loose_event, loose_frame, loose_init, loose_signal, loose_table, loosened, nodes_in, wide}
 use Rattle.lin_field.specs.Settled.{header_warnings, is_old, old_version, tells_tables, untimed}
-use Rattle.lin_field.specs.Signals.{init_warnings, is_narrow, is_wide, low_bits, settled_init, settled_signal, signal_warnings, with_value}
+use Rattle.lin_field.specs.Signals.{init_warnings, is_narrow, is_wide, kept_bits, low_bits, settled_init, settled_signal, signal_warnings, value_at}
 use Rattle.lin_field.specs.Signals as told
 use Rattle.lin_field.specs.Tables.{event_warnings, is_filled, is_left_out, is_members_name, kept_name, kept_tables, members_name, names_left_out, plain_entry, plain_table, rounded_warnings, settled_event, table_warnings, table_warnings_of}
 use Rattle.lin_field.specs.Times.{entry_warnings, member_table, member_tables, time_of, timed_by, timed_entry, timed_table, timed_tables, timing_warnings}
@@ -94,14 +94,14 @@ not-wide size good =
     let few = leb-true size 16 (and_parts (nat_le 1 size) (nat_le size 16) good).1
     in and_left (nat_le 24 size) (nat_le size 64 && size % 8 == 0) (lt-leb 24 size (omega arith))
 
-init-stays : (size : ℕ) (init : Init) → fits_size init size ≡ true → is_good_init size init ≡ true → settled_init size init ≡ init
+init-stays : (size : ℕ) (init : Init) → fits_size init size ≡ true → is_good_init size init ≡ true → settled_init size (loose_init init) ≡ init
 init-stays size (Array place items) good fits = refl
 init-stays size (Scalar n) good fits =
-    cond-false (is_wide size) (Array (record { line = n.line; column = n.column }) (told.byte_numbers n (size / 8))) (if is_narrow size then Scalar (with_value n (low_bits n.value size)) else Scalar n) (not-wide size good)
-    ∙ (cond-true (is_narrow size) (Scalar (with_value n (low_bits n.value size))) (Scalar n) good
-    ∙ ap (λ v. Scalar (with_value n v)) (mod-eq_of_lt (ltb-true n.value (2 ^ size) fits)))
+    cond-false (is_wide size) (Array (record { line = n.line; column = n.column }) (told.byte_numbers (wide n) (size / 8))) (Scalar (value_at (wide n) (low_bits n.value (kept_bits size)))) (not-wide size good)
+    ∙ (ap (λ bits. Scalar (value_at (wide n) (low_bits n.value bits))) (cond-true (is_narrow size) size 32 good)
+    ∙ ap (λ v. Scalar (value_at (wide n) v)) (mod-eq_of_lt (ltb-true n.value (2 ^ size) fits)))
 
-init-silent : (size : Number) (init : Init) → fits_size init size.value ≡ true → is_good_init size.value init ≡ true → init_warnings size init ≡ []
+init-silent : (size : Number) (init : Init) → fits_size init size.value ≡ true → is_good_init size.value init ≡ true → init_warnings size (loose_init init) ≡ []
 init-silent size (Array place items) good fits = refl
 init-silent size (Scalar n) good fits =
     let same : (low_bits n.value size.value == n.value) ≡ true = eq-eqb (low_bits n.value size.value) n.value (mod-eq_of_lt (ltb-true n.value (2 ^ size.value) fits))
@@ -115,24 +115,25 @@ known-subscribers d none k s lt j n in' =
     in let node = get_or here.subscribers j n
     in not-false (plain.is_node d node) (when-not (not (plain.is_node d node)) (at_name UnknownName node) refl (in-each IsShort (unknown_node d) here.subscribers parts.1 j n in'))
 
-signals-stay : (d : Description) → NothingElse d → map (settled_signal (nodes_in d)) d.signals ≡ d.signals
+signals-stay : (d : Description) → NothingElse d → map (settled_signal (nodes_in d)) (map loose_signal d.signals) ≡ d.signals
 signals-stay d none =
-    map-stays (settled_signal (nodes_in d)) d.signals (λ k s lt.
+    back-and-forth loose_signal (settled_signal (nodes_in d)) d.signals (λ k s lt.
     let here = get_or d.signals k s
     in let good = good-signals d none k s lt
     in let init = init-stays here.size.value here.init good.size good.init
     in let subscribers = filter-stays (is_node (nodes_in d)) here.subscribers (known-subscribers d none k s lt)
     in λ i. record { name = here.name; size = here.size; init = init i; publisher = here.publisher; subscribers = subscribers i })
 
-signals-silent : (d : Description) → NothingElse d → flat_map (signal_warnings (nodes_in d)) d.signals ≡ []
+signals-silent : (d : Description) → NothingElse d → flat_map (signal_warnings (nodes_in d)) (map loose_signal d.signals) ≡ []
 signals-silent d none =
-    none-of-each (signal_warnings (nodes_in d)) d.signals (λ k s lt.
+    none-of-each (signal_warnings (nodes_in d)) (map loose_signal d.signals)
+    (All-map (λ s. signal_warnings (nodes_in d) s ≡ []) loose_signal d.signals (λ k s lt.
     let here = get_or d.signals k s
     in let good = good-signals d none k s lt
     in let known = none-of-each (told.unknown_node (nodes_in d)) here.subscribers (λ j n in'.
     let node = get_or here.subscribers j n
     in ap (λ b. when b (at_name UnknownName node)) (not_from_true (is_node (nodes_in d) node) (known-subscribers d none k s lt j n in')))
-    in ap (λ fs. fs ++ flat_map (told.unknown_node (nodes_in d)) here.subscribers) (init-silent here.size here.init good.size good.init) ∙ known)
+    in ap (λ fs. fs ++ flat_map (told.unknown_node (nodes_in d)) here.subscribers) (init-silent here.size here.init good.size good.init) ∙ known))
 
 -- ---- frames
 

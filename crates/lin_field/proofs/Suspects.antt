@@ -1,15 +1,15 @@
 -- Where no mark is a suspect, none is left out.
-use Rattle.std.proofs.Common.{◌≡◌, ℕ, zero, suc, ◌+◌, ◌<◌, ◌≤◌, Bool, true, false, cond, not, List, [], ◌∷◌, ◌++◌, length, take, drop, get_or, Option, Some, None, refl, sym, ap, subst, ◌∙◌, inl, inr, ◌⊎◌, arith, true≢false, length-drop, drop-cons}
+use Rattle.std.proofs.Common.{◌≡◌, ℕ, zero, suc, ◌+◌, ◌<◌, ◌≤◌, Bool, true, false, cond, List, [], ◌∷◌, ◌++◌, length, take, drop, get_or, Option, Some, None, refl, sym, ap, subst, ◌∙◌, inl, inr, ◌⊎◌, arith, true≢false, length-drop, drop-cons}
 use Rattle.std.proofs.lemmas.Bool.{eqb-true}
-use Rattle.std.specs.Prelude.{◌==◌, ◌&&◌, ◌||◌, if◌then◌else◌}
-use Rattle.std.proofs.lemmas.List.{take-append-drop, append-nil}
+use Rattle.std.specs.Prelude.{◌==◌, ◌&&◌, ◌||◌}
+use Rattle.std.proofs.lemmas.List.{take-append-drop}
 use Rattle.memchr.specs.Find.{IsFirstByte, is_byte2}
 use Rattle.lin_ldf.specs.Bytes.{is_separator}
-use Rattle.lin_ldf.specs.Tokens.{IsForm, IsToken, IsPiece, Piece, IsCut, token_of, tokens_of, AreTokens, line_after, column_after, mark_len, behind_mark}
+use Rattle.lin_ldf.specs.Tokens.{IsForm, IsToken, Piece, IsCut, token_of, tokens_of, AreTokens, line_after, column_after, mark_len, behind_mark}
 use Rattle.lin_ldf.specs.declared.token.Token.{Token}
 use Rattle.lin_ldf.specs.declared.token.TokenKind.{TokenKind}
 use Rattle.lin_ldf.specs.declared.token.TokenKind.TheVariants as kinds
-use Rattle.lin_field.specs.Marks.{is_extra, extra_after, extra_in}
+use Rattle.lin_field.specs.Marks.{is_extra, extra_in}
 use Rattle.lin_field.specs.Suspects.{behind_separators, is_suspect, has_suspect}
 use Rattle.lin_field.proofs.ExtraSteps.{extra_behind, nothing_behind}
 

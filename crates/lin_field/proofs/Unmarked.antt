@@ -1,5 +1,5 @@
 -- A text none of whose marks is a suspect: what the parser makes of its tokens.
-use Rattle.std.proofs.Common.{◌≡◌, ℕ, zero, suc, false, List, [], ◌++◌, ◌∷◌, Ok, refl, sym, ap, subst, ◌∙◌, inl, inr}
+use Rattle.std.proofs.Common.{◌≡◌, ℕ, false, List, [], ◌++◌, ◌∷◌, Ok, sym, ap, subst, ◌∙◌, inl, inr}
 use Rattle.lin_ldf.specs.Symbols.{Symbol, symbols_in}
 use Rattle.lin_ldf.specs.Forms.{Form, Gives}
 use Rattle.lin_ldf.specs.Stream.{start_of}
@@ -11,8 +11,8 @@ use Rattle.lin_ldf.specs.declared.token.Token.{Token}
 use Rattle.lin_ldf.specs.declared.token.TokenKind.TheVariants as kinds
 use Rattle.lin_ldf.proofs.Outcomes.{outcome}
 use Rattle.lin_ldf.proofs.Stops.{Closed, Closes, after, closes_right, closes_then, closes_value, closes_once, closes_choice, block_closes, slaves_close, sections_close, steps_close, no_stop}
-use Rattle.lin_field.specs.Grammar.{unless, nodes_of, nodes, node_names, loose_frame, with_frame, loose_event, with_event, loose_block, with_block, address, loose_table, with_table, with_frames, with_events, with_attributes, with_addresses, with_tables, with_plain, field_section_words, loose_section_of, loose_section, no_loose_sections, field_file}
-use Rattle.lin_field.specs.GrammarLaws.{header_takes, master_takes, loose_frame_takes, loose_event_takes, loose_block_takes, address_takes, loose_table_takes}
+use Rattle.lin_field.specs.Grammar.{unless, nodes_of, nodes, node_names, loose_signal, with_signal, loose_frame, with_frame, loose_event, with_event, loose_block, with_block, address, loose_table, with_table, with_signals, with_frames, with_events, with_attributes, with_addresses, with_tables, with_plain, field_section_words, loose_section_of, loose_section, no_loose_sections, field_file}
+use Rattle.lin_field.specs.GrammarLaws.{header_takes, master_takes, loose_signal_takes, loose_frame_takes, loose_event_takes, loose_block_takes, address_takes, loose_table_takes}
 use Rattle.lin_field.specs.Marks.{AreExtraMarks}
 use Rattle.lin_field.specs.Suspects.{has_suspect}
 use Rattle.lin_field.specs.declared.loose.Loose.{Loose}
@@ -29,6 +29,7 @@ nodes_close : Closes nodes
 nodes_close = closes_value nodes_of (closes_right (keyword_before _ kinds.OpenBrace).lawful (closes_then (master_takes []).lawful (λ m. slaves_close (with_name [] m.0))))
 
 section_closes : (s : LooseSections) (w : FieldWord) → Closes (loose_section_of w s)
+section_closes s field_words.Signals = closes_value (with_signals s) (closes_once s.signals (closes_right (keyword_takes _).lawful (block_closes with_signal loose_signal loose_signal_takes [])))
 section_closes s field_words.Frames = closes_value (with_frames s) (closes_once s.frames (closes_right (keyword_takes _).lawful (block_closes with_frame loose_frame loose_frame_takes s.plain.frame_names)))
 section_closes s field_words.Event = closes_value (with_events s) (closes_once s.events (closes_right (keyword_takes _).lawful (block_closes with_event loose_event loose_event_takes s.plain.frame_names)))
 section_closes s field_words.Attributes = closes_value (with_attributes s) (closes_once s.attributes (closes_right (keyword_takes _).lawful (block_closes with_block loose_block loose_block_takes s.plain.blocks)))

@@ -1,18 +1,21 @@
 -- The grammar of LDF texts of the field: that of LIN 2.2A, section 9, with the productions of LIN
 -- 1.3 (a frame without a size, Diagnostic_addresses), of LIN 2.0 (an event-triggered frame without
--- a table), of J2602 (a list after the jitter) and of ISO 17987 (the order of bytes).
-use Rattle.std.specs.Prelude.{◌≡◌, ℕ, List, [], ◌∷◌, ◌++◌, ◌+◌, Bool, true, false, not, ◌&&◌}
+-- a table), of J2602 (a list after the jitter), of ISO 17987 (the order of bytes), and of tools that
+-- write an initial value of up to 64 bits as a number.
+use Rattle.std.specs.Prelude.{◌≡◌, ℕ, List, [], ◌∷◌, ◌++◌, ◌+◌, ◌^◌, Bool, true, false, not, ◌&&◌}
 use Rattle.std.specs.Prelude.{Option, Some, None, is_some, if◌then◌else◌, codes, fold, nat_le}
+use Rattle.std.specs.Prelude.{nat_lt}
 use Rattle.std.specs.Str.{bytes_eq}
 use Rattle.lin_ldf.specs.Symbols.{Symbol, is_kind}
 use Rattle.lin_ldf.specs.Forms.{Form, ◌>>=◌, end, token, mark, keyword, as_value, either, choice}
 use Rattle.lin_ldf.specs.Forms.{front, is_front, is_keyword, nothing, ◌&◌, ◌&>◌, ◌<&◌, ◌&=◌}
 use Rattle.lin_ldf.specs.Loops.{gathering, is_next}
 use Rattle.lin_ldf.specs.Numbers.{thousandths, fraction_part, fraction_digit, has_zero_tail}
-use Rattle.lin_ldf.specs.Numbers.{is_hexadecimal, is_in_limit}
+use Rattle.lin_ldf.specs.Numbers.{is_hexadecimal, is_in_limit, is_whole, int_value}
 use Rattle.lin_ldf.specs.Words.{open_brace, close_brace, colon, semicolon, comma, equals, word}
-use Rattle.lin_ldf.specs.Words.{is_word_but, name_of, new_word, number_of, int, is_word_next, words}
-use Rattle.lin_ldf.specs.Words.{same_state, with_name, block, no_word, list, once}
+use Rattle.lin_ldf.specs.Words.{is_word_but, name_of, place_of, new_word, number_of, int, ints, opening}
+use Rattle.lin_ldf.specs.Words.{is_word_next, words, other_words, same_state, with_name, block}
+use Rattle.lin_ldf.specs.Words.{no_word, list, once}
 use Rattle.lin_ldf.specs.Grammar.{slaves, placed_signals, frame_before, event_rest}
 use Rattle.lin_ldf.specs.Grammar.{protocol_text, nad, attr, no_settings, with_node, entry_before}
 use Rattle.lin_ldf.specs.Grammar.{section, no_sections, or_empty}
@@ -24,9 +27,14 @@ use Rattle.lin_ldf.specs.declared.section.Sections.{Sections}
 use Rattle.lin_parts.specs.declared.description.Name.{Name}
 use Rattle.lin_parts.specs.declared.description.Number.{Number}
 use Rattle.lin_parts.specs.declared.description.PlacedSignal.{PlacedSignal}
+use Rattle.lin_parts.specs.declared.place.Place.{Place}
 use Rattle.lin_field.specs.declared.loose.Decimal.{Decimal}
 use Rattle.lin_field.specs.declared.loose.Header.{Header}
 use Rattle.lin_field.specs.declared.loose.LooseNodes.{LooseNodes}
+use Rattle.lin_field.specs.declared.loose.WideNumber.{WideNumber}
+use Rattle.lin_field.specs.declared.loose.LooseInit.{LooseInit}
+use Rattle.lin_field.specs.declared.loose.LooseInit.TheVariants.{Scalar, Array}
+use Rattle.lin_field.specs.declared.loose.LooseSignal.{LooseSignal}
 use Rattle.lin_field.specs.declared.loose.LooseFrame.{LooseFrame}
 use Rattle.lin_field.specs.declared.loose.LooseEvent.{LooseEvent}
 use Rattle.lin_field.specs.declared.loose.LooseAttributes.{LooseAttributes}
@@ -87,6 +95,23 @@ decimal = token (λ t. is_kind kinds.Number t.kind && is_decimal t.text) decimal
 -- DECR, unit, mark
 abbrev pub decimal_in : List ℕ → TokenKind → Form Decimal
 decimal_in unit end = decimal <& (keyword unit <& mark end)
+
+-- at most 18,446,744,073,709,551,615
+abbrev pub is_in_wide_limit : ℕ → Bool
+is_in_wide_limit n = nat_lt n (2 ^ 64)
+
+abbrev pub number_in_wide_limit : ℕ → Option ℕ
+number_in_wide_limit n = if is_in_wide_limit n then Some n else None
+
+abbrev pub wide_number_of : Symbol → WideNumber
+wide_number_of t = record { value = int_value t.text; place = place_of t }
+
+-- WIDE: a NUM without fraction, of up to 64 bits
+abbrev pub wide_int : Form WideNumber
+wide_int =
+    token
+    (λ t. is_kind kinds.Number t.kind && (is_whole t.text && is_in_wide_limit (int_value t.text)))
+    wide_number_of
 
 -- ---- the header
 
@@ -247,6 +272,40 @@ nodes =
 abbrev pub node_names : LooseNodes → List (List ℕ)
 node_names n = fold with_name (n.master.text ∷ []) n.slaves
 
+-- ---- signals
+
+abbrev pub array_of : Place × List Number → LooseInit
+array_of p = Array p.0 p.1
+
+-- '{' ints '}'
+abbrev pub array : Form LooseInit
+array = as_value array_of (opening & ints <& close_brace)
+
+abbrev pub scalar_of : WideNumber → LooseInit
+scalar_of n = Scalar n
+
+-- WIDE | array
+abbrev pub loose_init : Form LooseInit
+loose_init = either (is_next kinds.OpenBrace) array (as_value scalar_of wide_int)
+
+abbrev pub signal_of : Name × (Number × (LooseInit × (Name × List Name))) → LooseSignal
+signal_of p = record {
+  name = p.0;
+  size = p.1.0;
+  init = p.1.1.0;
+  publisher = p.1.1.1.0;
+  subscribers = p.1.1.1.1;
+}
+
+-- WORD ':' INT ',' init ',' WORD { ',' WORD }* ';'
+abbrev pub loose_signal : List (List ℕ) → Form LooseSignal
+loose_signal seen =
+    as_value signal_of
+    (new_word seen <& colon & int <& comma & loose_init <& comma & word & other_words <& semicolon)
+
+abbrev pub with_signal : List (List ℕ) → LooseSignal → List (List ℕ)
+with_signal seen s = seen ++ s.name.text ∷ []
+
 -- ---- frames
 
 -- [ ',' INT ]
@@ -360,23 +419,27 @@ with_table seen t = seen ++ t.name.text ∷ []
 -- the sections that aren't spelled as in plain texts
 abbrev pub field_section_words : List (List ℕ)
 field_section_words =
-    codes "Frames" ∷ codes "Event_triggered_frames" ∷ codes "Node_attributes"
+    codes "Signals" ∷ codes "Frames" ∷ codes "Event_triggered_frames" ∷ codes "Node_attributes"
     ∷ codes "Diagnostic_addresses" ∷ codes "Schedule_tables" ∷ []
 
 abbrev pub field_word : List ℕ → FieldWord
 field_word w =
-    if bytes_eq w (codes "Frames") then field_words.Frames
+    if bytes_eq w (codes "Signals") then field_words.Signals
+    else (if bytes_eq w (codes "Frames") then field_words.Frames
     else (if bytes_eq w (codes "Event_triggered_frames") then field_words.Event
     else (if bytes_eq w (codes "Node_attributes") then field_words.Attributes
     else (if bytes_eq w (codes "Diagnostic_addresses") then field_words.Addresses
     else (if bytes_eq w (codes "Schedule_tables") then field_words.Tables
-    else field_words.Plain))))
+    else field_words.Plain)))))
 
 abbrev pub front_word : List Symbol → FieldWord
 front_word ts = field_word (front ts).text
 
 abbrev pub with_plain : LooseSections → Sections → LooseSections
 with_plain s plain = record s { plain = plain }
+
+abbrev pub with_signals : LooseSections → List LooseSignal → LooseSections
+with_signals s x = record s { signals = Some x }
 
 abbrev pub with_frames : LooseSections → List LooseFrame → LooseSections
 with_frames s x = record s {
@@ -405,6 +468,9 @@ with_tables s x = record s { tables = Some x }
 -- a section after others: each used one stands once at most, and the names of frames, sporadic
 -- frames and event-triggered frames differ
 abbrev pub loose_section_of : FieldWord → LooseSections → Form LooseSections
+loose_section_of field_words.Signals s =
+    as_value (with_signals s)
+    (once s.signals (keyword (codes "Signals") &> block with_signal loose_signal []))
 loose_section_of field_words.Frames s =
     as_value (with_frames s)
     (once s.frames
@@ -437,6 +503,7 @@ loose_section s = choice front_word (λ w. loose_section_of w s)
 abbrev pub no_loose_sections : List (List ℕ) → LooseSections
 no_loose_sections names = record {
   plain = no_sections names;
+  signals = None;
   frames = None;
   events = None;
   attributes = None;
@@ -448,7 +515,7 @@ abbrev pub loose_of : (Header × LooseNodes) × LooseSections → Loose
 loose_of p = record {
   header = p.0.0;
   nodes = p.0.1;
-  signals = or_empty p.1.plain.signals;
+  signals = or_empty p.1.signals;
   frames = or_empty p.1.frames;
   sporadic = or_empty p.1.plain.sporadic;
   events = or_empty p.1.events;

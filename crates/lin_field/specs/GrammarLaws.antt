@@ -6,23 +6,25 @@ use Rattle.lin_ldf.specs.Symbols.{Symbol}
 use Rattle.lin_ldf.specs.Names.{has_name}
 use Rattle.lin_ldf.specs.Forms.{Form, is_front, is_keyword, ◌>>=◌, ◌&>◌, ◌<&◌}
 use Rattle.lin_ldf.specs.Loops.{is_next}
-use Rattle.lin_ldf.specs.Words.{word, int, comma, is_word_but, no_comma, no_word}
+use Rattle.lin_ldf.specs.Words.{word, int, ints, comma, is_word_but, no_comma, no_word, consed_of}
+use Rattle.lin_ldf.specs.Words.{others}
 use Rattle.lin_ldf.specs.Words.{name_of, same_state, with_name}
-use Rattle.lin_ldf.specs.KindLaws.{number_is, open_brace_is, semicolon_is, is_other_kind}
+use Rattle.lin_ldf.specs.KindLaws.{number_is, open_brace_is, close_brace_is, semicolon_is}
+use Rattle.lin_ldf.specs.KindLaws.{is_other_kind}
 use Rattle.lin_ldf.specs.Laws.{Lawful, Taking, anything, Follows, Passes, before}
 use Rattle.lin_ldf.specs.Laws.{comes_before, token_takes, mark_takes, keyword_takes, both_lawful}
 use Rattle.lin_ldf.specs.Laws.{both_before, both_take, right_take, left_before, left_lawful}
 use Rattle.lin_ldf.specs.Laws.{left_take, value_lawful, value_takes, either_lawful, either_takes}
 use Rattle.lin_ldf.specs.Laws.{choice_takes, nothing_lawful, begins_so, bind_some, made, made_is}
-use Rattle.lin_ldf.specs.Laws.{then_lawful, then_take, both_take_before, end_lawful}
-use Rattle.lin_ldf.specs.LoopLaws.{gathered_lawful}
+use Rattle.lin_ldf.specs.Laws.{then_lawful, then_take, both_take_before, end_lawful, fails_at}
+use Rattle.lin_ldf.specs.LoopLaws.{gathered_lawful, several_lawful}
 use Rattle.lin_ldf.specs.Grammar.{placement, placed_signals, event_rest, nad}
 use Rattle.lin_ldf.specs.GrammarLaws.{is_of, is_word, both_true, keyword_text, keyword_is_word}
 use Rattle.lin_ldf.specs.GrammarLaws.{other_is_word, declared_takes, int_takes, keyword_before}
 use Rattle.lin_ldf.specs.GrammarLaws.{ended_by, no_word_after, words_lawful, words_end, word_takes}
 use Rattle.lin_ldf.specs.GrammarLaws.{block_takes, once_takes, is_not_word, has_group_lawful}
 use Rattle.lin_ldf.specs.GrammarLaws.{no_brace, no_brace_of, attr_takes, placed_takes, section_takes}
-use Rattle.lin_ldf.specs.GrammarLaws.{not_true, list_lawful, no_name_of, slaves_take}
+use Rattle.lin_ldf.specs.GrammarLaws.{not_true, list_lawful, no_name_of, slaves_take, no_comma_of}
 use Rattle.lin_ldf.specs.declared.token.TokenKind.TheVariants as kinds
 use Rattle.lin_ldf.specs.declared.node_attributes.NodeBlocks.{NodeBlocks}
 use Rattle.lin_field.specs.Grammar.{unless, made_of, some_of, decimal, decimal_in, version}
@@ -31,7 +33,8 @@ use Rattle.lin_field.specs.Grammar.{line_word, front_line, with_version, with_la
 use Rattle.lin_field.specs.Grammar.{order_line, with_little, with_big, with_other, line_of, line, no_line}
 use Rattle.lin_field.specs.Grammar.{one_line, no_lines, lines, header_of, header, master_rest, master, nodes_of}
 use Rattle.lin_field.specs.Grammar.{nodes, node_names, no_loose_sections, loose_of, field_file}
-use Rattle.lin_field.specs.Grammar.{frame_size}
+use Rattle.lin_field.specs.Grammar.{wide_int, array_of, array, scalar_of, loose_init, signal_of}
+use Rattle.lin_field.specs.Grammar.{loose_signal, with_signal, with_signals, frame_size}
 use Rattle.lin_field.specs.Grammar.{frame_of, loose_frame, with_frame, event_table, event_of}
 use Rattle.lin_field.specs.Grammar.{loose_event, with_event, initial_word, with_initial}
 use Rattle.lin_field.specs.Grammar.{with_settings, loose_attr, no_loose_settings, loose_settings}
@@ -239,6 +242,46 @@ nodes_take =
     (right_take (keyword_before _ kinds.OpenBrace)
     (then_lawful (master_takes []).lawful (λ m. (slaves_take (with_name [] m.0)).lawful)))
 
+-- ---- signals
+
+wide_int_takes : Taking (is_of kinds.Number) anything wide_int
+wide_int_takes =
+    begins_so _ (is_of kinds.Number)
+    (λ t e. (both_true (is_of kinds.Number t) _ e).0) (token_takes _ _)
+
+-- { ',' x }*
+others_lawful : {A : Type 0} {first : Symbol → Bool} (f : Form A) → Taking first anything f
+    → Lawful no_comma (others same_state (λ (s : Unit {0}). f) tt)
+others_lawful f p =
+    several_lawful (is_of kinds.Comma) same_state (λ (s : Unit {0}). comma &> f)
+    (λ s. right_take (mark_takes kinds.Comma) p.lawful) tt
+
+ints_lawful : Lawful no_comma ints
+ints_lawful =
+    value_lawful consed_of (then_lawful int_takes.lawful (λ n. others_lawful int int_takes))
+
+array_takes : Taking (is_of kinds.OpenBrace) anything array
+array_takes =
+    value_takes array_of
+    (both_take (token_takes (is_of kinds.OpenBrace) _)
+    (ended_by kinds.CloseBrace ints_lawful (no_comma_of kinds.CloseBrace close_brace_is refl)))
+
+init_lawful : Lawful anything loose_init
+init_lawful =
+    either_lawful (is_next kinds.OpenBrace) array_takes.lawful
+    (value_lawful scalar_of wide_int_takes.lawful) array_takes.begins
+    (λ ts a rest h is. fails_at (is_of kinds.Number) (is_of kinds.OpenBrace)
+    (λ t e. is_other_kind kinds.Number kinds.OpenBrace t.kind (number_is t.kind e) refl) ts
+    ((value_takes scalar_of wide_int_takes).begins ts a rest h))
+
+pub loose_signal_takes : (seen : List (List ℕ)) → Taking is_word anything (loose_signal seen)
+loose_signal_takes seen =
+    value_takes signal_of
+    (both_take (left_take (declared_takes seen) (mark_takes kinds.Colon).lawful)
+    (both_lawful (left_lawful int_takes.lawful (mark_takes kinds.Comma).lawful)
+    (both_lawful (left_lawful init_lawful (mark_takes kinds.Comma).lawful)
+    (both_lawful word_takes.lawful (words_end (others_lawful word word_takes))))))
+
 -- ---- frames
 
 size_takes : Taking (is_of kinds.Comma) anything (comma &> int)
@@ -345,6 +388,7 @@ loose_table_takes seen =
 
 -- what each section begins with
 begin_of : FieldWord → Symbol → Bool
+begin_of field_words.Signals = is_keyword (codes "Signals")
 begin_of field_words.Frames = is_keyword (codes "Frames")
 begin_of field_words.Event = is_keyword (codes "Event_triggered_frames")
 begin_of field_words.Attributes = is_keyword (codes "Node_attributes")
@@ -355,6 +399,10 @@ begin_of field_words.Plain = is_word_but field_section_words
 section_of_takes : (s : LooseSections) (w : FieldWord)
     → Taking (begin_of w) anything (loose_section_of w s)
 unfolding begin_of
+section_of_takes s field_words.Signals =
+    value_takes (with_signals s)
+    (once_takes s.signals
+    (right_take (keyword_takes _) (block_takes with_signal loose_signal loose_signal_takes []).lawful))
 section_of_takes s field_words.Frames =
     value_takes (with_frames s)
     (once_takes s.frames
@@ -388,6 +436,7 @@ plain_word : (w : List ℕ) → not (has_name field_section_words w) ≡ true
 plain_word w none =
     let no = no_name_of field_section_words w none in
     rw (
+      no (codes "Signals") refl,
       no (codes "Frames") refl,
       no (codes "Event_triggered_frames") refl,
       no (codes "Node_attributes") refl,
@@ -403,6 +452,7 @@ word_decides w t e = ap field_word (keyword_text w t e)
 section_is : (w : FieldWord) (t : Symbol) (ts : List Symbol) → begin_of w t ≡ true
     → front_word (t ∷ ts) ≡ w
 unfolding begin_of
+section_is field_words.Signals t ts e = word_decides (codes "Signals") t e
 section_is field_words.Frames t ts e = word_decides (codes "Frames") t e
 section_is field_words.Event t ts e = word_decides (codes "Event_triggered_frames") t e
 section_is field_words.Attributes t ts e = word_decides (codes "Node_attributes") t e
@@ -413,6 +463,7 @@ section_is field_words.Plain t ts e =
 
 begins_word : (w : FieldWord) → Passes (begin_of w) is_word
 unfolding begin_of
+begins_word field_words.Signals = keyword_is_word _
 begins_word field_words.Frames = keyword_is_word _
 begins_word field_words.Event = keyword_is_word _
 begins_word field_words.Attributes = keyword_is_word _

@@ -3,16 +3,26 @@ use Rattle.std.specs.Prelude.{ℕ, List}
 use Rattle.lin_ldf.specs.Loops.{Items}
 use Rattle.lin_ldf.specs.Words.{same_state}
 use Rattle.lin_ldf.specs.declared.node_attributes.NodeBlocks.{NodeBlocks}
-use Rattle.lin_field.specs.Grammar.{loose_frame, with_frame, loose_event, with_event, loose_block}
-use Rattle.lin_field.specs.Grammar.{with_block, address, loose_entry, loose_table, with_table}
-use Rattle.lin_field.specs.GrammarLaws.{loose_frame_takes, loose_event_takes, loose_block_takes}
-use Rattle.lin_field.specs.GrammarLaws.{address_takes, loose_entry_takes, loose_table_takes}
+use Rattle.lin_field.specs.Grammar.{loose_signal, with_signal, loose_frame, with_frame}
+use Rattle.lin_field.specs.Grammar.{loose_event, with_event, loose_block, with_block, address}
+use Rattle.lin_field.specs.Grammar.{loose_entry, loose_table, with_table}
+use Rattle.lin_field.specs.GrammarLaws.{loose_signal_takes, loose_frame_takes, loose_event_takes}
+use Rattle.lin_field.specs.GrammarLaws.{loose_block_takes, address_takes, loose_entry_takes}
+use Rattle.lin_field.specs.GrammarLaws.{loose_table_takes}
+use Rattle.lin_field.specs.declared.loose.LooseSignal.{LooseSignal}
 use Rattle.lin_field.specs.declared.loose.LooseFrame.{LooseFrame}
 use Rattle.lin_field.specs.declared.loose.LooseEvent.{LooseEvent}
 use Rattle.lin_field.specs.declared.loose.LooseAttributes.{LooseAttributes}
 use Rattle.lin_field.specs.declared.loose.NodeAddress.{NodeAddress}
 use Rattle.lin_field.specs.declared.loose.LooseEntry.{LooseEntry}
 use Rattle.lin_field.specs.declared.loose.LooseTable.{LooseTable}
+
+abbrev pub signal_items : Items (List (List ℕ)) LooseSignal
+signal_items = record {
+  form = loose_signal;
+  next = with_signal;
+  shrinks = λ seen. (loose_signal_takes seen).shrinks;
+}
 
 abbrev pub frame_items : Items (List (List ℕ)) LooseFrame
 frame_items = record {

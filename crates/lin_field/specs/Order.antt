@@ -5,35 +5,35 @@ use Rattle.std.specs.Option.{option_map_or}
 use Rattle.lin_cluster.specs.FindingsNames.{at_number, same_name, when}
 use Rattle.lin_cluster.specs.declared.finding.Finding.{Finding}
 use Rattle.lin_cluster.specs.declared.finding.FindingKind.TheVariants.{ByteOrder}
-use Rattle.lin_parts.specs.declared.description.Init.{Init}
-use Rattle.lin_parts.specs.declared.description.Init.TheVariants.{Scalar, Array}
 use Rattle.lin_parts.specs.declared.description.Name.{Name}
 use Rattle.lin_parts.specs.declared.description.PlacedSignal.{PlacedSignal}
-use Rattle.lin_parts.specs.declared.description.Signal.{Signal}
 use Rattle.lin_field.specs.Frames.{is_diagnostic_frame}
 use Rattle.lin_field.specs.declared.loose.Loose.{Loose}
 use Rattle.lin_field.specs.declared.loose.LooseFrame.{LooseFrame}
+use Rattle.lin_field.specs.declared.loose.LooseInit.{LooseInit}
+use Rattle.lin_field.specs.declared.loose.LooseInit.TheVariants.{Scalar, Array}
+use Rattle.lin_field.specs.declared.loose.LooseSignal.{LooseSignal}
 
 -- over the border of a byte
 abbrev pub is_across : ℕ → ℕ → Bool
 is_across offset size = nat_lt 8 (offset % 8 + size)
 
-abbrev pub size_of : ℕ → Init → Option ℕ
+abbrev pub size_of : ℕ → LooseInit → Option ℕ
 size_of size (Scalar n) = Some size
 size_of size (Array place items) = None
 
 -- the size of a scalar of this name; wide ones are scalars in the text
-abbrev pub scalar_size : List Signal → Name → Option ℕ
+abbrev pub scalar_size : List LooseSignal → Name → Option ℕ
 scalar_size signals n =
     option_and_then (λ s. size_of s.size.value s.init) (find (λ s. same_name s.name n) signals)
 
 -- 25 ByteOrder
-abbrev pub placed_order : List Signal → PlacedSignal → List Finding
+abbrev pub placed_order : List LooseSignal → PlacedSignal → List Finding
 placed_order signals p =
     when (option_map_or (is_across p.offset.value) (scalar_size signals p.signal) false)
     (at_number ByteOrder p.offset)
 
-abbrev pub frame_order : List Signal → LooseFrame → List Finding
+abbrev pub frame_order : List LooseSignal → LooseFrame → List Finding
 frame_order signals f = flat_map (placed_order signals) f.placed
 
 abbrev pub byte_order : Loose → List Finding

@@ -9,7 +9,10 @@ use Rattle.lin_parts.specs.declared.description.Attributes.{Attributes}
 use Rattle.lin_parts.specs.declared.description.Description.{Description}
 use Rattle.lin_parts.specs.declared.description.EventFrame.{EventFrame}
 use Rattle.lin_parts.specs.declared.description.Frame.{Frame}
+use Rattle.lin_parts.specs.declared.description.Init.{Init}
+use Rattle.lin_parts.specs.declared.description.Init.TheVariants.{Scalar, Array}
 use Rattle.lin_parts.specs.declared.description.Number.{Number}
+use Rattle.lin_parts.specs.declared.description.Signal.{Signal}
 use Rattle.lin_parts.specs.declared.description.Table.{Table}
 use Rattle.lin_parts.specs.declared.description.TableEntry.{TableEntry}
 use Rattle.lin_ldf.specs.declared.token.Token.{Token}
@@ -24,8 +27,12 @@ use Rattle.lin_field.specs.declared.loose.LooseAttributes.{LooseAttributes}
 use Rattle.lin_field.specs.declared.loose.LooseEntry.{LooseEntry}
 use Rattle.lin_field.specs.declared.loose.LooseEvent.{LooseEvent}
 use Rattle.lin_field.specs.declared.loose.LooseFrame.{LooseFrame}
+use Rattle.lin_field.specs.declared.loose.LooseInit.{LooseInit}
+use Rattle.lin_field.specs.declared.loose.LooseInit.TheVariants as loose
 use Rattle.lin_field.specs.declared.loose.LooseNodes.{LooseNodes}
+use Rattle.lin_field.specs.declared.loose.LooseSignal.{LooseSignal}
 use Rattle.lin_field.specs.declared.loose.LooseTable.{LooseTable}
+use Rattle.lin_field.specs.declared.loose.WideNumber.{WideNumber}
 
 -- ---- a plain description as a text of the field says it
 
@@ -38,6 +45,22 @@ nodes_in d = record {
   time_base = exact d.time_base;
   jitter = exact d.jitter;
   slaves = d.slaves;
+}
+
+abbrev pub wide : Number → WideNumber
+wide n = record { value = n.value; place = record { line = n.line; column = n.column } }
+
+abbrev pub loose_init : Init → LooseInit
+loose_init (Scalar n) = loose.Scalar (wide n)
+loose_init (Array place items) = loose.Array place items
+
+abbrev pub loose_signal : Signal → LooseSignal
+loose_signal s = record {
+  name = s.name;
+  size = s.size;
+  init = loose_init s.init;
+  publisher = s.publisher;
+  subscribers = s.subscribers;
 }
 
 abbrev pub loose_frame : Frame → LooseFrame
@@ -76,7 +99,7 @@ abbrev pub loosened : List ℕ → Option (List ℕ) → Description → Loose
 loosened version language d = record {
   header = header_in version language d;
   nodes = nodes_in d;
-  signals = d.signals;
+  signals = map loose_signal d.signals;
   frames = map loose_frame d.frames;
   sporadic = d.sporadic;
   events = map loose_event d.events;

@@ -2,7 +2,7 @@
 -- nodes (LIN 2.2A, section 9.2.3).
 use Rattle.std.specs.Prelude.{ℕ, zero, suc, ◌/◌, ◌%◌, ◌^◌, ◌==◌, ◌&&◌, ◌||◌, List, [], ◌∷◌, ◌++◌}
 use Rattle.std.specs.Prelude.{Bool, not, nat_le, filter, flat_map, if◌then◌else◌}
-use Rattle.lin_cluster.specs.FindingsNames.{at_name, at_number, when}
+use Rattle.lin_cluster.specs.FindingsNames.{at_name, at_number, at_place, when}
 use Rattle.lin_cluster.specs.declared.finding.Finding.{Finding}
 use Rattle.lin_cluster.specs.declared.finding.FindingKind.TheVariants.{UnknownName, BadInit}
 use Rattle.lin_cluster.specs.declared.finding.FindingKind.TheVariants.{WideSignal}
@@ -12,7 +12,11 @@ use Rattle.lin_parts.specs.declared.description.Name.{Name}
 use Rattle.lin_parts.specs.declared.description.Number.{Number}
 use Rattle.lin_parts.specs.declared.description.Signal.{Signal}
 use Rattle.lin_field.specs.Names.{is_node}
+use Rattle.lin_field.specs.declared.loose.LooseInit.{LooseInit}
+use Rattle.lin_field.specs.declared.loose.LooseInit.TheVariants as loose
 use Rattle.lin_field.specs.declared.loose.LooseNodes.{LooseNodes}
+use Rattle.lin_field.specs.declared.loose.LooseSignal.{LooseSignal}
+use Rattle.lin_field.specs.declared.loose.WideNumber.{WideNumber}
 
 -- 24, 32, .. 64 bits: as a scalar an array
 abbrev pub is_wide : ℕ → Bool
@@ -24,43 +28,49 @@ is_narrow size = nat_le 1 size && nat_le size 16
 abbrev pub low_bits : ℕ → ℕ → ℕ
 low_bits value size = value % 2 ^ size
 
+-- of how many bits a scalar has the low ones: a number has 32
+abbrev pub kept_bits : ℕ → ℕ
+kept_bits size = if is_narrow size then size else 32
+
 abbrev pub with_value : Number → ℕ → Number
 with_value n value = record { value = value; line = n.line; column = n.column }
 
+abbrev pub value_at : WideNumber → ℕ → Number
+value_at n value = record { value = value; line = n.place.line; column = n.place.column }
+
 -- so many bytes of a value, the lowest first, each at this number's place
-abbrev pub bytes_from : Number → ℕ → ℕ → List Number
+abbrev pub bytes_from : WideNumber → ℕ → ℕ → List Number
 bytes_from n value zero = []
 bytes_from n value (suc count) =
-    with_value n (value % 256) ∷ bytes_from n (value / 256) count
+    value_at n (value % 256) ∷ bytes_from n (value / 256) count
 
-abbrev pub byte_numbers : Number → ℕ → List Number
+abbrev pub byte_numbers : WideNumber → ℕ → List Number
 byte_numbers n count = bytes_from n n.value count
 
-abbrev pub settled_init : ℕ → Init → Init
-settled_init size (Scalar n) =
-    if is_wide size
-    then Array (record { line = n.line; column = n.column }) (byte_numbers n (size / 8))
-    else (if is_narrow size then Scalar (with_value n (low_bits n.value size)) else Scalar n)
-settled_init size (Array place items) = Array place items
+abbrev pub settled_init : ℕ → LooseInit → Init
+settled_init size (loose.Scalar n) =
+    if is_wide size then Array n.place (byte_numbers n (size / 8))
+    else Scalar (value_at n (low_bits n.value (kept_bits size)))
+settled_init size (loose.Array place items) = Array place items
 
 -- 21 WideSignal at the size, 8 BadInit at a value that is too large
-abbrev pub init_warnings : Number → Init → List Finding
-init_warnings size (Scalar n) =
+abbrev pub init_warnings : Number → LooseInit → List Finding
+init_warnings size (loose.Scalar n) =
     when (is_wide size.value) (at_number WideSignal size)
     ++ when
     ((is_wide size.value || is_narrow size.value)
     && not (low_bits n.value size.value == n.value))
-    (at_number BadInit n)
-init_warnings size (Array place items) = []
+    (at_place BadInit n.place)
+init_warnings size (loose.Array place items) = []
 
-abbrev pub size_warnings : Signal → List Finding
+abbrev pub size_warnings : LooseSignal → List Finding
 size_warnings s = init_warnings s.size s.init
 
 -- 1 UnknownName of what is left out
 abbrev pub unknown_node : LooseNodes → Name → List Finding
 unknown_node nodes n = when (not (is_node nodes n)) (at_name UnknownName n)
 
-abbrev pub settled_signal : LooseNodes → Signal → Signal
+abbrev pub settled_signal : LooseNodes → LooseSignal → Signal
 settled_signal nodes s = record {
   name = s.name;
   size = s.size;
@@ -69,5 +79,5 @@ settled_signal nodes s = record {
   subscribers = filter (is_node nodes) s.subscribers;
 }
 
-abbrev pub signal_warnings : LooseNodes → Signal → List Finding
+abbrev pub signal_warnings : LooseNodes → LooseSignal → List Finding
 signal_warnings nodes s = size_warnings s ++ flat_map (unknown_node nodes) s.subscribers

@@ -9,7 +9,8 @@ ghost use Rattle.lin_field.specs.Grammar.{no_loose_sections, loose_of};
 
 use crate::header::read_header;
 use crate::loose::{
-    Header, Loose, LooseAttributes, LooseEvent, LooseFrame, LooseNodes, LooseTable, NodeAddress,
+    Header, Loose, LooseAttributes, LooseEvent, LooseFrame, LooseNodes, LooseSignal, LooseTable,
+    NodeAddress,
 };
 use crate::nodes::nodes;
 use lin_ldf::{Gathered, LdfFault, Names, Parser, Sections, Whole, gather, or_empty, used_section};
@@ -19,6 +20,7 @@ use std::alloc::Global;
 /// The sections that were read: those that are spelled as in plain texts, and those that aren't.
 pub struct LooseSections<'a> {
     pub plain: Sections<'a>,
+    pub signals: Option<Many<LooseSignal>>,
     pub frames: Option<Many<LooseFrame>>,
     pub events: Option<Many<LooseEvent>>,
     pub attributes: Option<Many<LooseAttributes>>,
@@ -31,6 +33,7 @@ impl<'a> Drop for LooseSections<'a> {
     fn drop(self) {
         let LooseSections {
             plain: _plain,
+            signals: _signals,
             frames: _frames,
             events: _events,
             attributes: _attributes,
@@ -43,6 +46,7 @@ impl<'a> Drop for LooseSections<'a> {
 /// What the word of a section says.
 #[derive(Clone, Copy)]
 pub enum FieldWord {
+    Signals,
     Frames,
     Event,
     Attributes,
@@ -54,7 +58,9 @@ pub enum FieldWord {
 fn field_word(word: &[u8]) -> FieldWord
     ensures { result ≡ field_word word.now }
 {
-    if word == b"Frames".as_slice() {
+    if word == b"Signals".as_slice() {
+        FieldWord::Signals
+    } else if word == b"Frames".as_slice() {
         FieldWord::Frames
     } else if word == b"Event_triggered_frames".as_slice() {
         FieldWord::Event
@@ -79,10 +85,16 @@ impl<'a> Whole for LooseSections<'a> {
 }
 
 impl<'a> Gathered<'a> for LooseSections<'a> {
-    // section = frames | event | attributes | addresses | tables | one of plain texts, the used ones
-    // once at most
+    // section = signals | frames | event | attributes | addresses | tables | one of plain texts, the
+    // used ones once at most
     fn add(&mut self, parser: &mut Parser<'a>) -> Result<(), LdfFault> {
         match field_word(parser.text()) {
+            FieldWord::Signals => used_section(
+                parser,
+                b"Signals",
+                &mut self.signals,
+                &mut Names::new(parser.alloc()),
+            ),
             FieldWord::Frames => used_section(
                 parser,
                 b"Frames",
@@ -125,6 +137,7 @@ impl<'a> LooseSections<'a> {
     {
         LooseSections {
             plain: Sections::new(alloc, nodes),
+            signals: None,
             frames: None,
             events: None,
             attributes: None,
@@ -139,17 +152,18 @@ impl<'a> LooseSections<'a> {
     {
         let LooseSections {
             plain,
+            signals,
             frames,
             events,
             attributes,
             addresses,
             tables,
         } = self;
-        let (signals, sporadic) = plain.signals_and_sporadic(alloc);
+        let (_, sporadic) = plain.signals_and_sporadic(alloc);
         Loose {
             header,
             nodes,
-            signals,
+            signals: or_empty(alloc, signals),
             frames: or_empty(alloc, frames),
             sporadic,
             events: or_empty(alloc, events),

@@ -2,15 +2,56 @@
 
 ghost use Rattle.std.specs.Prelude.{◌≡◌};
 ghost use Rattle.lin_ldf.specs.Forms.{Gives};
-ghost use Rattle.lin_field.specs.Grammar.{frame_size, event_table, loose_settings};
+ghost use Rattle.lin_field.specs.Grammar.{loose_init, frame_size, event_table, loose_settings};
 
 use crate::decimals::decimal_in;
-use crate::loose::{LooseAttributes, LooseEntry, LooseEvent, LooseFrame, LooseTable, NodeAddress};
+use crate::loose::{
+    LooseAttributes, LooseEntry, LooseEvent, LooseFrame, LooseInit, LooseSignal, LooseTable,
+    NodeAddress,
+};
+use crate::wide::wide_int;
 use lin_ldf::{
     Gathered, Item, LdfFault, Listed, Names, NodeBlocks, Parser, Settings, TokenKind, Whole, block,
     gather, once, one_or_more,
 };
 use lin_parts::description::{Attributes, Name, Number};
+
+// init = WIDE | array
+fn init(parser: &mut Parser<'_>) -> Result<LooseInit, LdfFault>
+    ensures { Gives result parser.new (loose_init.read parser.old) }
+{
+    if !parser.is_at(TokenKind::OpenBrace) {
+        return Ok(LooseInit::Scalar(wide_int(parser)?));
+    }
+    let place = parser.opening()?;
+    let values = one_or_more(parser, &mut (), TokenKind::CloseBrace)?;
+    Ok(LooseInit::Array(place, values))
+}
+
+impl<'a> Listed<Names<'a>> for LooseSignal {
+    ghost use Rattle.lin_field.specs.Items.{signal_items};
+
+    ghost items = { signal_items };
+}
+
+impl<'a> Item<'a, Names<'a>> for LooseSignal {
+    // signal = WORD ':' INT ',' init ',' WORD { ',' WORD }* ';'
+    fn parse(parser: &mut Parser<'a>, seen: &mut Names<'a>) -> Result<LooseSignal, LdfFault> {
+        let name = parser.declared_before(seen, TokenKind::Colon)?;
+        let size = parser.int_before(TokenKind::Comma)?;
+        let init = init(parser)?;
+        parser.mark(TokenKind::Comma)?;
+        let publisher = parser.word()?;
+        let subscribers = parser.other_words()?;
+        Ok(LooseSignal {
+            name,
+            size,
+            init,
+            publisher,
+            subscribers,
+        })
+    }
+}
 
 // [ ',' INT ]
 fn frame_size(parser: &mut Parser<'_>) -> Result<Option<Number>, LdfFault>

@@ -26,12 +26,13 @@ mod settling;
 mod signals;
 mod tables;
 mod times;
+mod wide;
 
 pub use checking::{Checked, FieldFault, Remark, check_field};
 pub use laws::{plain_texts_stay, silence_is_free};
 pub use loose::{
-    Decimal, Header, Loose, LooseAttributes, LooseEntry, LooseEvent, LooseFrame, LooseNodes,
-    LooseTable, NodeAddress,
+    Decimal, Header, Loose, LooseAttributes, LooseEntry, LooseEvent, LooseFrame, LooseInit,
+    LooseNodes, LooseSignal, LooseTable, NodeAddress, WideNumber,
 };
 pub use marks::read_over_bytes;
 pub use plain::write_plain;

@@ -1,6 +1,7 @@
 //! What a text of the field describes, before it is settled.
 
-use lin_parts::description::{Attributes, Name, Number, PlacedSignal, Signal, Sporadic};
+use lin_parts::Place;
+use lin_parts::description::{Attributes, Name, Number, PlacedSignal, Sporadic};
 use lin_text::{Many, OneOrMore, Text};
 
 /// A number in thousandths of a unit, and whether its text has more decimals, so that it is rounded.
@@ -30,6 +31,31 @@ pub struct LooseNodes {
     pub time_base: Decimal,
     pub jitter: Decimal,
     pub slaves: OneOrMore<Name>,
+}
+
+/// A number of up to 64 bits, and the place of its first byte.
+#[derive(Clone, Copy, Debug)]
+pub struct WideNumber {
+    pub value: u64,
+    pub place: Place,
+}
+
+/// The initial value of a signal: a number, or for an array the place of its brace and the value of
+/// each byte.
+#[derive(Debug, Drop)]
+pub enum LooseInit {
+    Scalar(WideNumber),
+    Array(Place, OneOrMore<Number>),
+}
+
+/// A signal whose initial value may have up to 64 bits: its size is in bits.
+#[derive(Debug, Drop)]
+pub struct LooseSignal {
+    pub name: Name,
+    pub size: Number,
+    pub init: LooseInit,
+    pub publisher: Name,
+    pub subscribers: Many<Name>,
 }
 
 /// A frame whose size in bytes may be left to its identifier (LIN 1.3).
@@ -86,7 +112,7 @@ pub struct LooseTable {
 pub struct Loose {
     pub header: Header,
     pub nodes: LooseNodes,
-    pub signals: Many<Signal>,
+    pub signals: Many<LooseSignal>,
     pub frames: Many<LooseFrame>,
     pub sporadic: Many<Sporadic>,
     pub events: Many<LooseEvent>,

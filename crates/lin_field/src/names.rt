@@ -6,11 +6,19 @@ ghost use Rattle.lin_cluster.specs.FindingsNames.{same_name};
 ghost use Rattle.lin_cluster.specs.Names.{NumbersFirst};
 ghost use Rattle.lin_field.specs.Names.{is_responder, is_node, is_slave};
 
-use crate::loose::{LooseAttributes, LooseNodes, LooseTable, NodeAddress};
+use crate::loose::{LooseAttributes, LooseNodes, LooseSignal, LooseTable, NodeAddress};
 use lin_cluster::{Named, Numbers, number_by, numbers_of};
 use lin_parts::description::Name;
 use std::alloc::{AllocError, Global};
 use std::marker::Model;
+
+impl Named for LooseSignal {
+    ghost name_of = { λ s. s.name };
+
+    fn name(&self) -> &Name {
+        &self.name
+    }
+}
 
 impl Named for LooseAttributes {
     ghost name_of = { λ a. a.block.node };

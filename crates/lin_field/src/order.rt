@@ -7,9 +7,9 @@ ghost use Rattle.lin_field.specs.Order.{is_across, scalar_size, placed_order, fr
 ghost use Rattle.lin_field.specs.Order.{byte_order};
 
 use crate::frames::is_diagnostic_frame;
-use crate::loose::{Loose, LooseFrame};
+use crate::loose::{Loose, LooseFrame, LooseInit, LooseSignal};
 use lin_cluster::{Finding, FindingKind, Numbers, at_number, find_by, numbers_of, push_when};
-use lin_parts::description::{Init, Name, PlacedSignal, Signal};
+use lin_parts::description::{Name, PlacedSignal};
 use std::alloc::{AllocError, Global};
 
 /// Whether so many bits at an offset reach over the border of a byte.
@@ -20,14 +20,14 @@ fn is_across(offset: u32, size: u32) -> bool
 }
 
 /// The size of a scalar of this name.
-fn scalar_size(signals: &[Signal], numbers: &Numbers<'_>, name: &Name) -> Option<u32>
+fn scalar_size(signals: &[LooseSignal], numbers: &Numbers<'_>, name: &Name) -> Option<u32>
     requires { NumbersFirst (λ s. s.name) signals.now numbers.now.map }
     ensures { result ≡ scalar_size signals.now name.now }
 {
     match find_by(numbers, signals, name) {
         Some(signal) => match &signal.init {
-            Init::Scalar(_) => Some(signal.size.value),
-            Init::Array(_, _) => None,
+            LooseInit::Scalar(_) => Some(signal.size.value),
+            LooseInit::Array(_, _) => None,
         },
         None => None,
     }
@@ -35,7 +35,7 @@ fn scalar_size(signals: &[Signal], numbers: &Numbers<'_>, name: &Name) -> Option
 
 fn in_frame(
     found: &mut Vec<Finding>,
-    signals: &[Signal],
+    signals: &[LooseSignal],
     numbers: &Numbers<'_>,
     all_placed: &[PlacedSignal],
 ) -> Result<(), AllocError>
@@ -59,7 +59,7 @@ fn in_frame(
 
 fn in_frames(
     alloc: Global,
-    signals: &[Signal],
+    signals: &[LooseSignal],
     frames: &[LooseFrame],
 ) -> Result<Vec<Finding>, AllocError>
     ensures { IfOk result

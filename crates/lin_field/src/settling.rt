@@ -11,7 +11,7 @@ ghost use Rattle.lin_field.specs.Times.{timing_warnings};
 
 use crate::attributes::{Told, settle_attributes};
 use crate::frames::settle_frames;
-use crate::loose::{Header, Loose, LooseAttributes, LooseNodes, NodeAddress};
+use crate::loose::{Header, Loose, LooseAttributes, LooseNodes, LooseSignal, NodeAddress};
 use crate::names::NodeNames;
 use crate::order::byte_order;
 use crate::reading::FieldText;
@@ -93,7 +93,7 @@ fn header_warnings(
 /// What names nodes.
 #[derive(Drop)]
 struct OfNodes {
-    signals: Many<Signal>,
+    signals: Many<LooseSignal>,
     attributes: Many<LooseAttributes>,
     addresses: Many<NodeAddress>,
 }

@@ -4,13 +4,13 @@
 ghost use Rattle.std.specs.Prelude.{◌≡◌, ◌++◌, ◌≤◌, ◌<◌, flat_map, map, filter, IfOk, OnOk};
 ghost use Rattle.std.specs.List.{list_all};
 ghost use Rattle.lin_field.specs.Names.{is_node};
-ghost use Rattle.lin_field.specs.Signals.{is_wide, is_narrow, low_bits, byte_numbers, settled_init};
-ghost use Rattle.lin_field.specs.Signals.{size_warnings, settled_signal, signal_warnings};
-ghost use Rattle.lin_field.specs.Signals.{unknown_node};
+ghost use Rattle.lin_field.specs.Signals.{is_wide, is_narrow, low_bits, kept_bits, value_at};
+ghost use Rattle.lin_field.specs.Signals.{byte_numbers, settled_init, size_warnings};
+ghost use Rattle.lin_field.specs.Signals.{settled_signal, signal_warnings, unknown_node};
 
+use crate::loose::{LooseInit, LooseSignal, WideNumber};
 use crate::names::NodeNames;
 use lin_cluster::{Finding, FindingKind, at_name, at_number, push_when};
-use lin_parts::Place;
 use lin_parts::description::{Init, Name, Number, Signal};
 use lin_text::{Many, OneOrMore};
 use std::alloc::{AllocError, Global};
@@ -28,60 +28,80 @@ fn is_narrow(size: u32) -> bool
     1 <= size && size <= 16
 }
 
-/// The value that the low bits of a number have: a number has 32.
-fn low_bits(value: u32, size: u32) -> u32
+/// Of how many bits a scalar has the low ones: a number has 32.
+fn kept_bits(size: u32) -> u32
+    ensures value { result ≡ kept_bits size }
+    ensures within { result ≤ 32 }
+{
+    if is_narrow(size) { size } else { 32 }
+}
+
+/// The value that the low bits of a number have: a number has 64.
+fn low_bits(value: u64, size: u32) -> u64
     ensures { result ≡ low_bits value size }
 {
-    if size < 32 {
+    if size < 64 {
         value % (1 << size)
     } else {
         value
     }
 }
 
+/// A number with this value, at the place of another.
+fn value_at(number: WideNumber, value: u32) -> Number
+    ensures { result ≡ value_at number value }
+{
+    Number {
+        value,
+        line: number.place.line,
+        column: number.place.column,
+    }
+}
+
+/// The low bits of a number, at its place.
+fn low_number(number: WideNumber, bits: u32) -> Number
+    requires { bits ≤ 32 }
+    ensures { result ≡ value_at number (low_bits number.value bits) }
+{
+    value_at(number, low_bits(number.value, bits) as u32)
+}
+
 /// The bytes of a number, the lowest first, each at the number's place.
-fn byte_numbers(alloc: Global, number: Number, count: u32) -> Result<OneOrMore<Number>, AllocError>
+fn byte_numbers(
+    alloc: Global,
+    number: WideNumber,
+    count: u32,
+) -> Result<OneOrMore<Number>, AllocError>
     requires { (1 ≤ count) × (count ≤ 8) }
     ensures { IfOk result (λ bytes. bytes ≡ byte_numbers number count) }
 {
     let mut bytes = Vec::new(alloc);
     let mut rest = number.value;
     for _ in 0..count {
-        bytes.push(Number {
-            value: rest % 256,
-            line: number.line,
-            column: number.column,
-        })?;
+        bytes.push(value_at(number, (rest % 256) as u32))?;
         rest /= 256;
     }
     Ok(OneOrMore::new(bytes))
 }
 
-fn settled_init(alloc: Global, size: u32, init: Init) -> Result<Init, AllocError>
+fn settled_init(alloc: Global, size: u32, init: LooseInit) -> Result<Init, AllocError>
     ensures { IfOk result (λ i. i ≡ settled_init size init) }
 {
     match init {
-        Init::Scalar(number) if is_wide(size) => {
-            let place = Place {
-                line: number.line,
-                column: number.column,
-            };
-            Ok(Init::Array(place, byte_numbers(alloc, number, size / 8)?))
-        }
-        Init::Scalar(number) if is_narrow(size) => Ok(Init::Scalar(Number {
-            value: low_bits(number.value, size),
-            line: number.line,
-            column: number.column,
-        })),
-        init => Ok(init),
+        LooseInit::Scalar(number) if is_wide(size) => Ok(Init::Array(
+            number.place,
+            byte_numbers(alloc, number, size / 8)?,
+        )),
+        LooseInit::Scalar(number) => Ok(Init::Scalar(low_number(number, kept_bits(size)))),
+        LooseInit::Array(place, items) => Ok(Init::Array(place, items)),
     }
 }
 
-fn warn_of_size(warned: &mut Vec<Finding>, signal: &Signal) -> Result<(), AllocError>
+fn warn_of_size(warned: &mut Vec<Finding>, signal: &LooseSignal) -> Result<(), AllocError>
     ensures { OnOk result (warned.new.items ≡ warned.old.items ++ size_warnings signal.now) }
 {
     let size = signal.size.value;
-    let Init::Scalar(number) = &signal.init else {
+    let LooseInit::Scalar(number) = &signal.init else {
         return Ok(());
     };
     let is_wide = is_wide(size);
@@ -93,7 +113,7 @@ fn warn_of_size(warned: &mut Vec<Finding>, signal: &Signal) -> Result<(), AllocE
     push_when(
         warned,
         (is_wide || is_narrow(size)) && low_bits(number.value, size) != number.value,
-        at_number(FindingKind::BadInit, number),
+        Finding::new(FindingKind::BadInit, number.place),
     )
 }
 
@@ -131,7 +151,7 @@ fn kept_nodes(
 fn settle_signal(
     alloc: Global,
     nodes: &NodeNames<'_>,
-    signal: Signal,
+    signal: LooseSignal,
     warned: &mut Vec<Finding>,
 ) -> Result<Signal, AllocError>
     ensures settled { IfOk result (λ s. s ≡ settled_signal nodes.now signal) }
@@ -139,7 +159,7 @@ fn settle_signal(
         (warned.new.items ≡ warned.old.items ++ signal_warnings nodes.now signal) }
 {
     warn_of_size(warned, &signal)?;
-    let Signal {
+    let LooseSignal {
         name,
         size,
         init,
@@ -159,7 +179,7 @@ fn settle_signal(
 pub fn settle_signals(
     alloc: Global,
     nodes: &NodeNames<'_>,
-    signals: Many<Signal>,
+    signals: Many<LooseSignal>,
     warned: &mut Vec<Finding>,
 ) -> Result<Many<Signal>, AllocError>
     ensures settled { IfOk result (λ s. s ≡ map (settled_signal nodes.now) signals) }

@@ -1,13 +1,13 @@
 -- The productions of plain texts, down to their items, in texts of the field.
-use Rattle.std.proofs.Common.{inl, inr, ◌≡◌, ◌∙◌, ◌+◌, ◌-◌, ◌++◌, ◌&&◌, ℕ, Bool, true, false, not, List, [], ◌∷◌, Option, Some, None, refl, sym, ap, subst, map, arith, cond}
+use Rattle.std.proofs.Common.{inl, inr, ◌≡◌, ◌∙◌, ◌+◌, ◌-◌, ◌^◌, ◌<◌, ◌++◌, ◌&&◌, ℕ, Bool, true, false, not, List, [], ◌∷◌, Option, Some, None, refl, sym, ap, subst, map, arith, cond}
 use Rattle.std.specs.Prelude.{codes}
-use Rattle.std.proofs.lemmas.Bool.{eqb-true}
+use Rattle.std.proofs.lemmas.Bool.{eqb-true, lt-ltb, ltb-true}
 use Rattle.lin_ldf.specs.Forms.{Form, ◌>>=◌, ◌&◌, ◌&>◌, ◌<&◌, is_keyword, keyword, mark, nothing}
 use Rattle.lin_ldf.specs.Grammar as plain
 use Rattle.lin_ldf.specs.GrammarLaws.{both_true, is_of, is_word, keyword_is_word, other_is_word}
 use Rattle.lin_ldf.specs.Laws.{bind_some, made_is}
 use Rattle.lin_ldf.specs.Loops.{is_next}
-use Rattle.lin_ldf.specs.Numbers.{fraction_digit, fraction_part, has_three_decimals, has_zero_tail, is_hexadecimal, is_in_limit, thousandths}
+use Rattle.lin_ldf.specs.Numbers.{fraction_digit, fraction_part, has_three_decimals, has_zero_tail, int_value, is_hexadecimal, is_in_limit, is_whole, thousandths}
 use Rattle.lin_ldf.specs.Symbols.{Symbol, is_kind}
 use Rattle.lin_ldf.specs.UpTo.{depth_after, depth_behind, is_end, up_to}
 use Rattle.lin_ldf.specs.Words.{block, comma, consed_of, dec, dec_in, group, int, ints, is_word_but, list, name_of, new_word, new_words, no_comma, no_word, number_of, one_or_more, others, place_of, same_state, semicolon, with_name, word, word_but, words}
@@ -16,7 +16,7 @@ use Rattle.lin_ldf.specs.declared.token.TokenKind.{TokenKind}
 use Rattle.lin_ldf.specs.declared.token.TokenKind.TheVariants as kinds
 use Rattle.lin_field.specs.Grammar as field
 use Rattle.lin_field.specs.Marks.{mended}
-use Rattle.lin_field.specs.PlainTexts.{exact, loose_entry, loose_event, loose_frame, loose_table}
+use Rattle.lin_field.specs.PlainTexts.{exact, loose_entry, loose_event, loose_frame, loose_init, loose_signal, loose_table, wide}
 use Rattle.lin_field.specs.declared.loose.LooseNodes.{LooseNodes}
 use Rattle.lin_tool.proofs.laws.Limits.{IsClean, IsWithin, Limit, clean_behind, covers, covers_anything, first_limit, goes, is_left_out, kind_is, last_limit, left_out, stays, within_kind}
 use Rattle.lin_tool.proofs.laws.Limits.{Anything, NoEnd, NoSemicolon}
@@ -90,6 +90,22 @@ dec_widens =
 
 pub dec_in_widens : (unit : List ℕ) (k : TokenKind) → Widens NoEnd (last_limit k) (dec_in unit k) (field.decimal_in unit k) exact
 dec_in_widens unit k = left dec_widens (keyword_mark unit k) refl
+
+-- ---- numbers of up to 64 bits
+
+wide_limit : (n : ℕ) → is_in_limit n ≡ true → field.is_in_wide_limit n ≡ true
+wide_limit n e =
+    let below : n < 2 ^ 32 = ltb-true n (2 ^ 32) e in
+    lt-ltb n (2 ^ 64) (omega arith)
+
+int_widens : Widens NoEnd Anything int field.wide_int wide
+int_widens =
+    token_widens NoEnd Anything _ (λ t. is_kind kinds.Number t.kind && (is_whole t.text && field.is_in_wide_limit (int_value t.text)))
+    (number_of int_value) field.wide_number_of wide (λ t e. number_within t (both_true (is_of kinds.Number t) _ e).0)
+    (λ t e clean.
+    let a = both_true (is_of kinds.Number t) (is_whole t.text && is_in_limit (int_value t.text)) e in
+    let b = both_true (is_whole t.text) (is_in_limit (int_value t.text)) a.1 in
+    (both_so _ _ a.0 (both_so _ _ b.0 (wide_limit (int_value t.text) b.1)), refl))
 
 -- ---- lists, blocks and groups
 
@@ -204,27 +220,24 @@ nodes_widen =
 
 -- ---- signals
 
-same_array : Widens NoEnd Anything plain.array plain.array (λ a. a)
-same_array =
-    value plain.array_of plain.array_of (λ a. a) (both (same_token NoEnd Anything _ place_of (kind_within kinds.OpenBrace))
+array_widens : Widens NoEnd Anything plain.array field.array loose_init
+array_widens =
+    value plain.array_of field.array_of loose_init (both (same_token NoEnd Anything _ place_of (kind_within kinds.OpenBrace))
     (left same_ints (same_mark kinds.CloseBrace) refl) refl) (λ p. refl)
 
-same_init : Widens NoEnd Anything plain.init plain.init (λ a. a)
-same_init =
-    same_either (is_next kinds.OpenBrace) (is_next kinds.OpenBrace) same_array
-    (value plain.scalar_of plain.scalar_of (λ a. a) same_int (λ n. refl))
+init_widens : Widens NoEnd Anything plain.init field.loose_init loose_init
+init_widens =
+    same_either (is_next kinds.OpenBrace) (is_next kinds.OpenBrace) array_widens
+    (value plain.scalar_of field.scalar_of loose_init int_widens (λ n. refl))
 
-same_signal : (seen : List (List ℕ)) → Widens NoEnd NoSemicolon (plain.signal seen) (plain.signal seen) (λ s. s)
-same_signal seen =
-    value plain.signal_of plain.signal_of (λ s. s)
+pub signal_widens : (seen : List (List ℕ)) → Widens NoEnd NoSemicolon (plain.signal seen) (field.loose_signal seen) loose_signal
+signal_widens seen =
+    value plain.signal_of field.signal_of loose_signal
     (both (left (same_new_word seen) (same_mark kinds.Colon) refl)
     (both (left same_int (same_mark kinds.Comma) refl)
-    (both (left same_init (same_mark kinds.Comma) refl)
+    (both (left init_widens (same_mark kinds.Comma) refl)
     (both same_word (left (same_others same_state (λ (s : Unit {0}). word) (λ s. same_word) tt)
     (same_mark kinds.Semicolon) refl) refl) refl) refl) refl) (λ p. refl)
-
-pub same_signals : Widens NoEnd Anything plain.signals plain.signals (λ ss. ss)
-same_signals = right (same_keyword (codes "Signals")) (same_block plain.with_signal plain.signal same_signal refl []) refl
 
 -- ---- frames
 

@@ -22,7 +22,7 @@ use Rattle.lin_ldf.specs.declared.section.Sections.{Sections}
 use Rattle.lin_ldf.specs.declared.token.TokenKind.TheVariants as kinds
 use Rattle.lin_field.specs.Grammar as field
 use Rattle.lin_field.specs.Marks.{mended}
-use Rattle.lin_field.specs.PlainTexts.{loose_block, loose_event, loose_frame, loose_table}
+use Rattle.lin_field.specs.PlainTexts.{loose_block, loose_event, loose_frame, loose_signal, loose_table}
 use Rattle.lin_field.specs.declared.file.FieldWord.{FieldWord}
 use Rattle.lin_field.specs.declared.file.FieldWord.TheVariants as field_words_of
 use Rattle.lin_field.specs.declared.file.LooseSections.{LooseSections}
@@ -34,7 +34,7 @@ use Rattle.lin_tool.specs.laws.Texts.{field_words}
 use Rattle.lin_tool.proofs.laws.Limits.{IsClean, Limit, clean_front, kept}
 use Rattle.lin_tool.proofs.laws.Limits.{Anything, NoEnd, NoSemicolon}
 use Rattle.lin_tool.proofs.laws.PlainErrors.{same_error}
-use Rattle.lin_tool.proofs.laws.PlainItems.{block_widens, event_widens, frame_widens, keyword_mark, number_within, plain_table_widens, same_group, same_int, same_keyword, same_list, same_mark, same_new_word, same_signals, same_sporadics, same_word_but, text_within}
+use Rattle.lin_tool.proofs.laws.PlainItems.{block_widens, event_widens, frame_widens, keyword_mark, number_within, plain_table_widens, same_group, same_int, same_keyword, same_list, same_mark, same_new_word, same_sporadics, same_word_but, signal_widens, text_within}
 use Rattle.lin_tool.proofs.laws.Widens.{Widens, both, gathering_widens, into_choice, into_right, left, of_choice, of_never, relaxed, right, same_either, same_once, same_token, unless_widens, value, value_of}
 
 -- ---- what stands at the front
@@ -181,7 +181,8 @@ block_of_node s =
 -- the same sections so far, as a text of the field has them
 abbrev pub loose_sections : Sections → LooseSections
 loose_sections s = record {
-  plain = record s { frames = None; events = None; attributes = None; tables = None };
+  plain = record s { signals = None; frames = None; events = None; attributes = None; tables = None };
+  signals = option_map (map loose_signal) s.signals;
   frames = option_map (map loose_frame) s.frames;
   events = option_map (map loose_event) s.events;
   attributes = option_map (map loose_block) s.attributes;
@@ -195,15 +196,13 @@ same_fold next wide h same s [] = refl
 same_fold next wide h same s (x ∷ xs) = ap (λ z. fold wide z (map h xs)) (same s x) ∙ same_fold next wide h same (next s x) xs
 
 signals_widen : (s : Sections)
-    → Widens NoEnd Anything (plain.section_of words_of.Signals s) (field.loose_section_of field_words_of.Plain (loose_sections s)) loose_sections
+    → Widens NoEnd Anything (plain.section_of words_of.Signals s) (field.loose_section_of field_words_of.Signals (loose_sections s)) loose_sections
 signals_widen s =
-    let sections = (loose_sections s).plain in
-    value (plain.with_signals s) (field.with_plain (loose_sections s)) loose_sections (unless_widens field.field_section_words
-    (into_choice plain.front_section (λ w. plain.section_of w sections) words_of.Signals
-    (value_of (plain.with_signals sections) (same_once_itself s.signals same_signals)))
-    (λ ts a rest x c. keyword_front (codes "Signals") field.field_section_words refl ts
-    (begins_once plain.signals (is_keyword (codes "Signals")) s.signals
-    (begins_word (codes "Signals") (block plain.with_signal plain.signal [])) ts a rest x))) (λ x. refl)
+    value (plain.with_signals s) (field.with_signals (loose_sections s)) loose_sections
+    (same_once s.signals (map loose_signal)
+    (right (same_keyword (codes "Signals"))
+    (block_widens plain.with_signal field.with_signal plain.signal field.loose_signal loose_signal signal_widens refl (λ z a. refl) []) refl))
+    (λ x. refl)
 
 sporadics_widen : (s : Sections)
     → Widens NoEnd Anything (plain.section_of words_of.Sporadic s) (field.loose_section_of field_words_of.Plain (loose_sections s)) loose_sections
@@ -284,7 +283,7 @@ abbrev into_section : (s : Sections) (w : SectionWord) (k : FieldWord)
 into_section s w k p = into_choice field.front_word (λ x. field.loose_section_of x (loose_sections s)) k p
 
 of_section : (s : Sections) (w : SectionWord) → Widens NoEnd Anything (plain.section_of w s) (field.loose_section (loose_sections s)) loose_sections
-of_section s words_of.Signals = into_section s words_of.Signals field_words_of.Plain (signals_widen s)
+of_section s words_of.Signals = into_section s words_of.Signals field_words_of.Signals (signals_widen s)
 of_section s words_of.Frames = into_section s words_of.Frames field_words_of.Frames (frames_widen s)
 of_section s words_of.Sporadic = into_section s words_of.Sporadic field_words_of.Plain (sporadics_widen s)
 of_section s words_of.Event = into_section s words_of.Event field_words_of.Event (events_widen s)

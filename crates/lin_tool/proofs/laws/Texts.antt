@@ -6,7 +6,7 @@ use Rattle.lin_field.proofs.PlainTexts.{plain-stays}
 use Rattle.lin_field.specs.Grammar as field
 use Rattle.lin_field.specs.GrammarLaws.{field_file_takes}
 use Rattle.lin_field.specs.Marks.{mended}
-use Rattle.lin_field.specs.PlainTexts.{NamesTables, StaysPlain, exact, loose_block, loose_event, loose_frame, loose_table, loosened}
+use Rattle.lin_field.specs.PlainTexts.{NamesTables, StaysPlain, exact, loose_block, loose_event, loose_frame, loose_signal, loose_table, loosened}
 use Rattle.lin_field.specs.declared.header.LineWord.TheVariants as line_words
 use Rattle.lin_field.specs.declared.header.LineWord.{LineWord}
 use Rattle.lin_field.specs.declared.header.Lines.{Lines}
@@ -252,7 +252,7 @@ same_loose : (v l : List ℕ) (speed : Number) (n : Nodes) (s : Sections)
 same_loose v l speed n s = λ i. record {
   header = header_with v l speed;
   nodes = loose_nodes n;
-  signals = plain.or_empty s.signals;
+  signals = or_mapped loose_signal s.signals i;
   frames = or_mapped loose_frame s.frames i;
   sporadic = plain.or_empty s.sporadic;
   events = or_mapped loose_event s.events i;

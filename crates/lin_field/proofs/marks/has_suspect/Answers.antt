@@ -1,4 +1,4 @@
-use Rattle.std.proofs.Common.{◌≡◌, ◌-◌, ◌<◌, ◌∙◌, ℕ, List, length, take, drop, ap, sym, Bool}
+use Rattle.std.proofs.Common.{◌≡◌, ◌-◌, ◌∙◌, ℕ, List, length, take, drop, ap, sym, Bool}
 use Rattle.std.specs.Prelude.{◌||◌}
 use Rattle.lin_field.specs.Suspects.{behind_separators, has_suspect}
 use Rattle.lin_field.proofs.ReadOver.{from_on}

@@ -1,11 +1,10 @@
-use Rattle.std.proofs.Common.{◌≡◌, ℕ, List, [], Err, sym, ◌∙◌}
+use Rattle.std.proofs.Common.{List, [], Err, ◌∙◌}
 use Rattle.std.proofs.lemmas.Result.{err_from_is_err_and}
 use Rattle.lin_ldf.specs.Stream.{start_of}
-use Rattle.lin_ldf.specs.Tokens.{AreTokens, mark_len, behind_mark}
+use Rattle.lin_ldf.specs.Tokens.{mark_len, behind_mark}
 use Rattle.lin_ldf.specs.declared.token.Token.{Token}
 use Rattle.lin_ldf.proofs.Unique.{only_tokens, only_fault}
 use Rattle.lin_ldf.proofs.Parsed.{no_fault}
-use Rattle.lin_field.specs.Marks.{AreExtraMarks}
 use Rattle.lin_field.proofs.Spelled.{read_spelled, only_memory, read_once}
 use Rattle.lin_field.proofs.Unmarked.{no_marks, read_whole}
 use Rattle.lin_field.proofs.reading.read_unmarked.Goals as goal

@@ -1,0 +1,10 @@
+use Rattle.std.proofs.Common.{◌≡◌, ◌≤◌, ◌^◌, take}
+use Rattle.std.specs.Prelude.{min}
+use Rattle.lin_ldf.specs.Numbers.{hex_value}
+use Rattle.lin_field.proofs.wide.hex_value.Given as goal
+
+abbrev pub invariant-loop-c : goal.invariant-loop-c
+invariant-loop-c l = record {
+  value : l.value ≡ min (hex_value (take l.c-index l.digits)) (2 ^ 64);
+  capped : l.value ≤ 2 ^ 64;
+}
