@@ -66,6 +66,7 @@ fn open<R: AllocGlobal + Env + Files>(rt: &R) -> Result<(), Fault> {
         Ok(Some(Asked {
             request: Request::Live(settings),
             wanted,
+            levels: _levels,
         })) => {
             let mut notes = Notes::new(alloc, wanted);
             let hand = bench_of(rt, &settings, &mut notes)?;

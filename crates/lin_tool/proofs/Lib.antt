@@ -7,5 +7,6 @@ pub mod Moments
 pub mod Tallies
 pub mod Reports
 pub mod Inert
+pub mod Leveled
 pub mod Openings
 pub mod laws

@@ -4,6 +4,7 @@ pub mod Comparing
 pub mod Field
 pub mod Formats
 pub mod Junit
+pub mod Levels
 pub mod Listing
 pub mod Living
 pub mod Opening

@@ -1,11 +1,13 @@
 //! The findings of a description, as lines.
 
-ghost use Rattle.std.specs.Prelude.{◌≡◌, flat_map};
+ghost use Rattle.std.specs.Prelude.{◌≡◌, [], flat_map, if◌then◌else◌};
 ghost use Rattle.lin_text.specs.Written.{Grows};
 ghost use Rattle.lin_log.specs.Words.{line_tail};
 ghost use Rattle.lin_tool.specs.Telling.{finding_line, told_line, remark_line, remark_word, needed_words};
 ghost use Rattle.lin_tool.specs.Telling.{place_word};
+ghost use Rattle.lin_tool.specs.Levels.{is_told, told};
 
+use crate::levels::Levels;
 use lin_cluster::Finding;
 use lin_field::Remark;
 use lin_text::{Many, TextWriter};
@@ -80,5 +82,29 @@ pub(crate) fn put_remarks<W: Write>(out: &mut TextWriter<'_, W>, remarks: &[Rema
 {
     for remark in remarks {
         put_told(out, &remark.finding, remark_word(remark));
+    }
+}
+
+/// The line of a finding or a warning, if it is reported.
+fn put_if_told<W: Write>(out: &mut TextWriter<'_, W>, levels: &Levels, remark: &Remark)
+    ensures { Grows W.contents out.old out.new
+        (if is_told levels.now.allowed remark.now then remark_line remark.now else []) }
+{
+    if levels.is_told(remark) {
+        put_told(out, &remark.finding, remark_word(remark));
+    }
+}
+
+/// A line for each finding and each warning that is reported.
+pub(crate) fn put_told_remarks<W: Write>(
+    out: &mut TextWriter<'_, W>,
+    levels: &Levels,
+    remarks: &[Remark],
+)
+    ensures { Grows W.contents out.old out.new
+        (flat_map remark_line (told levels.now.allowed remarks.now)) }
+{
+    for remark in remarks {
+        put_if_told(out, levels, remark);
     }
 }

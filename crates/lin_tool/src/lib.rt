@@ -21,7 +21,9 @@ mod field;
 mod findings;
 mod formats;
 mod junit;
+mod kinds;
 mod law;
+mod levels;
 mod listing;
 mod living;
 mod locating;
@@ -52,9 +54,11 @@ pub use fault::{Fault, exit_status};
 pub use field::field_of_reader;
 pub use findings::{Findings, Remarks};
 pub use formats::{Format, Shown, write_shown};
+pub use kinds::{BadKinds, KindsFault, read_levels};
 pub use law::{
     named_logs_say_the_same, page_data_are_inert, plain_texts_are_read, transcripts_are_logs,
 };
+pub use levels::{Levels, NumberRange};
 pub use lin_export::write_list;
 pub use listing::{Lists, write_lists};
 pub use living::{answer_lines, bench_in_hand, live};

@@ -3,6 +3,7 @@
 
 ghost use Rattle.std.specs.Prelude.{◌≡◌, flat_map};
 ghost use Rattle.lin_text.specs.Written.{WritesText};
+ghost use Rattle.lin_tool.specs.Levels.{level_status, told};
 ghost use Rattle.lin_tool.specs.Telling.{remark_line};
 
 use crate::describing::Reading;
@@ -10,9 +11,10 @@ use crate::explaining::{
     MOST, put_accepted_field, put_bad_line, put_refusals, put_refused_field, put_remarks,
     put_tables, put_text,
 };
-use crate::fault::Fault;
+use crate::fault::{Fault, exit_status};
 use crate::field::is_read_otherwise;
-use crate::findings::put_remarks as put_remark_lines;
+use crate::findings::put_told_remarks;
+use crate::levels::Levels;
 use crate::locating::{put_places, put_remark_places};
 use crate::misspelled::count_unread;
 use crate::nearest::put_bad_bench_line;
@@ -41,8 +43,10 @@ pub struct Wanted<'a> {
 #[derive(Drop)]
 pub struct Notes<'a> {
     pub wanted: Wanted<'a>,
-    /// The warnings of an LDF text that is accepted.
+    /// The warnings of an LDF text that is accepted, also those that aren't reported.
     pub warnings: Many<Remark>,
+    /// Which warnings are reported, and which of these are denied.
+    pub levels: Levels,
     is_script_read: bool,
     is_old: bool,
     are_warnings_told: bool,
@@ -53,11 +57,12 @@ pub struct Notes<'a> {
 }
 
 impl<'a> Notes<'a> {
-    /// Nothing was met yet.
+    /// Nothing was met yet, each warning is reported, and none is denied.
     pub fn new(alloc: Global, wanted: Wanted<'a>) -> Notes<'a> {
         Notes {
             wanted,
             warnings: Many::new(Vec::new(alloc)),
+            levels: Levels::new(alloc),
             is_script_read: false,
             is_old: false,
             are_warnings_told: false,
@@ -152,20 +157,40 @@ impl<'a> Notes<'a> {
         }
     }
 
-    /// Writes the warnings of an LDF text that is accepted.
+    /// Writes the warnings of an LDF text that is accepted, if they are reported.
     fn write_warnings<W: Write>(&self, writer: &mut W) -> Result<(), WriteFailed>
         ensures { self.now.wanted.file ≡ None
             → WritesText (W.contents writer.old) (W.contents writer.new) result
-            (flat_map remark_line self.now.warnings) }
+            (flat_map remark_line (told self.now.levels.allowed self.now.warnings)) }
     {
         let warnings = self.warnings.as_slice();
         if !warnings.is_empty() && self.wanted.file.is_some() {
             return write_out(writer, self.places.as_bytes());
         }
+        self.write_remarks(warnings, writer)
+    }
+
+    /// Writes the lines of findings and warnings that are reported.
+    fn write_remarks<W: Write>(&self, remarks: &[Remark], writer: &mut W) -> Result<(), WriteFailed>
+        ensures { WritesText (W.contents writer.old) (W.contents writer.new) result
+            (flat_map remark_line (told self.now.levels.allowed remarks.now)) }
+    {
         let mut buffer = TextBuffer::empty();
         let mut lines = TextWriter::new(writer, &mut buffer);
-        put_remark_lines(&mut lines, warnings);
+        put_told_remarks(&mut lines, &self.levels, remarks);
         lines.finish()
+    }
+
+    /// The exit status of the program: that of `exit_status`, but 6 if it did all that was asked for
+    /// and a warning that is reported is denied.
+    pub fn status(&self, done: &Result<(), Fault>) -> u8
+        ensures { result ≡ level_status self.now.levels self.now.warnings done.now }
+    {
+        if done.is_ok() && self.levels.is_any_denied(self.warnings.as_slice()) {
+            6
+        } else {
+            exit_status(done)
+        }
     }
 
     fn write_lines<W: Write>(&self, fault: &Fault, writer: &mut W) -> Result<(), WriteFailed> {
@@ -190,6 +215,7 @@ impl<'a> Notes<'a> {
                 lines.put_text(": slot limit\n");
                 lines.finish()
             }
+            (None, Fault::Remarks(remarks)) => self.write_remarks(remarks.0.as_slice(), writer),
             _ => write_fault(fault, writer),
         }
     }
@@ -241,7 +267,8 @@ impl<'a> Notes<'a> {
         Ok(())
     }
 
-    /// Adds where an LDF text is remarked on, and what that means, if it is; and what of it isn't read.
+    /// Adds where an LDF text is remarked on, and what that means, if it is reported; and what of it
+    /// isn't read.
     ///
     /// # Errors
     /// Out of memory for the places of compilers.
@@ -251,13 +278,28 @@ impl<'a> Notes<'a> {
         text: &[u8],
         remarks: &[Remark],
     ) -> Result<(), AllocError> {
+        if !self.is_text_wanted() {
+            return Ok(());
+        }
+        match self.levels.told(alloc, remarks) {
+            Ok(told) => self.add_told(alloc, text, told.as_slice()),
+            Err(error) if self.wanted.file.is_some() => Err(error),
+            Err(_) => {
+                self.is_cut = true;
+                Ok(())
+            }
+        }
+    }
+
+    /// Adds all of these, as of `add_remarks`.
+    fn add_told(&mut self, alloc: Global, text: &[u8], told: &[Remark]) -> Result<(), AllocError> {
         if let Some(file) = self.wanted.file
-            && !remarks.is_empty()
+            && !told.is_empty()
         {
-            put_remark_places(alloc, &mut self.places, file, text, remarks)?;
+            put_remark_places(alloc, &mut self.places, file, text, told)?;
         }
         if self.is_more_explained() {
-            self.is_cut |= put_remarks(alloc, &mut self.text, text, remarks).is_err();
+            self.is_cut |= put_remarks(alloc, &mut self.text, text, told).is_err();
         }
         Ok(())
     }

@@ -7,7 +7,7 @@ use lin_log::run_script;
 use lin_tool::{
     Described, Encodings, Extras, Fault, Format, Lists, Notes, Opened, Reading, Settings, Shown,
     Wanted, cluster_of_reader, cluster_of_text, field_of_reader, opening_table, play_script,
-    read_text, replay_script, write_list, write_lists, write_shown,
+    read_levels, read_text, replay_script, write_list, write_lists, write_shown,
 };
 use std::alloc::Global;
 use std::process::Abort;
@@ -172,6 +172,59 @@ fn odd_texts_are_told_where_they_are_linted(rt: HostRuntime) -> Result<(), Fail>
         expect_bytes(&rt, &linted, &lists, "linted", "lists");
         let (_lists, told) = coded_text(alloc, ODD, reading, LINTED)?;
         expect_bytes(&rt, &told, odd, "linted alone", "what is told");
+    }
+    Ok(())
+}
+
+/// The exit status of a check of that text, which is linted, and what is told on standard error, where
+/// these warnings are denied and allowed.
+fn leveled(
+    alloc: Global,
+    denied: Option<&str>,
+    allowed: Option<&str>,
+) -> Result<(u8, Vec<u8>), Fault> {
+    let mut notes = Notes::new(alloc, Wanted::default());
+    if let Ok(levels) = read_levels(alloc, denied, allowed, Reading::Plain, LINTED) {
+        notes.levels = levels;
+    }
+    let mut rest = ODD;
+    let described = cluster_of_reader(alloc, &mut rest, LINTED, &mut notes);
+    let (_lists, told) = listed(alloc, described, &notes)?;
+    Ok((notes.status(&Ok(())), told))
+}
+
+#[test]
+fn allowed_warnings_are_left_out_and_denied_ones_have_a_status(
+    rt: HostRuntime,
+) -> Result<(), Fail> {
+    let alloc = rt.alloc();
+    let (status, told) = leveled(alloc, Some("all"), Some("51-56,BadConfigurable"))?;
+    let unused = b"10:74 warning 60 UnusedEncoding\n";
+    expect_bytes(
+        &rt,
+        &told,
+        unused,
+        "all but one are allowed",
+        "what is told",
+    );
+    assert_eq!(rt; status, 6);
+    let (status, told) = leveled(alloc, Some("51-59"), Some("51-59"))?;
+    expect_bytes(
+        &rt,
+        &told,
+        unused,
+        "what is denied is allowed",
+        "what is told",
+    );
+    assert_eq!(rt; status, 0);
+    let (status, _told) = leveled(alloc, Some("52,53,55"), None)?;
+    assert_eq!(rt; status, 0);
+    let (status, told) = leveled(alloc, None, Some("all"))?;
+    expect_bytes(&rt, &told, b"", "all are allowed", "what is told");
+    assert_eq!(rt; status, 0);
+    let kinds = ["36", "61", "54-", "", "all,", "NoSubscribers"];
+    for bad in kinds {
+        assert!(rt; read_levels(alloc, Some(bad), None, Reading::Plain, LINTED).is_err());
     }
     Ok(())
 }

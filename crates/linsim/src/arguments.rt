@@ -1,11 +1,13 @@
 //! The command line.
 
 use clap::{Arg, ArgAction, ArgMatches, Command, value_parser};
-use lin_tool::{Encodings, Extras, Format, Lists, Reading, Settings, Wanted};
+use lin_tool::{
+    BadKinds, Encodings, Extras, Format, Levels, Lists, Reading, Settings, Wanted, read_levels,
+};
 use std::alloc::{AllocError, Global};
 
 const STATUS_NOTE: &str =
-    "Exit status: 0 success; 1 invalid input; 2 invalid command line; 3 out of memory; 4 read or write error;\n5 a limit of the run was reached; 6 an expectation failed (play, live) or the log differs (replay --same).\nEach error is one line on standard error. With --explain, more lines explain it.";
+    "Exit status: 0 success; 1 invalid input; 2 invalid command line; 3 out of memory; 4 read or write error;\n5 a limit of the run was reached; 6 an expectation failed (play, live), the log differs (replay --same)\nor a denied warning is reported (check --deny).\nEach error is one line on standard error. With --explain, more lines explain it.";
 
 const REPLAY_NOTE: &str =
     "The script is read from standard input. A log is a script too, so this command also converts logs.\n\nThe built-in cluster has the commander cem, the responder door (NAD 1) and the schedule table diag, with a master\nrequest and a slave response of 10 ms each.\n\nExample: linsim replay door.ldf --to csv < door.script > door.csv";
@@ -20,7 +22,7 @@ const LIVE_NOTE: &str =
     "Each line of standard input is answered before the next one is read. The answer is the log of that line, then one\nline that begins with #: ok, is VALUE, expected WHAT: GOT, refused NUMBER NAME, bad line: REASON or slot limit.\n\nQuestions: ? signal NODE SIGNAL, ? waiting NODE, ? idle, ? time, ? asleep, ? next.\n\nExample: linsim live door.ldf < door.bench";
 
 const CHECK_NOTE: &str =
-    "Standard output has one line per item: node NUMBER NAME NAD (- for none), signal NUMBER NAME, and\ntable NUMBER NAME ENTRIES.\n\nStandard error has one line per problem. A syntax error is ldf LINE:COLUMN fault NUMBER NAME; only the first is\nreported. An error in the description is LINE:COLUMN finding NUMBER NAME. A warning of --field, --physical or\n--lint is LINE:COLUMN warning NUMBER NAME, and doesn't change the exit status. A file of more than 4,194,304\nbytes is ldf too long.\n\nExample: linsim check door.ldf --lint --where --explain";
+    "Standard output has one line per item: node NUMBER NAME NAD (- for none), signal NUMBER NAME, and\ntable NUMBER NAME ENTRIES.\n\nStandard error has one line per problem. A syntax error is ldf LINE:COLUMN fault NUMBER NAME; only the first is\nreported. An error in the description is LINE:COLUMN finding NUMBER NAME. A warning of --field, --physical or\n--lint is LINE:COLUMN warning NUMBER NAME, and doesn't change the exit status without --deny. A file of more than\n4,194,304 bytes is ldf too long.\n\nKINDS is one or more of these, with commas between them: all, a number, FROM-TO, the name of a warning. A warning\nthat is allowed isn't reported, even if it is denied too.\n\nExample: linsim check door.ldf --lint --deny all --allow 54,OffTimeBase";
 
 fn file<'a>(alloc: Global, help: &'a str) -> Arg<'a> {
     Arg::new(alloc, "file").value_name("FILE").help(help)
@@ -150,6 +152,24 @@ fn linted<'a>(alloc: Global) -> Arg<'a> {
     flag(alloc, "lint", help)
 }
 
+/// An option with kinds of warnings as its value.
+fn kinds<'a>(alloc: Global, name: &'a str, help: &'a str) -> Arg<'a> {
+    Arg::new(alloc, name)
+        .long(name)
+        .value_name("KINDS")
+        .help(help)
+}
+
+fn denied<'a>(alloc: Global) -> Arg<'a> {
+    let help = "Exit with status 6 if a warning of these kinds is reported";
+    kinds(alloc, "deny", help)
+}
+
+fn allowed<'a>(alloc: Global) -> Arg<'a> {
+    let help = "Don't report warnings of these kinds";
+    kinds(alloc, "allow", help)
+}
+
 fn listed_signals<'a>(alloc: Global) -> Result<Arg<'a>, AllocError> {
     let help = "Also list the physical values and texts of each signal (needs --physical)";
     flag(alloc, "signals", help).requires_arg("physical")
@@ -190,6 +210,8 @@ fn check<'a>(alloc: Global) -> Result<Command<'a>, AllocError> {
         .arg(physical(alloc))?
         .arg(linted(alloc))?
         .arg(plain(alloc)?)?
+        .arg(denied(alloc))?
+        .arg(allowed(alloc))?
         .arg(places(alloc))?
         .arg(explained_file(alloc))
 }
@@ -252,23 +274,34 @@ fn command<'a>(alloc: Global) -> Result<Command<'a>, AllocError> {
 }
 
 /// The parsed command line.
-#[derive(Clone, Copy)]
+#[derive(Drop)]
 pub(crate) struct Asked<'a> {
     pub request: Request<'a>,
     pub wanted: Wanted<'a>,
+    pub levels: Levels,
+}
+
+/// Why the command line isn't valid.
+#[derive(Drop)]
+pub(crate) enum Invalid<'a> {
+    /// The answer of clap: an error, or a requested help or version text.
+    Clap(clap::Error),
+    /// A value that names kinds of warnings isn't valid.
+    Kinds(BadKinds<'a>),
 }
 
 /// The subcommand with its settings.
 #[derive(Clone, Copy)]
 pub(crate) enum Request<'a> {
-    /// `linsim check FILE [--field] [--frames] [--slots] [--physical [--signals]] [--lint]`
+    /// `linsim check FILE [--field] [--frames] [--slots] [--physical [--signals]] [--lint]
+    /// [--deny KINDS] [--allow KINDS]`
     Check {
         file: &'a str,
         reading: Reading,
         extras: Extras,
         lists: Lists,
     },
-    /// `linsim check FILE --field --plain`
+    /// `linsim check FILE --field --plain [--deny KINDS] [--allow KINDS]`
     CheckPlain(&'a str),
     /// `linsim live FILE [--table T] [--capacity N] [--to log|named] [--field] [--physical]`
     Live(Settings<'a>),
@@ -411,23 +444,43 @@ fn request_of<'a>(matches: &ArgMatches<'a>) -> Option<Request<'a>> {
     }
 }
 
+/// Returns which warnings are reported, and which of these are denied: `[--deny]` and `[--allow]` of
+/// `check`.
+fn levels_of<'a>(alloc: Global, matches: &ArgMatches<'a>) -> Result<Levels, Invalid<'a>> {
+    let Some(("check", found)) = matches.subcommand() else {
+        return Ok(Levels::new(alloc));
+    };
+    let denied = found.get_str("deny");
+    let allowed = found.get_str("allow");
+    match read_levels(alloc, denied, allowed, reading_of(found), extras_of(found)) {
+        Ok(levels) => Ok(levels),
+        Err(bad) => Err(Invalid::Kinds(bad)),
+    }
+}
+
 /// Parses the command line, of which the first word is the program's name.
 ///
 /// # Errors
-/// The error of clap: an invalid command line, a requested help or version text, or out of memory.
+/// `Clap`: an invalid command line, a requested help or version text, or out of memory. `Kinds`, also
+/// if memory for the kinds runs out.
 pub(crate) fn read_words<'a>(
     alloc: Global,
     words: &'a [String],
-) -> Result<Option<Asked<'a>>, clap::Error> {
+) -> Result<Option<Asked<'a>>, Invalid<'a>> {
     let command = match command(alloc) {
         Ok(command) => command,
-        Err(error) => return Err(clap::Error::from(error)),
+        Err(error) => return Err(Invalid::Clap(clap::Error::from(error))),
     };
-    match command.try_get_matches_from(words) {
-        Ok(matches) => Ok(request_of(&matches).map(|request| Asked {
-            request,
-            wanted: wanted_of(&matches),
-        })),
-        Err(error) => Err(error),
-    }
+    let matches = match command.try_get_matches_from(words) {
+        Ok(matches) => matches,
+        Err(error) => return Err(Invalid::Clap(error)),
+    };
+    let Some(request) = request_of(&matches) else {
+        return Ok(None);
+    };
+    Ok(Some(Asked {
+        request,
+        wanted: wanted_of(&matches),
+        levels: levels_of(alloc, &matches)?,
+    }))
 }

@@ -4,9 +4,9 @@
 
 mod arguments;
 
-use crate::arguments::{Asked, Request, read_words};
+use crate::arguments::{Asked, Invalid, Request, read_words};
 use clap::error::ErrorKind;
-use lin_tool::{Fault, Notes, exit_status, write_fault};
+use lin_tool::{BadKinds, Fault, KindsFault, Notes, write_fault};
 use std::env::Env;
 use std::fs::Files;
 use std::io::{self, IsTerminal, Write};
@@ -71,14 +71,19 @@ fn answer<
     R: AllocGlobal + Files + Input + Print + Eprint + Threads + Wait + Copy + Send + 'static,
     W: Write,
 >(rt: &R, asked: Asked<'_>, terminals: Terminals, errors: &mut W) -> ExitCode {
-    let Asked { request, wanted } = asked;
+    let Asked {
+        request,
+        wanted,
+        levels,
+    } = asked;
     if wanted.explained && terminals.input && is_read(request) {
         let _ = eprintln!(rt; "linsim: reading from the terminal; end with Ctrl-D");
     }
     let mut notes = Notes::new(rt.alloc(), wanted);
+    notes.levels = levels;
     let done = perform(rt, request, terminals.error, &mut notes, errors);
     let _ = notes.write(done.as_ref().err(), errors);
-    ExitCode::from(exit_status(&done))
+    ExitCode::from(notes.status(&done))
 }
 
 /// Prints what clap answers in place of matches, and gives the exit status.
@@ -94,6 +99,21 @@ fn refused<R: Print + Eprint>(rt: &R, error: &clap::Error) -> Result<ExitCode, F
         Ok(()) => Ok(ExitCode::SUCCESS),
         Err(_) => Err(Fault::WriteFailed),
     }
+}
+
+/// Prints why the value of an option that names kinds of warnings isn't valid, and gives the exit
+/// status.
+fn unknown_kinds<R: Eprint>(rt: &R, bad: BadKinds<'_>) -> Result<ExitCode, Fault> {
+    let BadKinds { option, fault } = bad;
+    let _ = match fault {
+        KindsFault::OutOfMemory => return Err(Fault::OutOfMemory),
+        KindsFault::Empty => eprintln!(rt; "error: --{option}: expected a kind of warnings"),
+        KindsFault::Unknown(kind) => eprintln!(rt; "error: --{option} {kind}: no such warning"),
+        KindsFault::NotReported(kind, needed) => eprintln!(rt;
+            "error: --{option} {kind}: no warning of these options ({needed})"
+        ),
+    };
+    Ok(ExitCode::from(COMMAND_LINE))
 }
 
 /// The exit status where the words of the command line couldn't be read: for lack of memory, or
@@ -118,7 +138,8 @@ fn run<
     match read_words(alloc, words.as_slice()) {
         Ok(Some(asked)) => Ok(answer(rt, asked, terminals, errors)),
         Ok(None) => Ok(ExitCode::SUCCESS),
-        Err(error) => refused(rt, &error),
+        Err(Invalid::Clap(error)) => refused(rt, &error),
+        Err(Invalid::Kinds(bad)) => unknown_kinds(rt, bad),
     }
 }
 
