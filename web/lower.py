@@ -9,6 +9,8 @@ Only the forms that the toolchain is known to write are accepted. `rewritten` ra
 
 import re
 
+from kit import NATIVE_ATTRIBUTES, Unknown, without
+
 LAYOUT = "e-m:e-p:32:32-p10:8:8-p20:8:8-i64:64-i128:128-n32:64-S128-ni:1:10:20"
 SIZES = {"i8": 1, "i16": 2, "i32": 4, "i64": 8, "double": 8, "ptr": 8}
 
@@ -23,10 +25,6 @@ MEMORY_CALL = re.compile(
 )
 # A pointer in a constant: a symbol, or an offset from one.
 CONSTANT_POINTER = re.compile(rf"(?:(?<=^)|(?<=, ))ptr (getelementptr (?:inbounds )?\(i8, ptr {GLOBAL}, i64 \d+\)|{GLOBAL})")
-# The attributes of functions for x86-64.
-NATIVE_ATTRIBUTES = re.compile(
-    r' (?:sanitize_address|"(?:target-cpu|target-features|frame-pointer|probe-stack|stack-probe-size)"="[^"]*")'
-)
 # The instructions with pointers that mean the same for either width.
 UNCHANGED = re.compile(
     rf"  (?:{LOCAL} = )?(?:"
@@ -36,10 +34,6 @@ UNCHANGED = re.compile(
     rf"|icmp (?:eq|ne) ptr |atomicrmw \w+ ptr {POINTER}, i64 |cmpxchg ptr {POINTER}, i64 "
     rf"|(?:tail |musttail )?call |extractvalue |ret |select |phi |switch |br )"
 )
-
-
-class Unknown(Exception):
-    """The text has a form that this doesn't know."""
 
 
 def widened_constant(line):
@@ -130,7 +124,7 @@ class Rewriting:
         if line.startswith("target triple"):
             return 'target triple = "wasm32-unknown-unknown"\n'
         if line.startswith("attributes #"):
-            return NATIVE_ATTRIBUTES.sub("", line).replace("{ }", "{ nounwind }")
+            return without(NATIVE_ATTRIBUTES, line)
         if line.startswith("declare void @llvm.mem"):
             return line.replace(".i64(", ".i32(").replace(", i64, i1", ", i32, i1")
         if line.startswith("define ") and " @main(" in line:

@@ -134,13 +134,7 @@ void *realloc(void *at, u64 size) {
 	return to;
 }
 
-// The toolchain's heap: whether there is memory, and its address. 0 bytes take as many as their alignment.
-typedef struct { u64 is, at; } Memory;
-static u8 nothing[16];
-static Memory memory(void *at) { return (Memory){at != 0, (u64)(usize)(at ? at : nothing)}; }
-Memory rattle_alloc(u64 size, u64 align) { return memory(malloc(size ? size : align)); }
-Memory rattle_realloc(void *at, u64 old, u64 size, u64 align) { (void)old; return memory(realloc(at, size ? size : align)); }
-void rattle_dealloc(void *at) { free(at); }
+#include "../tools/heap.c"
 
 // Arguments and files.
 static i32 number;
