@@ -1,19 +1,31 @@
 /* linsim: a simulator of a LIN cluster (ISO 17987) as a C library.
  *
- * A run begins with the cluster that an LDF text describes. Scripts, logs and the numbers of faults and
- * findings are those of the program `linsim`, and docs/FORMATS.md has them.
+ * An LDF describes the cluster, and a script has the steps of its bus, hosts and nodes. Scripts, logs, and the numbers of
+ * syntax errors and findings are those of the program `linsim`. docs/EMBEDDING.md shows how to build and use the library.
  *
- * What the caller owes, in every call:
- * - no pointer is null. Where a length or a room is 0, nothing is read or written at the pointer;
- * - a length is that of the bytes at its pointer, and `room` bytes at `out` may be written;
- * - what a call writes (`out`, `report`, a handle) overlaps nothing else that the call is given;
- * - nothing else reads or writes these while the call runs. Calls that share no handle may run at once.
+ * The caller must ensure in each call:
+ * - No pointer is null. If a length or a room is 0, nothing is read or written at its pointer.
+ * - A length is the number of bytes at its pointer, and `room` bytes at `out` may be written.
+ * - What a call writes (`out`, `report`, a handle) overlaps nothing else that the call is given.
+ * - Nothing else reads or writes any of these while the call runs.
  *
- * Texts are bytes with a length, and no NUL is read or written. Each call sets all of `report`. A call whose
- * status is another than LINSIM_DONE writes nothing at `out`.
+ * Texts are bytes with a length; no NUL is read or written. Each call sets all of `report`. A call whose status isn't
+ * LINSIM_DONE writes nothing at `out`.
  *
- * Memory is taken by malloc and realloc, and given back by free. On x86-64 a call took less than 160 KiB of stack, and
- * linsim_line, linsim_newest and linsim_close less than 80 KiB, over the clusters and scripts of the tests.
+ * Memory: the caller owns all that it passes, and the library keeps no pointer to it after the call. The library owns the
+ * cluster of a handle, from linsim_open to linsim_close. It allocates with malloc and realloc, and frees with free.
+ *
+ * Threads: calls that share no handle may run at the same time. All calls with a handle come from one thread. No call comes
+ * from a signal handler, or from a forked child of a process with threads.
+ *
+ * Limits: 4,194,304 bytes of an LDF, 16,777,216 of a script or of a line, 1 to 1,024 waiting messages of a host, and
+ * 4,294,967,295 entries of a log. The log of a handle grows until the handle is closed.
+ *
+ * Stack: in the tests, linsim_replay and linsim_open used less than 160 KiB, and each other call less than 80 KiB, in the
+ * proved and in the unproved library.
+ *
+ * Versions: names, arguments, values, layouts and the text of logs stay the same in all libraries with the soname
+ * liblinsim.so.0. Later versions may add functions, statuses and flags.
  */
 #ifndef LINSIM_H
 #define LINSIM_H
@@ -25,66 +37,75 @@
 extern "C" {
 #endif
 
-/* The statuses. If several are true, a call returns LINSIM_IS_OPEN or LINSIM_IS_CLOSED first, and else the lowest number
- * from 1 to 8. LINSIM_NO_MEMORY and LINSIM_LOG_FULL can take the place of any number from 3 to 8. */
+/* The version of this header: 1,000,000 for each major version, 1,000 for each minor version and 1 for each patch; and as
+ * text. linsim_version has the version of the library. */
+#define LINSIM_VERSION 2000
+#define LINSIM_VERSION_TEXT "0.2.0"
+
+/* The statuses. If several apply, a call returns LINSIM_IS_OPEN or LINSIM_IS_CLOSED first, otherwise the lowest number
+ * from 1 to 8. LINSIM_NO_MEMORY and LINSIM_LOG_FULL can replace any number from 3 to 8. */
 enum {
     LINSIM_DONE = 0,
     LINSIM_UNKNOWN_FLAGS = 1, /* settings.flags isn't 0 */
     LINSIM_BAD_CAPACITY = 2,  /* settings.capacity isn't 1 to 1,024 */
-    LINSIM_BAD_LDF = 3,       /* the LDF text has a fault: its line, column and number (1 to 7); all are 0 if the text has
+    LINSIM_BAD_LDF = 3,       /* the LDF has a syntax error: its line, column and number (1 to 7); all are 0 if the LDF has
                                  more than 4,194,304 bytes */
-    LINSIM_FINDING = 4,       /* the LDF text describes no cluster: the first finding's line, column and number (1 to 18) */
+    LINSIM_FINDING = 4,       /* the LDF has findings: line, column and number (1 to 18) of the first one */
     LINSIM_NO_TABLE = 5,      /* the cluster has no schedule table settings.table */
     LINSIM_LONG_SCRIPT = 6,   /* the script has more than 16,777,216 bytes */
-    LINSIM_BAD_LINE = 7,      /* a line of the script has no form: its number. In linsim_line also a line of more than
+    LINSIM_BAD_LINE = 7,      /* a line of the script isn't valid: its number. In linsim_line also a line of more than
                                  16,777,216 bytes */
-    LINSIM_NO_ROOM = 8,       /* the text is longer than `room`: its length. A line's step is made: see linsim_newest */
-    LINSIM_NO_MEMORY = 9,     /* nothing was done */
+    LINSIM_NO_ROOM = 8,       /* the text is longer than `room`: its length. A line's step was executed: see linsim_newest */
+    LINSIM_NO_MEMORY = 9,     /* an allocation failed; nothing was done */
     LINSIM_LOG_FULL = 10,     /* the log has 4,294,967,295 entries; nothing was done */
-    LINSIM_UNTOLD = 11,       /* the line's step is made, but there was no memory for its text: see linsim_newest */
-    LINSIM_IS_OPEN = 12,      /* the handle is open already */
+    LINSIM_UNTOLD = 11,       /* the line's step was executed, but its text couldn't be allocated: see linsim_newest */
+    LINSIM_IS_OPEN = 12,      /* the handle is already open */
     LINSIM_IS_CLOSED = 13     /* the handle isn't open */
 };
 
 typedef struct linsim_settings {
-    size_t capacity; /* how many messages of a host may wait, 1 to 1,024 (the program's own: 16) */
+    size_t capacity; /* maximum number of waiting messages of a host, 1 to 1,024 (the program's default: 16) */
     uint32_t flags;  /* 0: none has a meaning yet */
-    uint16_t table;  /* the schedule table that is begun with, by its number from 0 */
+    uint16_t table;  /* the schedule table at the beginning, by its number from 0 */
 } linsim_settings;
 
-/* What a status is about; what it isn't about is 0. */
+/* What a status is about; what doesn't apply is 0. */
 typedef struct linsim_report {
-    size_t length;   /* LINSIM_DONE: how many bytes were written; LINSIM_NO_ROOM: how many there are */
-    uint64_t line;   /* of the LDF text or the script, from 1 */
-    uint64_t column; /* of the LDF text, in bytes, from 1 */
-    uint32_t number; /* of the LDF text's fault or first finding */
+    size_t length;   /* LINSIM_DONE: the number of bytes that were written; LINSIM_NO_ROOM: the number of bytes needed */
+    uint64_t line;   /* in the LDF or the script, from 1 */
+    uint64_t column; /* in the LDF, in bytes, from 1 */
+    uint32_t number; /* of the LDF's syntax error or first finding; in linsim_version of the version */
 } linsim_report;
 
-/* Makes all steps of a script, and writes the text of their log: what `linsim replay` prints.
+/* Writes the version of the library as text. An unproved library has " (unproved)" after the version. The number of the
+ * report is the version's, also if the text is longer than `room`.
+ * Statuses: 0, 8. */
+uint32_t linsim_version(uint8_t *out, size_t room, linsim_report *report);
+
+/* Executes all steps of a script, and writes the text of their log: what `linsim replay` prints.
  * Statuses: 0 to 9. */
 uint32_t linsim_replay(const uint8_t *ldf, size_t ldf_length, const linsim_settings *settings,
                        const uint8_t *script, size_t script_length, uint8_t *out, size_t room,
                        linsim_report *report);
 
-/* A cluster that is open, or none. It begins as `linsim_handle handle = {NULL};`. The caller never copies one and
- * never writes `at`, calls with it from one thread alone, and closes it before its memory goes. A handle that was
- * closed may be opened again. */
+/* A cluster that is open, or none. It begins as `linsim_handle handle = {NULL};`. The caller never copies a handle, never
+ * writes `at`, and closes a handle before its memory is freed or goes out of scope. A closed handle can be opened again. */
 typedef struct linsim_handle {
     uint8_t *at;
 } linsim_handle;
 
-/* Opens the cluster that an LDF text describes, with nothing logged.
- * Statuses: 0 to 5, 9, 12. After each but 0 the handle is as it was. */
+/* Opens the cluster that an LDF describes, with an empty log.
+ * Statuses: 0 to 5, 9, 12. After each but 0 the handle is unchanged. */
 uint32_t linsim_open(const uint8_t *ldf, size_t ldf_length, const linsim_settings *settings,
                      linsim_handle *handle, linsim_report *report);
 
-/* Makes the step of one line of a script, given without its LF, and writes the text of its entry: the line itself, and a
- * line for each event. A line that says no step (empty, or one that begins with # or >) writes 0 bytes.
- * Statuses: 0, 7 (line 1), 8 to 11, 13. After 7, 9, 10 and 13 nothing was done; after 8 and 11 the step is made. */
+/* Executes the step of one line of a script, given without its LF, and writes the text of its entry: the line itself, and a
+ * line for each event. A line without a step (empty, or beginning with # or >) writes 0 bytes.
+ * Statuses: 0, 7 (line 1), 8 to 11, 13. After 7, 9, 10 and 13 nothing was done; after 8 and 11 the step was executed. */
 uint32_t linsim_line(linsim_handle *handle, const uint8_t *line, size_t length, uint8_t *out, size_t room,
                      linsim_report *report);
 
-/* Writes the text of the newest entry once more; 0 bytes where there is none.
+/* Writes the text of the newest entry again; 0 bytes if there is none.
  * Statuses: 0, 8, 9, 13. */
 uint32_t linsim_newest(linsim_handle *handle, uint8_t *out, size_t room, linsim_report *report);
 

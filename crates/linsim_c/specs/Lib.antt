@@ -4,4 +4,5 @@ pub mod Opening
 pub mod Replaying
 pub mod Setups
 pub mod Statuses
+pub mod Version
 pub mod Writing

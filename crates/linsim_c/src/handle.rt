@@ -28,7 +28,7 @@ impl Model for Handle {
 }
 
 impl Handle {
-    fn empty() -> Handle
+    pub(crate) fn empty() -> Handle
         ensures { result.value ≡ None }
     {
         Handle { at: null_mut() }

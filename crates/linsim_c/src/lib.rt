@@ -8,6 +8,7 @@ ghost use Rattle.linsim_c.specs.Lines.{Makes, TellsNewest};
 ghost use Rattle.linsim_c.specs.Opening.{Opens};
 ghost use Rattle.linsim_c.specs.Replaying.{Replays};
 ghost use Rattle.linsim_c.specs.Statuses.{IsCall};
+ghost use Rattle.linsim_c.specs.Version.{GivesVersion, version_report};
 
 mod fault;
 mod handle;
@@ -18,11 +19,24 @@ mod opening;
 mod replaying;
 mod settings;
 mod telling;
+mod version;
 
 use fault::{Report, told};
 use handle::Handle;
 use settings::Settings;
 use std::alloc::Global;
+use telling::put;
+
+/// Writes the version as text at the beginning of `out`, and its length and number to the report.
+#[unsafe(no_mangle)]
+pub extern "C" fn linsim_version(out: &mut [u8], report: &mut Report) -> u32
+    ensures text { GivesVersion result out.old out.new }
+    ensures report { report.new ≡ version_report }
+{
+    let status = told(put(version::TEXT, out), report);
+    report.number = version::NUMBER;
+    status
+}
 
 /// Makes the steps of a script over the cluster of an LDF text, and writes the text of their log at
 /// the beginning of `out`.

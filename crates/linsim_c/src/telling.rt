@@ -1,7 +1,8 @@
 //! Texts of entries, written into the room that C lends.
 
-ghost use Rattle.std.specs.Prelude.{drop};
+ghost use Rattle.std.specs.Prelude.{◌≢◌, drop, Err};
 ghost use Rattle.lin_log.specs.Words.{text};
+ghost use Rattle.linsim_c.specs.declared.fault.Fault.TheVariants.{OutOfMemory};
 ghost use Rattle.linsim_c.specs.Writing.{Writes};
 
 use crate::fault::Fault;
@@ -14,8 +15,9 @@ use std::alloc::Global;
 ///
 /// # Errors
 /// `NoRoom`; nothing was written.
-fn put(bytes: &[u8], out: &mut [u8]) -> Result<usize, Fault>
-    ensures { Writes result bytes.now out.old out.new }
+pub(crate) fn put(bytes: &[u8], out: &mut [u8]) -> Result<usize, Fault>
+    ensures text { Writes result bytes.now out.old out.new }
+    ensures memory { result ≢ Err OutOfMemory }
 {
     let length = bytes.len();
     if length > out.len() {
