@@ -93,6 +93,15 @@ static void whole_runs(void) {
     CHECK(status == LINSIM_DONE && report.length == length && memcmp(out, wanted, sizeof wanted) == 0);
 }
 
+/* The version is given without memory. */
+static void version(void) {
+    refuse(0);
+    clear();
+    CHECK(linsim_version(out, sizeof out, &report) == LINSIM_DONE);
+    is_on = 0;
+    CHECK(!was_refused);
+}
+
 static void opened(void) {
     linsim_handle handle = {NULL};
     uint32_t status;
@@ -212,6 +221,7 @@ int main(int argc, char **argv) {
         return 2;
     ldf_length = fread(ldf, 1, sizeof ldf, file);
     fclose(file);
+    version();
     whole_runs();
     opened();
     lines();

@@ -1,5 +1,5 @@
-/* Each status of each call, and what is left after it: statuses FILE.ldf, the built-in cluster. Writes a line for each
- * failed check, and then `N passed, M failed`. */
+/* Each status of each call, and what is left after it: statuses FILE.ldf TEXT, the built-in cluster and the text of the
+ * library's version. Writes a line for each failed check, and then `N passed, M failed`. */
 #include "linsim.h"
 
 #include <stdio.h>
@@ -10,6 +10,13 @@ static uint8_t ldf[1 << 16], out[1 << 16];
 static size_t ldf_length;
 static linsim_report report;
 static unsigned long passed, failed;
+
+/* Which statuses were seen. */
+enum { STATUSES = LINSIM_IS_CLOSED + 1 };
+static int is_seen[STATUSES];
+
+/* A pointer that isn't null, and that nothing may be read or written at. */
+static uint8_t *const nowhere = (uint8_t *)16;
 
 static const uint8_t *bytes(const char *text) {
     return (const uint8_t *)text;
@@ -28,6 +35,8 @@ static void check(int is_so, int line, const char *what) {
 /* The status, the whole report, and that all room behind what was written is as it was. */
 static int is_left(uint32_t status, uint32_t wanted, size_t length, uint64_t line, uint64_t column, uint32_t number) {
     size_t at = status == LINSIM_DONE ? report.length : 0;
+    if (status < STATUSES)
+        is_seen[status] = 1;
     while (at < sizeof out && out[at] == 0xAA)
         at++;
     return status == wanted && at == sizeof out && report.length == length && report.line == line
@@ -90,7 +99,72 @@ static void whole_runs(void) {
                   LINSIM_DONE, 0, 0, 0, 0));
 }
 
-/* The longest LDF text and the longest line, and those of a byte more. The statuses' numbers are those that callers were
+/* The version, which is also that of the header. */
+static void version(const char *text) {
+    const size_t length = strlen(text), least = strlen(LINSIM_VERSION_TEXT);
+    unsigned long major = 0, minor = 0, patch = 0;
+    clear();
+    CHECK(is_left(linsim_version(out, sizeof out, &report), LINSIM_DONE, length, 0, 0, LINSIM_VERSION));
+    CHECK(memcmp(out, text, length) == 0);
+    clear();
+    CHECK(is_left(linsim_version(out, length, &report), LINSIM_DONE, length, 0, 0, LINSIM_VERSION));
+    clear();
+    CHECK(is_left(linsim_version(out, length - 1, &report), LINSIM_NO_ROOM, length, 0, 0, LINSIM_VERSION));
+    clear();
+    CHECK(is_left(linsim_version(nowhere, 0, &report), LINSIM_NO_ROOM, length, 0, 0, LINSIM_VERSION));
+    CHECK(memcmp(text, LINSIM_VERSION_TEXT, least) == 0);
+    CHECK(sscanf(LINSIM_VERSION_TEXT, "%lu.%lu.%lu", &major, &minor, &patch) == 3);
+    CHECK(LINSIM_VERSION == 1000000 * major + 1000 * minor + patch);
+}
+
+/* Lengths and rooms of 0, at whose pointers nothing may be read or written. */
+static void nothing(void) {
+    const linsim_settings settings = {16, 0, 0};
+    linsim_handle handle = {NULL};
+    const size_t length = strlen(open_text);
+    clear();
+    CHECK(is_left(linsim_replay(nowhere, 0, &settings, nowhere, 0, nowhere, 0, &report), LINSIM_BAD_LDF, 0, 1, 1, 4));
+    clear();
+    CHECK(is_left(linsim_replay(ldf, ldf_length, &settings, nowhere, 0, nowhere, 0, &report), LINSIM_DONE, 0, 0, 0, 0));
+    clear();
+    CHECK(is_left(linsim_replay(ldf, ldf_length, &settings, bytes("bus open"), 8, nowhere, 0, &report), LINSIM_NO_ROOM, length,
+                  0, 0, 0));
+    clear();
+    CHECK(is_left(linsim_open(nowhere, 0, &settings, &handle, &report), LINSIM_BAD_LDF, 0, 1, 1, 4));
+    CHECK(handle.at == NULL);
+    CHECK(is_left(linsim_line(&handle, nowhere, 0, nowhere, 0, &report), LINSIM_IS_CLOSED, 0, 0, 0, 0));
+    clear();
+    CHECK(is_left(linsim_open(ldf, ldf_length, &settings, &handle, &report), LINSIM_DONE, 0, 0, 0, 0));
+    clear();
+    CHECK(is_left(linsim_newest(&handle, nowhere, 0, &report), LINSIM_DONE, 0, 0, 0, 0));
+    clear();
+    CHECK(is_left(linsim_line(&handle, nowhere, 0, nowhere, 0, &report), LINSIM_DONE, 0, 0, 0, 0));
+    clear();
+    CHECK(is_left(linsim_line(&handle, bytes("bus open"), 8, nowhere, 0, &report), LINSIM_NO_ROOM, length, 0, 0, 0));
+    clear();
+    CHECK(is_left(linsim_newest(&handle, nowhere, 0, &report), LINSIM_NO_ROOM, length, 0, 0, 0));
+    linsim_close(&handle);
+    CHECK(handle.at == NULL);
+    clear();
+    CHECK(is_left(linsim_newest(&handle, nowhere, 0, &report), LINSIM_IS_CLOSED, 0, 0, 0, 0));
+}
+
+/* Where the members of the structs are, as callers were compiled with. */
+static void layouts(void) {
+    CHECK(sizeof(linsim_settings) == 16 && sizeof(linsim_report) == 32 && sizeof(linsim_handle) == 8);
+    CHECK(offsetof(linsim_settings, capacity) == 0 && offsetof(linsim_settings, flags) == 8 && offsetof(linsim_settings, table) == 12);
+    CHECK(offsetof(linsim_report, length) == 0 && offsetof(linsim_report, line) == 8 && offsetof(linsim_report, column) == 16
+          && offsetof(linsim_report, number) == 24);
+}
+
+/* Each status was seen but those that a full memory or a full log has. */
+static void all_seen(void) {
+    uint32_t status;
+    for (status = 0; status < STATUSES; status++)
+        CHECK(is_seen[status] == (status < LINSIM_NO_MEMORY || status > LINSIM_UNTOLD));
+}
+
+/* The longest LDF and the longest line, and those of a byte more. The statuses' numbers are those that callers were
  * compiled with. */
 static void limits(void) {
     enum { LONGEST_LDF = 4194304, LONGEST_LINE = 16777216 };
@@ -181,14 +255,18 @@ static void handles(void) {
 }
 
 int main(int argc, char **argv) {
-    FILE *file = argc == 2 ? fopen(argv[1], "rb") : NULL;
+    FILE *file = argc == 3 ? fopen(argv[1], "rb") : NULL;
     if (!file)
         return 2;
     ldf_length = fread(ldf, 1, sizeof ldf, file);
     fclose(file);
+    version(argv[2]);
     whole_runs();
     handles();
+    nothing();
     limits();
+    layouts();
+    all_seen();
     printf("%lu passed, %lu failed\n", passed, failed);
     return failed != 0;
 }
