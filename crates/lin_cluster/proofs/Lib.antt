@@ -22,6 +22,7 @@ pub mod FindingsRows
 pub mod GoodParts
 pub mod KnownNames
 pub mod LintNodes
+pub mod LintMembers
 pub mod LintRows
 pub mod LintSets
 pub mod LongSlots

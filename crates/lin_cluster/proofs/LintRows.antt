@@ -4,7 +4,7 @@ use Rattle.std.proofs.Common.{◌≡◌, ℕ, List, [], ◌∷◌, refl}
 use Rattle.std.specs.Prelude.{codes, Some, None}
 use Rattle.lin_cluster.specs.Kinds.{finding_at}
 use Rattle.lin_cluster.specs.Lint.{lints}
-use Rattle.lin_cluster.specs.declared.finding.FindingKind.TheVariants.{UnplacedSignal, UnusedFrame, UnscheduledFrame, NoSubscriber, OwnSubscriber, OffTimeBase, NoAddress, BadResponseError, BadConfigurable}
+use Rattle.lin_cluster.specs.declared.finding.FindingKind.TheVariants.{UnplacedSignal, UnusedFrame, UnscheduledFrame, NoSubscriber, OwnSubscriber, OffTimeBase, NoAddress, BadResponseError, BadConfigurable, EventMemberBeside, SporadicMemberBeside, UnresolvedMember, ResolvingEntry}
 use Rattle.lin_cluster.specs.declared.lints.configurable.Configurable.{Configurable}
 use Rattle.lin_parts.specs.declared.description.Attributes.{Attributes}
 use Rattle.lin_parts.specs.declared.description.Description.{Description}
@@ -95,3 +95,17 @@ half-a-status-byte = refl
 -- where the responder doesn't subscribe the commander's signal
 pub bad-configurable : lints (record whole { signals = (record level { subscribers = name (codes "rsm") 6 40 ∷ [] }) ∷ lkey ∷ fault ∷ [] }) (listed (codes "Light")) ≡ finding_at BadConfigurable 27 5 ∷ []
 bad-configurable = refl
+
+-- a member beside its event-triggered or its sporadic frame
+pub event-member-beside : lints (record whole { tables = main_table (entry 32 (codes "Spor") 10000 ∷ entry 33 (codes "Keys") 10000 ∷ entry 34 (codes "LeftKey") 10000 ∷ entry 35 (codes "Error") 10000 ∷ []) ∷ resolve ∷ [] }) [] ≡ finding_at EventMemberBeside 34 1 ∷ []
+event-member-beside = refl
+
+pub sporadic-member-beside : lints (record whole { tables = main_table (entry 32 (codes "Spor") 10000 ∷ entry 33 (codes "Keys") 10000 ∷ entry 34 (codes "Light") 10000 ∷ entry 35 (codes "Error") 10000 ∷ []) ∷ resolve ∷ [] }) [] ≡ finding_at SporadicMemberBeside 34 1 ∷ []
+sporadic-member-beside = refl
+
+-- a table that resolves collisions without the member, and one with a diagnostic frame
+pub unresolved-member : lints (record whole { tables = main_table (entry 32 (codes "Spor") 10000 ∷ entry 33 (codes "Keys") 10000 ∷ []) ∷ (record resolve { entries = entry 42 (codes "Error") 10000 ∷ [] }) ∷ [] }) [] ≡ finding_at UnresolvedMember 21 30 ∷ []
+unresolved-member = refl
+
+pub resolving-entry : lints (record whole { tables = main_table (entry 32 (codes "Spor") 10000 ∷ entry 33 (codes "Keys") 10000 ∷ entry 35 (codes "Error") 10000 ∷ []) ∷ (record resolve { entries = entry 42 (codes "LeftKey") 10000 ∷ entry 43 (codes "SlaveResp") 10000 ∷ [] }) ∷ [] }) [] ≡ finding_at ResolvingEntry 43 1 ∷ []
+resolving-entry = refl

@@ -29,6 +29,10 @@ use Rattle.lin_cluster.specs.declared.finding.FindingKind.TheVariants.{OffTimeBa
 use Rattle.lin_cluster.specs.declared.finding.FindingKind.TheVariants.{BadResponseError}
 use Rattle.lin_cluster.specs.declared.finding.FindingKind.TheVariants.{BadConfigurable}
 use Rattle.lin_cluster.specs.declared.finding.FindingKind.TheVariants.{UnusedEncoding}
+use Rattle.lin_cluster.specs.declared.finding.FindingKind.TheVariants.{EventMemberBeside}
+use Rattle.lin_cluster.specs.declared.finding.FindingKind.TheVariants.{SporadicMemberBeside}
+use Rattle.lin_cluster.specs.declared.finding.FindingKind.TheVariants.{UnresolvedMember}
+use Rattle.lin_cluster.specs.declared.finding.FindingKind.TheVariants.{ResolvingEntry}
 
 abbrev pub number_of : FindingKind → ℕ
 number_of UnknownName = 1
@@ -79,6 +83,10 @@ number_of NoAddress = 57
 number_of BadResponseError = 58
 number_of BadConfigurable = 59
 number_of UnusedEncoding = 60
+number_of EventMemberBeside = 61
+number_of SporadicMemberBeside = 62
+number_of UnresolvedMember = 63
+number_of ResolvingEntry = 64
 
 -- the names of findings, by their numbers, which begin at 1
 abbrev pub finding_names : List (List ℕ)
@@ -95,7 +103,9 @@ finding_names =
     ∷ codes "ValueOutside" ∷ codes "ZeroScale" ∷ codes "KindOfSignal" ∷ [] ∷ [] ∷ [] ∷ [] ∷ [] ∷ []
     ∷ [] ∷ [] ∷ [] ∷ codes "UnplacedSignal" ∷ codes "UnusedFrame" ∷ codes "UnscheduledFrame"
     ∷ codes "NoSubscriber" ∷ codes "OwnSubscriber" ∷ codes "OffTimeBase" ∷ codes "NoAddress"
-    ∷ codes "BadResponseError" ∷ codes "BadConfigurable" ∷ codes "UnusedEncoding" ∷ []
+    ∷ codes "BadResponseError" ∷ codes "BadConfigurable" ∷ codes "UnusedEncoding"
+    ∷ codes "EventMemberBeside" ∷ codes "SporadicMemberBeside" ∷ codes "UnresolvedMember"
+    ∷ codes "ResolvingEntry" ∷ []
 
 abbrev pub finding_name : ℕ → List ℕ
 finding_name number = slice_index_or finding_names number []
@@ -150,6 +160,10 @@ needed_by NoAddress = 0
 needed_by BadResponseError = 0
 needed_by BadConfigurable = 0
 needed_by UnusedEncoding = 0
+needed_by EventMemberBeside = 0
+needed_by SporadicMemberBeside = 0
+needed_by UnresolvedMember = 0
+needed_by ResolvingEntry = 0
 
 -- a finding by its kind, line and column
 abbrev pub finding_at : FindingKind → ℕ → ℕ → Finding

@@ -1,15 +1,16 @@
--- Warnings 51 to 59, of a description in which nothing is wrong: what is declared and not used, and
+-- Warnings 51 to 59 and 61 to 64, of a description in which nothing is wrong: what is declared and not used, and
 -- what LIN asks for though a cluster runs without it (LIN 2.2A, section 9.2).
-use Rattle.std.specs.Prelude.{ℕ, ◌%◌, List, [], ◌++◌, length, Option, Some, None, Bool, false}
+use Rattle.std.specs.Prelude.{ℕ, ◌%◌, List, [], ◌++◌, length, Option, Some, None, Bool, true, false}
 use Rattle.std.specs.Prelude.{not, ◌==◌, ◌&&◌, ◌||◌, flat_map, if◌then◌else◌}
 use Rattle.std.specs.Prelude.{IsPermutation, IsSorted, codes, nat_eq}
 use Rattle.std.specs.List.{starts_with}
 use Rattle.std.specs.Option.{option_map_or}
 use Rattle.lin_cluster.specs.Findings.{finding_cmp}
 use Rattle.lin_cluster.specs.FindingsNames.{at_name, at_number, when, same_name, is_node}
-use Rattle.lin_cluster.specs.FindingsNames.{signal_named}
+use Rattle.lin_cluster.specs.FindingsNames.{carries_frame, signal_named, table_named}
 use Rattle.lin_cluster.specs.LintNames.{is_placed, is_listed, is_scheduled, is_of_text}
-use Rattle.lin_cluster.specs.LintNames.{has_diagnostics, is_addressed, processes}
+use Rattle.lin_cluster.specs.LintNames.{has_diagnostics, is_addressed, processes, has_entry, is_frame}
+use Rattle.lin_cluster.specs.LintNames.{has_event_of, has_sporadic_of, is_resolving}
 use Rattle.lin_cluster.specs.declared.finding.Finding.{Finding}
 use Rattle.lin_cluster.specs.declared.finding.FindingKind.TheVariants.{UnplacedSignal, UnusedFrame}
 use Rattle.lin_cluster.specs.declared.finding.FindingKind.TheVariants.{UnscheduledFrame}
@@ -17,6 +18,10 @@ use Rattle.lin_cluster.specs.declared.finding.FindingKind.TheVariants.{NoSubscri
 use Rattle.lin_cluster.specs.declared.finding.FindingKind.TheVariants.{OffTimeBase, NoAddress}
 use Rattle.lin_cluster.specs.declared.finding.FindingKind.TheVariants.{BadResponseError}
 use Rattle.lin_cluster.specs.declared.finding.FindingKind.TheVariants.{BadConfigurable}
+use Rattle.lin_cluster.specs.declared.finding.FindingKind.TheVariants.{EventMemberBeside}
+use Rattle.lin_cluster.specs.declared.finding.FindingKind.TheVariants.{SporadicMemberBeside}
+use Rattle.lin_cluster.specs.declared.finding.FindingKind.TheVariants.{UnresolvedMember}
+use Rattle.lin_cluster.specs.declared.finding.FindingKind.TheVariants.{ResolvingEntry}
 use Rattle.lin_cluster.specs.declared.lints.configurable.Configurable.{Configurable}
 use Rattle.lin_parts.specs.declared.description.Attributes.{Attributes}
 use Rattle.lin_parts.specs.declared.description.Description.{Description}
@@ -107,21 +112,56 @@ abbrev pub bad_configurables : Description → Configurable → List Finding
 bad_configurables d c =
     if is_node d c.node then flat_map (bad_configurable d c.node) c.frames else []
 
+-- ---- 61 EventMemberBeside, 62 SporadicMemberBeside: an entry for a frame, in a table that also has
+-- an event-triggered or a sporadic frame that lists it (sections 2.3.3.2 and 2.3.3.3)
+
+abbrev pub event_member_beside : Description → Table → TableEntry → List Finding
+event_member_beside d t e =
+    when (carries_frame e && has_event_of d t e.name.text) (at_name EventMemberBeside e.name)
+
+abbrev pub sporadic_member_beside : Description → Table → TableEntry → List Finding
+sporadic_member_beside d t e =
+    when (carries_frame e && has_sporadic_of d t e.name.text) (at_name SporadicMemberBeside e.name)
+
+-- ---- 63 UnresolvedMember: the table that resolves collisions, if it is declared, has no entry for a
+-- member of the event-triggered frame (section 2.3.3.2)
+
+abbrev pub unresolved_member : Option Table → Name → List Finding
+unresolved_member t m =
+    when (not (option_map_or (λ u. has_entry u m.text) t true)) (at_name UnresolvedMember m)
+
+-- ---- 64 ResolvingEntry: an entry for no unconditional frame, in a table that resolves collisions
+-- (section 2.3.3.2)
+
+abbrev pub resolving_entry : Description → Table → TableEntry → List Finding
+resolving_entry d t e =
+    when (is_resolving d t && not (carries_frame e && is_frame d e.name.text))
+    (at_name ResolvingEntry e.name)
+
 -- ---- the warnings of each declaration
 
 abbrev pub of_signal : Description → Signal → List Finding
 of_signal d s =
     unplaced_signal d s ++ no_subscriber s ++ flat_map (own_subscriber s.publisher) s.subscribers
 
+abbrev pub of_event : Description → EventFrame → List Finding
+of_event d v =
+    unscheduled_event d v ++ flat_map (unresolved_member (table_named d v.table)) v.members
+
+abbrev pub of_entry : Description → Table → TableEntry → List Finding
+of_entry d t e =
+    event_member_beside d t e ++ sporadic_member_beside d t e ++ resolving_entry d t e
+    ++ off_time_base d e
+
 abbrev pub of_table : Description → Table → List Finding
-of_table d t = if is_of_text t then flat_map (off_time_base d) t.entries else []
+of_table d t = if is_of_text t then flat_map (of_entry d t) t.entries else []
 
 -- ---- the warnings of a description and the configurable frames of its nodes
 
 abbrev pub of_frames : Description → List Finding
 of_frames d =
     flat_map (unused_frame d) d.frames ++ flat_map (unscheduled_sporadic d) d.sporadic
-    ++ flat_map (unscheduled_event d) d.events
+    ++ flat_map (of_event d) d.events
 
 abbrev pub of_nodes : Description → List Finding
 of_nodes d = flat_map (no_address d) d.slaves ++ flat_map (bad_response_error d) d.attributes

@@ -56,6 +56,25 @@ is_diagnostic_entry e = not e.has_group && is_diagnostic e.name
 abbrev pub has_diagnostics : Description → Bool
 has_diagnostics d = list_any (λ t. is_of_text t && list_any is_diagnostic_entry t.entries) d.tables
 
+-- an unconditional frame has this name
+abbrev pub is_frame : Description → List ℕ → Bool
+is_frame d q = list_any (λ f. bytes_eq f.name.text q) d.frames
+
+-- the table has an entry for the frame of this name, of whatever kind
+abbrev pub has_entry : Table → List ℕ → Bool
+has_entry t q = list_any (is_entry_for q) t.entries
+
+-- it has an entry for an event-triggered frame, or a sporadic one, that lists the frame
+abbrev pub has_event_of : Description → Table → List ℕ → Bool
+has_event_of d t q = list_any (λ v. has_entry t v.name.text && is_among v.members q) d.events
+
+abbrev pub has_sporadic_of : Description → Table → List ℕ → Bool
+has_sporadic_of d t q = list_any (λ f. has_entry t f.name.text && is_among f.members q) d.sporadic
+
+-- it resolves the collisions of an event-triggered frame
+abbrev pub is_resolving : Description → Table → Bool
+is_resolving d t = list_any (λ v. same_name v.table t.name) d.events
+
 -- ---- nodes (section 9.2.2.2)
 
 -- a block of attributes of the node of this name tells an address
@@ -96,13 +115,16 @@ processes d node q = is_frame_of d node q || lists_by (is_frame_of d node) d q
 
 -- ---- what is kept of a description
 
-pub record AreUses {S T U V W X : Type 0} (d : Description)
+pub record AreUses {S T U V W X Y Z : Type 0} (d : Description)
     (placed : IndexMap (Bor (List ℕ)) X S) (listed : IndexMap (Bor (List ℕ)) X T)
     (scheduled : IndexMap (Bor (List ℕ)) X U) (addressed : IndexMap (Bor (List ℕ)) X V)
-    (signals : IndexMap (Bor (List ℕ)) ℕ W) (diagnostics : Bool) : Type 0 where
+    (signals : IndexMap (Bor (List ℕ)) ℕ W) (frames : IndexMap (Bor (List ℕ)) X Y)
+    (tables : IndexMap (Bor (List ℕ)) ℕ Z) (diagnostics : Bool) : Type 0 where
   pub placed_names : (q : List ℕ) → has_text placed q ≡ is_placed d q
   pub listed_names : (q : List ℕ) → has_text listed q ≡ is_listed d q
   pub scheduled_names : (q : List ℕ) → has_text scheduled q ≡ is_scheduled d q
   pub addressed_names : (q : List ℕ) → has_text addressed q ≡ is_addressed d q
   pub signal_numbers : NumbersFirst (λ s. s.name) d.signals signals
+  pub frame_names : (q : List ℕ) → has_text frames q ≡ is_frame d q
+  pub table_numbers : NumbersFirst (λ t. t.name) d.tables tables
   pub diagnostic_entries : diagnostics ≡ has_diagnostics d

@@ -6,7 +6,7 @@ ghost use Rattle.lin_cluster.specs.Kinds.{finding_at, finding_name, number_of};
 use lin_parts::Place;
 use lin_text::Many;
 
-/// The kinds of findings, in the order of their numbers, 1 to 27, 31 to 41 and 51 to 60. Those from 19
+/// The kinds of findings, in the order of their numbers, 1 to 27, 31 to 41 and 51 to 64. Those from 19
 /// to 27 are told of texts of the field alone, but for 27, which a lint tells, too; those from 31 on of
 /// encodings of signals, and those from 51 on of descriptions in which nothing is wrong.
 #[derive(Clone, Copy, Debug, PartialEq, Eq)]
@@ -60,10 +60,14 @@ pub enum FindingKind {
     BadResponseError,
     BadConfigurable,
     UnusedEncoding,
+    EventMemberBeside,
+    SporadicMemberBeside,
+    UnresolvedMember,
+    ResolvingEntry,
 }
 
 impl FindingKind {
-    /// The number, 1 to 27, 31 to 41 or 51 to 60.
+    /// The number, 1 to 27, 31 to 41 or 51 to 64.
     pub fn number(self) -> u8
         ensures { result ≡ number_of self }
     {
@@ -116,11 +120,15 @@ impl FindingKind {
             FindingKind::BadResponseError => 58,
             FindingKind::BadConfigurable => 59,
             FindingKind::UnusedEncoding => 60,
+            FindingKind::EventMemberBeside => 61,
+            FindingKind::SporadicMemberBeside => 62,
+            FindingKind::UnresolvedMember => 63,
+            FindingKind::ResolvingEntry => 64,
         }
     }
 }
 
-/// What is wrong, and where: the finding's number (1 to 27, 31 to 41 or 51 to 60), line and column, and
+/// What is wrong, and where: the finding's number (1 to 27, 31 to 41 or 51 to 64), line and column, and
 /// for a slot that is too short (9) the time in microseconds that it needs; otherwise 0. Findings are
 /// ordered by place, then by number.
 #[derive(Clone, Copy, Debug, PartialEq, Eq, PartialOrd, Ord)]
@@ -147,7 +155,7 @@ impl Finding {
         }
     }
 
-    /// The name; only numbers from 1 to 27, from 31 to 41 and from 51 to 60 have one.
+    /// The name; only numbers from 1 to 27, from 31 to 41 and from 51 to 64 have one.
     pub fn name(&self) -> &'static str
         ensures { result.now ≡ finding_name self.now.number }
     {
@@ -200,6 +208,10 @@ impl Finding {
             58 => "BadResponseError",
             59 => "BadConfigurable",
             60 => "UnusedEncoding",
+            61 => "EventMemberBeside",
+            62 => "SporadicMemberBeside",
+            63 => "UnresolvedMember",
+            64 => "ResolvingEntry",
             _ => "",
         }
     }

@@ -1,6 +1,7 @@
-//! Warnings of a description in which nothing is wrong, 51 to 59.
+//! Warnings of a description in which nothing is wrong, 51 to 59 and 61 to 64.
 
 mod configurable;
+mod resolving;
 mod sets;
 mod uses;
 mod warned;

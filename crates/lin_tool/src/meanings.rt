@@ -206,7 +206,7 @@ static ENCODINGS: [(&str, &str); 11] = [
 ];
 
 /// What a warning of a text in which nothing is wrong means, from 51 on, and what to change.
-static LINTS: [(&str, &str); 10] = [
+static LINTS: [(&str, &str); 14] = [
     (
         "the signal is in no frame",
         "add it to a frame of its publisher, or delete it: it is never sent",
@@ -252,6 +252,23 @@ static LINTS: [(&str, &str); 10] = [
          line of Signal_representation that lists the signal; no signal has a later encoding of \
          the same name",
         "name its signals in Signal_representation, or delete it",
+    ),
+    (
+        "an event-triggered frame in the same schedule table lists the frame",
+        "remove one of them from the table",
+    ),
+    (
+        "a sporadic frame in the same schedule table lists the frame",
+        "remove one of them from the table",
+    ),
+    (
+        "the collision resolving table has no entry for the member: after a collision, it stays \
+         unsent",
+        "add an entry for each member to that table",
+    ),
+    (
+        "a collision resolving table has an entry that isn't for an unconditional frame",
+        "keep only unconditional frames in that table",
     ),
 ];
 

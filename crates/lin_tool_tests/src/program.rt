@@ -222,7 +222,7 @@ fn allowed_warnings_are_left_out_and_denied_ones_have_a_status(
     let (status, told) = leveled(alloc, None, Some("all"))?;
     expect_bytes(&rt, &told, b"", "all are allowed", "what is told");
     assert_eq!(rt; status, 0);
-    let kinds = ["36", "61", "54-", "", "all,", "NoSubscribers"];
+    let kinds = ["36", "28", "54-", "", "all,", "NoSubscribers"];
     for bad in kinds {
         assert!(rt; read_levels(alloc, Some(bad), None, Reading::Plain, LINTED).is_err());
     }

@@ -3,12 +3,14 @@
 ghost use Rattle.std.specs.Prelude.{◌≡◌, List, ℕ, IfOk};
 ghost use Rattle.std.specs.List.{list_any};
 ghost use Rattle.std.specs.Option.{option_copied};
-ghost use Rattle.lin_cluster.specs.FindingsNames.{signal_named};
+ghost use Rattle.lin_cluster.specs.FindingsNames.{signal_named, table_named};
+ghost use Rattle.lin_cluster.specs.Lint.{is_off};
 ghost use Rattle.lin_cluster.specs.LintNames.{has_dot, has_text, is_placed, is_listed, is_of_text};
 ghost use Rattle.lin_cluster.specs.LintNames.{is_scheduled, is_addressed, is_diagnostic_entry};
-ghost use Rattle.lin_cluster.specs.LintNames.{has_diagnostics, AreUses};
+ghost use Rattle.lin_cluster.specs.LintNames.{has_diagnostics, is_frame, AreUses};
 
 use super::sets::{Adds, NameSet, add_each, no_names};
+use super::warned::is_off;
 use crate::findings::{carries_frame, is_diagnostic};
 use crate::names::{Numbers, find_by, numbers_of};
 use lin_parts::description::{
@@ -20,7 +22,7 @@ use std::marker::Model;
 
 /// What adds names as they stand.
 #[derive(Clone, Copy)]
-struct Standing;
+pub(super) struct Standing;
 
 impl Adds<PlacedSignal> for Standing {
     ghost use Rattle.std.specs.Str.{bytes_eq};
@@ -138,6 +140,28 @@ impl Adds<Attributes> for Standing {
     }
 }
 
+/// What adds the names of declarations.
+#[derive(Clone, Copy)]
+struct OwnNames;
+
+impl Adds<Frame> for OwnNames {
+    ghost use Rattle.std.specs.Str.{bytes_eq};
+
+    ghost adds = { λ x f q. bytes_eq f.name.text q };
+
+    fn add_of<'a>(&self, names: &mut NameSet<'a>, frame: &'a Frame) -> Result<(), AllocError> {
+        names.add(&frame.name)
+    }
+}
+
+fn declared<'a>(alloc: Global, description: &'a Description) -> Result<NameSet<'a>, AllocError>
+    ensures { IfOk result (λ s. (q : List ℕ) → has_text s.names q ≡ is_frame description.now q) }
+{
+    let mut names = no_names(alloc, description.frames().len())?;
+    add_each(&mut names, &OwnNames, description.frames())?;
+    Ok(names)
+}
+
 fn placed<'a>(alloc: Global, description: &'a Description) -> Result<NameSet<'a>, AllocError>
     ensures { IfOk result (λ s. (q : List ℕ) → has_text s.names q ≡ is_placed description.now q) }
 {
@@ -201,6 +225,8 @@ pub(super) struct Uses<'a> {
     scheduled: NameSet<'a>,
     addressed: NameSet<'a>,
     signals: Numbers<'a>,
+    frames: NameSet<'a>,
+    tables: Numbers<'a>,
     has_diagnostics: bool,
 }
 
@@ -213,7 +239,8 @@ impl<'a> Model for Uses<'a> {
     ghost view = { λ u. u.description.now };
 
     ghost invariant = { λ u. AreUses u.description.now u.placed.names u.listed.names
-        u.scheduled.names u.addressed.names u.signals.map u.has_diagnostics };
+        u.scheduled.names u.addressed.names u.signals.map u.frames.names u.tables.map
+        u.has_diagnostics };
 }
 
 // Written out, so that what owns one lets it go in one step.
@@ -227,6 +254,8 @@ impl<'a> Drop for Uses<'a> {
             scheduled: _scheduled,
             addressed: _addressed,
             signals: _signals,
+            frames: _frames,
+            tables: _tables,
             has_diagnostics: _,
         } = self;
     }
@@ -242,6 +271,8 @@ impl<'a> Uses<'a> {
         let scheduled = scheduled(alloc, description)?;
         let addressed = addressed(alloc, description)?;
         let signals = numbers_of(alloc, description.signals())?;
+        let frames = declared(alloc, description)?;
+        let tables = numbers_of(alloc, description.tables())?;
         let has_diagnostics = has_diagnostics(description);
         Ok(Uses {
             alloc,
@@ -251,6 +282,8 @@ impl<'a> Uses<'a> {
             scheduled,
             addressed,
             signals,
+            frames,
+            tables,
             has_diagnostics,
         })
     }
@@ -288,6 +321,33 @@ impl<'a> Uses<'a> {
         ensures { result ≡ has_diagnostics self.now }
     {
         self.has_diagnostics
+    }
+
+    /// Whether an unconditional frame has the name.
+    pub(super) fn is_frame(&self, name: &Name) -> bool
+        ensures { result ≡ is_frame self.now name.now.text }
+    {
+        self.frames.has(name)
+    }
+
+    /// The description.
+    pub(super) fn whole(&self) -> &'a Description
+        ensures { result.now ≡ self.now }
+    {
+        self.description
+    }
+
+    /// Whether the delay of an entry is no multiple of the time base.
+    pub(super) fn is_off_time_base(&self, entry: &TableEntry) -> bool
+        ensures { result ≡ is_off self.now.time_base.value entry.now.delay.value }
+    {
+        is_off(self.description.time_base.value, entry.delay.value)
+    }
+
+    pub(super) fn table(&self, name: &Name) -> Option<&'a Table>
+        ensures { option_copied result ≡ table_named self.now name.now }
+    {
+        find_by(&self.tables, self.description.tables(), name)
     }
 
     pub(super) fn signal(&self, name: &Name) -> Option<&'a Signal>

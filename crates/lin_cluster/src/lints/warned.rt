@@ -7,13 +7,12 @@ ghost use Rattle.lin_cluster.specs.Lint.{unscheduled, is_off, is_j2602, has_erro
 ghost use Rattle.lin_cluster.specs.Lint.{is_response_error};
 
 use super::configurable::{Configurable, bad_configurables};
+use super::resolving::{of_entries, unresolved_members};
 use super::uses::{Uses, is_of_text};
 use crate::finding::{Finding, FindingKind};
-use crate::findings::{Finds, at_name, at_number, each, push_when};
+use crate::findings::{Finds, at_name, each, push_when};
 use crate::names::is_name;
-use lin_parts::description::{
-    Attributes, EventFrame, Frame, Name, Signal, Sporadic, Table, TableEntry,
-};
+use lin_parts::description::{Attributes, EventFrame, Frame, Name, Signal, Sporadic, Table};
 use std::alloc::AllocError;
 
 /// The publisher of a signal, which needs not subscribe it.
@@ -100,38 +99,24 @@ impl<'a> Finds<Sporadic> for Uses<'a> {
 }
 
 impl<'a> Finds<EventFrame> for Uses<'a> {
-    ghost use Rattle.lin_cluster.specs.Lint.{unscheduled_event};
+    ghost use Rattle.lin_cluster.specs.Lint.{of_event};
 
-    ghost finds = { unscheduled_event };
+    ghost finds = { of_event };
 
     fn find(&self, found: &mut Vec<Finding>, event: &EventFrame) -> Result<(), AllocError> {
-        unscheduled(found, self, &event.name)
+        unscheduled(found, self, &event.name)?;
+        unresolved_members(found, self, event)
     }
 }
 
-// Whether a delay is no multiple of the time base.
-fn is_off(base: u32, delay: u32) -> bool
+/// Whether a delay is no multiple of the time base.
+pub(super) fn is_off(base: u32, delay: u32) -> bool
     ensures { result ≡ is_off base delay }
 {
     if base == 0 {
         return false;
     }
     !(delay % base == 0)
-}
-
-// Off the time base (56).
-impl<'a> Finds<TableEntry> for Uses<'a> {
-    ghost use Rattle.lin_cluster.specs.Lint.{off_time_base};
-
-    ghost finds = { off_time_base };
-
-    fn find(&self, found: &mut Vec<Finding>, entry: &TableEntry) -> Result<(), AllocError> {
-        push_when(
-            found,
-            is_off(self.description.time_base.value, entry.delay.value),
-            at_number(FindingKind::OffTimeBase, &entry.delay),
-        )
-    }
 }
 
 impl<'a> Finds<Table> for Uses<'a> {
@@ -141,7 +126,7 @@ impl<'a> Finds<Table> for Uses<'a> {
 
     fn find(&self, found: &mut Vec<Finding>, table: &Table) -> Result<(), AllocError> {
         if is_of_text(table) {
-            each(found, self, table.entries.as_slice())?;
+            of_entries(found, self, table)?;
         }
         Ok(())
     }

@@ -1,7 +1,9 @@
 //! Warnings of texts in which nothing is wrong: what `lint` finds, with the lists of configurable
 //! frames that are read from the text, and the encodings that no signal has.
 
-use crate::samples::{BODY_CLUSTER, HEADER, add_number, add_place, expect_text, joined};
+use crate::samples::{
+    BODY_CLUSTER, HEADER, KEYS_CLUSTER, add_number, add_place, expect_text, joined,
+};
 use lin_cluster::{Finding, check, lint};
 use lin_ldf::parse;
 use lin_values::{read_codings, read_configurables, unused_encodings};
@@ -34,7 +36,7 @@ fn expect_warnings(rt: &impl Abort, alloc: Global, text: &[u8], want: &str) -> R
     Ok(())
 }
 
-/// Each warning once, from line 6 on.
+/// Each warning from 51 to 59 once, from line 6 on.
 const EACH: &[u8] = b"Signals {
 spare: 8, 0, m, s;
 order: 8, 0, m, s, t;
@@ -70,6 +72,41 @@ fn each_warning_once(rt: HostRuntime) -> Result<(), Fail> {
 #[test]
 fn a_cluster_without_warnings(rt: HostRuntime) -> Result<(), Fail> {
     expect_warnings(&rt, rt.alloc(), BODY_CLUSTER, "")
+}
+
+/// A frame next to an event-triggered one, and one next to a sporadic one, that lists it; a member without
+/// an entry in the collision resolving table, and a diagnostic frame there; from line 6 on. The last table
+/// has the same entries without the frames that list them.
+const MEMBERS: &[u8] = b"Signals {
+order: 8, 0, m, s;
+left: 8, 0, s, m;
+right: 8, 0, t, m;
+}
+Frames {
+Order: 1, m, 1 { order, 0; }
+Left: 2, s, 2 { left, 8; }
+Right: 3, t, 2 { right, 8; }
+}
+Sporadic_frames { Orders: Order; }
+Event_triggered_frames { Keys: Resolve, 4, Left, Right; }
+Node_attributes { s { configured_NAD = 1; } t { configured_NAD = 2; } }
+Schedule_tables {
+Main { Orders delay 10 ms; Keys delay 10 ms; Left delay 10 ms; Order delay 10 ms; }
+Resolve { Right delay 10 ms; MasterReq delay 10 ms; }
+Apart { Left delay 10 ms; Order delay 10 ms; MasterReq delay 10 ms; }
+}
+";
+
+#[test]
+fn members_and_resolving_tables(rt: HostRuntime) -> Result<(), Fail> {
+    let text = joined(rt.alloc(), &[HEADER, MEMBERS])?;
+    let want = " 17:44 63 20:46 61 20:64 62 21:30 64";
+    expect_warnings(&rt, rt.alloc(), &text, want)
+}
+
+#[test]
+fn a_frame_next_to_its_sporadic_frame(rt: HostRuntime) -> Result<(), Fail> {
+    expect_warnings(&rt, rt.alloc(), KEYS_CLUSTER, " 26:46 62")
 }
 
 /// Behind `EACH`, from line 29 on: an encoding of no signal's name, one of two signals, two of one

@@ -33,7 +33,7 @@ at n low k is none = subst Unnamed is none
 pub returns-in_default : goal.returns-in_default
 returns-in_default c =
     let n = c.args.self.now.number
-    in elim (cases_lt 60 n) as (λ _. Unnamed n) [
+    in elim (cases_lt 64 n) as (λ _. Unnamed n) [
       | inl past ↦ sym (get_or_past finding_names n [] (omega arith))
       | inr few ↦ elim (cases_lt 41 n) as (λ _. Unnamed n) [
         | inl past ↦ at n 42 (n - 42) (omega arith) (from_42 (n - 42) (omega arith))
