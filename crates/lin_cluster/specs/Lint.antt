@@ -33,10 +33,10 @@ use Rattle.lin_parts.specs.declared.description.Sporadic.{Sporadic}
 use Rattle.lin_parts.specs.declared.description.Table.{Table}
 use Rattle.lin_parts.specs.declared.description.TableEntry.{TableEntry}
 
--- ---- 51 UnplacedSignal: no frame has the signal (section 9.2.4.1)
+-- ---- 51 UnplacedSignal: no frame has the signal (section 9.2.4); by the names of those that one has
 
-abbrev pub unplaced_signal : Description → Signal → List Finding
-unplaced_signal d s = when (not (is_placed d s.name.text)) (at_name UnplacedSignal s.name)
+abbrev pub unplaced_signal : (List ℕ → Bool) → Signal → List Finding
+unplaced_signal placed s = when (not (placed s.name.text)) (at_name UnplacedSignal s.name)
 
 -- ---- 52 UnusedFrame: no table has the frame, and no sporadic or event-triggered frame lists it
 -- (sections 9.2.4 and 9.2.5)
@@ -140,9 +140,10 @@ resolving_entry d t e =
 
 -- ---- the warnings of each declaration
 
-abbrev pub of_signal : Description → Signal → List Finding
-of_signal d s =
-    unplaced_signal d s ++ no_subscriber s ++ flat_map (own_subscriber s.publisher) s.subscribers
+abbrev pub of_signal : (List ℕ → Bool) → Signal → List Finding
+of_signal placed s =
+    unplaced_signal placed s ++ no_subscriber s
+    ++ flat_map (own_subscriber s.publisher) s.subscribers
 
 abbrev pub of_event : Description → EventFrame → List Finding
 of_event d v =
@@ -156,7 +157,11 @@ of_entry d t e =
 abbrev pub of_table : Description → Table → List Finding
 of_table d t = if is_of_text t then flat_map (of_entry d t) t.entries else []
 
--- ---- the warnings of a description and the configurable frames of its nodes
+-- ---- the warnings of a description, with the names of signals that frames outside of it have, and of
+-- the configurable frames of its nodes
+
+abbrev pub of_signals : Description → List Name → List Finding
+of_signals d elsewhere = flat_map (of_signal (is_placed d elsewhere)) d.signals
 
 abbrev pub of_frames : Description → List Finding
 of_frames d =
@@ -166,12 +171,13 @@ of_frames d =
 abbrev pub of_nodes : Description → List Finding
 of_nodes d = flat_map (no_address d) d.slaves ++ flat_map (bad_response_error d) d.attributes
 
-abbrev pub lints : Description → List Configurable → List Finding
-lints d cs =
-    flat_map (of_signal d) d.signals ++ of_frames d ++ flat_map (of_table d) d.tables ++ of_nodes d
+abbrev pub lints : Description → List Name → List Configurable → List Finding
+lints d elsewhere cs =
+    of_signals d elsewhere ++ of_frames d ++ flat_map (of_table d) d.tables ++ of_nodes d
     ++ flat_map (bad_configurables d) cs
 
 -- all of them, by line, then by column, then by number
-pub record AreLints (d : Description) (cs : List Configurable) (found : List Finding) : Type 0 where
-  pub all : IsPermutation (lints d cs) found
+pub record AreLints (d : Description) (elsewhere : List Name) (cs : List Configurable)
+    (found : List Finding) : Type 0 where
+  pub all : IsPermutation (lints d elsewhere cs) found
   pub ordered : IsSorted finding_cmp found

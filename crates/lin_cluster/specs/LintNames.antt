@@ -23,9 +23,12 @@ is_among names q = list_any (λ n. bytes_eq n.text q) names
 
 -- ---- signals and frames of this name (LIN 2.2A, section 9.2.4)
 
--- a frame places the signal
-abbrev pub is_placed : Description → List ℕ → Bool
-is_placed d q = list_any (λ f. list_any (λ p. bytes_eq p.signal.text q) f.placed) d.frames
+-- a frame places the signal: one of the description, or one outside of it, which places signals of these
+-- names
+abbrev pub is_placed : Description → List Name → List ℕ → Bool
+is_placed d elsewhere q =
+    list_any (λ f. list_any (λ p. bytes_eq p.signal.text q) f.placed) d.frames
+    || is_among elsewhere q
 
 -- a sporadic or an event-triggered frame lists the frame
 abbrev pub is_listed : Description → List ℕ → Bool
@@ -115,12 +118,11 @@ processes d node q = is_frame_of d node q || lists_by (is_frame_of d node) d q
 
 -- ---- what is kept of a description
 
-pub record AreUses {S T U V W X Y Z : Type 0} (d : Description)
-    (placed : IndexMap (Bor (List ℕ)) X S) (listed : IndexMap (Bor (List ℕ)) X T)
+pub record AreUses {T U V W X Y Z : Type 0} (d : Description)
+    (listed : IndexMap (Bor (List ℕ)) X T)
     (scheduled : IndexMap (Bor (List ℕ)) X U) (addressed : IndexMap (Bor (List ℕ)) X V)
     (signals : IndexMap (Bor (List ℕ)) ℕ W) (frames : IndexMap (Bor (List ℕ)) X Y)
     (tables : IndexMap (Bor (List ℕ)) ℕ Z) (diagnostics : Bool) : Type 0 where
-  pub placed_names : (q : List ℕ) → has_text placed q ≡ is_placed d q
   pub listed_names : (q : List ℕ) → has_text listed q ≡ is_listed d q
   pub scheduled_names : (q : List ℕ) → has_text scheduled q ≡ is_scheduled d q
   pub addressed_names : (q : List ℕ) → has_text addressed q ≡ is_addressed d q

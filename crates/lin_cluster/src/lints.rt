@@ -3,6 +3,7 @@
 mod configurable;
 mod resolving;
 mod sets;
+mod signals;
 mod uses;
 mod warned;
 
@@ -12,7 +13,8 @@ ghost use Rattle.lin_cluster.specs.Lint.{lints, of_frames, of_nodes, AreLints};
 use crate::finding::Finding;
 use crate::findings::each;
 pub use configurable::Configurable;
-use lin_parts::description::Description;
+use lin_parts::description::{Description, Name};
+use signals::of_signals;
 use std::alloc::{AllocError, Global};
 use uses::Uses;
 
@@ -36,13 +38,16 @@ fn of_nodes(found: &mut Vec<Finding>, uses: &Uses) -> Result<(), AllocError>
 fn unordered(
     alloc: Global,
     description: &Description,
+    placed_elsewhere: &[Name],
     configurables: &[Configurable],
 ) -> Result<Vec<Finding>, AllocError>
-    ensures { IfOk result (λ found. found.items ≡ lints description.now configurables.now) }
+    ensures { IfOk result
+        (λ found. found.items
+        ≡ lints description.now placed_elsewhere.now configurables.now) }
 {
     let uses = Uses::new(alloc, description)?;
     let mut found = Vec::new(alloc);
-    each(&mut found, &uses, description.signals())?;
+    of_signals(&mut found, alloc, description, placed_elsewhere)?;
     of_frames(&mut found, &uses)?;
     each(&mut found, &uses, description.tables())?;
     of_nodes(&mut found, &uses)?;
@@ -50,16 +55,21 @@ fn unordered(
     Ok(found)
 }
 
-/// All that is warned of a description in which nothing is wrong, and of the configurable frames of
-/// its nodes, by place and then by number. An error means out of memory.
+/// Finds all that is warned of a description in which nothing is wrong, and of the configurable frames
+/// of its nodes, by place and then by number. `placed_elsewhere` has the names of signals that frames
+/// outside the description have, such as the diagnostic frames that an LDF may declare.
+///
+/// An error means out of memory.
 pub fn lint(
     alloc: Global,
     description: &Description,
+    placed_elsewhere: &[Name],
     configurables: &[Configurable],
 ) -> Result<Vec<Finding>, AllocError>
-    ensures { IfOk result (λ found. AreLints description.now configurables.now found.items) }
+    ensures { IfOk result
+        (λ found. AreLints description.now placed_elsewhere.now configurables.now found.items) }
 {
-    let mut found = unordered(alloc, description, configurables)?;
+    let mut found = unordered(alloc, description, placed_elsewhere, configurables)?;
     found.sort()?;
     Ok(found)
 }

@@ -1,6 +1,6 @@
 -- Frames of a text of the field: diagnostic ones are left out, and a size that is absent is that of
 -- the identifier.
-use Rattle.std.specs.Prelude.{ℕ, ◌/◌, ◌%◌, ◌==◌, ◌&&◌, ◌||◌, List, ◌++◌, Bool, not, Option, Some}
+use Rattle.std.specs.Prelude.{ℕ, ◌/◌, ◌%◌, ◌==◌, ◌&&◌, ◌||◌, List, [], ◌++◌, map, Bool, not, Option, Some}
 use Rattle.std.specs.Prelude.{None, is_some, codes, nat_lt, if◌then◌else◌}
 use Rattle.std.specs.Option.{option_map_or}
 use Rattle.std.specs.Str.{bytes_eq}
@@ -8,6 +8,7 @@ use Rattle.lin_cluster.specs.FindingsNames.{at_number, when}
 use Rattle.lin_cluster.specs.declared.finding.Finding.{Finding}
 use Rattle.lin_cluster.specs.declared.finding.FindingKind.TheVariants.{BadId, NoSize}
 use Rattle.lin_parts.specs.declared.description.Frame.{Frame}
+use Rattle.lin_parts.specs.declared.description.Name.{Name}
 use Rattle.lin_parts.specs.declared.description.Number.{Number}
 use Rattle.lin_field.specs.declared.loose.LooseFrame.{LooseFrame}
 
@@ -36,6 +37,10 @@ settled_frame f = record {
 
 abbrev pub kept_frame : LooseFrame → Option Frame
 kept_frame f = if is_diagnostic_frame f then None else Some (settled_frame f)
+
+-- the signals of a diagnostic frame, which is left out
+abbrev pub diagnostic_signals : LooseFrame → List Name
+diagnostic_signals f = if is_diagnostic_frame f then map (λ p. p.signal) f.placed else []
 
 -- 3 BadId of one that is left out; 19 NoSize, but in LIN 1.x, where none has one
 abbrev pub frame_warnings : Bool → LooseFrame → List Finding

@@ -8,10 +8,11 @@ use Rattle.lin_cluster.specs.Kinds.{finding_at}
 use Rattle.lin_cluster.specs.declared.finding.Finding.{Finding}
 use Rattle.lin_cluster.specs.declared.finding.FindingKind.TheVariants.{ExtraMark, HeaderLine}
 use Rattle.lin_parts.specs.declared.description.Description.{Description}
+use Rattle.lin_parts.specs.declared.description.Name.{Name}
 use Rattle.lin_parts.specs.declared.description.Table.{Table}
 use Rattle.lin_ldf.specs.declared.token.Token.{Token}
 use Rattle.lin_field.specs.Attributes.{Elsewhere, elsewhere_of, settled_attributes, attribute_warnings}
-use Rattle.lin_field.specs.Frames.{kept_frame, frame_warnings}
+use Rattle.lin_field.specs.Frames.{diagnostic_signals, kept_frame, frame_warnings}
 use Rattle.lin_field.specs.Signals.{settled_signal, signal_warnings}
 use Rattle.lin_field.specs.Tables.{kept_tables, table_warnings, settled_event, event_warnings}
 use Rattle.lin_field.specs.Tables.{rounded_warnings}
@@ -64,6 +65,11 @@ with_tables d ts = record d { tables = all_tables d ts }
 
 abbrev pub settled : Loose → Description
 settled l = with_tables (untimed l) (kept_tables l.tables)
+
+-- the signals that frames of the text have which the description hasn't: the diagnostic ones (LIN 2.2A,
+-- section 9.2.4)
+abbrev pub placed_elsewhere : Loose → List Name
+placed_elsewhere l = flat_map diagnostic_signals l.frames
 
 -- ---- the warnings
 

@@ -1,12 +1,12 @@
 //! Settling of frames: diagnostic ones, and sizes that the identifier tells.
 
-ghost use Rattle.std.specs.Prelude.{◌≡◌, ◌++◌, flat_map, filter_map, IfOk, OnOk};
+ghost use Rattle.std.specs.Prelude.{◌≡◌, ◌++◌, flat_map, filter_map, map, IfOk, OnOk};
 ghost use Rattle.lin_field.specs.Frames.{is_diagnostic_frame, usual_size, settled_frame};
-ghost use Rattle.lin_field.specs.Frames.{kept_frame, frame_warnings};
+ghost use Rattle.lin_field.specs.Frames.{diagnostic_signals, kept_frame, frame_warnings};
 
 use crate::loose::LooseFrame;
 use lin_cluster::{Finding, FindingKind, at_number, push_when};
-use lin_parts::description::{Frame, Number};
+use lin_parts::description::{Frame, Name, Number, PlacedSignal};
 use lin_text::Many;
 use std::alloc::{AllocError, Global};
 
@@ -73,23 +73,47 @@ fn warn_of_frame(
     )
 }
 
-/// The frames without those that are diagnostic, each with a size.
+/// Adds the names of the signals that a frame has.
+fn add_signals(signals: &mut Vec<Name>, frame: LooseFrame) -> Result<(), AllocError>
+    ensures { OnOk result
+        (signals.new.items ≡ signals.old.items ++ map (λ p. p.signal) frame.placed) }
+{
+    let LooseFrame {
+        name: _name,
+        id: _,
+        publisher: _publisher,
+        size: _,
+        placed,
+    } = frame;
+    for placed in placed.into_vec() {
+        let PlacedSignal { signal, offset: _ } = placed;
+        signals.push(signal)?;
+    }
+    Ok(())
+}
+
+/// Returns the frames without the diagnostic ones, each with a size, and the names of the signals that
+/// the diagnostic ones have.
 pub fn settle_frames(
     alloc: Global,
     is_old: bool,
     frames: Many<LooseFrame>,
     warned: &mut Vec<Finding>,
-) -> Result<Many<Frame>, AllocError>
-    ensures settled { IfOk result (λ f. f ≡ filter_map kept_frame frames) }
+) -> Result<(Many<Frame>, Many<Name>), AllocError>
+    ensures settled { IfOk result (λ r. r.0 ≡ filter_map kept_frame frames) }
+    ensures elsewhere { IfOk result (λ r. r.1 ≡ flat_map diagnostic_signals frames) }
     ensures warned { OnOk result
         (warned.new.items ≡ warned.old.items ++ flat_map (frame_warnings is_old) frames) }
 {
     let mut settled = Vec::new(alloc);
+    let mut elsewhere = Vec::new(alloc);
     for frame in frames.into_vec() {
         warn_of_frame(warned, is_old, &frame)?;
-        if !is_diagnostic_frame(&frame) {
+        if is_diagnostic_frame(&frame) {
+            add_signals(&mut elsewhere, frame)?;
+        } else {
             settled.push(settled_frame(frame))?;
         }
     }
-    Ok(Many::new(settled))
+    Ok((Many::new(settled), Many::new(elsewhere)))
 }

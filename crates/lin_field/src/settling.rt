@@ -4,6 +4,7 @@ ghost use Rattle.std.specs.Prelude.{◌≡◌, ◌++◌, map, flat_map, IfOk, On
 ghost use Rattle.std.specs.Option.{option_map};
 ghost use Rattle.lin_field.specs.Attributes.{settled_attributes, attribute_warnings};
 ghost use Rattle.lin_field.specs.Settled.{is_old, old_version, tells_tables, settled, warnings};
+ghost use Rattle.lin_field.specs.Settled.{placed_elsewhere};
 ghost use Rattle.lin_field.specs.Settled.{header_warnings, with_tables, elsewhere_by};
 ghost use Rattle.lin_field.specs.Signals.{settled_signal, signal_warnings};
 ghost use Rattle.lin_field.specs.Order.{byte_order};
@@ -21,16 +22,18 @@ use crate::times::all_tables;
 use lin_cluster::{Finding, FindingKind, at_name, numbers_of};
 use lin_ldf::Token;
 use lin_parts::Place;
-use lin_parts::description::{Attributes, Description, Signal, Table};
+use lin_parts::description::{Attributes, Description, Name, Signal, Table};
 use lin_text::Many;
 use std::alloc::{AllocError, Global};
 
-/// A description that a text of the field is settled to, with the text's header; the warnings; and
+/// A description that a text of the field is settled to, with the text's header; the names of the
+/// signals that the text's diagnostic frames have, which aren't in the description; the warnings; and
 /// where the order of bytes matters and isn't that of LIN. In no order.
 #[derive(Drop)]
 pub struct Settled {
     pub header: Header,
     pub description: Description,
+    pub placed_elsewhere: Many<Name>,
     pub warnings: Vec<Finding>,
     pub byte_order: Vec<Finding>,
 }
@@ -158,6 +161,7 @@ fn with_tables(
 /// An error means out of memory.
 pub fn settle(alloc: Global, text: FieldText) -> Result<Settled, AllocError>
     ensures settled { IfOk result (λ s. s.description ≡ settled text.loose) }
+    ensures elsewhere { IfOk result (λ s. s.placed_elsewhere ≡ placed_elsewhere text.loose) }
     ensures warnings { IfOk result (λ s. s.warnings.items ≡ warnings text) }
     ensures order { IfOk result (λ s. s.byte_order.items ≡ byte_order text.loose) }
     ensures header { IfOk result (λ s. s.header ≡ text.loose.header) }
@@ -182,7 +186,7 @@ pub fn settle(alloc: Global, text: FieldText) -> Result<Settled, AllocError>
         addresses,
     };
     let (signals, attributes) = settle_nodes(alloc, &header, &nodes, of_nodes, &mut warnings)?;
-    let frames = settle_frames(alloc, header.is_old(), frames, &mut warnings)?;
+    let (frames, placed_elsewhere) = settle_frames(alloc, header.is_old(), frames, &mut warnings)?;
     let is_told = header.tells_tables();
     let events = settle_events(alloc, is_told, tables.as_slice(), events, &mut warnings)?;
     let tables = keep_tables(alloc, tables, &mut warnings)?;
@@ -203,6 +207,7 @@ pub fn settle(alloc: Global, text: FieldText) -> Result<Settled, AllocError>
     Ok(Settled {
         header,
         description,
+        placed_elsewhere,
         warnings,
         byte_order,
     })

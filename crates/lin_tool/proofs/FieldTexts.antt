@@ -57,14 +57,14 @@ unsettled x _ text left warned told is short h = absurd h
 -- what is answered to what a text is settled to, where nothing is wrong and its cluster is this one
 pub described_answer : (x : Extras) (s : Settled) (checked : Checked) (k : Sections) (words rs : List Remark) (r : Result Described Fault) (warned : List Remark)
     → IsChecked s checked → IsPermutation (checked.warnings ++ map (remark true) k.unknown) words
-    → IsPermutation (linted s.description k.configurables k.codings words) rs
+    → IsPermutation (linted s.description s.placed_elsewhere k.configurables k.codings words) rs
     → IfOk r (λ d. d.cluster ≡ checked.cluster) → IfOk r (λ d. d.coded ≡ coded_read x.encodings d.cluster k.codings)
     → IfOk r (λ d. AreWarnings x.encodings d.cluster k.codings rs warned) → IfErr r (λ fault. fault ≡ OutOfMemory) → AnswersChecked x s k r warned
 described_answer x s checked k words rs (Ok d) warned is joined are cluster coded warnings memory = record {
   free = is.free;
   said = cluster ∙ is.said;
   coded = coded;
-  warnings = reordered x.encodings d.cluster k.codings (linted s.description k.configurables k.codings (remarks s ++ map (remark true) k.unknown)) rs warned
+  warnings = reordered x.encodings d.cluster k.codings (linted s.description s.placed_elsewhere k.configurables k.codings (remarks s ++ map (remark true) k.unknown)) rs warned
       (remarked s k.configurables k.codings (map (remark true) k.unknown) checked.warnings words rs is.warnings joined are) warnings;
 }
 described_answer x s checked k words rs (Err fault) warned is joined are cluster coded warnings memory = subst (λ f. CheckFaults f s) (sym memory) tt

@@ -9,6 +9,7 @@ use Rattle.lin_cluster.specs.declared.finding.Finding.{Finding}
 use Rattle.lin_parts.specs.declared.parts.Parts.{Parts}
 use Rattle.lin_cluster.specs.declared.lints.configurable.Configurable.{Configurable}
 use Rattle.lin_parts.specs.declared.description.Description.{Description}
+use Rattle.lin_parts.specs.declared.description.Name.{Name}
 use Rattle.lin_field.specs.Checks.{remark, remark_cmp, remarks, AreRemarks}
 use Rattle.lin_field.specs.declared.checking.Remark.{Remark}
 use Rattle.lin_field.specs.declared.settling.Settled.{Settled}
@@ -26,28 +27,28 @@ joined rs all fs found are h = IsPermutation-trans (rs ++ map (remark true) fs) 
     (IsPermutation-append_right rs (map (remark true) fs) (map (remark true) found) (IsPermutation-map (remark true) fs found are)) h
 
 -- what is odd in a description does, and then the encodings that no signal has
-pub linted_all : (d : Description) (cs : List Configurable) (k : Option Codings) (rs odd all : List Remark) (found unused : List Finding)
-    → IsPermutation (lints d cs) found → IsPermutation (rs ++ map (remark true) found) odd
+pub linted_all : (d : Description) (e : List Name) (cs : List Configurable) (k : Option Codings) (rs odd all : List Remark) (found unused : List Finding)
+    → IsPermutation (lints d e cs) found → IsPermutation (rs ++ map (remark true) found) odd
     → IsPermutation (unused_told d k) unused → IsPermutation (odd ++ map (remark true) unused) all
-    → IsPermutation (linted d (Some cs) k rs) all
-linted_all d cs k rs odd all found unused are h those g =
-    let first : List Remark = map (remark true) (lints d cs) in
+    → IsPermutation (linted d e (Some cs) k rs) all
+linted_all d e cs k rs odd all found unused are h those g =
+    let first : List Remark = map (remark true) (lints d e cs) in
     let second : List Remark = map (remark true) (unused_told d k) in
-    let before : IsPermutation (rs ++ first) odd = joined rs odd (lints d cs) found are h in
+    let before : IsPermutation (rs ++ first) odd = joined rs odd (lints d e cs) found are h in
     let after : IsPermutation (odd ++ second) all = joined odd all (unused_told d k) unused those g in
     let both : IsPermutation ((rs ++ first) ++ second) all =
     IsPermutation-trans ((rs ++ first) ++ second) (odd ++ second) all (IsPermutation-append_left second (rs ++ first) odd before) after in
     subst (λ xs. IsPermutation xs all)
-    (append_assoc rs first second ∙ ap (λ xs. rs ++ xs) (sym (map-append (remark true) (lints d cs) (unused_told d k)))) both
+    (append_assoc rs first second ∙ ap (λ xs. rs ++ xs) (sym (map-append (remark true) (lints d e cs) (unused_told d k)))) both
 
-pub linted_answer : {E : Type 0} (d : Description) (cs read : List Configurable) (k : Option Codings) (rs odd : List Remark) (found told unused heard : List Finding)
-    (r : Result (List Remark) E) → read ≡ cs → IsPermutation (lints d read) found → told ≡ found → IsPermutation (rs ++ map (remark true) told) odd
+pub linted_answer : {E : Type 0} (d : Description) (e : List Name) (cs read : List Configurable) (k : Option Codings) (rs odd : List Remark) (found told unused heard : List Finding)
+    (r : Result (List Remark) E) → read ≡ cs → IsPermutation (lints d e read) found → told ≡ found → IsPermutation (rs ++ map (remark true) told) odd
     → IsPermutation (unused_told d k) unused → heard ≡ unused → IfOk r (λ all. IsPermutation (odd ++ map (remark true) heard) all)
-    → IfOk r (λ all. IsPermutation (linted d (Some cs) k rs) all)
-linted_answer d cs read k rs odd found told unused heard (Ok all) same are is h those also g =
-    linted_all d cs k rs odd all found unused (subst (λ c. IsPermutation (lints d c) found) same are)
+    → IfOk r (λ all. IsPermutation (linted d e (Some cs) k rs) all)
+linted_answer d e cs read k rs odd found told unused heard (Ok all) same are is h those also g =
+    linted_all d e cs k rs odd all found unused (subst (λ c. IsPermutation (lints d e c) found) same are)
     (subst (λ fs. IsPermutation (rs ++ map (remark true) fs) odd) is h) those (subst (λ fs. IsPermutation (odd ++ map (remark true) fs) all) also g)
-linted_answer d cs read k rs odd found told unused heard (Err e) same are is h those also g = tt
+linted_answer d e cs read k rs odd found told unused heard (Err failed) same are is h those also g = tt
 
 -- the encodings that no signal has are those that were found
 pub unused_found : {A E : Type 0} (f : A → List Finding) (d : Description) (k : Codings) (r : Result A E) → IfOk r (λ v. AreUnused d k (f v))
@@ -95,14 +96,14 @@ reordered e c k qs rs warned are h = record {
 }
 
 -- what is odd joins warnings in any order
-pub linted_behind : (d : Description) (cs : Option (List Configurable)) (k : Option Codings) (qs rs all : List Remark) → IsPermutation qs rs
-    → IsPermutation (linted d cs k rs) all → IsPermutation (linted d cs k qs) all
-linted_behind d cs k qs rs all are h = IsPermutation-trans (linted d cs k qs) (linted d cs k rs) all
-    (IsPermutation-append_left (map (remark true) (lints_told d cs k)) qs rs are) h
+pub linted_behind : (d : Description) (e : List Name) (cs : Option (List Configurable)) (k : Option Codings) (qs rs all : List Remark) → IsPermutation qs rs
+    → IsPermutation (linted d e cs k rs) all → IsPermutation (linted d e cs k qs) all
+linted_behind d e cs k qs rs all are h = IsPermutation-trans (linted d e cs k qs) (linted d e cs k rs) all
+    (IsPermutation-append_left (map (remark true) (lints_told d e cs k)) qs rs are) h
 
 -- and the remarks on what a text of the field is settled to, with further ones
 pub remarked : (s : Settled) (cs : Option (List Configurable)) (k : Option Codings) (us rs with_us all : List Remark) → AreRemarks s rs
-    → IsPermutation (rs ++ us) with_us → IsPermutation (linted s.description cs k with_us) all
-    → IsPermutation (linted s.description cs k (remarks s ++ us)) all
-remarked s cs k us rs with_us all are joined h = linted_behind s.description cs k (remarks s ++ us) with_us all
+    → IsPermutation (rs ++ us) with_us → IsPermutation (linted s.description s.placed_elsewhere cs k with_us) all
+    → IsPermutation (linted s.description s.placed_elsewhere cs k (remarks s ++ us)) all
+remarked s cs k us rs with_us all are joined h = linted_behind s.description s.placed_elsewhere cs k (remarks s ++ us) with_us all
     (IsPermutation-trans (remarks s ++ us) (rs ++ us) with_us (IsPermutation-append_left us (remarks s) rs are.all) joined) h

@@ -8,6 +8,7 @@ use Rattle.lin_ldf.specs.Symbols.{Symbol, symbols_in}
 use Rattle.lin_ldf.specs.Tokens.{AreTokens}
 use Rattle.lin_ldf.specs.declared.token.Token.{Token}
 use Rattle.lin_parts.specs.declared.description.Description.{Description}
+use Rattle.lin_parts.specs.declared.description.Name.{Name}
 use Rattle.lin_cluster.specs.Lint.{lints}
 use Rattle.lin_cluster.specs.declared.finding.Finding.{Finding}
 use Rattle.lin_cluster.specs.declared.lints.configurable.Configurable.{Configurable}
@@ -80,14 +81,16 @@ codings_told e c k = told_of e (option_map_or (warnings c) (codings_kept e k) []
 abbrev pub unused_told : Description → Option Codings → List Finding
 unused_told d k = option_map_or (unused_encodings d) k []
 
--- what is odd in a description and its encodings, where its text is linted
-abbrev pub lints_told : Description → Option (List Configurable) → Option Codings → List Finding
-lints_told d cs k = option_map_or (λ c. lints d c ++ unused_told d k) cs []
+-- what is odd in a description, with the signals that frames outside of it have, and in its encodings,
+-- where its text is linted
+abbrev pub lints_told : Description → List Name → Option (List Configurable) → Option Codings
+    → List Finding
+lints_told d e cs k = option_map_or (λ c. lints d e c ++ unused_told d k) cs []
 
 -- warnings with that
-abbrev pub linted : Description → Option (List Configurable) → Option Codings → List Remark
-    → List Remark
-linted d cs k rs = rs ++ map (remark true) (lints_told d cs k)
+abbrev pub linted : Description → List Name → Option (List Configurable) → Option Codings
+    → List Remark → List Remark
+linted d e cs k rs = rs ++ map (remark true) (lints_told d e cs k)
 
 -- these are warnings with what is wrong with encodings: by place, then by number
 pub record AreWarnings (e : Encodings) (c : Parts) (k : Option Codings) (rs warned : List Remark)
@@ -116,7 +119,7 @@ pub record IsCodedCluster (x : Extras) (text : List ℕ) (d : Described) (warned
   pub coded : d.coded ≡ coded_read x.encodings d.cluster sections.codings
   pub warnings
       : AreWarnings x.encodings d.cluster sections.codings
-      (linted cluster.description sections.configurables sections.codings
+      (linted cluster.description [] sections.configurables sections.codings
       (map (remark true) sections.unknown))
       warned
 

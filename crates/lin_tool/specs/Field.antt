@@ -12,7 +12,7 @@ use Rattle.lin_field.specs.Describes.{Reads}
 use Rattle.lin_field.specs.Marks.{blanked, extra_in, mended}
 use Rattle.lin_field.specs.Order.{byte_order}
 use Rattle.lin_field.specs.Plain.{plain_data, plain_text}
-use Rattle.lin_field.specs.Settled.{settled, warnings}
+use Rattle.lin_field.specs.Settled.{placed_elsewhere, settled, warnings}
 use Rattle.lin_field.specs.declared.checking.Checked.{Checked}
 use Rattle.lin_field.specs.declared.checking.FieldFault.TheVariants as check
 use Rattle.lin_field.specs.declared.checking.Remark.{Remark}
@@ -38,6 +38,7 @@ pub record IsSettled (text : List ℕ) (s : Settled) : Type 0 where
   pub read : FieldText
   pub reads : Reads text read
   pub description : s.description ≡ settled read.loose
+  pub elsewhere : s.placed_elsewhere ≡ placed_elsewhere read.loose
   pub warnings : s.warnings.items ≡ warnings read
   pub order : s.byte_order.items ≡ byte_order read.loose
 
@@ -79,7 +80,7 @@ pub record IsFieldCluster (x : Extras) (s : Settled) (k : Sections) (d : Describ
   pub coded : d.coded ≡ coded_read x.encodings d.cluster k.codings
   pub warnings
       : AreWarnings x.encodings d.cluster k.codings
-      (linted s.description k.configurables k.codings
+      (linted s.description s.placed_elsewhere k.configurables k.codings
       (remarks s ++ map (remark true) k.unknown))
       warned
 

@@ -17,7 +17,7 @@ use crate::notes::Notes;
 use lin_cluster::{Configurable, Finding, lint};
 use lin_field::{Checked, Remark};
 use lin_parts::Cluster;
-use lin_parts::description::Description;
+use lin_parts::description::{Description, Name};
 use lin_text::Many;
 use lin_values::{
     Coded, Codings, coded_by, read_codings, read_configurables, unknown_words, unused_encodings,
@@ -187,26 +187,33 @@ fn unused_of(
 }
 
 /// Warnings with what is odd in a description and its encodings, where its text is linted, by place
-/// and then by number.
+/// and then by number. `placed_elsewhere` are signals that frames outside the description have.
 ///
 /// An error means out of memory.
 pub(crate) fn with_lints(
     alloc: Global,
     warnings: Many<Remark>,
     description: &Description,
+    placed_elsewhere: &[Name],
     configurables: Option<Many<Configurable>>,
     codings: Option<&Codings>,
 ) -> Result<Many<Remark>, AllocError>
     requires { IsSorted remark_cmp warnings }
     ensures all { IfOk result (λ all. IsPermutation
-        (linted description.now configurables (option_map (λ k. k.now) codings.entry) warnings)
+        (linted description.now placed_elsewhere.now configurables
+        (option_map (λ k. k.now) codings.entry) warnings)
         all) }
     ensures ordered { IfOk result (λ all. IsSorted remark_cmp all) }
 {
     let Some(configurables) = configurables else {
         return Ok(warnings);
     };
-    let found = lint(alloc, description, configurables.as_slice())?;
+    let found = lint(
+        alloc,
+        description,
+        placed_elsewhere,
+        configurables.as_slice(),
+    )?;
     let odd = with_findings(warnings, found.as_slice())?;
     let unused = unused_of(alloc, description, codings)?;
     with_findings(odd, unused.as_slice())

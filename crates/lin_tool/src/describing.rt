@@ -159,7 +159,14 @@ fn check_parsed(
     } = sections;
     let none = Many::new(Vec::new(alloc));
     let words = with_findings(none, unknown.as_slice())?;
-    let warnings = with_lints(alloc, words, &description, configurables, codings.as_ref())?;
+    let warnings = with_lints(
+        alloc,
+        words,
+        &description,
+        &[],
+        configurables,
+        codings.as_ref(),
+    )?;
     let cluster = said_by(alloc, description)?;
     let checked = Checked { cluster, warnings };
     coded_noted(alloc, checked, codings, extras.encodings, text, notes)

@@ -126,6 +126,7 @@ fn cluster_noted(
                 alloc,
                 words,
                 &settled.description,
+                settled.placed_elsewhere.as_slice(),
                 configurables,
                 codings.as_ref(),
             )?;

@@ -40,6 +40,7 @@ pub(crate) fn described(
                     let Settled {
                         header: _header,
                         description,
+                        placed_elsewhere: _placed_elsewhere,
                         warnings: _warnings,
                         byte_order: _byte_order,
                     } = settle(alloc, read)?;

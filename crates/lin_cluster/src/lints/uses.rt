@@ -5,7 +5,7 @@ ghost use Rattle.std.specs.List.{list_any};
 ghost use Rattle.std.specs.Option.{option_copied};
 ghost use Rattle.lin_cluster.specs.FindingsNames.{signal_named, table_named};
 ghost use Rattle.lin_cluster.specs.Lint.{is_off};
-ghost use Rattle.lin_cluster.specs.LintNames.{has_dot, has_text, is_placed, is_listed, is_of_text};
+ghost use Rattle.lin_cluster.specs.LintNames.{has_dot, has_text, is_listed, is_of_text};
 ghost use Rattle.lin_cluster.specs.LintNames.{is_scheduled, is_addressed, is_diagnostic_entry};
 ghost use Rattle.lin_cluster.specs.LintNames.{has_diagnostics, is_frame, AreUses};
 
@@ -162,14 +162,6 @@ fn declared<'a>(alloc: Global, description: &'a Description) -> Result<NameSet<'
     Ok(names)
 }
 
-fn placed<'a>(alloc: Global, description: &'a Description) -> Result<NameSet<'a>, AllocError>
-    ensures { IfOk result (λ s. (q : List ℕ) → has_text s.names q ≡ is_placed description.now q) }
-{
-    let mut names = no_names(alloc, description.signals().len())?;
-    add_each(&mut names, &Standing, description.frames())?;
-    Ok(names)
-}
-
 fn listed<'a>(alloc: Global, description: &'a Description) -> Result<NameSet<'a>, AllocError>
     ensures { IfOk result (λ s. (q : List ℕ) → has_text s.names q ≡ is_listed description.now q) }
 {
@@ -220,7 +212,6 @@ fn has_diagnostics(description: &Description) -> bool
 pub(super) struct Uses<'a> {
     pub(super) alloc: Global,
     pub(super) description: &'a Description,
-    placed: NameSet<'a>,
     listed: NameSet<'a>,
     scheduled: NameSet<'a>,
     addressed: NameSet<'a>,
@@ -238,9 +229,8 @@ impl<'a> Model for Uses<'a> {
 
     ghost view = { λ u. u.description.now };
 
-    ghost invariant = { λ u. AreUses u.description.now u.placed.names u.listed.names
-        u.scheduled.names u.addressed.names u.signals.map u.frames.names u.tables.map
-        u.has_diagnostics };
+    ghost invariant = { λ u. AreUses u.description.now u.listed.names u.scheduled.names
+        u.addressed.names u.signals.map u.frames.names u.tables.map u.has_diagnostics };
 }
 
 // Written out, so that what owns one lets it go in one step.
@@ -249,7 +239,6 @@ impl<'a> Drop for Uses<'a> {
         let Uses {
             alloc: _,
             description: _,
-            placed: _placed,
             listed: _listed,
             scheduled: _scheduled,
             addressed: _addressed,
@@ -266,7 +255,6 @@ impl<'a> Uses<'a> {
     pub(super) fn new(alloc: Global, description: &'a Description) -> Result<Uses<'a>, AllocError>
         ensures { IfOk result (λ u. u ≡ description.now) }
     {
-        let placed = placed(alloc, description)?;
         let listed = listed(alloc, description)?;
         let scheduled = scheduled(alloc, description)?;
         let addressed = addressed(alloc, description)?;
@@ -277,7 +265,6 @@ impl<'a> Uses<'a> {
         Ok(Uses {
             alloc,
             description,
-            placed,
             listed,
             scheduled,
             addressed,
@@ -286,13 +273,6 @@ impl<'a> Uses<'a> {
             tables,
             has_diagnostics,
         })
-    }
-
-    /// Whether a frame has the signal.
-    pub(super) fn is_placed(&self, name: &Name) -> bool
-        ensures { result ≡ is_placed self.now name.now.text }
-    {
-        self.placed.has(name)
     }
 
     /// Whether a sporadic or an event-triggered frame lists the frame.

@@ -1,4 +1,4 @@
-//! What is warned of each declaration.
+//! Warnings of each declaration other than signals.
 
 ghost use Rattle.std.specs.Prelude.{◌≡◌, ◌++◌, OnOk, false};
 ghost use Rattle.std.specs.Option.{option_map_or};
@@ -10,56 +10,10 @@ use super::configurable::{Configurable, bad_configurables};
 use super::resolving::{of_entries, unresolved_members};
 use super::uses::{Uses, is_of_text};
 use crate::finding::{Finding, FindingKind};
-use crate::findings::{Finds, at_name, each, push_when};
+use crate::findings::{Finds, at_name, push_when};
 use crate::names::is_name;
-use lin_parts::description::{Attributes, EventFrame, Frame, Name, Signal, Sporadic, Table};
+use lin_parts::description::{Attributes, EventFrame, Frame, Name, Sporadic, Table};
 use std::alloc::AllocError;
-
-/// The publisher of a signal, which needs not subscribe it.
-#[derive(Clone, Copy)]
-struct Publisher<'a> {
-    name: &'a Name,
-}
-
-// Own subscriber (55).
-impl<'a> Finds<Name> for Publisher<'a> {
-    ghost use Rattle.lin_cluster.specs.Lint.{own_subscriber};
-
-    ghost finds = { λ p n. own_subscriber p.name.now n };
-
-    fn find(&self, found: &mut Vec<Finding>, name: &Name) -> Result<(), AllocError> {
-        push_when(
-            found,
-            is_name(name, self.name),
-            at_name(FindingKind::OwnSubscriber, name),
-        )
-    }
-}
-
-// Unplaced signal (51), no subscriber (54) and own subscriber (55).
-impl<'a> Finds<Signal> for Uses<'a> {
-    ghost use Rattle.lin_cluster.specs.Lint.{of_signal};
-
-    ghost finds = { of_signal };
-
-    fn find(&self, found: &mut Vec<Finding>, signal: &Signal) -> Result<(), AllocError> {
-        let subscribers = signal.subscribers.as_slice();
-        let publisher = Publisher {
-            name: &signal.publisher,
-        };
-        push_when(
-            found,
-            !self.is_placed(&signal.name),
-            at_name(FindingKind::UnplacedSignal, &signal.name),
-        )?;
-        push_when(
-            found,
-            subscribers.is_empty(),
-            at_name(FindingKind::NoSubscriber, &signal.name),
-        )?;
-        each(found, &publisher, subscribers)
-    }
-}
 
 // Unused frame (52).
 impl<'a> Finds<Frame> for Uses<'a> {

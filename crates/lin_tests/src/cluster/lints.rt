@@ -5,7 +5,8 @@ use crate::samples::{
     BODY_CLUSTER, HEADER, KEYS_CLUSTER, add_number, add_place, expect_text, joined,
 };
 use lin_cluster::{Finding, check, lint};
-use lin_ldf::parse;
+use lin_ldf::{Name, parse};
+use lin_text::Text;
 use lin_values::{read_codings, read_configurables, unused_encodings};
 use std::alloc::Global;
 use std::process::Abort;
@@ -25,7 +26,7 @@ fn listed(alloc: Global, warnings: &[Finding]) -> Result<Vec<u8>, Fail> {
 
 fn warned(alloc: Global, text: &[u8]) -> Result<Vec<u8>, Fail> {
     let configurables = read_configurables(alloc, text)?;
-    let warnings = lint(alloc, &parse(alloc, text)?, configurables.as_slice())?;
+    let warnings = lint(alloc, &parse(alloc, text)?, &[], configurables.as_slice())?;
     listed(alloc, warnings.as_slice())
 }
 
@@ -67,6 +68,27 @@ fn each_warning_once(rt: HostRuntime) -> Result<(), Fail> {
     let text = joined(rt.alloc(), &[HEADER, EACH])?;
     let want = " 5:45 57 7:1 51 9:1 54 10:16 55 17:1 52 20:1 53 23:42 58 23:99 59 27:38 56";
     expect_warnings(&rt, rt.alloc(), &text, want)
+}
+
+#[test]
+fn a_signal_of_a_frame_outside_the_description(rt: HostRuntime) -> Result<(), Fail> {
+    let alloc = rt.alloc();
+    let text = joined(alloc, &[HEADER, EACH])?;
+    let mut elsewhere = Vec::new(alloc);
+    elsewhere.push(Name {
+        text: Text::copied(alloc, b"spare".as_slice())?,
+        line: 10,
+        column: 30,
+    })?;
+    let warnings = lint(alloc, &parse(alloc, &text)?, elsewhere.as_slice(), &[])?;
+    let want = " 5:45 57 9:1 54 10:16 55 17:1 52 20:1 53 23:42 58 27:38 56";
+    expect_text(
+        &rt,
+        &listed(alloc, warnings.as_slice())?,
+        want.as_bytes(),
+        want,
+    );
+    Ok(())
 }
 
 #[test]
