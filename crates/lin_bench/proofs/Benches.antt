@@ -27,9 +27,9 @@ steps-grown a b ss (Ok x) made = grown-made a b ss made
 steps-grown a b ss (Err fault) fails = fails.1
 
 -- there is no room for slots
-judged-past : (c : Parts) (b : BenchState) (what : Option Expected) → (judged c b what).0.past ≡ b.past
-judged-past c b None = refl
-judged-past c b (Some what) = refl
+judged-past : (c : Parts) (o : ℕ) (b : BenchState) (what : Option Expected) → (judged c o b what).0.past ≡ b.past
+judged-past c o b None = refl
+judged-past c o b (Some what) = refl
 
 no-room-within : (b : BenchData) (how : Disturbance) (extent : Extent) (ends : Course → Bool) (what : Option Expected) (t : Bool)
     → nat_lt b.left (slots_in (extent_on (ruled_of b) how extent ends)) ≡ t → SlotsFail LogFull (ruled_of b) how extent ends b.left
@@ -40,7 +40,7 @@ no-room-within b how extent ends what true h full =
 no-room-within b how extent ends what false h full =
     let few = ltb-false b.left (slots_in (extent_on (ruled_of b) how extent ends)) h in
     let all = extent_on (ruled_of b) how extent ends in
-    rw h (rw (judged-past b.core.cluster (stepped b.core.cluster b.core.opening b.core.capacity (state_of b) (slots_in all) all) what) (full.0 few))
+    rw h (rw (judged-past b.core.cluster b.core.opening (stepped b.core.cluster b.core.opening b.core.capacity (state_of b) (slots_in all) all) what) (full.0 few))
 
 pub slots-fail : (fault : MakeFault) (b : BenchData) (how : Disturbance) (extent : Extent) (ends : Course → Bool) (what : Option Expected)
     → SlotsFail fault (ruled_of b) how extent ends b.left → Fails fault (made_slots b how extent ends what).0
@@ -62,7 +62,7 @@ slots-judged b mid new how extent ends what (Ok verdict) made count taken (is, s
     let few : nat_lt b.left (slots_in all) ≡ false = le-ltb _ _ (omega (arith, count)) in
     let left : mid.left ≡ b.left - slots_in all = omega (arith, count) in
     let state = made-state b mid (slots_in all) all made taken left in (
-      is ∙ ap (λ (s : BenchState). judged mid.core.cluster s what) state ∙ rw (made.alike.0, few) refl,
+      is ∙ ap (λ (s : BenchState). judged mid.core.cluster mid.core.opening s what) state ∙ rw (made.alike.0, made.alike.1, few) refl,
       (ap (λ (k : CoreData). k.cluster) same ∙ made.alike.0, ap (λ (k : CoreData). k.opening) same ∙ made.alike.1, ap (λ (k : CoreData). k.capacity) same ∙ made.alike.2),
     )
 slots-judged b mid new how extent ends what (Err LogFull) made count taken none = absurd none

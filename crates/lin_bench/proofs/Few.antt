@@ -180,9 +180,9 @@ record IsFew (b : BenchState) (most : ℕ) : Type 0 where
   rules : b.rules ≡ no_rules
   few : still_to_come b ≤ most
 
-judged-few : (c : Parts) (b : BenchState) (what : Option Expected) (n : ℕ) → IsFew b n → IsFew (judged c b what).0 n
-judged-few c b None n h = record { rules = h.rules; few = h.few }
-judged-few c b (Some what) n h = record { rules = h.rules; few = h.few }
+judged-few : (c : Parts) (o : ℕ) (b : BenchState) (what : Option Expected) (n : ℕ) → IsFew b n → IsFew (judged c o b what).0 n
+judged-few c o b None n h = record { rules = h.rules; few = h.few }
+judged-few c o b (Some what) n h = record { rules = h.rules; few = h.few }
 
 stepped-few : (c : Parts) (o cap : ℕ) (b : BenchState) (count : ℕ) (steps : List (PortId × Step)) → b.rules ≡ no_rules → count ≤ b.left
     → length steps ≤ most_steps * count + 1 → IsFew (stepped c o cap b count steps) (still_to_come b + 1)
@@ -199,7 +199,7 @@ within-few c o cap b count steps first what true none h all some =
     rw h (stepped-few c o cap b b.left first none (omega arith) some)
 within-few c o cap b count steps first what false none h all some =
     let few : count ≤ b.left = ltb-false b.left count h in
-    rw h (judged-few c (stepped c o cap b count steps) what (still_to_come b + 1) (stepped-few c o cap b count steps none few all))
+    rw h (judged-few c o (stepped c o cap b count steps) what (still_to_come b + 1) (stepped-few c o cap b count steps none few all))
 
 steps-few : (c : Parts) (o cap : ℕ) (b : BenchState) (l : Line) → nodes c ≤ 16 → b.rules ≡ no_rules
     → IsFew (made_within c o cap b (slots_made l (said c o cap most b l)) (said c o cap most b l) (said c o cap (λ e. b.left) b l) (expects l)).0 (still_to_come b + 1)

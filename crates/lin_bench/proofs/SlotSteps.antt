@@ -170,11 +170,12 @@ same-goes a now ss extent ends t b p e h =
 
 -- and with what is taken at the line's beginning
 pub same-ends : (a now : RuledData) (ss : List (PortId × Step)) (js ks : List EventKind) (what : Option Expected) (extent : Extent) (t : ℕ) (b : Bool)
-    → IsMade a ss now → js ≡ ks → b ≡ one_more now.core.cluster extent (ends_at now.core.cluster js what) t (course_on now)
-    → one_more now.core.cluster extent (ends_at a.core.cluster ks what) t (course_on now) ≡ b
+    → IsMade a ss now → js ≡ ks → b ≡ one_more now.core.cluster extent (ends_at now.core.cluster now.core.opening js what) t (course_on now)
+    → one_more now.core.cluster extent (ends_at a.core.cluster a.core.opening ks what) t (course_on now) ≡ b
 same-ends a now ss js ks what extent t b p same h =
-    ap (λ c. one_more now.core.cluster extent (ends_at c ks what) t (course_on now)) (sym p.alike.0)
-    ∙ ap (λ l. one_more now.core.cluster extent (ends_at now.core.cluster l what) t (course_on now)) (sym same) ∙ sym h
+    ap (λ c. one_more now.core.cluster extent (ends_at c a.core.opening ks what) t (course_on now)) (sym p.alike.0)
+    ∙ ap (λ o. one_more now.core.cluster extent (ends_at now.core.cluster o ks what) t (course_on now)) (sym p.alike.1)
+    ∙ ap (λ l. one_more now.core.cluster extent (ends_at now.core.cluster now.core.opening l what) t (course_on now)) (sym same) ∙ sym h
 
 -- what a slot of a core says by the core that the line began on
 same-slot : (a now : RuledData) (how : Disturbance) (ss : List (PortId × Step)) → IsMade a ss now

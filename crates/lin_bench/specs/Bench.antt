@@ -72,7 +72,8 @@ made_slots b how extent ends what =
 abbrev pub made_until : BenchData → Disturbance → Extent → Bool → Option Expected
     → BenchState × Verdict
 made_until b how extent is_awaited what =
-    made_slots b how extent (ends_at b.core.cluster b.taken (awaited is_awaited what)) what
+    made_slots b how extent
+    (ends_at b.core.cluster b.core.opening b.taken (awaited is_awaited what)) what
 
 -- the log would have more entries than it takes
 abbrev pub Fails : MakeFault → BenchState → Type 0
@@ -90,6 +91,7 @@ MakesLine old line result new = Makes (made_on old line) old result new
 -- what judging answers
 abbrev pub Judges : BenchData → Option Expected → Result Verdict MakeFault → BenchData → Type 0
 Judges old what (Ok verdict) new =
-    ((state_of new, verdict) ≡ judged old.core.cluster (state_of old) what) × (new.core ≡ old.core)
+    ((state_of new, verdict) ≡ judged old.core.cluster old.core.opening (state_of old) what)
+    × (new.core ≡ old.core)
 Judges old what (Err LogFull) new = ⊥
 Judges old what (Err OutOfMemory) new = new.core ≡ old.core

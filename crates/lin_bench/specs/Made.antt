@@ -37,10 +37,10 @@ course_of b = record { past = b.past; rules = b.rules }
 
 -- what is waited for comes: where it speaks of messages or of what became of them, there is one that
 -- isn't taken, right or wrong; and otherwise it is so
-abbrev pub comes : Parts → List EventKind → Expected → Course → Bool
-comes c taken what at =
+abbrev pub comes : Parts → ℕ → List EventKind → Expected → Course → Bool
+comes c opening taken what at =
     option_map_or (λ kind. is_some (next_event at.past taken kind))
-    (kind_taken what) (is_none (verdict c at.past at.rules.noted taken what))
+    (kind_taken what) (is_none (verdict c opening at.past at.rules.noted taken what))
 
 abbrev pub never : Course → Bool
 never at = false
@@ -54,7 +54,7 @@ said c opening capacity limit b (line.Slot how) =
 said c opening capacity limit b (line.Slots extent) =
     extent_steps c opening capacity Undisturbed extent never (limit extent) (course_of b)
 said c opening capacity limit b (line.Until extent what) =
-    extent_steps c opening capacity Undisturbed extent (comes c b.taken what) (limit extent)
+    extent_steps c opening capacity Undisturbed extent (comes c opening b.taken what) (limit extent)
     (course_of b)
 said c opening capacity limit b (line.Expect what) = []
 said c opening capacity limit b line.Forget = []
@@ -82,11 +82,11 @@ met_or what None = Met what
 met_or what (Some got) = Unmet what got
 
 -- a bench on which a line's steps were made, and its verdict on what the line expects
-abbrev pub judged : Parts → BenchState → Option Expected → BenchState × Verdict
-judged c b None = (b, Nothing)
-judged c b (Some what) = (
+abbrev pub judged : Parts → ℕ → BenchState → Option Expected → BenchState × Verdict
+judged c opening b None = (b, Nothing)
+judged c opening b (Some what) = (
   record b { taken = taking b.past b.taken (kind_taken what) },
-  met_or what (verdict c b.past b.rules.noted b.taken what),
+  met_or what (verdict c opening b.past b.rules.noted b.taken what),
 )
 
 -- a bench after these steps and those that the rules add, by which so many slots were made
@@ -101,7 +101,7 @@ abbrev pub made_within : Parts → ℕ → ℕ → BenchState → ℕ → List (
     → List (PortId × Step) → Option Expected → BenchState × Verdict
 made_within c opening capacity b count steps first what =
     if nat_lt b.left count then (stepped c opening capacity b b.left first, SlotLimit)
-    else judged c (stepped c opening capacity b count steps) what
+    else judged c opening (stepped c opening capacity b count steps) what
 
 -- a bench of which all events so far are taken
 abbrev pub forgotten : BenchState → BenchState

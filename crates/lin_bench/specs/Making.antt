@@ -55,9 +55,9 @@ MakesSteps old steps (Ok x) new = IsMade old steps new
 MakesSteps old steps (Err fault) new = StepsFail fault old steps × IsGrown old.core new.core
 
 -- how slots end where they are made until what is expected comes, with what is taken
-abbrev pub ends_at : Parts → List EventKind → Option Expected → Course → Bool
-ends_at c taken None = never
-ends_at c taken (Some what) = comes c taken what
+abbrev pub ends_at : Parts → ℕ → List EventKind → Option Expected → Course → Bool
+ends_at c opening taken None = never
+ends_at c opening taken (Some what) = comes c opening taken what
 
 -- the steps of at most n slots of a line on a core, without those that the rules add
 abbrev pub first_on : RuledData → Disturbance → Extent → (Course → Bool) → ℕ

@@ -277,34 +277,34 @@ refused_verdict why (Some (Refused r)) =
 abbrev pub idle_verdict : List Pending → Option Got
 idle_verdict all = unless (length all == 0) (got.StillPending all)
 
--- given also the answers that are noted
-unfoldable pub verdict : Parts → List LogEntry → List Noted → List EventKind → Expected
+-- given also the table that the schedule opened with, and the answers that are noted
+unfoldable pub verdict : Parts → ℕ → List LogEntry → List Noted → List EventKind → Expected
     → Option Got
-verdict c past noted taken (expected.Signal node signal value) =
+verdict c opening past noted taken (expected.Signal node signal value) =
     value_verdict (λ v. same_value v value) (value_seen c past node signal)
-verdict c past noted taken (expected.SignalMeans node signal text values) =
+verdict c opening past noted taken (expected.SignalMeans node signal text values) =
     value_verdict (is_among values) (value_seen c past node signal)
-verdict c past noted taken (expected.SignalWithin node signal low high) =
+verdict c opening past noted taken (expected.SignalWithin node signal low high) =
     value_verdict (is_within low high) (value_seen c past node signal)
-verdict c past noted taken (expected.Waiting host count) = waiting_verdict c past host count
-verdict c past noted taken (expected.Message from to bytes) =
+verdict c opening past noted taken (expected.Waiting host count) = waiting_verdict c past host count
+verdict c opening past noted taken (expected.Message from to bytes) =
     message_verdict bytes (next_event past taken (Messages from to))
-verdict c past noted taken (expected.MessageWithin from to bytes most) =
+verdict c opening past noted taken (expected.MessageWithin from to bytes most) =
     within_verdict most (time_taken c past taken from to)
     (message_verdict bytes (next_event past taken (Messages from to)))
-verdict c past noted taken (expected.NoMessage from to) =
+verdict c opening past noted taken (expected.NoMessage from to) =
     no_message_verdict (next_event past taken (Messages from to))
-verdict c past noted taken (expected.NoLost host) =
+verdict c opening past noted taken (expected.NoLost host) =
     no_lost_verdict (first_loss past taken host)
-verdict c past noted taken (expected.Sent host) = sent_verdict (next_event past taken (Fates host))
-verdict c past noted taken (expected.Lost host cause) =
+verdict c opening past noted taken (expected.Sent host) = sent_verdict (next_event past taken (Fates host))
+verdict c opening past noted taken (expected.Lost host cause) =
     lost_verdict cause (next_event past taken (Fates host))
-verdict c past noted taken (expected.Seen how) = seen_verdict how (last_event past Ends)
-verdict c past noted taken (expected.Frame frame bytes) =
+verdict c opening past noted taken (expected.Seen how) = seen_verdict how (last_event past Ends)
+verdict c opening past noted taken (expected.Frame frame bytes) =
     frame_verdict frame bytes (last_carried c past) (last_event past Ends)
-verdict c past noted taken (expected.Slot table entry) = slot_verdict table entry (last_event past Begins)
-verdict c past noted taken expected.Done = done_verdict (newest_reply past)
-verdict c past noted taken (expected.Refused why) = refused_verdict why (newest_reply past)
-verdict c past noted taken expected.Asleep = unless (asleep past) got.Awake
-verdict c past noted taken expected.Awake = if asleep past then Some got.Asleep else None
-verdict c past noted taken expected.Idle = idle_verdict (pending c past noted)
+verdict c opening past noted taken (expected.Slot table entry) = slot_verdict table entry (last_event past Begins)
+verdict c opening past noted taken expected.Done = done_verdict (newest_reply past)
+verdict c opening past noted taken (expected.Refused why) = refused_verdict why (newest_reply past)
+verdict c opening past noted taken expected.Asleep = unless (asleep past) got.Awake
+verdict c opening past noted taken expected.Awake = if asleep past then Some got.Asleep else None
+verdict c opening past noted taken expected.Idle = idle_verdict (pending c past noted)

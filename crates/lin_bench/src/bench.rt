@@ -50,8 +50,8 @@ fn judge(
 ) -> Result<Verdict, AllocError>
     requires { IsKnown ruled.now.core.log taken.old }
     ensures verdict { IfOk result (λ v. v ≡ met_or expected
-        (verdict ruled.now.core.cluster (past_of ruled.now.core) ruled.now.rules.noted
-        (taken_by ruled.now.core.log taken.old) expected)) }
+        (verdict ruled.now.core.cluster ruled.now.core.opening (past_of ruled.now.core)
+        ruled.now.rules.noted (taken_by ruled.now.core.log taken.old) expected)) }
     ensures taken { OnOk result (taken_by ruled.now.core.log taken.new ≡ taking
         (past_of ruled.now.core) (taken_by ruled.now.core.log taken.old) (kind_taken expected)) }
     ensures known { IsKnown ruled.now.core.log taken.new }

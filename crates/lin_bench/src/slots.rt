@@ -212,7 +212,7 @@ fn is_going(
 ) -> Result<bool, AllocError>
     requires { IsKnown ruled.now.core.log taken.old }
     ensures going { IfOk result (λ is. is ≡ one_more ruled.now.core.cluster extent
-        (ends_at ruled.now.core.cluster (taken_by ruled.now.core.log taken.old)
+        (ends_at ruled.now.core.cluster ruled.now.core.opening (taken_by ruled.now.core.log taken.old)
         (option_map (λ e. e.now) until.entry)) began (course_on ruled.now)) }
     ensures taken { OnOk result
         (taken_by ruled.now.core.log taken.new ≡ taken_by ruled.now.core.log taken.old) }
@@ -241,7 +241,7 @@ pub(crate) fn slots(
 ) -> Result<Option<u32>, MakeFault>
     requires { IsKnown ruled.old.core.log taken.old }
     ensures made { MakesSlots ruled.old how.now extent
-        (ends_at ruled.old.core.cluster (taken_by ruled.old.core.log taken.old)
+        (ends_at ruled.old.core.cluster ruled.old.core.opening (taken_by ruled.old.core.log taken.old)
         (option_map (λ e. e.now) until.entry)) left result ruled.new }
     ensures taken { OnOk result
         (taken_by ruled.new.core.log taken.new ≡ taken_by ruled.old.core.log taken.old) }

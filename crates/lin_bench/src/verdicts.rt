@@ -451,7 +451,7 @@ pub(crate) fn comes(
     expected: &Expected,
 ) -> Result<bool, AllocError>
     requires { IsKnown ruled.now.core.log taken.old }
-    ensures comes { IfOk result (λ is. is ≡ comes ruled.now.core.cluster
+    ensures comes { IfOk result (λ is. is ≡ comes ruled.now.core.cluster ruled.now.core.opening
         (taken_by ruled.now.core.log taken.old) expected.now (course_on ruled.now)) }
     ensures taken { OnOk result
         (taken_by ruled.now.core.log taken.new ≡ taken_by ruled.now.core.log taken.old) }
@@ -474,8 +474,8 @@ pub(crate) fn verdict(
 ) -> Result<Option<Got>, AllocError>
     requires { IsKnown ruled.now.core.log taken.old }
     ensures verdict { IfOk result
-        (λ v. v ≡ verdict ruled.now.core.cluster (past_of ruled.now.core) ruled.now.rules.noted
-        (taken_by ruled.now.core.log taken.old) expected.now) }
+        (λ v. v ≡ verdict ruled.now.core.cluster ruled.now.core.opening (past_of ruled.now.core)
+        ruled.now.rules.noted (taken_by ruled.now.core.log taken.old) expected.now) }
     ensures taken { OnOk result (taken_by ruled.now.core.log taken.new
         ≡ taking (past_of ruled.now.core) (taken_by ruled.now.core.log taken.old) (kind_taken expected.now)) }
     ensures known { IsKnown ruled.now.core.log taken.new }

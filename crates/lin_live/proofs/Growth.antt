@@ -52,16 +52,16 @@ kept-after c opening capacity P keeps at (s ∷ ss) h =
     kept-after c opening capacity P keeps (with_entry c opening capacity at e) ss
     (kept-past c opening capacity P keeps (e ∷ at.past) (added c e at.past at.rules) (keeps at.past s h))
 
-kept-judged : (c : Parts) (P : List LogEntry → Type 0) (b : BenchState) (what : Option Expected) → P b.past → P (judged c b what).0.past
-kept-judged c P b None h = h
-kept-judged c P b (Some what) h = h
+kept-judged : (c : Parts) (opening : ℕ) (P : List LogEntry → Type 0) (b : BenchState) (what : Option Expected) → P b.past → P (judged c opening b what).0.past
+kept-judged c opening P b None h = h
+kept-judged c opening P b (Some what) h = h
 
 kept-within : (c : Parts) (opening capacity : ℕ) (P : List LogEntry → Type 0) → Keeps c opening capacity P → (b : BenchState) (count : ℕ) (steps first : List (PortId × Step)) (what : Option Expected)
     → P b.past → P (made_within c opening capacity b count steps first what).0.past
 kept-within c opening capacity P keeps b count steps first what h =
-    elim (nat_lt b.left count) as (λ t. P (if t then (stepped c opening capacity b b.left first, SlotLimit) else judged c (stepped c opening capacity b count steps) what).0.past) [
+    elim (nat_lt b.left count) as (λ t. P (if t then (stepped c opening capacity b b.left first, SlotLimit) else judged c opening (stepped c opening capacity b count steps) what).0.past) [
       | true ↦ kept-after c opening capacity P keeps (course_of b) first h
-      | false ↦ kept-judged c P (stepped c opening capacity b count steps) what (kept-after c opening capacity P keeps (course_of b) steps h)
+      | false ↦ kept-judged c opening P (stepped c opening capacity b count steps) what (kept-after c opening capacity P keeps (course_of b) steps h)
     ]
 
 kept-line : (c : Parts) (opening capacity : ℕ) (P : List LogEntry → Type 0) → Keeps c opening capacity P → (b : BenchState) (l : Line) → P b.past

@@ -38,10 +38,10 @@ alike-by true s a b x y h g k = absurd (cc)
 alike-by false true a b x y h g k = let e = g refl in absurd (cc)
 alike-by false false a b x y h g k = k
 
-alike-judged : (c : Parts) (b d : BenchState) (what : Option Expected) → d.past ≡ b.past → d.rules ≡ b.rules → d.taken ≡ b.taken
-    → Alike (judged c b what) (judged c d what)
-alike-judged c b d None e f g = (e, f, g, refl)
-alike-judged c b d (Some what) e f g = (e, f, rw (e, g) refl, rw (e, f, g) refl)
+alike-judged : (c : Parts) (opening : ℕ) (b d : BenchState) (what : Option Expected) → d.past ≡ b.past → d.rules ≡ b.rules → d.taken ≡ b.taken
+    → Alike (judged c opening b what) (judged c opening d what)
+alike-judged c opening b d None e f g = (e, f, g, refl)
+alike-judged c opening b d (Some what) e f g = (e, f, rw (e, g) refl, rw (e, f, g) refl)
 
 alike-within : (c : Parts) (opening capacity : ℕ) (b : BenchState) (more count : ℕ) (steps few many : List (PortId × Step)) (what : Option Expected)
     → b.left ≤ more → is_limit (made_within c opening capacity b count steps few what).1 ≡ false
@@ -49,9 +49,9 @@ alike-within : (c : Parts) (opening capacity : ℕ) (b : BenchState) (more count
 alike-within c opening capacity b more count steps few many what le h =
     let d = record b { left = more } in
     alike-by (nat_lt b.left count) (nat_lt more count) (stepped c opening capacity b b.left few) (stepped c opening capacity d more many)
-    (judged c (stepped c opening capacity b count steps) what) (judged c (stepped c opening capacity d count steps) what) h
+    (judged c opening (stepped c opening capacity b count steps) what) (judged c opening (stepped c opening capacity d count steps) what) h
     (λ e. grind (arith, common_steps))
-    (alike-judged c (stepped c opening capacity b count steps) (stepped c opening capacity d count steps) what refl refl refl)
+    (alike-judged c opening (stepped c opening capacity b count steps) (stepped c opening capacity d count steps) what refl refl refl)
 
 abbrev pub AlikeLine : Parts → ℕ → ℕ → BenchState → ℕ → Line → Type 0
 AlikeLine c opening capacity b more l =
@@ -82,12 +82,12 @@ alike-made c opening capacity b more (line.Rule rule) le = λ h. (refl, refl, re
 less-within : (c : Parts) (opening capacity : ℕ) (b : BenchState) (count : ℕ) (steps few : List (PortId × Step)) (what : Option Expected)
     → (made_within c opening capacity b count steps few what).0.left ≤ b.left
 less-within c opening capacity b count steps few None =
-    elim (nat_lt b.left count) as (λ t. (if t then (stepped c opening capacity b b.left few, SlotLimit) else judged c (stepped c opening capacity b count steps) None).0.left ≤ b.left) [
+    elim (nat_lt b.left count) as (λ t. (if t then (stepped c opening capacity b b.left few, SlotLimit) else judged c opening (stepped c opening capacity b count steps) None).0.left ≤ b.left) [
       | true ↦ omega arith
       | false ↦ omega arith
     ]
 less-within c opening capacity b count steps few (Some what) =
-    elim (nat_lt b.left count) as (λ t. (if t then (stepped c opening capacity b b.left few, SlotLimit) else judged c (stepped c opening capacity b count steps) (Some what)).0.left ≤ b.left) [
+    elim (nat_lt b.left count) as (λ t. (if t then (stepped c opening capacity b b.left few, SlotLimit) else judged c opening (stepped c opening capacity b count steps) (Some what)).0.left ≤ b.left) [
       | true ↦ omega arith
       | false ↦ omega arith
     ]

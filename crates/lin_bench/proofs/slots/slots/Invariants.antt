@@ -11,7 +11,7 @@ use Rattle.lin_bench.proofs.slots.slots.Given as goal
 abbrev pub invariant-loop : goal.invariant-loop
 invariant-loop l = record {
   begun :
-      AreBegun l.fn.ruled l.how l.extent (ends_at l.fn.ruled.core.cluster (taken_by l.fn.ruled.core.log l.fn.taken) (option_map (λ e. e.now) l.until)) l.fn.left l.ruled
+      AreBegun l.fn.ruled l.how l.extent (ends_at l.fn.ruled.core.cluster l.fn.ruled.core.opening (taken_by l.fn.ruled.core.log l.fn.taken) (option_map (λ e. e.now) l.until)) l.fn.left l.ruled
       (most l.extent - l.counter) l.left;
   began : l.began ≡ time l.fn.ruled.core.cluster (past_of l.fn.ruled.core);
   taken : taken_by l.ruled.core.log l.taken ≡ taken_by l.fn.ruled.core.log l.fn.taken;
