@@ -98,6 +98,10 @@ slot_form c all (t ∷ e ∷ []) = do
   Ok (expected.Slot table entry)
 slot_form c all fs = Err (UnknownExpectation all)
 
+abbrev pub table_form : Parts → List (List ℕ) → List (List ℕ) → Result Expected Reason
+table_form c all (t ∷ []) = present_table c t >>= (λ table. Ok (expected.Table table))
+table_form c all fs = Err (UnknownExpectation all)
+
 abbrev pub refused_form : List (List ℕ) → List (List ℕ) → Result Expected Reason
 refused_form all (f ∷ []) = refusal_field f >>= (λ why. Ok (expected.Refused why))
 refused_form all fs = Err (UnknownExpectation all)
@@ -137,6 +141,7 @@ word_expectation c all word fs =
     else if bytes_eq word (codes "seen") then seen_form all fs
     else if bytes_eq word (codes "frame") then frame_form c all fs
     else if bytes_eq word (codes "slot") then slot_form c all fs
+    else if bytes_eq word (codes "table") then table_form c all fs
     else if bytes_eq word (codes "done") then lone_form all expected.Done fs
     else if bytes_eq word (codes "refused") then refused_form all fs
     else if bytes_eq word (codes "asleep") then lone_form all expected.Asleep fs

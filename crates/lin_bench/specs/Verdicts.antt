@@ -15,6 +15,7 @@ use Rattle.lin_parts.specs.declared.parts.Parts.{Parts}
 use Rattle.lin_core.specs.History.{Slot, asleep, did, events, is_finish, open_slot, time}
 use Rattle.lin_core.specs.Links.{waiting}
 use Rattle.lin_core.specs.Signals.{carried_by, value_at}
+use Rattle.lin_core.specs.Slots.{next_due}
 use Rattle.lin_core.specs.Tables.{cause_number, look_number, look_of, refusal_number}
 use Rattle.lin_core.specs.declared.event.Event.{Event}
 use Rattle.lin_core.specs.declared.event.Event.TheVariants as event
@@ -167,6 +168,11 @@ carried c s = carried_for c (line_of c s.table s.entry).entry s
 abbrev pub last_carried : Parts → List LogEntry → Option Carried
 last_carried c past = option_map_or (carried c) (last_slot past) None
 
+-- the running schedule table: that of the open slot, where none is open that of the next one
+abbrev pub running_table : Parts → ℕ → List LogEntry → ℕ
+running_table c opening past =
+    option_map_or (λ (s : Slot). s.table) (open_slot past) (next_due c opening past).0
+
 abbrev pub same_frame : Carried → Carried → Bool
 same_frame (Signals f) (Signals g) = f == g
 same_frame Request Request = true
@@ -258,6 +264,9 @@ slot_verdict table entry (Some (event.Slot t e header)) =
     unless (t == table && e == entry) (got.Slot t e)
 slot_verdict table entry other = Some got.NoSlot
 
+abbrev pub table_verdict : ℕ → ℕ → Option Got
+table_verdict table running = unless (running == table) (got.Table running)
+
 abbrev pub newest_reply : List LogEntry → Option Reply
 newest_reply [] = None
 newest_reply (e ∷ past) = Some e.reply
@@ -303,6 +312,7 @@ verdict c opening past noted taken (expected.Seen how) = seen_verdict how (last_
 verdict c opening past noted taken (expected.Frame frame bytes) =
     frame_verdict frame bytes (last_carried c past) (last_event past Ends)
 verdict c opening past noted taken (expected.Slot table entry) = slot_verdict table entry (last_event past Begins)
+verdict c opening past noted taken (expected.Table table) = table_verdict table (running_table c opening past)
 verdict c opening past noted taken expected.Done = done_verdict (newest_reply past)
 verdict c opening past noted taken (expected.Refused why) = refused_verdict why (newest_reply past)
 verdict c opening past noted taken expected.Asleep = unless (asleep past) got.Awake

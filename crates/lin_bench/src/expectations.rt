@@ -4,7 +4,7 @@ ghost use Rattle.std.specs.Prelude.{◌≡◌, IfOk, codes};
 ghost use Rattle.lin_bench.specs.Expectations.{bytes_form, expectation, frame_form, lone_form, loss_of, lost_form};
 ghost use Rattle.lin_bench.specs.Expectations.{message_form, no_form, no_lost_form, no_message_form, signal_value};
 ghost use Rattle.lin_bench.specs.Expectations.{refusal_field, refused_form, seen_form, sent_form};
-ghost use Rattle.lin_bench.specs.Expectations.{signal_form, slot_form, until_form, waiting_form};
+ghost use Rattle.lin_bench.specs.Expectations.{signal_form, slot_form, table_form, until_form, waiting_form};
 ghost use Rattle.lin_bench.specs.Expectations.{word_expectation};
 ghost use Rattle.lin_bench.specs.Fields.{fields, range_ends, rows_and_time, words};
 ghost use Rattle.lin_bench.specs.Read.{Gives};
@@ -261,6 +261,21 @@ fn slot(
     }
 }
 
+/// The running schedule table, by its field.
+fn table(
+    alloc: Global,
+    cluster: &Cluster,
+    all: &[u8],
+    parts: &[&[u8]],
+) -> Result<Expected, LineFault>
+    ensures { Gives (λ e. e) result (table_form cluster.now (fields all.now) (words parts.now)) }
+{
+    match parts {
+        [table] => Ok(Expected::Table(present_table(alloc, cluster, table)?)),
+        _ => Err(no_form(alloc, cluster, all)?),
+    }
+}
+
 fn refused(
     alloc: Global,
     cluster: &Cluster,
@@ -374,6 +389,8 @@ fn of_word(
         frame(alloc, cluster, all, parts)
     } else if word == b"slot".as_slice() {
         slot(alloc, cluster, all, parts)
+    } else if word == b"table".as_slice() {
+        table(alloc, cluster, all, parts)
     } else if word == b"done".as_slice() {
         lone(alloc, cluster, Expected::Done, all, parts)
     } else if word == b"refused".as_slice() {

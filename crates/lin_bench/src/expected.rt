@@ -89,6 +89,9 @@ pub enum Expected {
         table: u16,
         entry: u16,
     },
+    /// The running schedule table is this one: the table of the open slot or, if no slot is open, of the
+    /// next slot.
+    Table(u16),
     /// The last step was done.
     Done,
     /// The last step was refused for this reason.

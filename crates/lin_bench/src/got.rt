@@ -44,6 +44,8 @@ pub enum Got {
     Frame { frame: Carried, bytes: Payload },
     /// The last slot that began was for this entry of a schedule table.
     Slot { table: u16, entry: u16 },
+    /// The running schedule table is this one.
+    Table(u16),
     /// No slot began, or none ended.
     NoSlot,
     /// The last step was done.

@@ -388,6 +388,9 @@ fn expected_line(expected: &Expected) -> Line<'_>
                 Word::Number(u64::from(*entry)),
             ]);
         }
+        Expected::Table(table) => {
+            return Line::of(&[Word::Fixed("table"), Word::Table(*table)]);
+        }
         Expected::Done => return Line::of(&[Word::Fixed("done")]),
         Expected::Refused(why) => {
             return Line::of(&[Word::Fixed("refused"), Word::Fixed(why.word())]);
@@ -490,6 +493,7 @@ fn got_line(got: &Got) -> Line<'_>
             Word::Table(*table),
             Word::Number(u64::from(*entry)),
         ]),
+        Got::Table(table) => return Line::of(&[Word::Table(*table)]),
         Got::NoSlot => return Line::of(&[Word::Fixed("no slot")]),
         Got::Done => return Line::of(&[Word::Fixed("done")]),
         Got::Refused(why) => return Line::of(&[Word::Fixed("refused"), Word::Fixed(why.word())]),

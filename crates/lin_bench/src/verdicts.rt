@@ -10,12 +10,12 @@ ghost use Rattle.lin_bench.specs.Slots.{pending};
 ghost use Rattle.lin_bench.specs.Verdicts.{done_verdict, idle_verdict, kind_taken, last_event};
 ghost use Rattle.lin_bench.specs.Verdicts.{lost_verdict, message_verdict, newest_reply};
 ghost use Rattle.lin_bench.specs.Verdicts.{next_event, refused_verdict};
-ghost use Rattle.lin_bench.specs.Verdicts.{is_within, no_lost_verdict, no_message_verdict, same_value, seen_verdict, sent_verdict};
-ghost use Rattle.lin_bench.specs.Verdicts.{slot_verdict, taking, time_taken, value_seen, value_verdict, verdict, waiting_verdict, within_verdict};
+ghost use Rattle.lin_bench.specs.Verdicts.{is_within, no_lost_verdict, no_message_verdict, running_table, same_value, seen_verdict, sent_verdict};
+ghost use Rattle.lin_bench.specs.Verdicts.{slot_verdict, table_verdict, taking, time_taken, value_seen, value_verdict, verdict, waiting_verdict, within_verdict};
 ghost use Rattle.lin_bench.specs.Verdicts.{with_taken, data_of, frame_verdict, good_verdict, same_data, same_frame};
 
 use crate::arrivals;
-use crate::carried::last_carried;
+use crate::carried::{last_carried, open_after};
 use crate::expected::{Carried, Expected};
 use crate::got::Got;
 use crate::losses::first_loss;
@@ -329,6 +329,29 @@ fn slot(event: Option<&Event>, table: u16, entry: u16) -> Option<Got>
     }
 }
 
+/// The running schedule table: the table of the open slot or, if no slot is open, of the next slot.
+fn running_table(alloc: Global, core: &Core) -> Result<u16, AllocError>
+    ensures { IfOk result
+        (λ t. t ≡ running_table core.now.cluster core.now.opening (past_of core.now)) }
+{
+    if let Some((table, _, _)) = core.next_slot() {
+        return Ok(table);
+    }
+    let log = core.log();
+    let open = open_after(alloc, log, log.len())?;
+    Ok(open.unwrap().table)
+}
+
+fn table(running: u16, table: u16) -> Option<Got>
+    ensures { result ≡ table_verdict table running }
+{
+    if running == table {
+        None
+    } else {
+        Some(Got::Table(running))
+    }
+}
+
 /// What the last step was answered.
 fn newest_reply(core: &Core) -> Option<&Reply>
     ensures { option_map (λ r. r.now) result ≡ newest_reply (past_of core.now) }
@@ -548,6 +571,7 @@ pub(crate) fn verdict(
             let event = last_event(core.log(), EventKind::Begins);
             Ok(slot(event, *table, *entry))
         }
+        Expected::Table(number) => Ok(table(running_table(alloc, core)?, *number)),
         Expected::Done => Ok(done(newest_reply(core))),
         Expected::Refused(why) => Ok(refused(newest_reply(core), *why)),
         Expected::Asleep => Ok(if core.asleep() {

@@ -149,6 +149,7 @@ fn name_of(line: &Line) -> &'static str {
             },
         ) => "signal in a range",
         Line::Expect(Expected::NoMessage { from: 0, to: 1 }) => "no message",
+        Line::Expect(Expected::Table(2)) => "running table",
         Line::Forget => "forget",
         Line::Rule(rule) => name_of_rule(rule),
         Line::Until(
@@ -160,6 +161,7 @@ fn name_of(line: &Line) -> &'static str {
             },
         ) if bytes.as_slice() == [0x7E].as_slice() => "slots until a message",
         Line::Until(Extent::Milliseconds(200), Expected::Asleep) => "slots of 200 ms until asleep",
+        Line::Until(Extent::Count(4), Expected::Table(0)) => "slots until a table runs",
         _ => "anything else",
     }
 }
@@ -183,6 +185,7 @@ const ON_BUILT_IN: Lines<'static> = &[
         "slots until a message",
     ),
     (b"slots 200 ms until asleep", "slots of 200 ms until asleep"),
+    (b"slots 4 until table 0", "slots until a table runs"),
     (
         b"when door 22..* answer 62 $1 then 7F after 200 ms",
         "two answers",
@@ -202,6 +205,7 @@ const ON_DOOR_ZONE: Lines<'static> = &[
     (b"h3 write 3 14 x-", "write of no bytes"),
     (b"slot leave Panel 1", "slot with two left out"),
     (b"expect signal DCU WinTemp 690..0x2C6", "signal in a range"),
+    (b"expect table Mixed", "running table"),
 ];
 
 fn expect_lines(rt: &impl Abort, alloc: Global, ldf: &[u8], lines: Lines) -> Result<(), Fail> {

@@ -61,6 +61,11 @@ const ON_LIGHTS: Rows<'static> = &[
         b"slot\nexpect seen none\nexpect slot Main 1\nexpect slot 0 0\nexpect asleep\nfinish\nexpect done\nexpect refused Asleep\nexpect refused NoSlot\nslot leave lsm rsm\nexpect seen none\nexpect slot Main 2\nsleep\nwake\nexpect refused Awake\n",
         b"script 2 expected seen none: silent\nscript 3 expected slot Main 1: Main 0\nscript 5 expected asleep: awake\nscript 7 expected done: refused NoSlot\nscript 8 expected refused Asleep: refused NoSlot\nscript 12 expected slot Main 2: Main 1\n",
     ),
+    // The table of the next slot, and of the open one.
+    (
+        b"expect table Main\nexpect table Diag\nswitch Diag\nexpect table Diag\nopen\nswitch Main\nexpect table Main\n",
+        b"script 2 expected table Diag: Main\nscript 7 expected table Main: Diag\n",
+    ),
 ];
 
 const ON_DOOR_ZONE: Rows<'static> = &[
