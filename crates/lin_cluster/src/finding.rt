@@ -6,9 +6,9 @@ ghost use Rattle.lin_cluster.specs.Kinds.{finding_at, finding_name, number_of};
 use lin_parts::Place;
 use lin_text::Many;
 
-/// The kinds of findings, in the order of their numbers, 1 to 27, 31 to 41 and 51 to 64. Those from 19
-/// to 27 are told of texts of the field alone, but for 27, which a lint tells, too; those from 31 on of
-/// encodings of signals, and those from 51 on of descriptions in which nothing is wrong.
+/// The kinds of findings, in the order of their numbers, 1 to 27, 31 to 41 and 51 to 64. 19 to 26 are
+/// reported only if the text is read as one of the field; 27 also if lint warnings are wanted. 31 to 41
+/// are about encodings of signals, and 51 to 64 are lint warnings: the description is valid.
 #[derive(Clone, Copy, Debug, PartialEq, Eq)]
 pub enum FindingKind {
     UnknownName,
