@@ -16,4 +16,5 @@ pub mod Objects
 pub mod ShortAdded
 pub mod KeptMore
 pub mod ListedLines
+pub mod Maps
 pub mod NumberedLines

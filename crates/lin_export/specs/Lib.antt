@@ -22,5 +22,7 @@ pub mod Dumped
 pub mod PutsGroups
 pub mod Listing
 pub mod ListedFrames
+pub mod Marks
+pub mod ListedMaps
 pub mod ListedSlots
 pub mod ListedSignals

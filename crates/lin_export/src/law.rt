@@ -1,11 +1,12 @@
 //! What holds of every history, as it is written in other forms.
 
-ghost use Rattle.std.specs.Prelude.{ℕ, List, Option};
+ghost use Rattle.std.specs.Prelude.{ℕ, All, List, Option};
 ghost use Rattle.lin_core.specs.Runs.{history};
 ghost use Rattle.lin_core.specs.declared.port.PortId.{PortId};
 ghost use Rattle.lin_core.specs.declared.step.Step.{Step};
 ghost use Rattle.lin_export.specs.Captured.{IsCaptured};
 ghost use Rattle.lin_export.specs.Dumped.{IsDumped};
+ghost use Rattle.lin_export.specs.Marks.{TellsPlaces};
 ghost use Rattle.lin_parts.specs.declared.parts.Parts.{Parts};
 ghost use Rattle.lin_values.specs.Coded.{CodedData};
 
@@ -23,6 +24,14 @@ pub fn captures_what_was_seen()
 pub fn dumps_last_values(cluster: &Cluster)
     ensures { (k : Option CodedData) (opening capacity : ℕ) (steps : List (PortId × Step))
         → IsDumped cluster.now k (history cluster.now opening capacity steps) }
+{
+    cluster.sound();
+}
+
+/// In the map of each frame, a bit has the mark of a signal exactly if the signal's place has the bit,
+/// and as many bits as are free have the mark of a free bit.
+pub fn maps_tell_places(cluster: &Cluster)
+    ensures { All (λ f. TellsPlaces f.layout) cluster.now.frames }
 {
     cluster.sound();
 }

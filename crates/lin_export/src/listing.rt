@@ -13,10 +13,12 @@ use lin_text::{TextBuffer, TextWriter, WriteFailed};
 use std::io::Write;
 
 mod frames;
+mod maps;
 mod signals;
 mod slots;
 
 pub use frames::write_frames;
+pub use maps::write_maps;
 pub use signals::write_signals;
 pub use slots::write_slots;
 
