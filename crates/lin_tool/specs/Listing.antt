@@ -3,15 +3,20 @@ use Rattle.std.specs.Prelude.{ℕ, Bool, List, [], ◌++◌, Option, if◌then�
 use Rattle.std.specs.Option.{option_map_or}
 use Rattle.lin_parts.specs.declared.parts.Parts.{Parts}
 use Rattle.lin_export.specs.ListedFrames.{frames}
+use Rattle.lin_export.specs.ListedMaps.{maps}
 use Rattle.lin_export.specs.Listing.{listing}
 use Rattle.lin_export.specs.ListedSignals.{signal_list}
 use Rattle.lin_export.specs.ListedSlots.{slots}
 use Rattle.lin_tool.specs.declared.listing.Lists.{Lists}
 use Rattle.lin_values.specs.Coded.{CodedData}
 
--- the lines of frames and their places, and those of slots and loads, where they are wanted
+-- the lines of frames and their places, those of frames and the signals of their bits, and those of
+-- slots and loads, if they are wanted
 abbrev pub listed_frames : Parts → Bool → List ℕ
 listed_frames c is_wanted = if is_wanted then frames c else []
+
+abbrev pub listed_maps : Parts → Bool → List ℕ
+listed_maps c is_wanted = if is_wanted then maps c else []
 
 abbrev pub listed_slots : Parts → Bool → List ℕ
 listed_slots c is_wanted = if is_wanted then slots c else []
@@ -23,5 +28,5 @@ listed_signals c k is_wanted = if is_wanted then option_map_or (signal_list c) k
 -- the list of nodes, signals and schedule tables, and after it those that are wanted
 abbrev pub listed : Parts → Option CodedData → Lists → List ℕ
 listed c k wanted =
-    listing c ++ listed_frames c wanted.frames ++ listed_slots c wanted.slots
-    ++ listed_signals c k wanted.signals
+    listing c ++ listed_frames c wanted.frames ++ listed_maps c wanted.maps
+    ++ listed_slots c wanted.slots ++ listed_signals c k wanted.signals

@@ -2,9 +2,9 @@
 
 ghost use Rattle.std.specs.Prelude.{option_map};
 ghost use Rattle.lin_text.specs.Written.{WritesText};
-ghost use Rattle.lin_tool.specs.Listing.{listed, listed_frames, listed_signals, listed_slots};
+ghost use Rattle.lin_tool.specs.Listing.{listed, listed_frames, listed_maps, listed_signals, listed_slots};
 
-use lin_export::{write_frames, write_list, write_signals, write_slots};
+use lin_export::{write_frames, write_list, write_maps, write_signals, write_slots};
 use lin_parts::Cluster;
 use lin_text::WriteFailed;
 use lin_values::Coded;
@@ -15,6 +15,8 @@ use std::io::Write;
 pub struct Lists {
     /// Its frames, with the places of their signals.
     pub frames: bool,
+    /// Its frames, with the signal of each bit.
+    pub maps: bool,
     /// The slots of its schedule tables, with the time that they need, and the load of each table.
     pub slots: bool,
     /// Its signals, with what their values mean.
@@ -32,6 +34,22 @@ fn write_wanted_frames<W: Write>(
 {
     if is_wanted {
         write_frames(cluster, writer)
+    } else {
+        Ok(())
+    }
+}
+
+/// Writes the lines of frames and the signals of their bits, if they are wanted.
+fn write_wanted_maps<W: Write>(
+    cluster: &Cluster,
+    is_wanted: bool,
+    writer: &mut W,
+) -> Result<(), WriteFailed>
+    ensures { WritesText (W.contents writer.old) (W.contents writer.new) result
+        (listed_maps cluster.now is_wanted) }
+{
+    if is_wanted {
+        write_maps(cluster, writer)
     } else {
         Ok(())
     }
@@ -72,8 +90,8 @@ fn write_wanted_signals<W: Write>(
     }
 }
 
-/// Writes the list of `write_list`, and after it those that are wanted: frames, then slots, and then
-/// signals, where what their values mean is known. It takes no memory.
+/// Writes the list of `write_list`, and after it those that are wanted: frames, the maps of their bits,
+/// slots, and signals, if what their values mean is known. It takes no memory.
 ///
 /// # Errors
 /// `WriteFailed`, where what was written is the beginning of the lines. A failed write is tried
@@ -89,6 +107,7 @@ pub fn write_lists<W: Write>(
 {
     write_list(cluster, writer)?;
     write_wanted_frames(cluster, lists.frames, writer)?;
+    write_wanted_maps(cluster, lists.maps, writer)?;
     write_wanted_slots(cluster, lists.slots, writer)?;
     write_wanted_signals(cluster, coded, lists.signals, writer)
 }

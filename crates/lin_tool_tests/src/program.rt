@@ -97,6 +97,7 @@ const CODED: &[u8] =
 /// The list of signals alone.
 const SIGNALS: Lists = Lists {
     frames: false,
+    maps: false,
     slots: false,
     signals: true,
 };
@@ -362,6 +363,7 @@ fn lists_end_where_a_write_fails(rt: HostRuntime) -> Result<(), Fail> {
     let Described { cluster, coded } = described;
     let all = Lists {
         frames: true,
+        maps: true,
         slots: true,
         signals: true,
     };

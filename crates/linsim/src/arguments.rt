@@ -87,6 +87,11 @@ fn listed_frames<'a>(alloc: Global) -> Arg<'a> {
     flag(alloc, "frames", help)
 }
 
+fn listed_maps<'a>(alloc: Global) -> Arg<'a> {
+    let help = "Also list the frames with the signal of each bit";
+    flag(alloc, "map", help)
+}
+
 fn listed_slots<'a>(alloc: Global) -> Arg<'a> {
     let help = "Also list the slots with their required time, and the bus load of each table";
     flag(alloc, "slots", help)
@@ -130,6 +135,7 @@ fn plain<'a>(alloc: Global) -> Result<Arg<'a>, AllocError> {
     flag(alloc, "plain", help)
         .requires_arg("field")?
         .conflicts_with("frames")?
+        .conflicts_with("map")?
         .conflicts_with("slots")?
         .conflicts_with("physical")?
         .conflicts_with("lint")?
@@ -204,6 +210,7 @@ fn check<'a>(alloc: Global) -> Result<Command<'a>, AllocError> {
         .after_help(CHECK_NOTE)
         .arg(file(alloc, "LDF file, or - for standard input").required(true))?
         .arg(listed_frames(alloc))?
+        .arg(listed_maps(alloc))?
         .arg(listed_slots(alloc))?
         .arg(listed_signals(alloc)?)?
         .arg(field(alloc))?
@@ -293,8 +300,8 @@ pub(crate) enum Invalid<'a> {
 /// The subcommand with its settings.
 #[derive(Clone, Copy)]
 pub(crate) enum Request<'a> {
-    /// `linsim check FILE [--field] [--frames] [--slots] [--physical [--signals]] [--lint]
-    /// [--deny KINDS] [--allow KINDS]`
+    /// `linsim check FILE [--field] [--frames] [--map] [--slots] [--physical [--signals]]
+    /// [--lint] [--deny KINDS] [--allow KINDS]`
     Check {
         file: &'a str,
         reading: Reading,
@@ -423,6 +430,7 @@ fn request_of<'a>(matches: &ArgMatches<'a>) -> Option<Request<'a>> {
             extras: extras_of(found),
             lists: Lists {
                 frames: found.get_flag("frames"),
+                maps: found.get_flag("map"),
                 slots: found.get_flag("slots"),
                 signals: found.get_flag("signals"),
             },
