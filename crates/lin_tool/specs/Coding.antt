@@ -46,7 +46,7 @@ configurables_read is_linted ts = if is_linted then Some (configurables ts) else
 
 -- the words of sections and attributes that LIN doesn't have, if they are reported
 abbrev pub unknown_read : Bool → List Symbol → List Finding
-unknown_read is_told ts = if is_told then unknown_words ts else []
+unknown_read is_reported ts = if is_reported then unknown_words ts else []
 
 -- what the extras want of all that; with --field the unknown words in any case
 abbrev pub sections_read : Bool → Extras → List Symbol → Sections

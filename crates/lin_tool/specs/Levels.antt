@@ -12,11 +12,11 @@ abbrev pub is_among : List NumberRange → ℕ → Bool
 is_among ranges n = list_any (λ r. nat_le r.first n && nat_le n r.last) ranges
 
 -- a finding is reported in any case, a warning unless it is allowed
-abbrev pub is_told : List NumberRange → Remark → Bool
-is_told allowed r = not (r.is_warning && is_among allowed r.finding.number)
+abbrev pub is_reported : List NumberRange → Remark → Bool
+is_reported allowed r = not (r.is_warning && is_among allowed r.finding.number)
 
-abbrev pub told : List NumberRange → List Remark → List Remark
-told allowed rs = filter (is_told allowed) rs
+abbrev pub reported : List NumberRange → List Remark → List Remark
+reported allowed rs = filter (is_reported allowed) rs
 
 abbrev pub is_denied : List NumberRange → Remark → Bool
 is_denied denied r = r.is_warning && is_among denied r.finding.number
@@ -24,5 +24,5 @@ is_denied denied r = r.is_warning && is_among denied r.finding.number
 -- the exit status of a run that ended so: 6 if it did all that was asked for, and a warning that is
 -- reported is denied
 abbrev pub level_status : Levels → List Remark → Result Unit Fault → ℕ
-level_status l rs (Ok done) = if list_any (is_denied l.denied) (told l.allowed rs) then 6 else 0
+level_status l rs (Ok done) = if list_any (is_denied l.denied) (reported l.allowed rs) then 6 else 0
 level_status l rs (Err fault) = status_of fault

@@ -25,20 +25,20 @@ abbrev pub needed_words : Finding → List (List ℕ)
 needed_words finding = if finding.number == 9 then decimal finding.needed_us ∷ [] else []
 
 -- a finding, after the word for what it is
-abbrev pub told_line : List ℕ → Finding → List ℕ
-told_line word f =
+abbrev pub reported_line : List ℕ → Finding → List ℕ
+reported_line word f =
     line
     (place_word f.line f.column ∷ word ∷ decimal f.number ∷ finding_name f.number ∷ needed_words f)
 
 abbrev pub finding_line : Finding → List ℕ
-finding_line f = told_line (codes "finding") f
+finding_line f = reported_line (codes "finding") f
 
 -- a finding or a warning
 abbrev pub remark_word : Remark → List ℕ
 remark_word r = if r.is_warning then codes "warning" else codes "finding"
 
 abbrev pub remark_line : Remark → List ℕ
-remark_line r = told_line (remark_word r) r.finding
+remark_line r = reported_line (remark_word r) r.finding
 
 -- the line of a fault of an LDF text, by its number and name
 abbrev pub ldf_line : Place → List ℕ → List ℕ

@@ -109,13 +109,13 @@ fn configurables_of(
 /// Finds the words of sections and attributes that LIN doesn't have, if they are reported.
 ///
 /// An error means out of memory.
-fn unknown_of(alloc: Global, text: &[u8], is_told: bool) -> Result<Many<Finding>, AllocError>
+fn unknown_of(alloc: Global, text: &[u8], is_reported: bool) -> Result<Many<Finding>, AllocError>
     ensures read { IfOk result
-        (λ u. u ≡ unknown_read is_told (symbols_in text.now (start_of text.now).tokens)) }
+        (λ u. u ≡ unknown_read is_reported (symbols_in text.now (start_of text.now).tokens)) }
     ensures tokens { (ts : List Token) → AreTokens text.now ts
-        → IfOk result (λ u. u ≡ unknown_read is_told (symbols_in text.now ts)) }
+        → IfOk result (λ u. u ≡ unknown_read is_reported (symbols_in text.now ts)) }
 {
-    if is_told {
+    if is_reported {
         Ok(Many::new(unknown_words(alloc, text)?))
     } else {
         Ok(Many::new(Vec::new(alloc)))

@@ -3,9 +3,9 @@
 ghost use Rattle.std.specs.Prelude.{◌≡◌, [], flat_map, if◌then◌else◌};
 ghost use Rattle.lin_text.specs.Written.{Grows};
 ghost use Rattle.lin_log.specs.Words.{line_tail};
-ghost use Rattle.lin_tool.specs.Telling.{finding_line, told_line, remark_line, remark_word, needed_words};
+ghost use Rattle.lin_tool.specs.Telling.{finding_line, reported_line, remark_line, remark_word, needed_words};
 ghost use Rattle.lin_tool.specs.Telling.{place_word};
-ghost use Rattle.lin_tool.specs.Levels.{is_told, told};
+ghost use Rattle.lin_tool.specs.Levels.{is_reported, reported};
 
 use crate::levels::Levels;
 use lin_cluster::Finding;
@@ -44,8 +44,8 @@ fn put_needed<W: Write>(out: &mut TextWriter<'_, W>, finding: &Finding)
 
 /// The line of a finding or a warning: its place, its number and its name, and for a slot that is
 /// too short the time that it needs.
-fn put_told<W: Write>(out: &mut TextWriter<'_, W>, finding: &Finding, word: &str)
-    ensures { Grows W.contents out.old out.new (told_line word.now finding.now) }
+fn put_reported<W: Write>(out: &mut TextWriter<'_, W>, finding: &Finding, word: &str)
+    ensures { Grows W.contents out.old out.new (reported_line word.now finding.now) }
 {
     put_place(out, finding.line, finding.column);
     out.put_byte(b' ');
@@ -61,7 +61,7 @@ pub(crate) fn put_findings<W: Write>(out: &mut TextWriter<'_, W>, findings: &[Fi
     ensures { Grows W.contents out.old out.new (flat_map finding_line findings.now) }
 {
     for finding in findings {
-        put_told(out, finding, "finding");
+        put_reported(out, finding, "finding");
     }
 }
 
@@ -81,30 +81,30 @@ pub(crate) fn put_remarks<W: Write>(out: &mut TextWriter<'_, W>, remarks: &[Rema
     ensures { Grows W.contents out.old out.new (flat_map remark_line remarks.now) }
 {
     for remark in remarks {
-        put_told(out, &remark.finding, remark_word(remark));
+        put_reported(out, &remark.finding, remark_word(remark));
     }
 }
 
 /// The line of a finding or a warning, if it is reported.
-fn put_if_told<W: Write>(out: &mut TextWriter<'_, W>, levels: &Levels, remark: &Remark)
+fn put_if_reported<W: Write>(out: &mut TextWriter<'_, W>, levels: &Levels, remark: &Remark)
     ensures { Grows W.contents out.old out.new
-        (if is_told levels.now.allowed remark.now then remark_line remark.now else []) }
+        (if is_reported levels.now.allowed remark.now then remark_line remark.now else []) }
 {
-    if levels.is_told(remark) {
-        put_told(out, &remark.finding, remark_word(remark));
+    if levels.is_reported(remark) {
+        put_reported(out, &remark.finding, remark_word(remark));
     }
 }
 
 /// A line for each finding and each warning that is reported.
-pub(crate) fn put_told_remarks<W: Write>(
+pub(crate) fn put_reported_remarks<W: Write>(
     out: &mut TextWriter<'_, W>,
     levels: &Levels,
     remarks: &[Remark],
 )
     ensures { Grows W.contents out.old out.new
-        (flat_map remark_line (told levels.now.allowed remarks.now)) }
+        (flat_map remark_line (reported levels.now.allowed remarks.now)) }
 {
     for remark in remarks {
-        put_if_told(out, levels, remark);
+        put_if_reported(out, levels, remark);
     }
 }

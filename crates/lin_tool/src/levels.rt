@@ -2,7 +2,7 @@
 
 ghost use Rattle.std.specs.Prelude.{◌≡◌, ◌&&◌, [], IfOk};
 ghost use Rattle.std.specs.List.{list_any};
-ghost use Rattle.lin_tool.specs.Levels.{is_among, is_denied, is_told, told};
+ghost use Rattle.lin_tool.specs.Levels.{is_among, is_denied, is_reported, reported};
 
 use lin_field::Remark;
 use lin_text::Many;
@@ -44,8 +44,8 @@ impl Levels {
     }
 
     /// Whether a finding or a warning is reported.
-    pub(crate) fn is_told(&self, remark: &Remark) -> bool
-        ensures { result ≡ is_told self.now.allowed remark.now }
+    pub(crate) fn is_reported(&self, remark: &Remark) -> bool
+        ensures { result ≡ is_reported self.now.allowed remark.now }
     {
         !(remark.is_warning && is_among(self.allowed.as_slice(), remark.finding.number))
     }
@@ -59,39 +59,45 @@ impl Levels {
     /// The findings and warnings that are reported, in their order.
     ///
     /// An error means out of memory.
-    pub(crate) fn told(&self, alloc: Global, remarks: &[Remark]) -> Result<Vec<Remark>, AllocError>
-        ensures { IfOk result (λ r. r.items ≡ told self.now.allowed remarks.now) }
+    pub(crate) fn reported(
+        &self,
+        alloc: Global,
+        remarks: &[Remark],
+    ) -> Result<Vec<Remark>, AllocError>
+        ensures { IfOk result (λ r. r.items ≡ reported self.now.allowed remarks.now) }
     {
-        let mut told = Vec::new(alloc);
+        let mut reported = Vec::new(alloc);
         for remark in remarks {
-            if self.is_told(remark) {
-                told.push(*remark)?;
+            if self.is_reported(remark) {
+                reported.push(*remark)?;
             }
         }
-        Ok(told)
+        Ok(reported)
     }
 
     /// Whether a warning is reported and denied.
-    fn is_told_and_denied(&self, remark: &Remark) -> bool
+    fn is_reported_and_denied(&self, remark: &Remark) -> bool
         ensures { result
-            ≡ (is_told self.now.allowed remark.now && is_denied self.now.denied remark.now) }
+            ≡ (is_reported self.now.allowed remark.now && is_denied self.now.denied remark.now) }
     {
-        self.is_told(remark) && self.is_denied(remark)
+        self.is_reported(remark) && self.is_denied(remark)
     }
 
     /// Whether one of these warnings is.
-    fn is_any_told_and_denied(&self, remarks: &[Remark]) -> bool
+    fn is_any_reported_and_denied(&self, remarks: &[Remark]) -> bool
         ensures { result
-            ≡ list_any (λ r. is_told self.now.allowed r && is_denied self.now.denied r)
+            ≡ list_any (λ r. is_reported self.now.allowed r && is_denied self.now.denied r)
             remarks.now }
     {
-        remarks.iter().any(|remark| self.is_told_and_denied(remark))
+        remarks
+            .iter()
+            .any(|remark| self.is_reported_and_denied(remark))
     }
 
     /// Whether a warning that is reported is denied.
     pub(crate) fn is_any_denied(&self, remarks: &[Remark]) -> bool
-        ensures { result ≡ list_any (is_denied self.now.denied) (told self.now.allowed remarks.now) }
+        ensures { result ≡ list_any (is_denied self.now.denied) (reported self.now.allowed remarks.now) }
     {
-        self.is_any_told_and_denied(remarks)
+        self.is_any_reported_and_denied(remarks)
     }
 }

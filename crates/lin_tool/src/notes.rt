@@ -3,7 +3,7 @@
 
 ghost use Rattle.std.specs.Prelude.{◌≡◌, flat_map};
 ghost use Rattle.lin_text.specs.Written.{WritesText};
-ghost use Rattle.lin_tool.specs.Levels.{level_status, told};
+ghost use Rattle.lin_tool.specs.Levels.{level_status, reported};
 ghost use Rattle.lin_tool.specs.Telling.{remark_line};
 
 use crate::describing::Reading;
@@ -13,7 +13,7 @@ use crate::explaining::{
 };
 use crate::fault::{Fault, exit_status};
 use crate::field::is_read_otherwise;
-use crate::findings::put_told_remarks;
+use crate::findings::put_reported_remarks;
 use crate::levels::Levels;
 use crate::locating::{put_places, put_remark_places};
 use crate::misspelled::count_unread;
@@ -161,7 +161,7 @@ impl<'a> Notes<'a> {
     fn write_warnings<W: Write>(&self, writer: &mut W) -> Result<(), WriteFailed>
         ensures { self.now.wanted.file ≡ None
             → WritesText (W.contents writer.old) (W.contents writer.new) result
-            (flat_map remark_line (told self.now.levels.allowed self.now.warnings)) }
+            (flat_map remark_line (reported self.now.levels.allowed self.now.warnings)) }
     {
         let warnings = self.warnings.as_slice();
         if !warnings.is_empty() && self.wanted.file.is_some() {
@@ -173,11 +173,11 @@ impl<'a> Notes<'a> {
     /// Writes the lines of findings and warnings that are reported.
     fn write_remarks<W: Write>(&self, remarks: &[Remark], writer: &mut W) -> Result<(), WriteFailed>
         ensures { WritesText (W.contents writer.old) (W.contents writer.new) result
-            (flat_map remark_line (told self.now.levels.allowed remarks.now)) }
+            (flat_map remark_line (reported self.now.levels.allowed remarks.now)) }
     {
         let mut buffer = TextBuffer::empty();
         let mut lines = TextWriter::new(writer, &mut buffer);
-        put_told_remarks(&mut lines, &self.levels, remarks);
+        put_reported_remarks(&mut lines, &self.levels, remarks);
         lines.finish()
     }
 
@@ -281,8 +281,8 @@ impl<'a> Notes<'a> {
         if !self.is_text_wanted() {
             return Ok(());
         }
-        match self.levels.told(alloc, remarks) {
-            Ok(told) => self.add_told(alloc, text, told.as_slice()),
+        match self.levels.reported(alloc, remarks) {
+            Ok(reported) => self.add_reported(alloc, text, reported.as_slice()),
             Err(error) if self.wanted.file.is_some() => Err(error),
             Err(_) => {
                 self.is_cut = true;
@@ -292,14 +292,19 @@ impl<'a> Notes<'a> {
     }
 
     /// Adds all of these, as of `add_remarks`.
-    fn add_told(&mut self, alloc: Global, text: &[u8], told: &[Remark]) -> Result<(), AllocError> {
+    fn add_reported(
+        &mut self,
+        alloc: Global,
+        text: &[u8],
+        reported: &[Remark],
+    ) -> Result<(), AllocError> {
         if let Some(file) = self.wanted.file
-            && !told.is_empty()
+            && !reported.is_empty()
         {
-            put_remark_places(alloc, &mut self.places, file, text, told)?;
+            put_remark_places(alloc, &mut self.places, file, text, reported)?;
         }
         if self.is_more_explained() {
-            self.is_cut |= put_remarks(alloc, &mut self.text, text, told).is_err();
+            self.is_cut |= put_remarks(alloc, &mut self.text, text, reported).is_err();
         }
         Ok(())
     }

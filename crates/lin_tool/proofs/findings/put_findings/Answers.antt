@@ -9,4 +9,4 @@ loop-finding-init g c = grows-nothing c.args.out.now
 pub loop-finding-preserved : goal.loop-finding-preserved
 loop-finding-preserved g c =
     same-growth (sym (texts-next finding_line c.args.findings.now c.loop-finding.finding-index _ (omega arith)))
-    (grows-more c.loop-finding.invariant c.put_told.ensures)
+    (grows-more c.loop-finding.invariant c.put_reported.ensures)

@@ -9,4 +9,4 @@ loop-remark-init g c = grows-nothing c.args.out.now
 pub loop-remark-preserved : goal.loop-remark-preserved
 loop-remark-preserved g c =
     same-growth (sym (texts-next remark_line c.args.remarks.now c.loop-remark.remark-index _ (omega arith)))
-    (grows-more c.loop-remark.invariant (rw c.remark_word.ensures at c.put_told.ensures))
+    (grows-more c.loop-remark.invariant (rw c.remark_word.ensures at c.put_reported.ensures))

@@ -4,6 +4,6 @@ use Rattle.lin_tool.proofs.notes.Notes.write_remarks.Goals as goal
 
 pub returns : goal.returns
 returns g c =
-    let same = sym (c.put_told_remarks.ensures.same ∙ c.new-lines.ensures.same) in
-    let written = text-written c.new-lines.ensures c.put_told_remarks.ensures c.finish.ensures in
+    let same = sym (c.put_reported_remarks.ensures.same ∙ c.new-lines.ensures.same) in
+    let written = text-written c.new-lines.ensures c.put_reported_remarks.ensures c.finish.ensures in
     search rules

@@ -1,5 +1,5 @@
 use Rattle.lin_text.proofs.Growing.{grows-more}
-use Rattle.lin_tool.proofs.findings.put_told.Goals as goal
+use Rattle.lin_tool.proofs.findings.put_reported.Goals as goal
 
 pub returns : goal.returns
 returns g c =
