@@ -8,7 +8,6 @@ pub mod TextNames
 pub mod Remarks
 pub mod LogLines
 pub mod LastLines
-pub mod Reasons
 pub mod OneLine
 pub mod OneLines
 pub mod Transcripts

@@ -1,58 +1,45 @@
 -- The last lines of answers: each begins with `#`, and has no LF but at its end.
-use Rattle.std.proofs.Common.{◌≡◌, ℕ, Bool, true, false, List, [], ◌∷◌, ◌++◌, refl, ap, subst, append_assoc, flat_map, codes, length, Option, Some, None, if◌then◌else◌, nat_lt}
+use Rattle.std.proofs.Common.{◌≡◌, ℕ, true, List, [], ◌∷◌, ◌++◌, refl, ap, subst, append_assoc, codes, length, Option, Some, None}
 use Rattle.std.specs.Prelude.{IfSome}
 use Rattle.std.specs.Fmt.{decimal}
 use Rattle.std.specs.Option.{option_map_or}
 use Rattle.lin_frame.specs.declared.value.Value.{Value}
-use Rattle.lin_parts.specs.Cluster.{frame_name}
 use Rattle.lin_parts.specs.declared.parts.Parts.{Parts}
 use Rattle.lin_core.specs.History.{asleep, time}
 use Rattle.lin_core.specs.Links.{waiting}
 use Rattle.lin_core.specs.Next.{next_slot}
 use Rattle.lin_core.specs.Signals.{value_at}
-use Rattle.lin_core.specs.Tables.{cause_word, look_word, refusal_number, refusal_word}
+use Rattle.lin_core.specs.Tables.{refusal_number, refusal_word}
 use Rattle.lin_core.specs.declared.event.Event.TheVariants.{Slot}
-use Rattle.lin_core.specs.declared.link.Cause.{Cause}
-use Rattle.lin_core.specs.declared.link.Cause.TheVariants as cause
-use Rattle.lin_core.specs.declared.event.Look.{Look}
-use Rattle.lin_core.specs.declared.event.Look.TheVariants as look
 use Rattle.lin_core.specs.declared.log.LogEntry.{LogEntry}
 use Rattle.lin_core.specs.declared.reply.Refusal.{Refusal}
 use Rattle.lin_log.specs.Language.{named}
 use Rattle.lin_log.specs.Laws.{HasNames, is_quiet, no_end}
-use Rattle.lin_log.specs.Words.{hex_word, spaced_word, value_word}
+use Rattle.lin_log.specs.Words.{spaced_word, value_word}
 use Rattle.lin_log.proofs.Items.{joined}
-use Rattle.lin_log.proofs.Quiet.{quiet-called, quiet-decimal, quiet-hex, quiet-spaced}
+use Rattle.lin_log.proofs.Quiet.{quiet-called, quiet-decimal, quiet-spaced}
 use Rattle.lin_values.specs.Coded.{CodedData}
-use Rattle.lin_values.specs.Meaning.{meaning, told_meaning}
+use Rattle.lin_values.specs.Meaning.{told_meaning}
 use Rattle.lin_values.specs.Meant.{Meant}
 use Rattle.lin_values.specs.Shown.{shown}
 use Rattle.lin_export.specs.Named.{slot_names}
-use Rattle.lin_bench.specs.Meanings.{with_meaning}
 use Rattle.lin_bench.specs.Texts.{expected_text, got_text, table_word}
 use Rattle.lin_bench.specs.Slots.{pending}
-use Rattle.lin_bench.specs.declared.expected.Carried.{Carried}
-use Rattle.lin_bench.specs.declared.expected.Carried.TheVariants.{Signals, Request, Response}
 use Rattle.lin_bench.specs.declared.expected.Expected.{Expected}
-use Rattle.lin_bench.specs.declared.expected.Expected.TheVariants as expected
 use Rattle.lin_bench.specs.declared.got.Got.{Got}
-use Rattle.lin_bench.specs.declared.got.Got.TheVariants as got
 use Rattle.lin_bench.specs.declared.got.Pending.{Pending}
-use Rattle.lin_bench.specs.declared.got.Pending.TheVariants.{MessagesWait, AnswersNoted}
 use Rattle.lin_bench.specs.declared.got.Verdict.{Verdict}
 use Rattle.lin_bench.specs.declared.got.Verdict.TheVariants.{Nothing, Met, Unmet, SlotLimit}
 use Rattle.lin_bench.specs.declared.rules.Noted.{Noted}
 use Rattle.lin_bench.specs.Strict.{first_refusal}
-use Rattle.lin_live.specs.Told.{ending, idle_text, in_words, slot_text, steps_ending, value_text, verdict_ending}
+use Rattle.lin_live.specs.Told.{ending, idle_text, slot_text, steps_ending, value_text, verdict_ending}
 use Rattle.lin_live.specs.declared.question.Question.{Question}
 use Rattle.lin_live.specs.declared.question.Question.TheVariants as question
 use Rattle.lin_tool.specs.laws.NamedScripts.{AreOneLine, HasFrameNames, IsOneLine}
 use Rattle.lin_tool.specs.laws.Transcripts.{IsRemark}
 use Rattle.lin_tool.proofs.laws.OneLine.{expected-clean, got-clean, pending-clean}
-use Rattle.lin_tool.proofs.laws.Reasons.{Clean, each-way}
-use Rattle.lin_tool.proofs.laws.Reasons.{both as all-clean}
-use Rattle.lin_tool.proofs.laws.Remarks.{a-remark, is_clean, quiet-clean}
-use Rattle.lin_tool.proofs.laws.Replies.{frame-name, refusal-quiet, slot-quiet, value-quiet}
+use Rattle.lin_tool.proofs.laws.Remarks.{Clean, a-remark, clean-both, each-way, is_clean, quiet-clean}
+use Rattle.lin_tool.proofs.laws.Replies.{refusal-quiet, slot-quiet, value-quiet}
 
 abbrev Quiet : List ℕ → Type 0
 Quiet w = is_quiet w ≡ true
@@ -120,7 +107,7 @@ module _ (c : Parts) (a : HasNames (named c)) (b : HasFrameNames c) where
       let g = got_text c is in
       let body = codes " expected " ++ (w ++ (codes ": " ++ g)) in
       let same : body ++ 10 ∷ [] ≡ codes " expected " ++ (w ++ (codes ": " ++ (g ++ 10 ∷ []))) = ap (λ t. codes " expected " ++ t) (append_assoc w (codes ": " ++ g) (10 ∷ [])) in
-      subst (λ t. IsRemark (35 ∷ t)) same (a-remark body (all-clean w (codes ": " ++ g) (expected-clean c a b what) (got-clean c a b is)))
+      subst (λ t. IsRemark (35 ∷ t)) same (a-remark body (clean-both w (codes ": " ++ g) (expected-clean c a b what) (got-clean c a b is)))
 
   -- what was judged of a line
   pub verdict-remark : (v : Verdict) (es : List LogEntry) → IsRemark (verdict_ending c v es)

@@ -14,7 +14,7 @@ use Rattle.lin_core.specs.declared.port.PortId.TheVariants.{Bus, Host, Node}
 use Rattle.lin_core.specs.declared.reply.Reply.{Reply}
 use Rattle.lin_core.specs.declared.reply.Reply.TheVariants.{Done, Refused}
 use Rattle.lin_core.specs.declared.step.Step.{Step}
-use Rattle.lin_core.specs.declared.step.Step.TheVariants.{Send, Write, Open, Answer, Leave, Hurt, Finish, Timeout, Switch, AskSleep, Wake, Close}
+use Rattle.lin_core.specs.declared.step.Step.TheVariants.{Send, Write, Answer, Leave, Hurt, Timeout, Switch, Close}
 use Rattle.lin_log.specs.Language.{Language, named, nameless, plain}
 use Rattle.lin_log.specs.Laws.{AreNames, HasNames, IsQuiet, are_quiet, is_quiet, no_end}
 use Rattle.lin_log.specs.Words.{line_tail, log_text, port_number_word, port_word, reply_line, reply_words, spaced_word, step_line, step_words, text}
@@ -40,16 +40,13 @@ way-quiet direction.Up = refl
 step-quiet : (l : Language) → HasNames l → (s : Step) → are_quiet (step_words l s) ≡ true
 step-quiet l a (Send from to message) = rw (quiet-called l.nodes a.of_nodes from, quiet-called l.nodes a.of_nodes to, quiet-hex message) refl
 step-quiet l a (Write by signal value) = rw (quiet-called l.nodes a.of_nodes by, quiet-called l.signals a.of_signals signal, value-quiet value) refl
-step-quiet l a Open = refl
 step-quiet l a (Answer node) = rw (quiet-called l.nodes a.of_nodes node) refl
 step-quiet l a (Leave node) = rw (quiet-called l.nodes a.of_nodes node) refl
 step-quiet l a (Hurt bytes) = rw (quiet-hex bytes) refl
-step-quiet l a Finish = refl
 step-quiet l a (Timeout node dir) = rw (quiet-called l.nodes a.of_nodes node, way-quiet dir) refl
 step-quiet l a (Switch table) = rw (quiet-called l.tables a.of_tables table) refl
-step-quiet l a AskSleep = refl
-step-quiet l a Wake = refl
 step-quiet l a (Close host) = rw (quiet-called l.nodes a.of_nodes host) refl
+step-quiet l a s = refl
 
 number-by : (l : Language) (n : ℕ) (t : Bool) → is_quiet (if t then l.nodes.name n else decimal n) ≡ true
     → is_quiet (if t then 58 ∷ l.nodes.name n else decimal n) ≡ true
@@ -105,7 +102,7 @@ log-stays l replies a q past (e ∷ es) =
 abbrev pub plain_replies : Replies
 plain_replies e past = reply_words plain e.reply
 
-no-names : AreNames nameless
+pub no-names : AreNames nameless
 no-names = record { words = λ k h. absurd (omega arith); unlike = λ i k h g e. absurd (omega arith) }
 
 pub plain-names : HasNames plain

@@ -1,9 +1,8 @@
 -- Lines of words: where names are words, and what is fixed has no LF, no line has one.
-use Rattle.std.proofs.Common.{◌≡◌, ℕ, ◌==◌, ◌&&◌, Bool, true, false, List, [], ◌∷◌, ◌++◌, refl, codes, flat_map, if◌then◌else◌, length, nat_lt, arith, Option, Some, None}
+use Rattle.std.proofs.Common.{◌≡◌, ℕ, ◌==◌, ◌&&◌, Bool, true, false, List, [], ◌∷◌, ◌++◌, refl, codes, flat_map, if◌then◌else◌, length, nat_lt, Some, None}
 use Rattle.std.specs.Fmt.{decimal}
 use Rattle.std.specs.List.{list_all}
 use Rattle.std.proofs.lemmas.Bool.{and_parts}
-use Rattle.lin_frame.specs.declared.value.Value.{Value}
 use Rattle.lin_parts.specs.Cluster.{frame_name}
 use Rattle.lin_parts.specs.declared.parts.Parts.{Parts}
 use Rattle.lin_core.specs.Tables.{cause_word, look_word, refusal_word}
@@ -12,17 +11,16 @@ use Rattle.lin_core.specs.declared.event.Look.TheVariants as look
 use Rattle.lin_core.specs.declared.link.Cause.{Cause}
 use Rattle.lin_core.specs.declared.link.Cause.TheVariants as cause
 use Rattle.lin_log.specs.Language.{Called, Language, named, nameless, plain, word_of}
-use Rattle.lin_log.specs.Laws.{AreNames, HasNames, is_quiet}
+use Rattle.lin_log.specs.Laws.{HasNames, is_quiet}
 use Rattle.lin_log.specs.Words.{hex_word, spaced_word, value_word}
 use Rattle.lin_log.specs.declared.reason.Reason.{Reason as StepReason}
 use Rattle.lin_log.specs.declared.reason.Reason.TheVariants as step
 use Rattle.lin_log.proofs.Items.{joined}
 use Rattle.lin_log.proofs.Quiet.{quiet-called, quiet-decimal, quiet-hex}
 use Rattle.lin_bench.specs.Fields.{frames_called}
-use Rattle.lin_bench.specs.LineWords.{Word, carried_word, is_mark, seen_after, seen_byte, seen_text, seen_texts, spaced, spaced_words, word_text, words_text}
+use Rattle.lin_bench.specs.LineWords.{Word, is_mark, seen_after, seen_byte, seen_text, seen_texts, spaced, spaced_words, word_text, words_text}
 use Rattle.lin_bench.specs.LineWords.Word.{Node, Signal, Table, Frame, Number, Range, Hex, Raw, Fixed, Said, Fields, Listed, Mark}
-use Rattle.lin_bench.specs.Texts.{all_pending_words, cluster_text, expected_text, expected_words, fields_word, got_text, got_words, hint_words, other_pending_words, pending_text, pending_words, reason_text, reason_words, step_reason_words, unmarked_words}
-use Rattle.lin_bench.specs.declared.expected.Carried.{Carried}
+use Rattle.lin_bench.specs.Texts.{all_pending_words, cluster_text, expected_text, expected_words, got_text, got_words, hint_words, other_pending_words, pending_text, pending_words, reason_text, reason_words, step_reason_words, unmarked_words}
 use Rattle.lin_bench.specs.declared.expected.Carried.TheVariants.{Signals, Request, Response}
 use Rattle.lin_bench.specs.declared.expected.Expected.{Expected}
 use Rattle.lin_bench.specs.declared.expected.Expected.TheVariants as expected
@@ -38,8 +36,8 @@ use Rattle.lin_live.specs.Told.{reason_text as live_text}
 use Rattle.lin_live.specs.declared.reason.Reason.{Reason as LiveReason}
 use Rattle.lin_live.specs.declared.reason.Reason.TheVariants as live
 use Rattle.lin_tool.specs.laws.NamedScripts.{HasFrameNames}
-use Rattle.lin_tool.proofs.laws.Reasons.{Clean, both, cons-clean, each-way}
-use Rattle.lin_tool.proofs.laws.Remarks.{is_clean, no_lf, quiet-clean}
+use Rattle.lin_tool.proofs.laws.LogLines.{no-names, plain-names}
+use Rattle.lin_tool.proofs.laws.Remarks.{Clean, clean-both, clean-cons, each-way, is_clean, no_lf, quiet-clean}
 use Rattle.lin_tool.proofs.laws.Replies.{frame-name, refusal-quiet, value-quiet}
 
 -- ---- a caller's texts
@@ -49,16 +47,16 @@ seen-by b false e = rw e refl
 
 pub seen-clean : (t : List ℕ) → Clean (seen_text t)
 seen-clean [] = refl
-seen-clean (b ∷ bs) = cons-clean (seen_byte b) (seen_text bs) (seen-by b (b == 10) refl) (seen-clean bs)
+seen-clean (b ∷ bs) = clean-cons (seen_byte b) (seen_text bs) (seen-by b (b == 10) refl) (seen-clean bs)
 
 module _ (gap : List ℕ) (g : Clean gap) where
   after-clean : (ts : List (List ℕ)) → Clean (flat_map (seen_after gap) ts)
   after-clean [] = refl
-  after-clean (t ∷ ts) = both (seen_after gap t) _ (both gap (seen_text t) g (seen-clean t)) (after-clean ts)
+  after-clean (t ∷ ts) = clean-both (seen_after gap t) _ (clean-both gap (seen_text t) g (seen-clean t)) (after-clean ts)
 
   pub texts-clean : (ts : List (List ℕ)) → Clean (seen_texts gap ts)
   texts-clean [] = refl
-  texts-clean (t ∷ ts) = both (seen_text t) _ (seen-clean t) (after-clean ts)
+  texts-clean (t ∷ ts) = clean-both (seen_text t) _ (seen-clean t) (after-clean ts)
 
 -- ---- the law
 abbrev fixed_clean : Word → Bool
@@ -79,7 +77,7 @@ module _ (l : Language) (frames : Called) (a : HasNames l) (b : (f : ℕ) → Cl
   word-clean (Frame Response) h = refl
   word-clean (Number n) h = quiet-clean (decimal n) (quiet-decimal n)
   word-clean (Range low high) h =
-      both (decimal low) (codes ".." ++ decimal high) (quiet-clean (decimal low) (quiet-decimal low)) (quiet-clean (decimal high) (quiet-decimal high))
+      clean-both (decimal low) (codes ".." ++ decimal high) (quiet-clean (decimal low) (quiet-decimal low)) (quiet-clean (decimal high) (quiet-decimal high))
   word-clean (Hex bytes) h = quiet-clean (hex_word bytes) (quiet-hex bytes)
   word-clean (Raw v) h = quiet-clean (value_word v) (value-quiet v)
   word-clean (Fixed text) h = h
@@ -95,31 +93,22 @@ module _ (l : Language) (frames : Called) (a : HasNames l) (b : (f : ℕ) → Cl
   all-clean [] h = refl
   all-clean (w ∷ ws) h =
       let p = and_parts (fixed_clean w) (are_fixed ws) h in
-      both (spaced l frames w) (spaced_words l frames ws) (spaced-clean w p.0) (all-clean ws p.1)
+      clean-both (spaced l frames w) (spaced_words l frames ws) (spaced-clean w p.0) (all-clean ws p.1)
 
   pub line-clean : (ws : List Word) → are_fixed ws ≡ true → Clean (words_text l frames ws)
   line-clean [] h = refl
   line-clean (w ∷ ws) h =
       let p = and_parts (fixed_clean w) (are_fixed ws) h in
-      both (word_text l frames w) (spaced_words l frames ws) (word-clean w p.0) (all-clean ws p.1)
+      clean-both (word_text l frames w) (spaced_words l frames ws) (word-clean w p.0) (all-clean ws p.1)
 
 -- ---- why lines are bad
-no-names : AreNames nameless
-no-names = record { words = λ k h. absurd (omega arith); unlike = λ i k h j e. absurd (omega arith) }
-
-plain-names : HasNames plain
-plain-names = record { of_nodes = no-names; of_signals = no-names; of_tables = no-names }
-
 step-fixed : (why : StepReason) → are_fixed (step_reason_words why) ≡ true
 step-fixed (step.Takes text n) = each-way (λ (t : List ℕ). (is_clean t && true) ≡ true) (n == 1) _ _ refl refl
 step-fixed why = refl
 
 hint-fixed : (h : Hint) → are_fixed (hint_words h) ≡ true
 hint-fixed hint.Nothing = refl
-hint-fixed hint.NoEncoding = refl
-hint-fixed (hint.Units us) = refl
-hint-fixed (hint.Nearest ts) = refl
-hint-fixed (hint.Values ts) = refl
+hint-fixed h = refl
 
 unmarked-fixed : (fields : List (List ℕ)) (ranged : Bool) (h : Hint) → are_fixed (unmarked_words fields ranged h) ≡ true
 unmarked-fixed fields true h = hint-fixed h
@@ -142,15 +131,11 @@ live-clean why = refl
 -- ---- what is so
 cause-fixed : (c : Cause) → is_clean (cause_word c) ≡ true
 cause-fixed cause.Damaged = refl
-cause-fixed cause.TimedOut = refl
-cause-fixed cause.Slept = refl
+cause-fixed c = refl
 
 look-fixed : (how : Look) → is_clean (look_word how) ≡ true
 look-fixed look.Silent = refl
-look-fixed look.NoAnswer = refl
-look-fixed look.Good = refl
-look-fixed look.Damaged = refl
-look-fixed look.Collided = refl
+look-fixed how = refl
 
 one-fixed : (p : Pending) → are_fixed (pending_words p) ≡ true
 one-fixed (MessagesWait host count) = refl

@@ -1,4 +1,4 @@
--- Texts without the lines that begin with `#`.
+-- Texts without LF, and texts without the lines that begin with `#`.
 use Rattle.std.proofs.Common.{◌≡◌, ◌∙◌, ℕ, ◌==◌, Bool, true, false, not, List, [], ◌∷◌, ◌++◌, refl, sym, ap, append_assoc, arith, filter, flat_map, map, if◌then◌else◌}
 use Rattle.std.specs.List.{list_all}
 use Rattle.std.proofs.lemmas.Bool.{and_parts}
@@ -6,10 +6,15 @@ use Rattle.std.proofs.lemmas.Grind.{common_steps}
 use Rattle.std.proofs.lemmas.List.Elements.{All-cons, All-head, All-nil, All-tail}
 use Rattle.std.proofs.lemmas.List.Splits.{slice_split_at}
 use Rattle.lin_log.specs.Laws.{is_quiet, no_end}
-use Rattle.lin_log.proofs.Items.{both, weaker}
+use Rattle.lin_log.proofs.Items.{both, joined, weaker}
 use Rattle.lin_live.specs.Lines.{HasNoLf, but_last, last_one, pieces}
 use Rattle.lin_live.proofs.Cuts.{pieces-some}
 use Rattle.lin_tool.specs.laws.Transcripts.{IsRemark, ended, is_said, lines_with_ends, without_remarks}
+
+-- what holds of both
+pub each-way : {X : Type 0} (P : X → Type 0) (t : Bool) (a b : X) → P a → P b → P (if t then a else b)
+each-way P true a b h k = h
+each-way P false a b h k = k
 
 -- ---- bytes without LF
 abbrev pub no_lf : ℕ → Bool
@@ -17,6 +22,15 @@ no_lf b = not (b == 10)
 
 abbrev pub is_clean : List ℕ → Bool
 is_clean = list_all no_lf
+
+abbrev pub Clean : List ℕ → Type 0
+Clean w = is_clean w ≡ true
+
+pub clean-cons : (b : ℕ) (w : List ℕ) → no_lf b ≡ true → Clean w → Clean (b ∷ w)
+clean-cons b w h k = both (no_lf b) (is_clean w) h k
+
+pub clean-both : (s t : List ℕ) → Clean s → Clean t → Clean (s ++ t)
+clean-both s t h k = joined no_lf s t h k
 
 quiet-lf : (b : ℕ) → no_end b ≡ true → no_lf b ≡ true
 quiet-lf b h = (and_parts (not (b == 10)) (not (b == 13)) h).0

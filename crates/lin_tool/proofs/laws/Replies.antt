@@ -1,5 +1,5 @@
 -- The lines of replies with names, which hold no end of a line within.
-use Rattle.std.proofs.Common.{◌≡◌, ◌+◌, ◌*◌, ◌/◌, ◌%◌, ◌<◌, ◌≤◌, ◌==◌, ◌++◌, ℕ, zero, suc, List, [], ◌∷◌, Bool, true, false, nat_lt, refl, sym, ap, arith, Option, Some, None, length, slice_index, slice_index_or, flat_map, map, take, zip, codes, if◌then◌else◌}
+use Rattle.std.proofs.Common.{◌≡◌, ◌+◌, ◌*◌, ◌/◌, ◌%◌, ◌<◌, ◌≤◌, ◌==◌, ◌++◌, ℕ, zero, suc, List, [], ◌∷◌, Bool, true, false, nat_lt, refl, ap, arith, Option, Some, None, length, slice_index, slice_index_or, flat_map, map, take, zip, codes, if◌then◌else◌}
 use Rattle.std.specs.Prelude.{IfSome}
 use Rattle.std.specs.Fmt.{decimal}
 use Rattle.std.specs.List.{All}
@@ -241,23 +241,7 @@ module _ (c : Parts) (k : Option CodedData) (a : HasNames (named c)) (b : HasFra
 
 pub refusal-quiet : (r : Refusal) → is_quiet (refusal_word r) ≡ true
 refusal-quiet refusal.NoSuchNode = refl
-refusal-quiet refusal.NoSuchSignal = refl
-refusal-quiet refusal.NoSuchTable = refl
-refusal-quiet refusal.NotPublisher = refl
-refusal-quiet refusal.BadValue = refl
-refusal-quiet refusal.NoAddress = refl
-refusal-quiet refusal.BadLength = refl
-refusal-quiet refusal.Closed = refl
-refusal-quiet refusal.QueueFull = refl
-refusal-quiet refusal.Asleep = refl
-refusal-quiet refusal.Awake = refl
-refusal-quiet refusal.SlotOpen = refl
-refusal-quiet refusal.NoSlot = refl
-refusal-quiet refusal.NotYours = refl
-refusal-quiet refusal.Decided = refl
-refusal-quiet refusal.NothingOnWire = refl
-refusal-quiet refusal.PassesCheck = refl
-refusal-quiet refusal.NoTransfer = refl
+refusal-quiet r = refl
 
 pub reply-quiet : (c : Parts) (k : Option CodedData) → HasNames (named c) → HasFrameNames c → IfSome k AreOneLine → (e : LogEntry) (past : List LogEntry) (r : Reply)
     → IsQuiet (lines_of_reply c k e past r)

@@ -27,8 +27,7 @@ use Rattle.lin_tool.specs.laws.Transcripts.{FitsCluster, IsRemark, LastLinesAreR
 use Rattle.lin_tool.proofs.laws.LastLines.{ending-remark, value-remark, verdict-remark}
 use Rattle.lin_tool.proofs.laws.OneLine.{live-clean}
 use Rattle.lin_tool.proofs.laws.LogLines.{entries-append, entries-stay}
-use Rattle.lin_tool.proofs.laws.Reasons.{each-way}
-use Rattle.lin_tool.proofs.laws.Remarks.{remark-goes}
+use Rattle.lin_tool.proofs.laws.Remarks.{each-way, remark-goes}
 
 -- ---- what is told of values has no end of a line in it
 pub fits-one : (c : Parts) (k : Option CodedData) → IfSome k (FitsCluster c) → IfSome k AreOneLine

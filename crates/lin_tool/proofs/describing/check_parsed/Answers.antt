@@ -1,4 +1,4 @@
-use Rattle.std.proofs.Common.{◌≡◌, ◌∙◌, Option, IsPermutation, List, [], map, subst, true}
+use Rattle.std.proofs.Common.{◌∙◌, Option, IsPermutation, [], map, subst, true}
 use Rattle.lin_field.specs.Checks.{remark}
 use Rattle.lin_tool.specs.Coding.{linted}
 use Rattle.lin_tool.proofs.Texts.{coded_answer}

@@ -4,7 +4,7 @@ use Rattle.lin_export.specs.WhereTold.{told}
 use Rattle.lin_text.specs.Written.{WritesText}
 use Rattle.lin_export.proofs.Puttings.{writes-more, written-short}
 use Rattle.lin_tool.specs.Page.{page_data, summary}
-use Rattle.lin_tool.specs.declared.page.pieces.TheConstants.{HEAD, MIDDLE, TAIL}
+use Rattle.lin_tool.specs.declared.page.pieces.TheConstants.{MIDDLE, TAIL}
 use Rattle.lin_tool.proofs.page.write_page.Goals as goal
 
 pub returns-in_err-write_out : goal.returns-in_err-write_out

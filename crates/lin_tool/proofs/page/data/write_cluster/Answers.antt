@@ -1,4 +1,4 @@
-use Rattle.std.proofs.Common.{◌≡◌, ◌∙◌, List, [], ℕ, Option, Ok, ap, refl, sym, append-nil, subst}
+use Rattle.std.proofs.Common.{◌∙◌, List, [], ℕ, Option, Ok, ap, refl, sym, append-nil}
 use Rattle.lin_text.specs.Written.{WritesText}
 use Rattle.lin_export.proofs.Puttings.{writes-nothing, written-short, written-same}
 use Rattle.lin_tool.specs.Page.{cluster_lines}
