@@ -29,7 +29,7 @@ const dropped = async (...names) => { await page.drop(names.map(it => it.startsW
 // What the picture says below it of its slot, once it begins so.
 async function slotShown(wanted) {
 	let line = '';
-	for (let k = 0; k < 200 && !line.startsWith(wanted); k++) { await page.wait(30); line = await page.inFrame('document.getElementById("line").textContent').catch(() => ''); }
+	for (const end = Date.now() + 120000; Date.now() < end && !line.startsWith(wanted);) { await page.wait(30); line = await page.inFrame('document.getElementById("line").textContent').catch(() => ''); }
 	return line.slice(0, wanted.length);
 }
 const write = (name, bytes) => fs.writeFileSync(`${room}/${name}`, bytes);
