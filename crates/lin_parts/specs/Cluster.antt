@@ -33,7 +33,8 @@ nad c n = (node_of c n).nad
 -- out of range: a signal of one bit
 abbrev pub signal_of : Parts → ℕ → Signal
 signal_of c s =
-    slice_index_or c.signals s (record { name = []; publisher = 0; size = 1; initial = Scalar 0 })
+    slice_index_or c.signals s
+    (record { name = []; publisher = 0; subscribers = []; size = 1; initial = Scalar 0 })
 
 -- out of range: a frame of identifier 0, whose protected identifier is 80
 abbrev pub frame_of : Parts → ℕ → SignalFrame

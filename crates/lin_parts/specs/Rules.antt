@@ -44,11 +44,12 @@ is_array (Bytes xs) = true
 abbrev pub place_at : ℕ → Signal → Place
 place_at offset s = record { offset = offset; size = s.size; array = is_array s.initial }
 
--- at most 1,024 signals: each has a publisher, a size that a place may have, and an initial value
--- of that size
+-- at most 1,024 signals: each has a publisher, subscribers that are there, a size that a place may
+-- have, and an initial value of that size
 pub record AreSignals (c : Parts) : Type 0 where
   pub number : length c.signals ≤ 1024
   pub publishers : All (λ s. s.publisher < nodes c) c.signals
+  pub subscribers : All (λ s. All (λ n. n < nodes c) s.subscribers) c.signals
   pub sizes : All (λ s. IsTrue (has_good_size (place_at 0 s))) c.signals
   pub initials : All (λ s. IsTrue (fits_place (place_at 0 s) s.initial)) c.signals
 

@@ -198,6 +198,17 @@ impl Cluster {
         self.signal(signal).publisher
     }
 
+    /// The nodes that subscribe to a signal, in the order of the description; a node may stand there
+    /// twice.
+    pub fn subscribers(&self, signal: u16) -> &[u8]
+        requires { signal < length self.now.signals }
+        ensures subscribers { result.now ≡ (signal_of self.now signal).subscribers }
+        ensures there { All (λ n. n < nodes self.now) result.now }
+    {
+        self.sound();
+        self.signal(signal).subscribers.as_slice()
+    }
+
     /// The size of a signal in bits.
     pub fn signal_size(&self, signal: u16) -> u8
         requires { signal < length self.now.signals }

@@ -16,11 +16,13 @@ pub struct Node {
     pub nad: Option<u8>,
 }
 
-/// A signal of `size` bits, which the node `publisher` sends (ISO 17987-3, signals).
+/// A signal of `size` bits, which the node `publisher` sends and the nodes `subscribers` receive (ISO
+/// 17987-3, signals).
 #[derive(Drop)]
 pub struct Signal {
     pub name: Text,
     pub publisher: u8,
+    pub subscribers: Many<u8>,
     pub size: u8,
     pub initial: Value,
 }
