@@ -1,4 +1,9 @@
+pub mod Ahead
+pub mod Carriers
 pub mod Due
+pub mod Excursions
 pub mod Law
+pub mod Rounds
 pub mod Schedule
+pub mod Walk
 pub mod Walker

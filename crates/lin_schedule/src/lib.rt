@@ -8,10 +8,16 @@
 //! ```
 #![tactic(auto)]
 
+mod after;
+mod awaited;
 mod due;
+mod excursion;
 mod law;
+mod waits;
 mod walker;
 
+pub use awaited::{Awaited, rank};
 pub use due::Due;
 pub use law::{entries_in_turn, excursions_run_once};
+pub use waits::worst_wait;
 pub use walker::Walker;
