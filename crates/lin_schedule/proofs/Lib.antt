@@ -1,4 +1,5 @@
 pub mod Ahead
+pub mod Bounds
 pub mod Clusters
 pub mod Endless
 pub mod Excursions

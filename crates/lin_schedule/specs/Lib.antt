@@ -1,8 +1,10 @@
 pub mod Ahead
 pub mod Carriers
+pub mod Cycles
 pub mod Due
 pub mod Excursions
 pub mod Law
+pub mod Once
 pub mod Rounds
 pub mod Schedule
 pub mod Walk

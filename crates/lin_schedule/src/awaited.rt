@@ -184,7 +184,9 @@ fn first_among(members: &[u16], frames: &[u16]) -> Option<usize>
 /// both are pending.
 pub fn rank(cluster: &Cluster, frames: &[u16], sporadic: u16) -> Option<u16>
     requires { sporadic < length cluster.now.sporadic }
-    ensures { result ≡ rank cluster.now frames.now sporadic }
+    ensures value { result ≡ rank cluster.now frames.now sporadic }
+    ensures some { IfSome result (λ rank. 1 ≤ rank) }
+    ensures few { IfSome result (λ rank. rank ≤ 61) }
 {
     let members = cluster.sporadic(sporadic);
     match first_among(members, frames) {

@@ -10,14 +10,18 @@
 
 mod after;
 mod awaited;
+mod cycles;
 mod due;
 mod excursion;
 mod law;
+mod once;
 mod waits;
 mod walker;
 
 pub use awaited::{Awaited, rank};
+pub use cycles::{cycle, longest_cycle};
 pub use due::Due;
 pub use law::{entries_in_turn, excursions_run_once};
+pub use once::once_wait;
 pub use waits::worst_wait;
 pub use walker::Walker;

@@ -1,0 +1,11 @@
+use Rattle.std.proofs.Common.{◌≡◌, ◌≤◌, ◌*◌, take}
+use Rattle.std.specs.Prelude.{sum_by}
+use Rattle.lin_parts.specs.Cluster.{table_of}
+use Rattle.lin_schedule.specs.Cycles.{slot_time}
+use Rattle.lin_schedule.proofs.cycles.longest_cycle.Given as goal
+
+abbrev pub invariant-loop-entry : goal.invariant-loop-entry
+invariant-loop-entry l = record {
+  sum : l.time ≡ sum_by (slot_time l.fn.cluster) (take l.entry (table_of l.fn.cluster l.fn.table));
+  few : l.time ≤ 1025000000000 * l.entry;
+}
