@@ -4,6 +4,7 @@ pub mod Cycles
 pub mod Due
 pub mod Excursions
 pub mod Law
+pub mod Occurs
 pub mod Once
 pub mod Rounds
 pub mod Schedule

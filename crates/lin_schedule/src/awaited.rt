@@ -123,7 +123,7 @@ fn is_set(flags: &Vec<bool>, number: u16) -> bool
     flags.get(number as usize).copied().unwrap_or(false)
 }
 
-fn is_among(frames: &[u16], frame: u16) -> bool
+pub(crate) fn is_among(frames: &[u16], frame: u16) -> bool
     ensures { result ≡ is_among frames.now frame }
 {
     frames.iter().any(|other| *other == frame)
