@@ -2,6 +2,8 @@
 
 ghost use Rattle.lin_schedule.specs.Walker.{Walks};
 
+mod timing;
+
 use crate::samples::cluster_of;
 use lin_cluster::Cluster;
 use lin_schedule::{Due, Walker, entries_in_turn, excursions_run_once};
