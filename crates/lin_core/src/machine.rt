@@ -171,6 +171,19 @@ impl Core {
         &self.log
     }
 
+    /// Returns the cluster, for another core; the log is dropped.
+    pub fn into_cluster(self) -> Cluster
+        ensures { result ≡ self.cluster }
+    {
+        let Core {
+            setup,
+            log: _log,
+            state: _state,
+        } = self;
+        let Setup { cluster, .. } = setup;
+        cluster
+    }
+
     /// The cluster.
     pub fn cluster(&self) -> &Cluster
         ensures { result.now ≡ self.now.cluster }
