@@ -188,6 +188,81 @@ static void lines(void) {
     linsim_close(&handle);
 }
 
+/* A bench, opened with each of its requests refused. */
+static void opened_bench(uint32_t flags) {
+    linsim_bench_settings bench = {.size = sizeof bench};
+    linsim_handle handle = {NULL};
+    uint32_t status;
+    long number = 0;
+    bench.flags = flags;
+    for (;; number++) {
+        refuse(number);
+        clear();
+        status = linsim_open_bench(ldf, ldf_length, &bench, &handle, &report);
+        is_on = 0;
+        if (!was_refused)
+            break;
+        CHECK(status == LINSIM_NO_MEMORY);
+        CHECK(is_untouched() && handle.at == NULL);
+    }
+    CHECK(number > 20);
+    CHECK(status == LINSIM_DONE && handle.at != NULL);
+    linsim_close(&handle);
+}
+
+/* The lines of a bench script, with each request of each line refused in turn: the bench is closed then, and nothing is written; or
+ * the line needs the memory only to be faster, and has the answer that it has with memory. */
+static void bench_lines(uint16_t format) {
+    static const char *const made[] = {"? time",          "when door 3E 7E",       "send cem door 3E", "slots idle",
+                                       "expect sent cem", "expect message door 3", "? idle",           "nonsense of a line",
+                                       "every 10 ms send cem door 0102030405060708", "slots 20 ms", "expect no lost"};
+    enum { COUNT = sizeof made / sizeof *made };
+    linsim_bench_settings bench = {.size = sizeof bench};
+    linsim_handle handle = {NULL};
+    unsigned n, closed = 0;
+    long number;
+    bench.format = format;
+    for (n = 0; n < COUNT; n++) {
+        size_t length = 0;
+        for (number = -1;; number++) {
+            unsigned earlier;
+            uint32_t status;
+            int is_last;
+            CHECK(linsim_open_bench(ldf, ldf_length, &bench, &handle, &report) == LINSIM_DONE);
+            for (earlier = 0; earlier < n; earlier++)
+                CHECK(linsim_line(&handle, (const uint8_t *)made[earlier], strlen(made[earlier]), out, sizeof out, &report) == LINSIM_DONE);
+            refuse(number);
+            is_on = number >= 0;
+            clear();
+            status = linsim_line(&handle, (const uint8_t *)made[n], strlen(made[n]), out, sizeof out, &report);
+            is_on = 0;
+            is_last = !was_refused;
+            if (number < 0) {
+                length = report.length;
+                memcpy(wanted, out, sizeof wanted);
+            }
+            if (status == LINSIM_DONE) {
+                CHECK(report.length == length && report.number >= LINSIM_END_OK && report.number <= LINSIM_END_BAD_LINE);
+                CHECK(memcmp(out, wanted, sizeof wanted) == 0);
+                refuse(0);
+                clear();
+                CHECK(linsim_newest(&handle, out, sizeof out, &report) == LINSIM_DONE && memcmp(out, wanted, sizeof wanted) == 0);
+                is_on = 0;
+                CHECK(!was_refused);
+                linsim_close(&handle);
+                if (number >= 0 && is_last)
+                    break;
+                continue;
+            }
+            closed++;
+            CHECK(status == LINSIM_NO_MEMORY && number >= 0);
+            CHECK(is_untouched() && handle.at == NULL);
+            CHECK(linsim_newest(&handle, out, sizeof out, &report) == LINSIM_IS_CLOSED);
+        }
+    }
+    CHECK(closed > COUNT);
+}
+
 /* The slots of a message of 4,095 bytes: the message is copied once, when it has arrived, and not in each of its 683 slots. What
  * else is as large is the log where it grows, and what is received of the message. */
 static void long_message(void) {
@@ -225,6 +300,11 @@ int main(int argc, char **argv) {
     whole_runs();
     opened();
     lines();
+    opened_bench(0);
+    opened_bench(LINSIM_PHYSICAL);
+    opened_bench(LINSIM_FIELD);
+    bench_lines(LINSIM_FORMAT_LOG);
+    bench_lines(LINSIM_FORMAT_NAMED);
     long_message();
     printf("%lu passed, %lu failed\n", passed, failed);
     return failed != 0;

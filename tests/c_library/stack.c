@@ -1,5 +1,5 @@
-/* How much stack each call takes, which linsim.h promises: stack FILE.ldf SCRIPT. Writes a line for each call, and for each one that
- * takes more than it may; the last line is `N passed, M failed`. */
+/* How much stack each call takes, which linsim.h promises: stack FILE.ldf SCRIPT BENCH_SCRIPT. Writes a line for each call, and for each
+ * one that takes more than it may; the last line is `N passed, M failed`. */
 #define _POSIX_C_SOURCE 200809L
 #include "linsim.h"
 
@@ -14,6 +14,7 @@ static uint8_t ldf[1 << 22], script[1 << 24], out[1 << 24], stack[ROOM] __attrib
 static size_t ldf_length, script_length;
 static linsim_report report;
 static linsim_settings settings = {16, 0, 0};
+static linsim_bench_settings bench_settings = {.size = sizeof bench_settings, .format = LINSIM_FORMAT_NAMED};
 static linsim_handle handle = {NULL};
 static uint32_t status;
 static unsigned long passed, failed;
@@ -44,6 +45,11 @@ static void *replayed(void *unused) {
 
 static void *opened(void *unused) {
     status = linsim_open(ldf, ldf_length, &settings, &handle, &report);
+    return unused;
+}
+
+static void *bench_opened(void *unused) {
+    status = linsim_open_bench(ldf, ldf_length, &bench_settings, &handle, &report);
     return unused;
 }
 
@@ -92,7 +98,9 @@ static size_t read_all(const char *name, uint8_t *to, size_t room) {
 }
 
 int main(int argc, char **argv) {
-    if (argc != 3)
+    static const uint32_t flags[] = {0, LINSIM_PHYSICAL, LINSIM_FIELD | LINSIM_PHYSICAL};
+    size_t n;
+    if (argc != 4)
         return 2;
     ldf_length = read_all(argv[1], ldf, sizeof ldf);
     script_length = read_all(argv[2], script, sizeof script);
@@ -101,6 +109,15 @@ int main(int argc, char **argv) {
     measure("linsim_line", all_lines, LEAST);
     measure("linsim_newest", newest, LEAST);
     measure("linsim_close", closed, LEAST);
+    script_length = read_all(argv[3], script, sizeof script);
+    for (n = 0; n < sizeof flags / sizeof *flags; n++) {
+        bench_settings.flags = flags[n];
+        printf("flags %lu:\n", (unsigned long)flags[n]);
+        measure("linsim_open_bench", bench_opened, MOST);
+        measure("linsim_line of a bench", all_lines, MOST);
+        measure("linsim_newest of a bench", newest, LEAST);
+        measure("linsim_close of a bench", closed, LEAST);
+    }
     printf("%lu passed, %lu failed\n", passed, failed);
     return failed != 0;
 }

@@ -1,3 +1,4 @@
+pub mod Further
 pub mod Handles
 pub mod Texts
 pub mod Values

@@ -1,3 +1,6 @@
+pub mod Answering
+pub mod BenchSettings
+pub mod Described
 pub mod Held
 pub mod Lines
 pub mod Opening

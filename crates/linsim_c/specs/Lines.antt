@@ -1,6 +1,6 @@
--- One line of a script, made on the core behind a handle.
+-- One line, made on the session behind a handle.
 use Rattle.std.specs.Prelude.{◌≡◌, ◌⊎◌, ◌<◌, ◌≤◌, ◌-◌, ◌^◌, ℕ, List, [], ◌∷◌, ◌++◌, length, drop, Option, Some}
-use Rattle.std.specs.Prelude.{None, Result, Ok, Err, IsErr}
+use Rattle.std.specs.Prelude.{None, Result, Ok, Err, IsErr, Bool, true, false, if◌then◌else◌}
 use Rattle.std.specs.Str.Lines.{strip_carriage_return}
 use Rattle.lin_core.specs.Core.{CoreData, IsAlike, answered}
 use Rattle.lin_core.specs.declared.log.LogEntry.{LogEntry}
@@ -10,11 +10,14 @@ use Rattle.lin_log.specs.Language.{plain}
 use Rattle.lin_log.specs.Said.{line_says}
 use Rattle.lin_log.specs.Words.{text}
 use Rattle.lin_log.specs.declared.reason.Reason.{Reason}
+use Rattle.linsim_c.specs.Answering.{AnswersLine, BenchData, ending}
 use Rattle.linsim_c.specs.Statuses.{Answer}
 use Rattle.linsim_c.specs.Writing.{Writes}
 use Rattle.linsim_c.specs.declared.fault.Fault.{Fault}
 use Rattle.linsim_c.specs.declared.fault.Fault.TheVariants.{BadLine, NoRoom, OutOfMemory, LogFull}
 use Rattle.linsim_c.specs.declared.fault.Fault.TheVariants.{Untold, IsClosed}
+use Rattle.linsim_c.specs.declared.kept.Session.{Session}
+use Rattle.linsim_c.specs.declared.kept.Session.TheVariants.{Script, Bench}
 
 -- what a line of a script says: nothing, or a step; one CR at its end is dropped
 abbrev pub says : List ℕ → Result (Option (PortId × Step)) Reason
@@ -54,25 +57,44 @@ StepsBy (Err why) line c d = IsUnmade why line c d
 
 -- the line is made, and its entry's text written; or made but not told of, for want of room or
 -- memory; or not made. Where it isn't written, nothing is.
-abbrev pub MakesOn : Answer → List ℕ → CoreData → CoreData → List ℕ → List ℕ → Type 0
-MakesOn (Ok n) line c d old new =
+abbrev pub MakesStep : Answer → List ℕ → CoreData → CoreData → List ℕ → List ℕ → Type 0
+MakesStep (Ok told) line c d old new =
     (said : Option (PortId × Step)) × IsMade line c d said
-    × Writes (Ok n) (text (entries_of c said)) old new
-MakesOn (Err (NoRoom n)) line c d old new =
+    × Writes 0 (Ok told) (text (entries_of c said)) old new
+MakesStep (Err (NoRoom told)) line c d old new =
     (said : Option (PortId × Step)) × IsMade line c d said
-    × Writes (Err (NoRoom n)) (text (entries_of c said)) old new
-MakesOn (Err Untold) line c d old new =
+    × Writes 0 (Err (NoRoom told)) (text (entries_of c said)) old new
+MakesStep (Err Untold) line c d old new =
     ((said : Option (PortId × Step)) × IsMade line c d said) × (new ≡ old)
-MakesOn (Err why) line c d old new = IsUnmade why line c d × (new ≡ old)
+MakesStep (Err why) line c d old new = IsUnmade why line c d × (new ≡ old)
 
--- the same behind a handle, of which a call with no core says so and changes nothing
-abbrev pub Makes : Option CoreData → Option CoreData → Answer → List ℕ → List ℕ → List ℕ → Type 0
+-- the same on a session: a step of a script, or a line of a bench script
+abbrev pub MakesOn : Answer → List ℕ → Session → Session → List ℕ → List ℕ → Type 0
+MakesOn answer line (Script c) t old new =
+    (d : CoreData) × (t ≡ Script d) × MakesStep answer line c d old new
+MakesOn answer line (Bench b) t old new =
+    (d : BenchData) × (t ≡ Bench d) × AnswersLine answer line b d old new
+
+-- a bench on which a line ended early, for want of memory or of place in the log
+abbrev pub is_lost : Session → Answer → Bool
+is_lost (Bench b) (Err OutOfMemory) = true
+is_lost (Bench b) (Err LogFull) = true
+is_lost session answer = false
+
+-- the same behind a handle: a call with no session says so and changes nothing, and a bench that is
+-- lost is closed
+abbrev pub Makes : Option Session → Option Session → Answer → List ℕ → List ℕ → List ℕ → Type 0
 Makes None after answer line old new = (answer ≡ Err IsClosed) × (after ≡ None) × (new ≡ old)
-Makes (Some c) after answer line old new =
-    (d : CoreData) × (after ≡ Some d) × MakesOn answer line c d old new
+Makes (Some s) after answer line old new =
+    (t : Session) × (after ≡ (if is_lost t answer then None else Some t))
+    × MakesOn answer line s t old new
 
--- the newest entry's text is written, and the core stays as it was
-abbrev pub TellsNewest : Option CoreData → Option CoreData → Answer → List ℕ → List ℕ → Type 0
+-- the text of the newest entry, or the newest answer, is written
+abbrev pub TellsOn : Answer → Session → List ℕ → List ℕ → Type 0
+TellsOn answer (Script c) old new = Writes 0 answer (text (drop (length c.log - 1) c.log)) old new
+TellsOn answer (Bench b) old new = Writes (ending b.answer) answer b.answer old new
+
+-- the same behind a handle, and the session stays as it was
+abbrev pub TellsNewest : Option Session → Option Session → Answer → List ℕ → List ℕ → Type 0
 TellsNewest None after answer old new = (answer ≡ Err IsClosed) × (after ≡ None) × (new ≡ old)
-TellsNewest (Some c) after answer old new =
-    (after ≡ Some c) × Writes answer (text (drop (length c.log - 1) c.log)) old new
+TellsNewest (Some s) after answer old new = (after ≡ Some s) × TellsOn answer s old new

@@ -38,8 +38,8 @@ Runs (Err why) ldf s bytes = RunFaults why ldf s bytes
 
 -- the text of the run's log, written or without room; or why there is none, and nothing is written
 abbrev pub Replays : Answer → List ℕ → Settings → List ℕ → List ℕ → List ℕ → Type 0
-Replays (Ok n) ldf s bytes old new =
-    (log : List LogEntry) × IsLogOf ldf s bytes log × Writes (Ok n) (text log) old new
-Replays (Err (NoRoom n)) ldf s bytes old new =
-    (log : List LogEntry) × IsLogOf ldf s bytes log × Writes (Err (NoRoom n)) (text log) old new
+Replays (Ok told) ldf s bytes old new =
+    (log : List LogEntry) × IsLogOf ldf s bytes log × Writes 0 (Ok told) (text log) old new
+Replays (Err (NoRoom told)) ldf s bytes old new =
+    (log : List LogEntry) × IsLogOf ldf s bytes log × Writes 0 (Err (NoRoom told)) (text log) old new
 Replays (Err why) ldf s bytes old new = RunFaults why ldf s bytes × (new ≡ old)

@@ -49,6 +49,11 @@ TextFaults (fault.Finding f) text = IsFirstFinding text f
 TextFaults OutOfMemory text = Unit {0}
 TextFaults _ text = ⊥
 
+-- the declarations of an LDF text, or why it has none
+abbrev pub AnswersParse : Result Description Fault → List ℕ → Type 0
+AnswersParse (Ok description) text = Describes text description
+AnswersParse (Err why) text = TextFaults why text
+
 -- what is answered to an LDF text
 abbrev pub AnswersText : Result Parts Fault → List ℕ → Type 0
 AnswersText (Ok c) text = IsClusterOf text c

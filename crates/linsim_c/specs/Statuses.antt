@@ -11,16 +11,17 @@ use Rattle.linsim_c.specs.declared.fault.Fault.TheVariants.{UnknownFlags, BadCap
 use Rattle.linsim_c.specs.declared.fault.Fault.TheVariants.{LdfTooLong}
 use Rattle.linsim_c.specs.declared.fault.Fault.TheVariants.{NoSuchTable, ScriptTooLong, BadLine}
 use Rattle.linsim_c.specs.declared.fault.Fault.TheVariants.{NoRoom, OutOfMemory, LogFull, Untold}
-use Rattle.linsim_c.specs.declared.fault.Fault.TheVariants.{IsOpen, IsClosed}
+use Rattle.linsim_c.specs.declared.fault.Fault.TheVariants.{IsOpen, IsClosed, BadSize, UnknownFormat}
 use Rattle.linsim_c.specs.declared.fault.Fault.TheVariants as fault
 use Rattle.linsim_c.specs.declared.fault.Report.{Report}
+use Rattle.linsim_c.specs.declared.told.Told.{Told}
 
--- a call ends with the length of the text that it wrote, or with a fault
+-- a call ends with the text that it wrote, or with a fault
 abbrev pub Answer : Type 0
-Answer = Result ℕ Fault
+Answer = Result Told Fault
 
 abbrev pub status_of : Answer → ℕ
-status_of (Ok length) = 0
+status_of (Ok text) = 0
 status_of (Err UnknownFlags) = 1
 status_of (Err BadCapacity) = 2
 status_of (Err LdfTooLong) = 3
@@ -29,12 +30,14 @@ status_of (Err (fault.Finding f)) = 4
 status_of (Err NoSuchTable) = 5
 status_of (Err ScriptTooLong) = 6
 status_of (Err (BadLine line)) = 7
-status_of (Err (NoRoom length)) = 8
+status_of (Err (NoRoom text)) = 8
 status_of (Err OutOfMemory) = 9
 status_of (Err LogFull) = 10
 status_of (Err Untold) = 11
 status_of (Err IsOpen) = 12
 status_of (Err IsClosed) = 13
+status_of (Err BadSize) = 14
+status_of (Err UnknownFormat) = 15
 
 -- the numbers of an LDF text's faults
 abbrev pub fault_number : LdfFault → ℕ
@@ -57,29 +60,34 @@ place_of (SectionTwice at) = at
 place_of (NameTwice at) = at
 place_of ldf.OutOfMemory = record { line = 0; column = 0 }
 
--- a report of nothing but a length, or a place
-abbrev pub of_length : ℕ → Report
-of_length length = record { length = length; line = 0; column = 0; number = 0 }
+-- a report of a text, of a place, or of nothing
+abbrev pub of_text : Told → Report
+of_text text = record { length = text.length; line = 0; column = 0; number = text.number }
 
 abbrev pub at_place : ℕ → ℕ → ℕ → Report
 at_place line column number = record { length = 0; line = line; column = column; number = number }
 
+abbrev pub nothing : Report
+nothing = record { length = 0; line = 0; column = 0; number = 0 }
+
 abbrev pub report_of : Answer → Report
-report_of (Ok length) = of_length length
-report_of (Err (NoRoom length)) = of_length length
+report_of (Ok text) = of_text text
+report_of (Err (NoRoom text)) = of_text text
 report_of (Err (BadLine line)) = at_place line 0 0
 report_of (Err (Ldf f)) = at_place (place_of f).line (place_of f).column (fault_number f)
 report_of (Err (fault.Finding f)) = at_place f.line f.column f.number
-report_of (Err UnknownFlags) = of_length 0
-report_of (Err BadCapacity) = of_length 0
-report_of (Err LdfTooLong) = of_length 0
-report_of (Err NoSuchTable) = of_length 0
-report_of (Err ScriptTooLong) = of_length 0
-report_of (Err OutOfMemory) = of_length 0
-report_of (Err LogFull) = of_length 0
-report_of (Err Untold) = of_length 0
-report_of (Err IsOpen) = of_length 0
-report_of (Err IsClosed) = of_length 0
+report_of (Err UnknownFlags) = nothing
+report_of (Err BadCapacity) = nothing
+report_of (Err LdfTooLong) = nothing
+report_of (Err NoSuchTable) = nothing
+report_of (Err ScriptTooLong) = nothing
+report_of (Err OutOfMemory) = nothing
+report_of (Err LogFull) = nothing
+report_of (Err Untold) = nothing
+report_of (Err IsOpen) = nothing
+report_of (Err IsClosed) = nothing
+report_of (Err BadSize) = nothing
+report_of (Err UnknownFormat) = nothing
 
 -- how a call ended, of which the facts hold that this says
 pub record IsCall (facts : Answer → Type 0) (status : ℕ) (report : Report) : Type 0 where

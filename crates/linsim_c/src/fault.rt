@@ -2,10 +2,13 @@
 
 ghost use Rattle.std.specs.Prelude.{◌≡◌};
 ghost use Rattle.linsim_c.specs.Statuses.{fault_number, place_of, report_of, status_of};
+ghost use Rattle.linsim_c.specs.declared.fault.Fault.TheVariants.{OutOfMemory as NoMemory};
 
+use crate::told::Told;
 use lin_cluster::Finding;
 use lin_ldf::LdfFault;
 use lin_parts::Place;
+use std::alloc::AllocError;
 
 /// Why a call didn't do what it is for.
 #[derive(Drop)]
@@ -25,8 +28,8 @@ pub(crate) enum Fault {
     ScriptTooLong,
     /// The first line that has no form, or is too long, counted from 1.
     BadLine { line: u64 },
-    /// The text has this many bytes, and there is less room.
-    NoRoom { length: usize },
+    /// There is less room than this text has bytes.
+    NoRoom(Told),
     OutOfMemory,
     /// The log has 4,294,967,295 entries.
     LogFull,
@@ -36,6 +39,18 @@ pub(crate) enum Fault {
     IsOpen,
     /// The handle has no core.
     IsClosed,
+    /// The size of the settings isn't 8 to 4,096, or a further byte isn't 0.
+    BadSize,
+    /// The format has no meaning.
+    UnknownFormat,
+}
+
+impl From<AllocError> for Fault {
+    ghost from_gives = { λ _ fault. fault ≡ NoMemory };
+
+    fn from(_: AllocError) -> Fault {
+        Fault::OutOfMemory
+    }
 }
 
 /// What a status is about; what it isn't about is 0, and so is all of an LDF text that is too long.
@@ -48,7 +63,7 @@ pub struct Report {
     pub line: u64,
     /// The column of an LDF text in bytes, from 1.
     pub column: u64,
-    /// The number of the LDF text's fault, 1 to 7, or of its first finding, 1 to 18.
+    /// The number of the LDF text's fault, 1 to 7, or of its first finding; or that of the text.
     pub number: u32,
 }
 
@@ -85,7 +100,7 @@ fn place_of_fault(fault: &LdfFault) -> Place
 }
 
 /// The status of a call that was answered so.
-fn status(answer: &Result<usize, Fault>) -> u32
+fn status(answer: &Result<Told, Fault>) -> u32
     ensures { result ≡ status_of answer.now }
 {
     match answer {
@@ -97,17 +112,19 @@ fn status(answer: &Result<usize, Fault>) -> u32
         Err(Fault::NoSuchTable) => 5,
         Err(Fault::ScriptTooLong) => 6,
         Err(Fault::BadLine { line: _ }) => 7,
-        Err(Fault::NoRoom { length: _ }) => 8,
+        Err(Fault::NoRoom(_)) => 8,
         Err(Fault::OutOfMemory) => 9,
         Err(Fault::LogFull) => 10,
         Err(Fault::Untold) => 11,
         Err(Fault::IsOpen) => 12,
         Err(Fault::IsClosed) => 13,
+        Err(Fault::BadSize) => 14,
+        Err(Fault::UnknownFormat) => 15,
     }
 }
 
 /// What the status is about.
-fn reported(answer: &Result<usize, Fault>) -> Report
+fn reported(answer: &Result<Told, Fault>) -> Report
     ensures { result ≡ report_of answer.now }
 {
     let mut report = Report {
@@ -117,7 +134,10 @@ fn reported(answer: &Result<usize, Fault>) -> Report
         number: 0,
     };
     match answer {
-        Ok(length) | Err(Fault::NoRoom { length }) => report.length = *length,
+        Ok(text) | Err(Fault::NoRoom(text)) => {
+            report.length = text.length;
+            report.number = text.number;
+        }
         Err(Fault::BadLine { line }) => report.line = *line,
         Err(Fault::Ldf(fault)) => {
             let at = place_of_fault(fault);
@@ -136,7 +156,7 @@ fn reported(answer: &Result<usize, Fault>) -> Report
 }
 
 /// Reports how a call ended, and answers its status.
-pub(crate) fn told(answer: Result<usize, Fault>, to: &mut Report) -> u32
+pub(crate) fn told(answer: Result<Told, Fault>, to: &mut Report) -> u32
     ensures status { result ≡ status_of answer }
     ensures report { to.new ≡ report_of answer }
 {

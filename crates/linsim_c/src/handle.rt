@@ -1,11 +1,11 @@
-//! A core's owner, in the form that C keeps: one pointer, which is null with no core.
+//! A session's owner, in the form that C keeps: one pointer, which is null with no session.
 ghost use Rattle.std.specs.Prelude.{◌≡◌};
 ghost use Rattle.std.specs.declared.option.Option.{Option};
 ghost use Rattle.std.specs.declared.option.Option.TheVariants.{None, Some};
 ghost use Rattle.std.specs.Option.{MatchOption};
 ghost use Rattle.std.specs.Coded.{coded_option};
-ghost use Rattle.lin_core.specs.Core.{CoreData};
 ghost use Rattle.linsim_c.specs.contracts.kept.Kept.{the_row};
+ghost use Rattle.linsim_c.specs.declared.kept.Session.{Session};
 
 use crate::kept::Kept;
 use crate::loose::Loose;
@@ -14,11 +14,11 @@ use std::marker::Model;
 use std::mem;
 use std::ptr::null_mut;
 
-/// A core or none, as C keeps it.
+/// A session or none, as C keeps it.
 #[repr(C)]
 pub struct Handle {
     at: *mut u8,
-    pub ghost value: { Option CoreData } by { coded_option the_row.coded },
+    pub ghost value: { Option Session } by { coded_option the_row.coded },
 }
 
 impl Model for Handle {
@@ -34,10 +34,10 @@ impl Handle {
         Handle { at: null_mut() }
     }
 
-    fn of(core: Loose<Kept, Global>) -> Handle
-        ensures { result.value ≡ Some core.value }
+    fn of(kept: Loose<Kept, Global>) -> Handle
+        ensures { result.value ≡ Some kept.value }
     {
-        let Loose { at, alloc: _ } = core;
+        let Loose { at, alloc: _ } = kept;
         Handle {
             at: at.cast::<u8>(),
         }
@@ -57,7 +57,7 @@ impl Handle {
         }
     }
 
-    /// Takes the core out.
+    /// Takes the session out.
     pub fn take(&mut self, alloc: Global) -> Option<Box<Kept>>
         ensures old { MatchOption result (self.old.value ≡ None)
             (λ b. self.old.value ≡ Some b.value) }
@@ -69,11 +69,11 @@ impl Handle {
         }
     }
 
-    /// Puts a core in, and frees the one that was there.
-    pub fn put(&mut self, alloc: Global, core: Box<Kept>)
-        ensures { self.new.value ≡ Some core.value }
+    /// Puts a session in, and frees the one that was there.
+    pub fn put(&mut self, alloc: Global, kept: Box<Kept>)
+        ensures { self.new.value ≡ Some kept.value }
     {
-        match mem::replace(self, Handle::of(Loose::of(core))).into_loose(alloc) {
+        match mem::replace(self, Handle::of(Loose::of(kept))).into_loose(alloc) {
             Some(loose) => {
                 let _old = loose.into_box();
             }

@@ -1,15 +1,24 @@
-//! `linsim` as a static library for C, whose header is `linsim.h`: whole runs, and a cluster's core
-//! behind a handle, which makes one line of a script at a time.
+//! `linsim` as a static library for C, whose header is `linsim.h`: whole runs, and handles, which make
+//! one line of a script or of a bench script at a time.
 #![tactic(auto)]
 
-ghost use Rattle.std.specs.Prelude.{◌≡◌};
+ghost use Rattle.std.specs.Prelude.{◌≡◌, ℕ, List, length};
+ghost use base.Fml.{Share};
+ghost use types.Logic.{sem};
+ghost use denote.Array.{Array};
+ghost use denote.Builtin.{u8};
+ghost use denote.RawPtr.{lies_at};
 ghost use Rattle.std.specs.declared.option.Option.TheVariants.{None};
+ghost use Rattle.linsim_c.specs.BenchSettings.{IsSized};
 ghost use Rattle.linsim_c.specs.Lines.{Makes, TellsNewest};
-ghost use Rattle.linsim_c.specs.Opening.{Opens};
+ghost use Rattle.linsim_c.specs.Opening.{Opens, OpensBench};
 ghost use Rattle.linsim_c.specs.Replaying.{Replays};
 ghost use Rattle.linsim_c.specs.Statuses.{IsCall};
 ghost use Rattle.linsim_c.specs.Version.{GivesVersion, version_report};
 
+mod bench;
+mod bench_settings;
+mod described;
 mod fault;
 mod handle;
 mod kept;
@@ -19,12 +28,14 @@ mod opening;
 mod replaying;
 mod settings;
 mod telling;
+mod told;
 mod version;
 
 use fault::{Report, told};
 use handle::Handle;
 use settings::Settings;
 use std::alloc::Global;
+use std::slice::from_raw_parts;
 use telling::put;
 
 /// Writes the version as text at the beginning of `out`, and its length and number to the report.
@@ -33,9 +44,7 @@ pub extern "C" fn linsim_version(out: &mut [u8], report: &mut Report) -> u32
     ensures text { GivesVersion result out.old out.new }
     ensures report { report.new ≡ version_report }
 {
-    let status = told(put(version::TEXT, out), report);
-    report.number = version::NUMBER;
-    status
+    told(put(version::TEXT, version::NUMBER, out), report)
 }
 
 /// Makes the steps of a script over the cluster of an LDF text, and writes the text of their log at
@@ -55,7 +64,7 @@ pub extern "C" fn linsim_replay(
     told(replaying::replay(alloc, ldf, settings, script, out), report)
 }
 
-/// Opens a core with an empty log on the cluster of an LDF text, where the handle has none.
+/// Opens a core with an empty log on the cluster of an LDF, if the handle has no session.
 #[unsafe(no_mangle)]
 pub extern "C" fn linsim_open(
     alloc: Global,
@@ -70,8 +79,42 @@ pub extern "C" fn linsim_open(
     told(opening::open(alloc, ldf, settings, handle), report)
 }
 
-/// Makes the step of a line of a script, and writes the text of its entry at the beginning of
-/// `out`; none of either for a line that says no step.
+/// Opens a bench on the cluster of an LDF, if the handle has no session.
+fn open_bench(
+    alloc: Global,
+    ldf: &[u8],
+    settings: &[u8],
+    handle: &mut Handle,
+    report: &mut Report,
+) -> u32
+    ensures { IsCall (λ a. OpensBench handle.old.value handle.new.value a ldf.now settings.now)
+        result report.new }
+{
+    told(opening::open_bench(alloc, ldf, settings, handle), report)
+}
+
+/// Opens a bench on the cluster of an LDF, if the handle has no session. The settings are as many
+/// bytes as their first 8 say, and at least these 8.
+#[unsafe(no_mangle)]
+pub unsafe extern "C" fn linsim_open_bench(
+    alloc: Global,
+    ldf: &[u8],
+    settings: *const u8,
+    handle: &mut Handle,
+    report: &mut Report,
+) -> u32
+    ghost g: { Share × List ℕ }
+    requires* { sem 𝓛 (lies_at (Array u8 (length g.1)) g.0 settings g.1) ∗ ⌜ IsSized g.1 ⌝ }
+    ensures* { sem 𝓛 (lies_at (Array u8 (length g.1)) g.0 settings g.1)
+        ∗ ⌜ IsCall (λ a. OpensBench handle.old.value handle.new.value a ldf.now g.1)
+        result report.new ⌝ }
+{
+    let size = bench_settings::read_size(from_raw_parts(settings, 8));
+    open_bench(alloc, ldf, from_raw_parts(settings, size), handle, report)
+}
+
+/// Makes a line on the session of a handle, and writes its text at the beginning of `out`: that of the
+/// line's entry, and nothing for a line that says no step; or the answer to the line of a bench script.
 #[unsafe(no_mangle)]
 pub extern "C" fn linsim_line(
     alloc: Global,
@@ -86,8 +129,8 @@ pub extern "C" fn linsim_line(
     told(line::make(alloc, handle, line, out), report)
 }
 
-/// Writes the text of the newest entry of the log at the beginning of `out`; nothing where the log
-/// is empty.
+/// Writes the text of the newest entry of the log, or the newest answer, at the beginning of `out`;
+/// nothing if there is none.
 #[unsafe(no_mangle)]
 pub extern "C" fn linsim_newest(
     alloc: Global,
@@ -101,10 +144,10 @@ pub extern "C" fn linsim_newest(
     told(line::tell_newest(alloc, handle, out), report)
 }
 
-/// Frees the core, if the handle has one.
+/// Frees the session, if the handle has one.
 #[unsafe(no_mangle)]
 pub extern "C" fn linsim_close(alloc: Global, handle: &mut Handle)
     ensures { handle.new.value ≡ None }
 {
-    let _core = handle.take(alloc);
+    let _kept = handle.take(alloc);
 }

@@ -5,6 +5,7 @@ ghost use Rattle.linsim_c.specs.Replaying.{Replays, Runs};
 use crate::fault::Fault;
 use crate::settings::{Settings, set_up};
 use crate::telling::put_log;
+use crate::told::Told;
 use lin_core::Core;
 use lin_log::{ScriptFault, run_script};
 use lin_text::TextBuffer;
@@ -42,7 +43,7 @@ pub(crate) fn replay(
     settings: &Settings,
     script: &[u8],
     out: &mut [u8],
-) -> Result<usize, Fault>
+) -> Result<Told, Fault>
     ensures { Replays result ldf.now settings.now script.now out.old out.new }
 {
     let core = run(alloc, ldf, settings, script)?;

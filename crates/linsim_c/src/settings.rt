@@ -1,14 +1,17 @@
 //! What a core begins with: the cluster of an LDF text, and settings.
 
-ghost use Rattle.linsim_c.specs.Setups.{AnswersText, SetsUp, Tells};
+ghost use Rattle.std.specs.Prelude.{List, ℕ};
+ghost use Rattle.lin_ldf.specs.Describes.{Describes};
+ghost use Rattle.linsim_c.specs.Setups.{AnswersParse, AnswersText, SetsUp, Tells};
 
 use crate::fault::Fault;
 use lin_cluster::{CheckFault, Cluster, check};
 use lin_ldf::{LdfFault, parse};
+use lin_parts::description::Description;
 use std::alloc::Global;
 
 /// The most bytes that an LDF text may have.
-const LONGEST_LDF: usize = 4_194_304;
+pub(crate) const LONGEST_LDF: usize = 4_194_304;
 
 /// The settings of a run or of an open core.
 #[derive(Drop)]
@@ -23,12 +26,39 @@ pub struct Settings {
 }
 
 /// Why a text is no description, to C.
-fn fault_of(fault: LdfFault) -> Fault
+pub(crate) fn fault_of(fault: LdfFault) -> Fault
     ensures { Tells result fault }
 {
     match fault {
         LdfFault::OutOfMemory => Fault::OutOfMemory,
         fault => Fault::Ldf(fault),
+    }
+}
+
+/// What the declarations of an LDF text say.
+///
+/// # Errors
+/// `Ldf` and `OutOfMemory`.
+pub(crate) fn description_of(alloc: Global, ldf: &[u8]) -> Result<Description, Fault>
+    ensures { AnswersParse result ldf.now }
+{
+    match parse(alloc, ldf) {
+        Ok(description) => Ok(description),
+        Err(fault) => Err(fault_of(fault)),
+    }
+}
+
+/// The cluster that a description says.
+///
+/// # Errors
+/// `Finding` and `OutOfMemory`.
+pub(crate) fn said_by(alloc: Global, description: Description) -> Result<Cluster, Fault>
+    ensures { (text : List ℕ) → Describes text description → AnswersText result text }
+{
+    match check(alloc, description) {
+        Ok(cluster) => Ok(cluster),
+        Err(CheckFault::OutOfMemory) => Err(Fault::OutOfMemory),
+        Err(CheckFault::Findings(found)) => Err(Fault::Finding(found.as_slice()[0])),
     }
 }
 
@@ -39,15 +69,8 @@ fn fault_of(fault: LdfFault) -> Fault
 fn cluster_of(alloc: Global, ldf: &[u8]) -> Result<Cluster, Fault>
     ensures { AnswersText result ldf.now }
 {
-    let description = match parse(alloc, ldf) {
-        Ok(description) => description,
-        Err(fault) => return Err(fault_of(fault)),
-    };
-    match check(alloc, description) {
-        Ok(cluster) => Ok(cluster),
-        Err(CheckFault::OutOfMemory) => Err(Fault::OutOfMemory),
-        Err(CheckFault::Findings(found)) => Err(Fault::Finding(found.as_slice()[0])),
-    }
+    let description = description_of(alloc, ldf)?;
+    said_by(alloc, description)
 }
 
 /// The cluster that an LDF text describes, where the settings fit it.

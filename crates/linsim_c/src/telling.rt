@@ -6,29 +6,30 @@ ghost use Rattle.linsim_c.specs.declared.fault.Fault.TheVariants.{OutOfMemory};
 ghost use Rattle.linsim_c.specs.Writing.{Writes};
 
 use crate::fault::Fault;
+use crate::told::Told;
 use lin_core::Log;
 use lin_log::put_entries;
 use lin_text::{TextBuffer, TextWriter};
 use std::alloc::Global;
 
-/// Writes these bytes at the beginning of `out`, and answers how many.
+/// Writes a text at the beginning of `out`, whose number in the report is this one.
 ///
 /// # Errors
 /// `NoRoom`; nothing was written.
-pub(crate) fn put(bytes: &[u8], out: &mut [u8]) -> Result<usize, Fault>
-    ensures text { Writes result bytes.now out.old out.new }
+pub(crate) fn put(bytes: &[u8], number: u32, out: &mut [u8]) -> Result<Told, Fault>
+    ensures text { Writes number result bytes.now out.old out.new }
     ensures memory { result ≢ Err OutOfMemory }
 {
     let length = bytes.len();
+    let text = Told { length, number };
     if length > out.len() {
-        return Err(Fault::NoRoom { length });
+        return Err(Fault::NoRoom(text));
     }
     out[..length].copy_from_slice(bytes);
-    Ok(length)
+    Ok(text)
 }
 
-/// Writes the text of the entries of a log from one on at the beginning of `out`, and answers how
-/// many bytes it has.
+/// Writes the text of the entries of a log from one on at the beginning of `out`.
 ///
 /// # Errors
 /// `NoRoom` and `OutOfMemory`; nothing was written.
@@ -38,8 +39,8 @@ pub(crate) fn put_log(
     from: usize,
     buffer: &mut TextBuffer,
     out: &mut [u8],
-) -> Result<usize, Fault>
-    ensures { Writes result (text (drop from log.now.entries)) out.old out.new }
+) -> Result<Told, Fault>
+    ensures { Writes 0 result (text (drop from log.now.entries)) out.old out.new }
 {
     let mut bytes = Vec::new(alloc);
     let mut lines = TextWriter::new(&mut bytes, buffer);
@@ -47,5 +48,5 @@ pub(crate) fn put_log(
     if lines.finish().is_err() {
         return Err(Fault::OutOfMemory);
     }
-    put(bytes.as_slice(), out)
+    put(bytes.as_slice(), 0, out)
 }
