@@ -1,5 +1,6 @@
-/* calls FILE.ldf SCRIPT LONG_SCRIPT LOG LONG_LOG: times 100,000 whole runs of SCRIPT, whose log is LOG, and the lines of
- * LONG_SCRIPT on one open cluster, whose log is LONG_LOG. */
+/* calls FILE.ldf SCRIPT LONG_SCRIPT LOG LONG_LOG LINES ANSWERS SECONDS: times 100,000 whole runs of SCRIPT, whose log is LOG; the
+ * lines of LONG_SCRIPT on one open cluster, whose log is LONG_LOG; and the LINES of a bench script on one bench, whose answers are
+ * ANSWERS, and which `live` answers in so many SECONDS of processor time. */
 #include "linsim.h"
 
 #include <stdio.h>
@@ -57,7 +58,9 @@ static double whole_runs(text ldf, text script, text log, uint8_t *out) {
     return best / RUNS;
 }
 
-static double lines(text ldf, text script, text log, uint8_t *out) {
+/* The lines of a script on one open cluster, or of a bench script on one bench. */
+static double lines(int is_bench, text ldf, text script, text log, uint8_t *out) {
+    const linsim_bench_settings bench = {.size = sizeof bench};
     double best = 1e9;
     size_t made = 0;
     int time;
@@ -66,7 +69,10 @@ static double lines(text ldf, text script, text log, uint8_t *out) {
         size_t from = 0, written = 0;
         double began = seconds();
         made = 0;
-        expect(linsim_open(ldf.bytes, ldf.length, &settings, &handle, &report) == LINSIM_DONE, "not opened");
+        expect((is_bench ? linsim_open_bench(ldf.bytes, ldf.length, &bench, &handle, &report)
+                         : linsim_open(ldf.bytes, ldf.length, &settings, &handle, &report))
+                       == LINSIM_DONE,
+               "not opened");
         while (from < script.length) {
             const uint8_t *line = script.bytes + from;
             const uint8_t *end = memchr(line, '\n', script.length - from);
@@ -85,20 +91,32 @@ static double lines(text ldf, text script, text log, uint8_t *out) {
     return best / (double)made;
 }
 
+static size_t count_of(text lines) {
+    size_t at, count = 0;
+    for (at = 0; at < lines.length; at++)
+        count += lines.bytes[at] == '\n';
+    return count;
+}
+
 int main(int argc, char **argv) {
-    text ldf, first, script, log, long_log;
+    text ldf, first, script, log, long_log, bench, answers;
     uint8_t *out;
-    double run;
-    expect(argc == 6, "FILE.ldf SCRIPT LONG_SCRIPT LOG LONG_LOG");
+    double run, line, live;
+    expect(argc == 9, "FILE.ldf SCRIPT LONG_SCRIPT LOG LONG_LOG LINES ANSWERS SECONDS");
     ldf = text_of(argv[1]);
     first = text_of(argv[2]);
     script = text_of(argv[3]);
     log = text_of(argv[4]);
     long_log = text_of(argv[5]);
-    out = malloc(long_log.length);
+    bench = text_of(argv[6]);
+    answers = text_of(argv[7]);
+    out = malloc(long_log.length > answers.length ? long_log.length : answers.length);
     expect(out != NULL, "no memory");
     run = whole_runs(ldf, first, log, out);
     printf("C: a whole run %.2f microseconds, %.0f a second\n", 1e6 * run, 1 / run);
-    printf("C: a line %.2f microseconds\n", 1e6 * lines(ldf, script, long_log, out));
-    return run > 1e-4;
+    printf("C: a line %.2f microseconds\n", 1e6 * lines(0, ldf, script, long_log, out));
+    line = lines(1, ldf, bench, answers, out);
+    live = atof(argv[8]) / (double)count_of(bench);
+    printf("C: a line of a bench script %.2f microseconds, %.2f times as long as in live\n", 1e6 * line, line / live);
+    return run > 1e-4 || line > 1.5 * live;
 }
