@@ -41,7 +41,7 @@ pub mod SoughtParts
 pub mod Spacing
 pub mod SpelledSteps
 pub mod SpelledValues
-pub mod UnknownSteps
+pub mod StatementSteps
 pub mod Unmentioned
 pub mod UnmentionedSections
 pub mod UnusedEncodings

@@ -19,6 +19,9 @@ pub mod Traits
 pub mod ItemNumbers
 pub mod Warnings
 pub mod Gathered
+pub mod Statements
+pub mod Attributes
+pub mod AttributeValues
 pub mod Unknown
 pub mod Unused
 pub mod Meaning

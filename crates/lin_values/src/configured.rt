@@ -22,7 +22,7 @@ use lin_text::{Many, Text};
 use std::alloc::{AllocError, Global};
 
 /// The next token as a name. It is not passed over.
-fn name_here(parser: &Parser<'_>) -> Result<Name, AllocError>
+pub(crate) fn name_here(parser: &Parser<'_>) -> Result<Name, AllocError>
     requires { has_front parser.now ≡ true }
     ensures { IfOk result (λ name. name ≡ name_of (front parser.now)) }
 {

@@ -10,6 +10,8 @@
 //! ```
 #![tactic(auto)]
 
+mod attribute_values;
+mod attributes;
 mod coded;
 mod configured;
 mod decimals;
@@ -29,12 +31,15 @@ mod reading;
 mod reals;
 mod sought;
 mod spelled;
+mod statements;
 mod texts;
 mod unit;
 mod unknown;
 mod unused;
 mod ways_back;
 
+pub use attribute_values::{Product, header_version};
+pub use attributes::{Attribute, NodeAttributes, read_attributes};
 pub use coded::{Coded, coded_by};
 pub use configured::read_configurables;
 pub use decimals::{Decimal, is_small, physical, put_decimal, units};

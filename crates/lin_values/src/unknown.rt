@@ -1,69 +1,20 @@
 //! Words of sections and attributes that no version of LIN has.
 
 ghost use Rattle.std.specs.Prelude.{◌≡◌, ◌++◌, IfOk, List, OnOk, flat_map};
-ghost use Rattle.lin_ldf.specs.Forms.{Gives};
 ghost use Rattle.lin_ldf.specs.Symbols.{symbols_in};
 ghost use Rattle.lin_ldf.specs.Stream.{start_of};
 ghost use Rattle.lin_ldf.specs.Tokens.{AreTokens};
 ghost use Rattle.lin_ldf.specs.declared.token.Token.{Token};
 ghost use Rattle.lin_ldf.specs.Known.{known_attributes};
-ghost use Rattle.lin_values.specs.Unknown.{behind, behind_statement, inside, is_group, statements};
+ghost use Rattle.lin_values.specs.Statements.{statements};
 ghost use Rattle.lin_values.specs.Unknown.{unknown_among, unknown_of_node, unknown_of_section};
 ghost use Rattle.lin_values.specs.Unknown.{unknown_unless, unknown_words};
 
 use crate::lines::has_line;
+use crate::statements::{inside, is_group, pass_statement};
 use lin_cluster::{Finding, FindingKind, push_when};
-use lin_ldf::{LdfFault, Parser, TokenKind, is_attribute, is_section};
+use lin_ldf::{Parser, TokenKind, is_attribute, is_section};
 use std::alloc::{AllocError, Global};
-
-/// Whether a word and a group are next.
-fn is_group(parser: &Parser<'_>) -> bool
-    ensures { result ≡ is_group parser.now }
-{
-    let mut ahead = parser.ahead();
-    ahead.skip();
-    parser.is_at(TokenKind::Word) && ahead.is_at(TokenKind::OpenBrace)
-}
-
-/// A parser of what is in this group.
-fn inside<'a>(parser: &Parser<'a>) -> Parser<'a>
-    ensures { result ≡ inside parser.now }
-{
-    let mut ahead = parser.ahead();
-    ahead.skip();
-    ahead.skip();
-    ahead
-}
-
-/// What was read is passed over; all tokens if it wasn't in its form.
-fn pass_read(parser: &mut Parser<'_>, read: Result<(), LdfFault>) -> Result<(), AllocError>
-    ensures { (form : _) → Gives read parser.old form → OnOk result (parser.new ≡ behind form) }
-{
-    match read {
-        Ok(()) => Ok(()),
-        Err(fault) => match fault {
-            LdfFault::OutOfMemory => Err(AllocError),
-            _ => {
-                *parser = Parser::new(parser.alloc(), &[]);
-                Ok(())
-            }
-        },
-    }
-}
-
-/// A word and its group, or what ends with the next semicolon outside of braces. (Of the tokens in it
-/// the kinds alone are looked at.)
-fn pass_statement(parser: &mut Parser<'_>) -> Result<(), AllocError>
-    ensures { OnOk result (parser.new ≡ behind_statement parser.old) }
-{
-    if is_group(parser) {
-        parser.skip();
-        let read = parser.group();
-        return pass_read(parser, read);
-    }
-    let read = parser.list();
-    pass_read(parser, read)
-}
 
 /// The next token, if it is a word that isn't known.
 fn add_unknown(
@@ -94,7 +45,7 @@ fn add_attributes(parser: &mut Parser<'_>, found: &mut Vec<Finding>) -> Result<(
 }
 
 /// The unknown attributes of the next node.
-#[tactic(auto, using(crate::proofs::UnknownSteps::nothing_more))]
+#[tactic(auto, using(crate::proofs::StatementSteps::nothing_more))]
 fn add_node(parser: &Parser<'_>, found: &mut Vec<Finding>) -> Result<(), AllocError>
     ensures { OnOk result (found.new.items ≡ found.old.items ++ unknown_of_node parser.now) }
 {
@@ -117,7 +68,7 @@ fn add_nodes(parser: &mut Parser<'_>, found: &mut Vec<Finding>) -> Result<(), Al
 }
 
 /// The next section, if it is unknown, or the unknown attributes in it.
-#[tactic(auto, using(crate::proofs::UnknownSteps::nothing_more))]
+#[tactic(auto, using(crate::proofs::StatementSteps::nothing_more))]
 fn add_section(parser: &Parser<'_>, found: &mut Vec<Finding>) -> Result<(), AllocError>
     ensures { OnOk result (found.new.items ≡ found.old.items ++ unknown_of_section parser.now) }
 {

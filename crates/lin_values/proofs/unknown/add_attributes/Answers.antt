@@ -1,7 +1,8 @@
 use Rattle.std.proofs.Common.{◌∙◌, ◌++◌, flat_map, sym}
 use Rattle.lin_ldf.specs.Known.{known_attributes}
-use Rattle.lin_values.specs.Unknown.{statements, unknown_among}
-use Rattle.lin_values.proofs.UnknownSteps.{found-more, found-all, statement-less}
+use Rattle.lin_values.specs.Statements.{statements}
+use Rattle.lin_values.specs.Unknown.{unknown_among}
+use Rattle.lin_values.proofs.StatementSteps.{found-more, found-all, statement-less}
 use Rattle.lin_values.proofs.unknown.add_attributes.Goals as goal
 
 pub loop-parser-preserved : goal.loop-parser-preserved

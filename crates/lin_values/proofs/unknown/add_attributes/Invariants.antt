@@ -1,6 +1,7 @@
 use Rattle.std.proofs.Common.{◌≡◌, ◌++◌, flat_map, length}
 use Rattle.lin_ldf.specs.Known.{known_attributes}
-use Rattle.lin_values.specs.Unknown.{statements, unknown_among}
+use Rattle.lin_values.specs.Statements.{statements}
+use Rattle.lin_values.specs.Unknown.{unknown_among}
 use Rattle.lin_values.proofs.unknown.add_attributes.Given as goal
 
 abbrev pub invariant-loop-parser : goal.invariant-loop-parser

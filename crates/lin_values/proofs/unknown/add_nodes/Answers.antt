@@ -1,6 +1,7 @@
 use Rattle.std.proofs.Common.{◌∙◌, ◌++◌, flat_map, sym}
-use Rattle.lin_values.specs.Unknown.{statements, unknown_of_node}
-use Rattle.lin_values.proofs.UnknownSteps.{found-more, found-all, statement-less}
+use Rattle.lin_values.specs.Statements.{statements}
+use Rattle.lin_values.specs.Unknown.{unknown_of_node}
+use Rattle.lin_values.proofs.StatementSteps.{found-more, found-all, statement-less}
 use Rattle.lin_values.proofs.unknown.add_nodes.Goals as goal
 
 pub loop-parser-preserved : goal.loop-parser-preserved

@@ -1,5 +1,6 @@
 use Rattle.std.proofs.Common.{◌≡◌, ◌++◌, flat_map, length}
-use Rattle.lin_values.specs.Unknown.{statements, unknown_of_node}
+use Rattle.lin_values.specs.Statements.{statements}
+use Rattle.lin_values.specs.Unknown.{unknown_of_node}
 use Rattle.lin_values.proofs.unknown.add_nodes.Given as goal
 
 abbrev pub invariant-loop-parser : goal.invariant-loop-parser

@@ -3,7 +3,7 @@ use Rattle.lin_ldf.specs.Symbols.{symbols_in}
 use Rattle.lin_ldf.specs.Stream.{start_of}
 use Rattle.lin_values.specs.Unknown.{unknown_of_section, unknown_words}
 use Rattle.lin_values.proofs.ReadingSteps.{tokens-are}
-use Rattle.lin_values.proofs.UnknownSteps.{found-more, found-all, statement-less}
+use Rattle.lin_values.proofs.StatementSteps.{found-more, found-all, statement-less}
 use Rattle.lin_values.proofs.unknown.unknown_words.Goals as goal
 
 pub loop-parser-preserved : goal.loop-parser-preserved

@@ -1,7 +1,8 @@
 use Rattle.std.proofs.Common.{◌≡◌, ◌++◌, flat_map, length}
 use Rattle.lin_ldf.specs.Symbols.{symbols_in}
 use Rattle.lin_ldf.specs.Stream.{start_of}
-use Rattle.lin_values.specs.Unknown.{statements, unknown_of_section, unknown_words}
+use Rattle.lin_values.specs.Statements.{statements}
+use Rattle.lin_values.specs.Unknown.{unknown_of_section, unknown_words}
 use Rattle.lin_values.proofs.unknown.unknown_words.Given as goal
 
 abbrev pub invariant-loop-parser : goal.invariant-loop-parser

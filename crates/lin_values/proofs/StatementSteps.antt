@@ -1,6 +1,6 @@
 -- The statements of tokens, one by one; and what is found in them.
-use Rattle.std.proofs.Common.{◌≡◌, ◌≢◌, ◌∙◌, ℕ, zero, suc, ◌≤◌, ◌<◌, true, false, cond, List, [], ◌∷◌, ◌++◌, length, Option, Some, None, append-nil, append_assoc, flat_map, refl, sym, ap, arith}
-use Rattle.lin_cluster.specs.declared.finding.Finding.{Finding}
+use Rattle.std.proofs.Common.{◌≡◌, ◌≢◌, ◌∙◌, ℕ, zero, suc, ◌≤◌, ◌<◌, Bool, true, false, cond, List, [], ◌∷◌, ◌++◌, length, Option, Some, None, append-nil, append_assoc, flat_map, refl, sym, ap, arith}
+use Rattle.std.specs.Prelude.{find}
 use Rattle.lin_ldf.specs.Forms.{mark, Fails, ◌>>=◌}
 use Rattle.lin_ldf.specs.GrammarLaws.{ended_by}
 use Rattle.lin_ldf.specs.Laws.{mark_takes, right_take}
@@ -13,7 +13,7 @@ use Rattle.lin_ldf.specs.declared.fault.LdfFault.{LdfFault}
 use Rattle.lin_ldf.specs.declared.fault.LdfFault.TheVariants.{OutOfMemory}
 use Rattle.lin_ldf.specs.declared.token.TokenKind.TheVariants.{OpenBrace, CloseBrace, Semicolon}
 use Rattle.lin_values.specs.Passed.{has_line}
-use Rattle.lin_values.specs.Unknown.{behind, behind_statement, is_group, statements, statements_at}
+use Rattle.lin_values.specs.Statements.{behind, behind_statement, is_group, statements, statements_at}
 use Rattle.lin_values.proofs.ReadingSteps.{tokens-are}
 use Rattle.lin_values.proofs.FormsTaking.{Leaves, after, keeping, taking}
 
@@ -89,22 +89,42 @@ none-left (t ∷ ts) h = rw h refl
 
 -- ---- what is found
 
-abbrev Found : Type 0
-Found = List Finding
-
-pub nothing_more : (found : Found) → found ++ [] ≡ found
+pub nothing_more : {A : Type 0} (found : List A) → found ++ [] ≡ found
 nothing_more found = append-nil found
 
 -- what was found so far, and what is in the statements that are left
-pub found-more : (f : List Symbol → Found) (ts us : List Symbol) (old new total : Found) → has_line ts ≡ true → us ≡ behind_statement ts → new ≡ old ++ f ts
+pub found-more : {A : Type 0} (f : List Symbol → List A) (ts us : List Symbol) (old new total : List A) → has_line ts ≡ true → us ≡ behind_statement ts → new ≡ old ++ f ts
     → old ++ flat_map f (statements ts) ≡ total → new ++ flat_map f (statements us) ≡ total
-found-more f ts us old new total h passed added so_far =
+found-more {A} f ts us old new total h passed added so_far =
     rw (passed, added) (append_assoc old (f ts) (flat_map f (statements (behind_statement ts)))
     ∙ (ap (λ (xs : List (List Symbol)). old ++ flat_map f xs) (sym (one-more ts h)) ∙ so_far))
 
-pub found-all : (f : List Symbol → Found) (ts : List Symbol) (found total : Found) → has_line ts ≡ false → found ++ flat_map f (statements ts) ≡ total → found ≡ total
+pub found-all : {A : Type 0} (f : List Symbol → List A) (ts : List Symbol) (found total : List A) → has_line ts ≡ false → found ++ flat_map f (statements ts) ≡ total → found ≡ total
 found-all f ts found total h so_far =
     sym (append-nil found) ∙ (ap (λ (xs : List (List Symbol)). found ++ flat_map f xs) (sym (none-left ts h)) ∙ so_far)
 
+-- the same of the statements themselves
+pub noted-more : (ts us : List Symbol) (old new total : List (List Symbol)) → has_line ts ≡ true → us ≡ behind_statement ts → new ≡ old ++ ts ∷ []
+    → old ++ statements ts ≡ total → new ++ statements us ≡ total
+noted-more ts us old new total h passed added so_far =
+    rw (passed, added) (append_assoc old (ts ∷ []) (statements (behind_statement ts))
+    ∙ (ap (λ (xs : List (List Symbol)). old ++ xs) (sym (one-more ts h)) ∙ so_far))
+
+pub noted-all : (ts : List Symbol) (noted total : List (List Symbol)) → has_line ts ≡ false → noted ++ statements ts ≡ total → noted ≡ total
+noted-all ts noted total h so_far =
+    sym (append-nil noted) ∙ (ap (λ (xs : List (List Symbol)). noted ++ xs) (sym (none-left ts h)) ∙ so_far)
+
 pub statement-less : (ts us : List Symbol) → has_line ts ≡ true → us ≡ behind_statement ts → length us < length ts
 statement-less ts us h passed = rw passed (statement-shorter ts h)
+
+-- ---- the first statement that passes a test
+
+pub found-first : (test : List Symbol → Bool) (ts : List Symbol) (total : Option (List Symbol)) → has_line ts ≡ true → test ts ≡ true → find test (statements ts) ≡ total → total ≡ Some ts
+found-first test ts total h is so_far = sym so_far ∙ ap (find test) (one-more ts h) ∙ rw is refl
+
+pub found-later : (test : List Symbol → Bool) (ts us : List Symbol) (total : Option (List Symbol)) → has_line ts ≡ true → test ts ≡ false → us ≡ behind_statement ts → find test (statements ts) ≡ total → find test (statements us) ≡ total
+found-later test ts us total h isnt passed so_far =
+    ap (λ vs. find test (statements vs)) passed ∙ sym (ap (find test) (one-more ts h) ∙ rw isnt refl) ∙ so_far
+
+pub found-none : (test : List Symbol → Bool) (ts : List Symbol) (total : Option (List Symbol)) → has_line ts ≡ false → find test (statements ts) ≡ total → total ≡ None
+found-none test ts total h so_far = sym so_far ∙ ap (find test) (none-left ts h)

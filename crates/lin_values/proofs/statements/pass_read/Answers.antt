@@ -1,7 +1,7 @@
 use Rattle.std.proofs.Common.{◌∙◌, ap, sym}
-use Rattle.lin_values.specs.Unknown.{behind}
-use Rattle.lin_values.proofs.UnknownSteps.{nothing-ahead, reads-nothing}
-use Rattle.lin_values.proofs.unknown.pass_read.Goals as goal
+use Rattle.lin_values.specs.Statements.{behind}
+use Rattle.lin_values.proofs.StatementSteps.{nothing-ahead, reads-nothing}
+use Rattle.lin_values.proofs.statements.pass_read.Goals as goal
 
 pub returns-in_default : goal.returns-in_default
 returns-in_default c = λ form gives.
