@@ -33,6 +33,9 @@ use Rattle.lin_cluster.specs.declared.finding.FindingKind.TheVariants.{EventMemb
 use Rattle.lin_cluster.specs.declared.finding.FindingKind.TheVariants.{SporadicMemberBeside}
 use Rattle.lin_cluster.specs.declared.finding.FindingKind.TheVariants.{UnresolvedMember}
 use Rattle.lin_cluster.specs.declared.finding.FindingKind.TheVariants.{ResolvingEntry}
+use Rattle.lin_cluster.specs.declared.finding.FindingKind.TheVariants.{NoResponseError}
+use Rattle.lin_cluster.specs.declared.finding.FindingKind.TheVariants.{AttributeTwice, BadAttribute}
+use Rattle.lin_cluster.specs.declared.finding.FindingKind.TheVariants.{TimeoutTooShort}
 
 abbrev pub number_of : FindingKind → ℕ
 number_of UnknownName = 1
@@ -87,6 +90,10 @@ number_of EventMemberBeside = 61
 number_of SporadicMemberBeside = 62
 number_of UnresolvedMember = 63
 number_of ResolvingEntry = 64
+number_of NoResponseError = 65
+number_of AttributeTwice = 68
+number_of BadAttribute = 69
+number_of TimeoutTooShort = 70
 
 -- the names of findings, by their numbers, which begin at 1
 abbrev pub finding_names : List (List ℕ)
@@ -105,7 +112,8 @@ finding_names =
     ∷ codes "NoSubscriber" ∷ codes "OwnSubscriber" ∷ codes "OffTimeBase" ∷ codes "NoAddress"
     ∷ codes "BadResponseError" ∷ codes "BadConfigurable" ∷ codes "UnusedEncoding"
     ∷ codes "EventMemberBeside" ∷ codes "SporadicMemberBeside" ∷ codes "UnresolvedMember"
-    ∷ codes "ResolvingEntry" ∷ []
+    ∷ codes "ResolvingEntry" ∷ codes "NoResponseError" ∷ [] ∷ [] ∷ codes "AttributeTwice"
+    ∷ codes "BadAttribute" ∷ codes "TimeoutTooShort" ∷ []
 
 abbrev pub finding_name : ℕ → List ℕ
 finding_name number = slice_index_or finding_names number []
@@ -164,6 +172,10 @@ needed_by EventMemberBeside = 0
 needed_by SporadicMemberBeside = 0
 needed_by UnresolvedMember = 0
 needed_by ResolvingEntry = 0
+needed_by NoResponseError = 0
+needed_by AttributeTwice = 0
+needed_by BadAttribute = 0
+needed_by TimeoutTooShort = 0
 
 -- a finding by its kind, line and column
 abbrev pub finding_at : FindingKind → ℕ → ℕ → Finding

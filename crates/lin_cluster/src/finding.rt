@@ -6,9 +6,9 @@ ghost use Rattle.lin_cluster.specs.Kinds.{finding_at, finding_name, number_of};
 use lin_parts::Place;
 use lin_text::Many;
 
-/// The kinds of findings, in the order of their numbers, 1 to 27, 31 to 41 and 51 to 64. 19 to 26 are
-/// reported only if the text is read as one of the field; 27 also if lint warnings are wanted. 31 to 41
-/// are about encodings of signals, and 51 to 64 are lint warnings: the description is valid.
+/// The kinds of findings, in the order of their numbers, 1 to 27, 31 to 41, 51 to 65 and 68 to 70. 19 to 26
+/// are reported only if the text is read as one of the field; 27 also if lint warnings are wanted. 31 to 41
+/// are about encodings of signals, and those from 51 on are lint warnings: the description is valid.
 #[derive(Clone, Copy, Debug, PartialEq, Eq)]
 pub enum FindingKind {
     UnknownName,
@@ -64,10 +64,14 @@ pub enum FindingKind {
     SporadicMemberBeside,
     UnresolvedMember,
     ResolvingEntry,
+    NoResponseError,
+    AttributeTwice,
+    BadAttribute,
+    TimeoutTooShort,
 }
 
 impl FindingKind {
-    /// The number, 1 to 27, 31 to 41 or 51 to 64.
+    /// The number, 1 to 27, 31 to 41, 51 to 65 or 68 to 70.
     pub fn number(self) -> u8
         ensures { result ≡ number_of self }
     {
@@ -124,12 +128,16 @@ impl FindingKind {
             FindingKind::SporadicMemberBeside => 62,
             FindingKind::UnresolvedMember => 63,
             FindingKind::ResolvingEntry => 64,
+            FindingKind::NoResponseError => 65,
+            FindingKind::AttributeTwice => 68,
+            FindingKind::BadAttribute => 69,
+            FindingKind::TimeoutTooShort => 70,
         }
     }
 }
 
-/// What is wrong, and where: the finding's number (1 to 27, 31 to 41 or 51 to 64), line and column, and
-/// for a slot that is too short (9) the time in microseconds that it needs; otherwise 0. Findings are
+/// What is wrong, and where: the finding's number (1 to 27, 31 to 41, 51 to 65 or 68 to 70), line and column,
+/// and for a slot that is too short (9) the time in microseconds that it needs; otherwise 0. Findings are
 /// ordered by place, then by number.
 #[derive(Clone, Copy, Debug, PartialEq, Eq, PartialOrd, Ord)]
 pub struct Finding {
@@ -155,7 +163,7 @@ impl Finding {
         }
     }
 
-    /// The name; only numbers from 1 to 27, from 31 to 41 and from 51 to 64 have one.
+    /// The name; only numbers from 1 to 27, from 31 to 41, from 51 to 65 and from 68 to 70 have one.
     pub fn name(&self) -> &'static str
         ensures { result.now ≡ finding_name self.now.number }
     {
@@ -212,6 +220,10 @@ impl Finding {
             62 => "SporadicMemberBeside",
             63 => "UnresolvedMember",
             64 => "ResolvingEntry",
+            65 => "NoResponseError",
+            68 => "AttributeTwice",
+            69 => "BadAttribute",
+            70 => "TimeoutTooShort",
             _ => "",
         }
     }

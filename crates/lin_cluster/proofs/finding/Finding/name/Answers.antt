@@ -26,6 +26,11 @@ from_42 (suc (suc (suc (suc (suc (suc (suc zero))))))) h = refl
 from_42 (suc (suc (suc (suc (suc (suc (suc (suc zero)))))))) h = refl
 from_42 (suc (suc (suc (suc (suc (suc (suc (suc (suc k))))))))) h = absurd (omega arith)
 
+from_66 : (k : ℕ) → k < 2 → Unnamed (66 + k)
+from_66 zero h = refl
+from_66 (suc zero) h = refl
+from_66 (suc (suc k)) h = absurd (omega arith)
+
 at : (n low k : ℕ) → low + k ≡ n → Unnamed (low + k) → Unnamed n
 at n low k is none = subst Unnamed is none
 
@@ -33,13 +38,16 @@ at n low k is none = subst Unnamed is none
 pub returns-in_default : goal.returns-in_default
 returns-in_default c =
     let n = c.args.self.now.number
-    in elim (cases_lt 64 n) as (λ _. Unnamed n) [
+    in elim (cases_lt 70 n) as (λ _. Unnamed n) [
       | inl past ↦ sym (get_or_past finding_names n [] (omega arith))
-      | inr few ↦ elim (cases_lt 41 n) as (λ _. Unnamed n) [
-        | inl past ↦ at n 42 (n - 42) (omega arith) (from_42 (n - 42) (omega arith))
-        | inr few ↦ elim (cases_lt 27 n) as (λ _. Unnamed n) [
-          | inl past ↦ at n 28 (n - 28) (omega arith) (from_28 (n - 28) (omega arith))
-          | inr few ↦ at n 0 0 (omega arith) refl
+      | inr few ↦ elim (cases_lt 65 n) as (λ _. Unnamed n) [
+        | inl past ↦ at n 66 (n - 66) (omega arith) (from_66 (n - 66) (omega arith))
+        | inr few ↦ elim (cases_lt 41 n) as (λ _. Unnamed n) [
+          | inl past ↦ at n 42 (n - 42) (omega arith) (from_42 (n - 42) (omega arith))
+          | inr few ↦ elim (cases_lt 27 n) as (λ _. Unnamed n) [
+            | inl past ↦ at n 28 (n - 28) (omega arith) (from_28 (n - 28) (omega arith))
+            | inr few ↦ at n 0 0 (omega arith) refl
+          ]
         ]
       ]
     ]
