@@ -1,4 +1,5 @@
 pub mod AddedRanges
+pub mod AttributeSteps
 pub mod CodedAgain
 pub mod CodedSignals
 pub mod CodingOrder
@@ -9,6 +10,7 @@ pub mod DecimalParts
 pub mod Digits
 pub mod EncodedItems
 pub mod FormsTaking
+pub mod FrameSteps
 pub mod ItemSteps
 pub mod ItemTraits
 pub mod JoinedSpans

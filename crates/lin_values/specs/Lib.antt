@@ -22,6 +22,8 @@ pub mod Gathered
 pub mod Statements
 pub mod Attributes
 pub mod AttributeValues
+pub mod FrameTimes
+pub mod AttributeLints
 pub mod Unknown
 pub mod Unused
 pub mod Meaning

@@ -10,12 +10,14 @@
 //! ```
 #![tactic(auto)]
 
+mod attribute_lints;
 mod attribute_values;
 mod attributes;
 mod coded;
 mod configured;
 mod decimals;
 mod encoding;
+mod frame_times;
 mod grammar;
 mod items;
 mod laws;
@@ -38,6 +40,7 @@ mod unknown;
 mod unused;
 mod ways_back;
 
+pub use attribute_lints::lint_attributes;
 pub use attribute_values::{Product, header_version};
 pub use attributes::{Attribute, NodeAttributes, read_attributes};
 pub use coded::{Coded, coded_by};
