@@ -18,7 +18,7 @@ use Rattle.lin_parts.specs.declared.description.Signal as declared_signal
 use Rattle.lin_parts.specs.declared.description.Table as declared_table
 use Rattle.lin_parts.specs.declared.description.TableEntry.{TableEntry}
 use Rattle.lin_parts.specs.Cluster.{frame_of, line_of}
-use Rattle.lin_cluster.specs.Described.{parts_of, nodes_of, signals_of, frames_of, sporadic_frames_of, events_of, error_signals, frame_number, node_number}
+use Rattle.lin_cluster.specs.Described.{parts_of, nodes_of, described_signal, signals_of, frames_of, sporadic_frames_of, events_of, error_signals, frame_number, node_number}
 use Rattle.lin_cluster.specs.Models.{is_version_1}
 use Rattle.lin_parts.specs.declared.parts.Entry.TheVariants.{Frame, Sporadic as SporadicEntry, Event, SlaveResp, Quiet}
 use Rattle.lin_parts.specs.declared.parts.SignalFrame.{SignalFrame}
@@ -75,8 +75,12 @@ body = record {
 nodes-row : nodes_of body ≡ record { name = codes "cem"; nad = None } ∷ record { name = codes "lsm"; nad = Some 1 } ∷ record { name = codes "rsm"; nad = Some 2 } ∷ []
 nodes-row = refl
 
-signal-row : slice_index_or (signals_of body) 2 (record { name = []; publisher = 0; size = 1; initial = values.Scalar 0 }) ≡ record { name = codes "lkey"; publisher = 1; size = 8; initial = values.Bytes (7 ∷ []) }
+signal-row : slice_index_or (signals_of body) 2 (record { name = []; publisher = 0; subscribers = []; size = 1; initial = values.Scalar 0 }) ≡ record { name = codes "lkey"; publisher = 1; subscribers = []; size = 8; initial = values.Bytes (7 ∷ []) }
 signal-row = refl
+
+-- the subscribers are in the order of the description
+subscribers-row : (described_signal body (record (signal (codes "level") 4 (inits.Scalar (number 2)) (codes "lsm")) { subscribers = name (codes "rsm") ∷ name (codes "cem") ∷ name (codes "rsm") ∷ [] })).subscribers ≡ 2 ∷ 0 ∷ 2 ∷ []
+subscribers-row = refl
 
 abbrev light : SignalFrame
 light = record {

@@ -1,6 +1,6 @@
 -- The signals of a description without findings keep the rules of clusters.
 use Rattle.std.proofs.Common.{◌≡◌, ◌<◌, ◌*◌, ◌%◌, ◌/◌, ◌==◌, nat_lt, nat_le, ℕ, Bool, true, false, not, ◌&&◌, if◌then◌else◌, List, length, get_or, map, refl, arith}
-use Rattle.std.specs.Prelude.{IsTrue}
+use Rattle.std.specs.Prelude.{All, IsTrue}
 use Rattle.std.specs.List.{list_any}
 use Rattle.std.proofs.lemmas.Bool.{and_parts, and_right, eqb-true, eq-eqb}
 use Rattle.std.proofs.lemmas.List.{length-map}
@@ -11,7 +11,7 @@ use Rattle.lin_parts.specs.declared.description.Init.{Init}
 use Rattle.lin_parts.specs.declared.description.Init.TheVariants as inits
 use Rattle.lin_parts.specs.declared.description.Number.{Number}
 use Rattle.lin_parts.specs.Cluster.{nodes}
-use Rattle.lin_cluster.specs.Described.{initial_of, described_signal, parts_of}
+use Rattle.lin_cluster.specs.Described.{initial_of, described_signal, node_number, parts_of}
 use Rattle.lin_cluster.specs.Sizes as sizes
 use Rattle.lin_parts.specs.Rules.{AreSignals, is_array, place_at}
 use Rattle.lin_parts.specs.declared.parts.Signal.{Signal}
@@ -54,6 +54,9 @@ described-signals d none =
       number = omega (arith, (within-limits d none).signals, length-map d.signals (described_signal d));
       publishers = All-map (λ (s : Signal). s.publisher < nodes (parts_of d)) (described_signal d) d.signals
           (λ k s lt. rw (nodes-count d) (node-within d (get_or d.signals k s).publisher (good k s lt).publisher));
+      subscribers = All-map (λ (s : Signal). All (λ n. n < nodes (parts_of d)) s.subscribers) (described_signal d) d.signals
+          (λ k s lt. let names = (get_or d.signals k s).subscribers in All-map (λ n. n < nodes (parts_of d)) (node_number d) names
+          (λ i n in'. rw (nodes-count d) (node-within d (get_or names i n) ((good k s lt).subscribers i n in'))));
       sizes = All-map (λ (s : Signal). IsTrue (has_good_size (place_at 0 s))) (described_signal d) d.signals
           (λ k s lt. let here = get_or d.signals k s in good-size here.init here.size.value 0 (good k s lt).size (and_right (sizes.is_array here.init) false refl));
       initials = All-map (λ (s : Signal). IsTrue (fits_place (place_at 0 s) s.initial)) (described_signal d) d.signals

@@ -74,8 +74,13 @@ within-limits d none =
 
 pub record GoodSignal (d : Description) (s : Signal) : Type 0 where
   pub publisher : is_node d s.publisher ≡ true
+  pub subscribers : All (λ n. is_node d n ≡ true) s.subscribers
   pub size : is_good_size s ≡ true
   pub init : is_good_init s.size.value s.init ≡ true
+
+-- a name that is no node's has a finding
+known-node : (d : Description) (n : Name) → AreShort (unknown_node d n) → is_node d n ≡ true
+known-node d n none = not-false (is_node d n) (when-not _ (at_name UnknownName n) refl none)
 
 good-init : (good fits : Bool) → good ≡ true → (good && not fits) ≡ false → fits ≡ true
 good-init true true g e = refl
@@ -88,7 +93,8 @@ good-signals d none k s lt =
     in let parts = four-parts IsShort (unknown_node d here.publisher) (flat_map (unknown_node d) here.subscribers) (bad_signal_size here) (bad_init here) (in-each IsShort (in_signal d) d.signals none.signals k s lt)
     in let size : is_good_size here ≡ true = not-false (is_good_size here) (when-not _ (at_number BadSize here.size) refl parts.2)
     in record {
-      publisher = not-false (is_node d here.publisher) (when-not _ (at_name UnknownName here.publisher) refl parts.0);
+      publisher = known-node d here.publisher parts.0;
+      subscribers = λ i n in'. known-node d (get_or here.subscribers i n) (in-each IsShort (unknown_node d) here.subscribers parts.1 i n in');
       size = size;
       init = good-init (is_good_size here) (is_good_init here.size.value here.init) size (when-not _ (at_place BadInit (init_place here.init)) refl parts.3);
     }
@@ -153,7 +159,7 @@ good-frames d none k f lt =
     let here = get_or d.frames k f
     in let parts = three-parts IsShort (unknown_node d here.publisher) (bad_frame_size here) (flat_map (in_placed d here here.placed) (enumerate_from 0 here.placed)) (in-each IsShort (in_frame d) d.frames none.frames k f lt)
     in record {
-      publisher = not-false (is_node d here.publisher) (when-not _ (at_name UnknownName here.publisher) refl parts.0);
+      publisher = known-node d here.publisher parts.0;
       id = front-ids d none.ids k f lt;
       size = not-false (is_frame_size here.size.value) (when-not _ (at_number BadSize here.size) refl parts.1);
       placed = good-placed d here parts.2;

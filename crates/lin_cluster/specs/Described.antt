@@ -94,6 +94,7 @@ abbrev pub described_signal : Description → declared_signal.Signal → Signal
 described_signal d s = record {
   name = s.name.text;
   publisher = node_number d s.publisher;
+  subscribers = map (node_number d) s.subscribers;
   size = s.size.value;
   initial = initial_of s.init;
 }
@@ -112,7 +113,7 @@ abbrev pub described_place : Description → PlacedSignal → Place
 described_place d p =
     place_at p.offset.value
     (slice_index_or (signals_of d) (signal_number d p.signal)
-    (record { name = []; publisher = 0; size = 1; initial = values.Scalar 0 }))
+    (record { name = []; publisher = 0; subscribers = []; size = 1; initial = values.Scalar 0 }))
 
 -- data byte 0 holds the protected identifier where an event-triggered frame lists the frame
 abbrev pub own_pid : Description → ℕ × declared_frame.Frame → Option ℕ

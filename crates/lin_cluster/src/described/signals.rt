@@ -1,7 +1,8 @@
 //! The signals that a description says.
 
 ghost use Rattle.std.specs.Prelude.{◌≡◌, ◌<◌, ◌≤◌, ◌^◌, All, IfOk, length, map};
-ghost use Rattle.lin_cluster.specs.Described.{initial_of, described_signal, signals_of, signal_number};
+ghost use Rattle.lin_cluster.specs.Described.{initial_of, described_signal, signals_of, node_number};
+ghost use Rattle.lin_cluster.specs.Described.{signal_number};
 ghost use Rattle.lin_cluster.specs.Fitting.{FitsInitial, FitsSignal};
 
 use super::numbers::node_number;
@@ -36,6 +37,17 @@ fn initial_of(init: &Init) -> Value
     }
 }
 
+fn subscribers_of(alloc: Global, d: &Description, names: &[Name]) -> Result<Many<u8>, AllocError>
+    requires { length d.now.slaves ≤ 15 }
+    ensures { IfOk result (λ nodes. nodes ≡ map (node_number d.now) names.now) }
+{
+    let mut nodes = Vec::with_capacity(alloc, names.len())?;
+    for name in names {
+        nodes.push(node_number(d, name))?;
+    }
+    Ok(Many::new(nodes))
+}
+
 fn signal_of(
     alloc: Global,
     d: &Description,
@@ -48,6 +60,7 @@ fn signal_of(
     Ok(Signal {
         name: Text::copied(alloc, signal.name.text.as_slice())?,
         publisher: node_number(d, &signal.publisher),
+        subscribers: subscribers_of(alloc, d, signal.subscribers.as_slice())?,
         size: signal.size.value as u8,
         initial: initial_of(&signal.init),
     })

@@ -28,6 +28,8 @@ fn expect_signals(rt: &impl Abort, cluster: &Cluster) {
     assert!(rt; cluster.signal_name(4) == b"rkey".as_slice());
     assert!(rt; cluster.publisher(1) == 0);
     assert!(rt; cluster.publisher(3) == 1);
+    assert!(rt; cluster.subscribers(0) == [1, 2].as_slice());
+    assert!(rt; cluster.subscribers(4) == [0].as_slice());
     assert!(rt; cluster.signal_size(1) == 10);
     assert!(rt; matches!(cluster.initial(1), Value::Scalar(0x155)));
 }
@@ -117,6 +119,17 @@ fn expect_models(rt: &impl Abort, cluster: &Cluster) {
     assert!(rt; cluster.event_model(1) == SumKind::Enhanced);
 }
 
+/// A signal without subscribers, and one with a node twice and with its publisher.
+const SUBSCRIBERS: &[u8] = b"Signals { a: 8, 0, m; b: 8, 0, s, t, m, s, t; }
+Schedule_tables { T { MasterReq delay 10 ms; } }
+";
+
+fn expect_subscribers(rt: &impl Abort, cluster: &Cluster) {
+    assert!(rt; cluster.signals() == 2);
+    assert!(rt; cluster.subscribers(0).is_empty());
+    assert!(rt; cluster.subscribers(1) == [2, 0, 1, 2].as_slice());
+}
+
 #[test]
 fn clusters_of_texts(rt: HostRuntime) -> Result<(), Fail> {
     let alloc = rt.alloc();
@@ -126,6 +139,8 @@ fn clusters_of_texts(rt: HostRuntime) -> Result<(), Fail> {
     expect_address_of_responder(&rt, &cluster_of(alloc, &address)?);
     let models = joined(alloc, &[HEADER, FRAMES_OF_LIN_1])?;
     expect_models(&rt, &cluster_of(alloc, &models)?);
+    let subscribers = joined(alloc, &[HEADER, SUBSCRIBERS])?;
+    expect_subscribers(&rt, &cluster_of(alloc, &subscribers)?);
     let keys = cluster_of(alloc, KEYS_CLUSTER)?;
     expect_nodes(&rt, &keys);
     expect_signals(&rt, &keys);
