@@ -26,11 +26,11 @@ cluster_b =
     record {
       nodes = record { name = []; nad = None } ∷ record { name = []; nad = Some 1 } ∷ record { name = []; nad = Some 2 } ∷ [];
       signals =
-          record { name = []; publisher = 0; size = 4; initial = Scalar 2 }
-          ∷ record { name = []; publisher = 0; size = 10; initial = Scalar 0x155 }
-          ∷ record { name = []; publisher = 0; size = 8; initial = Scalar 5 }
-          ∷ record { name = []; publisher = 1; size = 8; initial = Scalar 0 }
-          ∷ record { name = []; publisher = 2; size = 8; initial = Scalar 0 }
+          record { name = []; publisher = 0; subscribers = []; size = 4; initial = Scalar 2 }
+          ∷ record { name = []; publisher = 0; subscribers = []; size = 10; initial = Scalar 0x155 }
+          ∷ record { name = []; publisher = 0; subscribers = []; size = 8; initial = Scalar 5 }
+          ∷ record { name = []; publisher = 1; subscribers = []; size = 8; initial = Scalar 0 }
+          ∷ record { name = []; publisher = 2; subscribers = []; size = 8; initial = Scalar 0 }
           ∷ [];
       frames =
           record {

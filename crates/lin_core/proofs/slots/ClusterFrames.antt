@@ -18,7 +18,7 @@ use Rattle.lin_parts.specs.declared.parts.Signal.{Signal}
 
 -- the signal and the frames of numbers out of range
 abbrev pub no_signal : Signal
-no_signal = record { name = []; publisher = 0; size = 1; initial = Scalar 0 }
+no_signal = record { name = []; publisher = 0; subscribers = []; size = 1; initial = Scalar 0 }
 
 abbrev pub no_value : Value
 no_value = Scalar 0

@@ -71,7 +71,7 @@ node-name c a k =
 signal-name : (c : Parts) → HasNames (named c) → (k : ℕ) → is_quiet (signal_of c k).name ≡ true
 signal-name c a k =
     name-by (length c.signals) k (signal_of c k).name (nat_lt k (length c.signals)) refl (a.of_signals.words k)
-    (λ le. ap (λ (s : Signal). s.name) (get_or_past c.signals k (record { name = []; publisher = 0; size = 1; initial = Scalar 0 }) le))
+    (λ le. ap (λ (s : Signal). s.name) (get_or_past c.signals k (record { name = []; publisher = 0; subscribers = []; size = 1; initial = Scalar 0 }) le))
 
 pub frame-name : (c : Parts) → HasFrameNames c → (f : ℕ) → is_quiet (frame_name c f) ≡ true
 frame-name c b f = listed-name (λ (x : SignalFrame). x.name) no_frame refl c.frames f b.of_frames

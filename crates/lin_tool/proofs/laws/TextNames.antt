@@ -52,7 +52,7 @@ words-of_text d p = record {
   of_nodes = names-of_new (d.master.text ∷ map name_text d.slaves) p.of_nodes _ _ (node-count d) (node-name d);
   of_signals = names-of_new (map signal_text d.signals) p.of_signals _ _
       (length-map d.signals (described_signal d) ∙ sym (length-map d.signals signal_text))
-      (made-name (described_signal d) (λ (s : Signal). s.name) signal_text (record { name = []; publisher = 0; size = 1; initial = Scalar 0 })
+      (made-name (described_signal d) (λ (s : Signal). s.name) signal_text (record { name = []; publisher = 0; subscribers = []; size = 1; initial = Scalar 0 })
       (λ s. refl) refl d.signals);
   of_tables = names-of_new (map table_text d.tables) p.of_tables _ _
       (length-map d.tables (described_table d) ∙ sym (length-map d.tables table_text))
