@@ -81,6 +81,8 @@ is('it leads to its slot', await slotShown('#14'), '#14');
 await page.eval('showSlotOf(9)');
 await settle();
 is('so does one that is met', await slotShown('#7'), '#7');
+is('of pictures that follow quickly only the last is drawn', await page.eval('(() => { for (const name of ["a", "b", "c"]) picture.show(`<p id="line">${name}</p>`); return document.querySelectorAll("iframe").length; })()'), 2);
+is('in the place of the old one', [await slotShown('c'), await page.eval('document.querySelectorAll("iframe").length')], ['c', 1]);
 await caret('bench', 'editors.bench.value.length');
 await page.type('write WinState = ');
 await page.wait(60);

@@ -90,9 +90,11 @@ class Picture {
 		this.frame = null;
 	}
 	show(html) {
-		const next = node('iframe', {title: 'Picture of the run', sandbox: 'allow-scripts'}), old = this.frame && this.frame.isConnected ? this.frame : null;
+		const next = node('iframe', {title: 'Picture of the run', sandbox: 'allow-scripts'}), frames = [...this.root.querySelectorAll('iframe')];
+		const old = frames.find(it => it.isReady);                   // it stays until the new one is drawn
+		for (const it of frames) if (it !== old) it.remove();        // of one that isn't drawn yet, nobody has seen anything
 		next.srcdoc = html;
-		next.classList.toggle('next', !!old);                        // the old one stays until the new one is drawn
+		next.classList.toggle('next', !!old);
 		next.addEventListener('load', () => {
 			next.classList.remove('next');
 			next.isReady = true;
