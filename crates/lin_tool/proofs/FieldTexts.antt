@@ -20,6 +20,7 @@ use Rattle.lin_field.proofs.Mended.{marks_blanked}
 use Rattle.lin_text.specs.Written.{WritesText}
 use Rattle.lin_text.specs.declared.fault.WriteFailed.{WriteFailed}
 use Rattle.lin_tool.specs.Clusters.{Tells}
+use Rattle.lin_parts.specs.declared.description.Description.{Description}
 use Rattle.lin_tool.specs.Coding.{coded_read, linted, sections_read, AreWarnings}
 use Rattle.lin_tool.specs.Field.{AnswersChecked, AnswersField, AnswersSettled, CheckFaults, FieldSaysSections, IsChecked, IsReadOver, IsSettled, IsWrittenPlain, ReadFaults, WritesPlain}
 use Rattle.lin_tool.specs.Reading.{AnswersReading}
@@ -56,7 +57,7 @@ unsettled x _ text left warned told is short h = absurd h
 
 -- what is answered to what a text is settled to, where nothing is wrong and its cluster is this one
 pub described_answer : (x : Extras) (s : Settled) (checked : Checked) (k : Sections) (words rs : List Remark) (r : Result Described Fault) (warned : List Remark)
-    → IsChecked s checked → IsPermutation (checked.warnings ++ map (remark true) k.unknown) words
+    → IsChecked s checked → IsPermutation (checked.warnings ++ map (remark true) k.found) words
     → IsPermutation (linted s.description s.placed_elsewhere k.configurables k.codings words) rs
     → IfOk r (λ d. d.cluster ≡ checked.cluster) → IfOk r (λ d. d.coded ≡ coded_read x.encodings d.cluster k.codings)
     → IfOk r (λ d. AreWarnings x.encodings d.cluster k.codings rs warned) → IfErr r (λ fault. fault ≡ OutOfMemory) → AnswersChecked x s k r warned
@@ -64,26 +65,26 @@ described_answer x s checked k words rs (Ok d) warned is joined are cluster code
   free = is.free;
   said = cluster ∙ is.said;
   coded = coded;
-  warnings = reordered x.encodings d.cluster k.codings (linted s.description s.placed_elsewhere k.configurables k.codings (remarks s ++ map (remark true) k.unknown)) rs warned
-      (remarked s k.configurables k.codings (map (remark true) k.unknown) checked.warnings words rs is.warnings joined are) warnings;
+  warnings = reordered x.encodings d.cluster k.codings (linted s.description s.placed_elsewhere k.configurables k.codings (remarks s ++ map (remark true) k.found)) rs warned
+      (remarked s k.configurables k.codings (map (remark true) k.found) checked.warnings words rs is.warnings joined are) warnings;
 }
 described_answer x s checked k words rs (Err fault) warned is joined are cluster coded warnings memory = subst (λ f. CheckFaults f s) (sym memory) tt
 
 -- what the sections say of the bytes that are left is what those of the text say
-pub field_says : (x : Extras) (text left : List ℕ) (k : Sections) → IsReadOver text left
-    → k ≡ sections_read true x (symbols_in left (start_of left).tokens) → FieldSaysSections x text k
-field_says x text left k (ts, are, is) says = (
+pub field_says : (x : Extras) (text left : List ℕ) (d : Description) (k : Sections) → IsReadOver text left
+    → k ≡ sections_read true x d (symbols_in left (start_of left).tokens) → FieldSaysSections x text d k
+field_says x text left d k (ts, are, is) says = (
   ts,
   are,
-  says ∙ ap (λ bytes. sections_read true x (symbols_in bytes (start_of bytes).tokens)) is ∙ ap (sections_read true x) (marks_blanked (field_bytes text) ts are),
+  says ∙ ap (λ bytes. sections_read true x d (symbols_in bytes (start_of bytes).tokens)) is ∙ ap (sections_read true x d) (marks_blanked (field_bytes text) ts are),
 )
 
 -- and what is answered to what it is settled to
 pub checked : (x : Extras) (r : Result Described Fault) (text left : List ℕ) (s : Settled) (k : Sections) (warned : List Remark) (told : Option (List ℕ))
     → IfSome told (λ bytes. text ≡ bytes) → length text ≤ 4194304 → IsSettled text s × IsReadOver text left
-    → k ≡ sections_read true x (symbols_in left (start_of left).tokens) → AnswersChecked x s k r warned → AnswersField x r warned told
+    → k ≡ sections_read true x s.description (symbols_in left (start_of left).tokens) → AnswersChecked x s k r warned → AnswersField x r warned told
 checked x (Ok d) text left s k warned told is short (settled, over) says h =
-    (text, is, short, (s, settled, (k, field_says x text left k over says, h)))
+    (text, is, short, (s, settled, (k, field_says x text left s.description k over says, h)))
 checked x (Err (Remarks found)) text left s k warned told is short (settled, over) says h = (text, is, short, (s, settled, h))
 checked x (Err OutOfMemory) text left s k warned told is short both says h = tt
 checked x (Err _) text left s k warned told is short both says h = absurd h

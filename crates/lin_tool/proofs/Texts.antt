@@ -34,7 +34,7 @@ tells_fault text _ fault h only first = absurd h
 
 -- what is answered to what was parsed, where its cluster is this one
 pub coded_answer : (x : Extras) (r : Result Described Fault) (text : List ℕ) (d : Description) (c : Parts) (s : Sections) (none rs warned : List Remark)
-    → Describes text d → IsSaidBy d c → SaysSections x text s → IsPermutation (map (remark true) s.unknown) none → IsPermutation (linted d [] s.configurables s.codings none) rs
+    → Describes text d → IsSaidBy d c → SaysSections x text d s → IsPermutation (map (remark true) s.found) none → IsPermutation (linted d [] s.configurables s.codings none) rs
     → IfOk r (λ a. a.cluster ≡ c) → IfOk r (λ a. a.coded ≡ coded_read x.encodings a.cluster s.codings)
     → IfOk r (λ a. AreWarnings x.encodings a.cluster s.codings rs warned) → IfErr r (λ fault. fault ≡ OutOfMemory) → AnswersCoded x r warned text
 coded_answer x (Ok a) text d c s none rs warned described of says is are cluster coded warnings memory = record {
@@ -48,8 +48,8 @@ coded_answer x (Ok a) text d c s none rs warned described of says is are cluster
   sections = s;
   says = says;
   coded = coded;
-  warnings = reordered x.encodings a.cluster s.codings (linted d [] s.configurables s.codings (map (remark true) s.unknown)) rs warned
-      (linted_behind d [] s.configurables s.codings (map (remark true) s.unknown) none rs is are) warnings;
+  warnings = reordered x.encodings a.cluster s.codings (linted d [] s.configurables s.codings (map (remark true) s.found)) rs warned
+      (linted_behind d [] s.configurables s.codings (map (remark true) s.found) none rs is are) warnings;
 }
 coded_answer x (Err fault) text d c s none rs warned described of says is are cluster coded warnings memory = subst (λ f. TextFaults f text) (sym memory) tt
 

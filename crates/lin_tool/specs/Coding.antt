@@ -22,6 +22,9 @@ use Rattle.lin_tool.specs.declared.coding.Encodings.TheVariants.{Unread, Read, T
 use Rattle.lin_tool.specs.declared.coding.Extras.{Extras}
 use Rattle.lin_tool.specs.declared.coding.Sections.{Sections}
 use Rattle.lin_tool.specs.declared.fault.Fault.{Fault}
+use Rattle.lin_values.specs.AttributeLints.{attribute_lints}
+use Rattle.lin_values.specs.AttributeValues.{header_version}
+use Rattle.lin_values.specs.Attributes.{node_attributes}
 use Rattle.lin_values.specs.Coded.{coded, CodedData}
 use Rattle.lin_values.specs.Configured.{configurables}
 use Rattle.lin_values.specs.Reading.{codings}
@@ -48,13 +51,18 @@ configurables_read is_linted ts = if is_linted then Some (configurables ts) else
 abbrev pub unknown_read : Bool → List Symbol → List Finding
 unknown_read is_reported ts = if is_reported then unknown_words ts else []
 
+-- what is odd in the attributes of a description's nodes, where a text is linted
+abbrev pub attributes_read : Bool → Description → List Symbol → List Finding
+attributes_read is_linted d ts =
+    if is_linted then attribute_lints d (header_version ts) (node_attributes ts) else []
+
 -- what the extras want of all that; with --field the unknown words in any case
-abbrev pub sections_read : Bool → Extras → List Symbol → Sections
-sections_read is_field x ts =
+abbrev pub sections_read : Bool → Extras → Description → List Symbol → Sections
+sections_read is_field x d ts =
     record {
       codings = codings_read (are_read x.encodings x.is_linted) ts;
       configurables = configurables_read x.is_linted ts;
-      unknown = unknown_read (is_field || x.is_linted) ts;
+      found = unknown_read (is_field || x.is_linted) ts ++ attributes_read x.is_linted d ts;
     }
 
 -- what of that is kept, and not read for a lint alone
@@ -101,13 +109,14 @@ pub record AreWarnings (e : Encodings) (c : Parts) (k : Option Codings) (rs warn
 -- ---- plain texts
 
 -- the sections of a text say this, as far as the extras want them
-abbrev pub SaysSections : Extras → List ℕ → Sections → Type 0
-SaysSections x text s =
-    (ts : List Token) × AreTokens text ts × (s ≡ sections_read false x (symbols_in text ts))
+abbrev pub SaysSections : Extras → List ℕ → Description → Sections → Type 0
+SaysSections x text d s =
+    (ts : List Token) × AreTokens text ts × (s ≡ sections_read false x d (symbols_in text ts))
 
 -- what a text describes and what its sections say, or why it describes nothing
 abbrev pub AnswersSections : Extras → Result (Description × Sections) Fault → List ℕ → Type 0
-AnswersSections x (Ok parsed) text = Describes text parsed.0 × SaysSections x text parsed.1
+AnswersSections x (Ok parsed) text =
+    Describes text parsed.0 × SaysSections x text parsed.0 parsed.1
 AnswersSections x (Err fault) text = TextFaults fault text
 
 -- this is the cluster of what a text describes, and these are the warnings
@@ -115,12 +124,12 @@ pub record IsCodedCluster (x : Extras) (text : List ℕ) (d : Described) (warned
     : Type 0 where
   pub cluster : IsClusterOf text d.cluster
   pub sections : Sections
-  pub says : SaysSections x text sections
+  pub says : SaysSections x text cluster.description sections
   pub coded : d.coded ≡ coded_read x.encodings d.cluster sections.codings
   pub warnings
       : AreWarnings x.encodings d.cluster sections.codings
       (linted cluster.description [] sections.configurables sections.codings
-      (map (remark true) sections.unknown))
+      (map (remark true) sections.found))
       warned
 
 -- what is answered to an LDF text, with these warnings

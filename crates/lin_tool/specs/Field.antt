@@ -18,6 +18,7 @@ use Rattle.lin_field.specs.declared.checking.FieldFault.TheVariants as check
 use Rattle.lin_field.specs.declared.checking.Remark.{Remark}
 use Rattle.lin_field.specs.declared.reading.FieldText.{FieldText}
 use Rattle.lin_field.specs.declared.settling.Settled.{Settled}
+use Rattle.lin_parts.specs.declared.description.Description.{Description}
 use Rattle.lin_text.specs.Written.{WritesText}
 use Rattle.lin_tool.specs.Coding.{coded_read, linted, sections_read, AreWarnings}
 use Rattle.lin_tool.specs.declared.coding.Described.{Described}
@@ -81,7 +82,7 @@ pub record IsFieldCluster (x : Extras) (s : Settled) (k : Sections) (d : Describ
   pub warnings
       : AreWarnings x.encodings d.cluster k.codings
       (linted s.description s.placed_elsewhere k.configurables k.codings
-      (remarks s ++ map (remark true) k.unknown))
+      (remarks s ++ map (remark true) k.found))
       warned
 
 abbrev pub AnswersChecked : Extras → Settled → Sections → Result Described Fault → List Remark
@@ -91,10 +92,10 @@ AnswersChecked x s k (Err fault) warned = CheckFaults fault s
 
 -- the sections of a text of the field say this, without the marks that it has too many, as far as the
 -- extras want them
-abbrev pub FieldSaysSections : Extras → List ℕ → Sections → Type 0
-FieldSaysSections x text k =
+abbrev pub FieldSaysSections : Extras → List ℕ → Description → Sections → Type 0
+FieldSaysSections x text d k =
     (ts : List Token) × AreTokens (field_bytes text) ts
-    × (k ≡ sections_read true x (mended (symbols_in (field_bytes text) ts)))
+    × (k ≡ sections_read true x d (mended (symbols_in (field_bytes text) ts)))
 
 -- when a reader has this fault: what it has is told, or it isn't
 abbrev pub ReadFaults : Fault → Option (List ℕ) → Type 0
@@ -107,7 +108,8 @@ ReadFaults _ told = ⊥
 abbrev pub AnswersFieldText : Extras → Result Described Fault → List Remark → List ℕ → Type 0
 AnswersFieldText x (Ok d) warned text =
     (s : Settled) × IsSettled text s
-    × ((k : Sections) × FieldSaysSections x text k × IsFieldCluster x s k d warned)
+    × ((k : Sections) × FieldSaysSections x text s.description k
+    × IsFieldCluster x s k d warned)
 AnswersFieldText x (Err (Ldf f)) warned text = IsFieldFault text f
 AnswersFieldText x (Err fault) warned text = (s : Settled) × IsSettled text s × CheckFaults fault s
 

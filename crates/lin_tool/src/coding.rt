@@ -9,7 +9,7 @@ ghost use Rattle.lin_ldf.specs.Tokens.{AreTokens};
 ghost use Rattle.lin_ldf.specs.declared.token.Token.{Token};
 ghost use Rattle.lin_field.specs.Checks.{remark, remark_cmp};
 ghost use Rattle.lin_tool.specs.Coding.{are_read, coded_read, codings_kept, codings_read};
-ghost use Rattle.lin_tool.specs.Coding.{configurables_read, linted, sections_read, told_of, unknown_read, unused_told, AreWarnings};
+ghost use Rattle.lin_tool.specs.Coding.{attributes_read, configurables_read, linted, sections_read, told_of, unknown_read, unused_told, AreWarnings};
 ghost use Rattle.lin_tool.specs.declared.fault.Fault.TheVariants.{OutOfMemory};
 
 use crate::fault::Fault;
@@ -20,7 +20,8 @@ use lin_parts::Cluster;
 use lin_parts::description::{Description, Name};
 use lin_text::Many;
 use lin_values::{
-    Coded, Codings, coded_by, read_codings, read_configurables, unknown_words, unused_encodings,
+    Coded, Codings, coded_by, header_version, lint_attributes, read_attributes, read_codings,
+    read_configurables, unknown_words, unused_encodings,
 };
 use std::alloc::{AllocError, Global};
 
@@ -44,13 +45,14 @@ pub struct Extras {
     pub is_linted: bool,
 }
 
-/// What the sections of an LDF say in addition to its description, if they are read: the encodings, the
-/// configurable frames of node attributes, and the words that LIN doesn't have.
+/// What the sections of an LDF say in addition to its description, if they are read: the encodings, and the
+/// configurable frames of node attributes; and the words that LIN doesn't have, with what is odd in node
+/// attributes.
 #[derive(Drop)]
 pub(crate) struct Sections {
     pub codings: Option<Codings>,
     pub configurables: Option<Many<Configurable>>,
-    pub unknown: Many<Finding>,
+    pub found: Many<Finding>,
 }
 
 /// The cluster of an LDF text, and what the values of its signals mean, where that is read.
@@ -109,41 +111,68 @@ fn configurables_of(
 /// Finds the words of sections and attributes that LIN doesn't have, if they are reported.
 ///
 /// An error means out of memory.
-fn unknown_of(alloc: Global, text: &[u8], is_reported: bool) -> Result<Many<Finding>, AllocError>
+fn unknown_of(alloc: Global, text: &[u8], is_reported: bool) -> Result<Vec<Finding>, AllocError>
     ensures read { IfOk result
-        (λ u. u ≡ unknown_read is_reported (symbols_in text.now (start_of text.now).tokens)) }
+        (λ u. u.items ≡ unknown_read is_reported (symbols_in text.now (start_of text.now).tokens)) }
     ensures tokens { (ts : List Token) → AreTokens text.now ts
-        → IfOk result (λ u. u ≡ unknown_read is_reported (symbols_in text.now ts)) }
+        → IfOk result (λ u. u.items ≡ unknown_read is_reported (symbols_in text.now ts)) }
 {
     if is_reported {
-        Ok(Many::new(unknown_words(alloc, text)?))
+        unknown_words(alloc, text)
     } else {
-        Ok(Many::new(Vec::new(alloc)))
+        Ok(Vec::new(alloc))
     }
 }
 
-/// Reads what the extras want of the sections of an LDF; with `--field` (`is_field`) the words that LIN
-/// doesn't have in any case.
+/// Finds what is odd in the attributes of a description's nodes, where its text is linted.
+///
+/// An error means out of memory.
+fn attributes_of(
+    alloc: Global,
+    text: &[u8],
+    description: &Description,
+    is_linted: bool,
+) -> Result<Vec<Finding>, AllocError>
+    ensures read { IfOk result (λ a. a.items ≡ attributes_read is_linted description.now
+        (symbols_in text.now (start_of text.now).tokens)) }
+    ensures tokens { (ts : List Token) → AreTokens text.now ts
+        → IfOk result
+        (λ a. a.items ≡ attributes_read is_linted description.now (symbols_in text.now ts)) }
+{
+    if !is_linted {
+        return Ok(Vec::new(alloc));
+    }
+    let version = header_version(alloc, text)?;
+    let blocks = read_attributes(alloc, text)?;
+    lint_attributes(alloc, description, version.as_ref(), blocks.as_slice())
+}
+
+/// Reads what the extras want of the sections of an LDF that says a description; with `--field`
+/// (`is_field`) the words that LIN doesn't have in any case.
 ///
 /// An error means out of memory.
 pub(crate) fn sections_of(
     alloc: Global,
     text: &[u8],
+    description: &Description,
     is_field: bool,
     extras: Extras,
 ) -> Result<Sections, AllocError>
-    ensures read { IfOk result
-        (λ s. s ≡ sections_read is_field extras (symbols_in text.now (start_of text.now).tokens)) }
+    ensures read { IfOk result (λ s. s ≡ sections_read is_field extras description.now
+        (symbols_in text.now (start_of text.now).tokens)) }
     ensures tokens { (ts : List Token) → AreTokens text.now ts
-        → IfOk result (λ s. s ≡ sections_read is_field extras (symbols_in text.now ts)) }
+        → IfOk result
+        (λ s. s ≡ sections_read is_field extras description.now (symbols_in text.now ts)) }
 {
     let codings = codings_of(alloc, text, are_read(extras))?;
     let configurables = configurables_of(alloc, text, extras.is_linted)?;
-    let unknown = unknown_of(alloc, text, is_field || extras.is_linted)?;
+    let mut found = unknown_of(alloc, text, is_field || extras.is_linted)?;
+    let odd = attributes_of(alloc, text, description, extras.is_linted)?;
+    found.extend_from_slice(odd.as_slice())?;
     Ok(Sections {
         codings,
         configurables,
-        unknown,
+        found: Many::new(found),
     })
 }
 

@@ -132,7 +132,7 @@ fn parse_text(
     ensures { AnswersSections extras result text.now }
 {
     let description = description_of(alloc, text, has_unknown)?;
-    let sections = sections_of(alloc, text, false, extras)?;
+    let sections = sections_of(alloc, text, &description, false, extras)?;
     Ok((description, sections))
 }
 
@@ -155,10 +155,10 @@ fn check_parsed(
     let Sections {
         codings,
         configurables,
-        unknown,
+        found,
     } = sections;
     let none = Many::new(Vec::new(alloc));
-    let words = with_findings(none, unknown.as_slice())?;
+    let words = with_findings(none, found.as_slice())?;
     let warnings = with_lints(
         alloc,
         words,

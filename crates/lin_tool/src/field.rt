@@ -117,11 +117,11 @@ fn cluster_noted(
     let Sections {
         codings,
         configurables,
-        unknown,
+        found,
     } = sections;
     match check_settled(alloc, settled) {
         Ok(Checked { cluster, warnings }) => {
-            let words = with_findings(warnings, unknown.as_slice())?;
+            let words = with_findings(warnings, found.as_slice())?;
             let warnings = with_lints(
                 alloc,
                 words,
@@ -161,7 +161,7 @@ pub fn field_of_reader<R: Read>(
     let mut bytes = read_text(alloc, reader)?;
     let text = noted_text(alloc, bytes.as_slice(), notes)?;
     let settled = settled_noted(alloc, bytes.as_mut_slice(), text.as_slice(), notes)?;
-    let sections = sections_of(alloc, bytes.as_slice(), true, extras)?;
+    let sections = sections_of(alloc, bytes.as_slice(), &settled.description, true, extras)?;
     let_go(&mut bytes);
     cluster_noted(alloc, &settled, sections, extras, text.as_slice(), notes)
 }
@@ -185,7 +185,7 @@ pub(crate) fn write_field<W: Write>(
     let sections = Sections {
         codings: None,
         configurables: None,
-        unknown: Many::new(unknown_words(alloc, bytes.as_slice())?),
+        found: Many::new(unknown_words(alloc, bytes.as_slice())?),
     };
     let extras = Extras {
         encodings: Encodings::Unread,

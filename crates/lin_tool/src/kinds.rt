@@ -42,7 +42,7 @@ fn is_reported(number: u8, reading: Reading, extras: Extras) -> bool {
     match number {
         27 => reading == Reading::Field || extras.is_linted,
         31..=41 => extras.encodings == Encodings::Told,
-        51..=64 => extras.is_linted,
+        51..=65 | 68..=70 => extras.is_linted,
         _ => reading == Reading::Field && is_deviation(number),
     }
 }
@@ -52,7 +52,7 @@ fn needed(number: u8) -> Option<&'static str> {
     match number {
         27 => Some("27 needs --field or --lint"),
         31..=41 => Some("31 to 41 need --physical"),
-        51..=64 => Some("51 to 64 need --lint"),
+        51..=65 | 68..=70 => Some("51 to 70 need --lint"),
         _ if is_deviation(number) => Some("1 to 26 need --field"),
         _ => None,
     }

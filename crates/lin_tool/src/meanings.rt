@@ -28,6 +28,7 @@ pub(crate) static FAULTS: [(&str, &str); 7] = [
 /// What a finding or a warning of this number means, and what to change.
 pub(crate) fn finding_meaning(number: u8) -> Option<&'static (&'static str, &'static str)> {
     match number {
+        68.. => ATTRIBUTES.get(usize::from(number) - 68),
         51.. => LINTS.get(usize::from(number) - 51),
         31.. => ENCODINGS.get(usize::from(number) - 31),
         _ => FINDINGS.get(usize::from(number).wrapping_sub(1)),
@@ -206,7 +207,7 @@ static ENCODINGS: [(&str, &str); 11] = [
 ];
 
 /// What a warning of a text in which nothing is wrong means, from 51 on, and what to change.
-static LINTS: [(&str, &str); 14] = [
+static LINTS: [(&str, &str); 15] = [
     (
         "the signal is in no frame",
         "add it to a frame of its publisher, or delete it: it is never sent",
@@ -269,6 +270,30 @@ static LINTS: [(&str, &str); 14] = [
     (
         "a collision resolving table has an entry that isn't for an unconditional frame",
         "keep only unconditional frames in that table",
+    ),
+    (
+        "the responder publishes a frame, but its attributes have no response_error, which LIN \
+         2.x requires",
+        "name a signal of 1 bit in a frame of the node",
+    ),
+];
+
+/// What a warning of a node's attributes means, from 68 on, and what to change.
+static ATTRIBUTES: [(&str, &str); 3] = [
+    (
+        "the attributes of the node already have this one: the first is used",
+        "delete one of them",
+    ),
+    (
+        "the attribute isn't valid: product_id has two or three numbers up to 0x7FFE, 0xFFFE and \
+         255, a time is a decimal number and ms, response_error is one word",
+        "correct the value",
+    ),
+    (
+        "shorter than the longest time between two master request frames (N_Cr_timeout) or slave \
+         response frames (N_As_timeout) in a schedule table: messages of several frames can time \
+         out",
+        "use a longer timeout, or add entries for these frames",
     ),
 ];
 

@@ -8,7 +8,7 @@ use Rattle.lin_tool.proofs.describing.check_parsed.Goals as goal
 pub returns : goal.returns
 returns c = λ source h.
     let (described, says) = rw c.in_ok-description.was at h in
-    let words : IsPermutation (map (remark true) c.in_ok-description.sections.unknown) c.in_ok-words.words =
+    let words : IsPermutation (map (remark true) c.in_ok-description.sections.found) c.in_ok-words.words =
     rw (c.new-none.ensures ∙ c.new.ensures.items, c.as_slice.ensures) at c.in_ok-words.ensures.all in
     let odd : IsPermutation (linted c.in_ok-description.description [] c.in_ok-description.sections.configurables c.in_ok-description.sections.codings c.in_ok-words.words)
     c.in_ok-warnings.warnings =

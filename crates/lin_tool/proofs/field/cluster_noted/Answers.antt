@@ -14,7 +14,7 @@ returns-in_ok-warnings-in-Ok c =
     c.in_ok-warnings-in-Ok.warnings) c.as_slice-in-Ok.ensures
     (subst (λ (k : Option Codings). IsPermutation (linted c.args.settled.now.description c.as_slice-in-Ok.result.now c.args.sections.configurables k c.in_ok-words-in-Ok.words)
     c.in_ok-warnings-in-Ok.warnings) c.as_ref.ensures.value c.in_ok-warnings-in-Ok.ensures.all) in
-    let words : IsPermutation (c.in-Ok.field-0.warnings ++ map (remark true) c.args.sections.unknown) c.in_ok-words-in-Ok.words =
+    let words : IsPermutation (c.in-Ok.field-0.warnings ++ map (remark true) c.args.sections.found) c.in_ok-words-in-Ok.words =
     rw c.as_slice.ensures at c.in_ok-words-in-Ok.ensures.all in
     described_answer c.args.extras c.args.settled.now c.in-Ok.field-0 c.args.sections c.in_ok-words-in-Ok.words c.in_ok-warnings-in-Ok.warnings c.coded_noted.result c.coded_noted.new.notes.warnings
     c.in-Ok.ensures words odd

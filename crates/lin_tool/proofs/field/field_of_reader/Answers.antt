@@ -11,6 +11,6 @@ returns g c =
     let both = rw c.as_mut_slice.ensures.value at c.in_ok-settled.ensures in
     let left : c.as_slice-3.result.now ≡ c.settled_noted.new.bytes =
     c.as_slice-3.ensures.value ∙ all_lent _ c.settled_noted.new.bytes _ (c.settled_noted.auto.bytes ∙ c.as_mut_slice.ensures.len) in
-    let says = c.in_ok-sections.ensures.read ∙ ap (λ bytes. sections_read true c.args.extras (symbols_in bytes (start_of bytes).tokens)) left in
+    let says = c.in_ok-sections.ensures.read ∙ ap (λ bytes. sections_read true c.args.extras c.in_ok-settled.settled.description (symbols_in bytes (start_of bytes).tokens)) left in
     checked c.args.extras c.cluster_noted.result c.in_ok-bytes.bytes.items c.settled_noted.new.bytes c.in_ok-settled.settled c.in_ok-sections.sections
     c.cluster_noted.new.notes.warnings (g.R.Read.remaining c.args.reader.now) is short both says c.cluster_noted.ensures
