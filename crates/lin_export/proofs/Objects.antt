@@ -19,6 +19,7 @@ use Rattle.lin_core.specs.declared.reply.Reply.{Reply}
 use Rattle.lin_core.specs.declared.reply.Reply.TheVariants.{Done, Refused}
 use Rattle.lin_core.specs.declared.step.Step.{Step}
 use Rattle.lin_core.specs.declared.step.Step.TheVariants.{Finish, Wake}
+use Rattle.lin_export.specs.ClusterObject.{numbered}
 use Rattle.lin_export.specs.Csv.{comma}
 use Rattle.lin_export.specs.Jsonl.{answers_member, due_member, frame_meanings, frame_member, frame_signals, frame_value, header_member, host_member, hurt_member, is_message_frame, meaning_members, meaning_text, message_member, message_value, number_member, physical_member, response_members, settled, settled_all, signals_member, slot_line, step_object, time_member}
 use Rattle.lin_export.specs.Track.{hurt_in, shown_slot, slots_in}
@@ -27,7 +28,7 @@ use Rattle.lin_values.specs.Coded.{CodedData}
 use Rattle.lin_values.specs.Meaning.{meaning}
 use Rattle.lin_values.specs.Meant.{Meant}
 use Rattle.lin_frame.specs.declared.value.Value.{Value}
-use Rattle.lin_export.specs.Json.{joined, member, object, object_line, quoted}
+use Rattle.lin_export.specs.Json.{array, joined, member, object, object_line, quoted}
 use Rattle.lin_export.proofs.Rows.{Shows, carried-shown, flat-append, frame-shown}
 
 -- a key, and a value after it
@@ -69,6 +70,28 @@ pub joined-numbers : (f : ℕ → List ℕ) (n : ℕ)
 joined-numbers f n =
     ap (λ k. joined (map f (numbers k))) (add-one n) ∙ ap joined (map-append f (numbers n) (n ∷ []))
     ∙ joined-one n (map f (numbers n)) (f n) (sym (length-map (numbers n) f ∙ length-numbers n))
+
+numbered-next : {X : Type 0} (f : ℕ → X → List ℕ) (n : ℕ) (xs : List X) (i : ℕ) (d : X) → i < length xs
+    → numbered f n (take (suc i) xs) ≡ numbered f n (take i xs) ++ f (n + i) (get_or xs i d) ∷ []
+numbered-next f n [] i d h = absurd (omega arith)
+numbered-next f n (x ∷ xs) zero d h =
+    let same : n ≡ n + 0 = omega arith in
+    ap (λ k. f k x ∷ []) same
+numbered-next f n (x ∷ xs) (suc i) d h =
+    let same : n + 1 + i ≡ n + suc i = omega arith in
+    ap (λ l. f n x ∷ l) (numbered-next f (n + 1) xs i d (omega arith) ∙ ap (λ k. numbered f (n + 1) (take i xs) ++ f k (get_or xs i d) ∷ []) same)
+
+length-numbered : {X : Type 0} (f : ℕ → X → List ℕ) (n : ℕ) (xs : List X) → length (numbered f n xs) ≡ length xs
+length-numbered f n [] = refl
+length-numbered f n (x ∷ xs) = ap suc (length-numbered f (n + 1) xs)
+
+pub joined-numbered : {X : Type 0} (f : ℕ → X → List ℕ) (xs : List X) (i : ℕ) (d : X) → i < length xs
+    → joined (numbered f 0 (take (i + 1) xs)) ≡ joined (numbered f 0 (take i xs)) ++ ((if i == 0 then [] else comma []) ++ f i (get_or xs i d))
+joined-numbered f xs i d h =
+    let same : 0 + i ≡ i = omega arith in
+    ap (λ k. joined (numbered f 0 (take k xs))) (add-one i) ∙ ap joined (numbered-next f 0 xs i d h)
+    ∙ ap (λ k. joined (numbered f 0 (take i xs) ++ f k (get_or xs i d) ∷ [])) same
+    ∙ joined-one i (numbered f 0 (take i xs)) (f i (get_or xs i d)) (sym (length-numbered f 0 (take i xs) ∙ length-take-le i xs (omega arith)))
 
 -- what a value means, where it means something, after so many members
 abbrev separated : ℕ → List (List ℕ) → List ℕ
@@ -122,6 +145,19 @@ grows-two {m = m} {n = n} h k l =
     same-growth
     (ap (λ t. 123 ∷ t) (ap (λ t. m ++ (t ++ 125 ∷ [])) (sym (append-nil (comma n))) ∙ sym (append_assoc m (comma n ++ []) (125 ∷ []))))
     (grows-more h (grows-more k l))
+
+-- an object of members
+pub grows-values : {W : Type 0} {contents : W → Option (List ℕ)} {x y z w : TextWriter W} {ms : List (List ℕ)} (m : List ℕ)
+    → Grows contents x y (123 ∷ m) → PutsMembers contents y z ms → Grows contents z w (125 ∷ []) → Grows contents x w (object (m ∷ ms))
+grows-values {ms = ms} m h k l =
+    same-growth (ap (λ t. 123 ∷ t) (sym (append_assoc m (flat_map comma ms) (125 ∷ [])))) (grows-more h (grows-more k.text l))
+
+-- a member that is a list
+pub grows-list : {W : Type 0} {contents : W → Option (List ℕ)} {x y z w : TextWriter W} (key : List ℕ) (values : List (List ℕ))
+    → Grows contents x y (comma (member key (91 ∷ []))) → Grows contents y z (joined values) → Grows contents z w (93 ∷ [])
+    → Grows contents x w (comma (member key (array values)))
+grows-list key values h k l =
+    same-growth (ap comma (append_assoc (quoted key) (58 ∷ 91 ∷ []) (joined values ++ 93 ∷ []))) (grows-more h (grows-more k l))
 
 -- the message of a response
 pub is-message : (c : Parts) (last : ℕ → ℕ) (header : Option ℕ) (put : ℕ × List ℕ) → is_message_frame header put.1 ≡ true

@@ -1,6 +1,6 @@
 -- Decimals need neither quotes in a table nor escapes in JSON.
 use Rattle.std.proofs.Common.{◌≡◌, ◌≤◌, ◌<◌, ◌+◌, ◌/◌, ◌%◌, ◌^◌, ◌==◌, ℕ, zero, suc, List, [], ◌∷◌, ◌++◌, refl, ap, ◌∙◌, add-one, arith}
-use Rattle.std.specs.Prelude.{◌||◌, All, Bool, true, false, ⊤, if◌then◌else◌}
+use Rattle.std.specs.Prelude.{◌||◌, nat_lt, All, Bool, true, false, ⊤, if◌then◌else◌}
 use Rattle.std.specs.Fmt.{decimal}
 use Rattle.std.proofs.Math.Nat.{div-le_self}
 use Rattle.std.proofs.lemmas.Bool.Decides.{nat_tests}
@@ -12,7 +12,7 @@ use Rattle.lin_values.specs.Value.{IsReadable}
 use Rattle.lin_values.specs.declared.decimals.Decimal.{Decimal}
 use Rattle.lin_values.proofs.Powers.{first-digit, rest-below, ten-below}
 use Rattle.lin_export.specs.Csv.{needs_quotes, text_cell}
-use Rattle.lin_export.specs.Json.{escaped}
+use Rattle.lin_export.specs.Json.{escaped, escaped_byte}
 
 -- a digit, a point or a minus
 abbrev IsPlain : ℕ → Type 0
@@ -61,10 +61,16 @@ not-marked : (b : ℕ) (t : Bool) → IsPlain b → (b == 34 || b == 92) ≡ t �
 not-marked b true h e = absurd (grind (arith, nat_tests, e, h))
 not-marked b false h e = refl
 
+not-control : (b : ℕ) (t : Bool) → IsPlain b → nat_lt b 32 ≡ t → t ≡ false
+not-control b true h e = absurd (grind (arith, nat_tests, e, h))
+not-control b false h e = refl
+
+byte-plain : (b : ℕ) → IsPlain b → escaped_byte b ≡ b ∷ []
+byte-plain b h = if-false (b == 34 || b == 92) _ _ (not-marked b (b == 34 || b == 92) h refl) ∙ if-false (nat_lt b 32) _ _ (not-control b (nat_lt b 32) h refl)
+
 pub escaped-plain : (text : List ℕ) → ArePlain text → escaped text ≡ text
 escaped-plain [] h = refl
-escaped-plain (b ∷ bs) h =
-    ap (λ l. l ++ escaped bs) (if-false (b == 34 || b == 92) (92 ∷ b ∷ []) (b ∷ []) (not-marked b (b == 34 || b == 92) h.0 refl)) ∙ ap (λ l. b ∷ l) (escaped-plain bs h.1)
+escaped-plain (b ∷ bs) h = ap (λ l. l ++ escaped bs) (byte-plain b h.0) ∙ ap (λ l. b ∷ l) (escaped-plain bs h.1)
 
 not-quoted : (b : ℕ) (t : Bool) → IsPlain b → (b == 44 || b == 34) ≡ t → t ≡ false
 not-quoted b true h e = absurd (grind (arith, nat_tests, e, h))

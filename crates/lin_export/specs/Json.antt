@@ -1,6 +1,7 @@
--- Words of JSON (RFC 8259), without spaces. Names of LDFs are words, and what else stands in texts is
--- letters, digits, `:`, `-` and spaces, so that only what values mean may need an escape.
-use Rattle.std.specs.Prelude.{ℕ, ◌==◌, ◌||◌, if◌then◌else◌, List, [], ◌∷◌, ◌++◌, flat_map, codes}
+-- Words of JSON (RFC 8259), without spaces. Names of LDFs are words, and most other texts are letters,
+-- digits, `:`, `-` and spaces, so that only names of files, and texts and tokens of LDFs may need an
+-- escape.
+use Rattle.std.specs.Prelude.{ℕ, ◌==◌, ◌||◌, nat_lt, if◌then◌else◌, List, [], ◌∷◌, ◌++◌, flat_map, codes}
 use Rattle.hex.specs.Hex.{encode_upper}
 use Rattle.lin_export.specs.Csv.{comma}
 
@@ -11,12 +12,18 @@ null = codes "null"
 abbrev pub quoted : List ℕ → List ℕ
 quoted text = 34 ∷ (text ++ 34 ∷ [])
 
--- the bytes of a text without controls: a quote and a backslash stand behind a backslash
+-- the bytes of a text: a quote and a backslash after a backslash, and a control character as `\u00` and
+-- two digits
 abbrev pub escaped_byte : ℕ → List ℕ
-escaped_byte b = if b == 34 || b == 92 then 92 ∷ b ∷ [] else b ∷ []
+escaped_byte b =
+    if b == 34 || b == 92 then 92 ∷ b ∷ []
+    else (if nat_lt b 32 then 92 ∷ 117 ∷ 48 ∷ 48 ∷ encode_upper (b ∷ []) else b ∷ [])
 
 abbrev pub escaped : List ℕ → List ℕ
 escaped text = flat_map escaped_byte text
+
+abbrev pub escaped_text : List ℕ → List ℕ
+escaped_text text = quoted (escaped text)
 
 abbrev pub hex_text : List ℕ → List ℕ
 hex_text bytes = quoted (encode_upper bytes)

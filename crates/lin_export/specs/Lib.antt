@@ -26,3 +26,6 @@ pub mod Marks
 pub mod ListedMaps
 pub mod ListedSlots
 pub mod ListedSignals
+pub mod ClusterObject
+pub mod CheckObject
+pub mod Found

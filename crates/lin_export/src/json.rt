@@ -1,9 +1,11 @@
 //! Words of JSON (RFC 8259).
 
-ghost use Rattle.std.specs.Prelude.{◌∷◌, ◌==◌, if◌then◌else◌, [], codes, flat_map, map};
+ghost use Rattle.std.specs.Prelude.{◌≡◌, ◌∷◌, ◌==◌, ◌||◌, if◌then◌else◌, [], codes, flat_map, map};
 ghost use Rattle.lin_text.specs.Written.{Grows};
 ghost use Rattle.lin_export.specs.Csv.{comma};
-ghost use Rattle.lin_export.specs.Json.{hex_text, member, object_line, quoted};
+ghost use Rattle.lin_export.specs.ClusterObject.{text_value, truth};
+ghost use Rattle.lin_export.specs.Json.{escaped, escaped_byte, escaped_text, hex_text, member, object_line, quoted};
+ghost use Rattle.lin_export.specs.Jsonl.{number_member};
 ghost use Rattle.lin_export.specs.Members.{member_shown};
 
 use lin_text::TextWriter;
@@ -14,7 +16,13 @@ use std::io::Write;
 pub(crate) enum Member<'a> {
     Null(&'a str),
     Number(&'a str, u64),
+    Truth(&'a str, bool),
+    /// A text without quotes, backslashes and control characters.
     Text(&'a str, &'a [u8]),
+    /// Any text.
+    Escaped(&'a str, &'a [u8]),
+    /// Any text; null for none.
+    Shown(&'a str, &'a [u8]),
     /// Bytes as a text of digits.
     Hex(&'a str, &'a [u8]),
 }
@@ -26,6 +34,65 @@ pub(crate) fn put_quoted<W: Write>(out: &mut TextWriter<'_, W>, text: &[u8])
     out.put_byte(b'"');
     out.put(text);
     out.put_byte(b'"');
+}
+
+fn is_escaped(byte: u8) -> bool
+    ensures { result ≡ (byte == 34 || byte == 92) }
+{
+    byte == b'"' || byte == b'\\'
+}
+
+/// A byte of a text: a quote and a backslash after a backslash, a control character as its number.
+fn put_escaped_byte<W: Write>(out: &mut TextWriter<'_, W>, byte: u8)
+    ensures { Grows W.contents out.old out.new (escaped_byte byte) }
+{
+    if is_escaped(byte) {
+        out.put(&[b'\\', byte]);
+    } else if byte < 32 {
+        out.put(b"\\u00");
+        out.put_hex_byte(byte);
+    } else {
+        out.put_byte(byte);
+    }
+}
+
+/// The bytes of any text.
+pub(crate) fn put_escaped<W: Write>(out: &mut TextWriter<'_, W>, text: &[u8])
+    ensures { Grows W.contents out.old out.new (escaped text.now) }
+{
+    for byte in text {
+        put_escaped_byte(out, *byte);
+    }
+}
+
+/// Any text between quotes.
+fn put_escaped_text<W: Write>(out: &mut TextWriter<'_, W>, text: &[u8])
+    ensures { Grows W.contents out.old out.new (escaped_text text.now) }
+{
+    out.put_byte(b'"');
+    put_escaped(out, text);
+    out.put_byte(b'"');
+}
+
+/// Any text between quotes; null for none.
+pub(crate) fn put_text_value<W: Write>(out: &mut TextWriter<'_, W>, text: &[u8])
+    ensures { Grows W.contents out.old out.new (text_value text.now) }
+{
+    if text.is_empty() {
+        out.put(b"null");
+    } else {
+        put_escaped_text(out, text);
+    }
+}
+
+fn put_truth<W: Write>(out: &mut TextWriter<'_, W>, is: bool)
+    ensures { Grows W.contents out.old out.new (truth is) }
+{
+    if is {
+        out.put(b"true");
+    } else {
+        out.put(b"false");
+    }
 }
 
 /// Bytes as a text of digits.
@@ -59,9 +126,21 @@ pub(crate) fn put_member<W: Write>(out: &mut TextWriter<'_, W>, one: Member<'_>)
             put_key(out, key);
             out.put_number(number);
         }
+        Member::Truth(key, is) => {
+            put_key(out, key);
+            put_truth(out, is);
+        }
         Member::Text(key, text) => {
             put_key(out, key);
             put_quoted(out, text);
+        }
+        Member::Escaped(key, text) => {
+            put_key(out, key);
+            put_escaped_text(out, text);
+        }
+        Member::Shown(key, text) => {
+            put_key(out, key);
+            put_text_value(out, text);
         }
         Member::Hex(key, bytes) => {
             put_key(out, key);
@@ -87,6 +166,22 @@ pub(crate) fn put_first<W: Write>(out: &mut TextWriter<'_, W>, key: &str, text: 
     out.put_text(key);
     out.put(b"\":");
     put_quoted(out, text);
+}
+
+/// The beginning of an object whose first member is its number.
+pub(crate) fn put_numbered_first<W: Write>(out: &mut TextWriter<'_, W>, number: u64)
+    ensures { Grows W.contents out.old out.new (123 ∷ number_member number) }
+{
+    out.put(b"{\"number\":");
+    out.put_number(number);
+}
+
+/// A comma, and the beginning of a member that is a list.
+pub(crate) fn put_list<W: Write>(out: &mut TextWriter<'_, W>, key: &str)
+    ensures { Grows W.contents out.old out.new (comma (member key.now (91 ∷ []))) }
+{
+    put_key(out, key);
+    out.put_byte(b'[');
 }
 
 /// What a line begins with: its type.

@@ -12,10 +12,10 @@ use lin_parts::Cluster;
 use lin_text::{TextBuffer, TextWriter, WriteFailed};
 use std::io::Write;
 
-mod frames;
+pub(crate) mod frames;
 mod maps;
 mod signals;
-mod slots;
+pub(crate) mod slots;
 
 pub use frames::write_frames;
 pub use maps::write_maps;

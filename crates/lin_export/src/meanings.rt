@@ -1,11 +1,11 @@
 //! What the signals of a slot mean, as members of an object of JSON (RFC 8259).
 
-ghost use Rattle.std.specs.Prelude.{◌≡◌, ◌+◌, ◌<◌, ◌^◌, ◌==◌, ◌||◌, ◌++◌, ◌∷◌, [], if◌then◌else◌};
+ghost use Rattle.std.specs.Prelude.{◌≡◌, ◌+◌, ◌<◌, ◌^◌, ◌==◌, ◌++◌, ◌∷◌, [], if◌then◌else◌};
 ghost use Rattle.std.specs.Prelude.{flat_map, length};
 ghost use Rattle.std.specs.Fmt.{decimal};
 ghost use Rattle.lin_text.specs.Written.{Grows};
 ghost use Rattle.lin_export.specs.Csv.{comma};
-ghost use Rattle.lin_export.specs.Json.{escaped, escaped_byte, joined, member};
+ghost use Rattle.lin_export.specs.Json.{escaped, joined, member};
 ghost use Rattle.lin_export.specs.Jsonl.{carried_meanings, frame_meanings, meaning_members};
 ghost use Rattle.lin_export.specs.Jsonl.{meaning_text, physical_member};
 ghost use Rattle.lin_export.specs.Open.{slot_in};
@@ -13,38 +13,13 @@ ghost use Rattle.lin_values.specs.Meaning.{meant};
 ghost use Rattle.lin_values.specs.Shown.{quoted, shown, unit_shown};
 ghost use Rattle.lin_export.specs.WhereTold.{told, where_told};
 
-use crate::json::{put_key, put_quoted, put_separator};
+use crate::json::{put_escaped, put_key, put_quoted, put_separator};
 use crate::slot::{Look, OpenSlot};
 use lin_frame::{Answer, Value, unpack};
 use lin_parts::Cluster;
 use lin_text::TextWriter;
 use lin_values::{Coded, Meaning, put_decimal};
 use std::io::Write;
-
-fn is_escaped(byte: u8) -> bool
-    ensures { result ≡ (byte == 34 || byte == 92) }
-{
-    byte == b'"' || byte == b'\\'
-}
-
-/// A byte of a text: a quote and a backslash behind a backslash.
-fn put_escaped_byte<W: Write>(out: &mut TextWriter<'_, W>, byte: u8)
-    ensures { Grows W.contents out.old out.new (escaped_byte byte) }
-{
-    if is_escaped(byte) {
-        out.put(&[b'\\', byte]);
-    } else {
-        out.put_byte(byte);
-    }
-}
-
-fn put_escaped<W: Write>(out: &mut TextWriter<'_, W>, text: &[u8])
-    ensures { Grows W.contents out.old out.new (escaped text.now) }
-{
-    for byte in text {
-        put_escaped_byte(out, *byte);
-    }
-}
 
 fn put_number<W: Write>(out: &mut TextWriter<'_, W>, number: u16)
     ensures { Grows W.contents out.old out.new (escaped (decimal number)) }

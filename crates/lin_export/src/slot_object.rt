@@ -168,7 +168,7 @@ fn put_response<W: Write>(out: &mut TextWriter<'_, W>, look: Look<'_>)
 }
 
 /// A value of a signal.
-fn put_value<W: Write>(out: &mut TextWriter<'_, W>, value: &Value)
+pub(crate) fn put_value<W: Write>(out: &mut TextWriter<'_, W>, value: &Value)
     ensures { Grows W.contents out.old out.new (signal_value value.now) }
 {
     match value {

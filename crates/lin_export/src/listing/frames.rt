@@ -7,7 +7,6 @@ ghost use Rattle.lin_parts.specs.Cluster.{frame_name, frame_of};
 ghost use Rattle.lin_text.specs.Written.{Grows, WritesText};
 ghost use Rattle.lin_export.specs.ListedFrames.{event_line, frame_line, frame_lines, frames, model_word};
 ghost use Rattle.lin_export.specs.ListedFrames.{place_line, places, sporadic_line};
-ghost use Rattle.lin_log.specs.Shown.{word_shown};
 
 use lin_frame::{Place, SumKind};
 use lin_log::{Word, put_head, put_line, put_spaced, value_word};
@@ -15,12 +14,12 @@ use lin_parts::Cluster;
 use lin_text::{TextBuffer, TextWriter, WriteFailed};
 use std::io::Write;
 
-fn model_word(model: SumKind) -> Word<'static>
-    ensures { word_shown result ≡ model_word model }
+pub(crate) fn model_word(model: SumKind) -> &'static [u8]
+    ensures { result.now ≡ model_word model }
 {
     match model {
-        SumKind::Classic => Word::Name(b"classic"),
-        SumKind::Enhanced => Word::Name(b"enhanced"),
+        SumKind::Classic => b"classic",
+        SumKind::Enhanced => b"enhanced",
     }
 }
 
@@ -41,7 +40,7 @@ fn put_frame<'a, W: Write>(out: &mut TextWriter<'_, W>, cluster: &'a Cluster, fr
             Word::Byte(pid),
             Word::Number(u64::from(cluster.layout(frame).len)),
             Word::Name(cluster.node_name(cluster.frame_publisher(frame))),
-            model_word(cluster.model(frame)),
+            Word::Name(model_word(cluster.model(frame))),
         ],
     );
 }

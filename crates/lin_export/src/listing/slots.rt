@@ -35,7 +35,7 @@ fn first_bytes(cluster: &Cluster, frames: &[u16]) -> u8
 }
 
 /// The data bytes that the slot of an entry has to hold.
-fn slot_bytes(cluster: &Cluster, entry: Entry) -> u8
+pub(crate) fn slot_bytes(cluster: &Cluster, entry: Entry) -> u8
     requires { IsEntry cluster.now entry }
     ensures { result ≡ slot_bytes cluster.now entry }
 {
@@ -49,7 +49,7 @@ fn slot_bytes(cluster: &Cluster, entry: Entry) -> u8
 }
 
 /// What is left of a delay, or what is missing after `-`.
-fn put_slack<W: Write>(out: &mut TextWriter<'_, W>, delay: u64, needed: u64)
+pub(crate) fn put_slack<W: Write>(out: &mut TextWriter<'_, W>, delay: u64, needed: u64)
     ensures { Grows W.contents out.old out.new (slack delay needed) }
 {
     if needed <= delay {
@@ -106,7 +106,7 @@ fn put_table_slots<W: Write>(out: &mut TextWriter<'_, W>, cluster: &Cluster, tab
 }
 
 /// The time in microseconds of one round of a table.
-fn delay_of(cluster: &Cluster, table: u16) -> u64
+pub(crate) fn delay_of(cluster: &Cluster, table: u16) -> u64
     requires { table < length cluster.now.tables }
     ensures value { result ≡ delay_of cluster.now table }
     ensures few { result ≤ 1024000000000 }
@@ -129,7 +129,7 @@ fn slot_bits(cluster: &Cluster, table: u16, entry: u16) -> u64
 }
 
 /// The bits of the longest frames of one round of a table.
-fn bits_of(cluster: &Cluster, table: u16) -> u64
+pub(crate) fn bits_of(cluster: &Cluster, table: u16) -> u64
     requires { table < length cluster.now.tables }
     ensures value { result ≡ bits_of cluster.now table }
     ensures few { result ≤ 2656256 }
@@ -141,7 +141,7 @@ fn bits_of(cluster: &Cluster, table: u16) -> u64
     bits
 }
 
-fn permille(bits: u64, speed: u32, delay: u64) -> u64
+pub(crate) fn permille(bits: u64, speed: u32, delay: u64) -> u64
     requires bits { bits ≤ 2656256 }
     requires delay { delay ≤ 1024000000000 }
     ensures { result ≡ permille bits speed delay }

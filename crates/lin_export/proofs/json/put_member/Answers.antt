@@ -12,3 +12,12 @@ returns-in-Text g c = rw c.in-Text.is (grows-member _ c.put_key-in-Text.ensures 
 
 pub returns-in-Hex : goal.returns-in-Hex
 returns-in-Hex g c = rw c.in-Hex.is (grows-member _ c.put_key-in-Hex.ensures c.put_hex_text.ensures)
+
+pub returns-in-Truth : goal.returns-in-Truth
+returns-in-Truth g c = rw c.in-Truth.is (grows-member _ c.put_key-in-Truth.ensures c.put_truth.ensures)
+
+pub returns-in-Escaped : goal.returns-in-Escaped
+returns-in-Escaped g c = rw c.in-Escaped.is (grows-member _ c.put_key-in-Escaped.ensures c.put_escaped_text.ensures)
+
+pub returns-in-Shown : goal.returns-in-Shown
+returns-in-Shown g c = rw c.in-Shown.is (grows-member _ c.put_key-in-Shown.ensures c.put_text_value.ensures)

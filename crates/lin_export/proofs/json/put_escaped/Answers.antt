@@ -1,7 +1,7 @@
 use Rattle.std.proofs.Common.{sym, arith}
 use Rattle.lin_text.proofs.Growing.{grows-more, same-growth, texts-next}
 use Rattle.lin_export.specs.Json.{escaped_byte}
-use Rattle.lin_export.proofs.meanings.put_escaped.Goals as goal
+use Rattle.lin_export.proofs.json.put_escaped.Goals as goal
 
 pub loop-byte-preserved : goal.loop-byte-preserved
 loop-byte-preserved g c =

@@ -1,0 +1,6 @@
+use Rattle.std.proofs.Common.{codes}
+use Rattle.lin_export.proofs.Objects.{grows-list}
+use Rattle.lin_export.proofs.object.frames.put_places.Goals as goal
+
+pub returns : goal.returns
+returns g c = grows-list (codes "places") _ c.put_list.ensures c.put_all_placed.ensures c.put_byte.ensures

@@ -1,0 +1,126 @@
+-- What `check` finds in an LDF, as one object of JSON: the cluster that it describes, and the
+-- problems that are reported.
+use Rattle.std.specs.Prelude.{ℕ, List, [], ◌∷◌, ◌++◌, length, map, flat_map, codes, Option}
+use Rattle.std.specs.Fmt.{decimal}
+use Rattle.std.specs.Option.{option_map_or, option_to_list}
+use Rattle.lin_frame.specs.Words.{numbers}
+use Rattle.lin_parts.specs.Cluster.{nodes}
+use Rattle.lin_parts.specs.declared.description.Description.{Description}
+use Rattle.lin_parts.specs.declared.parts.Parts.{Parts}
+use Rattle.lin_log.specs.Words.{spaced_word}
+use Rattle.lin_values.specs.Coded.{CodedData}
+use Rattle.lin_values.specs.declared.items.CodingType.{CodingType}
+use Rattle.lin_export.specs.ClusterObject.{count_member, encoding_object, event_object, frame_object}
+use Rattle.lin_export.specs.ClusterObject.{node_object, signal_object, sporadic_object, table_object}
+use Rattle.lin_export.specs.ClusterObject.{text_value}
+use Rattle.lin_export.specs.Json.{array, escaped_text, member, null, object, quoted}
+
+-- ---- reported problems
+
+-- what a line of `check --where` has, in its order: what the problem is, its number and its name, the
+-- time that a short slot needs, the place, and the token there. Without a place it concerns the file
+pub record ProblemData : Type 0 where
+  pub kind : List ℕ
+  pub number : Option ℕ
+  pub name : List ℕ
+  pub needed : Option ℕ
+  pub place : Option (ℕ × ℕ)
+  pub token : Option (List ℕ)
+
+abbrev pub count_or_null : Option ℕ → List ℕ
+count_or_null n = option_map_or decimal n null
+
+abbrev pub place_members : Option (ℕ × ℕ) → List (List ℕ)
+place_members place =
+    member (codes "line") (option_map_or (λ p. decimal p.0) place null)
+    ∷ member (codes "column") (option_map_or (λ p. decimal p.1) place null)
+    ∷ []
+
+abbrev pub problem_object : ProblemData → List ℕ
+problem_object t =
+    object
+    (member (codes "kind") (quoted t.kind)
+    ∷ member (codes "number") (count_or_null t.number)
+    ∷ member (codes "name") (quoted t.name)
+    ∷ member (codes "needed_us") (count_or_null t.needed)
+    ∷ (place_members t.place ++ member (codes "token") (option_map_or escaped_text t.token null) ∷ []))
+
+-- the line of `check --where`
+abbrev pub problem_words : ProblemData → List (List ℕ)
+problem_words t =
+    option_map_or
+    (λ n. t.kind ∷ decimal n ∷ t.name ∷ map decimal (option_to_list t.needed)) t.number
+    (t.name ∷ [])
+
+abbrev pub problem_line : List ℕ → ProblemData → List ℕ
+problem_line file t =
+    file
+    ++ (option_map_or (λ p. 58 ∷ (decimal p.0 ++ 58 ∷ decimal p.1)) t.place []
+    ++ (58 ∷ (flat_map spaced_word (problem_words t)
+    ++ (option_map_or (λ token. 58 ∷ spaced_word token) t.token [] ++ 10 ∷ []))))
+
+-- ---- what the LDF describes
+
+-- the cluster, the declarations, what values mean if encodings are read, and the versions of protocol
+-- and language in the header, empty for none
+pub record FoundData : Type 0 where
+  pub cluster : Parts
+  pub description : Description
+  pub coded : Option CodedData
+  pub protocol : List ℕ
+  pub language : List ℕ
+
+abbrev pub header_value : FoundData → List ℕ
+header_value found =
+    object
+    (member (codes "protocol") (text_value found.protocol)
+    ∷ member (codes "language") (text_value found.language)
+    ∷ count_member (codes "speed") found.cluster.speed
+    ∷ count_member (codes "time_base_us") found.cluster.base_us
+    ∷ count_member (codes "jitter_us") found.cluster.jitter_us
+    ∷ [])
+
+-- a member that is a list
+abbrev pub list_member : List ℕ → List (List ℕ) → List ℕ
+list_member key values = member key (array values)
+
+abbrev pub cluster_members : FoundData → List (List ℕ)
+cluster_members found =
+    let c = found.cluster
+    in let d = found.description
+    in member (codes "header") (header_value found)
+    ∷ list_member (codes "nodes") (map (node_object c d) (numbers (nodes c)))
+    ∷ list_member (codes "signals") (map (signal_object c d found.coded) (numbers (length c.signals)))
+    ∷ list_member (codes "frames") (map (frame_object c d) (numbers (length c.frames)))
+    ∷ list_member (codes "sporadic") (map (sporadic_object c d) (numbers (length c.sporadic)))
+    ∷ list_member (codes "event") (map (event_object c d) (numbers (length c.events)))
+    ∷ list_member (codes "tables") (map (table_object c d) (numbers (length c.tables)))
+    ∷ []
+
+-- those of an LDF that describes no cluster
+abbrev pub empty_members : List (List ℕ)
+empty_members =
+    member (codes "header") null
+    ∷ map (λ key. list_member key [])
+    (codes "nodes" ∷ codes "signals" ∷ codes "frames" ∷ codes "sporadic" ∷ codes "event"
+    ∷ codes "tables" ∷ [])
+
+-- the encodings, if they are read
+abbrev pub encodings_member : Option (List CodingType) → List ℕ
+encodings_member types =
+    member (codes "encodings") (option_map_or (λ ts. array (map encoding_object ts)) types null)
+
+-- ---- the whole
+
+-- the name of the file as it was given, the exit status, what the LDF describes, and what is reported,
+-- in the order of its lines; and LF
+abbrev pub check_object : List ℕ → ℕ → Option FoundData → Option (List CodingType) → List ProblemData
+    → List ℕ
+check_object file status found types problems =
+    object
+    (count_member (codes "version") 1
+    ∷ member (codes "file") (escaped_text file)
+    ∷ count_member (codes "status") status
+    ∷ (option_map_or cluster_members found empty_members
+    ++ encodings_member types ∷ list_member (codes "told") (map problem_object problems) ∷ []))
+    ++ 10 ∷ []

@@ -1,0 +1,31 @@
+-- What contracts see of the code's types of an object.
+use Rattle.std.specs.Prelude.{ℕ, Option, option_map}
+use Rattle.lin_parts.specs.declared.place.Place.{Place}
+use Rattle.lin_export.specs.CheckObject.{FoundData, ProblemData}
+use Rattle.lin_export.specs.WhereTold.{told}
+use Rattle.lin_export.specs.declared.object.Found.{Found}
+use Rattle.lin_export.specs.declared.object.problems.Problem.{Problem}
+
+abbrev pub found_data : Found → FoundData
+found_data f =
+    record {
+      cluster = f.cluster.now;
+      description = f.description.now;
+      coded = told f.coded;
+      protocol = f.protocol.now;
+      language = f.language.now;
+    }
+
+abbrev pub place_data : Option Place → Option (ℕ × ℕ)
+place_data place = option_map (λ p. (p.line, p.column)) place
+
+abbrev pub problem_data : Problem → ProblemData
+problem_data p =
+    record {
+      kind = p.kind.now;
+      number = p.number;
+      name = p.name.now;
+      needed = p.needed_us;
+      place = place_data p.place;
+      token = p.token;
+    }

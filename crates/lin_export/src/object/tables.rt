@@ -1,0 +1,167 @@
+//! The schedule tables of a cluster in an object.
+
+ghost use Rattle.std.specs.Prelude.{◌≡◌, ◌<◌, codes, length, map, option_map, slice_get};
+ghost use Rattle.lin_cluster.specs.SlotTimes.{slot_bytes, slot_need};
+ghost use Rattle.lin_frame.specs.Words.{numbers};
+ghost use Rattle.lin_parts.specs.Cluster.{table_of};
+ghost use Rattle.lin_text.specs.Written.{Grows};
+ghost use Rattle.lin_export.specs.CheckObject.{list_member};
+ghost use Rattle.lin_export.specs.ClusterObject.{entry_declared, entry_object, table_object};
+ghost use Rattle.lin_export.specs.Csv.{comma};
+ghost use Rattle.lin_export.specs.Json.{joined};
+
+use super::places::put_place;
+use crate::json::{
+    Member, put_first, put_key, put_list, put_members, put_numbered_first, put_separator,
+};
+use crate::listing::slots::{bits_of, delay_of, permille, put_slack, slot_bytes};
+use lin_cluster::needed_us;
+use lin_parts::Cluster;
+use lin_parts::description::{Description, Name};
+use lin_text::TextWriter;
+use std::io::Write;
+
+/// The name of an entry of a table in the LDF.
+fn entry_declared(description: &Description, table: u16, number: u16) -> Option<&Name>
+    ensures { option_map (λ n. n.now) result
+        ≡ entry_declared description.now table number }
+{
+    let table = description.tables().get(usize::from(table))?;
+    match table.entries.as_slice().get(usize::from(number)) {
+        Some(entry) => Some(&entry.name),
+        None => None,
+    }
+}
+
+fn put_entry<'a, W: Write>(
+    out: &mut TextWriter<'_, W>,
+    cluster: &'a Cluster,
+    description: &'a Description,
+    table: u16,
+    number: u16,
+)
+    requires table { table < length cluster.now.tables }
+    requires entry { number < length (table_of cluster.now table) }
+    ensures { Grows W.contents out.old out.new
+        (entry_object cluster.now description.now table number) }
+{
+    cluster.sound();
+    let entry = cluster.entry(table, number);
+    let bytes = slot_bytes(cluster, entry);
+    let delay = u64::from(cluster.delay_us(table, number));
+    let needed = needed_us(cluster.jitter_us(), cluster.speed(), u32::from(bytes));
+    put_first(out, "name", cluster.entry_name(entry));
+    put_members(
+        out,
+        &[
+            Member::Text("kind", entry.kind()),
+            Member::Number("bytes", u64::from(bytes)),
+            Member::Number("delay_us", delay),
+            Member::Number("needed_us", needed),
+        ],
+    );
+    put_key(out, "slack_us");
+    put_slack(out, delay, needed);
+    put_place(out, entry_declared(description, table, number));
+    out.put_byte(b'}');
+}
+
+fn put_all_entries<W: Write>(
+    out: &mut TextWriter<'_, W>,
+    cluster: &Cluster,
+    description: &Description,
+    table: u16,
+)
+    requires { table < length cluster.now.tables }
+    ensures { Grows W.contents out.old out.new
+        (joined (map (entry_object cluster.now description.now table)
+        (numbers (length (table_of cluster.now table))))) }
+{
+    for entry in 0..cluster.entries(table) {
+        put_separator(out, entry);
+        put_entry(out, cluster, description, table, entry as u16);
+    }
+}
+
+/// The entries of a table.
+fn put_entries<W: Write>(
+    out: &mut TextWriter<'_, W>,
+    cluster: &Cluster,
+    description: &Description,
+    table: u16,
+)
+    requires { table < length cluster.now.tables }
+    ensures { Grows W.contents out.old out.new (comma (list_member (codes "entries")
+        (map (entry_object cluster.now description.now table)
+        (numbers (length (table_of cluster.now table)))))) }
+{
+    put_list(out, "entries");
+    put_all_entries(out, cluster, description, table);
+    out.put_byte(b']');
+}
+
+/// The name of a table in the LDF.
+fn table_declared(description: &Description, table: u16) -> Option<&Name>
+    ensures { option_map (λ n. n.now) result
+        ≡ option_map (λ t. t.name) (slice_get description.now.tables table) }
+{
+    match description.tables().get(usize::from(table)) {
+        Some(table) => Some(&table.name),
+        None => None,
+    }
+}
+
+fn put_table<'a, W: Write>(
+    out: &mut TextWriter<'_, W>,
+    cluster: &'a Cluster,
+    description: &'a Description,
+    table: u16,
+)
+    requires { table < length cluster.now.tables }
+    ensures { Grows W.contents out.old out.new
+        (table_object cluster.now description.now table) }
+{
+    let delay = delay_of(cluster, table);
+    let bits = bits_of(cluster, table);
+    put_numbered_first(out, u64::from(table));
+    put_members(
+        out,
+        &[
+            Member::Text("name", cluster.table_name(table)),
+            Member::Number("cycle_us", delay),
+            Member::Number("load", permille(bits, cluster.speed(), delay)),
+        ],
+    );
+    put_place(out, table_declared(description, table));
+    put_entries(out, cluster, description, table);
+    out.put_byte(b'}');
+}
+
+fn put_all_tables<W: Write>(
+    out: &mut TextWriter<'_, W>,
+    cluster: &Cluster,
+    description: &Description,
+)
+    ensures { Grows W.contents out.old out.new
+        (joined (map (table_object cluster.now description.now)
+        (numbers (length cluster.now.tables)))) }
+{
+    for table in 0..cluster.tables() {
+        put_separator(out, table);
+        put_table(out, cluster, description, table as u16);
+    }
+}
+
+/// The schedule tables of a cluster.
+pub(super) fn put_tables<W: Write>(
+    out: &mut TextWriter<'_, W>,
+    cluster: &Cluster,
+    description: &Description,
+)
+    ensures { Grows W.contents out.old out.new (comma (list_member (codes "tables")
+        (map (table_object cluster.now description.now) (numbers (length cluster.now.tables))))) }
+{
+    put_list(out, "tables");
+    put_all_tables(out, cluster, description);
+    out.put_byte(b']');
+}
