@@ -28,7 +28,10 @@ pub fn check<R: AllocGlobal + Files + Input + Print>(
 }
 
 /// The LDF text in the file at `path`; where the path is `-`, that on standard input.
-fn text_at<R: AllocGlobal + Files + Input>(rt: &R, path: &str) -> Result<Vec<u8>, Fault> {
+pub(crate) fn text_at<R: AllocGlobal + Files + Input>(
+    rt: &R,
+    path: &str,
+) -> Result<Vec<u8>, Fault> {
     if path == "-" {
         return read_text(rt.alloc(), &mut rt.reader());
     }

@@ -72,7 +72,11 @@ pub(crate) fn fault_of(fault: LdfFault) -> Fault
 ///
 /// # Errors
 /// `Ldf` for the first fault of the text; `OutOfMemory`.
-fn description_of(alloc: Global, text: &[u8], has_unknown: &mut bool) -> Result<Description, Fault>
+pub(crate) fn description_of(
+    alloc: Global,
+    text: &[u8],
+    has_unknown: &mut bool,
+) -> Result<Description, Fault>
     ensures { AnswersParse result text.now }
 {
     match parse_noting(alloc, text, has_unknown) {
@@ -256,7 +260,7 @@ pub enum Reading {
 
 /// The cluster that the LDF text of a reader describes, as of `cluster_of_reader`, or as a text of
 /// the field.
-fn cluster_read<R: Read>(
+pub(crate) fn cluster_read<R: Read>(
     alloc: Global,
     reader: &mut R,
     reading: Reading,

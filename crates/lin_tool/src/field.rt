@@ -24,7 +24,7 @@ use std::io::{Read, Write};
 ///
 /// # Errors
 /// `Ldf` for the first fault of the text; `OutOfMemory`.
-fn settled_of(alloc: Global, bytes: &mut [u8]) -> Result<Settled, Fault>
+pub(crate) fn settled_of(alloc: Global, bytes: &mut [u8]) -> Result<Settled, Fault>
     ensures { AnswersSettled result bytes.old bytes.new }
 {
     match read_field(alloc, bytes) {

@@ -1,12 +1,15 @@
-//! `--where`: faults and findings in the form of compilers, `FILE:LINE:COLUMN: WHAT: TOKEN`.
+//! The problems of an LDF with their places and tokens, and `--where`: their lines in the form of
+//! compilers, `FILE:LINE:COLUMN: WHAT: TOKEN`.
 
 use crate::explaining::{place_of, put_shown};
 use crate::fault::Fault;
 use crate::findings::remark_word;
 use crate::meanings::FAULTS;
 use lin_cluster::Finding;
+use lin_export::{Problem, put_problem_line};
 use lin_field::Remark;
 use lin_ldf::{LdfFault, Place, Token, lex};
+use lin_text::{Text, TextBuffer, TextWriter};
 use std::alloc::{AllocError, Global};
 
 /// The tokens of a text from some place on.
@@ -37,71 +40,81 @@ impl<'a> Tokens<'a> {
     }
 }
 
-/// Puts the token that a line ends with, and the line's end.
-fn put_token(out: &mut String, token: &[u8]) -> Result<(), AllocError> {
-    if !token.is_empty() {
-        out.push_str(": ")?;
-        put_shown(out, token)?;
-    }
-    out.push_str("\n")
+/// A token as it is shown.
+pub(crate) fn shown_token(alloc: Global, token: &[u8]) -> Result<String, AllocError> {
+    let mut shown = String::new(alloc);
+    put_shown(&mut shown, token)?;
+    Ok(shown)
 }
 
-fn put_fault(
-    out: &mut String,
-    file: &str,
+/// The token at a place as it is shown, if a token begins there.
+fn shown_at(
+    alloc: Global,
+    tokens: &mut Tokens<'_>,
+    place: Place,
+) -> Result<Option<Text>, AllocError> {
+    let token = tokens.token_at(place);
+    if token.is_empty() {
+        return Ok(None);
+    }
+    let shown = shown_token(alloc, token)?;
+    Ok(Some(Text::copied(alloc, shown.as_bytes())?))
+}
+
+/// A fault with its place and its token; `None` if there is no memory.
+fn problem_of_fault(
+    alloc: Global,
     tokens: &mut Tokens<'_>,
     fault: &LdfFault,
-) -> Result<(), AllocError> {
+) -> Result<Option<Problem>, AllocError> {
     let Some((place, number)) = place_of(fault) else {
-        return Ok(());
+        return Ok(None);
     };
-    let Place { line, column } = place;
-    write!(out, "{file}:{line}:{column}: fault {number}")?;
-    if let Some((name, _)) = FAULTS.get(number.wrapping_sub(1)) {
-        write!(out, " {name}")?;
-    }
-    put_token(out, tokens.token_at(place))
+    let (name, _) = FAULTS
+        .get(number.wrapping_sub(1))
+        .copied()
+        .unwrap_or(("", ""));
+    Ok(Some(Problem {
+        kind: "fault",
+        number: Some(number as u32),
+        name,
+        needed_us: None,
+        place: Some(place),
+        token: shown_at(alloc, tokens, place)?,
+    }))
 }
 
-fn put_finding(
-    out: &mut String,
-    file: &str,
+fn problem_of_finding(
+    alloc: Global,
     tokens: &mut Tokens<'_>,
     finding: &Finding,
-    word: &str,
-) -> Result<(), AllocError> {
+    kind: &'static str,
+) -> Result<Problem, AllocError> {
     let Finding {
         number,
         line,
         column,
         needed_us,
     } = *finding;
-    let name = finding.name();
-    write!(out, "{file}:{line}:{column}: {word} {number} {name}")?;
-    if needed_us > 0 {
-        write!(out, " {needed_us}")?;
-    }
+    let place = Place { line, column };
     // (that a description has no table is found at its first byte, and of no token)
-    if line == 1 && column == 1 {
-        return put_token(out, &[]);
-    }
-    put_token(out, tokens.token_at(Place { line, column }))
-}
-
-fn put_remarks(
-    out: &mut String,
-    file: &str,
-    tokens: &mut Tokens<'_>,
-    remarks: &[Remark],
-) -> Result<(), AllocError> {
-    for remark in remarks {
-        put_finding(out, file, tokens, &remark.finding, remark_word(remark))?;
-    }
-    Ok(())
+    let token = if line == 1 && column == 1 {
+        None
+    } else {
+        shown_at(alloc, tokens, place)?
+    };
+    Ok(Problem {
+        kind,
+        number: Some(u32::from(number)),
+        name: finding.name(),
+        needed_us: if needed_us > 0 { Some(needed_us) } else { None },
+        place: Some(place),
+        token,
+    })
 }
 
 /// The tokens of a text; none where it has a byte that begins no token.
-fn lexed(alloc: Global, text: &[u8]) -> Result<Vec<Token>, AllocError> {
+pub(crate) fn lexed(alloc: Global, text: &[u8]) -> Result<Vec<Token>, AllocError> {
     match lex(alloc, text) {
         Ok(tokens) => Ok(tokens),
         Err(LdfFault::OutOfMemory) => Err(AllocError),
@@ -109,44 +122,70 @@ fn lexed(alloc: Global, text: &[u8]) -> Result<Vec<Token>, AllocError> {
     }
 }
 
-/// Puts a line for each finding and each warning, in the same form.
-pub(crate) fn put_remark_places(
+/// The findings and the warnings of a text, with their places and tokens.
+pub(crate) fn problems_of_remarks(
     alloc: Global,
-    out: &mut String,
-    file: &str,
     text: &[u8],
     remarks: &[Remark],
-) -> Result<(), AllocError> {
+) -> Result<Vec<Problem>, AllocError> {
     let lexed = lexed(alloc, text)?;
     let mut tokens = Tokens {
         text,
         rest: lexed.as_slice(),
     };
-    put_remarks(out, file, &mut tokens, remarks)
+    let mut problems = Vec::new(alloc);
+    for remark in remarks {
+        problems.push(problem_of_finding(
+            alloc,
+            &mut tokens,
+            &remark.finding,
+            remark_word(remark),
+        )?)?;
+    }
+    Ok(problems)
 }
 
-/// Puts a line for the fault of an LDF text, or a line for each finding, with the file's name
-/// before the place and after them the token that begins there.
-pub(crate) fn put_places(
+/// What is wrong with a text by its fault, with places and tokens.
+pub(crate) fn problems_of_fault(
     alloc: Global,
-    out: &mut String,
-    file: &str,
     text: &[u8],
     fault: &Fault,
-) -> Result<(), AllocError> {
+) -> Result<Vec<Problem>, AllocError> {
     let lexed = lexed(alloc, text)?;
     let mut tokens = Tokens {
         text,
         rest: lexed.as_slice(),
     };
+    let mut problems = Vec::new(alloc);
     match fault {
-        Fault::Ldf(fault) => put_fault(out, file, &mut tokens, fault),
+        Fault::Ldf(fault) => {
+            if let Some(one) = problem_of_fault(alloc, &mut tokens, fault)? {
+                problems.push(one)?;
+            }
+        }
         Fault::Findings(findings) => {
             for finding in findings.0.as_slice() {
-                put_finding(out, file, &mut tokens, finding, "finding")?;
+                problems.push(problem_of_finding(alloc, &mut tokens, finding, "finding")?)?;
             }
-            Ok(())
         }
-        _ => Ok(()),
+        _ => {}
+    }
+    Ok(problems)
+}
+
+/// Puts a line for each problem, with the file's name before the place.
+pub(crate) fn put_places(
+    out: &mut Vec<u8>,
+    file: &str,
+    problems: &[Problem],
+) -> Result<(), AllocError> {
+    let mut buffer = TextBuffer::empty();
+    let mut lines = TextWriter::new(out, &mut buffer);
+    for problem in problems {
+        put_problem_line(&mut lines, file, problem);
+    }
+    match lines.finish() {
+        Ok(()) => Ok(()),
+        Err(_) => Err(AllocError),
     }
 }

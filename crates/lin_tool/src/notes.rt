@@ -15,7 +15,7 @@ use crate::fault::{Fault, exit_status};
 use crate::field::is_read_otherwise;
 use crate::findings::put_reported_remarks;
 use crate::levels::Levels;
-use crate::locating::{put_places, put_remark_places};
+use crate::locating::{problems_of_fault, problems_of_remarks, put_places};
 use crate::misspelled::count_unread;
 use crate::nearest::put_bad_bench_line;
 use crate::telling::{put_fault, write_fault};
@@ -51,7 +51,7 @@ pub struct Notes<'a> {
     is_old: bool,
     are_warnings_told: bool,
     unknown: usize,
-    places: String,
+    places: Vec<u8>,
     text: String,
     is_cut: bool,
 }
@@ -67,7 +67,7 @@ impl<'a> Notes<'a> {
             is_old: false,
             are_warnings_told: false,
             unknown: 0,
-            places: String::new(alloc),
+            places: Vec::new(alloc),
             text: String::new(alloc),
             is_cut: false,
         }
@@ -165,7 +165,7 @@ impl<'a> Notes<'a> {
     {
         let warnings = self.warnings.as_slice();
         if !warnings.is_empty() && self.wanted.file.is_some() {
-            return write_out(writer, self.places.as_bytes());
+            return write_out(writer, self.places.as_slice());
         }
         self.write_remarks(warnings, writer)
     }
@@ -196,7 +196,7 @@ impl<'a> Notes<'a> {
     fn write_lines<W: Write>(&self, fault: &Fault, writer: &mut W) -> Result<(), WriteFailed> {
         match (self.named(), fault) {
             (Some(_), Fault::Ldf(_) | Fault::Findings(_) | Fault::Remarks(_)) => {
-                write_out(writer, self.places.as_bytes())
+                write_out(writer, self.places.as_slice())
             }
             (Some(file), Fault::LdfTooLong | Fault::ScriptTooLong | Fault::ReadFailed) => {
                 let mut buffer = TextBuffer::empty();
@@ -259,7 +259,8 @@ impl<'a> Notes<'a> {
         fault: &Fault,
     ) -> Result<(), AllocError> {
         if let Some(file) = self.wanted.file {
-            put_places(alloc, &mut self.places, file, text, fault)?;
+            let problems = problems_of_fault(alloc, text, fault)?;
+            put_places(&mut self.places, file, problems.as_slice())?;
         }
         if self.is_more_explained() {
             self.is_cut |= put_text(alloc, &mut self.text, reading, text, fault).is_err();
@@ -301,7 +302,8 @@ impl<'a> Notes<'a> {
         if let Some(file) = self.wanted.file
             && !reported.is_empty()
         {
-            put_remark_places(alloc, &mut self.places, file, text, reported)?;
+            let problems = problems_of_remarks(alloc, text, reported)?;
+            put_places(&mut self.places, file, problems.as_slice())?;
         }
         if self.is_more_explained() {
             self.is_cut |= put_remarks(alloc, &mut self.text, text, reported).is_err();

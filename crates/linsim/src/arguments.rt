@@ -69,6 +69,22 @@ fn format<'a>(alloc: Global, words: &'a [&'a str]) -> Arg<'a> {
         .help("Output format")
 }
 
+/// The value of `--to` of `check`.
+static OBJECTS: [&str; 1] = ["json"];
+
+fn object<'a>(alloc: Global) -> Result<Arg<'a>, AllocError> {
+    Arg::new(alloc, "to")
+        .long("to")
+        .value_name("FORMAT")
+        .value_parser(OBJECTS.as_slice())
+        .help("Write one object with all that was found instead of the list")
+        .conflicts_with("frames")?
+        .conflicts_with("map")?
+        .conflicts_with("slots")?
+        .conflicts_with("signals")?
+        .conflicts_with("plain")
+}
+
 /// An option without a value.
 fn flag<'a>(alloc: Global, name: &'a str, help: &'a str) -> Arg<'a> {
     Arg::new(alloc, name)
@@ -217,6 +233,7 @@ fn check<'a>(alloc: Global) -> Result<Command<'a>, AllocError> {
         .arg(physical(alloc))?
         .arg(linted(alloc))?
         .arg(plain(alloc)?)?
+        .arg(object(alloc)?)?
         .arg(denied(alloc))?
         .arg(allowed(alloc))?
         .arg(places(alloc))?
@@ -307,6 +324,12 @@ pub(crate) enum Request<'a> {
         reading: Reading,
         extras: Extras,
         lists: Lists,
+    },
+    /// `linsim check FILE --to json [--field] [--physical] [--lint] [--deny KINDS] [--allow KINDS]`
+    CheckObject {
+        file: &'a str,
+        reading: Reading,
+        extras: Extras,
     },
     /// `linsim check FILE --field --plain [--deny KINDS] [--allow KINDS]`
     CheckPlain(&'a str),
@@ -424,6 +447,11 @@ fn request_of<'a>(matches: &ArgMatches<'a>) -> Option<Request<'a>> {
         Some(("check", found)) if found.get_flag("plain") => {
             Some(Request::CheckPlain(found.get_str("file").unwrap_or("")))
         }
+        Some(("check", found)) if found.get_str("to").is_some() => Some(Request::CheckObject {
+            file: found.get_str("file").unwrap_or(""),
+            reading: reading_of(found),
+            extras: extras_of(found),
+        }),
         Some(("check", found)) => Some(Request::Check {
             file: found.get_str("file").unwrap_or(""),
             reading: reading_of(found),

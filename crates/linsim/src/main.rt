@@ -43,6 +43,11 @@ fn perform<
             extras,
             lists,
         } => lin_tool::check(rt, file, reading, extras, lists, notes),
+        Request::CheckObject {
+            file,
+            reading,
+            extras,
+        } => lin_tool::check_object(rt, file, reading, extras, notes),
         Request::CheckPlain(file) => lin_tool::check_plain(rt, file, notes),
         Request::Live(settings) => lin_tool::live(rt, &settings, errors, notes),
         Request::Play { settings, script } => {
@@ -59,7 +64,9 @@ fn perform<
 /// Whether a script or an LDF text is read from standard input.
 fn is_read(request: Request<'_>) -> bool {
     match request {
-        Request::Check { file, .. } | Request::CheckPlain(file) => file == "-",
+        Request::Check { file, .. }
+        | Request::CheckObject { file, .. }
+        | Request::CheckPlain(file) => file == "-",
         Request::Play { script, .. } => script.is_none(),
         Request::Live(_) | Request::Replay(_) | Request::Compare(_) | Request::Run { .. } => true,
     }
