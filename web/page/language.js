@@ -9,7 +9,7 @@ const STEP_WORDS = `slots slot write expect send switch sleep wake when every ti
 const FORM_WORDS = 'signal message frame seen sent lost no waiting slot table asleep awake done refused'.split(' ');
 const SEEN_WORDS = 'good none silent damaged collided'.split(' '), CAUSE_WORDS = 'damaged timedout slept'.split(' ');
 const BENCH_WORDS = new Set([...STEP_WORDS, ...FORM_WORDS, ...SEEN_WORDS, ...CAUSE_WORDS,
-	...'until idle ms within silent then after on off up down bus'.split(' ')]);
+	...'until idle ms within of last silent then after on off up down bus'.split(' ')]);
 
 // The colored parts of a line of an LDF, as [from, to, class]; `isOpen` if a comment is open at its start.
 function ldfParts(line, isOpen) {

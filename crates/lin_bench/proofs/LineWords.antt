@@ -19,6 +19,16 @@ use Rattle.lin_bench.specs.declared.got.Pending.TheVariants.{MessagesWait, Answe
 pub each-next : (f : ℕ → ℕ) (xs : List ℕ) (i d : ℕ) → i < length xs → map f (take (i + 1) xs) ≡ map f (take i xs) ++ f (get_or xs i d) ∷ []
 each-next f xs i d h = ap (map f) (take_more xs i d h) ∙ map-append f (take i xs) (get_or xs i d ∷ [])
 
+-- the text of one item more
+pub grows-copied : {W X : Type 0} {contents : W → Option (List ℕ)} {x y z : TextWriter W} (f : X → List ℕ) (xs : List X) (i : ℕ) (d : X) → i < length xs
+    → Grows contents x y (flat_map f (take i xs)) → Grows contents y z (f (get_or xs i d)) → Grows contents x z (flat_map f (take (i + 1) xs))
+grows-copied f xs i d lt h k =
+    same-growth
+    (sym (ap (flat_map f) (take_more xs i d lt)
+    ∙ flat_map-append f (take i xs) (get_or xs i d ∷ [])
+    ∙ ap (λ l. flat_map f (take i xs) ++ l) (append-nil (f (get_or xs i d)))))
+    (grows-more h k)
+
 -- the text of what one item more says
 pub grows-mapped : {W X Y : Type 0} {contents : W → Option (List ℕ)} {x y z : TextWriter W} (f : Y → List ℕ) (g : X → Y) (xs : List X) (i : ℕ) (item : X)
     → item ≡ get_or xs i item → i < length xs → Grows contents x y (flat_map f (map g (take i xs))) → Grows contents y z (f (g item))

@@ -24,15 +24,15 @@ one-event [] e s = refl
 one-event (x ∷ es) e s = one-event es e (slot_after_event x s)
 
 -- how long the answers of an entry took
-abbrev pub times-of : Parts → EventKind → EventKind → List LogEntry → LogEntry → List ℕ
+abbrev pub times-of : Parts → (Event → Bool) → EventKind → List LogEntry → LogEntry → List ℕ
 times-of c request answer past e = map (λ event. time c (e ∷ past) - last_time c request past) (filter (is_of answer) (events e))
 
 -- how long answers took of entries after a history, the oldest first
-abbrev pub times-after : Parts → EventKind → EventKind → List LogEntry → List LogEntry → List ℕ
+abbrev pub times-after : Parts → (Event → Bool) → EventKind → List LogEntry → List LogEntry → List ℕ
 times-after c request answer past [] = []
 times-after c request answer past (e ∷ es) = times-of c request answer past e ++ times-after c request answer (e ∷ past) es
 
-split-times : (c : Parts) (request answer : EventKind) (past es : List LogEntry)
+split-times : (c : Parts) (request : Event → Bool) (answer : EventKind) (past es : List LogEntry)
     → times_taken c request answer (reverse es ++ past) ≡ times_taken c request answer past ++ times-after c request answer past es
 split-times c request answer past [] = sym (append-nothing (times_taken c request answer past))
 split-times c request answer past (e ∷ es) =
@@ -41,7 +41,7 @@ split-times c request answer past (e ∷ es) =
     ∙ split-times c request answer (e ∷ past) es
     ∙ append_assoc (times_taken c request answer past) (times-of c request answer past e) (times-after c request answer (e ∷ past) es)
 
-split-at : (c : Parts) (request answer : EventKind) (es : List LogEntry) (i : ℕ)
+split-at : (c : Parts) (request : Event → Bool) (answer : EventKind) (es : List LogEntry) (i : ℕ)
     → times_taken c request answer (reverse es)
     ≡ times_taken c request answer (reverse (take i es)) ++ times-after c request answer (reverse (take i es)) (drop i es)
 split-at c request answer es i =
@@ -50,7 +50,7 @@ split-at c request answer es i =
     ∙ split-times c request answer (reverse (take i es)) (drop i es)
 
 -- there are as many as answers
-as-many : (c : Parts) (request answer : EventKind) (past : List LogEntry)
+as-many : (c : Parts) (request : Event → Bool) (answer : EventKind) (past : List LogEntry)
     → length (times_taken c request answer past) ≡ count_by (is_of answer) (all_events past)
 as-many c request answer [] = refl
 as-many c request answer (e ∷ past) =
@@ -62,7 +62,7 @@ as-many c request answer (e ∷ past) =
     ∙ ap (λ n. count_by (is_of answer) (all_events past) + n) here
     ∙ sym (sum_by-append (λ x. cond (is_of answer x) 1 0) (all_events past) (events e))
 
-as-many-in : (c : Parts) (request answer : EventKind) (es : List LogEntry)
+as-many-in : (c : Parts) (request : Event → Bool) (answer : EventKind) (es : List LogEntry)
     → length (times_taken c request answer (reverse es)) ≡ count_by (is_of answer) (flat_map events es)
 as-many-in c request answer es = as-many c request answer (reverse es) ∙ ap (count_by (is_of answer)) (events-of-log es)
 
@@ -83,7 +83,7 @@ all-alike (e ∷ es) v rest zero x h = refl
 all-alike (e ∷ es) v rest (suc k) x h = all-alike es v rest k x h
 
 -- how long the answer took that an entry tells of, after so many others
-pub found-time : (c : Parts) (request answer : EventKind) (es : List LogEntry) (i : ℕ) (e : LogEntry) (told : List Event) (k : ℕ) (x : Event) → i < length es
+pub found-time : (c : Parts) (request : Event → Bool) (answer : EventKind) (es : List LogEntry) (i : ℕ) (e : LogEntry) (told : List Event) (k : ℕ) (x : Event) → i < length es
     → e ≡ get_or es i e → told ≡ events e → slice_get (filter (is_of answer) told) k ≡ Some x
     → slice_index (times_taken c request answer (reverse es)) (count_by (is_of answer) (flat_map events (take i es)) + k)
     ≡ time c (e ∷ reverse (take i es)) - last_time c request (reverse (take i es))
@@ -99,7 +99,7 @@ found-time c request answer es i e told k x h is same found =
     ∙ all-alike (filter (is_of answer) (events e)) v (times-after c request answer (e ∷ past) rest) k x (rw same at found)
 
 -- where no answer is left there is no time
-pub no-time : (c : Parts) (request answer : EventKind) (es : List LogEntry) (i k : ℕ) → length es ≤ i
+pub no-time : (c : Parts) (request : Event → Bool) (answer : EventKind) (es : List LogEntry) (i k : ℕ) → length es ≤ i
     → slice_index (times_taken c request answer (reverse es)) (count_by (is_of answer) (flat_map events (take i es)) + k) ≡ 0
 no-time c request answer es i k h =
     ap (λ l. slice_index (times_taken c request answer (reverse es)) (count_by (is_of answer) (flat_map events l) + k)) (take_all i es h)
@@ -110,7 +110,7 @@ or-else (Some x) b d = refl
 or-else None b d = refl
 
 -- ---- the time since the last request
-last-before : (c : Parts) (kind : EventKind) (past : List LogEntry) (b : Bool) (e : LogEntry) → list_any (is_of kind) (events e) ≡ b → last_time c kind past ≤ time c past
+last-before : (c : Parts) (kind : Event → Bool) (past : List LogEntry) (b : Bool) (e : LogEntry) → list_any kind (events e) ≡ b → last_time c kind past ≤ time c past
     → time c past ≤ time c (e ∷ past) → last_time c kind (e ∷ past) ≤ time c (e ∷ past)
 last-before c kind past true e h last grows = rw h (omega arith)
 last-before c kind past false e h last grows = rw h (omega (arith, last, grows))
@@ -122,11 +122,11 @@ by-slot c t (Some s) = refl
 slot-time : (c : Parts) (past : List LogEntry) (e : LogEntry) → time c (e ∷ past) ≡ time c past + delay_told c None (finished_slot e past)
 slot-time c past e = by-slot c (time c past) (finished_slot e past)
 
-last-time : (c : Parts) (kind : EventKind) (past : List LogEntry) → last_time c kind past ≤ time c past
+last-time : (c : Parts) (kind : Event → Bool) (past : List LogEntry) → last_time c kind past ≤ time c past
 last-time c kind [] = omega arith
 last-time c kind (e ∷ past) =
     let grows = slot-time c past e in
-    last-before c kind past (list_any (is_of kind) (events e)) e refl (last-time c kind past) (omega (arith, grows))
+    last-before c kind past (list_any kind (events e)) e refl (last-time c kind past) (omega (arith, grows))
 
 by-done : (past : List LogEntry) (d : Option Step) → option_map_or is_finish d false ≡ true → option_map_or (λ step. cond (is_finish step) (open_slot past) None) d None ≡ open_slot past
 by-done past None h = absurd (cc)
@@ -137,7 +137,7 @@ not-done past None h = refl
 not-done past (Some step) h = rw h refl
 
 -- a finish adds its slot to it
-pub since-finish : (c : Parts) (request : EventKind) (past : List LogEntry) (e : LogEntry) → did is_finish e ≡ true → list_any (is_of request) (events e) ≡ false
+pub since-finish : (c : Parts) (request : Event → Bool) (past : List LogEntry) (e : LogEntry) → did is_finish e ≡ true → list_any request (events e) ≡ false
     → delay_told c None (open_slot past) + since c request past ≡ since c request (e ∷ past)
 since-finish c request past e fin none =
     let grows = slot-time c past e ∙ ap (λ o. time c past + delay_told c None o) (by-done past (done e) fin) in
@@ -145,7 +145,7 @@ since-finish c request past e fin none =
     rw none (omega (arith, grows, last))
 
 -- ---- a walk from an entry back finds it whole
-pub whole-answer : (c : Parts) (request : EventKind) (past : List LogEntry) (e : LogEntry) (b : Bool) → did is_finish e ≡ b
+pub whole-answer : (c : Parts) (request : Event → Bool) (past : List LogEntry) (e : LogEntry) (b : Bool) → did is_finish e ≡ b
     → whole c request (record { time = 0; finishes = did is_finish e; told = None; asked = false }) past ≡ time c (e ∷ past) - last_time c request past
 whole-answer c request past e true fin =
     let grows = slot-time c past e ∙ ap (λ o. time c past + delay_told c None o) (by-done past (done e) fin) in
@@ -161,7 +161,7 @@ over-by t l s true true h = absurd (cc)
 over-by t l s false true h = omega arith
 over-by t l s f false h = absurd (cc)
 
-pub over : (c : Parts) (request : EventKind) (w : Walk) (past : List LogEntry) → (w.asked && not w.finishes) ≡ true → whole c request w past ≡ w.time
+pub over : (c : Parts) (request : Event → Bool) (w : Walk) (past : List LogEntry) → (w.asked && not w.finishes) ≡ true → whole c request w past ≡ w.time
 over c request w past h = over-by w.time (delay_told c w.told (open_slot past)) (since c request past) w.finishes w.asked h
 
 first-by : (t : ℕ) (f a : Bool) → t + (cond f 0 0 + cond a 0 0) ≡ t
@@ -170,7 +170,7 @@ first-by t true false = omega arith
 first-by t false true = omega arith
 first-by t false false = omega arith
 
-pub at-first : (c : Parts) (request : EventKind) (w : Walk) → whole c request w [] ≡ w.time
+pub at-first : (c : Parts) (request : Event → Bool) (w : Walk) → whole c request w [] ≡ w.time
 at-first c request w = first-by w.time w.finishes w.asked
 
 pub one-back : (es : List LogEntry) (n : ℕ) (e : LogEntry) → n < length es → e ≡ get_or es n e → reverse (take (n + 1) es) ≡ e ∷ reverse (take n es)
@@ -181,7 +181,7 @@ pub same-entry : (es : List LogEntry) (i : ℕ) (a b : LogEntry) → i < length 
 same-entry es i a b h p q = p ∙ get_or_default es i a b h ∙ sym q
 
 -- a walk from an entry that has found it whole
-pub walked : (c : Parts) (request : EventKind) (es : List LogEntry) (i n : ℕ) (x e : LogEntry) (first last : Walk) → i < length es → x ≡ get_or es i x → e ≡ get_or es i e
+pub walked : (c : Parts) (request : Event → Bool) (es : List LogEntry) (i n : ℕ) (x e : LogEntry) (first last : Walk) → i < length es → x ≡ get_or es i x → e ≡ get_or es i e
     → first ≡ record { time = 0; finishes = did is_finish x; told = None; asked = false }
     → whole c request last (reverse (take n es)) ≡ whole c request first (reverse (take i es)) → whole c request last (reverse (take n es)) ≡ last.time
     → last.time ≡ time c (e ∷ reverse (take i es)) - last_time c request (reverse (take i es))

@@ -1,20 +1,27 @@
 -- What a bench script expects.
-use Rattle.std.specs.Prelude.{ℕ, Bool, ◌||◌, if◌then◌else◌, List, [], ◌∷◌, Option, Some, None, Result}
-use Rattle.std.specs.Prelude.{Ok}
-use Rattle.std.specs.Prelude.{Err, codes}
+use Rattle.std.specs.Prelude.{ℕ, Bool, ◌&&◌, ◌||◌, if◌then◌else◌, List, [], ◌∷◌, Option, Some, None}
+use Rattle.std.specs.Prelude.{Result, Ok, Err, codes, length, nat_lt, option_map, reverse}
 use Rattle.std.specs.Str.{bytes_eq}
+use Rattle.lin_parts.specs.Cluster.{frame_of, table_of}
 use Rattle.lin_parts.specs.declared.parts.Parts.{Parts}
 use Rattle.lin_core.specs.Tables.{cause_word, causes, look_word, looks, named, numbered}
 use Rattle.lin_core.specs.Tables.{refusal_number, refusal_word, refusals}
 use Rattle.lin_core.specs.declared.reply.Refusal.{Refusal}
 use Rattle.lin_log.specs.Said.{is_number}
-use Rattle.lin_bench.specs.Fields.{◌>>=◌, bytes_fields, count_field, frame_field, host_field}
+use Rattle.lin_bench.specs.Fields.{◌>>=◌, count_field, frame_field, host_field}
 use Rattle.lin_bench.specs.Fields.{number_field, or_bad, pair_fields, present_node, present_signal}
 use Rattle.lin_bench.specs.Fields.{present_table, range_ends, range_field, rows_and_time}
 use Rattle.lin_bench.specs.Fields.{value_field}
+use Rattle.lin_bench.specs.RuleLines.{pattern_fields}
+use Rattle.lin_bench.specs.Rules.{has_length}
 use Rattle.lin_bench.specs.declared.reason.Reason.{Reason}
-use Rattle.lin_bench.specs.declared.reason.Reason.TheVariants.{NoRefusal, TooSmall, ExpectForm}
-use Rattle.lin_bench.specs.declared.reason.Reason.TheVariants.{UnknownExpectation, UntilForm, UnknownUntil}
+use Rattle.lin_bench.specs.declared.reason.Reason.TheVariants.{NoData, NoEntry, NoRefusal, TooSmall}
+use Rattle.lin_bench.specs.declared.reason.Reason.TheVariants.{ExpectForm, UnknownExpectation, UntilForm, UnknownUntil}
+use Rattle.lin_bench.specs.declared.expected.Carried.{Carried}
+use Rattle.lin_bench.specs.declared.expected.Carried.TheVariants.{Signals, Request as RequestFrame, Response}
+use Rattle.lin_bench.specs.declared.expected.Since.{Since}
+use Rattle.lin_bench.specs.declared.expected.Since.TheVariants.{Request, Last}
+use Rattle.lin_bench.specs.declared.rules.Pattern.{Pattern}
 use Rattle.lin_bench.specs.declared.expected.Expected.{Expected}
 use Rattle.lin_bench.specs.declared.expected.Expected.TheVariants as expected
 
@@ -47,19 +54,48 @@ waiting_form c all (n ∷ k ∷ []) = do
   Ok (expected.Waiting host count)
 waiting_form c all fs = Err (UnknownExpectation all)
 
--- bytes, and in how many milliseconds they are to arrive, where that is said
-abbrev pub bytes_form : Parts → ℕ → ℕ → List (List ℕ) × Option (List ℕ) → Result Expected Reason
-bytes_form c from to (rows, None) =
-    bytes_fields c rows >>= (λ bytes. Ok (expected.Message from to bytes))
-bytes_form c from to (rows, Some n) = do
-  bytes ← bytes_fields c rows
-  most ← count_field n
-  Ok (expected.MessageWithin from to bytes most)
+-- the fields before `of last` at the end
+abbrev pub last_from : List (List ℕ) → Option (List (List ℕ))
+last_from (l ∷ o ∷ rows) =
+    if bytes_eq l (codes "last") && bytes_eq o (codes "of") then Some (reverse rows) else None
+last_from backwards = None
+
+abbrev pub before_last : List (List ℕ) → Option (List (List ℕ))
+before_last fs = last_from (reverse fs)
+
+-- rows, and the number after them where they end with `within`, a number and `ms`, and then
+-- `of last` or nothing: from which earlier message the time counts
+abbrev pub since_request : List (List ℕ) × Option (List ℕ) → List (List ℕ) × Option (List ℕ × Since)
+since_request (rows, n) = (rows, option_map (λ f. (f, Request)) n)
+
+abbrev pub since_last : List (List ℕ) → List (List ℕ) × Option (List ℕ)
+    → List (List ℕ) × Option (List ℕ × Since)
+since_last fs (rows, None) = (fs, None)
+since_last fs (rows, Some n) = (rows, Some (n, Last))
+
+abbrev pub limit_by : List (List ℕ) → Option (List (List ℕ)) → List (List ℕ) × Option (List ℕ × Since)
+limit_by fs None = since_request (rows_and_time (codes "within") fs)
+limit_by fs (Some rows) = since_last fs (rows_and_time (codes "within") rows)
+
+unfoldable pub rows_and_limit : List (List ℕ) → List (List ℕ) × Option (List ℕ × Since)
+rows_and_limit fs = limit_by fs (before_last fs)
+
+-- a pattern of one field at least, and in how many milliseconds the message is to arrive, where that
+-- is said
+unfoldable pub pattern_form : List (List ℕ) → ℕ → ℕ → List (List ℕ) × Option (List ℕ × Since)
+    → Result Expected Reason
+pattern_form all from to ([], limit) = Err (UnknownExpectation all)
+pattern_form all from to (f ∷ fs, None) =
+    pattern_fields (f ∷ fs) >>= (λ pattern. Ok (expected.Message from to pattern))
+pattern_form all from to (f ∷ fs, Some limit) = do
+  pattern ← pattern_fields (f ∷ fs)
+  most ← count_field limit.0
+  Ok (expected.MessageWithin from to pattern most limit.1)
 
 abbrev pub message_form : Parts → List (List ℕ) → List (List ℕ) → Result Expected Reason
 message_form c all (from ∷ to ∷ f ∷ fs) = do
   pair ← pair_fields c from to
-  bytes_form c pair.0 pair.1 (rows_and_time (codes "within") (f ∷ fs))
+  pattern_form all pair.0 pair.1 (rows_and_limit (f ∷ fs))
 message_form c all fs = Err (UnknownExpectation all)
 
 abbrev pub sent_form : Parts → List (List ℕ) → List (List ℕ) → Result Expected Reason
@@ -76,14 +112,27 @@ abbrev pub lost_form : Parts → List (List ℕ) → List (List ℕ) → Result 
 lost_form c all (n ∷ why ∷ []) = loss_of c all n why
 lost_form c all fs = Err (UnknownExpectation all)
 
--- a frame, and its data bytes, where they are said
+-- how many data bytes a frame has: a frame of a message has eight (ISO 17987-2)
+abbrev pub data_length : Parts → Carried → ℕ
+data_length c (Signals f) = (frame_of c f).layout.len
+data_length c RequestFrame = 8
+data_length c Response = 8
+
+-- a pattern that data of the frame may match
+abbrev pub data_pattern : Parts → List ℕ → Carried → Pattern → Result Pattern Reason
+data_pattern c f frame pattern =
+    if has_length pattern (data_length c frame) then Ok pattern
+    else Err (NoData f (data_length c frame))
+
+-- a frame, and a pattern of its data bytes, where it is said
 abbrev pub frame_form : Parts → List (List ℕ) → List (List ℕ) → Result Expected Reason
 frame_form c all [] = Err (UnknownExpectation all)
 frame_form c all (f ∷ []) = frame_field c f >>= (λ frame. Ok (expected.Frame frame None))
 frame_form c all (f ∷ g ∷ fs) = do
   frame ← frame_field c f
-  bytes ← bytes_fields c (g ∷ fs)
-  Ok (expected.Frame frame (Some bytes))
+  said ← pattern_fields (g ∷ fs)
+  pattern ← data_pattern c f frame said
+  Ok (expected.Frame frame (Some pattern))
 
 abbrev pub seen_form : List (List ℕ) → List (List ℕ) → Result Expected Reason
 seen_form all (word ∷ []) =
@@ -91,10 +140,17 @@ seen_form all (word ∷ []) =
     >>= (λ how. Ok (expected.Seen how))
 seen_form all fs = Err (UnknownExpectation all)
 
+-- an entry that a table has, by its number (LIN 2.2A, section 9.2.5)
+abbrev pub entry_field : Parts → List ℕ → ℕ → List ℕ → Result ℕ Reason
+entry_field c t table e =
+    number_field 1023 e
+    >>= (λ entry. if nat_lt entry (length (table_of c table)) then Ok entry
+    else Err (NoEntry t (length (table_of c table))))
+
 abbrev pub slot_form : Parts → List (List ℕ) → List (List ℕ) → Result Expected Reason
 slot_form c all (t ∷ e ∷ []) = do
   table ← present_table c t
-  entry ← number_field 1023 e
+  entry ← entry_field c t table e
   Ok (expected.Slot table entry)
 slot_form c all fs = Err (UnknownExpectation all)
 

@@ -1,6 +1,7 @@
 -- Lines as lists of words and marks.
-use Rattle.std.specs.Prelude.{ℕ, ◌==◌, Bool, true, false, if◌then◌else◌, List, [], ◌∷◌, ◌++◌, codes, flat_map, map}
+use Rattle.std.specs.Prelude.{ℕ, ◌==◌, Bool, true, false, if◌then◌else◌, List, [], ◌∷◌, ◌++◌, codes, flat_map, map, Option, Some, None}
 use Rattle.std.specs.Fmt.{decimal}
+use Rattle.hex.specs.Hex.{encode_upper}
 use Rattle.lin_frame.specs.declared.value.Value.{Value}
 use Rattle.lin_log.specs.Language.{Called, Language, word_of}
 use Rattle.lin_log.specs.Words.{hex_word, spaced_word, value_word}
@@ -8,6 +9,7 @@ use Rattle.lin_bench.specs.declared.expected.Carried.{Carried}
 use Rattle.lin_bench.specs.declared.expected.Carried.TheVariants.{Signals, Request, Response}
 use Rattle.lin_bench.specs.declared.line_words.Word.{Word as CodeWord}
 use Rattle.lin_bench.specs.declared.line_words.Word.TheVariants as code
+use Rattle.lin_bench.specs.declared.rules.Pattern.{Pattern}
 
 -- a word of a line; or a mark, which has no space before it
 pub data Word : Type 0 where
@@ -18,6 +20,7 @@ pub data Word : Type 0 where
   Number : (number : ℕ) → Word
   Range : (low : ℕ) → (high : ℕ) → Word
   Hex : (bytes : List ℕ) → Word
+  Matching : (pattern : Pattern) → Word
   Raw : (value : Value) → Word
   Fixed : (text : List ℕ) → Word
   Said : (text : List ℕ) → Word
@@ -34,6 +37,7 @@ said (code.Frame f) = Frame f
 said (code.Number n) = Number n
 said (code.Range low high) = Range low high
 said (code.Bytes bytes) = Hex bytes.now
+said (code.Pattern p) = Matching p.now
 said (code.Value v) = Raw v.now
 said (code.Fixed text) = Fixed text.now
 said (code.Said text) = Said text.now
@@ -66,6 +70,14 @@ carried_word frames (Signals f) = word_of frames f
 carried_word frames Request = codes "MasterReq"
 carried_word frames Response = codes "SlaveResp"
 
+-- a pattern as one field: `..` for any byte, and `*` where more bytes may follow
+abbrev pub byte_word : Option ℕ → List ℕ
+byte_word None = codes ".."
+byte_word (Some b) = encode_upper (b ∷ [])
+
+abbrev pub pattern_word : Pattern → List ℕ
+pattern_word p = flat_map byte_word p.bytes ++ (if p.more then codes "*" else [])
+
 -- the text of a word
 abbrev pub word_text : Language → Called → Word → List ℕ
 word_text l frames (Node n) = word_of l.nodes n
@@ -75,6 +87,7 @@ word_text l frames (Frame f) = carried_word frames f
 word_text l frames (Number n) = decimal n
 word_text l frames (Range low high) = decimal low ++ (codes ".." ++ decimal high)
 word_text l frames (Hex bytes) = hex_word bytes
+word_text l frames (Matching p) = pattern_word p
 word_text l frames (Raw v) = value_word v
 word_text l frames (Fixed text) = text
 word_text l frames (Said text) = seen_text text

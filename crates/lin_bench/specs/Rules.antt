@@ -26,11 +26,14 @@ abbrev pub fits_byte : Option ℕ → ℕ → Bool
 fits_byte None byte = true
 fits_byte (Some b) byte = b == byte
 
--- a message of exactly the pattern's length, or where more may follow of at least that, whose bytes
--- are those of the pattern
+-- a length of exactly the pattern's, or where more may follow of at least that
+abbrev pub has_length : Pattern → ℕ → Bool
+has_length p n = if p.more then nat_le (length p.bytes) n else length p.bytes == n
+
+-- a message of such a length, whose bytes are those of the pattern
 abbrev pub fits : Pattern → List ℕ → Bool
 fits p message =
-    (if p.more then nat_le (length p.bytes) (length message) else length p.bytes == length message)
+    has_length p (length message)
     && list_all (λ (x : Option ℕ × ℕ). fits_byte x.0 x.1) (zip p.bytes message)
 
 -- the rule of a node for a message: the first one that fits

@@ -12,10 +12,10 @@ use Rattle.lin_log.specs.declared.reason.Reason.TheVariants as step
 use Rattle.lin_bench.specs.Fields.{frames_called}
 use Rattle.lin_bench.specs.LineWords.{Word, words_text}
 use Rattle.lin_bench.specs.LineWords.Word.{Node, Signal, Table, Frame, Number, Range}
-use Rattle.lin_bench.specs.LineWords.Word.{Hex, Raw, Fixed, Said, Fields}
+use Rattle.lin_bench.specs.LineWords.Word.{Hex, Matching, Raw, Fixed, Said, Fields}
 use Rattle.lin_bench.specs.LineWords.Word.{Listed, Mark}
-use Rattle.lin_bench.specs.declared.expected.Carried.{Carried}
-use Rattle.lin_bench.specs.declared.expected.Carried.TheVariants.{Signals, Request, Response}
+use Rattle.lin_bench.specs.declared.expected.Since.{Since}
+use Rattle.lin_bench.specs.declared.expected.Since.TheVariants.{Request, Last}
 use Rattle.lin_bench.specs.declared.reason.Hint.{Hint}
 use Rattle.lin_bench.specs.declared.reason.Hint.TheVariants as hint
 use Rattle.lin_bench.specs.declared.reason.Reason.{Reason}
@@ -33,6 +33,12 @@ use Rattle.lin_bench.specs.Played.{is_unmet}
 
 abbrev pub fields_word : ℕ → List ℕ
 fields_word count = if count == 1 then codes "argument" else codes "arguments"
+
+abbrev pub bytes_word : ℕ → List ℕ
+bytes_word count = if count == 1 then codes "byte" else codes "bytes"
+
+abbrev pub entries_word : ℕ → List ℕ
+entries_word count = if count == 1 then codes "entry" else codes "entries"
 
 -- why a line of a step is bad
 abbrev pub step_reason_words : StepReason → List Word
@@ -84,6 +90,10 @@ abbrev pub reason_words : Reason → List Word
 reason_words (reason.Step why) = step_reason_words why
 reason_words (reason.NoRefusal name) = Fixed (codes "unknown refusal") ∷ Said name ∷ []
 reason_words (reason.NoFrame name) = Fixed (codes "unknown frame") ∷ Said name ∷ []
+reason_words (reason.NoData frame count) =
+    Said frame ∷ Fixed (codes "has") ∷ Number count ∷ Fixed (bytes_word count) ∷ []
+reason_words (reason.NoEntry table entries) =
+    Said table ∷ Fixed (codes "has") ∷ Number entries ∷ Fixed (entries_word entries) ∷ []
 reason_words (reason.NoRange field) =
     Fixed (codes "expected a range LOW..HIGH, not") ∷ Said field ∷ []
 reason_words reason.TooSmall = Fixed (codes "expected a number of at least 1, not 0") ∷ []
@@ -141,6 +151,11 @@ table_word c t = word_of (named c).tables t
 abbrev pub cluster_text : Parts → List Word → List ℕ
 cluster_text c ws = words_text (named c) (frames_called c) ws
 
+-- the unit of a time, and from which earlier message it counts
+abbrev pub since_word : Since → List ℕ
+since_word Request = codes "ms"
+since_word Last = codes "ms of last"
+
 -- what is expected
 abbrev pub expected_words : Expected → List Word
 expected_words (expected.Signal node signal value) =
@@ -151,11 +166,11 @@ expected_words (expected.SignalMeans node signal text values) =
     Fixed (codes "signal") ∷ Node node ∷ Signal signal ∷ Fixed (codes "=") ∷ Said text ∷ []
 expected_words (expected.Waiting host count) =
     Fixed (codes "waiting") ∷ Node host ∷ Number count ∷ []
-expected_words (expected.Message from to bytes) =
-    Fixed (codes "message") ∷ Node from ∷ Node to ∷ Hex bytes ∷ []
-expected_words (expected.MessageWithin from to bytes most) =
-    Fixed (codes "message") ∷ Node from ∷ Node to ∷ Hex bytes
-    ∷ Fixed (codes "within") ∷ Number most ∷ Fixed (codes "ms") ∷ []
+expected_words (expected.Message from to pattern) =
+    Fixed (codes "message") ∷ Node from ∷ Node to ∷ Matching pattern ∷ []
+expected_words (expected.MessageWithin from to pattern most since) =
+    Fixed (codes "message") ∷ Node from ∷ Node to ∷ Matching pattern
+    ∷ Fixed (codes "within") ∷ Number most ∷ Fixed (since_word since) ∷ []
 expected_words (expected.NoMessage from to) =
     Fixed (codes "no message") ∷ Node from ∷ Node to ∷ []
 expected_words (expected.NoLost None) = Fixed (codes "no lost") ∷ []
@@ -165,8 +180,8 @@ expected_words (expected.Lost host cause) =
     Fixed (codes "lost") ∷ Node host ∷ Fixed (cause_word cause) ∷ []
 expected_words (expected.Seen how) = Fixed (codes "seen") ∷ Fixed (look_word how) ∷ []
 expected_words (expected.Frame frame None) = Fixed (codes "frame") ∷ Frame frame ∷ []
-expected_words (expected.Frame frame (Some bytes)) =
-    Fixed (codes "frame") ∷ Frame frame ∷ Hex bytes ∷ []
+expected_words (expected.Frame frame (Some pattern)) =
+    Fixed (codes "frame") ∷ Frame frame ∷ Matching pattern ∷ []
 expected_words (expected.Slot table entry) =
     Fixed (codes "slot") ∷ Table table ∷ Number entry ∷ []
 expected_words (expected.Table table) = Fixed (codes "table") ∷ Table table ∷ []

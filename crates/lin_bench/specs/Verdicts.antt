@@ -1,6 +1,6 @@
 -- Whether what a bench script expects is so, given the history before it: the entries of a log, the
 -- newest first.
-use Rattle.std.specs.Prelude.{ℕ, ◌==◌, ◌&&◌, Bool, true, false, nat_le, nat_lt, if◌then◌else◌, List, []}
+use Rattle.std.specs.Prelude.{ℕ, ◌==◌, ◌&&◌, ◌||◌, Bool, true, false, nat_le, nat_lt, if◌then◌else◌, List, []}
 use Rattle.std.specs.Prelude.{◌∷◌, ◌++◌, filter, length, slice_get, Option, Some, None, count_by}
 use Rattle.std.specs.Prelude.{find, map, option_map, reverse, take, slice_index, ◌*◌, ◌-◌}
 use Rattle.std.specs.List.{filter_map, list_any}
@@ -29,15 +29,19 @@ use Rattle.lin_core.specs.declared.reply.Refusal.{Refusal}
 use Rattle.lin_core.specs.declared.reply.Reply.{Reply}
 use Rattle.lin_core.specs.declared.reply.Reply.TheVariants.{Done, Refused}
 use Rattle.lin_bench.specs.Meant.{is_among}
+use Rattle.lin_bench.specs.Rules.{fits}
 use Rattle.lin_bench.specs.Slots.{pending}
 use Rattle.lin_bench.specs.declared.expected.Carried.{Carried}
-use Rattle.lin_bench.specs.declared.expected.Carried.TheVariants.{Signals, Request, Response}
+use Rattle.lin_bench.specs.declared.expected.Carried.TheVariants.{Signals, Request as RequestFrame, Response}
 use Rattle.lin_bench.specs.declared.expected.Expected.{Expected}
 use Rattle.lin_bench.specs.declared.expected.Expected.TheVariants as expected
+use Rattle.lin_bench.specs.declared.expected.Since.{Since}
+use Rattle.lin_bench.specs.declared.expected.Since.TheVariants.{Request, Last}
 use Rattle.lin_bench.specs.declared.got.Got.{Got}
 use Rattle.lin_bench.specs.declared.got.Got.TheVariants as got
 use Rattle.lin_bench.specs.declared.got.Pending.{Pending}
 use Rattle.lin_bench.specs.declared.rules.Noted.{Noted}
+use Rattle.lin_bench.specs.declared.rules.Pattern.{Pattern}
 use Rattle.lin_bench.specs.declared.taken.EventKind.{EventKind}
 use Rattle.lin_bench.specs.declared.taken.EventKind.TheVariants.{Messages, Fates, Ends, Begins}
 
@@ -88,31 +92,35 @@ with_taken (Some e) kind taken = taken ++ kind ∷ []
 
 -- the kind of event that an expectation takes, if it takes one
 abbrev pub kind_taken : Expected → Option EventKind
-kind_taken (expected.Message from to bytes) = Some (Messages from to)
-kind_taken (expected.MessageWithin from to bytes most) = Some (Messages from to)
+kind_taken (expected.Message from to pattern) = Some (Messages from to)
+kind_taken (expected.MessageWithin from to pattern most since) = Some (Messages from to)
 kind_taken (expected.Sent host) = Some (Fates host)
 kind_taken (expected.Lost host cause) = Some (Fates host)
 kind_taken what = None
 
--- the time of the last step with an event of a kind, and 0 where there was none
-abbrev pub last_time : Parts → EventKind → List LogEntry → ℕ
-last_time c kind [] = 0
-last_time c kind (e ∷ past) =
-    if list_any (is_of kind) (events e) then time c (e ∷ past) else last_time c kind past
+-- the time of the last step with such an event, and 0 where there was none
+abbrev pub last_time : Parts → (Event → Bool) → List LogEntry → ℕ
+last_time c is [] = 0
+last_time c is (e ∷ past) =
+    if list_any is (events e) then time c (e ∷ past) else last_time c is past
 
--- how long each answer, an event of one kind, came after the last request, one of another kind, in a
--- step before its own, in microseconds, the oldest first
-abbrev pub times_taken : Parts → EventKind → EventKind → List LogEntry → List ℕ
-times_taken c request answer [] = []
-times_taken c request answer (e ∷ past) =
-    times_taken c request answer past
-    ++ map (λ event. time c (e ∷ past) - last_time c request past)
-    (filter (is_of answer) (events e))
+-- how long each answer, an event of a kind, came after the last earlier event of these in a step
+-- before its own, in microseconds, the oldest first
+abbrev pub times_taken : Parts → (Event → Bool) → EventKind → List LogEntry → List ℕ
+times_taken c is answer [] = []
+times_taken c is answer (e ∷ past) =
+    times_taken c is answer past
+    ++ map (λ event. time c (e ∷ past) - last_time c is past) (filter (is_of answer) (events e))
 
--- how long the next message took from the last one the other way
-abbrev pub time_taken : Parts → List LogEntry → List EventKind → ℕ → ℕ → ℕ
-time_taken c past taken from to =
-    slice_index (times_taken c (Messages to from) (Messages from to) past)
+-- the earlier messages from which the time of a message counts
+abbrev pub is_earlier : Since → ℕ → ℕ → Event → Bool
+is_earlier Request from to event = is_of (Messages to from) event
+is_earlier Last from to event = is_of (Messages to from) event || is_of (Messages from to) event
+
+-- how long the next message took from the last of these
+abbrev pub time_taken : Parts → List LogEntry → List EventKind → Since → ℕ → ℕ → ℕ
+time_taken c past taken since from to =
+    slice_index (times_taken c (is_earlier since from to) (Messages from to) past)
     (count_by (same_kind (Messages from to)) taken)
 
 -- all events so far are taken
@@ -158,7 +166,7 @@ last_slot [] = None
 last_slot (e ∷ past) = if did is_finish e then open_slot past else last_slot past
 
 abbrev pub carried_for : Parts → Entry → Slot → Option Carried
-carried_for c MasterReq s = Some Request
+carried_for c MasterReq s = Some RequestFrame
 carried_for c SlaveResp s = Some Response
 carried_for c entry s = option_map Signals (carried_by c entry s)
 
@@ -175,7 +183,7 @@ running_table c opening past =
 
 abbrev pub same_frame : Carried → Carried → Bool
 same_frame (Signals f) (Signals g) = f == g
-same_frame Request Request = true
+same_frame RequestFrame RequestFrame = true
 same_frame Response Response = true
 same_frame frame other = false
 
@@ -183,8 +191,8 @@ same_frame frame other = false
 abbrev pub data_of : List ℕ → List ℕ
 data_of answer = take (length answer - 1) answer
 
-abbrev pub same_data : Option (List ℕ) → List ℕ → Bool
-same_data bytes row = option_map_or (λ b. bytes_eq row b) bytes true
+abbrev pub fits_data : Option Pattern → List ℕ → Bool
+fits_data pattern row = option_map_or (λ p. fits p row) pattern true
 
 -- ---- verdicts: none where the expectation is met, otherwise what is so
 abbrev pub unless : Bool → Got → Option Got
@@ -212,9 +220,9 @@ waiting_verdict c past host count =
     then unless (length (waiting c past host) == count) (got.Waiting (length (waiting c past host)))
     else Some got.NoNode
 
-abbrev pub message_verdict : List ℕ → Option Event → Option Got
-message_verdict bytes (Some (event.Message from to b)) = unless (bytes_eq b bytes) (got.Message b)
-message_verdict bytes other = Some got.NoEvent
+abbrev pub message_verdict : Pattern → Option Event → Option Got
+message_verdict pattern (Some (event.Message from to b)) = unless (fits pattern b) (got.Message b)
+message_verdict pattern other = Some got.NoEvent
 
 -- a message that is right may be late
 abbrev pub within_verdict : ℕ → ℕ → Option Got → Option Got
@@ -246,18 +254,18 @@ seen_verdict how (Some (event.Seen s)) =
 seen_verdict how other = Some got.NoSlot
 
 -- how the last slot that ended was seen, and what it carried
-abbrev pub good_verdict : Carried → Option (List ℕ) → List ℕ → Option Carried → Option Got
-good_verdict frame bytes row None = Some (got.Seen look.Good)
-good_verdict frame bytes row (Some f) =
-    unless (same_frame f frame && same_data bytes row) (got.Frame f row)
+abbrev pub good_verdict : Carried → Option Pattern → List ℕ → Option Carried → Option Got
+good_verdict frame pattern row None = Some (got.Seen look.Good)
+good_verdict frame pattern row (Some f) =
+    unless (same_frame f frame && fits_data pattern row) (got.Frame f row)
 
-abbrev pub carried_verdict : Carried → Option (List ℕ) → Option Carried → Seen → Option Got
-carried_verdict frame bytes last (Good answer) = good_verdict frame bytes (data_of answer) last
-carried_verdict frame bytes last how = Some (got.Seen (look_of how))
+abbrev pub carried_verdict : Carried → Option Pattern → Option Carried → Seen → Option Got
+carried_verdict frame pattern last (Good answer) = good_verdict frame pattern (data_of answer) last
+carried_verdict frame pattern last how = Some (got.Seen (look_of how))
 
-abbrev pub frame_verdict : Carried → Option (List ℕ) → Option Carried → Option Event → Option Got
-frame_verdict frame bytes last (Some (event.Seen how)) = carried_verdict frame bytes last how
-frame_verdict frame bytes last other = Some got.NoSlot
+abbrev pub frame_verdict : Carried → Option Pattern → Option Carried → Option Event → Option Got
+frame_verdict frame pattern last (Some (event.Seen how)) = carried_verdict frame pattern last how
+frame_verdict frame pattern last other = Some got.NoSlot
 
 abbrev pub slot_verdict : ℕ → ℕ → Option Event → Option Got
 slot_verdict table entry (Some (event.Slot t e header)) =
@@ -296,11 +304,11 @@ verdict c opening past noted taken (expected.SignalMeans node signal text values
 verdict c opening past noted taken (expected.SignalWithin node signal low high) =
     value_verdict (is_within low high) (value_seen c past node signal)
 verdict c opening past noted taken (expected.Waiting host count) = waiting_verdict c past host count
-verdict c opening past noted taken (expected.Message from to bytes) =
-    message_verdict bytes (next_event past taken (Messages from to))
-verdict c opening past noted taken (expected.MessageWithin from to bytes most) =
-    within_verdict most (time_taken c past taken from to)
-    (message_verdict bytes (next_event past taken (Messages from to)))
+verdict c opening past noted taken (expected.Message from to pattern) =
+    message_verdict pattern (next_event past taken (Messages from to))
+verdict c opening past noted taken (expected.MessageWithin from to pattern most since) =
+    within_verdict most (time_taken c past taken since from to)
+    (message_verdict pattern (next_event past taken (Messages from to)))
 verdict c opening past noted taken (expected.NoMessage from to) =
     no_message_verdict (next_event past taken (Messages from to))
 verdict c opening past noted taken (expected.NoLost host) =
@@ -309,8 +317,8 @@ verdict c opening past noted taken (expected.Sent host) = sent_verdict (next_eve
 verdict c opening past noted taken (expected.Lost host cause) =
     lost_verdict cause (next_event past taken (Fates host))
 verdict c opening past noted taken (expected.Seen how) = seen_verdict how (last_event past Ends)
-verdict c opening past noted taken (expected.Frame frame bytes) =
-    frame_verdict frame bytes (last_carried c past) (last_event past Ends)
+verdict c opening past noted taken (expected.Frame frame pattern) =
+    frame_verdict frame pattern (last_carried c past) (last_event past Ends)
 verdict c opening past noted taken (expected.Slot table entry) = slot_verdict table entry (last_event past Begins)
 verdict c opening past noted taken (expected.Table table) = table_verdict table (running_table c opening past)
 verdict c opening past noted taken expected.Done = done_verdict (newest_reply past)

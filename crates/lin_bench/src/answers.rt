@@ -1,10 +1,10 @@
 //! What rules answer to messages.
 
-ghost use Rattle.std.specs.Prelude.{◌≡◌, ◌==◌, ◌<◌, ◌^◌, ◌&&◌, ℕ, flat_map, if◌then◌else◌, length};
-ghost use Rattle.std.specs.Prelude.{IfOk, OnOk, nat_le, Option, option_map, position, zip};
+ghost use Rattle.std.specs.Prelude.{◌≡◌, ◌==◌, ◌<◌, ◌^◌, ◌&&◌, ℕ, flat_map};
+ghost use Rattle.std.specs.Prelude.{IfOk, OnOk, Option, option_map, position, zip};
 ghost use Rattle.std.specs.Cmp.Lexicographic.{pointwise};
 ghost use Rattle.std.specs.List.{list_all};
-ghost use Rattle.lin_bench.specs.Rules.{all_noted, answer_bytes, fits, fits_byte, noted_with, notes};
+ghost use Rattle.lin_bench.specs.Rules.{all_noted, answer_bytes, fits, fits_byte, has_length, noted_with, notes};
 ghost use Rattle.lin_bench.specs.Rules.{notes_for, part_byte, rule_for, same_byte, same_pattern};
 ghost use Rattle.lin_bench.specs.Rules.{whens_with};
 
@@ -22,10 +22,9 @@ fn fits_byte(byte: Option<u8>, other: u8) -> bool
     }
 }
 
-fn has_length(pattern: &Pattern, len: usize) -> bool
-    ensures { result ≡
-        (if pattern.now.more then nat_le (length pattern.now.bytes) len
-        else length pattern.now.bytes == len) }
+/// Whether rows of so many bytes may match a pattern.
+pub(crate) fn has_length(pattern: &Pattern, len: usize) -> bool
+    ensures { result ≡ has_length pattern.now len }
 {
     let needed = pattern.bytes.as_slice().len();
     if pattern.more {
@@ -44,8 +43,8 @@ fn fits_bytes(bytes: &[Option<u8>], message: &[u8]) -> bool
         .all(|(byte, other)| fits_byte(*byte, *other))
 }
 
-/// Whether a message is one that a pattern is for.
-fn fits(pattern: &Pattern, message: &[u8]) -> bool
+/// Whether a row of bytes matches a pattern.
+pub(crate) fn fits(pattern: &Pattern, message: &[u8]) -> bool
     ensures { result ≡ fits pattern.now message.now }
 {
     has_length(pattern, message.len()) && fits_bytes(pattern.bytes.as_slice(), message)

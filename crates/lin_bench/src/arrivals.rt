@@ -7,10 +7,11 @@ ghost use Rattle.std.specs.Option.{unwrap_or};
 ghost use Rattle.lin_parts.specs.declared.parts.Parts.{Parts};
 ghost use Rattle.lin_core.specs.History.{Slot, did, events, is_finish, slot_after_event, slot_after_events, time};
 ghost use Rattle.lin_core.specs.declared.log.LogEntry.{LogEntry};
-ghost use Rattle.lin_bench.specs.Arrivals.{place_of, slot_left, time_left, whole};
+ghost use Rattle.lin_bench.specs.Arrivals.{precedes, place_of, slot_left, time_left, whole};
 ghost use Rattle.lin_bench.specs.Searches.{before};
-ghost use Rattle.lin_bench.specs.Verdicts.{is_of, last_time, times_taken};
+ghost use Rattle.lin_bench.specs.Verdicts.{last_time, times_taken};
 
+use crate::expected::Since;
 use crate::replies::{is_done, is_finish};
 use crate::taken::{EventKind, Place, events_of, skipped};
 use lin_core::{Event, Log, LogEntry, Step};
@@ -18,7 +19,7 @@ use lin_parts::Cluster;
 
 /// What a walk back over the entries of a log keeps: the time in microseconds of the slots that ended
 /// behind, whether it has seen the finish of a slot and not its open, the table and the entry of that
-/// slot where an entry has told them, and whether it has met the last request.
+/// slot where an entry has told them, and whether it has met the last earlier message.
 #[derive(Clone, Copy)]
 struct Walk {
     time: u64,
@@ -48,11 +49,41 @@ fn place_told(events: &[Event]) -> Option<(u16, u16)>
     told
 }
 
-/// Whether an entry tells of an event of a kind.
-fn tells(entry: &LogEntry, kind: EventKind) -> bool
-    ensures { result ≡ list_any (is_of kind) (events entry.now) }
+/// The earlier messages from which the time of a message from one host to another counts.
+#[derive(Clone, Copy)]
+pub(crate) struct Earlier {
+    pub(crate) since: Since,
+    pub(crate) from: u8,
+    pub(crate) to: u8,
+}
+
+impl Earlier {
+    /// Whether an event is one of them.
+    fn has(self, event: &Event) -> bool
+        ensures { result ≡ precedes self event.now }
+    {
+        let other = EventKind::Messages {
+            from: self.to,
+            to: self.from,
+        };
+        match self.since {
+            Since::Request => other.has(event),
+            Since::Last => {
+                let same = EventKind::Messages {
+                    from: self.from,
+                    to: self.to,
+                };
+                other.has(event) || same.has(event)
+            }
+        }
+    }
+}
+
+/// Whether an entry tells of one of the earlier messages.
+fn tells(entry: &LogEntry, earlier: Earlier) -> bool
+    ensures { result ≡ list_any (precedes earlier) (events entry.now) }
 {
-    events_of(entry).iter().any(|event| kind.has(event))
+    events_of(entry).iter().any(|event| earlier.has(event))
 }
 
 /// Whether an entry finished a slot.
@@ -114,17 +145,17 @@ impl Walk {
         }
     }
 
-    /// The walk after an entry more, as far as the last request is concerned.
-    fn meet_request(self, request: EventKind, entry: &LogEntry) -> Walk
+    /// The walk after an entry more, as far as the earlier messages are concerned.
+    fn meet_request(self, earlier: Earlier, entry: &LogEntry) -> Walk
         requires { did is_finish entry.now ≡ true → self.finishes ≡ false }
-        ensures whole { (c : Parts) → (past : List LogEntry) → whole c request result past
-            ≡ self.time + (slot_left c self past + time_left c request self (entry.now ∷ past)) }
+        ensures whole { (c : Parts) → (past : List LogEntry) → whole c (precedes earlier) result past
+            ≡ self.time + (slot_left c self past + time_left c (precedes earlier) self (entry.now ∷ past)) }
         ensures time { result.time ≡ self.time }
     {
         if self.asked {
             return self;
         }
-        if tells(entry, request) {
+        if tells(entry, earlier) {
             return Walk {
                 asked: true,
                 ..self
@@ -141,45 +172,45 @@ impl Walk {
     }
 
     /// The walk after an entry more.
-    fn back(self, cluster: &Cluster, request: EventKind, entry: &LogEntry) -> Walk
+    fn back(self, cluster: &Cluster, earlier: Earlier, entry: &LogEntry) -> Walk
         requires { self.time < 2 ^ 63 }
-        ensures whole { (past : List LogEntry) → whole cluster.now request result past
-            ≡ whole cluster.now request self (entry.now ∷ past) }
+        ensures whole { (past : List LogEntry) → whole cluster.now (precedes earlier) result past
+            ≡ whole cluster.now (precedes earlier) self (entry.now ∷ past) }
         ensures time { result.time ≤ self.time + 1000000000 }
     {
-        self.meet_slot(cluster, entry).meet_request(request, entry)
+        self.meet_slot(cluster, entry).meet_request(earlier, entry)
     }
 }
 
-/// How long the last request before an entry was ago when it came, in microseconds.
-fn time_since(cluster: &Cluster, log: &Log, request: EventKind, index: usize) -> u64
+/// How long the last earlier message before an entry was ago when it came, in microseconds.
+fn time_since(cluster: &Cluster, log: &Log, earlier: Earlier, index: usize) -> u64
     requires within { index < length log.now.entries }
     requires few { index < 2 ^ 32 }
     ensures { (e : LogEntry) → e ≡ get_or log.now.entries index e
         → result ≡ time cluster.now (e ∷ reverse (take index log.now.entries))
-        - last_time cluster.now request (reverse (take index log.now.entries)) }
+        - last_time cluster.now (precedes earlier) (reverse (take index log.now.entries)) }
 {
     let mut walk = Walk::before(log.entry(index));
     let mut left = index;
     while left > 0 && !walk.is_over() {
         left -= 1;
-        walk = walk.back(cluster, request, log.entry(left));
+        walk = walk.back(cluster, earlier, log.entry(left));
     }
     walk.time
 }
 
-/// How long the first answer from a place on came after the last request before it, in microseconds;
-/// 0 where there is none.
+/// How long the first answer from a place on came after the last earlier message before it, in
+/// microseconds; 0 where there is none.
 pub(crate) fn time_taken(
     cluster: &Cluster,
     log: &Log,
-    request: EventKind,
+    earlier: Earlier,
     answer: EventKind,
     from: Place,
 ) -> u64
     requires { from.entry ≤ length log.now.entries }
     ensures { result ≡ slice_index
-        (times_taken cluster.now request answer (reverse log.now.entries))
+        (times_taken cluster.now (precedes earlier) answer (reverse log.now.entries))
         (before log.now.entries answer from) }
 {
     let end = log.len();
@@ -187,7 +218,7 @@ pub(crate) fn time_taken(
     for index in from.entry..end {
         let entry = log.entry(index);
         match skipped(events_of(entry), answer, skip) {
-            Ok(_) => return time_since(cluster, log, request, index),
+            Ok(_) => return time_since(cluster, log, earlier, index),
             Err(left) => skip = left,
         }
     }

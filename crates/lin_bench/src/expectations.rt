@@ -1,23 +1,28 @@
 //! The forms of expectations.
 
-ghost use Rattle.std.specs.Prelude.{◌≡◌, IfOk, codes};
-ghost use Rattle.lin_bench.specs.Expectations.{bytes_form, expectation, frame_form, lone_form, loss_of, lost_form};
+ghost use Rattle.std.specs.Prelude.{◌≡◌, ◌<◌, ◌&&◌, IfOk, codes, length, option_map};
+ghost use Rattle.std.specs.Str.{bytes_eq};
+ghost use Rattle.lin_bench.specs.Expectations.{before_last, data_length, data_pattern, entry_field, expectation, frame_form, lone_form};
+ghost use Rattle.lin_bench.specs.Expectations.{loss_of, lost_form, pattern_form, rows_and_limit};
 ghost use Rattle.lin_bench.specs.Expectations.{message_form, no_form, no_lost_form, no_message_form, signal_value};
 ghost use Rattle.lin_bench.specs.Expectations.{refusal_field, refused_form, seen_form, sent_form};
 ghost use Rattle.lin_bench.specs.Expectations.{signal_form, slot_form, table_form, until_form, waiting_form};
 ghost use Rattle.lin_bench.specs.Expectations.{word_expectation};
-ghost use Rattle.lin_bench.specs.Fields.{fields, range_ends, rows_and_time, words};
+ghost use Rattle.lin_bench.specs.Fields.{fields, range_ends, words};
 ghost use Rattle.lin_bench.specs.Read.{Gives};
 ghost use Rattle.lin_bench.specs.declared.fault.LineFault.{LineFault};
 ghost use Rattle.lin_bench.specs.declared.reason.Reason.{Reason};
 
-use crate::expected::Expected;
+use crate::answers::has_length;
+use crate::expected::{Carried, Expected, Since};
 use crate::fault::LineFault;
 use crate::fields::{
     count_field, fields, frame_field, host_field, number_field, pair_fields, present_node,
-    present_signal, present_table, range_ends, range_field, rows_and_time, rows_bytes, value_field,
+    present_signal, present_table, range_ends, range_field, rows_and_time, value_field,
 };
 use crate::reason::Reason;
+use crate::rule_lines::pattern;
+use crate::rules::Pattern;
 use lin_core::{Refusal, named, numbered};
 use lin_log::{copied, first_field, is_number, is_over};
 use lin_parts::Cluster;
@@ -113,26 +118,71 @@ fn waiting(
     }
 }
 
-/// A message's bytes, and in how many milliseconds it is to arrive, where that is said.
-fn message_bytes(
+fn is_of_last(of: &[u8], last: &[u8]) -> bool
+    ensures { result ≡ (bytes_eq last.now (codes "last") && bytes_eq of.now (codes "of")) }
+{
+    last == b"last".as_slice() && of == b"of".as_slice()
+}
+
+/// The fields before `of last` at the end.
+fn before_last<'a>(all: &'a [&'a [u8]]) -> Option<&'a [&'a [u8]]>
+    ensures { option_map (λ rows. words rows.now) result ≡ before_last (words all.now) }
+{
+    let [before @ .., of, last] = all else {
+        return None;
+    };
+    if is_of_last(*of, *last) {
+        Some(before)
+    } else {
+        None
+    }
+}
+
+/// Rows, and the field of the number after them where they end with `within`, a number and `ms`, and
+/// then `of last` or nothing: from which earlier message the time counts.
+#[tactic(auto, unfolding(crate::specs::Expectations::rows_and_limit))]
+fn rows_and_limit<'a>(all: &'a [&'a [u8]]) -> (&'a [&'a [u8]], Option<(&'a [u8], Since)>)
+    ensures { (words result.0.now, option_map (λ limit. (limit.0.now, limit.1)) result.1)
+        ≡ rows_and_limit (words all.now) }
+{
+    match before_last(all) {
+        Some(before) => match rows_and_time(b"within".as_slice(), before) {
+            (rows, Some(most)) => (rows, Some((most, Since::Last))),
+            (_, None) => (all, None),
+        },
+        None => match rows_and_time(b"within".as_slice(), all) {
+            (rows, Some(most)) => (rows, Some((most, Since::Request))),
+            (rows, None) => (rows, None),
+        },
+    }
+}
+
+/// A message's pattern, and in how many milliseconds it is to arrive, where that is said.
+#[tactic(auto, unfolding(crate::specs::Expectations::pattern_form))]
+fn message_pattern(
     alloc: Global,
     cluster: &Cluster,
     from: u8,
     to: u8,
-    all: &[&[u8]],
+    all: &[u8],
+    parts: &[&[u8]],
 ) -> Result<Expected, LineFault>
     ensures { Gives (λ e. e) result
-        (bytes_form cluster.now from to (rows_and_time (codes "within") (words all.now))) }
+        (pattern_form (fields all.now) from to (rows_and_limit (words parts.now))) }
 {
-    let (rows, most) = rows_and_time(b"within".as_slice(), all);
-    let bytes = rows_bytes(alloc, cluster, rows)?;
-    match most {
-        None => Ok(Expected::Message { from, to, bytes }),
-        Some(most) => Ok(Expected::MessageWithin {
+    let (rows, limit) = rows_and_limit(parts);
+    if rows.is_empty() {
+        return Err(no_form(alloc, cluster, all)?);
+    }
+    let pattern = pattern(alloc, rows)?;
+    match limit {
+        None => Ok(Expected::Message { from, to, pattern }),
+        Some((most, since)) => Ok(Expected::MessageWithin {
             from,
             to,
-            bytes,
+            pattern,
             most_ms: count_field(alloc, most)?,
+            since,
         }),
     }
 }
@@ -143,15 +193,15 @@ fn message(alloc: Global, cluster: &Cluster, all: &[u8], line: &[u8]) -> Result<
     let Some((from, rest)) = first_field(cluster, line) else {
         return Err(no_form(alloc, cluster, all)?);
     };
-    let Some((to, bytes)) = first_field(cluster, rest) else {
+    let Some((to, rest)) = first_field(cluster, rest) else {
         return Err(no_form(alloc, cluster, all)?);
     };
-    if is_over(cluster, bytes) {
+    if is_over(cluster, rest) {
         return Err(no_form(alloc, cluster, all)?);
     }
     let (from, to) = pair_fields(alloc, cluster, from, to)?;
-    let rows = fields(alloc, cluster, bytes)?;
-    message_bytes(alloc, cluster, from, to, rows.as_slice())
+    let parts = fields(alloc, cluster, rest)?;
+    message_pattern(alloc, cluster, from, to, all, parts.as_slice())
 }
 
 fn sent(
@@ -202,6 +252,39 @@ fn lost(alloc: Global, cluster: &Cluster, all: &[u8], line: &[u8]) -> Result<Exp
     loss(alloc, cluster, all, host, why)
 }
 
+/// How many data bytes a frame has; 1 if the cluster has no such frame.
+fn data_length(cluster: &Cluster, frame: Carried) -> u8
+    ensures { result ≡ data_length cluster.now frame }
+{
+    match frame {
+        Carried::Signals(number) if (number as usize) < cluster.frames() => {
+            cluster.layout(number).len
+        }
+        Carried::Signals(_) => 1,
+        Carried::Request | Carried::Response => 8,
+    }
+}
+
+/// A pattern that data of a frame may match; `name` is the frame's field.
+fn data_pattern(
+    alloc: Global,
+    cluster: &Cluster,
+    name: &[u8],
+    frame: Carried,
+    pattern: Pattern,
+) -> Result<Pattern, LineFault>
+    ensures { Gives (λ p. p) result (data_pattern cluster.now name.now frame pattern) }
+{
+    let bytes = data_length(cluster, frame);
+    if has_length(&pattern, bytes as usize) {
+        return Ok(pattern);
+    }
+    Err(LineFault::Bad(Reason::NoData {
+        frame: Text::copied(alloc, name)?,
+        bytes,
+    }))
+}
+
 fn frame(
     alloc: Global,
     cluster: &Cluster,
@@ -214,14 +297,15 @@ fn frame(
         [] => Err(no_form(alloc, cluster, all)?),
         [frame] => Ok(Expected::Frame {
             frame: frame_field(alloc, cluster, frame)?,
-            bytes: None,
+            pattern: None,
         }),
-        [frame, rows @ ..] => {
-            let frame = frame_field(alloc, cluster, frame)?;
-            let bytes = rows_bytes(alloc, cluster, rows)?;
+        [name, rows @ ..] => {
+            let frame = frame_field(alloc, cluster, name)?;
+            let said = pattern(alloc, rows)?;
+            let pattern = data_pattern(alloc, cluster, name, frame, said)?;
             Ok(Expected::Frame {
                 frame,
-                bytes: Some(bytes),
+                pattern: Some(pattern),
             })
         }
     }
@@ -244,6 +328,28 @@ fn seen(
     }
 }
 
+/// An entry that a schedule table has, by its number; `name` is the table's field.
+fn entry_field(
+    alloc: Global,
+    cluster: &Cluster,
+    name: &[u8],
+    table: u16,
+    field: &[u8],
+) -> Result<u16, LineFault>
+    requires { table < length cluster.now.tables }
+    ensures { Gives (λ e. e) result (entry_field cluster.now name.now table field.now) }
+{
+    let entry = number_field(alloc, field, 1023)? as u16;
+    let entries = cluster.entries(table);
+    if (entry as usize) < entries {
+        return Ok(entry);
+    }
+    Err(LineFault::Bad(Reason::NoEntry {
+        table: Text::copied(alloc, name)?,
+        entries: entries as u16,
+    }))
+}
+
 fn slot(
     alloc: Global,
     cluster: &Cluster,
@@ -253,10 +359,11 @@ fn slot(
     ensures { Gives (λ e. e) result (slot_form cluster.now (fields all.now) (words parts.now)) }
 {
     match parts {
-        [table, entry] => Ok(Expected::Slot {
-            table: present_table(alloc, cluster, table)?,
-            entry: number_field(alloc, entry, 1023)? as u16,
-        }),
+        [name, entry] => {
+            let table = present_table(alloc, cluster, name)?;
+            let entry = entry_field(alloc, cluster, name, table, entry)?;
+            Ok(Expected::Slot { table, entry })
+        }
         _ => Err(no_form(alloc, cluster, all)?),
     }
 }

@@ -1,7 +1,8 @@
 //! What is expected.
 
 use crate::meant::MeantValues;
-use lin_core::{Cause, Look, Payload, Refusal};
+use crate::rules::Pattern;
+use lin_core::{Cause, Look, Refusal};
 use lin_frame::Value;
 use lin_text::Text;
 
@@ -14,6 +15,15 @@ pub enum Carried {
     Request,
     /// A frame of a message to it (ISO 17987-2, slave response frame).
     Response,
+}
+
+/// The earlier message from which the time of a message counts. If there is none, it counts from 0.
+#[derive(Clone, Copy, Debug)]
+pub enum Since {
+    /// The last one the other way.
+    Request,
+    /// The last one between the two nodes, in either direction.
+    Last,
 }
 
 /// What a bench script expects of the steps before.
@@ -44,19 +54,20 @@ pub enum Expected {
         host: u8,
         count: u16,
     },
-    /// The next message from one host to another has these bytes (ISO 17987-2).
+    /// The next message from one host to another matches this pattern (ISO 17987-2).
     Message {
         from: u8,
         to: u8,
-        bytes: Payload,
+        pattern: Pattern,
     },
-    /// The next message from one host to another has these bytes, and arrived at most so many
-    /// milliseconds, 1 to 1,000,000, after the last one the other way before it.
+    /// The next message from one host to another matches this pattern, and arrived at most so many
+    /// milliseconds, 1 to 1,000,000, after the earlier one before it.
     MessageWithin {
         from: u8,
         to: u8,
-        bytes: Payload,
+        pattern: Pattern,
         most_ms: u32,
+        since: Since,
     },
     /// No message from one host to another has arrived that isn't taken.
     NoMessage {
@@ -78,11 +89,11 @@ pub enum Expected {
     },
     /// The last slot that ended was seen so.
     Seen(Look),
-    /// The last slot that ended was seen good, and carried this frame, and these data bytes where they
-    /// are said.
+    /// The last slot that ended was seen good, and carried this frame, whose data bytes match the
+    /// pattern, if there is one.
     Frame {
         frame: Carried,
-        bytes: Option<Payload>,
+        pattern: Option<Pattern>,
     },
     /// The last slot that began was for this entry of a schedule table.
     Slot {

@@ -1,8 +1,8 @@
 //! The fields of a line, as the language of a cluster's names has them.
 
-ghost use Rattle.std.specs.Prelude.{◌≡◌, ◌∷◌, ◌&&◌, codes, true, IfOk, map, option_map};
+ghost use Rattle.std.specs.Prelude.{◌≡◌, ◌<◌, ◌&&◌, codes, length, IfOk, map, option_map};
 ghost use Rattle.std.specs.Str.{bytes_eq};
-ghost use Rattle.lin_log.specs.Said.{bytes_of, fields as said_fields, row};
+ghost use Rattle.lin_log.specs.Said.{fields as said_fields};
 ghost use Rattle.lin_bench.specs.Fields.{bytes_fields, count_field, fields, node_field, number_field};
 ghost use Rattle.lin_bench.specs.Fields.{after_dots, frame_called, frame_field, frame_numbered};
 ghost use Rattle.lin_bench.specs.Fields.{frames_called, has_commander, lacks_end, message_frame};
@@ -19,7 +19,7 @@ use crate::fault::LineFault;
 use crate::reason::Reason;
 use lin_core::Payload;
 use lin_frame::Value;
-use lin_log::{Naming, Reason as StepReason, decoded, first_field, hex_bytes, is_number};
+use lin_log::{Naming, Reason as StepReason, first_field, is_number};
 use lin_parts::Cluster;
 use lin_text::{Many, Text};
 use std::alloc::{AllocError, Global};
@@ -139,7 +139,8 @@ pub(crate) fn present_table(
     cluster: &Cluster,
     field: &[u8],
 ) -> Result<u16, LineFault>
-    ensures { Gives (λ n. n) result (present_table cluster.now field.now) }
+    ensures number { Gives (λ n. n) result (present_table cluster.now field.now) }
+    ensures range { IfOk result (λ n. n < length cluster.now.tables) }
 {
     let table = table_field(alloc, cluster, field)?;
     if (table as usize) < cluster.tables() {
@@ -295,60 +296,6 @@ pub(crate) fn rows_and_time<'a>(
         (rows, Some(*number))
     } else {
         (all, None)
-    }
-}
-
-/// The bytes of several rows, if each is of hexadecimal digits.
-fn row(alloc: Global, rows: &[&[u8]]) -> Result<Option<Vec<u8>>, AllocError>
-    ensures { IfOk result
-        (λ bytes. option_map (λ v. v.items) bytes ≡ row (words rows.now)) }
-{
-    let mut row = Vec::new(alloc);
-    for field in rows {
-        let Some(bytes) = decoded(alloc, *field)? else {
-            return Ok(None);
-        };
-        row.extend_from_slice(bytes.as_slice())?;
-    }
-    Ok(Some(row))
-}
-
-/// The bytes of a row and those after it, of which a single one may be `-`; `rows` are all.
-fn bytes_of(
-    alloc: Global,
-    rows: &[&[u8]],
-    first: &[u8],
-    rest: &[&[u8]],
-) -> Result<Option<Vec<u8>>, AllocError>
-    requires { words rows.now ≡ first.now ∷ words rest.now }
-    ensures { IfOk result (λ bytes. option_map (λ v. v.items) bytes
-        ≡ bytes_of true first.now (words rest.now)) }
-{
-    if rest.is_empty() {
-        hex_bytes(alloc, first)
-    } else {
-        row(alloc, rows)
-    }
-}
-
-/// The bytes that rows spell.
-#[tactic(auto, unfolding(lin_log::specs::Said::bytes_fields))]
-pub(crate) fn rows_bytes(
-    alloc: Global,
-    cluster: &Cluster,
-    rows: &[&[u8]],
-) -> Result<Payload, LineFault>
-    ensures { Gives (λ p. p) result (bytes_fields cluster.now (words rows.now)) }
-{
-    let [first, rest @ ..] = rows else {
-        return Err(LineFault::Bad(Reason::Step(StepReason::NoBytes)));
-    };
-    match bytes_of(alloc, rows, *first, rest)? {
-        Some(bytes) => Ok(Payload::copied(alloc, bytes.as_slice())?),
-        None => {
-            let fields = copied_fields(alloc, rows)?;
-            Err(LineFault::Bad(Reason::Step(StepReason::NotBytes(fields))))
-        }
     }
 }
 

@@ -54,7 +54,7 @@ mod verdicts;
 mod words;
 
 pub use bench::Bench;
-pub use expected::{Carried, Expected};
+pub use expected::{Carried, Expected, Since};
 pub use fault::{LineFault, MakeFault, PlayFault, ReadFault};
 pub use got::{Got, Judged, Judgement, Pending, Verdict, is_unmet, some_unmet};
 pub use law::{plain_scripts_say_the_same, rules_alone_add_steps};

@@ -7,11 +7,12 @@ ghost use Rattle.lin_log.specs.Language.{Called, name_at, nameless, word_of};
 ghost use Rattle.lin_log.specs.Words.{value_word};
 ghost use Rattle.lin_text.specs.Written.{Grows};
 ghost use Rattle.lin_bench.specs.Fields.{frames_called};
-ghost use Rattle.lin_bench.specs.LineWords.{carried_word, is_mark, said, seen_after, seen_byte};
+ghost use Rattle.lin_bench.specs.LineWords.{byte_word, carried_word, is_mark, pattern_word, said, seen_after, seen_byte};
 ghost use Rattle.lin_bench.specs.LineWords.{seen_text, seen_texts, spaced, spaced_words, word_text};
 ghost use Rattle.lin_bench.specs.LineWords.{words_text};
 
 use crate::expected::Carried;
+use crate::rules::Pattern;
 use lin_frame::Value;
 use lin_log::{Naming, Numbers, put_hex};
 use lin_parts::Cluster;
@@ -59,6 +60,7 @@ pub enum Word<'a> {
     /// A number to another.
     Range(u64, u64),
     Bytes(&'a [u8]),
+    Pattern(&'a Pattern),
     Value(&'a Value),
     /// A word of the language, or several.
     Fixed(&'a str),
@@ -148,6 +150,34 @@ fn put_value<W: Write>(out: &mut TextWriter<'_, W>, value: &Value)
     }
 }
 
+/// A byte of a pattern: `..` stands for any byte.
+fn put_pattern_byte<W: Write>(out: &mut TextWriter<'_, W>, byte: Option<u8>)
+    ensures { Grows W.contents out.old out.new (byte_word byte) }
+{
+    match byte {
+        None => out.put_text(".."),
+        Some(byte) => out.put_hex_byte(byte),
+    }
+}
+
+fn put_pattern_bytes<W: Write>(out: &mut TextWriter<'_, W>, bytes: &[Option<u8>])
+    ensures { Grows W.contents out.old out.new (flat_map byte_word bytes.now) }
+{
+    for byte in bytes {
+        put_pattern_byte(out, *byte);
+    }
+}
+
+/// A pattern as one field, with `*` if more bytes may follow.
+fn put_pattern<W: Write>(out: &mut TextWriter<'_, W>, pattern: &Pattern)
+    ensures { Grows W.contents out.old out.new (pattern_word pattern.now) }
+{
+    put_pattern_bytes(out, pattern.bytes.as_slice());
+    if pattern.more {
+        out.put_byte(b'*');
+    }
+}
+
 fn seen(byte: u8) -> u8
     ensures { result ≡ seen_byte byte }
 {
@@ -198,6 +228,7 @@ fn put_word<N: LineNaming, W: Write>(out: &mut TextWriter<'_, W>, names: &N, wor
         Word::Number(number) => out.put_number(number),
         Word::Range(low, high) => put_range(out, low, high),
         Word::Bytes(bytes) => put_hex(out, bytes),
+        Word::Pattern(pattern) => put_pattern(out, pattern),
         Word::Value(value) => put_value(out, value),
         Word::Fixed(text) => out.put_text(text),
         Word::Said(text) => put_seen(out, text),

@@ -27,6 +27,16 @@ pub enum Reason {
     NoRefusal(Text),
     /// No frame has this name.
     NoFrame(Text),
+    /// A frame has so many data bytes, and no such row of bytes matches a pattern.
+    NoData {
+        frame: Text,
+        bytes: u8,
+    },
+    /// A schedule table has no entry with this number.
+    NoEntry {
+        table: Text,
+        entries: u16,
+    },
     /// A field of two numbers of which the first is above the second, or that aren't both numbers.
     NoRange(Text),
     /// A 0 where a number from 1 on is wanted.

@@ -139,7 +139,8 @@ fn pattern_of(alloc: Global, fields: &[&[u8]]) -> Result<Option<Pattern>, AllocE
     }))
 }
 
-fn pattern(alloc: Global, all: &[&[u8]]) -> Result<Pattern, LineFault>
+/// The pattern of fields.
+pub(crate) fn pattern(alloc: Global, all: &[&[u8]]) -> Result<Pattern, LineFault>
     ensures { Gives (λ p. p) result (pattern_fields (words all.now)) }
 {
     match pattern_of(alloc, all)? {

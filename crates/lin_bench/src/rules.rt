@@ -3,7 +3,7 @@
 use lin_core::{Payload, PortId, Step};
 use lin_text::Many;
 
-/// Which messages a rule is for: those of these bytes, none of which stands for any byte.
+/// Which rows of bytes match: those of these bytes, of which `None` stands for any byte.
 #[derive(Drop)]
 pub struct Pattern {
     pub bytes: Many<Option<u8>>,

@@ -7,14 +7,14 @@ ghost use Rattle.lin_text.specs.Written.{Grows, WritesText};
 ghost use Rattle.lin_log.specs.Language.{named};
 ghost use Rattle.lin_bench.specs.Fields.{frames_called};
 ghost use Rattle.lin_bench.specs.LineWords.{said, spaced_words};
-ghost use Rattle.lin_bench.specs.Texts.{bad_line_text, expected_text, expected_words, fields_word};
+ghost use Rattle.lin_bench.specs.Texts.{bad_line_text, bytes_word, entries_word, expected_text, expected_words, fields_word};
 ghost use Rattle.lin_bench.specs.Texts.{found_text, got_text, hint_words, judged_text};
 ghost use Rattle.lin_bench.specs.Texts.{or_marked, other_pending_words, pending_text};
 ghost use Rattle.lin_bench.specs.Texts.{pending_words, reason_text, reason_words};
-ghost use Rattle.lin_bench.specs.Texts.{short_words, step_reason_words};
+ghost use Rattle.lin_bench.specs.Texts.{short_words, since_word, step_reason_words};
 ghost use Rattle.lin_bench.specs.Texts.{unmet_text, verdict_text, what_text};
 
-use crate::expected::Expected;
+use crate::expected::{Expected, Since};
 use crate::got::{Got, Judged, Judgement, Pending, is_unmet};
 use crate::line_words::{Line, Word, put_line, put_spaced, put_words};
 use crate::reason::{Hint, Reason};
@@ -29,6 +29,20 @@ fn plural(fields: u8) -> &'static str
     ensures { result.now ≡ fields_word fields }
 {
     if fields == 1 { "argument" } else { "arguments" }
+}
+
+/// `byte`, or `bytes`.
+fn bytes_word(count: u8) -> &'static str
+    ensures { result.now ≡ bytes_word count }
+{
+    if count == 1 { "byte" } else { "bytes" }
+}
+
+/// `entry`, or `entries`.
+fn entries_word(count: u16) -> &'static str
+    ensures { result.now ≡ entries_word count }
+{
+    if count == 1 { "entry" } else { "entries" }
 }
 
 /// Why a line of a step is bad.
@@ -138,6 +152,18 @@ fn reason_line(reason: &Reason) -> Line<'_>
         Reason::NoFrame(name) => return Line::of(&[
             Word::Fixed("unknown frame"),
             Word::Said(name.as_slice()),
+        ]),
+        Reason::NoData { frame, bytes } => return Line::of(&[
+            Word::Said(frame.as_slice()),
+            Word::Fixed("has"),
+            Word::Number(u64::from(*bytes)),
+            Word::Fixed(bytes_word(*bytes)),
+        ]),
+        Reason::NoEntry { table, entries } => return Line::of(&[
+            Word::Said(table.as_slice()),
+            Word::Fixed("has"),
+            Word::Number(u64::from(*entries)),
+            Word::Fixed(entries_word(*entries)),
         ]),
         Reason::NoRange(field) => return Line::of(&[
             Word::Fixed("expected a range LOW..HIGH, not"),
@@ -273,6 +299,16 @@ pub fn write_bad_line<W: Write>(
     out.finish()
 }
 
+/// The unit of a time, and from which earlier message it counts.
+fn since_word(since: Since) -> &'static str
+    ensures { result.now ≡ since_word since }
+{
+    match since {
+        Since::Request => "ms",
+        Since::Last => "ms of last",
+    }
+}
+
 /// What is expected.
 fn expected_line(expected: &Expected) -> Line<'_>
     ensures { result ≡ expected_words expected.now }
@@ -324,28 +360,29 @@ fn expected_line(expected: &Expected) -> Line<'_>
                 Word::Number(u64::from(*count)),
             ]);
         }
-        Expected::Message { from, to, bytes } => {
+        Expected::Message { from, to, pattern } => {
             return Line::of(&[
                 Word::Fixed("message"),
                 Word::Node(*from),
                 Word::Node(*to),
-                Word::Bytes(bytes.as_slice()),
+                Word::Pattern(pattern),
             ]);
         }
         Expected::MessageWithin {
             from,
             to,
-            bytes,
+            pattern,
             most_ms,
+            since,
         } => {
             return Line::of(&[
                 Word::Fixed("message"),
                 Word::Node(*from),
                 Word::Node(*to),
-                Word::Bytes(bytes.as_slice()),
+                Word::Pattern(pattern),
                 Word::Fixed("within"),
                 Word::Number(u64::from(*most_ms)),
-                Word::Fixed("ms"),
+                Word::Fixed(since_word(*since)),
             ]);
         }
         Expected::NoMessage { from, to } => {
@@ -368,17 +405,20 @@ fn expected_line(expected: &Expected) -> Line<'_>
             ]);
         }
         Expected::Seen(how) => return Line::of(&[Word::Fixed("seen"), Word::Fixed(how.word())]),
-        Expected::Frame { frame, bytes: None } => {
+        Expected::Frame {
+            frame,
+            pattern: None,
+        } => {
             return Line::of(&[Word::Fixed("frame"), Word::Frame(*frame)]);
         }
         Expected::Frame {
             frame,
-            bytes: Some(bytes),
+            pattern: Some(pattern),
         } => {
             return Line::of(&[
                 Word::Fixed("frame"),
                 Word::Frame(*frame),
-                Word::Bytes(bytes.as_slice()),
+                Word::Pattern(pattern),
             ]);
         }
         Expected::Slot { table, entry } => {

@@ -12,15 +12,17 @@ ghost use Rattle.lin_bench.specs.Verdicts.{lost_verdict, message_verdict, newest
 ghost use Rattle.lin_bench.specs.Verdicts.{next_event, refused_verdict};
 ghost use Rattle.lin_bench.specs.Verdicts.{is_within, no_lost_verdict, no_message_verdict, running_table, same_value, seen_verdict, sent_verdict};
 ghost use Rattle.lin_bench.specs.Verdicts.{slot_verdict, table_verdict, taking, time_taken, value_seen, value_verdict, verdict, waiting_verdict, within_verdict};
-ghost use Rattle.lin_bench.specs.Verdicts.{with_taken, data_of, frame_verdict, good_verdict, same_data, same_frame};
+ghost use Rattle.lin_bench.specs.Verdicts.{with_taken, data_of, fits_data, frame_verdict, good_verdict, same_frame};
 
-use crate::arrivals;
+use crate::answers::fits;
+use crate::arrivals::{self, Earlier};
 use crate::carried::{last_carried, open_after};
-use crate::expected::{Carried, Expected};
+use crate::expected::{Carried, Expected, Since};
 use crate::got::Got;
 use crate::losses::first_loss;
 use crate::meant::MeantValues;
 use crate::ruled::{RuledCore, pending};
+use crate::rules::Pattern;
 use crate::taken::{EventKind, Search, Taken, event_from, last_end, last_event, place_before};
 use lin_core::{Cause, Core, Event, Look, Payload, Refusal, Reply, Seen};
 use lin_frame::Value;
@@ -114,16 +116,20 @@ fn waiting(core: &Core, host: u8, count: u16) -> Option<Got>
     }
 }
 
-fn message(alloc: Global, event: Option<&Event>, bytes: &[u8]) -> Result<Option<Got>, AllocError>
+fn message(
+    alloc: Global,
+    event: Option<&Event>,
+    pattern: &Pattern,
+) -> Result<Option<Got>, AllocError>
     ensures { IfOk result
-        (λ v. v ≡ message_verdict bytes.now (option_map (λ e. e.now) event.entry)) }
+        (λ v. v ≡ message_verdict pattern.now (option_map (λ e. e.now) event.entry)) }
 {
     match event {
-        Some(Event::Message { bytes: got, .. }) => {
-            if got.as_slice() == bytes {
+        Some(Event::Message { bytes, .. }) => {
+            if fits(pattern, bytes.as_slice()) {
                 Ok(None)
             } else {
-                Ok(Some(Got::Message(Payload::copied(alloc, got.as_slice())?)))
+                Ok(Some(Got::Message(Payload::copied(alloc, bytes.as_slice())?)))
             }
         }
         _ => Ok(Some(Got::NoEvent)),
@@ -144,16 +150,16 @@ fn within(first: Option<Got>, most_ms: u32, took: u64) -> Option<Got>
     }
 }
 
-/// How long the next message took from the last one the other way, in microseconds.
-fn time_taken(core: &Core, taken: &Taken, from: u8, to: u8) -> u64
+/// How long the next message took from the earlier one, in microseconds.
+fn time_taken(core: &Core, taken: &Taken, since: Since, from: u8, to: u8) -> u64
     requires { IsKnown core.now.log taken.now }
     ensures { result ≡ time_taken core.now.cluster (past_of core.now)
-        (taken_by core.now.log taken.now) from to }
+        (taken_by core.now.log taken.now) since from to }
 {
     let answer = EventKind::Messages { from, to };
-    let request = EventKind::Messages { from: to, to: from };
+    let earlier = Earlier { since, from, to };
     let place = last_end(taken, answer);
-    arrivals::time_taken(core.cluster(), core.log(), request, answer, place)
+    arrivals::time_taken(core.cluster(), core.log(), earlier, answer, place)
 }
 
 fn no_message(alloc: Global, event: Option<&Event>) -> Result<Option<Got>, AllocError>
@@ -244,11 +250,11 @@ fn same_frame(a: Carried, b: Carried) -> bool
     }
 }
 
-fn same_data(bytes: &Option<Payload>, row: &[u8]) -> bool
-    ensures { result ≡ same_data bytes.now row.now }
+fn fits_data(pattern: &Option<Pattern>, row: &[u8]) -> bool
+    ensures { result ≡ fits_data pattern.now row.now }
 {
-    match bytes {
-        Some(bytes) => row == bytes.as_slice(),
+    match pattern {
+        Some(pattern) => fits(pattern, row),
         None => true,
     }
 }
@@ -267,15 +273,15 @@ fn data_of(answer: &[u8]) -> &[u8]
 fn good(
     alloc: Global,
     frame: Carried,
-    bytes: &Option<Payload>,
+    pattern: &Option<Pattern>,
     row: &[u8],
     last: Option<Carried>,
 ) -> Result<Option<Got>, AllocError>
-    ensures { IfOk result (λ v. v ≡ good_verdict frame bytes.now row.now last) }
+    ensures { IfOk result (λ v. v ≡ good_verdict frame pattern.now row.now last) }
 {
     match last {
         None => Ok(Some(Got::Seen(Look::Good))),
-        Some(last) => if same_frame(last, frame) && same_data(bytes, row) {
+        Some(last) => if same_frame(last, frame) && fits_data(pattern, row) {
             Ok(None)
         } else {
             Ok(Some(Got::Frame {
@@ -290,15 +296,15 @@ fn frame_seen(
     alloc: Global,
     event: Option<&Event>,
     frame: Carried,
-    bytes: &Option<Payload>,
+    pattern: &Option<Pattern>,
     last: Option<Carried>,
 ) -> Result<Option<Got>, AllocError>
     ensures { IfOk result
-        (λ v. v ≡ frame_verdict frame bytes.now last (option_map (λ e. e.now) event.entry)) }
+        (λ v. v ≡ frame_verdict frame pattern.now last (option_map (λ e. e.now) event.entry)) }
 {
     match event {
         Some(Event::Seen(Seen::Good(answer))) => {
-            good(alloc, frame, bytes, data_of(answer.as_slice()), last)
+            good(alloc, frame, pattern, data_of(answer.as_slice()), last)
         }
         Some(Event::Seen(how)) => Ok(Some(Got::Seen(how.look()))),
         _ => Ok(Some(Got::NoSlot)),
@@ -523,27 +529,28 @@ pub(crate) fn verdict(
             values,
         } => Ok(signal_means(value_seen(core, *node, *signal), values)),
         Expected::Waiting { host, count } => Ok(waiting(core, *host, *count)),
-        Expected::Message { from, to, bytes } => {
+        Expected::Message { from, to, pattern } => {
             let kind = EventKind::Messages {
                 from: *from,
                 to: *to,
             };
             let event = take_next(core, taken, kind)?;
-            message(alloc, event, bytes.as_slice())
+            message(alloc, event, pattern)
         }
         Expected::MessageWithin {
             from,
             to,
-            bytes,
+            pattern,
             most_ms,
+            since,
         } => {
-            let took = time_taken(core, taken, *from, *to);
+            let took = time_taken(core, taken, *since, *from, *to);
             let kind = EventKind::Messages {
                 from: *from,
                 to: *to,
             };
             let event = take_next(core, taken, kind)?;
-            Ok(within(message(alloc, event, bytes.as_slice())?, *most_ms, took))
+            Ok(within(message(alloc, event, pattern)?, *most_ms, took))
         }
         Expected::NoMessage { from, to } => {
             let kind = EventKind::Messages {
@@ -562,10 +569,10 @@ pub(crate) fn verdict(
             Ok(lost(event, *cause))
         }
         Expected::Seen(how) => Ok(seen(last_event(core.log(), EventKind::Ends), *how)),
-        Expected::Frame { frame, bytes } => {
+        Expected::Frame { frame, pattern } => {
             let last = last_carried(alloc, core.cluster(), core.log())?;
             let event = last_event(core.log(), EventKind::Ends);
-            frame_seen(alloc, event, *frame, bytes, last)
+            frame_seen(alloc, event, *frame, pattern, last)
         }
         Expected::Slot { table, entry } => {
             let event = last_event(core.log(), EventKind::Begins);

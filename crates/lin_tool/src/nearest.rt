@@ -41,9 +41,9 @@ static MESSAGE_FRAMES: [&str; 2] = ["MasterReq", "SlaveResp"];
 
 /// What `expect` and `until` take.
 const FORMS: &str =
-    "signal NODE SIGNAL VALUE (LOW..HIGH, = TEXT), waiting NODE K, message FROM TO BYTES \
-                     (within N ms), sent NODE, lost NODE damaged (timedout, slept), seen silent (none, good, \
-                     damaged, collided), frame NAME (BYTES), slot TABLE ENTRY, table TABLE, asleep, awake";
+    "signal NODE SIGNAL VALUE (LOW..HIGH, = TEXT), waiting NODE K, message FROM TO PATTERN \
+                     (within N ms (of last)), sent NODE, lost NODE damaged (timedout, slept), seen silent (none, \
+                     good, damaged, collided), frame NAME (PATTERN), slot TABLE ENTRY, table TABLE, asleep, awake";
 
 /// The beginning of a name.
 fn beginning(name: &[u8]) -> &[u8] {

@@ -1,5 +1,5 @@
 -- Lines of words: where names are words, and what is fixed has no LF, no line has one.
-use Rattle.std.proofs.Common.{◌≡◌, ℕ, ◌==◌, ◌&&◌, Bool, true, false, List, [], ◌∷◌, ◌++◌, refl, codes, flat_map, if◌then◌else◌, length, nat_lt, Some, None}
+use Rattle.std.proofs.Common.{◌≡◌, ℕ, ◌==◌, ◌&&◌, Bool, true, false, List, [], ◌∷◌, ◌++◌, refl, codes, flat_map, if◌then◌else◌, length, nat_lt, Some, None, Option}
 use Rattle.std.specs.Fmt.{decimal}
 use Rattle.std.specs.List.{list_all}
 use Rattle.std.proofs.lemmas.Bool.{and_parts}
@@ -18,12 +18,14 @@ use Rattle.lin_log.specs.declared.reason.Reason.TheVariants as step
 use Rattle.lin_log.proofs.Items.{joined}
 use Rattle.lin_log.proofs.Quiet.{quiet-called, quiet-decimal, quiet-hex}
 use Rattle.lin_bench.specs.Fields.{frames_called}
-use Rattle.lin_bench.specs.LineWords.{Word, is_mark, seen_after, seen_byte, seen_text, seen_texts, spaced, spaced_words, word_text, words_text}
-use Rattle.lin_bench.specs.LineWords.Word.{Node, Signal, Table, Frame, Number, Range, Hex, Raw, Fixed, Said, Fields, Listed, Mark}
-use Rattle.lin_bench.specs.Texts.{all_pending_words, cluster_text, expected_text, expected_words, got_text, got_words, hint_words, other_pending_words, pending_text, pending_words, reason_text, reason_words, step_reason_words, unmarked_words}
-use Rattle.lin_bench.specs.declared.expected.Carried.TheVariants.{Signals, Request, Response}
+use Rattle.lin_bench.specs.LineWords.{Word, byte_word, carried_word, is_mark, pattern_word, seen_after, seen_byte, seen_text, seen_texts, spaced, spaced_words, word_text, words_text}
+use Rattle.lin_bench.specs.LineWords.Word.{Node, Signal, Table, Frame, Number, Range, Hex, Matching, Raw, Fixed, Said, Fields, Listed, Mark}
+use Rattle.lin_bench.specs.Texts.{all_pending_words, cluster_text, expected_text, expected_words, fields_word, got_text, got_words, hint_words, other_pending_words, pending_text, pending_words, reason_text, reason_words, step_reason_words, unmarked_words}
+use Rattle.lin_bench.specs.declared.expected.Carried.{Carried}
+use Rattle.lin_bench.specs.declared.expected.Carried.TheVariants.{Signals, Request as RequestFrame, Response}
 use Rattle.lin_bench.specs.declared.expected.Expected.{Expected}
 use Rattle.lin_bench.specs.declared.expected.Expected.TheVariants as expected
+use Rattle.lin_bench.specs.declared.expected.Since.TheVariants.{Request, Last}
 use Rattle.lin_bench.specs.declared.got.Got.{Got}
 use Rattle.lin_bench.specs.declared.got.Got.TheVariants as got
 use Rattle.lin_bench.specs.declared.got.Pending.{Pending}
@@ -31,6 +33,7 @@ use Rattle.lin_bench.specs.declared.got.Pending.TheVariants.{MessagesWait, Answe
 use Rattle.lin_bench.specs.declared.reason.Hint.{Hint}
 use Rattle.lin_bench.specs.declared.reason.Hint.TheVariants as hint
 use Rattle.lin_bench.specs.declared.reason.Reason.{Reason}
+use Rattle.lin_bench.specs.declared.rules.Pattern.{Pattern}
 use Rattle.lin_bench.specs.declared.reason.Reason.TheVariants as reason
 use Rattle.lin_live.specs.Told.{reason_text as live_text}
 use Rattle.lin_live.specs.declared.reason.Reason.{Reason as LiveReason}
@@ -58,6 +61,22 @@ module _ (gap : List ℕ) (g : Clean gap) where
   texts-clean [] = refl
   texts-clean (t ∷ ts) = clean-both (seen_text t) _ (seen-clean t) (after-clean ts)
 
+-- ---- patterns
+byte-clean : (b : Option ℕ) → Clean (byte_word b)
+byte-clean None = refl
+byte-clean (Some b) = quiet-clean (hex_word (b ∷ [])) (quiet-hex (b ∷ []))
+
+bytes-clean : (bs : List (Option ℕ)) → Clean (flat_map byte_word bs)
+bytes-clean [] = refl
+bytes-clean (b ∷ bs) = clean-both (byte_word b) (flat_map byte_word bs) (byte-clean b) (bytes-clean bs)
+
+star-clean : (more : Bool) → Clean (if more then codes "*" else [])
+star-clean true = refl
+star-clean false = refl
+
+pattern-clean : (p : Pattern) → Clean (pattern_word p)
+pattern-clean p = clean-both (flat_map byte_word p.bytes) (if p.more then codes "*" else []) (bytes-clean p.bytes) (star-clean p.more)
+
 -- ---- the law
 abbrev fixed_clean : Word → Bool
 fixed_clean (Fixed text) = is_clean text
@@ -73,12 +92,13 @@ module _ (l : Language) (frames : Called) (a : HasNames l) (b : (f : ℕ) → Cl
   word-clean (Signal s) h = quiet-clean (word_of l.signals s) (quiet-called l.signals a.of_signals s)
   word-clean (Table t) h = quiet-clean (word_of l.tables t) (quiet-called l.tables a.of_tables t)
   word-clean (Frame (Signals f)) h = b f
-  word-clean (Frame Request) h = refl
+  word-clean (Frame RequestFrame) h = refl
   word-clean (Frame Response) h = refl
   word-clean (Number n) h = quiet-clean (decimal n) (quiet-decimal n)
   word-clean (Range low high) h =
       clean-both (decimal low) (codes ".." ++ decimal high) (quiet-clean (decimal low) (quiet-decimal low)) (quiet-clean (decimal high) (quiet-decimal high))
   word-clean (Hex bytes) h = quiet-clean (hex_word bytes) (quiet-hex bytes)
+  word-clean (Matching p) h = pattern-clean p
   word-clean (Raw v) h = quiet-clean (value_word v) (value-quiet v)
   word-clean (Fixed text) h = h
   word-clean (Said text) h = seen-clean text
@@ -116,6 +136,8 @@ unmarked-fixed fields false h = hint-fixed h
 
 reason-fixed : (why : Reason) → are_fixed (reason_words why) ≡ true
 reason-fixed (reason.Step why) = step-fixed why
+reason-fixed (reason.NoData frame n) = each-way (λ (t : List ℕ). (is_clean t && true) ≡ true) (n == 1) _ _ refl refl
+reason-fixed (reason.NoEntry table n) = each-way (λ (t : List ℕ). (is_clean t && true) ≡ true) (n == 1) _ _ refl refl
 reason-fixed (reason.NoValue text signal h) = hint-fixed h
 reason-fixed (reason.Unmarked fields ranged h) = unmarked-fixed fields ranged h
 reason-fixed why = refl
@@ -159,12 +181,14 @@ got-fixed is = refl
 
 -- ---- what is expected
 expected-fixed : (what : Expected) → are_fixed (expected_words what) ≡ true
+expected-fixed (expected.MessageWithin from to pattern most Request) = refl
+expected-fixed (expected.MessageWithin from to pattern most Last) = refl
 expected-fixed (expected.NoLost None) = refl
 expected-fixed (expected.NoLost (Some host)) = refl
 expected-fixed (expected.Lost host why) = rw (cause-fixed why) refl
 expected-fixed (expected.Seen how) = rw (look-fixed how) refl
 expected-fixed (expected.Frame frame None) = refl
-expected-fixed (expected.Frame frame (Some bytes)) = refl
+expected-fixed (expected.Frame frame (Some pattern)) = refl
 expected-fixed (expected.Refused why) = rw (quiet-clean (refusal_word why) (refusal-quiet why)) refl
 expected-fixed what = refl
 

@@ -3,7 +3,8 @@
 use crate::clusters::{cluster_of, read_text};
 use crate::samples::{BUILT_IN, DOOR_ZONE, WINDOW};
 use lin_bench::{
-    Answer, Disturbance, Every, Expected, Extent, Line, Look, Part, Pattern, Rule, When, read,
+    Answer, Carried, Disturbance, Every, Expected, Extent, Line, Look, Part, Pattern, Rule, Since,
+    When, read,
 };
 use lin_core::{Cause, Direction, PortId, Refusal, Step};
 use lin_frame::Value;
@@ -93,6 +94,14 @@ fn name_of_rule(rule: &Rule) -> &'static str {
     }
 }
 
+/// Whether a pattern is for the one byte 7E.
+fn is_7e(pattern: &Pattern) -> bool {
+    match pattern.bytes.as_slice() {
+        [Some(0x7E)] => !pattern.more,
+        _ => false,
+    }
+}
+
 fn name_of(line: &Line) -> &'static str {
     match line {
         Line::Step(
@@ -157,9 +166,24 @@ fn name_of(line: &Line) -> &'static str {
             Expected::Message {
                 from: 1,
                 to: 0,
-                bytes,
+                pattern,
             },
-        ) if bytes.as_slice() == [0x7E].as_slice() => "slots until a message",
+        ) if is_7e(pattern) => "slots until a message",
+        Line::Expect(
+            Expected::MessageWithin {
+                from: 1,
+                to: 0,
+                pattern,
+                most_ms: 50,
+                since: Since::Last,
+            },
+        ) if pattern.more => "message after the last one",
+        Line::Expect(
+            Expected::Frame {
+                frame: Carried::Request,
+                pattern: Some(pattern),
+            },
+        ) if pattern.more => "frame with a pattern",
         Line::Until(Extent::Milliseconds(200), Expected::Asleep) => "slots of 200 ms until asleep",
         Line::Until(Extent::Count(4), Expected::Table(0)) => "slots until a table runs",
         _ => "anything else",
@@ -184,6 +208,11 @@ const ON_BUILT_IN: Lines<'static> = &[
         b"slots 20 until message door cem 7E",
         "slots until a message",
     ),
+    (
+        b"expect message door cem 62..* within 50 ms of last",
+        "message after the last one",
+    ),
+    (b"expect frame MasterReq 01 .. *", "frame with a pattern"),
     (b"slots 200 ms until asleep", "slots of 200 ms until asleep"),
     (b"slots 4 until table 0", "slots until a table runs"),
     (

@@ -1,5 +1,5 @@
 use Rattle.std.proofs.Common.{◌≡◌, ◌≤◌, ◌+◌, ◌*◌, reverse, take}
-use Rattle.lin_bench.specs.Arrivals.{whole}
+use Rattle.lin_bench.specs.Arrivals.{precedes, whole}
 use Rattle.lin_bench.proofs.arrivals.time_since.Given as goal
 
 abbrev pub invariant-loop-left : goal.invariant-loop-left
@@ -7,8 +7,8 @@ invariant-loop-left l = record {
   within : l.left ≤ l.index;
   time : l.walk.time + l.left * 1000000000 ≤ l.index * 1000000000;
   whole :
-      whole l.cluster l.request l.walk (reverse (take l.left l.log.entries))
-      ≡ whole l.cluster l.request l.initial.walk (reverse (take l.index l.log.entries));
+      whole l.cluster (precedes l.earlier) l.walk (reverse (take l.left l.log.entries))
+      ≡ whole l.cluster (precedes l.earlier) l.initial.walk (reverse (take l.index l.log.entries));
 }
 
 abbrev pub decreases-loop-left : goal.decreases-loop-left

@@ -1,5 +1,6 @@
 use Rattle.std.proofs.Common.{◌≡◌, ◌∙◌, ap, arith, reverse, sym}
 use Rattle.std.specs.Prelude.{slice_index}
+use Rattle.lin_bench.specs.Arrivals.{precedes}
 use Rattle.lin_bench.specs.Verdicts.{times_taken}
 use Rattle.lin_bench.proofs.Walks.{found-time, no-time}
 use Rattle.lin_bench.proofs.arrivals.time_taken.Goals as goal
@@ -7,7 +8,7 @@ use Rattle.lin_bench.proofs.arrivals.time_taken.Goals as goal
 pub returns-in-Ok : goal.returns-in-Ok
 returns-in-Ok c =
     let cl = c.args.cluster.now in
-    let q = c.args.request in
+    let q = (precedes c.args.earlier) in
     let a = c.args.answer in
     let es = c.args.log.now.entries in
     let i = c.loop-index.index in
@@ -18,7 +19,7 @@ returns-in-Ok c =
 
 pub returns : goal.returns
 returns c =
-    let q = c.args.request in
+    let q = (precedes c.args.earlier) in
     let a = c.args.answer in
     let es = c.args.log.now.entries in
     let i = c.loop-index.index in

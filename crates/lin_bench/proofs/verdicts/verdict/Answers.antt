@@ -6,7 +6,7 @@ pub returns-in_ok-event-in-Message-clause-verdict : goal.returns-in_ok-event-in-
 unfolding verdict
 returns-in_ok-event-in-Message-clause-verdict c =
     let event = rw c.core-core.ensures at c.in_ok-event-in-Message.ensures.event in
-    rw (c.in-Message.is, ← event, ← c.as_slice.ensures) c.message.ensures
+    rw (c.in-Message.is, ← event) c.message.ensures
 
 pub returns-in_ok-look_for-in-NoMessage-clause-verdict : goal.returns-in_ok-look_for-in-NoMessage-clause-verdict
 unfolding verdict
@@ -20,7 +20,7 @@ returns-in_ok-message-in-MessageWithin-clause-verdict c =
     let core = c.core-core.ensures in
     let event = rw core at c.in_ok-event-in-MessageWithin.ensures.event in
     let took = rw core at c.time_taken-took.ensures in
-    rw (c.in-MessageWithin.is, ← event, ← c.as_slice-in-MessageWithin.ensures, ← took)
+    rw (c.in-MessageWithin.is, ← event, ← took)
     (c.within.ensures ∙ ap (within_verdict c.in-MessageWithin.most_ms c.time_taken-took.result) c.in_ok-message-in-MessageWithin.ensures)
 
 pub returns-in_ok-message-in-MessageWithin-clause-taken : goal.returns-in_ok-message-in-MessageWithin-clause-taken

@@ -1,0 +1,57 @@
+use Rattle.std.proofs.Common.{◌≡◌, ◌∙◌, ℕ, suc, ◌-◌, ◌<◌, ◌&&◌, Bool, true, false, List, [], ◌∷◌, ◌++◌, Some, None, refl, sym, ap, arith, drop, drop-cons, get_or, length, reverse, take}
+use Rattle.std.specs.Borrow.{Bor}
+use Rattle.std.specs.Prelude.{codes}
+use Rattle.std.specs.Str.{bytes_eq}
+use Rattle.std.proofs.lemmas.List.{map-append, reverse-append, reverse-reverse, take-append-drop}
+use Rattle.lin_bench.specs.Expectations.{before_last, last_from}
+use Rattle.lin_bench.specs.Fields.{words}
+use Rattle.lin_bench.proofs.Rows.{dropped}
+use Rattle.lin_bench.proofs.expectations.before_last.Goals as goal
+
+-- a list by its last two items
+by-two : (fs : List (Bor (List ℕ))) (d : Bor (List ℕ)) (n : ℕ) → length fs ≡ suc (suc n) → fs ≡ take n fs ++ get_or fs n d ∷ get_or fs (suc n) d ∷ []
+by-two fs d n e =
+    let last = get_or fs (suc n) d in
+    let end : drop (suc n) fs ≡ last ∷ [] = drop-cons fs (suc n) d (omega arith) ∙ ap (λ l. last ∷ l) (dropped fs (suc (suc n)) (omega arith)) in
+    let two : drop n fs ≡ get_or fs n d ∷ last ∷ [] = drop-cons fs n d (omega arith) ∙ ap (λ l. get_or fs n d ∷ l) end in
+    sym (take-append-drop n fs) ∙ ap (λ l. take n fs ++ l) two
+
+backwards : (fs : List (Bor (List ℕ))) (d : Bor (List ℕ)) (n : ℕ) → length fs ≡ suc (suc n)
+    → reverse (words fs) ≡ (get_or fs (suc n) d).now ∷ (get_or fs n d).now ∷ reverse (words (take n fs))
+backwards fs d n e =
+    let last = get_or fs n d ∷ get_or fs (suc n) d ∷ [] in
+    ap (λ l. reverse (words l)) (by-two fs d n e) ∙ ap reverse (map-append (λ f. f.now) (take n fs) last)
+    ∙ reverse-append (words (take n fs)) (words last)
+
+abbrev ends : List ℕ → List ℕ → Bool
+ends of last = bytes_eq last (codes "last") && bytes_eq of (codes "of")
+
+at-end : (fs : List (Bor (List ℕ))) (d : Bor (List ℕ)) (n : ℕ) → length fs ≡ suc (suc n) → true ≡ ends (get_or fs n d).now (get_or fs (suc n) d).now
+    → Some (words (take n fs)) ≡ before_last (words fs)
+at-end fs d n e h = sym (ap last_from (backwards fs d n e) ∙ rw (← h) (ap Some (reverse-reverse (words (take n fs)))))
+
+not-at-end : (fs : List (Bor (List ℕ))) (d : Bor (List ℕ)) (n : ℕ) → length fs ≡ suc (suc n) → false ≡ ends (get_or fs n d).now (get_or fs (suc n) d).now
+    → None ≡ before_last (words fs)
+not-at-end fs d n e h = sym (ap last_from (backwards fs d n e) ∙ rw (← h) refl)
+
+too-short : (fs : List (Bor (List ℕ))) → length fs < 2 → None ≡ before_last (words fs)
+too-short [] h = refl
+too-short (f ∷ []) h = refl
+too-short (f ∷ g ∷ fs) h = absurd (omega arith)
+
+pub returns-then-is_of_last : goal.returns-then-is_of_last
+returns-then-is_of_last c =
+    let fs = c.args.all.now in
+    let n = length fs - 2 in
+    let one : length fs - 1 ≡ suc n = omega arith in
+    at-end fs _ n (omega arith) (rw one at c.if-is_of_last.ensures)
+
+pub returns-else-is_of_last : goal.returns-else-is_of_last
+returns-else-is_of_last c =
+    let fs = c.args.all.now in
+    let n = length fs - 2 in
+    let one : length fs - 1 ≡ suc n = omega arith in
+    not-at-end fs _ n (omega arith) (rw one at c.if-is_of_last.ensures)
+
+pub returns-in_default : goal.returns-in_default
+returns-in_default c = too-short c.args.all.now (omega arith)
