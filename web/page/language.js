@@ -9,7 +9,7 @@ const STEP_WORDS = `slots slot write expect send switch sleep wake when every ti
 const FORM_WORDS = 'signal message frame seen sent lost no waiting slot table asleep awake done refused'.split(' ');
 const SEEN_WORDS = 'good none silent damaged collided'.split(' '), CAUSE_WORDS = 'damaged timedout slept'.split(' ');
 const BENCH_WORDS = new Set([...STEP_WORDS, ...FORM_WORDS, ...SEEN_WORDS, ...CAUSE_WORDS,
-	...'until idle ms within of last silent then after on off up down bus'.split(' ')]);
+	...'until while idle ms within of last silent then after on off up down bus'.split(' ')]);
 
 // The colored parts of a line of an LDF, as [from, to, class]; `isOpen` if a comment is open at its start.
 function ldfParts(line, isOpen) {
@@ -82,11 +82,11 @@ function suggested(before, cluster) {
 		const texts = signal ? signal.values.map(it => it[1]) : [];
 		return {words: texts.filter(it => it && !/^\d+$/.test(it)), prefix: value[2]};
 	}
-	const forms = Math.max(words.lastIndexOf('expect'), words.lastIndexOf('until'));
+	const forms = Math.max(words.lastIndexOf('expect'), words.lastIndexOf('until'), words.lastIndexOf('while'));
 	if (!words.length) return {words: STEP_WORDS, prefix};
 	return {words: forms >= 0 ? formWords(words.slice(forms + 1), names) : stepWords(words, names), prefix};
 }
-// After `expect` or `until` and these words.
+// After `expect`, `until` or `while` and these words.
 function formWords(words, names) {
 	const [form] = words, count = words.length;
 	if (!count) return FORM_WORDS;
@@ -105,7 +105,7 @@ function stepWords(words, names) {
 	switch (first) {
 	case 'switch': return count === 1 ? names('tables') : [];
 	case 'write': return count === 1 ? signals : count === 2 && names('nodes').includes(second) ? names('signals') : [];
-	case 'slots': return ['idle', 'ms', 'until'];
+	case 'slots': return words.includes('leave') ? [...names('nodes'), 'until', 'while'] : ['idle', 'ms', 'leave', 'until', 'while'];
 	case 'slot': return words.includes('leave') ? names('nodes') : ['leave', 'hurt'];
 	case 'when': return count === 1 ? [...names('nodes').slice(1), 'off'] : ['answer', 'silent', 'then', 'after', 'ms'];
 	case 'every':

@@ -21,6 +21,10 @@ appended-more xs x (Err bad) = refl
 abbrev pub nodes_with : List ℕ → Result (List ℕ) Reason → Result (List ℕ) Reason
 nodes_with ns r = r >>= (λ more. Ok (ns ++ more))
 
+-- and the fields after the nodes
+abbrev pub nodes_before : List ℕ → Result (List ℕ × List (List ℕ)) Reason → Result (List ℕ × List (List ℕ)) Reason
+nodes_before ns r = r >>= (λ p. Ok (ns ++ p.0, p.1))
+
 -- a list, by its first item and those after it
 all-after : {X : Type 0} (y : X) (ys : List X) → take (length (y ∷ ys) - 1) ys ≡ ys
 all-after y ys = grind (arith, common_steps)

@@ -155,8 +155,9 @@ said-few : (c : Parts) (o cap : ℕ) (limit : Extent → ℕ) (b : BenchState) (
 unfolding said extent_steps
 said-few c o cap limit b (line.Step by step) few = omega arith
 said-few c o cap limit b (line.Slot how) few = slots-few c o cap how _ _ (course_of b) few
-said-few c o cap limit b (line.Slots extent) few = slots-few c o cap slot.Undisturbed _ _ (course_of b) few
-said-few c o cap limit b (line.Until extent what) few = slots-few c o cap slot.Undisturbed _ _ (course_of b) few
+said-few c o cap limit b (line.Slots s) few = slots-few c o cap (slot.Leave s.leave) _ _ (course_of b) few
+said-few c o cap limit b (line.Until s what) few = slots-few c o cap (slot.Leave s.leave) _ _ (course_of b) few
+said-few c o cap limit b (line.While s what) few = slots-few c o cap (slot.Leave s.leave) _ _ (course_of b) few
 said-few c o cap limit b (line.Expect what) few = omega arith
 said-few c o cap limit b line.Forget few = omega arith
 said-few c o cap limit b (line.Rule rule) few = omega arith
@@ -165,8 +166,9 @@ first-few : (c : Parts) (o cap n : ℕ) (b : BenchState) (l : Line) → slots_ma
 unfolding said extent_steps
 first-few c o cap n b (line.Step by step) = omega arith
 first-few c o cap n b (line.Slot how) = slots-at-most c o cap how _ n (course_of b)
-first-few c o cap n b (line.Slots extent) = slots-at-most c o cap slot.Undisturbed _ n (course_of b)
-first-few c o cap n b (line.Until extent what) = slots-at-most c o cap slot.Undisturbed _ n (course_of b)
+first-few c o cap n b (line.Slots s) = slots-at-most c o cap (slot.Leave s.leave) _ n (course_of b)
+first-few c o cap n b (line.Until s what) = slots-at-most c o cap (slot.Leave s.leave) _ n (course_of b)
+first-few c o cap n b (line.While s what) = slots-at-most c o cap (slot.Leave s.leave) _ n (course_of b)
 first-few c o cap n b (line.Expect what) = omega arith
 first-few c o cap n b line.Forget = omega arith
 first-few c o cap n b (line.Rule rule) = omega arith
@@ -217,8 +219,9 @@ unfolding made
 made-few c o cap b line.Forget few none h = record { rules = none; few = omega arith }
 made-few c o cap b (line.Step by step) few none h = steps-few c o cap b (line.Step by step) few none
 made-few c o cap b (line.Slot how) few none h = steps-few c o cap b (line.Slot how) few none
-made-few c o cap b (line.Slots extent) few none h = steps-few c o cap b (line.Slots extent) few none
-made-few c o cap b (line.Until extent what) few none h = steps-few c o cap b (line.Until extent what) few none
+made-few c o cap b (line.Slots s) few none h = steps-few c o cap b (line.Slots s) few none
+made-few c o cap b (line.Until s what) few none h = steps-few c o cap b (line.Until s what) few none
+made-few c o cap b (line.While s what) few none h = steps-few c o cap b (line.While s what) few none
 made-few c o cap b (line.Expect what) few none h = steps-few c o cap b (line.Expect what) few none
 made-few c o cap b (line.Rule rule) few none h = cc
 

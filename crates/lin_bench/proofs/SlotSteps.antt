@@ -169,13 +169,14 @@ same-goes a now ss extent ends t b p e h =
     ∙ ap (λ k. one_more now.core.cluster extent ends k (course_on now)) (sym e) ∙ h
 
 -- and with what is taken at the line's beginning
-pub same-ends : (a now : RuledData) (ss : List (PortId × Step)) (js ks : List EventKind) (what : Option Expected) (extent : Extent) (t : ℕ) (b : Bool)
-    → IsMade a ss now → js ≡ ks → b ≡ one_more now.core.cluster extent (ends_at now.core.cluster now.core.opening js what) t (course_on now)
-    → one_more now.core.cluster extent (ends_at a.core.cluster a.core.opening ks what) t (course_on now) ≡ b
-same-ends a now ss js ks what extent t b p same h =
-    ap (λ c. one_more now.core.cluster extent (ends_at c a.core.opening ks what) t (course_on now)) (sym p.alike.0)
-    ∙ ap (λ o. one_more now.core.cluster extent (ends_at now.core.cluster o ks what) t (course_on now)) (sym p.alike.1)
-    ∙ ap (λ l. one_more now.core.cluster extent (ends_at now.core.cluster now.core.opening l what) t (course_on now)) (sym same) ∙ sym h
+pub same-ends : (a now : RuledData) (ss : List (PortId × Step)) (js ks : List EventKind) (m n : ℕ) (what : Option (Bool × Expected)) (extent : Extent) (t : ℕ) (b : Bool)
+    → IsMade a ss now → js ≡ ks → m ≡ n → b ≡ one_more now.core.cluster extent (ends_at now.core.cluster now.core.opening js m what) t (course_on now)
+    → one_more now.core.cluster extent (ends_at a.core.cluster a.core.opening ks n what) t (course_on now) ≡ b
+same-ends a now ss js ks m n what extent t b p same entries h =
+    ap (λ c. one_more now.core.cluster extent (ends_at c a.core.opening ks n what) t (course_on now)) (sym p.alike.0)
+    ∙ ap (λ o. one_more now.core.cluster extent (ends_at now.core.cluster o ks n what) t (course_on now)) (sym p.alike.1)
+    ∙ ap (λ l. one_more now.core.cluster extent (ends_at now.core.cluster now.core.opening l n what) t (course_on now)) (sym same)
+    ∙ ap (λ k. one_more now.core.cluster extent (ends_at now.core.cluster now.core.opening js k what) t (course_on now)) (sym entries) ∙ sym h
 
 -- what a slot of a core says by the core that the line began on
 same-slot : (a now : RuledData) (how : Disturbance) (ss : List (PortId × Step)) → IsMade a ss now

@@ -1,13 +1,12 @@
 -- What a strict play judges of entries.
 use Rattle.std.proofs.Common.{◌≡◌, ◌∙◌, ◌≤◌, ◌<◌, ◌+◌, ◌-◌, ℕ, nat_le, Bool, true, false, List, [], ◌∷◌, drop, take, length, refl, sym, ap, arith, slice_index_or, Option, Some, None}
-use Rattle.std.specs.Prelude.{find, is_some, not, option_map}
+use Rattle.std.specs.Prelude.{◌||◌, find, option_map}
+use Rattle.std.specs.List.{list_any}
 use Rattle.std.proofs.lemmas.List.{drop-take, drop_all, drop_more, get_or-take, length-drop, length-take, length-take-le, take_all}
 use Rattle.std.proofs.lemmas.Grind.{common_steps}
 use Rattle.lin_core.specs.declared.log.LogEntry.{LogEntry}
 use Rattle.lin_core.specs.declared.reply.Refusal.{Refusal}
-use Rattle.lin_core.specs.History.{is_in}
-use Rattle.lin_bench.specs.Slots.{due_in}
-use Rattle.lin_bench.specs.Strict.{counted, first_refusal, not_due, refusal_in, strictly}
+use Rattle.lin_bench.specs.Strict.{counted, first_refusal, is_never_due, not_due, refusal_in, strictly, tells_due}
 use Rattle.lin_bench.specs.declared.expected.Expected.TheVariants as expected
 use Rattle.lin_bench.specs.declared.got.Got.TheVariants as got
 use Rattle.lin_bench.specs.declared.got.Judged.{Judged}
@@ -57,7 +56,20 @@ pub done-next : (log : List LogEntry) (i to : ℕ) (e : LogEntry) → e ≡ slic
     → first_refusal (drop i (take to log)) ≡ first_refusal (drop (i + 1) (take to log))
 done-next log i to e is lt le h = ap first_refusal (next-entry log i to e is lt le) ∙ rw h refl
 
--- a node that isn't due in the slot that an entry opened
-pub undue-at : (nodes due : List ℕ) (log : List LogEntry) (i : ℕ) (e : LogEntry) → e ≡ slice_index_or log i e → i < length log → due_in e.reply ≡ Some due
-    → find (λ node. not (is_in due node)) nodes ≡ not_due nodes (drop i log)
-undue-at nodes due log i e is lt h = sym (ap (not_due nodes) (drop_more log i e lt ∙ ap (λ x. x ∷ drop (i + 1) log) (sym is)) ∙ rw h refl)
+-- the entry that comes next tells that a node is due, or not
+due-next : (node : ℕ) (log : List LogEntry) (i : ℕ) (e : LogEntry) → e ≡ slice_index_or log i e → i < length log
+    → list_any (tells_due node) (drop i log) ≡ (tells_due node e || list_any (tells_due node) (drop (i + 1) log))
+due-next node log i e is lt = ap (list_any (tells_due node)) (drop_more log i e lt ∙ ap (λ x. x ∷ drop (i + 1) log) (sym is))
+
+pub told-next : (node : ℕ) (log : List LogEntry) (i : ℕ) (e : LogEntry) → e ≡ slice_index_or log i e → i < length log → tells_due node e ≡ true
+    → list_any (tells_due node) (drop i log) ≡ true
+told-next node log i e is lt h = due-next node log i e is lt ∙ rw h refl
+
+pub untold-next : (node : ℕ) (log : List LogEntry) (i : ℕ) (e : LogEntry) → e ≡ slice_index_or log i e → i < length log → tells_due node e ≡ false
+    → list_any (tells_due node) (drop (i + 1) log) ≡ list_any (tells_due node) (drop i log)
+untold-next node log i e is lt h = sym (due-next node log i e is lt ∙ rw h refl)
+
+-- where a line has entries
+pub undue-in : (nodes : List ℕ) (es : List LogEntry) → 0 < length es → find (is_never_due es) nodes ≡ not_due nodes es
+undue-in nodes [] h = absurd (omega arith)
+undue-in nodes (e ∷ es) h = refl

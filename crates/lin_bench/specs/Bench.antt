@@ -1,5 +1,5 @@
 -- What contracts see of a bench, and what making a line on it answers.
-use Rattle.std.specs.Prelude.{◌≡◌, Bool, if◌then◌else◌, None, ℕ, ◌-◌, ◌<◌, ◌^◌, List, [], length, Option, Result, Ok, Err}
+use Rattle.std.specs.Prelude.{◌≡◌, Bool, false, true, None, option_map, ℕ, ◌-◌, ◌<◌, ◌^◌, List, [], length, Option, Result, Ok, Err}
 use Rattle.lin_core.specs.Core.{CoreData, IsAlike, past_of}
 use Rattle.lin_bench.specs.Made.{BenchState, judged, made, made_within}
 use Rattle.lin_bench.specs.Making.{IsGrown, RuledData, ends_at, extent_on, first_on}
@@ -12,6 +12,8 @@ use Rattle.lin_bench.specs.declared.expected.Expected.{Expected}
 use Rattle.lin_bench.specs.declared.fault.MakeFault.{MakeFault}
 use Rattle.lin_bench.specs.declared.fault.MakeFault.TheVariants.{LogFull, OutOfMemory}
 use Rattle.lin_bench.specs.declared.got.Verdict.{Verdict}
+use Rattle.lin_bench.specs.declared.bench.Early.{Early}
+use Rattle.lin_bench.specs.declared.bench.Early.TheVariants.{Never, Until, While}
 use Rattle.lin_bench.specs.declared.line.Disturbance.{Disturbance}
 use Rattle.lin_bench.specs.declared.line.Extent.{Extent}
 use Rattle.lin_bench.specs.declared.line.Line.{Line}
@@ -57,8 +59,11 @@ ruled_of b = record { core = b.core; rules = b.rules }
 abbrev pub made_on : BenchData → Line → BenchState × Verdict
 made_on b line = made b.core.cluster b.core.opening b.core.capacity (state_of b) line
 
-abbrev pub awaited : Bool → Option Expected → Option Expected
-awaited is what = if is then what else None
+-- how slots end early by what is expected after them
+abbrev pub early_end : Early → Option Expected → Option (Bool × Expected)
+early_end Never what = None
+early_end Until what = option_map (λ e. (false, e)) what
+early_end While what = option_map (λ e. (true, e)) what
 
 -- slots on a bench, and what is expected after them
 abbrev pub made_slots : BenchData → Disturbance → Extent → (Course → Bool) → Option Expected
@@ -68,12 +73,13 @@ made_slots b how extent ends what =
     (slots_in (extent_on (ruled_of b) how extent ends)) (extent_on (ruled_of b) how extent ends)
     (first_on (ruled_of b) how extent ends b.left) what
 
--- likewise, where they may end as soon as that comes
-abbrev pub made_until : BenchData → Disturbance → Extent → Bool → Option Expected
+-- likewise, where they may end early by that
+abbrev pub made_early : BenchData → Disturbance → Extent → Early → Option Expected
     → BenchState × Verdict
-made_until b how extent is_awaited what =
+made_early b how extent early what =
     made_slots b how extent
-    (ends_at b.core.cluster b.core.opening b.taken (awaited is_awaited what)) what
+    (ends_at b.core.cluster b.core.opening b.taken (length (past_of b.core)) (early_end early what))
+    what
 
 -- the log would have more entries than it takes
 abbrev pub Fails : MakeFault → BenchState → Type 0

@@ -17,6 +17,7 @@ use Rattle.lin_bench.specs.Rules.{has_length}
 use Rattle.lin_bench.specs.declared.reason.Reason.{Reason}
 use Rattle.lin_bench.specs.declared.reason.Reason.TheVariants.{NoData, NoEntry, NoRefusal, TooSmall}
 use Rattle.lin_bench.specs.declared.reason.Reason.TheVariants.{ExpectForm, UnknownExpectation, UntilForm, UnknownUntil}
+use Rattle.lin_bench.specs.declared.reason.Reason.TheVariants.{WhileForm, UnknownWhile}
 use Rattle.lin_bench.specs.declared.expected.Carried.{Carried}
 use Rattle.lin_bench.specs.declared.expected.Carried.TheVariants.{Signals, Request as RequestFrame, Response}
 use Rattle.lin_bench.specs.declared.expected.Since.{Since}
@@ -217,6 +218,23 @@ never_comes word =
 abbrev pub as_until : Result Expected Reason → Result Expected Reason
 as_until (Err (UnknownExpectation fs)) = Err (UnknownUntil fs)
 as_until read = read
+
+-- what speaks of single events or of a step
+abbrev pub passes : List ℕ → Bool
+passes word =
+    bytes_eq word (codes "message") || bytes_eq word (codes "sent") || bytes_eq word (codes "lost")
+    || bytes_eq word (codes "done") || bytes_eq word (codes "refused")
+
+abbrev pub as_while : Result Expected Reason → Result Expected Reason
+as_while (Err (UnknownExpectation fs)) = Err (UnknownWhile fs)
+as_while read = read
+
+-- what is to hold, by the fields after `while`
+unfoldable pub while_form : Parts → List (List ℕ) → Result Expected Reason
+while_form c [] = Err WhileForm
+while_form c (word ∷ fs) =
+    if passes word then Err (UnknownWhile (word ∷ fs))
+    else as_while (word_expectation c (word ∷ fs) word fs)
 
 -- what is waited for, by the fields after `until`
 unfoldable pub until_form : Parts → List (List ℕ) → Result Expected Reason

@@ -1,5 +1,5 @@
 -- What the lines of a bench script say: steps, slots to be made, and expectations.
-use Rattle.std.specs.Prelude.{ℕ, ◌+◌, ◌==◌, ◌&&◌, if◌then◌else◌, List, [], ◌∷◌, drop}
+use Rattle.std.specs.Prelude.{◌≡◌, ℕ, ◌+◌, ◌==◌, ◌&&◌, ◌||◌, Bool, false, true, if◌then◌else◌, List, [], ◌∷◌, drop}
 use Rattle.std.specs.Prelude.{slice_index, Option, Some, None, Result, Ok, Err, codes}
 use Rattle.std.specs.List.{slice_split}
 use Rattle.std.specs.Str.{bytes_eq}
@@ -10,55 +10,95 @@ use Rattle.lin_log.specs.Language.{named}
 use Rattle.lin_log.specs.Said.{is_port, port_step, step_form}
 use Rattle.lin_log.specs.declared.reason.Reason.TheVariants.{Takes}
 use Rattle.lin_bench.specs.Fields.{◌>>=◌, bytes_fields, count_field, fields, node_field, of_step}
-use Rattle.lin_bench.specs.Expectations.{expectation, until_form}
+use Rattle.lin_bench.specs.Expectations.{expectation, until_form, while_form}
 use Rattle.lin_bench.specs.RuleLines.{errors_form, every_form, timeouts_form, when_form}
 use Rattle.lin_bench.specs.declared.reason.Reason.{Reason}
 use Rattle.lin_bench.specs.declared.reason.Reason.TheVariants.{Step, SlotsForm, SlotForm}
-use Rattle.lin_bench.specs.declared.reason.Reason.TheVariants.{LeaveForm}
+use Rattle.lin_bench.specs.declared.reason.Reason.TheVariants.{LeaveForm, SlotsLeaveForm}
 use Rattle.lin_bench.specs.declared.line.Disturbance.{Disturbance}
 use Rattle.lin_bench.specs.declared.line.Disturbance.TheVariants as slot
 use Rattle.lin_bench.specs.declared.line.Extent.{Extent}
 use Rattle.lin_bench.specs.declared.line.Extent.TheVariants as slots
 use Rattle.lin_bench.specs.declared.line.Line.{Line}
 use Rattle.lin_bench.specs.declared.line.Line.TheVariants as line
+use Rattle.lin_bench.specs.declared.line.Slots.{Slots}
+
+-- slots in which each node that is due answers
+abbrev pub all_answer : Extent → Slots
+all_answer extent = record { extent = extent; leave = [] }
 
 -- until no message waits, at most 10,000 slots where no number says how many
 abbrev pub idle_form : List (List ℕ) → Result Line Reason
-idle_form [] = Ok (line.Slots (slots.Idle 10000))
-idle_form (f ∷ []) = count_field f >>= (λ n. Ok (line.Slots (slots.Idle n)))
+idle_form [] = Ok (line.Slots (all_answer (slots.Idle 10000)))
+idle_form (f ∷ []) = count_field f >>= (λ n. Ok (line.Slots (all_answer (slots.Idle n))))
 idle_form fs = Err SlotsForm
 
--- so many, until something comes
-abbrev pub until_line : Parts → (ℕ → Extent) → List ℕ → List (List ℕ) → Result Line Reason
-until_line c extent f fs = do
-  n ← count_field f
-  what ← until_form c fs
-  Ok (line.Until (extent n) what)
+-- ---- what ends slots early
+abbrev pub ends_early : List ℕ → Bool
+ends_early word = bytes_eq word (codes "until") || bytes_eq word (codes "while")
 
--- for so many milliseconds of the schedule's time
-abbrev pub time_form : Parts → List ℕ → List (List ℕ) → Result Line Reason
-time_form c f [] = count_field f >>= (λ n. Ok (line.Slots (slots.Milliseconds n)))
-time_form c f (word ∷ fs) =
-    if bytes_eq word (codes "until") then until_line c slots.Milliseconds f fs else Err SlotsForm
-
-abbrev pub count_form : Parts → List ℕ → List (List ℕ) → Result Line Reason
-count_form c f [] = count_field f >>= (λ n. Ok (line.Slots (slots.Count n)))
-count_form c f (word ∷ fs) =
-    if bytes_eq word (codes "until") then until_line c slots.Count f fs
-    else if bytes_eq word (codes "ms") then time_form c f fs
+abbrev pub early_form : Parts → Slots → List (List ℕ) → Result Line Reason
+early_form c s [] = Ok (line.Slots s)
+early_form c s (word ∷ fs) =
+    if bytes_eq word (codes "until") then until_form c fs >>= (λ what. Ok (line.Until s what))
+    else if bytes_eq word (codes "while") then while_form c fs >>= (λ what. Ok (line.While s what))
     else Err SlotsForm
 
--- how many slots are made, by the fields after `slots`
-unfoldable pub slots_form : Parts → List (List ℕ) → Result Line Reason
-slots_form c [] = Err SlotsForm
-slots_form c (f ∷ fs) = if bytes_eq f (codes "idle") then idle_form fs else count_form c f fs
-
+-- ---- the nodes that leave their responses out
 abbrev pub node_fields : Parts → List (List ℕ) → Result (List ℕ) Reason
 node_fields c [] = Ok []
 node_fields c (f ∷ fs) = do
   node ← node_field c f
   nodes ← node_fields c fs
   Ok (node ∷ nodes)
+
+-- the fields before the first `until` or `while`, and from that one on
+abbrev pub nodes_and_early : List (List ℕ) → List (List ℕ) × List (List ℕ)
+nodes_and_early [] = ([], [])
+nodes_and_early (f ∷ fs) =
+    if ends_early f then ([], f ∷ fs)
+    else let rest = nodes_and_early fs in (f ∷ rest.0, rest.1)
+
+abbrev pub nodes_read : Parts → List (List ℕ) × List (List ℕ)
+    → Result (List ℕ × List (List ℕ)) Reason
+nodes_read c (fs, gs) = node_fields c fs >>= (λ nodes. Ok (nodes, gs))
+
+abbrev pub left_form : Parts → Extent → List (List ℕ) × List (List ℕ) → Result Line Reason
+left_form c extent ([], gs) = Err SlotsLeaveForm
+left_form c extent (f ∷ fs, gs) = do
+  read ← nodes_read c (f ∷ fs, gs)
+  early_form c (record { extent = extent; leave = read.0 }) read.1
+
+-- as code reads them: the first of the nodes' fields and those after it
+abbrev pub BeginsNodes : Option (List ℕ × List (List ℕ)) → List (List ℕ) → Type 0
+BeginsNodes None fs = nodes_and_early fs ≡ ([], fs)
+BeginsNodes (Some p) fs = (fs ≡ p.0 ∷ p.1) × (ends_early p.0 ≡ false)
+
+-- ---- so many slots, or for so many milliseconds of the schedule's time
+abbrev pub extent_of : Bool → List ℕ → Result Extent Reason
+extent_of is_time f =
+    count_field f >>= (λ n. Ok (if is_time then slots.Milliseconds n else slots.Count n))
+
+abbrev pub after_count : Parts → Bool → List ℕ → List (List ℕ) → Result Line Reason
+after_count c is_time f [] =
+    extent_of is_time f >>= (λ extent. Ok (line.Slots (all_answer extent)))
+after_count c is_time f (word ∷ fs) =
+    if bytes_eq word (codes "leave")
+    then extent_of is_time f >>= (λ extent. left_form c extent (nodes_and_early fs))
+    else if ends_early word
+    then extent_of is_time f >>= (λ extent. early_form c (all_answer extent) (word ∷ fs))
+    else Err SlotsForm
+
+abbrev pub count_form : Parts → List ℕ → List (List ℕ) → Result Line Reason
+count_form c f [] = after_count c false f []
+count_form c f (word ∷ fs) =
+    if bytes_eq word (codes "ms") then after_count c true f fs
+    else after_count c false f (word ∷ fs)
+
+-- how many slots are made, by the fields after `slots`
+unfoldable pub slots_form : Parts → List (List ℕ) → Result Line Reason
+slots_form c [] = Err SlotsForm
+slots_form c (f ∷ fs) = if bytes_eq f (codes "idle") then idle_form fs else count_form c f fs
 
 abbrev pub leave_form : Parts → List (List ℕ) → Result Disturbance Reason
 leave_form c [] = Err LeaveForm

@@ -1,5 +1,5 @@
 -- What a line of a bench script comes to on a bench: the steps that it says, and its verdict.
-use Rattle.std.specs.Prelude.{ℕ, ◌-◌, Bool, false, nat_lt, if◌then◌else◌, List, [], ◌∷◌, Option}
+use Rattle.std.specs.Prelude.{ℕ, ◌-◌, ◌&&◌, Bool, false, length, nat_lt, not, if◌then◌else◌, List, [], ◌∷◌, Option}
 use Rattle.std.specs.Prelude.{Some, None, is_none, is_some}
 use Rattle.std.specs.Option.{option_map_or}
 use Rattle.lin_parts.specs.declared.parts.Parts.{Parts}
@@ -15,7 +15,7 @@ use Rattle.lin_bench.specs.declared.expected.Expected.TheVariants.{Idle as IsIdl
 use Rattle.lin_bench.specs.declared.got.Got.{Got}
 use Rattle.lin_bench.specs.declared.got.Verdict.{Verdict}
 use Rattle.lin_bench.specs.declared.got.Verdict.TheVariants.{Nothing, Met, Unmet, SlotLimit}
-use Rattle.lin_bench.specs.declared.line.Disturbance.TheVariants.{Undisturbed}
+use Rattle.lin_bench.specs.declared.line.Disturbance.TheVariants.{Leave}
 use Rattle.lin_bench.specs.declared.line.Extent.{Extent}
 use Rattle.lin_bench.specs.declared.line.Extent.TheVariants.{Count, Idle}
 use Rattle.lin_bench.specs.declared.line.Line.{Line}
@@ -42,6 +42,11 @@ comes c opening taken what at =
     option_map_or (λ kind. is_some (next_event at.past taken kind))
     (kind_taken what) (is_none (verdict c opening at.past at.rules.noted taken what))
 
+-- after a line began with so many entries, slots were made, and what is to hold doesn't
+abbrev pub fails : Parts → ℕ → List EventKind → ℕ → Expected → Course → Bool
+fails c opening taken began what at =
+    nat_lt began (length at.past) && not (comes c opening taken what at)
+
 abbrev pub never : Course → Bool
 never at = false
 
@@ -51,11 +56,14 @@ unfoldable pub said : Parts → ℕ → ℕ → (Extent → ℕ) → BenchState 
 said c opening capacity limit b (line.Step by step) = (by, step) ∷ []
 said c opening capacity limit b (line.Slot how) =
     extent_steps c opening capacity how (Count 1) never (limit (Count 1)) (course_of b)
-said c opening capacity limit b (line.Slots extent) =
-    extent_steps c opening capacity Undisturbed extent never (limit extent) (course_of b)
-said c opening capacity limit b (line.Until extent what) =
-    extent_steps c opening capacity Undisturbed extent (comes c opening b.taken what) (limit extent)
-    (course_of b)
+said c opening capacity limit b (line.Slots s) =
+    extent_steps c opening capacity (Leave s.leave) s.extent never (limit s.extent) (course_of b)
+said c opening capacity limit b (line.Until s what) =
+    extent_steps c opening capacity (Leave s.leave) s.extent (comes c opening b.taken what)
+    (limit s.extent) (course_of b)
+said c opening capacity limit b (line.While s what) =
+    extent_steps c opening capacity (Leave s.leave) s.extent
+    (fails c opening b.taken (length b.past) what) (limit s.extent) (course_of b)
 said c opening capacity limit b (line.Expect what) = []
 said c opening capacity limit b line.Forget = []
 said c opening capacity limit b (line.Rule rule) = []
@@ -64,16 +72,23 @@ said c opening capacity limit b (line.Rule rule) = []
 abbrev pub slots_made : Line → List (PortId × Step) → ℕ
 slots_made (line.Step by step) steps = 0
 slots_made (line.Slot how) steps = slots_in steps
-slots_made (line.Slots extent) steps = slots_in steps
-slots_made (line.Until extent what) steps = slots_in steps
+slots_made (line.Slots s) steps = slots_in steps
+slots_made (line.Until s what) steps = slots_in steps
+slots_made (line.While s what) steps = slots_in steps
 slots_made (line.Expect what) steps = 0
 slots_made line.Forget steps = 0
 slots_made (line.Rule rule) steps = 0
 
+-- what slots expect after them
+abbrev pub expected_after : Extent → Option Expected
+expected_after (Idle n) = Some IsIdle
+expected_after extent = None
+
 -- what a line expects, of the history after its steps
 abbrev pub expects : Line → Option Expected
-expects (line.Slots (Idle n)) = Some IsIdle
-expects (line.Until extent what) = Some what
+expects (line.Slots s) = expected_after s.extent
+expects (line.Until s what) = Some what
+expects (line.While s what) = Some what
 expects (line.Expect what) = Some what
 expects line = None
 

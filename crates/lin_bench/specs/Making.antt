@@ -1,14 +1,15 @@
 -- What making steps on a core answers.
-use Rattle.std.specs.Prelude.{◌≡◌, Bool, ℕ, ◌<◌, ◌+◌, ◌-◌, ◌^◌, ◌≤◌, List, ◌++◌, length, Option}
+use Rattle.std.specs.Prelude.{◌≡◌, Bool, ℕ, ◌<◌, ◌+◌, ◌-◌, ◌^◌, ◌≤◌, List, ◌++◌, false, length, true, Option}
 use Rattle.std.specs.Prelude.{Some, None, Result, Ok, Err}
 use Rattle.lin_parts.specs.declared.parts.Parts.{Parts}
 use Rattle.lin_core.specs.Core.{CoreData, IsAlike, past_of}
 use Rattle.lin_core.specs.declared.log.LogEntry.{LogEntry}
 use Rattle.lin_core.specs.declared.port.PortId.{PortId}
 use Rattle.lin_core.specs.declared.step.Step.{Step}
-use Rattle.lin_bench.specs.Made.{comes, never}
+use Rattle.lin_bench.specs.Made.{comes, fails, never}
 use Rattle.lin_bench.specs.Slots.{Course, after, extent_steps, most, slots_in}
 use Rattle.lin_bench.specs.declared.expected.Expected.{Expected}
+use Rattle.lin_bench.specs.declared.slots.Ending.{Ending}
 use Rattle.lin_bench.specs.declared.taken.EventKind.{EventKind}
 use Rattle.lin_bench.specs.declared.rules.Rules.{Rules}
 use Rattle.lin_bench.specs.declared.line.Disturbance.{Disturbance}
@@ -54,10 +55,16 @@ abbrev pub MakesSteps : {X : Type 0} → RuledData → List (PortId × Step) →
 MakesSteps old steps (Ok x) new = IsMade old steps new
 MakesSteps old steps (Err fault) new = StepsFail fault old steps × IsGrown old.core new.core
 
--- how slots end where they are made until what is expected comes, with what is taken
-abbrev pub ends_at : Parts → ℕ → List EventKind → Option Expected → Course → Bool
-ends_at c opening taken None = never
-ends_at c opening taken (Some what) = comes c opening taken what
+-- how slots end early, with what is taken and so many entries at the line's beginning: where what is
+-- expected comes; or, where it is to hold, where it fails
+abbrev pub ends_at : Parts → ℕ → List EventKind → ℕ → Option (Bool × Expected) → Course → Bool
+ends_at c opening taken began None = never
+ends_at c opening taken began (Some (false, what)) = comes c opening taken what
+ends_at c opening taken began (Some (true, what)) = fails c opening taken began what
+
+-- what ends slots early, as code has it
+abbrev pub ending_of : Ending → Bool × Expected
+ending_of e = (e.is_while, e.expected.now)
 
 -- the steps of at most n slots of a line on a core, without those that the rules add
 abbrev pub first_on : RuledData → Disturbance → Extent → (Course → Bool) → ℕ

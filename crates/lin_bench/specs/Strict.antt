@@ -1,15 +1,16 @@
 -- What a strict play judges of a line, beside what the line expects.
-use Rattle.std.specs.Prelude.{ℕ, ◌-◌, Bool, true, false, not, is_some, if◌then◌else◌, List, []}
+use Rattle.std.specs.Prelude.{ℕ, ◌-◌, ◌==◌, Bool, true, false, not, is_some, if◌then◌else◌, List, []}
 use Rattle.std.specs.Prelude.{◌∷◌, drop, find, length, option_map, reverse, take, Option, Some, None}
 use Rattle.std.specs.List.{list_any}
 use Rattle.std.specs.Option.{option_map_or, option_or}
-use Rattle.lin_core.specs.History.{is_in}
+use Rattle.lin_core.specs.History.{events}
+use Rattle.lin_core.specs.declared.event.Event.{Event}
 use Rattle.lin_core.specs.declared.log.LogEntry.{LogEntry}
 use Rattle.lin_core.specs.declared.reply.Refusal.{Refusal}
 use Rattle.lin_core.specs.declared.reply.Reply.{Reply}
 use Rattle.lin_core.specs.declared.reply.Reply.TheVariants.{Done, Refused}
 use Rattle.lin_bench.specs.Made.{expects}
-use Rattle.lin_bench.specs.Slots.{due_in, leave_nodes}
+use Rattle.lin_bench.specs.Slots.{due_node, leave_nodes}
 use Rattle.lin_bench.specs.declared.expected.Expected.TheVariants as expected
 use Rattle.lin_bench.specs.declared.got.Got.TheVariants as got
 use Rattle.lin_bench.specs.declared.got.Judged.{Judged}
@@ -43,13 +44,25 @@ counted is_told es = if is_told then take (length es - 1) es else es
 -- the nodes whose responses a line leaves out
 abbrev pub left_out : Line → List ℕ
 left_out (line.Slot how) = leave_nodes how
+left_out (line.Slots s) = s.leave
+left_out (line.Until s what) = s.leave
+left_out (line.While s what) = s.leave
 left_out line = []
 
--- the first of these nodes that isn't due in the slot which the first of a line's entries opened
+-- whether a node is due in a slot which an entry opened
+abbrev pub is_due : ℕ → Event → Bool
+is_due node event = option_map_or (λ n. n == node) (due_node event) false
+
+abbrev pub tells_due : ℕ → LogEntry → Bool
+tells_due node e = list_any (is_due node) (events e)
+
+-- the first of these nodes that is due in none of the slots which a line's entries opened
+abbrev pub is_never_due : List LogEntry → ℕ → Bool
+is_never_due es node = not (list_any (tells_due node) es)
+
 abbrev pub not_due : List ℕ → List LogEntry → Option ℕ
 not_due nodes [] = None
-not_due nodes (e ∷ es) =
-    option_map_or (λ due. find (λ node. not (is_in due node)) nodes) (due_in e.reply) None
+not_due nodes (e ∷ es) = find (is_never_due (e ∷ es)) nodes
 
 -- what is judged of a line's entries, the oldest first: that none of those that count was refused,
 -- and where none at all was, that the nodes whose responses it leaves out were due

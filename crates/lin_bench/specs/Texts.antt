@@ -101,12 +101,16 @@ reason_words reason.SlotsForm = Fixed (codes "usage: slots N, slots N ms or slot
 reason_words (reason.SlotForm word) =
     Fixed (codes "expected hurt or leave after slot, not") ∷ Said word ∷ []
 reason_words reason.LeaveForm = Fixed (codes "usage: slot leave NODE ..") ∷ []
+reason_words reason.SlotsLeaveForm = Fixed (codes "usage: slots N leave NODE ..") ∷ []
 reason_words reason.ExpectForm = Fixed (codes "missing expectation after expect") ∷ []
 reason_words (reason.UnknownExpectation fields) =
     Fixed (codes "unknown expectation") ∷ Fields fields ∷ []
 reason_words reason.UntilForm = Fixed (codes "missing expectation after until") ∷ []
 reason_words (reason.UnknownUntil fields) =
     Fixed (codes "until doesn't accept") ∷ Fields fields ∷ []
+reason_words reason.WhileForm = Fixed (codes "missing expectation after while") ∷ []
+reason_words (reason.UnknownWhile fields) =
+    Fixed (codes "while doesn't accept") ∷ Fields fields ∷ []
 reason_words reason.WhenForm =
     Fixed (codes "usage: when NODE PATTERN answer BYTES or when NODE PATTERN silent") ∷ []
 reason_words (reason.NoResponder field) =

@@ -51,11 +51,13 @@ abbrev pub is_write : List (List ℕ) → Bool
 is_write before =
     bytes_eq (from_end before 0) (codes "write") || bytes_eq (from_end before 1) (codes "write")
 
--- `expect` or `until`, `signal` and a node
+-- `expect`, `until` or `while`, `signal` and a node
+abbrev pub asks : List ℕ → Bool
+asks word =
+    bytes_eq word (codes "expect") || bytes_eq word (codes "until") || bytes_eq word (codes "while")
+
 abbrev pub is_expect : List (List ℕ) → Bool
-is_expect before =
-    bytes_eq (from_end before 1) (codes "signal")
-    && (bytes_eq (from_end before 2) (codes "expect") || bytes_eq (from_end before 2) (codes "until"))
+is_expect before = bytes_eq (from_end before 1) (codes "signal") && asks (from_end before 2)
 
 -- what is asked for by the fields before a signal and the mark behind it
 abbrev pub wish_of : List (List ℕ) → List ℕ → Option Wish
@@ -185,8 +187,8 @@ meant_by other text values = other
 
 abbrev pub meant_line : List ℕ → List Value → Option Line → Option Line
 meant_line text values (Some (lines.Expect e)) = Some (lines.Expect (meant_by e text values))
-meant_line text values (Some (lines.Until extent e)) =
-    Some (lines.Until extent (meant_by e text values))
+meant_line text values (Some (lines.Until s e)) = Some (lines.Until s (meant_by e text values))
+meant_line text values (Some (lines.While s e)) = Some (lines.While s (meant_by e text values))
 meant_line text values other = other
 
 -- ---- what lines say
@@ -294,9 +296,10 @@ abbrev pub last_signal : Parts → List (List ℕ) → ℕ → Option ℕ
 last_signal c fs zero = None
 last_signal c fs (suc i) = if is_signal c fs (suc i) then Some (suc i) else last_signal c fs i
 
--- at most six fields stand before a signal: `every N ms PORT write NODE`, `slots N ms until signal NODE`
+-- a signal is looked for after at most eight fields: `every N ms PORT write NODE` has six before it,
+-- `slots N ms leave NODE until signal NODE` eight
 abbrev pub signal_at : Parts → List (List ℕ) → Option ℕ
-signal_at c fs = last_signal c fs (min (length fs - 2) 6)
+signal_at c fs = last_signal c fs (min (length fs - 2) 8)
 
 -- for a number the units, if the signal has some; else the texts, or the units
 abbrev pub missing_hint : CodedData → ℕ → List PlacedItem → List ℕ → Hint

@@ -1,20 +1,21 @@
 //! Benches in hand.
 
 ghost use Rattle.std.specs.Prelude.{◌≡◌, [], IfOk, OnOk, option_map};
-ghost use Rattle.lin_bench.specs.Bench.{awaited};
+ghost use Rattle.lin_bench.specs.Bench.{early_end};
 ghost use Rattle.lin_core.specs.Core.{past_of};
-ghost use Rattle.lin_bench.specs.Made.{expects, met_or};
+ghost use Rattle.lin_bench.specs.Made.{expected_after, met_or};
+ghost use Rattle.lin_bench.specs.Making.{ending_of};
 ghost use Rattle.lin_bench.specs.Searches.{IsKnown, taken_by};
 ghost use Rattle.lin_bench.specs.Slots.{pending};
 ghost use Rattle.lin_bench.specs.Verdicts.{kind_taken, taking, verdict};
-ghost use Rattle.lin_bench.specs.declared.line.Line.{Line};
+ghost use Rattle.lin_bench.specs.declared.line.Disturbance.{Disturbance};
 
 use crate::expected::Expected;
 use crate::fault::MakeFault;
 use crate::got::{Pending, Verdict};
-use crate::line::{Disturbance, Extent, Line};
+use crate::line::{Disturbance, Extent, Line, Slots};
 use crate::ruled::{RuledCore, pending};
-use crate::slots::{SLOT_LIMIT, slots};
+use crate::slots::{Ending, SLOT_LIMIT, slots};
 use crate::taken::{Cleared, Taken};
 use crate::verdicts::verdict;
 use lin_core::Core;
@@ -62,9 +63,9 @@ fn judge(
     }
 }
 
-/// What a line of slots expects after them.
+/// What slots expect after them.
 fn expected_after(extent: Extent) -> Option<Expected>
-    ensures { result ≡ expects (Line.Slots extent) }
+    ensures { result ≡ expected_after extent }
 {
     match extent {
         Extent::Count(_) | Extent::Milliseconds(_) => None,
@@ -72,15 +73,33 @@ fn expected_after(extent: Extent) -> Option<Expected>
     }
 }
 
-/// What is expected, where it is awaited.
-fn awaited(expected: &Option<Expected>, is_awaited: bool) -> Option<&Expected>
-    ensures { option_map (λ e. e.now) result ≡ awaited is_awaited expected.now }
+/// When slots end before their extent does.
+#[derive(Clone, Copy)]
+pub(crate) enum Early {
+    Never,
+    /// As soon as what is expected comes.
+    Until,
+    /// With the first slot after which it doesn't hold.
+    While,
+}
+
+/// What ends slots early, by what is expected after them.
+fn early_end(early: Early, expected: &Option<Expected>) -> Option<Ending<'_>>
+    ensures { option_map ending_of result ≡ early_end early expected.now }
 {
-    if is_awaited { expected.as_ref() } else { None }
+    let is_while = match early {
+        Early::Never => return None,
+        Early::Until => false,
+        Early::While => true,
+    };
+    match expected {
+        Some(expected) => Some(Ending { is_while, expected }),
+        None => None,
+    }
 }
 
 impl Bench {
-    ghost use Rattle.lin_bench.specs.Bench.{Judges, Makes, MakesLine, forgotten, fresh, made_until};
+    ghost use Rattle.lin_bench.specs.Bench.{Judges, Makes, MakesLine, forgotten, fresh, made_early};
     ghost use Rattle.lin_bench.specs.Bench.{renewed};
 
     /// A bench over a core with an empty log, on which no rule is in force. Its lines of slots may
@@ -153,25 +172,24 @@ impl Bench {
         };
     }
 
-    /// Makes slots, and judges what is expected after them; where that is awaited, they end as soon
-    /// as it comes.
+    /// Makes slots, which may end early by what is expected after them, and judges that.
     fn slots(
         &mut self,
         alloc: Global,
         how: &Disturbance,
         extent: Extent,
         expected: Option<Expected>,
-        is_awaited: bool,
+        early: Early,
     ) -> Result<Verdict, MakeFault>
-        ensures { Makes (made_until self.old how.now extent is_awaited expected) self.old result self.new }
+        ensures { Makes (made_early self.old how.now extent early expected) self.old result self.new }
     {
-        let until = awaited(&expected, is_awaited);
+        let ending = early_end(early, &expected);
         match slots(
             alloc,
             &mut self.ruled,
             how,
             extent,
-            until,
+            ending,
             &mut self.taken,
             self.left,
         )? {
@@ -184,6 +202,21 @@ impl Bench {
                 Ok(Verdict::SlotLimit)
             }
         }
+    }
+
+    /// Makes the slots of a line, which may end early by what is expected after them, and judges that.
+    fn line_of_slots(
+        &mut self,
+        alloc: Global,
+        slots: Slots,
+        expected: Option<Expected>,
+        early: Early,
+    ) -> Result<Verdict, MakeFault>
+        ensures { Makes (made_early self.old (Disturbance.Leave slots.leave) slots.extent early expected)
+            self.old result self.new }
+    {
+        let Slots { extent, leave } = slots;
+        self.slots(alloc, &Disturbance::Leave(leave), extent, expected, early)
     }
 
     /// Makes a line: the steps that it says, each answered on the history before it, and its
@@ -204,19 +237,16 @@ impl Bench {
                 self.ruled.make(alloc, by, step)?;
                 Ok(Verdict::Nothing)
             }
-            Line::Slot(how) => self.slots(alloc, &how, Extent::Count(1), None, false),
-            Line::Slots(extent) => {
-                let expected = expected_after(extent);
-                self.slots(alloc, &Disturbance::Undisturbed, extent, expected, false)
+            Line::Slot(how) => self.slots(alloc, &how, Extent::Count(1), None, Early::Never),
+            Line::Slots(slots) => {
+                let expected = expected_after(slots.extent);
+                self.line_of_slots(alloc, slots, expected, Early::Never)
             }
-            Line::Until(extent, expected) => {
-                self.slots(
-                    alloc,
-                    &Disturbance::Undisturbed,
-                    extent,
-                    Some(expected),
-                    true,
-                )
+            Line::Until(slots, expected) => {
+                self.line_of_slots(alloc, slots, Some(expected), Early::Until)
+            }
+            Line::While(slots, expected) => {
+                self.line_of_slots(alloc, slots, Some(expected), Early::While)
             }
             Line::Expect(expected) => self.judge(alloc, Some(expected)),
             Line::Forget => {

@@ -6,7 +6,7 @@ ghost use Rattle.lin_bench.specs.Expectations.{before_last, data_length, data_pa
 ghost use Rattle.lin_bench.specs.Expectations.{loss_of, lost_form, pattern_form, rows_and_limit};
 ghost use Rattle.lin_bench.specs.Expectations.{message_form, no_form, no_lost_form, no_message_form, signal_value};
 ghost use Rattle.lin_bench.specs.Expectations.{refusal_field, refused_form, seen_form, sent_form};
-ghost use Rattle.lin_bench.specs.Expectations.{signal_form, slot_form, table_form, until_form, waiting_form};
+ghost use Rattle.lin_bench.specs.Expectations.{passes, signal_form, slot_form, table_form, until_form, waiting_form, while_form};
 ghost use Rattle.lin_bench.specs.Expectations.{word_expectation};
 ghost use Rattle.lin_bench.specs.Fields.{fields, range_ends, words};
 ghost use Rattle.lin_bench.specs.Read.{Gives};
@@ -525,6 +525,36 @@ pub(crate) fn until(alloc: Global, cluster: &Cluster, line: &[u8]) -> Result<Exp
     match of_word(alloc, cluster, line, word, rest) {
         Err(LineFault::Bad(Reason::UnknownExpectation(fields))) => {
             Err(LineFault::Bad(Reason::UnknownUntil(fields)))
+        }
+        answer => answer,
+    }
+}
+
+/// Whether a word begins what speaks of single events or of a step.
+fn passes(word: &[u8]) -> bool
+    ensures { result ≡ passes word.now }
+{
+    word == b"message".as_slice()
+        || word == b"sent".as_slice()
+        || word == b"lost".as_slice()
+        || word == b"done".as_slice()
+        || word == b"refused".as_slice()
+}
+
+/// What is to hold, by the fields after `while`.
+#[tactic(auto, unfolding(crate::specs::Expectations::while_form))]
+pub(crate) fn holding(alloc: Global, cluster: &Cluster, line: &[u8]) -> Result<Expected, LineFault>
+    ensures { Gives (λ e. e) result (while_form cluster.now (fields line.now)) }
+{
+    let Some((word, rest)) = first_field(cluster, line) else {
+        return Err(LineFault::Bad(Reason::WhileForm));
+    };
+    if passes(word) {
+        return Err(LineFault::Bad(Reason::UnknownWhile(copied(alloc, cluster, line)?)));
+    }
+    match of_word(alloc, cluster, line, word, rest) {
+        Err(LineFault::Bad(Reason::UnknownExpectation(fields))) => {
+            Err(LineFault::Bad(Reason::UnknownWhile(fields)))
         }
         answer => answer,
     }

@@ -59,7 +59,7 @@ pub use fault::{LineFault, MakeFault, PlayFault, ReadFault};
 pub use got::{Got, Judged, Judgement, Pending, Verdict, is_unmet, some_unmet};
 pub use law::{plain_scripts_say_the_same, rules_alone_add_steps};
 pub use lin_core::Look;
-pub use line::{Disturbance, Extent, Line};
+pub use line::{Disturbance, Extent, Line, Slots};
 pub use line_words::{LineNaming, Word, put_seen, put_spaced, put_texts, put_words};
 pub use lines::read_line;
 pub use meanings::{told_meaning, told_meanings};

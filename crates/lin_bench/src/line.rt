@@ -26,6 +26,13 @@ pub enum Extent {
     Idle(u32),
 }
 
+/// Slots, in which each node that is due answers, except those that leave their responses out.
+#[derive(Drop)]
+pub struct Slots {
+    pub extent: Extent,
+    pub leave: Many<u8>,
+}
+
 /// What a line of a bench script says.
 #[derive(Drop)]
 pub enum Line {
@@ -33,10 +40,11 @@ pub enum Line {
     Step(PortId, Step),
     /// A slot, in which each node that is due answers.
     Slot(Disturbance),
-    /// Slots, in which each node that is due answers.
-    Slots(Extent),
-    /// Slots, in which each node that is due answers, until what is expected comes, and it is judged.
-    Until(Extent, Expected),
+    Slots(Slots),
+    /// Slots until what is expected comes, and it is judged.
+    Until(Slots, Expected),
+    /// Slots as long as what is expected holds after each of them, and it is judged.
+    While(Slots, Expected),
     Expect(Expected),
     /// Of all messages that arrived, and of all that were sent or lost, expectations speak no more.
     Forget,

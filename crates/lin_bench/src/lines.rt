@@ -1,16 +1,17 @@
 //! The forms of lines.
 
-ghost use Rattle.std.specs.Prelude.{◌≡◌};
+ghost use Rattle.std.specs.Prelude.{◌≡◌, option_map};
 ghost use Rattle.lin_bench.specs.Fields.{fields};
-ghost use Rattle.lin_bench.specs.Lines.{count_form, forget_form, idle_form, leave_form};
-ghost use Rattle.lin_bench.specs.Lines.{line_form, node_fields, read_line, slot_form, slots_form};
-ghost use Rattle.lin_bench.specs.Lines.{time_form};
+ghost use Rattle.lin_bench.specs.Lines.{after_count, all_answer, count_form, early_form, ends_early};
+ghost use Rattle.lin_bench.specs.Lines.{extent_of, forget_form, idle_form, leave_form, left_form};
+ghost use Rattle.lin_bench.specs.Lines.{line_form, node_fields, nodes_and_early, nodes_read, read_line};
+ghost use Rattle.lin_bench.specs.Lines.{slot_form, slots_form, BeginsNodes};
 ghost use Rattle.lin_bench.specs.Read.{Gives};
 
-use crate::expectations::{expectation, until};
+use crate::expectations::{expectation, holding, until};
 use crate::fault::LineFault;
 use crate::fields::{bytes_fields, count_field, node_field};
-use crate::line::{Disturbance, Extent, Line};
+use crate::line::{Disturbance, Extent, Line, Slots};
 use crate::reason::Reason;
 use crate::rule_lines::{every, response_errors, timeouts, when};
 use lin_core::PortId;
@@ -22,34 +23,133 @@ use std::alloc::Global;
 /// How many slots are made where no message waits any more, and no number says how many at most.
 const IDLE: u32 = 10_000;
 
+/// Slots in which each node that is due answers.
+fn all_answer(alloc: Global, extent: Extent) -> Slots
+    ensures { result ≡ all_answer extent }
+{
+    Slots {
+        extent,
+        leave: Many::new(Vec::new(alloc)),
+    }
+}
+
 /// Slots until no message waits, by the fields after `idle`.
 fn idle(alloc: Global, cluster: &Cluster, line: &[u8]) -> Result<Line, LineFault>
     ensures { Gives (λ l. l) result (idle_form (fields line.now)) }
 {
     let Some((count, rest)) = first_field(cluster, line) else {
-        return Ok(Line::Slots(Extent::Idle(IDLE)));
+        return Ok(Line::Slots(all_answer(alloc, Extent::Idle(IDLE))));
     };
     if !is_over(cluster, rest) {
         return Err(LineFault::Bad(Reason::SlotsForm));
     }
-    Ok(Line::Slots(Extent::Idle(count_field(alloc, count)?)))
+    let count = count_field(alloc, count)?;
+    Ok(Line::Slots(all_answer(alloc, Extent::Idle(count))))
 }
 
-/// Slots for a time, by its number and the fields after `ms`.
-fn milliseconds(
+fn ends_early(word: &[u8]) -> bool
+    ensures { result ≡ ends_early word.now }
+{
+    word == b"until".as_slice() || word == b"while".as_slice()
+}
+
+/// Slots, and what ends them early, by the fields after them.
+fn early(alloc: Global, cluster: &Cluster, slots: Slots, line: &[u8]) -> Result<Line, LineFault>
+    ensures { Gives (λ l. l) result (early_form cluster.now slots (fields line.now)) }
+{
+    let Some((word, rest)) = first_field(cluster, line) else {
+        return Ok(Line::Slots(slots));
+    };
+    if word == b"until".as_slice() {
+        Ok(Line::Until(slots, until(alloc, cluster, rest)?))
+    } else if word == b"while".as_slice() {
+        Ok(Line::While(slots, holding(alloc, cluster, rest)?))
+    } else {
+        Err(LineFault::Bad(Reason::SlotsForm))
+    }
+}
+
+/// The first field of a line and the rest, unless it ends slots early.
+fn field_before_early<'a>(cluster: &Cluster, line: &'a [u8]) -> Option<(&'a [u8], &'a [u8])>
+    ensures { BeginsNodes (option_map (λ f. (f.0.now, fields f.1.now)) result) (fields line.now) }
+{
+    match first_field(cluster, line) {
+        Some((field, rest)) if !ends_early(field) => Some((field, rest)),
+        _ => None,
+    }
+}
+
+/// The nodes that leave their responses out, by the fields up to what ends slots early, and the rest of
+/// the line from that on.
+fn nodes_and_early<'a>(
     alloc: Global,
     cluster: &Cluster,
+    line: &'a [u8],
+) -> Result<(Many<u8>, &'a [u8]), LineFault>
+    ensures { Gives (λ r. (r.0, fields r.1.now)) result
+        (nodes_read cluster.now (nodes_and_early (fields line.now))) }
+{
+    let mut nodes = Vec::new(alloc);
+    let mut left = line;
+    while let Some((field, rest)) = field_before_early(cluster, left) {
+        let node = node_field(alloc, cluster, field)?;
+        if nodes.push(node).is_err() {
+            return Err(LineFault::OutOfMemory);
+        }
+        left = rest;
+    }
+    Ok((Many::new(nodes), left))
+}
+
+/// Slots in which nodes leave their responses out, by the fields after `leave`.
+fn left_out(
+    alloc: Global,
+    cluster: &Cluster,
+    extent: Extent,
+    line: &[u8],
+) -> Result<Line, LineFault>
+    ensures { Gives (λ l. l) result
+        (left_form cluster.now extent (nodes_and_early (fields line.now))) }
+{
+    if field_before_early(cluster, line).is_none() {
+        return Err(LineFault::Bad(Reason::SlotsLeaveForm));
+    }
+    let (leave, rest) = nodes_and_early(alloc, cluster, line)?;
+    early(alloc, cluster, Slots { extent, leave }, rest)
+}
+
+/// How many slots are made, by their number or that of a time.
+fn extent_of(alloc: Global, is_time: bool, count: &[u8]) -> Result<Extent, LineFault>
+    ensures { Gives (λ e. e) result (extent_of is_time count.now) }
+{
+    let count = count_field(alloc, count)?;
+    Ok(if is_time {
+        Extent::Milliseconds(count)
+    } else {
+        Extent::Count(count)
+    })
+}
+
+/// Slots, by their number or that of a time and the fields after it.
+fn after_count(
+    alloc: Global,
+    cluster: &Cluster,
+    is_time: bool,
     count: &[u8],
     line: &[u8],
 ) -> Result<Line, LineFault>
-    ensures { Gives (λ l. l) result (time_form cluster.now count.now (fields line.now)) }
+    ensures { Gives (λ l. l) result (after_count cluster.now is_time count.now (fields line.now)) }
 {
     let Some((word, rest)) = first_field(cluster, line) else {
-        return Ok(Line::Slots(Extent::Milliseconds(count_field(alloc, count)?)));
+        let extent = extent_of(alloc, is_time, count)?;
+        return Ok(Line::Slots(all_answer(alloc, extent)));
     };
-    if word == b"until".as_slice() {
-        let extent = Extent::Milliseconds(count_field(alloc, count)?);
-        Ok(Line::Until(extent, until(alloc, cluster, rest)?))
+    if word == b"leave".as_slice() {
+        let extent = extent_of(alloc, is_time, count)?;
+        left_out(alloc, cluster, extent, rest)
+    } else if ends_early(word) {
+        let extent = extent_of(alloc, is_time, count)?;
+        early(alloc, cluster, all_answer(alloc, extent), line)
     } else {
         Err(LineFault::Bad(Reason::SlotsForm))
     }
@@ -59,16 +159,11 @@ fn milliseconds(
 fn counted(alloc: Global, cluster: &Cluster, count: &[u8], line: &[u8]) -> Result<Line, LineFault>
     ensures { Gives (λ l. l) result (count_form cluster.now count.now (fields line.now)) }
 {
-    let Some((word, rest)) = first_field(cluster, line) else {
-        return Ok(Line::Slots(Extent::Count(count_field(alloc, count)?)));
-    };
-    if word == b"until".as_slice() {
-        let extent = Extent::Count(count_field(alloc, count)?);
-        Ok(Line::Until(extent, until(alloc, cluster, rest)?))
-    } else if word == b"ms".as_slice() {
-        milliseconds(alloc, cluster, count, rest)
-    } else {
-        Err(LineFault::Bad(Reason::SlotsForm))
+    match first_field(cluster, line) {
+        Some((word, rest)) if word == b"ms".as_slice() => {
+            after_count(alloc, cluster, true, count, rest)
+        }
+        _ => after_count(alloc, cluster, false, count, line),
     }
 }
 

@@ -86,7 +86,7 @@ fn play_strictly(
         Err(fault) => return Err(fault),
     }
     let log = bench.core().log();
-    let judged = strictly(alloc, log, from, nodes.as_slice(), is_told)?;
+    let judged = strictly(log, from, nodes.as_slice(), is_told);
     add(judgements, number, log, judged)?;
     Ok(())
 }

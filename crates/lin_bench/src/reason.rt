@@ -47,6 +47,8 @@ pub enum Reason {
     SlotForm(Text),
     /// `slot leave` takes nodes.
     LeaveForm,
+    /// `slots .. leave` takes nodes.
+    SlotsLeaveForm,
     /// `expect` takes what is expected.
     ExpectForm,
     /// `expect` has no form of these fields.
@@ -55,6 +57,10 @@ pub enum Reason {
     UntilForm,
     /// `until` has no form of these fields.
     UnknownUntil(Many<Text>),
+    /// `while` takes what is expected.
+    WhileForm,
+    /// `while` has no form of these fields.
+    UnknownWhile(Many<Text>),
     /// `when` takes a node, a pattern and answers.
     WhenForm,
     /// No responder with an address has this name or number.

@@ -1,12 +1,12 @@
 //! Slots that lines make.
 
-ghost use Rattle.std.specs.Prelude.{◌≡◌, ◌==◌, ◌&&◌, ◌∷◌, [], map, option_map, Some, IfOk, OnOk};
+ghost use Rattle.std.specs.Prelude.{◌≡◌, ◌==◌, ◌&&◌, ◌∷◌, [], length, map, option_map, Some, IfOk, OnOk};
 ghost use Rattle.std.specs.List.{filter_map};
 ghost use Rattle.lin_core.specs.History.{is_in};
 ghost use Rattle.lin_core.specs.declared.step.Step.TheVariants.{Open};
 ghost use Rattle.lin_core.specs.Core.{past_of};
 ghost use Rattle.lin_core.specs.declared.port.PortId.TheVariants.{Bus};
-ghost use Rattle.lin_bench.specs.Making.{MakesSlots, MakesSteps, course_on, ends_at};
+ghost use Rattle.lin_bench.specs.Making.{MakesSlots, MakesSteps, course_on, ending_of, ends_at};
 ghost use Rattle.lin_bench.specs.Searches.{IsKnown, taken_by};
 ghost use Rattle.lin_bench.specs.Slots.{decision, due_in, due_now, goes_on, hosts_waiting};
 ghost use Rattle.lin_bench.specs.Slots.{due_node, hurt_steps, is_opened, leave_nodes, most, one_more};
@@ -24,7 +24,8 @@ use std::alloc::{AllocError, Global};
 /// How many slots lines of slots may make in a run.
 pub(crate) const SLOT_LIMIT: u32 = 1_000_000;
 
-fn due_node(event: &Event) -> Option<u8>
+/// The node that an event tells as due, if it tells one.
+pub(crate) fn due_node(event: &Event) -> Option<u8>
     ensures { result ≡ due_node event.now }
 {
     match event {
@@ -200,20 +201,55 @@ fn most(extent: Extent) -> u32
     }
 }
 
-/// Whether one more slot is to be made: the line's extent goes on, and what it waits for, if it
-/// does, hasn't come. That takes nothing.
+/// What ends slots early: it comes; or, where it is to hold, it doesn't after one of them.
+#[derive(Clone, Copy)]
+pub(crate) struct Ending<'a> {
+    pub(crate) is_while: bool,
+    pub(crate) expected: &'a Expected,
+}
+
+/// Whether slots end early, of a line that began with so many entries. That takes nothing.
+fn is_ended(
+    alloc: Global,
+    ruled: &RuledCore,
+    entries: usize,
+    ending: Option<Ending<'_>>,
+    taken: &mut Taken,
+) -> Result<bool, AllocError>
+    requires { IsKnown ruled.now.core.log taken.old }
+    ensures ended { IfOk result (λ is. is ≡ ends_at ruled.now.core.cluster ruled.now.core.opening
+        (taken_by ruled.now.core.log taken.old) entries (option_map ending_of ending.entry)
+        (course_on ruled.now)) }
+    ensures taken { OnOk result
+        (taken_by ruled.now.core.log taken.new ≡ taken_by ruled.now.core.log taken.old) }
+    ensures known { IsKnown ruled.now.core.log taken.new }
+{
+    let Some(ending) = ending else {
+        return Ok(false);
+    };
+    let comes = comes(alloc, ruled, taken, ending.expected)?;
+    if ending.is_while {
+        Ok(ruled.core().log().len() > entries && !comes)
+    } else {
+        Ok(comes)
+    }
+}
+
+/// Whether one more slot is to be made, by the time and the entries at the line's beginning: the
+/// line's extent goes on, and nothing ends it early. That takes nothing.
 fn is_going(
     alloc: Global,
     ruled: &RuledCore,
     extent: Extent,
     began: u64,
-    until: Option<&Expected>,
+    entries: usize,
+    ending: Option<Ending<'_>>,
     taken: &mut Taken,
 ) -> Result<bool, AllocError>
     requires { IsKnown ruled.now.core.log taken.old }
     ensures going { IfOk result (λ is. is ≡ one_more ruled.now.core.cluster extent
         (ends_at ruled.now.core.cluster ruled.now.core.opening (taken_by ruled.now.core.log taken.old)
-        (option_map (λ e. e.now) until.entry)) began (course_on ruled.now)) }
+        entries (option_map ending_of ending.entry)) began (course_on ruled.now)) }
     ensures taken { OnOk result
         (taken_by ruled.now.core.log taken.new ≡ taken_by ruled.now.core.log taken.old) }
     ensures known { IsKnown ruled.now.core.log taken.new }
@@ -221,36 +257,34 @@ fn is_going(
     if !goes_on(ruled, extent, began) {
         return Ok(false);
     }
-    match until {
-        None => Ok(true),
-        Some(expected) => Ok(!comes(alloc, ruled, taken, expected)?),
-    }
+    Ok(!is_ended(alloc, ruled, entries, ending, taken)?)
 }
 
 /// Makes the slots of a line, and answers how many are left of those that may still be made; none
-/// where the line makes more than these, which are made then. What it waits for isn't taken.
+/// where the line makes more than these, which are made then. What ends them isn't taken.
 #[tactic(auto, unfolding(crate::specs::Slots::extent_steps))]
 pub(crate) fn slots(
     alloc: Global,
     ruled: &mut RuledCore,
     how: &Disturbance,
     extent: Extent,
-    until: Option<&Expected>,
+    ending: Option<Ending<'_>>,
     taken: &mut Taken,
     left: u32,
 ) -> Result<Option<u32>, MakeFault>
     requires { IsKnown ruled.old.core.log taken.old }
     ensures made { MakesSlots ruled.old how.now extent
         (ends_at ruled.old.core.cluster ruled.old.core.opening (taken_by ruled.old.core.log taken.old)
-        (option_map (λ e. e.now) until.entry)) left result ruled.new }
+        (length (past_of ruled.old.core)) (option_map ending_of ending.entry)) left result ruled.new }
     ensures taken { OnOk result
         (taken_by ruled.new.core.log taken.new ≡ taken_by ruled.old.core.log taken.old) }
     ensures known { IsKnown ruled.new.core.log taken.new }
 {
     let began = ruled.core().time();
+    let entries = ruled.core().log().len();
     let mut left = left;
     for _ in 0..most(extent) {
-        let goes = is_going(alloc, ruled, extent, began, until, taken)?;
+        let goes = is_going(alloc, ruled, extent, began, entries, ending, taken)?;
         if !goes {
             return Ok(Some(left));
         }

@@ -1,17 +1,17 @@
 //! What a strict play judges of a line, beside what the line expects.
 
-ghost use Rattle.std.specs.Prelude.{◌≡◌, drop, find, is_some, not, IfOk};
-ghost use Rattle.lin_core.specs.History.{is_in};
+ghost use Rattle.std.specs.Prelude.{◌≡◌, drop, find, is_some, IfOk};
 ghost use Rattle.lin_bench.specs.Made.{expects};
-ghost use Rattle.lin_bench.specs.Strict.{expects_something, left_out, not_due, speaks_of_last, strictly};
+ghost use Rattle.lin_bench.specs.Strict.{expects_something, is_due, is_never_due, left_out, not_due, speaks_of_last, strictly};
+ghost use Rattle.lin_bench.specs.Strict.{tells_due};
 
-use crate::carried::has;
 use crate::expected::Expected;
 use crate::got::{Got, Judged};
-use crate::line::{Disturbance, Extent, Line};
+use crate::line::{Disturbance, Extent, Line, Slots};
 use crate::replies::{counted_refusal, first_refusal};
-use crate::slots::due_in;
-use lin_core::Log;
+use crate::slots::due_node;
+use crate::taken::events_of;
+use lin_core::{Event, Log, LogEntry};
 use std::alloc::{AllocError, Global};
 
 /// Whether a line expects something.
@@ -19,7 +19,13 @@ fn expects(line: &Line) -> bool
     ensures { result ≡ is_some (expects line.now) }
 {
     match line {
-        Line::Slots(Extent::Idle(_)) | Line::Until(_, _) | Line::Expect(_) => true,
+        Line::Slots(
+            Slots {
+                extent: Extent::Idle(_),
+                ..
+            },
+        ) => true,
+        Line::Until(_, _) | Line::While(_, _) | Line::Expect(_) => true,
         _ => false,
     }
 }
@@ -47,50 +53,72 @@ pub(crate) fn left_out(alloc: Global, line: &Line) -> Result<Vec<u8>, AllocError
 {
     match line {
         Line::Slot(Disturbance::Leave(nodes)) => Vec::from_slice(alloc, nodes.as_slice()),
+        Line::Slots(slots) | Line::Until(slots, _) | Line::While(slots, _) => {
+            Vec::from_slice(alloc, slots.leave.as_slice())
+        }
         _ => Ok(Vec::new(alloc)),
     }
 }
 
-/// The first of these nodes that isn't due.
-fn first_undue(due: &[u8], nodes: &[u8]) -> Option<u8>
-    ensures { result ≡ find (λ node. not (is_in due.now node)) nodes.now }
+fn is_due(event: &Event, node: u8) -> bool
+    ensures { result ≡ is_due node event.now }
 {
-    nodes.iter().copied().find(|node| !has(due, *node))
+    due_node(event) == Some(node)
 }
 
-/// The first of these nodes that isn't due in the slot that an entry of a log opened.
-fn not_due(alloc: Global, log: &Log, index: usize, nodes: &[u8]) -> Result<Option<u8>, AllocError>
-    ensures { IfOk result (λ node. node ≡ not_due nodes.now (drop index log.now.entries)) }
+/// Whether an entry tells that a node is due.
+fn tells_due(entry: &LogEntry, node: u8) -> bool
+    ensures { result ≡ tells_due node entry.now }
 {
-    if index >= log.len() {
-        return Ok(None);
+    events_of(entry).iter().any(|event| is_due(event, node))
+}
+
+/// Whether a node is due in none of the slots that the entries of a log from one on opened.
+fn is_never_due(log: &Log, from: usize, node: u8) -> bool
+    ensures { result ≡ is_never_due (drop from log.now.entries) node }
+{
+    for index in from..log.len() {
+        if tells_due(log.entry(index), node) {
+            return false;
+        }
     }
-    match due_in(alloc, &log.entry(index).reply)? {
-        None => Ok(None),
-        Some(due) => Ok(first_undue(due.as_slice(), nodes)),
+    true
+}
+
+/// The first of these nodes that is due in none of the slots that the entries of a log from one on
+/// opened.
+fn first_undue(log: &Log, from: usize, nodes: &[u8]) -> Option<u8>
+    ensures { result ≡ find (is_never_due (drop from log.now.entries)) nodes.now }
+{
+    nodes
+        .iter()
+        .copied()
+        .find(|node| is_never_due(log, from, *node))
+}
+
+/// The same; none where there is no entry.
+fn not_due(log: &Log, from: usize, nodes: &[u8]) -> Option<u8>
+    ensures { result ≡ not_due nodes.now (drop from log.now.entries) }
+{
+    if from >= log.len() {
+        return None;
     }
+    first_undue(log, from, nodes)
 }
 
 /// What a strict play judges of a line: its entries are those of the log from one on, it leaves out
 /// the responses of these nodes, and the line after it may speak of its last step.
-pub(crate) fn strictly(
-    alloc: Global,
-    log: &Log,
-    from: usize,
-    left_out: &[u8],
-    is_told: bool,
-) -> Result<Option<Judged>, AllocError>
-    ensures { IfOk result (λ judged. judged
-        ≡ strictly left_out.now is_told (drop from log.now.entries)) }
+pub(crate) fn strictly(log: &Log, from: usize, left_out: &[u8], is_told: bool) -> Option<Judged>
+    ensures { result ≡ strictly left_out.now is_told (drop from log.now.entries) }
 {
     if first_refusal(log, from).is_none() {
-        return match not_due(alloc, log, from, left_out)? {
-            Some(node) => Ok(Some(Judged::NotDue { node })),
-            None => Ok(None),
+        return match not_due(log, from, left_out) {
+            Some(node) => Some(Judged::NotDue { node }),
+            None => None,
         };
     }
     match counted_refusal(log, from, is_told) {
-        Some(why) => Ok(Some(Judged::Unmet(Expected::Done, Got::Refused(why)))),
-        None => Ok(None),
+        Some(why) => Some(Judged::Unmet(Expected::Done, Got::Refused(why))),
+        None => None,
     }
 }

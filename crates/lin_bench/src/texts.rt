@@ -180,6 +180,7 @@ fn reason_line(reason: &Reason) -> Line<'_>
             Word::Said(word.as_slice()),
         ]),
         Reason::LeaveForm => return Line::of(&[Word::Fixed("usage: slot leave NODE ..")]),
+        Reason::SlotsLeaveForm => return Line::of(&[Word::Fixed("usage: slots N leave NODE ..")]),
         Reason::ExpectForm => return Line::of(&[Word::Fixed("missing expectation after expect")]),
         Reason::UnknownExpectation(fields) => return Line::of(&[
             Word::Fixed("unknown expectation"),
@@ -188,6 +189,11 @@ fn reason_line(reason: &Reason) -> Line<'_>
         Reason::UntilForm => return Line::of(&[Word::Fixed("missing expectation after until")]),
         Reason::UnknownUntil(fields) => return Line::of(&[
             Word::Fixed("until doesn't accept"),
+            Word::Fields(fields.as_slice()),
+        ]),
+        Reason::WhileForm => return Line::of(&[Word::Fixed("missing expectation after while")]),
+        Reason::UnknownWhile(fields) => return Line::of(&[
+            Word::Fixed("while doesn't accept"),
             Word::Fields(fields.as_slice()),
         ]),
         Reason::WhenForm => return Line::of(&[Word::Fixed(

@@ -25,9 +25,9 @@ use lin_parts::Cluster;
 use lin_values::{Coded, PlacedItem, number_and_unit};
 use std::alloc::{AllocError, Global};
 
-/// How many fields a line has before a signal at most, in `every N ms PORT write NODE SIGNAL VALUE` and
-/// `slots N ms until signal NODE SIGNAL VALUE`.
-const MOST_BEFORE: usize = 6;
+/// After how many fields a signal is looked for at most: eight are before it in `slots N ms leave NODE until
+/// signal NODE SIGNAL VALUE`.
+const MOST_BEFORE: usize = 8;
 
 fn are_hex(digits: &[u8]) -> bool
     ensures { result ≡ list_all is_hex digits.now }

@@ -70,7 +70,9 @@ pub(crate) fn is_expect(before: &[&[u8]]) -> bool
     ensures { result ≡ is_expect (words before.now) }
 {
     is_from_end(before, 1, b"signal")
-        && (is_from_end(before, 2, b"expect") || is_from_end(before, 2, b"until"))
+        && (is_from_end(before, 2, b"expect")
+            || is_from_end(before, 2, b"until")
+            || is_from_end(before, 2, b"while"))
 }
 
 /// What the fields before a signal and the mark behind it ask for.
@@ -178,8 +180,11 @@ fn meant_line(said: Option<Line>, text: Text, values: MeantValues) -> Option<Lin
 {
     match said {
         Some(Line::Expect(expected)) => Some(Line::Expect(meant_by(expected, text, values))),
-        Some(Line::Until(extent, expected)) => {
-            Some(Line::Until(extent, meant_by(expected, text, values)))
+        Some(Line::Until(slots, expected)) => {
+            Some(Line::Until(slots, meant_by(expected, text, values)))
+        }
+        Some(Line::While(slots, expected)) => {
+            Some(Line::While(slots, meant_by(expected, text, values)))
         }
         other => other,
     }

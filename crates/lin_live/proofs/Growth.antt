@@ -78,6 +78,7 @@ kept-made c opening capacity P keeps b (line.Step by step) h = kept-line c openi
 kept-made c opening capacity P keeps b (line.Slot how) h = kept-line c opening capacity P keeps b (line.Slot how) h
 kept-made c opening capacity P keeps b (line.Slots extent) h = kept-line c opening capacity P keeps b (line.Slots extent) h
 kept-made c opening capacity P keeps b (line.Until extent what) h = kept-line c opening capacity P keeps b (line.Until extent what) h
+kept-made c opening capacity P keeps b (line.While extent what) h = kept-line c opening capacity P keeps b (line.While extent what) h
 kept-made c opening capacity P keeps b (line.Expect what) h = kept-line c opening capacity P keeps b (line.Expect what) h
 kept-made c opening capacity P keeps b line.Forget h = h
 kept-made c opening capacity P keeps b (line.Rule rule) h = h

@@ -45,6 +45,11 @@ const FORMS: &str =
                      (within N ms (of last)), sent NODE, lost NODE damaged (timedout, slept), seen silent (none, \
                      good, damaged, collided), frame NAME (PATTERN), slot TABLE ENTRY, table TABLE, asleep, awake";
 
+/// What `while` takes of these.
+const HOLDING: &str =
+    "signal NODE SIGNAL VALUE (LOW..HIGH, = TEXT), waiting NODE K, seen silent (none, good, damaged, \
+                       collided), frame NAME (PATTERN), slot TABLE ENTRY, table TABLE, asleep, awake";
+
 /// The beginning of a name.
 fn beginning(name: &[u8]) -> &[u8] {
     name.get(..COMPARED).unwrap_or(name)
@@ -183,6 +188,9 @@ pub(crate) fn put_bad_bench_line(
             )
         }
         Reason::UntilForm | Reason::UnknownUntil(_) => writeln!(out, "  until takes {FORMS}"),
+        Reason::WhileForm | Reason::UnknownWhile(_) => {
+            writeln!(out, "  while takes {HOLDING}, no message FROM TO, no lost (NODE)")
+        }
         _ => Ok(()),
     }
 }

@@ -16,7 +16,7 @@ const RUN_NOTE: &str =
     "The script is read from standard input and has only send, write and close steps, each by its host's own port. The\nhosts execute them while the slots run, so their positions in the log differ from run to run. Every log can be\nreplayed.\n\nExample: linsim run door.ldf --slots 100 < hosts.script > door.log";
 
 const PLAY_NOTE: &str =
-    "Lines of a bench script:\n  the steps of replay's scripts, by name or number\n  slot, slot hurt BYTES, slot leave NODE.., slots N, slots N ms, slots idle, slots N until FORM\n  expect FORM, forget\n  when NODE PATTERN answer BYTES, when NODE PATTERN silent, timeouts N ms, every N ms STEP, response_errors on\n\nValues are numbers, or physical values and texts after = or ~: write Temp = 5 degC.\n\nThe log is written first, then one line on standard error for each expectation that failed. The format junit is a\ntest report instead of the log.\n\nExample: linsim play door.ldf door.bench --where > door.log";
+    "Lines of a bench script:\n  the steps of replay's scripts, by name or number\n  slot, slot hurt BYTES, slot leave NODE.., slots N, slots N ms, slots idle\n  slots N until FORM, slots N while FORM, slots N leave NODE..\n  expect FORM, forget\n  when NODE PATTERN answer BYTES, when NODE PATTERN silent, timeouts N ms, every N ms STEP, response_errors on\n\nValues are numbers, or physical values and texts after = or ~: write Temp = 5 degC.\n\nThe log is written first, then one line on standard error for each expectation that failed. The format junit is a\ntest report instead of the log.\n\nExample: linsim play door.ldf door.bench --where > door.log";
 
 const LIVE_NOTE: &str =
     "Each line of standard input is answered before the next one is read. The answer is the log of that line, then one\nline that begins with #: ok, is VALUE, expected WHAT: GOT, refused NUMBER NAME, bad line: REASON or slot limit.\n\nQuestions: ? signal NODE SIGNAL, ? waiting NODE, ? idle, ? time, ? asleep, ? next.\n\nExample: linsim live door.ldf < door.bench";
@@ -126,7 +126,7 @@ fn script_places<'a>(alloc: Global) -> Arg<'a> {
 
 fn strict<'a>(alloc: Global) -> Arg<'a> {
     let help =
-        "Also fail for unexpected refusals, slot leave without effect, no expectations; print a summary";
+        "Also fail for unexpected refusals, leave without effect, no expectations; print a summary";
     flag(alloc, "strict", help)
 }
 

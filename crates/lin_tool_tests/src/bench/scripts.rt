@@ -4,7 +4,7 @@ use crate::clusters::{cluster_of, read_text};
 use crate::samples::{BUILT_IN, DOOR_ZONE, WINDOW};
 use lin_bench::{
     Answer, Carried, Disturbance, Every, Expected, Extent, Line, Look, Part, Pattern, Rule, Since,
-    When, read,
+    Slots, When, read,
 };
 use lin_core::{Cause, Direction, PortId, Refusal, Step};
 use lin_frame::Value;
@@ -94,6 +94,16 @@ fn name_of_rule(rule: &Rule) -> &'static str {
     }
 }
 
+fn name_of_slots(slots: &Slots) -> &'static str {
+    match (slots.extent, slots.leave.as_slice()) {
+        (Extent::Idle(10_000), []) => "slots until idle",
+        (Extent::Milliseconds(5), []) => "slots of 5 ms",
+        (Extent::Milliseconds(200), []) => "slots of 200 ms",
+        (Extent::Count(3), [1, 0]) => "slots without two nodes",
+        _ => "other slots",
+    }
+}
+
 /// Whether a pattern is for the one byte 7E.
 fn is_7e(pattern: &Pattern) -> bool {
     match pattern.bytes.as_slice() {
@@ -136,8 +146,7 @@ fn name_of(line: &Line) -> &'static str {
             },
         ) => "timeout",
         Line::Step(PortId::Node(0), Step::Answer { node: 0 }) => "answer",
-        Line::Slots(Extent::Idle(10_000)) => "slots until idle",
-        Line::Slots(Extent::Milliseconds(5)) => "slots of 5 ms",
+        Line::Slots(slots) => name_of_slots(slots),
         Line::Slot(Disturbance::Leave(nodes)) if nodes.as_slice() == [3u8, 1].as_slice() => {
             "slot with two left out"
         }
@@ -162,7 +171,10 @@ fn name_of(line: &Line) -> &'static str {
         Line::Forget => "forget",
         Line::Rule(rule) => name_of_rule(rule),
         Line::Until(
-            Extent::Count(20),
+            Slots {
+                extent: Extent::Count(20),
+                ..
+            },
             Expected::Message {
                 from: 1,
                 to: 0,
@@ -184,8 +196,16 @@ fn name_of(line: &Line) -> &'static str {
                 pattern: Some(pattern),
             },
         ) if pattern.more => "frame with a pattern",
-        Line::Until(Extent::Milliseconds(200), Expected::Asleep) => "slots of 200 ms until asleep",
-        Line::Until(Extent::Count(4), Expected::Table(0)) => "slots until a table runs",
+        Line::Until(slots, Expected::Asleep) => match name_of_slots(slots) {
+            "slots of 200 ms" => "slots of 200 ms until asleep",
+            "slots without two nodes" => "slots without two nodes until asleep",
+            _ => "anything else",
+        },
+        Line::Until(_, Expected::Table(0)) => "slots until a table runs",
+        Line::While(slots, Expected::NoLost { host: None }) => match name_of_slots(slots) {
+            "slots of 200 ms" => "slots while nothing is lost",
+            _ => "anything else",
+        },
         _ => "anything else",
     }
 }
@@ -215,6 +235,12 @@ const ON_BUILT_IN: Lines<'static> = &[
     (b"expect frame MasterReq 01 .. *", "frame with a pattern"),
     (b"slots 200 ms until asleep", "slots of 200 ms until asleep"),
     (b"slots 4 until table 0", "slots until a table runs"),
+    (b"slots 3 leave door 0", "slots without two nodes"),
+    (
+        b"slots 3 leave door cem until asleep",
+        "slots without two nodes until asleep",
+    ),
+    (b"slots 200 ms while no lost", "slots while nothing is lost"),
     (
         b"when door 22..* answer 62 $1 then 7F after 200 ms",
         "two answers",

@@ -14,7 +14,7 @@ returns c =
     let mid = c.play_line.new.judgements.items in
     let old = c.args.bench.now.core.log in
     let new = c.play_line.new.bench.core.log in
-    let judged : c.in_ok-judged.judged ≡ strictly (left_out c.args.line) c.args.is_told (drop (length old) new) = search rules in
-    let more : c.add.new.judgements.items ≡ mid ++ on_line c.args.number (length new) c.in_ok-judged.judged = search rules in
+    let judged : c.strictly-judged.result ≡ strictly (left_out c.args.line) c.args.is_told (drop (length old) new) = search rules in
+    let more : c.add.new.judgements.items ≡ mid ++ on_line c.args.number (length new) c.strictly-judged.result = search rules in
     strictly-played c.args.bench.now c.play_line.new.bench c.args.judgements.now.items mid c.add.new.judgements.items c.args.number c.args.line c.args.is_told
     (rw c.in-Ok.is at c.play_line.ensures) (rw judged at more)
