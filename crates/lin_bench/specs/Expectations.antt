@@ -9,8 +9,8 @@ use Rattle.lin_core.specs.Tables.{refusal_number, refusal_word, refusals}
 use Rattle.lin_core.specs.declared.reply.Refusal.{Refusal}
 use Rattle.lin_log.specs.Said.{is_number}
 use Rattle.lin_bench.specs.Fields.{◌>>=◌, count_field, frame_field, host_field}
-use Rattle.lin_bench.specs.Fields.{number_field, or_bad, pair_fields, present_node, present_signal}
-use Rattle.lin_bench.specs.Fields.{present_table, range_ends, range_field, rows_and_time}
+use Rattle.lin_bench.specs.Fields.{number_field, or_bad, pair_fields, present_node, present_table}
+use Rattle.lin_bench.specs.Fields.{range_ends, range_field, rows_and_time, signal_fields}
 use Rattle.lin_bench.specs.Fields.{value_field}
 use Rattle.lin_bench.specs.RuleLines.{pattern_fields}
 use Rattle.lin_bench.specs.Rules.{has_length}
@@ -43,9 +43,8 @@ signal_value c node signal v (Some ends) =
 
 abbrev pub signal_form : Parts → List (List ℕ) → List (List ℕ) → Result Expected Reason
 signal_form c all (n ∷ s ∷ v ∷ []) = do
-  node ← present_node c n
-  signal ← present_signal c s
-  signal_value c node signal v (range_ends v)
+  at ← signal_fields c n s
+  signal_value c at.0 at.1 v (range_ends v)
 signal_form c all fs = Err (UnknownExpectation all)
 
 abbrev pub waiting_form : Parts → List (List ℕ) → List (List ℕ) → Result Expected Reason

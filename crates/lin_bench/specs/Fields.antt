@@ -8,7 +8,8 @@ use Rattle.std.specs.Str.{bytes_eq}
 use Rattle.lin_frame.specs.declared.value.Value.{Value}
 use Rattle.lin_frame.specs.declared.value.Value.TheVariants.{Scalar}
 use Rattle.lin_parts.specs.declared.parts.Parts.{Parts}
-use Rattle.lin_parts.specs.Cluster.{frame_name, nad, nodes}
+use Rattle.lin_parts.specs.Cluster.{frame_name, nad, nodes, signal_of}
+use Rattle.lin_core.specs.History.{is_in}
 use Rattle.lin_log.specs.Language.{Called, named, number_named}
 use Rattle.lin_log.specs.Said.{is_number}
 use Rattle.lin_log.specs.Said as log
@@ -16,7 +17,7 @@ use Rattle.lin_log.specs.declared.reason.Reason.{Reason as StepReason}
 use Rattle.lin_log.specs.declared.reason.Reason.TheVariants.{NoNode, NoSignal, NoTable}
 use Rattle.lin_bench.specs.declared.reason.Reason.{Reason}
 use Rattle.lin_bench.specs.declared.reason.Reason.TheVariants.{Step, NoFrame, NoRange, TooSmall}
-use Rattle.lin_bench.specs.declared.reason.Reason.TheVariants.{NoMessages, NoResponder}
+use Rattle.lin_bench.specs.declared.reason.Reason.TheVariants.{NoMessages, NoResponder, NotItsSignal}
 use Rattle.lin_bench.specs.declared.expected.Carried.{Carried}
 use Rattle.lin_bench.specs.declared.expected.Carried.TheVariants.{Signals, Request, Response}
 
@@ -124,6 +125,23 @@ pair_fields c from to = do
   sender ← host_field c from
   receiver ← host_field c to
   pair_of from to sender receiver
+
+-- whether a node publishes a signal or subscribes it, by the declaration of the signal (LIN 2.2A,
+-- section 9.2.3). To hear a frame that carries it isn't enough
+abbrev pub takes_part : Parts → ℕ → ℕ → Bool
+takes_part c node signal =
+    node == (signal_of c signal).publisher || is_in (signal_of c signal).subscribers node
+
+-- a node, and a signal that it publishes or subscribes
+abbrev pub its_signal : Parts → List ℕ → List ℕ → ℕ → ℕ → Result (ℕ × ℕ) Reason
+its_signal c n s node signal =
+    if takes_part c node signal then Ok (node, signal) else Err (NotItsSignal n s)
+
+abbrev pub signal_fields : Parts → List ℕ → List ℕ → Result (ℕ × ℕ) Reason
+signal_fields c n s = do
+  node ← present_node c n
+  signal ← present_signal c s
+  its_signal c n s node signal
 
 abbrev pub bytes_fields : Parts → List (List ℕ) → Result (List ℕ) Reason
 bytes_fields c fs = of_step (log.bytes_fields (named c) fs)

@@ -117,6 +117,8 @@ reason_words (reason.NoResponder field) =
     Said field ∷ Fixed (codes "isn't a responder with a NAD") ∷ []
 reason_words (reason.NoMessages from to) =
     Fixed (codes "no message goes from") ∷ Said from ∷ Fixed (codes "to") ∷ Said to ∷ []
+reason_words (reason.NotItsSignal node signal) =
+    Said node ∷ Fixed (codes "neither publishes nor subscribes") ∷ Said signal ∷ []
 reason_words (reason.NoPattern fields) = Fields fields ∷ Fixed (codes "isn't a pattern") ∷ []
 reason_words reason.LongAnswer = Fixed (codes "answer has more than 4095 bytes") ∷ []
 reason_words reason.TimeoutsForm = Fixed (codes "usage: timeouts N ms or timeouts off") ∷ []

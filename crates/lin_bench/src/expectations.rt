@@ -18,7 +18,7 @@ use crate::expected::{Carried, Expected, Since};
 use crate::fault::LineFault;
 use crate::fields::{
     count_field, fields, frame_field, host_field, number_field, pair_fields, present_node,
-    present_signal, present_table, range_ends, range_field, rows_and_time, value_field,
+    present_table, range_ends, range_field, rows_and_time, signal_fields, value_field,
 };
 use crate::reason::Reason;
 use crate::rule_lines::pattern;
@@ -93,8 +93,7 @@ fn signal(
 {
     match parts {
         [node, signal, value] => {
-            let node = present_node(alloc, cluster, node)?;
-            let signal = present_signal(alloc, cluster, signal)?;
+            let (node, signal) = signal_fields(alloc, cluster, node, signal)?;
             signal_value(alloc, cluster, node, signal, value)
         }
         _ => Err(no_form(alloc, cluster, all)?),

@@ -9,11 +9,12 @@ ghost use Rattle.lin_bench.specs.Fields.{frames_called, has_commander, lacks_end
 ghost use Rattle.lin_log.specs.Language.{number_named};
 ghost use Rattle.lin_bench.specs.Fields.{or_bad, range_ends, range_field, rows_and_time};
 ghost use Rattle.lin_bench.specs.Fields.{host_field, pair_fields, present_node, present_signal};
-ghost use Rattle.lin_bench.specs.Fields.{present_table, sends};
-ghost use Rattle.lin_bench.specs.Fields.{signal_field, table_field, untabbed, value_field, words};
+ghost use Rattle.lin_bench.specs.Fields.{present_table, sends, signal_field, signal_fields};
+ghost use Rattle.lin_bench.specs.Fields.{table_field, takes_part, untabbed, value_field, words};
 ghost use Rattle.lin_bench.specs.Read.{Gives};
 ghost use Rattle.lin_bench.specs.declared.reason.Reason.{Reason};
 
+use crate::carried::has;
 use crate::expected::Carried;
 use crate::fault::LineFault;
 use crate::reason::Reason;
@@ -119,12 +120,9 @@ pub(crate) fn present_node(alloc: Global, cluster: &Cluster, field: &[u8]) -> Re
 }
 
 /// A signal that the cluster has, by its name or its number.
-pub(crate) fn present_signal(
-    alloc: Global,
-    cluster: &Cluster,
-    field: &[u8],
-) -> Result<u16, LineFault>
-    ensures { Gives (λ n. n) result (present_signal cluster.now field.now) }
+fn present_signal(alloc: Global, cluster: &Cluster, field: &[u8]) -> Result<u16, LineFault>
+    ensures number { Gives (λ n. n) result (present_signal cluster.now field.now) }
+    ensures range { IfOk result (λ n. n < length cluster.now.signals) }
 {
     let signal = signal_field(alloc, cluster, field)?;
     if (signal as usize) < cluster.signals() {
@@ -194,6 +192,34 @@ pub(crate) fn pair_fields(
     Err(LineFault::Bad(Reason::NoMessages {
         from: Text::copied(alloc, from)?,
         to: Text::copied(alloc, to)?,
+    }))
+}
+
+/// Whether a node publishes a signal or subscribes it.
+fn takes_part(cluster: &Cluster, node: u8, signal: u16) -> bool
+    requires { signal < length cluster.now.signals }
+    ensures { result ≡ takes_part cluster.now node signal }
+{
+    node == cluster.publisher(signal) || has(cluster.subscribers(signal), node)
+}
+
+/// A node, and a signal that it publishes or subscribes, by their names or numbers.
+pub(crate) fn signal_fields(
+    alloc: Global,
+    cluster: &Cluster,
+    node: &[u8],
+    signal: &[u8],
+) -> Result<(u8, u16), LineFault>
+    ensures { Gives (λ at. at) result (signal_fields cluster.now node.now signal.now) }
+{
+    let number = present_node(alloc, cluster, node)?;
+    let read = present_signal(alloc, cluster, signal)?;
+    if takes_part(cluster, number, read) {
+        return Ok((number, read));
+    }
+    Err(LineFault::Bad(Reason::NotItsSignal {
+        node: Text::copied(alloc, node)?,
+        signal: Text::copied(alloc, signal)?,
     }))
 }
 

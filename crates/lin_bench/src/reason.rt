@@ -70,6 +70,11 @@ pub enum Reason {
         from: Text,
         to: Text,
     },
+    /// A node neither publishes nor subscribes a signal.
+    NotItsSignal {
+        node: Text,
+        signal: Text,
+    },
     /// These fields are no pattern.
     NoPattern(Many<Text>),
     /// An answer of `when` has more bytes than a message may have.

@@ -209,6 +209,11 @@ fn reason_line(reason: &Reason) -> Line<'_>
             Word::Fixed("to"),
             Word::Said(to.as_slice()),
         ]),
+        Reason::NotItsSignal { node, signal } => return Line::of(&[
+            Word::Said(node.as_slice()),
+            Word::Fixed("neither publishes nor subscribes"),
+            Word::Said(signal.as_slice()),
+        ]),
         Reason::NoPattern(fields) => return Line::of(&[
             Word::Fields(fields.as_slice()),
             Word::Fixed("isn't a pattern"),
