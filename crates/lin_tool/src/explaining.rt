@@ -92,7 +92,7 @@ pub(crate) fn put_place(out: &mut String, text: &[u8], place: Place) -> Result<(
 }
 
 /// Where a text is at fault, and the fault's number.
-pub(crate) fn place_of(fault: &LdfFault) -> Option<(Place, usize)> {
+pub(crate) fn place_of(fault: &LdfFault) -> Option<(Place, u8)> {
     match fault {
         LdfFault::BadByte(place) => Some((*place, 1)),
         LdfFault::OpenComment(place) => Some((*place, 2)),
@@ -119,7 +119,7 @@ fn put_fault(
         return out.push_str("  UTF-16 file\n  help: save it as UTF-8 or Latin-1\n");
     }
     put_place(out, text, place)?;
-    if let Some((_, meaning)) = FAULTS.get(number.wrapping_sub(1)) {
+    if let Some((_, meaning)) = FAULTS.get(usize::from(number).wrapping_sub(1)) {
         writeln!(out, "  {meaning}")?;
     }
     put_cause(alloc, out, text, fault, place)?;

@@ -71,12 +71,12 @@ fn problem_of_fault(
         return Ok(None);
     };
     let (name, _) = FAULTS
-        .get(number.wrapping_sub(1))
+        .get(usize::from(number).wrapping_sub(1))
         .copied()
         .unwrap_or(("", ""));
     Ok(Some(Problem {
         kind: "fault",
-        number: Some(number as u32),
+        number: Some(u32::from(number)),
         name,
         needed_us: None,
         place: Some(place),

@@ -189,7 +189,10 @@ pub(crate) fn put_bad_bench_line(
         }
         Reason::UntilForm | Reason::UnknownUntil(_) => writeln!(out, "  until takes {FORMS}"),
         Reason::WhileForm | Reason::UnknownWhile(_) => {
-            writeln!(out, "  while takes {HOLDING}, no message FROM TO, no lost (NODE)")
+            writeln!(
+                out,
+                "  while takes {HOLDING}, no message FROM TO, no lost (NODE)"
+            )
         }
         _ => Ok(()),
     }
