@@ -1,14 +1,17 @@
 pub mod Ahead
 pub mod Bounds
 pub mod Clusters
+pub mod Distances
 pub mod Endless
 pub mod Excursions
 pub mod Greatest
 pub mod Reached
 pub mod Resolving
 pub mod Rounds
+pub mod Spaced
 pub mod Standings
 pub mod Steps
+pub mod Stretches
 pub mod Times
 pub mod Turns
 pub mod Waited

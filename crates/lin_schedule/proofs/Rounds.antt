@@ -19,11 +19,11 @@ use Rattle.lin_schedule.specs.Rounds.{AreRows, carriers_in, is_sure, after_of, b
 
 -- ---- places in a row
 
-back_from-near : (slots last i : ℕ) → i ≤ last → back_from slots last i ≡ last - i
+pub back_from-near : (slots last i : ℕ) → i ≤ last → back_from slots last i ≡ last - i
 back_from-near slots last i le =
     let test : nat_le i last ≡ true = grind (arith, nat_tests) in rw test refl
 
-back_from-far : (slots last i : ℕ) → last < i → back_from slots last i ≡ last + slots - i
+pub back_from-far : (slots last i : ℕ) → last < i → back_from slots last i ≡ last + slots - i
 back_from-far slots last i lt =
     let test : nat_le i last ≡ false = grind (arith, nat_tests) in rw test refl
 
@@ -52,7 +52,7 @@ next-outer : (table : List Line) (i : ℕ) → length table ≤ suc i → next_e
 next-outer table i le = let test : nat_lt (suc i) (length table) ≡ false = grind (arith, nat_tests) in rw test refl
 
 -- the place of the next slot is one before, and at the row's start the last one
-back_from-next : (table : List Line) (last i : ℕ) → last < length table → i < length table → 0 < back_from (length table) last i
+pub back_from-next : (table : List Line) (last i : ℕ) → last < length table → i < length table → 0 < back_from (length table) last i
     → suc (back_from (length table) last (next_entry table i)) ≡ back_from (length table) last i
 back_from-next table last i last_lt i_lt some =
     let slots : ℕ = length table in
@@ -76,7 +76,7 @@ back_from-next table last i last_lt i_lt some =
           omega (arith, e, back_from-near slots last (suc i) next_near, moved)
     ]
 
-back_from-start : (table : List Line) (last i : ℕ) → last < length table → i < length table → back_from (length table) last i ≡ 0
+pub back_from-start : (table : List Line) (last i : ℕ) → last < length table → i < length table → back_from (length table) last i ≡ 0
     → (i ≡ last) × (back_from (length table) last (next_entry table i) ≡ length table - 1)
 back_from-start table last i last_lt i_lt none =
     let slots : ℕ = length table in

@@ -8,5 +8,6 @@ pub mod Occurs
 pub mod Once
 pub mod Rounds
 pub mod Schedule
+pub mod Spacing
 pub mod Walk
 pub mod Walker

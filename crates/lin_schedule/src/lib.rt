@@ -19,6 +19,7 @@ mod excursion;
 mod law;
 mod occurs;
 mod once;
+mod spacing;
 mod waits;
 mod walker;
 
@@ -28,5 +29,6 @@ pub use due::Due;
 pub use law::{entries_in_turn, excursions_run_once};
 pub use occurs::{own_entries, shared_entries};
 pub use once::once_wait;
+pub use spacing::{Extremes, gaps};
 pub use waits::worst_wait;
 pub use walker::Walker;

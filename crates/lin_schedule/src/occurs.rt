@@ -38,7 +38,7 @@ pub fn shared_entries(cluster: &Cluster, table: u16, frame: u16) -> u16
     shared
 }
 
-fn is_own(entry: Entry, frame: u16) -> bool
+pub(crate) fn is_own(entry: Entry, frame: u16) -> bool
     ensures { result ≡ is_own frame entry }
 {
     match entry {

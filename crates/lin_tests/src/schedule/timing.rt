@@ -3,7 +3,8 @@
 use crate::samples::{KEYS_CLUSTER, cluster_of};
 use lin_cluster::Cluster;
 use lin_schedule::{
-    Awaited, cycle, longest_cycle, once_wait, own_entries, shared_entries, worst_wait,
+    Awaited, Extremes, cycle, gaps, longest_cycle, once_wait, own_entries, shared_entries,
+    worst_wait,
 };
 use std::alloc::Global;
 use std::process::Abort;
@@ -92,6 +93,9 @@ Schedule_tables {
 /// Frames, the entries of their own in a table, and the entries that list them.
 type Occurrence = (u16, u16, u16);
 
+/// A frame, and the shortest and the longest time from the start of a slot of its own to the next one.
+type Gaps = (u16, u64, u64);
+
 /// The frames of a signal, its longest wait, and the one in which no frame above goes twice.
 type Latency<'a> = (&'a [u16], Option<u64>, Option<u64>);
 
@@ -103,6 +107,7 @@ struct Timing<'a> {
     table: u16,
     cycles: (u64, u64),
     occurrences: &'a [Occurrence],
+    gaps: &'a [Gaps],
     latencies: &'a [Latency<'a>],
     transfers: &'a [Transfer],
 }
@@ -117,6 +122,7 @@ const TIMINGS: &[(&str, &[u8], &[Timing<'static>])] = &[
                 table: 0,
                 cycles: (30000, 50000),
                 occurrences: &[(0, 1, 1), (1, 0, 1), (2, 0, 1), (3, 0, 1)],
+                gaps: &[(0, 30000, 50000)],
                 latencies: &[
                     (&[0], Some(50000), Some(50000)),
                     (&[1], None, Some(110000)),
@@ -129,6 +135,7 @@ const TIMINGS: &[(&str, &[u8], &[Timing<'static>])] = &[
                 table: 1,
                 cycles: (20000, 20000),
                 occurrences: &[(0, 0, 0), (2, 1, 0), (3, 1, 0)],
+                gaps: &[(2, 20000, 20000), (3, 20000, 20000)],
                 latencies: &[
                     (&[0], None, None),
                     (&[2], Some(30000), Some(30000)),
@@ -140,6 +147,7 @@ const TIMINGS: &[(&str, &[u8], &[Timing<'static>])] = &[
                 table: 2,
                 cycles: (20000, 20000),
                 occurrences: &[],
+                gaps: &[],
                 latencies: &[],
                 transfers: &[(1, Some(30000), Some(30000))],
             },
@@ -153,6 +161,7 @@ const TIMINGS: &[(&str, &[u8], &[Timing<'static>])] = &[
                 table: 0,
                 cycles: (20000, 40000),
                 occurrences: &[(0, 1, 0), (1, 0, 1), (2, 0, 1)],
+                gaps: &[(0, 20000, 40000)],
                 latencies: &[
                     (&[0], Some(50000), Some(50000)),
                     (&[1], Some(50000), Some(50000)),
@@ -164,6 +173,7 @@ const TIMINGS: &[(&str, &[u8], &[Timing<'static>])] = &[
                 table: 1,
                 cycles: (20000, 20000),
                 occurrences: &[(1, 1, 0), (2, 1, 0)],
+                gaps: &[(1, 20000, 20000), (2, 20000, 20000)],
                 latencies: &[
                     (&[1], Some(30000), Some(30000)),
                     (&[2], Some(30000), Some(30000)),
@@ -180,6 +190,7 @@ const TIMINGS: &[(&str, &[u8], &[Timing<'static>])] = &[
                 table: 0,
                 cycles: (85000, 145000),
                 occurrences: &[(0, 0, 2), (1, 0, 2), (3, 0, 2), (4, 1, 0), (5, 0, 2)],
+                gaps: &[(4, 85000, 145000), (6, 85000, 145000)],
                 latencies: &[
                     (&[0], Some(95000), Some(95000)),
                     (&[1], None, Some(155000)),
@@ -198,6 +209,7 @@ const TIMINGS: &[(&str, &[u8], &[Timing<'static>])] = &[
                 table: 1,
                 cycles: (30000, 30000),
                 occurrences: &[(3, 1, 0), (4, 0, 0), (5, 1, 0)],
+                gaps: &[(3, 30000, 30000), (5, 30000, 30000)],
                 latencies: &[
                     (&[3, 4], Some(40000), Some(40000)),
                     (&[5], Some(40000), Some(40000)),
@@ -214,6 +226,7 @@ const TIMINGS: &[(&str, &[u8], &[Timing<'static>])] = &[
                 table: 0,
                 cycles: (40000, 70000),
                 occurrences: &[(0, 1, 0), (1, 0, 2), (2, 0, 2), (3, 1, 0)],
+                gaps: &[(0, 20000, 60000), (3, 10000, 50000)],
                 latencies: &[
                     (&[0], Some(70000), Some(70000)),
                     (&[1], None, None),
@@ -226,6 +239,7 @@ const TIMINGS: &[(&str, &[u8], &[Timing<'static>])] = &[
                 table: 1,
                 cycles: (10000, 10000),
                 occurrences: &[(0, 1, 0)],
+                gaps: &[(0, 10000, 10000)],
                 latencies: &[(&[0], Some(20000), Some(20000))],
                 transfers: &[],
             },
@@ -233,6 +247,7 @@ const TIMINGS: &[(&str, &[u8], &[Timing<'static>])] = &[
                 table: 2,
                 cycles: (20000, 20000),
                 occurrences: &[(3, 2, 0)],
+                gaps: &[(3, 10000, 10000)],
                 latencies: &[(&[3], Some(20000), Some(20000))],
                 transfers: &[],
             },
@@ -256,6 +271,20 @@ fn expect_timing(
             own_entries(cluster, table, *frame) == *own
                 && shared_entries(cluster, table, *frame) == *shared,
             "{what} {table}: entries of {frame}"
+        );
+        if *own == 0 {
+            assert!(rt; gaps(alloc, cluster, table, *frame)?.is_none());
+        }
+    }
+    for (frame, shortest, longest) in timing.gaps {
+        let found = gaps(alloc, cluster, table, *frame)?;
+        let wanted = Some(Extremes {
+            shortest: *shortest,
+            longest: *longest,
+        });
+        assert!(rt;
+            found == wanted,
+            "{what} {table}: gaps of {frame}: {found:?}"
         );
     }
     for (frames, worst, once) in timing.latencies {
